@@ -1,0 +1,24 @@
+// The program: the top call over the real console and the current folder. Its exit status is the call's.
+#![tactic(auto)]
+
+use now_top::now;
+use prov_real::{RealConsole, RealFolder};
+use std::process::ExitCode;
+use std::{env, io};
+
+/// The words behind the program's name.
+fn words(rt: &HostRuntime) -> io::Result<Vec<String>> {
+    Ok(env::args(rt)?.skip(1).collect(rt.alloc())?)
+}
+
+fn main(rt: HostRuntime) -> ExitCode {
+    let words = match words(&rt) {
+        Ok(words) => words,
+        Err(error) if error.kind() == io::ErrorKind::OutOfMemory => return ExitCode::from(8),
+        // Words that are no text are no command, and neither are none.
+        Err(_) => Vec::new(rt.alloc()),
+    };
+    let mut console = RealConsole::new(&rt);
+    let mut folder = RealFolder::new(&rt);
+    ExitCode::from(now(rt.alloc(), &words, &mut console, &mut folder))
+}

@@ -1,0 +1,17 @@
+pub mod CutTexts
+pub mod Delivering
+pub mod LeastSets
+pub mod LineTexts
+pub mod LinkLemmas
+pub mod Meanings
+pub mod NoLine
+pub mod Numbers
+pub mod Operands
+pub mod PieceLemmas
+pub mod Preparing
+pub mod Readings
+pub mod Scripts
+pub mod Simulation
+pub mod Slices
+pub mod Tracks
+pub mod Topping

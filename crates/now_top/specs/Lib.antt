@@ -1,0 +1,14 @@
+pub mod Bindings
+pub mod Command
+pub mod Cut
+pub mod Delivered
+pub mod Least
+pub mod Line
+pub mod Links
+pub mod LinksOf
+pub mod Meaning
+pub mod Parsed
+pub mod Prepared
+pub mod Reply
+pub mod Script
+pub mod Table

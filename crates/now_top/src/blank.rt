@@ -1,0 +1,49 @@
+// A text with lines blanked.
+ghost use Rattle.std.specs.Prelude.{◌≡◌, IfOk};
+ghost use Rattle.now_top.specs.Links.{marked};
+ghost use Rattle.now_top.specs.Cut.{cut_text};
+
+use std::alloc::{AllocError, Global};
+
+/// Whether the line, counted from 0, is marked. A line past the marks is not.
+fn is_marked(marks: &[bool], line: usize) -> bool
+    ensures { result ≡ marked marks.now line }
+{
+    marks.get(line).copied().unwrap_or(false)
+}
+
+/// The text with each byte of the lines that are not marked turned into a space. Line ends stay, and so do the marked
+/// lines, so each byte that stays stands where it stood. It refuses nothing, and fails where memory runs out.
+pub fn blanked(alloc: Global, text: &[u8], marks: &[bool]) -> Result<Vec<u8>, AllocError>
+    ensures { IfOk result (λ cut. cut.items ≡ cut_text (marked marks.now) text.now) }
+{
+    let mut cut = Vec::with_capacity(alloc, text.len())?;
+    let mut line = 0;
+    for byte in text {
+        let stays = *byte == b'\n' || is_marked(marks, line);
+        cut.push(if stays { *byte } else { b' ' })?;
+        if *byte == b'\n' {
+            line += 1;
+        }
+    }
+    Ok(cut)
+}
+
+#[cfg(test)]
+mod tests {
+    use super::*;
+    use std::test::Fail;
+
+    #[test]
+    fn blanks_lines_without_marks(rt: HostRuntime) -> Result<(), Fail> {
+        for (marks, cut) in [
+            ([true, false, true], "a = 1\n     \nc = a\n"),
+            ([false, true, false], "     \nb = 2\n     \n"),
+            ([false, false, false], "     \n     \n     \n"),
+        ] {
+            let text = blanked(rt.alloc(), b"a = 1\nb = 2\nc = a\n", &marks)?;
+            assert_eq!(rt; text.as_slice(), cut.as_bytes());
+        }
+        Ok(())
+    }
+}

@@ -1,0 +1,16 @@
+//! The words that every layer of the program shares: places in a script, bytes and names as owned lists, the two
+//! ways in which a call can fail without being wrong, and the decimal text of a number. Nothing here takes memory.
+#![tactic(auto)]
+
+mod number;
+mod place;
+mod refusal;
+mod text;
+
+pub use number::decimal;
+pub use place::{Digest, Pos, Span};
+pub use refusal::{Failed, Memory};
+pub use text::{Bytes, Name, Names};
+
+#[cfg(test)]
+mod tests;

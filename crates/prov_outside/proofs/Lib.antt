@@ -1,0 +1,3 @@
+pub mod LastOf
+pub mod Lines
+pub mod Worked

@@ -1,0 +1,18 @@
+//! What the program meets outside itself, as traits: a console and a folder. Each says by ghost members what it tells
+//! of itself and how often each of its calls has failed, so that a call which gives up must show a fault that was
+//! counted. The memory forms tell all that they hold, number their calls, and fail exactly at the numbers that they
+//! were given.
+#![tactic(auto)]
+
+mod calls;
+mod console;
+mod folder;
+mod memory_console;
+mod memory_folder;
+mod trouble;
+
+pub use console::Console;
+pub use folder::{Folder, Found};
+pub use memory_console::MemoryConsole;
+pub use memory_folder::MemoryFolder;
+pub use trouble::Trouble;

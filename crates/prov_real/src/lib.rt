@@ -1,0 +1,27 @@
+//! The real devices of the program: its console, which is standard input and standard output, and its folder, which is
+//! the one where the user stands. Each is a thin adapter over the system's own reading and writing.
+//!
+//! What a terminal or a disk gives and keeps is beyond any proof, so these devices tell nothing of content: their
+//! clauses carry safety and causes alone. A call answers `Trouble::Failed` only where its own count of faults rose in
+//! that call or stands at its end, and leaves the other counts as they were. Want of memory is never counted.
+//!
+//! The work is done by loops over any source and any sink. Their clauses do speak of content wherever the source or
+//! the sink tells its bytes: a line, a file and a written text come whole and in order, and a refusal loses nothing
+//! that was read. What no clause can refuse, and what has to be read off the few lines of the adapters instead, is
+//! - that they ask the system at all. A body that answers `Memory`, `None`, `Absent` or `Ok` at once, or that counts a
+//!   fault where the system named none, tells as little as the real one;
+//! - which stream, which path and which bytes an adapter hands to the loops.
+//!
+//! The tests run each real call once.
+#![tactic(auto)]
+
+mod console;
+mod faults;
+mod folder;
+mod lines;
+mod stream;
+#[cfg(test)]
+mod tests;
+
+pub use console::RealConsole;
+pub use folder::RealFolder;

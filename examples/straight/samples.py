@@ -1,0 +1,13 @@
+site_a = 128
+site_b = 96
+site_c = 143
+discarded = 17
+field = site_a + site_b
+field = field + site_c
+control = 64
+control = control + 32
+all_samples = field + control
+freezers = 4
+boxes_per_freezer = 12
+label = all_samples
+shipped = label + 0
