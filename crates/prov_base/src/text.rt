@@ -26,6 +26,7 @@ impl Bytes {
         Bytes { bytes: v }
     }
 
+    /// The bytes, in order.
     pub fn as_slice(&self) -> &[u8]
         ensures { result.now ≡ self.now }
     {
@@ -56,6 +57,7 @@ impl Name {
         Name { text: s }
     }
 
+    /// The text.
     pub fn as_str(&self) -> &str
         ensures { result.now ≡ self.now }
     {
@@ -85,6 +87,7 @@ impl Names {
         Names { names: v }
     }
 
+    /// The names, in order.
     pub fn as_slice(&self) -> &[Name]
         ensures { result.now ≡ self.now }
     {
