@@ -12,9 +12,13 @@ use std::alloc::Global;
 /// it is what a run keeps of a refused `get`.
 #[derive(Drop, Debug)]
 pub enum Found {
+    /// The file's whole content.
     Bytes(Bytes),
+    /// No file.
     Absent,
+    /// A file of more than 16,777,216 bytes.
     TooLarge,
+    /// A refused call.
     Failed,
 }
 

@@ -1,6 +1,6 @@
 //! What the program meets outside itself, as traits: a console and a folder. Each says by ghost members what it tells
-//! of itself and how often each of its calls has failed, so that a call which gives up must show a fault that was
-//! counted. The memory forms tell all that they hold, number their calls, and fail exactly at the numbers that they
+//! of itself and how often each of its calls has failed, so that a call which fails must show a fault that was counted.
+//! (One that runs out of memory says so, and shows none.) The memory forms tell all that they hold, number their calls, and fail exactly at the numbers that they
 //! were given.
 #![tactic(auto)]
 

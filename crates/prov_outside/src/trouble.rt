@@ -10,7 +10,9 @@ use std::fmt;
 /// Why a device refused a call: it failed and has counted that, or memory ran out.
 #[derive(Clone, Copy, Debug, PartialEq, Eq)]
 pub enum Trouble {
+    /// The device failed, and has counted that.
     Failed,
+    /// Memory ran out.
     Memory,
 }
 
