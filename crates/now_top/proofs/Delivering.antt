@@ -41,7 +41,7 @@ memory_status (folder_failed file) is = absurd (omega arith)
 memory_status out_of_memory is = refl
 
 -- a reply without a text, closed by its line
-got_closed : (ending : Ending) (rose : Type 0) (status : ℕ) (before after : List ℕ) → status ≡ status_of ending → GotLine (closing_line ending) rose status before after → Got ending [] rose before after
+got_closed : (ending : Ending) (rose : Type 0) (status : ℕ) (before after : List ℕ) → status ≡ status_of ending → GotLine (closing_line ending) rose status before after → Got (λ e. e ≡ ending) ending [] rose before after
 got_closed ending rose status before after is got = record {
   shown = [];
   closing = got.shown;
@@ -50,13 +50,14 @@ got_closed ending rose status before after is got = record {
   shown_front = no_prefix [];
   closing_front = got.front;
   own = λ _. refl;
+  other = λ _. inr refl;
   whole = λ other quiet. (refl, got.whole (λ eight. other (memory_status ending (sym is ∙ eight))) quiet);
   all_done = λ _. refl;
 }
 
 -- the same, where memory ran out at the line
-got_short : (ending : Ending) (rose : Type 0) (status : ℕ) (before after : List ℕ) → GotLine (closing_line ending) rose status before after → Got out_of_memory [] rose before after
-got_short ending rose status before after got = record {
+got_short : (planned ending : Ending) (rose : Type 0) (status : ℕ) (before after : List ℕ) → (ending ≡ out_of_memory) ⊎ (ending ≡ planned) → GotLine (closing_line ending) rose status before after → Got (λ e. e ≡ planned) out_of_memory [] rose before after
+got_short planned ending rose status before after which got = record {
   shown = [];
   closing = got.shown;
   last = ending;
@@ -64,6 +65,7 @@ got_short ending rose status before after got = record {
   shown_front = no_prefix [];
   closing_front = got.front;
   own = λ other. absurd (other refl);
+  other = λ _. which;
   whole = λ other quiet. absurd (other refl);
   all_done = λ done_is. cc;
 }
@@ -71,8 +73,8 @@ got_short ending rose status before after got = record {
 abbrev pub GetsLine : List ℕ → Type 0 → ℕ → ConsoleView → ConsoleView → Type 0
 GetsLine line rose status before after = (after.lines ≡ before.lines) × GotLine line rose status before.written after.written
 
-abbrev pub GetsAll : Ending → List ℕ → Type 0 → ConsoleView → ConsoleView → Type 0
-GetsAll ending text rose before after = (after.lines ≡ before.lines) × Got ending text rose before.written after.written
+abbrev pub GetsAll : Ending → Ending → List ℕ → Type 0 → ConsoleView → ConsoleView → Type 0
+GetsAll planned ending text rose before after = (after.lines ≡ before.lines) × Got (λ e. e ≡ planned) ending text rose before.written after.written
 
 pub closed : (planned : Ending) (rose : Type 0) (old new : Option ConsoleView) (status : ℕ) → (status ≡ status_of planned) ⊎ (status ≡ 8) → Tells old new (GetsLine (closing_line planned) rose status) → Delivers planned [] rose old new status
 closed planned rose old new status answer got = ⊎_elim
@@ -80,13 +82,13 @@ closed planned rose old new status answer got = ⊎_elim
       ending = planned;
       status_is = is;
       becomes = inl refl;
-      got = tells_more old new (GetsLine (closing_line planned) rose status) (GetsAll planned [] rose) (λ a b g. (g.0, got_closed planned rose status a.written b.written is g.1)) got;
+      got = tells_more old new (GetsLine (closing_line planned) rose status) (GetsAll planned planned [] rose) (λ a b g. (g.0, got_closed planned rose status a.written b.written is g.1)) got;
     })
     (λ eight. record {
       ending = out_of_memory;
       status_is = eight;
       becomes = inr (inl refl);
-      got = tells_more old new (GetsLine (closing_line planned) rose status) (GetsAll out_of_memory [] rose) (λ a b g. (g.0, got_short planned rose status a.written b.written g.1)) got;
+      got = tells_more old new (GetsLine (closing_line planned) rose status) (GetsAll planned out_of_memory [] rose) (λ a b g. (g.0, got_short planned planned rose status a.written b.written (inr refl) g.1)) got;
     })
     answer
 
@@ -96,7 +98,7 @@ closed_short planned rose old new status answer got = record {
   ending = out_of_memory;
   status_is = ⊎_elim (λ e. e) (λ e. e) answer;
   becomes = inr (inl refl);
-  got = tells_more old new (GetsLine (closing_line out_of_memory) rose status) (GetsAll out_of_memory [] rose) (λ a b g. (g.0, got_short out_of_memory rose status a.written b.written g.1)) got;
+  got = tells_more old new (GetsLine (closing_line out_of_memory) rose status) (GetsAll planned out_of_memory [] rose) (λ a b g. (g.0, got_short planned out_of_memory rose status a.written b.written (inl refl) g.1)) got;
 }
 
 -- ---- a slice
@@ -106,7 +108,7 @@ slice_done slice rose old new written = record {
   ending = done;
   status_is = refl;
   becomes = inl refl;
-  got = tells_more old new (λ before after. (after.lines ≡ before.lines) × (after.written ≡ before.written ++ slice)) (GetsAll done slice rose) (λ a b w. (
+  got = tells_more old new (λ before after. (after.lines ≡ before.lines) × (after.written ≡ before.written ++ slice)) (GetsAll done done slice rose) (λ a b w. (
     w.0,
     record {
       shown = slice;
@@ -116,6 +118,7 @@ slice_done slice rose old new written = record {
       shown_front = whole_prefix slice;
       closing_front = no_prefix [];
       own = λ _. refl;
+      other = λ is. cc;
       whole = λ _ _. (refl, refl);
       all_done = λ _. refl;
     },
@@ -130,7 +133,7 @@ slice_failed slice rose old new why written = record {
   ending = console_failed;
   status_is = refl;
   becomes = inr (inr (refl, refl, why));
-  got = tells_more old new (WritesPart slice) (GetsAll console_failed slice rose) (λ a b w. (
+  got = tells_more old new (WritesPart slice) (GetsAll done console_failed slice rose) (λ a b w. (
     w.0,
     record {
       shown = take w.1.0 slice;
@@ -140,6 +143,7 @@ slice_failed slice rose old new why written = record {
       shown_front = (w.1.0, refl);
       closing_front = no_prefix [];
       own = λ _. refl;
+      other = λ is. cc;
       whole = λ _ quiet. absurd (quiet why);
       all_done = λ is. cc;
     },
@@ -151,7 +155,7 @@ slice_short slice rose rose_late old mid new status answer written got = record 
   ending = out_of_memory;
   status_is = ⊎_elim (λ e. e) (λ e. e) answer;
   becomes = inr (inl refl);
-  got = tells_then old mid new (WritesPart slice) (GetsLine (closing_line out_of_memory) rose_late status) (GetsAll out_of_memory slice rose) (λ a b c w g. (
+  got = tells_then old mid new (WritesPart slice) (GetsLine (closing_line out_of_memory) rose_late status) (GetsAll done out_of_memory slice rose) (λ a b c w g. (
     g.0 ∙ w.0,
     record {
       shown = take w.1.0 slice;
@@ -161,6 +165,7 @@ slice_short slice rose rose_late old mid new status answer written got = record 
       shown_front = (w.1.0, refl);
       closing_front = g.1.front;
       own = λ other. absurd (other refl);
+      other = λ _. inl refl;
       whole = λ other quiet. absurd (other refl);
       all_done = λ is. cc;
     },

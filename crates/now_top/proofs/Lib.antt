@@ -15,3 +15,4 @@ pub mod Simulation
 pub mod Slices
 pub mod Tracks
 pub mod Topping
+pub mod Worked

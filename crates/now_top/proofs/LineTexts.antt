@@ -6,35 +6,35 @@ use Rattle.std.proofs.lemmas.Bool.{and_parts, and_from, not_from_false, or_left,
 use Rattle.std.proofs.lemmas.Bool.Decides.{nat_tests}
 use Rattle.std.proofs.lemmas.List.Folds.{list_all-append}
 use Rattle.prov_base.specs.Pieces.{is_free, pieces_at}
-use Rattle.now_top.specs.Line.{is_digit, is_letter, is_keyword, is_name, is_numeral, is_literal, number_of, greatest, Operand, literal, variable, Line, blank, assign, add, operand_text, line_text, is_operand, is_source_line}
+use Rattle.now_top.specs.Line.{is_digit, begins_name, is_keyword, is_name, is_numeral, is_literal, number_of, greatest, Operand, literal, variable, Line, blank, assign, add, operand_text, line_text, is_operand, is_source_line}
 use Rattle.now_top.proofs.PieceLemmas.{pieces_first, pieces_only}
 
 -- ---- the bytes of names and literals
 
 abbrev is_word : ℕ → Bool
-is_word c = is_letter c || is_digit c
+is_word c = begins_name c || is_digit c
 
-letter_is_no_digit : (c : ℕ) → is_letter c ≡ true → is_digit c ≡ true → ⊥
+letter_is_no_digit : (c : ℕ) → begins_name c ≡ true → is_digit c ≡ true → ⊥
 letter_is_no_digit c letter digit = grind (arith, nat_tests)
 
 word_from : (c : ℕ) → is_word c ≡ true → 48 ≤ c
 word_from c is = grind (arith, nat_tests)
 
-name_letter : (c : ℕ) (cs : List ℕ) → IsTrue (is_name (c ∷ cs)) → is_letter c ≡ true
-name_letter c cs is = (and_parts (is_letter c) (list_all is_word cs) (and_parts (is_letter c && list_all is_word cs) (not (is_keyword (c ∷ cs))) is).0).0
+name_letter : (c : ℕ) (cs : List ℕ) → IsTrue (is_name (c ∷ cs)) → begins_name c ≡ true
+name_letter c cs is = (and_parts (begins_name c) (list_all is_word cs) (and_parts (begins_name c && list_all is_word cs) (not (is_keyword (c ∷ cs))) is).0).0
 
 name_rest : (c : ℕ) (cs : List ℕ) → IsTrue (is_name (c ∷ cs)) → IsTrue (list_all is_word cs)
-name_rest c cs is = (and_parts (is_letter c) (list_all is_word cs) (and_parts (is_letter c && list_all is_word cs) (not (is_keyword (c ∷ cs))) is).0).1
+name_rest c cs is = (and_parts (begins_name c) (list_all is_word cs) (and_parts (begins_name c && list_all is_word cs) (not (is_keyword (c ∷ cs))) is).0).1
 
 name_words : (name : List ℕ) → IsTrue (is_name name) → IsTrue (list_all is_word name)
 name_words [] is = refl
-name_words (c ∷ cs) is = and_from (is_word c) (list_all is_word cs) (or_left (is_letter c) (is_digit c) (name_letter c cs is)) (name_rest c cs is)
+name_words (c ∷ cs) is = and_from (is_word c) (list_all is_word cs) (or_left (begins_name c) (is_digit c) (name_letter c cs is)) (name_rest c cs is)
 
 digits_words : (ds : List ℕ) → IsTrue (list_all is_digit ds) → IsTrue (list_all is_word ds)
 digits_words [] all = refl
 digits_words (d ∷ ds) all =
     let parts = and_parts (is_digit d) (list_all is_digit ds) all in
-    and_from (is_word d) (list_all is_word ds) (or_right (is_letter d) (is_digit d) parts.0) (digits_words ds parts.1)
+    and_from (is_word d) (list_all is_word ds) (or_right (begins_name d) (is_digit d) parts.0) (digits_words ds parts.1)
 
 zero_digit : (ds : List ℕ) (d : ℕ) → d ≡ 48 → bytes_eq ds [] ≡ true → IsTrue (list_all is_digit (d ∷ ds))
 zero_digit [] d is none = rw is

@@ -3,7 +3,7 @@ use Rattle.std.proofs.Common.{◌≡◌, ℕ, ◌+◌, ◌<◌, ◌≤◌, Bool,
 use Rattle.std.proofs.lemmas.Bool.{cases_eq}
 use Rattle.std.proofs.lemmas.List.{get_or_read, drop_all, take_all}
 use Rattle.std.proofs.lemmas.Option.{same_Some, unwrap_or-slice_get, slice_get-get_or}
-use Rattle.now_top.specs.Least.{Lines}
+use Rattle.now_top.specs.Least.{LineSet}
 use Rattle.now_top.specs.Links.{HasLink, IsTied, LeadBack, marked, IsClosedAlong}
 use Rattle.now_top.specs.declared.links.Link.{Link}
 use Rattle.now_top.specs.declared.links.Link.TheVariants.{Empty, Binding}
@@ -37,7 +37,7 @@ pub record Passed (links : List Link) (asked j : ℕ) (marks : List Bool) : Type
   pub as_long : length marks ≡ length links
   pub has_asked : IsTrue (marked marks asked)
   pub has_ties : (k i : ℕ) → j ≤ k → IsTrue (marked marks k) → IsTied links k i → IsTrue (marked marks i)
-  pub inside : (other : Lines) → IsClosedAlong links asked other → (i : ℕ) → IsTrue (marked marks i) → IsTrue (other i)
+  pub inside : (other : LineSet) → IsClosedAlong links asked other → (i : ℕ) → IsTrue (marked marks i) → IsTrue (other i)
 
 module _ (links : List Link) (asked next j : ℕ) (steps : next ≡ j + 1) where
   -- a line that is not marked, or has no tie

@@ -15,7 +15,7 @@ use Rattle.now_top.specs.Reply.{Asks, IsRefused, IsSliceOf, BindsTheSame, Becaus
 use Rattle.now_top.specs.Prepared.{ending_of, reply_text, FromText, Prepared}
 use Rattle.now_top.specs.declared.reply.Reply.{Reply}
 use Rattle.now_top.specs.declared.reply.Reply.TheVariants.{Slice, Usage, Refused, NothingThere, FolderFailed, OutOfMemory}
-use Rattle.now_top.proofs.CutTexts.{cut_spelled}
+use Rattle.now_top.proofs.CutTexts.{cut_spelled, cut_stands_from}
 use Rattle.now_top.proofs.Simulation.{cut_keeps_value}
 
 -- a cause that stands whatever the files are
@@ -63,6 +63,7 @@ binds_the_same text line slice low of =
       name = of.name;
       binds = of.binds;
       lines = cut_lines of.keep of.script;
+      are_lines = cut_stands_from 0 of.keep of.script of.spells.is_script.lines;
       slice_is = of.slice_is ∙ ap (cut_text of.keep) of.spells.text_is ∙ cut_spelled of.keep of.script of.spells.is_script.lines;
       value = law.0;
       in_script = subst (λ (n : ℕ). value_after (take n of.script) of.name ≡ Some law.0) number law.1;

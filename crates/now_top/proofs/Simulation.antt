@@ -8,7 +8,7 @@ use Rattle.std.proofs.lemmas.Slice.Eq.{bytes_eq-Decides}
 use Rattle.now_top.specs.Line.{Operand, literal, variable, Line, blank, assign, add, line_text, bound_name, operand_names, names_read}
 use Rattle.now_top.specs.Meaning.{Bindings, nothing_bound, with_binding, operand_value, sum_value, after_line, run_from, run_of, value_after}
 use Rattle.now_top.specs.Script.{IsScript}
-use Rattle.now_top.specs.Least.{Lines, name_at, reads_at, IsLastBinder, IsClosed, IsLeast}
+use Rattle.now_top.specs.Least.{LineSet, name_at, reads_at, IsLastBinder, IsClosed, IsLeast}
 use Rattle.now_top.specs.Cut.{cut_lines_from, cut_lines}
 use Rattle.now_top.proofs.Scripts.{run_from-append, front_is_script}
 use Rattle.now_top.proofs.LeastSets.{least_ends}
@@ -76,13 +76,13 @@ name_cases x name = cases (bytes_eq x name) refl
 -- ---- the two runs, line by line
 
 -- the last line before line n that binds the name; if it is kept, then both runs have one value there
-record Bound (script : List Line) (keep : Lines) (n : ℕ) (e e' : Bindings) (name : List ℕ) : Type 0 where
+record Bound (script : List Line) (keep : LineSet) (n : ℕ) (e e' : Bindings) (name : List ℕ) : Type 0 where
   line : ℕ
   binder : IsLastBinder script n name line
   same : IsTrue (keep line) → e' name ≡ e name
 
 -- before line n: e is the whole script's run, and e' the run of what is left
-record Agree (script : List Line) (keep : Lines) (n : ℕ) (e e' : Bindings) : Type 0 where
+record Agree (script : List Line) (keep : LineSet) (n : ℕ) (e e' : Bindings) : Type 0 where
   at : (name : List ℕ) → (e name ≡ None) ⊎ Bound script keep n e e' name
 
 pub later_binder : (script : List Line) (n : ℕ) (name : List ℕ) (i : ℕ) → name_at script n ≢ Some name → IsLastBinder script n name i → IsLastBinder script (n + 1) name i
@@ -103,7 +103,7 @@ first_binder script n name binds = record {
 }
 
 -- a blank line
-agree_blank : (script : List Line) (keep : Lines) (n : ℕ) (e e' : Bindings) → name_at script n ≡ None → Agree script keep n e e' → Agree script keep (n + 1) e e'
+agree_blank : (script : List Line) (keep : LineSet) (n : ℕ) (e e' : Bindings) → name_at script n ≡ None → Agree script keep n e e' → Agree script keep (n + 1) e e'
 agree_blank script keep n e e' none agree = record {
   at = λ name. ⊎_elim (λ unbound. inl unbound) (λ bound. inr (later name bound)) (agree.at name);
 }
@@ -116,7 +116,7 @@ agree_blank script keep n e e' none agree = record {
     }
 
 -- a line that binds a name
-agree_bind : (script : List Line) (keep : Lines) (n : ℕ) (e e' f' : Bindings) (name : List ℕ) (value : ℕ) → name_at script n ≡ Some name
+agree_bind : (script : List Line) (keep : LineSet) (n : ℕ) (e e' f' : Bindings) (name : List ℕ) (value : ℕ) → name_at script n ≡ Some name
     → ((x : List ℕ) → x ≢ name → f' x ≡ e' x) → (IsTrue (keep n) → f' name ≡ Some value) → Agree script keep n e e' → Agree script keep (n + 1) (with_binding e name value) f'
 agree_bind script keep n e e' f' name value binds others here agree = record {
   at = λ x. ⊎_elim (λ same. inr (bound_at x same)) (λ differs. ⊎_elim (λ unbound. inl (bound_elsewhere e name value x differs ∙ unbound)) (λ bound. inr (later x differs bound)) (agree.at x)) (name_cases x name);
@@ -137,7 +137,7 @@ agree_bind script keep n e e' f' name value binds others here agree = record {
     }
 
 -- the names that a kept line reads
-reads_same : (script : List Line) (asked : ℕ) (keep : Lines) (n : ℕ) (e e' : Bindings) (line : Line) → IsClosed script asked keep → slice_get script n ≡ Some line → IsTrue (keep n) → Agree script keep n e e' → SameOn (names_read line) e e'
+reads_same : (script : List Line) (asked : ℕ) (keep : LineSet) (n : ℕ) (e e' : Bindings) (line : Line) → IsClosed script asked keep → slice_get script n ≡ Some line → IsTrue (keep n) → Agree script keep n e e' → SameOn (names_read line) e e'
 reads_same script asked keep n e e' line closed here kept agree x among value is =
     ⊎_elim (λ unbound. absurd (none-some value (sym unbound ∙ is))) (λ bound. bound.same (closed.has_binders n x bound.line kept reads bound.binder) ∙ is) (agree.at x)
   where
@@ -145,7 +145,7 @@ reads_same script asked keep n e e' line closed here kept agree x among value is
     reads = subst (λ (o : Option Line). Contains (unwrap_or (option_map names_read o) []) x) (sym here) among
 
 -- what the run of what is left comes to after one line more
-record Step (script : List Line) (keep : Lines) (n : ℕ) (e' f : Bindings) (cut : Line) : Type 0 where
+record Step (script : List Line) (keep : LineSet) (n : ℕ) (e' f : Bindings) (cut : Line) : Type 0 where
   after : Bindings
   goes : after_line e' cut ≡ Some after
   agree : Agree script keep (n + 1) f after
@@ -178,12 +178,12 @@ stands_behind (line ∷ lines) front =
     (get_seam front line lines, subst (λ (n : ℕ). StandsAt (front ++ line ∷ lines) n lines) next rest)
 
 -- what the run of what is left comes to after these lines
-record Walked (script : List Line) (keep : Lines) (n : ℕ) (e' f : Bindings) (cut : List Line) : Type 0 where
+record Walked (script : List Line) (keep : LineSet) (n : ℕ) (e' f : Bindings) (cut : List Line) : Type 0 where
   after : Bindings
   runs : run_from e' cut ≡ Some after
   agree : Agree script keep n f after
 
-cut_lines_from-append : (n : ℕ) (keep : Lines) (a b : List Line) → cut_lines_from n keep (a ++ b) ≡ cut_lines_from n keep a ++ cut_lines_from (n + length a) keep b
+cut_lines_from-append : (n : ℕ) (keep : LineSet) (a b : List Line) → cut_lines_from n keep (a ++ b) ≡ cut_lines_from n keep a ++ cut_lines_from (n + length a) keep b
 cut_lines_from-append n keep [] b = let same : n ≡ n + 0 = omega arith in ap (λ (m : ℕ). cut_lines_from m keep b) same
 cut_lines_from-append n keep (line ∷ a) b =
     let same : n + 1 + length a ≡ n + length (line ∷ a) = omega arith in
@@ -191,11 +191,11 @@ cut_lines_from-append n keep (line ∷ a) b =
     ap (λ (lines : List Line). cut ∷ lines) (cut_lines_from-append (n + 1) keep a b ∙ ap (λ (m : ℕ). cut_lines_from (n + 1) keep a ++ cut_lines_from m keep b) same)
 
 -- lines outside the set change nothing
-outside_runs : (n : ℕ) (keep : Lines) (lines : List Line) (e : Bindings) → ((i : ℕ) → n ≤ i → keep i ≡ false) → run_from e (cut_lines_from n keep lines) ≡ Some e
+outside_runs : (n : ℕ) (keep : LineSet) (lines : List Line) (e : Bindings) → ((i : ℕ) → n ≤ i → keep i ≡ false) → run_from e (cut_lines_from n keep lines) ≡ Some e
 outside_runs n keep [] e left = refl
 outside_runs n keep (line ∷ lines) e left = let here = left n (omega arith) in rw here (outside_runs (n + 1) keep lines e (λ i behind. left i (omega arith)))
 
-module _ (script : List Line) (asked : ℕ) (keep : Lines) (closed : IsClosed script asked keep) where
+module _ (script : List Line) (asked : ℕ) (keep : LineSet) (closed : IsClosed script asked keep) where
   bound_step : (n : ℕ) (e e' f : Bindings) (line : Line) (name : List ℕ) (spaces : ℕ) (b : Bool) → keep n ≡ b → slice_get script n ≡ Some line → bound_name line ≡ Some name → Agree script keep n e e' → after_line e line ≡ Some f
       → Step script keep n e' f (cond b line (blank spaces))
   bound_step n e e' f line name spaces true kept here binds agree goes =
@@ -257,7 +257,7 @@ module _ (script : List Line) (asked : ℕ) (keep : Lines) (closed : IsClosed sc
 
 -- ---- the asked line between the lines before it and those behind it
 
-cut_split : (keep : Lines) (front : List Line) (line : Line) (rest : List Line) → IsTrue (keep (length front)) → cut_lines keep (front ++ line ∷ rest) ≡ cut_lines_from 0 keep front ++ line ∷ cut_lines_from (length front + 1) keep rest
+cut_split : (keep : LineSet) (front : List Line) (line : Line) (rest : List Line) → IsTrue (keep (length front)) → cut_lines keep (front ++ line ∷ rest) ≡ cut_lines_from 0 keep front ++ line ∷ cut_lines_from (length front + 1) keep rest
 cut_split keep front line rest kept =
     let start : 0 + length front ≡ length front = omega arith in
     cut_lines_from-append 0 keep front (line ∷ rest)
@@ -284,7 +284,7 @@ front_run front line rest is =
     one e runs = option_and_then_some (λ (g : Bindings). run_from g []) (after_line e line) ran.0 runs (λ g line_is same. line_is ∙ same)
 
 -- the run of what is left, up to the asked line
-cut_front : (front : List Line) (line : Line) (rest : List Line) (keep : Lines) (e : Bindings) → IsClosed (front ++ line ∷ rest) (length front) keep → run_of front ≡ Some e → Walked (front ++ line ∷ rest) keep (length front) nothing_bound e (cut_lines_from 0 keep front)
+cut_front : (front : List Line) (line : Line) (rest : List Line) (keep : LineSet) (e : Bindings) → IsClosed (front ++ line ∷ rest) (length front) keep → run_of front ≡ Some e → Walked (front ++ line ∷ rest) keep (length front) nothing_bound e (cut_lines_from 0 keep front)
 cut_front front line rest keep e closed runs =
     let script = front ++ line ∷ rest in
     let start : 0 + length front ≡ length front = omega arith in
@@ -292,7 +292,7 @@ cut_front front line rest keep e closed runs =
     let walked = walk script (length front) keep closed front 0 nothing_bound nothing_bound e (stands_front script 0 front (line ∷ rest) (stands_behind script [])) none runs in
     subst (λ (m : ℕ). Walked script keep m nothing_bound e (cut_lines_from 0 keep front)) start walked
 
-cut_runs : (front : List Line) (line : Line) (rest : List Line) (keep : Lines) (e' g : Bindings) → IsLeast (front ++ line ∷ rest) (length front) keep → run_of (cut_lines_from 0 keep front) ≡ Some e' → after_line e' line ≡ Some g → run_of (cut_lines keep (front ++ line ∷ rest)) ≡ Some g
+cut_runs : (front : List Line) (line : Line) (rest : List Line) (keep : LineSet) (e' g : Bindings) → IsLeast (front ++ line ∷ rest) (length front) keep → run_of (cut_lines_from 0 keep front) ≡ Some e' → after_line e' line ≡ Some g → run_of (cut_lines keep (front ++ line ∷ rest)) ≡ Some g
 cut_runs front line rest keep e' g least before goes =
     let behind = cut_lines_from (length front + 1) keep rest in
     ap run_of (cut_split keep front line rest least.closed.has_asked)
@@ -301,7 +301,7 @@ cut_runs front line rest keep e' g least before goes =
     ∙ ap (option_and_then (λ (a : Bindings). run_from a behind)) goes
     ∙ outside_runs (length front + 1) keep rest g (λ i after. least_ends (front ++ line ∷ rest) (length front) keep least i (omega arith))
 
-split_keeps_value : (front : List Line) (line : Line) (rest : List Line) (name : List ℕ) (keep : Lines) → IsScript (front ++ line ∷ rest) → bound_name line ≡ Some name → IsLeast (front ++ line ∷ rest) (length front) keep
+split_keeps_value : (front : List Line) (line : Line) (rest : List Line) (name : List ℕ) (keep : LineSet) → IsScript (front ++ line ∷ rest) → bound_name line ≡ Some name → IsLeast (front ++ line ∷ rest) (length front) keep
     → (value : ℕ) × (value_after (front ++ line ∷ []) name ≡ Some value) × (value_after (cut_lines keep (front ++ line ∷ rest)) name ≡ Some value)
 split_keeps_value front line rest name keep is binds least =
     let script = front ++ line ∷ rest in
@@ -315,7 +315,7 @@ split_keeps_value front line rest name keep is binds least =
     )
 
 -- the same of a script that is cut in three
-from_split : (script front rest : List Line) (line : Line) (asked : ℕ) (name : List ℕ) (keep : Lines) → length front ≡ asked → take (asked + 1) script ≡ front ++ line ∷ [] → front ++ line ∷ rest ≡ script
+from_split : (script front rest : List Line) (line : Line) (asked : ℕ) (name : List ℕ) (keep : LineSet) → length front ≡ asked → take (asked + 1) script ≡ front ++ line ∷ [] → front ++ line ∷ rest ≡ script
     → IsScript script → bound_name line ≡ Some name → IsLeast script asked keep
     → (value : ℕ) × (value_after (take (asked + 1) script) name ≡ Some value) × (value_after (cut_lines keep script) name ≡ Some value)
 from_split script front rest line asked name keep at up_to whole is binds least =
@@ -340,7 +340,7 @@ length-take_before script asked line here =
     let within = slice_get_within script asked line here in
     length-take-le asked script (omega arith)
 
-pub cut_keeps_value : (script : List Line) (asked : ℕ) (name : List ℕ) (keep : Lines) → IsScript script → name_at script asked ≡ Some name → IsLeast script asked keep
+pub cut_keeps_value : (script : List Line) (asked : ℕ) (name : List ℕ) (keep : LineSet) → IsScript script → name_at script asked ≡ Some name → IsLeast script asked keep
     → (value : ℕ) × (value_after (take (asked + 1) script) name ≡ Some value) × (value_after (cut_lines keep script) name ≡ Some value)
 cut_keeps_value script asked name keep is named least =
     option_and_then_some bound_name (slice_get script asked) name named

@@ -3,7 +3,7 @@ use Rattle.std.proofs.Common.{◌≡◌, ℕ, ◌-◌, ◌<◌, ◌⊎◌, ⊎_e
 use Rattle.std.proofs.lemmas.Bool.{cases_lt}
 use Rattle.std.proofs.lemmas.Option.{none-some, slice_get_within, slice_get-get_or, slice_get_past}
 use Rattle.now_top.specs.Line.{Line, bound_name, names_read}
-use Rattle.now_top.specs.Least.{Lines, name_at, reads_at, IsLastBinder, IsClosed, IsLeast}
+use Rattle.now_top.specs.Least.{LineSet, name_at, reads_at, IsLastBinder, IsClosed, IsLeast}
 use Rattle.now_top.specs.Cut.{cut_text}
 use Rattle.now_top.specs.Script.{Spells}
 use Rattle.now_top.specs.Reply.{IsSliceOf}
@@ -30,13 +30,13 @@ tied_to script links are j name i among binder =
     let here = slice_get-get_or links j Empty within in
     (get_or links j Empty, here, (are.each j (get_or links j Empty) here).complete name i among binder)
 
-closed_along : (script : List Line) (links : List Link) → AreLinksOf script links → (asked : ℕ) (keep : Lines) → IsClosed script asked keep → IsClosedAlong links asked keep
+closed_along : (script : List Line) (links : List Link) → AreLinksOf script links → (asked : ℕ) (keep : LineSet) → IsClosed script asked keep → IsClosedAlong links asked keep
 closed_along script links are asked keep closed = record {
   has_asked = closed.has_asked;
   has_ties = λ j i kept tied. let w = (are.each j tied.0 tied.1).sound i tied.2 in closed.has_binders j w.0 i kept w.1 w.2;
 }
 
-pub least_from_links : (script : List Line) (links : List Link) → AreLinksOf script links → (asked : ℕ) (keep : Lines) → IsLeastAlong links asked keep → IsLeast script asked keep
+pub least_from_links : (script : List Line) (links : List Link) → AreLinksOf script links → (asked : ℕ) (keep : LineSet) → IsLeastAlong links asked keep → IsLeast script asked keep
 least_from_links script links are asked keep least = record {
   closed = record {
     has_asked = least.closed.has_asked;

@@ -45,6 +45,20 @@ module _ (words : List (List ℕ)) (files : Files) (source_rose out_rose : Type 
       other)
       becomes
 
+  got_because : (planned ending : Ending) (text : List ℕ) (before after : List ℕ) → Because words files source_rose ⊥ planned text → Got (λ e. e ≡ planned) ending text out_rose before after → Got (λ e. Because words files source_rose out_rose e text) ending text out_rose before after
+  got_because planned ending text before after because got = record {
+    shown = got.shown;
+    closing = got.closing;
+    last = got.last;
+    written = got.written;
+    shown_front = got.shown_front;
+    closing_front = got.closing_front;
+    own = got.own;
+    other = λ is. ⊎_elim inl (λ same. inr (subst (λ (e : Ending). Because words files source_rose out_rose e text) (sym same) (still planned text because))) (got.other is);
+    whole = got.whole;
+    all_done = got.all_done;
+  }
+
 pub replies : (words : List (List ℕ)) (told : Option Files) (source_rose out_rose : Type 0) (old new : Option ConsoleView) (status : ℕ) (reply : Reply) → Prepared words told source_rose reply → Delivers (ending_of reply) (reply_text reply) out_rose old new status → Replies words told source_rose out_rose old new status
 replies words told source_rose out_rose old new status reply prepared delivers = record {
   files = prepared.files;
@@ -53,7 +67,10 @@ replies words told source_rose out_rose old new status reply prepared delivers =
   text = reply_text reply;
   status_is = delivers.status_is;
   because = why_ends words prepared.files source_rose out_rose (ending_of reply) delivers.ending (reply_text reply) delivers.becomes prepared.because;
-  got = delivers.got;
+  got = tells_more old new
+      (λ a b. (b.lines ≡ a.lines) × Got (λ e. e ≡ ending_of reply) delivers.ending (reply_text reply) out_rose a.written b.written)
+      (λ a b. (b.lines ≡ a.lines) × Got (λ e. Because words prepared.files source_rose out_rose e (reply_text reply)) delivers.ending (reply_text reply) out_rose a.written b.written)
+      (λ a b g. (g.0, got_because words prepared.files source_rose out_rose (ending_of reply) delivers.ending (reply_text reply) a.written b.written prepared.because g.1)) delivers.got;
 }
 
 -- ---- status 0
@@ -68,8 +85,8 @@ zero_done (folder_failed file) is = absurd (omega arith)
 zero_done out_of_memory is = absurd (omega arith)
 
 -- a slice that was done, and its empty closing line
-got_slice : (ending : Ending) (text : List ℕ) (rose : Type 0) (before after : List ℕ) → ending ≡ done → Got ending text rose before after → after ≡ before ++ text
-got_slice ending text rose before after is got =
+got_slice : (Meant : Ending → Type 0) (ending : Ending) (text : List ℕ) (rose : Type 0) (before after : List ℕ) → ending ≡ done → Got Meant ending text rose before after → after ≡ before ++ text
+got_slice Meant ending text rose before after is got =
     let whole = got.all_done is in
     let other : ending ≢ out_of_memory = λ memory. cc in
     let last : got.last ≡ done = got.own other ∙ is in
@@ -90,7 +107,7 @@ writes_slice words told source_rose out_rose old new status r is_zero =
       slice = r.text;
       is_slice = because.0;
       same = because.1;
-      written = tells_more old new _ _ (λ a b g. (g.0, got_slice r.ending r.text out_rose a.written b.written is g.1)) r.got;
+      written = tells_more old new _ _ (λ a b g. (g.0, got_slice _ r.ending r.text out_rose a.written b.written is g.1)) r.got;
     }
 
 -- ---- a cause leads to its answer

@@ -20,4 +20,4 @@ pub record Delivers (planned : Ending) (text : List ℕ) (out_rose : Type 0) (ol
   pub ending : Ending
   pub status_is : status ≡ status_of ending
   pub becomes : Becomes out_rose planned ending
-  pub got : Tells old new (λ before after. (after.lines ≡ before.lines) × Got ending text out_rose before.written after.written)
+  pub got : Tells old new (λ before after. (after.lines ≡ before.lines) × Got (λ e. e ≡ planned) ending text out_rose before.written after.written)

@@ -5,8 +5,8 @@ use Rattle.std.specs.Option.{option_and_then}
 use Rattle.now_top.specs.Line.{Line, bound_name, names_read}
 
 -- a set of lines
-abbrev pub Lines : Type 0
-Lines = ℕ → Bool
+abbrev pub LineSet : Type 0
+LineSet = ℕ → Bool
 
 -- the name that a line of the script binds
 abbrev pub name_at : List Line → ℕ → Option (List ℕ)
@@ -23,11 +23,11 @@ pub record IsLastBinder (script : List Line) (j : ℕ) (name : List ℕ) (i : �
   pub last : (k : ℕ) → i < k → k < j → name_at script k ≢ Some name
 
 -- the set has the line, and with each line the last earlier binders of the names that it reads
-pub record IsClosed (script : List Line) (asked : ℕ) (keep : Lines) : Type 0 where
+pub record IsClosed (script : List Line) (asked : ℕ) (keep : LineSet) : Type 0 where
   pub has_asked : IsTrue (keep asked)
   pub has_binders : (j : ℕ) (name : List ℕ) (i : ℕ) → IsTrue (keep j) → Contains (reads_at script j) name → IsLastBinder script j name i → IsTrue (keep i)
 
 -- closed, and inside every closed set
-pub record IsLeast (script : List Line) (asked : ℕ) (keep : Lines) : Type 0 where
+pub record IsLeast (script : List Line) (asked : ℕ) (keep : LineSet) : Type 0 where
   pub closed : IsClosed script asked keep
-  pub inside : (other : Lines) → IsClosed script asked other → (i : ℕ) → IsTrue (keep i) → IsTrue (other i)
+  pub inside : (other : LineSet) → IsClosed script asked other → (i : ℕ) → IsTrue (keep i) → IsTrue (other i)

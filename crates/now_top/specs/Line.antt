@@ -1,5 +1,5 @@
 -- The lines of straight-line scripts (this project's profile): empty, or a name bound to an operand or to the sum of two.
-use Rattle.std.specs.Prelude.{ℕ, ◌+◌, ◌-◌, ◌*◌, ◌==◌, nat_le, Bool, false, ◌&&◌, ◌||◌, not, List, [], ◌∷◌, ◌++◌, replicate, codes, Option, Some, None, if◌then◌else◌}
+use Rattle.std.specs.Prelude.{ℕ, ◌+◌, ◌-◌, ◌*◌, ◌==◌, nat_le, Bool, true, false, ◌&&◌, ◌||◌, not, List, [], ◌∷◌, ◌++◌, replicate, codes, Option, Some, None, if◌then◌else◌}
 use Rattle.std.specs.List.{list_all, list_any}
 use Rattle.std.specs.Str.{bytes_eq}
 
@@ -10,8 +10,8 @@ greatest = 9223372036854775807
 abbrev pub is_digit : ℕ → Bool
 is_digit c = nat_le 48 c && nat_le c 57
 
-abbrev pub is_letter : ℕ → Bool
-is_letter c = (nat_le 97 c && nat_le c 122) || (nat_le 65 c && nat_le c 90) || (c == 95)
+abbrev pub begins_name : ℕ → Bool
+begins_name c = (nat_le 97 c && nat_le c 122) || (nat_le 65 c && nat_le c 90) || (c == 95)
 
 -- the keywords (The Python Language Reference 3, section 2.3.1)
 abbrev pub keywords : List (List ℕ)
@@ -28,7 +28,7 @@ is_keyword word = list_any (bytes_eq word) keywords
 -- a name (The Python Language Reference 3, section 2.3, its ASCII part): a letter or `_`, then letters, digits and `_`
 abbrev pub is_name : List ℕ → Bool
 is_name [] = false
-is_name (c ∷ cs) = is_letter c && list_all (λ d. is_letter d || is_digit d) cs && not (is_keyword (c ∷ cs))
+is_name (c ∷ cs) = begins_name c && list_all (λ d. begins_name d || is_digit d) cs && not (is_keyword (c ∷ cs))
 
 -- the number that decimal digits stand for
 abbrev pub number_after : ℕ → List ℕ → ℕ
@@ -82,6 +82,12 @@ abbrev pub is_source_line : Line → Bool
 is_source_line (blank spaces) = spaces == 0
 is_source_line (assign name operand) = is_name name && is_operand operand
 is_source_line (add name left right) = is_name name && is_operand left && is_operand right
+
+-- a line of a cut text: one of a script, or spaces where one was
+abbrev pub is_cut_line : Line → Bool
+is_cut_line (blank spaces) = true
+is_cut_line (assign name operand) = is_source_line (assign name operand)
+is_cut_line (add name left right) = is_source_line (add name left right)
 
 -- the name that a line binds
 abbrev pub bound_name : Line → Option (List ℕ)

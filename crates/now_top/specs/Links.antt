@@ -1,6 +1,6 @@
 -- Lines tied to earlier lines that they need, and the least set of lines closed along these ties.
 use Rattle.std.specs.Prelude.{◌≡◌, ℕ, ◌<◌, Bool, false, List, Option, Some, slice_get, unwrap_or, IsTrue, ◌⊎◌}
-use Rattle.now_top.specs.Least.{Lines}
+use Rattle.now_top.specs.Least.{LineSet}
 use Rattle.now_top.specs.declared.links.Link.{Link}
 use Rattle.now_top.specs.declared.links.Link.TheVariants.{Empty, Binding}
 
@@ -22,15 +22,15 @@ abbrev pub LeadBack : List Link → Type 0
 LeadBack links = (j i : ℕ) → IsTied links j i → i < j
 
 -- the set that a list of marks stands for
-abbrev pub marked : List Bool → Lines
+abbrev pub marked : List Bool → LineSet
 marked marks i = unwrap_or (slice_get marks i) false
 
 -- the set has the line, and with each line those that it is tied to
-pub record IsClosedAlong (links : List Link) (asked : ℕ) (keep : Lines) : Type 0 where
+pub record IsClosedAlong (links : List Link) (asked : ℕ) (keep : LineSet) : Type 0 where
   pub has_asked : IsTrue (keep asked)
   pub has_ties : (j i : ℕ) → IsTrue (keep j) → IsTied links j i → IsTrue (keep i)
 
 -- closed, and inside every closed set
-pub record IsLeastAlong (links : List Link) (asked : ℕ) (keep : Lines) : Type 0 where
+pub record IsLeastAlong (links : List Link) (asked : ℕ) (keep : LineSet) : Type 0 where
   pub closed : IsClosedAlong links asked keep
-  pub inside : (other : Lines) → IsClosedAlong links asked other → (i : ℕ) → IsTrue (keep i) → IsTrue (other i)
+  pub inside : (other : LineSet) → IsClosedAlong links asked other → (i : ℕ) → IsTrue (keep i) → IsTrue (other i)

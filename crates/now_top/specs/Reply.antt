@@ -5,10 +5,11 @@ use Rattle.prov_base.specs.Path.{is_path}
 use Rattle.prov_outside.specs.Folder.{Files}
 use Rattle.prov_outside.specs.Tells.{Tells}
 use Rattle.prov_outside.specs.Console.{ConsoleView}
-use Rattle.now_top.specs.Line.{Line, text_of}
+use Rattle.std.specs.List.{list_all}
+use Rattle.now_top.specs.Line.{Line, text_of, is_cut_line}
 use Rattle.now_top.specs.Meaning.{value_after}
 use Rattle.now_top.specs.Script.{Spells, IsRefusedAfter}
-use Rattle.now_top.specs.Least.{Lines, name_at, IsLeast}
+use Rattle.now_top.specs.Least.{LineSet, name_at, IsLeast}
 use Rattle.now_top.specs.Cut.{cut_text}
 use Rattle.now_top.specs.Command.{cut_command}
 
@@ -69,7 +70,7 @@ pub record IsSliceOf (text : List ℕ) (line : ℕ) (slice : List ℕ) : Type 0 
   pub spells : Spells text script
   pub name : List ℕ
   pub binds : name_at script (line - 1) ≡ Some name
-  pub keep : Lines
+  pub keep : LineSet
   pub least : IsLeast script (line - 1) keep
   pub slice_is : slice ≡ cut_text keep text
 
@@ -88,6 +89,7 @@ pub record BindsTheSame (text : List ℕ) (line : ℕ) (slice : List ℕ) : Type
   pub name : List ℕ
   pub binds : name_at script (line - 1) ≡ Some name
   pub lines : List Line
+  pub are_lines : IsTrue (list_all is_cut_line lines)
   pub slice_is : slice ≡ text_of lines
   pub value : ℕ
   pub in_script : value_after (take line script) name ≡ Some value
@@ -155,9 +157,10 @@ Because words files source_rose out_rose out_of_memory text = IsSlice words file
 abbrev pub IsPrefix : List ℕ → List ℕ → Type 0
 IsPrefix front whole = (n : ℕ) × (front ≡ take n whole)
 
--- The console got a prefix of the text and then one of a closing line: the ending's own, unless memory ran out. Both are
--- whole where its count did not rise and memory did not run out. A slice that was done is whole.
-pub record Got (ending : Ending) (text : List ℕ) (out_rose : Type 0) (before after : List ℕ) : Type 0 where
+-- The console got a prefix of the text and then one of a closing line: the ending's own, or where memory ran out at the
+-- line of an ending that was meant, that one. Both are whole where its count did not rise and memory did not run out. A
+-- slice that was done is whole.
+pub record Got (Meant : Ending → Type 0) (ending : Ending) (text : List ℕ) (out_rose : Type 0) (before after : List ℕ) : Type 0 where
   pub shown : List ℕ
   pub closing : List ℕ
   pub last : Ending
@@ -165,6 +168,7 @@ pub record Got (ending : Ending) (text : List ℕ) (out_rose : Type 0) (before a
   pub shown_front : IsPrefix shown text
   pub closing_front : IsPrefix closing (closing_line last)
   pub own : ending ≢ out_of_memory → last ≡ ending
+  pub other : ending ≡ out_of_memory → (last ≡ out_of_memory) ⊎ Meant last
   pub whole : ending ≢ out_of_memory → (out_rose → ⊥) → (shown ≡ text) × (closing ≡ closing_line ending)
   pub all_done : ending ≡ done → shown ≡ text
 
@@ -176,7 +180,7 @@ pub record Replies (words : List (List ℕ)) (told : Option Files) (source_rose 
   pub text : List ℕ
   pub status_is : status ≡ status_of ending
   pub because : Because words files source_rose out_rose ending text
-  pub got : Tells old new (λ before after. (after.lines ≡ before.lines) × Got ending text out_rose before.written after.written)
+  pub got : Tells old new (λ before after. (after.lines ≡ before.lines) × Got (λ e. Because words files source_rose out_rose e text) ending text out_rose before.written after.written)
 
 -- With status 0 the console got the slice and nothing else, and running its lines binds the name to the same integer.
 pub record WritesSlice (words : List (List ℕ)) (told : Option Files) (old new : Option ConsoleView) : Type 0 where

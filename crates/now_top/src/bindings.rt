@@ -20,6 +20,7 @@ pub struct Bindings<'t> {
 }
 
 impl<'t> Bindings<'t> {
+    /// A table in which no name is bound.
     pub fn new(alloc: Global) -> Bindings<'t>
         ensures { (name : List ℕ) → bound_at result name ≡ None }
     {

@@ -11,6 +11,8 @@ mod path;
 mod pieces;
 mod reply;
 mod script;
+#[cfg(test)]
+mod tests;
 mod top;
 mod word;
 mod words;

@@ -8,7 +8,9 @@ use std::alloc::{AllocError, Global};
 /// from 0. A literal needs none.
 #[derive(Clone, Copy, Debug, PartialEq, Eq)]
 pub enum Link {
+    /// The line has no text.
     Empty,
+    /// The line binds a name, and each name that it reads was bound last at this line, counted from 0.
     Binding(Option<u32>, Option<u32>),
 }
 

@@ -3,6 +3,7 @@ ghost use Rattle.std.specs.Prelude.{◌≡◌, ◌≤◌, IsTrue, IfSome, IfNone
 ghost use Rattle.std.specs.List.{list_all};
 ghost use Rattle.now_top.specs.Line.{is_digit as is_digit_code, is_numeral as is_numeral_text, number_of};
 
+/// Whether the byte is an ASCII digit.
 pub fn is_digit(byte: u8) -> bool
     ensures { result ≡ is_digit_code byte }
 {

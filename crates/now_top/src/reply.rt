@@ -1,9 +1,10 @@
 // What the words ask for, worked out before anything is written.
-ghost use Rattle.std.specs.Prelude.{◌≡◌, ◌≤◌, map};
+ghost use Rattle.std.specs.Prelude.{◌≡◌, ◌≤◌, ◌⊎◌, map};
 ghost use Rattle.std.specs.String.{string_bytes};
 ghost use Rattle.prov_outside.specs.Count.{Rose};
 ghost use Rattle.prov_outside.specs.Tells.{Tells};
 ghost use Rattle.now_top.specs.Prepared.{FromText, Prepared};
+ghost use Rattle.now_top.specs.Reply.{IsUsage, HasNoPath};
 
 use crate::blank::blanked;
 use crate::links::{is_binding, lines_needed};
@@ -19,13 +20,17 @@ const LONGEST_SCRIPT: usize = 262144;
 /// What a command comes to: the slice for the console, or why there is none.
 #[derive(Drop)]
 pub enum Reply<'w> {
+    /// The text with the lines blanked that are not needed.
     Slice(Vec<u8>),
+    /// The words are no command.
     Usage,
     /// The script at this path is refused at this line, counted from 1.
     Refused(&'w str, u32),
+    /// FILE is no path or is absent, or LINE binds no name.
     NothingThere,
     /// The folder failed at this path.
     FolderFailed(&'w str),
+    /// Memory ran out before anything was written.
     OutOfMemory,
 }
 
@@ -63,6 +68,7 @@ pub fn prepare<'w, F: Folder>(alloc: Global, words: &'w [String], folder: &mut F
     ensures get_faults { F.get_faults folder.new ≡ F.get_faults folder.old }
     ensures put_faults { F.put_faults folder.new ≡ F.put_faults folder.old }
     ensures source_faults { F.source_faults folder.old ≤ F.source_faults folder.new }
+    ensures unasked { IsUsage (map string_bytes words.now) ⊎ HasNoPath (map string_bytes words.now) → F.source_faults folder.new ≡ F.source_faults folder.old }
 {
     let Some((file, line)) = read_words(words) else {
         return Reply::Usage;

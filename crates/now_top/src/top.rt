@@ -1,10 +1,10 @@
 // The top call, and the law that its answer is determined.
-ghost use Rattle.std.specs.Prelude.{◌≡◌, ◌≤◌, ℕ, List, map};
+ghost use Rattle.std.specs.Prelude.{◌≡◌, ◌≤◌, ◌⊎◌, ℕ, List, map};
 ghost use Rattle.std.specs.String.{string_bytes};
 ghost use Rattle.prov_outside.specs.Count.{Rose};
 ghost use Rattle.prov_outside.specs.Folder.{Files};
 ghost use Rattle.prov_outside.specs.Tells.{Tells};
-ghost use Rattle.now_top.specs.Reply.{Ending, Means, Replies, WritesSlice, AnswersWords, AnswersFiles, Completes, WhereTold};
+ghost use Rattle.now_top.specs.Reply.{Ending, IsUsage, HasNoPath, Means, Replies, WritesSlice, AnswersWords, AnswersFiles, Completes, WhereTold};
 
 use crate::deliver::deliver;
 use crate::reply::prepare;
@@ -14,8 +14,12 @@ use std::alloc::Global;
 /// Does what the words ask for, and answers the exit status.
 ///
 /// `cut FILE LINE` reads the straight-line script at FILE and writes it with every line blanked but LINE, counted from
-/// 1, and the lines that it needs. The statuses are 0 done, 2 the words are no command, 3 the script is refused, 4
-/// nothing there, 5 the console failed, 6 the folder failed, 8 out of memory.
+/// 1, and the lines that it needs. FILE is a path below the folder, of at most 255 bytes. A script has at most 262,144
+/// bytes, and its lines are empty, `NAME = OPERAND` or `NAME = OPERAND + OPERAND`, each ended by LF, with operands that
+/// are integer literals from 0 to 9223372036854775807 or names which an earlier line binds.
+///
+/// The statuses are 0 done, 2 the words are no command, 3 the script is refused, 4 nothing there, 5 the console failed,
+/// 6 the folder failed, 8 out of memory.
 pub fn now<C: Console, F: Folder>(
     alloc: Global,
     words: &[String],
@@ -23,7 +27,7 @@ pub fn now<C: Console, F: Folder>(
     folder: &mut F,
 ) -> u8
     // With status 0 the console got the text cut to the least set of lines and nothing else, and running these lines
-    // binds the name of the asked line to the same integer as running the script does.
+    // binds the name of the asked line to the same integer as running the script up to and with that line.
     ensures slice { result ≡ 0 → WritesSlice (map string_bytes words.now) (F.told folder.new) (C.told console.old) (C.told console.new) }
 
     // Every status has its cause, and a prefix of the command's text and of a closing line stands on the console.
@@ -43,6 +47,11 @@ pub fn now<C: Console, F: Folder>(
     ensures get_faults { F.get_faults folder.new ≡ F.get_faults folder.old }
     ensures put_faults { F.put_faults folder.new ≡ F.put_faults folder.old }
     ensures in_faults { C.in_faults console.new ≡ C.in_faults console.old }
+    ensures source_faults { F.source_faults folder.old ≤ F.source_faults folder.new }
+    ensures out_faults { C.out_faults console.old ≤ C.out_faults console.new }
+
+    // The folder is asked only for a path.
+    ensures unasked { IsUsage (map string_bytes words.now) ⊎ HasNoPath (map string_bytes words.now) → F.source_faults folder.new ≡ F.source_faults folder.old }
 {
     let reply = prepare(alloc, words, folder);
     deliver(alloc, console, &reply)

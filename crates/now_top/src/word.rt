@@ -2,12 +2,13 @@
 ghost use Rattle.std.specs.Prelude.{◌≡◌, ◌||◌};
 ghost use Rattle.std.specs.List.{list_all, list_any};
 ghost use Rattle.std.specs.Str.{bytes_eq};
-ghost use Rattle.now_top.specs.Line.{is_letter as is_letter_code, is_digit as is_digit_code, is_keyword as is_keyword_text, is_name as is_name_text};
+ghost use Rattle.now_top.specs.Line.{begins_name as begins_name_code, is_digit as is_digit_code, is_keyword as is_keyword_text, is_name as is_name_text};
 
 use crate::number::is_digit;
 
-fn is_letter(byte: u8) -> bool
-    ensures { result ≡ is_letter_code byte }
+/// Whether a name may begin with the byte: an ASCII letter or an underscore.
+fn begins_name(byte: u8) -> bool
+    ensures { result ≡ begins_name_code byte }
 {
     (97 <= byte && byte <= 122) || (65 <= byte && byte <= 90) || byte == 95
 }
@@ -65,9 +66,11 @@ fn is_keyword(word: &[u8]) -> bool
 
 /// Whether each byte is a letter, a digit or `_`.
 fn are_name_bytes(bytes: &[u8]) -> bool
-    ensures { result ≡ list_all (λ byte. is_letter_code byte || is_digit_code byte) bytes.now }
+    ensures { result ≡ list_all (λ byte. begins_name_code byte || is_digit_code byte) bytes.now }
 {
-    bytes.iter().all(|byte| is_letter(*byte) || is_digit(*byte))
+    bytes
+        .iter()
+        .all(|byte| begins_name(*byte) || is_digit(*byte))
 }
 
 /// Whether the bytes are a name: a letter or `_`, then letters, digits and `_`, and no keyword.
@@ -77,5 +80,5 @@ pub fn is_name(word: &[u8]) -> bool
     let Some((first, rest)) = word.split_first() else {
         return false;
     };
-    is_letter(*first) && are_name_bytes(rest) && !is_keyword(word)
+    begins_name(*first) && are_name_bytes(rest) && !is_keyword(word)
 }
