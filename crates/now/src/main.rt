@@ -2,6 +2,7 @@
 #![tactic(auto)]
 
 use now_top::now;
+use prov_outside::Console;
 use prov_real::{RealConsole, RealFolder};
 use std::process::ExitCode;
 use std::{env, io};
@@ -12,13 +13,17 @@ fn words(rt: &HostRuntime) -> io::Result<Vec<String>> {
 }
 
 fn main(rt: HostRuntime) -> ExitCode {
+    let mut console = RealConsole::new(&rt);
     let words = match words(&rt) {
         Ok(words) => words,
-        Err(error) if error.kind() == io::ErrorKind::OutOfMemory => return ExitCode::from(8),
+        Err(error) if error.kind() == io::ErrorKind::OutOfMemory => {
+            // The status stands, whether its line comes through or not.
+            let _ = console.write(rt.alloc(), b"now: out of memory\n");
+            return ExitCode::from(8);
+        }
         // Words that are no text are no command, and neither are none.
         Err(_) => Vec::new(rt.alloc()),
     };
-    let mut console = RealConsole::new(&rt);
     let mut folder = RealFolder::new(&rt);
     ExitCode::from(now(rt.alloc(), &words, &mut console, &mut folder))
 }
