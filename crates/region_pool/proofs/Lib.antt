@@ -1,0 +1,5 @@
+pub mod Rooms
+pub mod Lists
+pub mod LayoutLemmas
+pub mod ChunkLemmas
+mod Worked
