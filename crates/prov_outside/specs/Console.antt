@@ -1,6 +1,10 @@
 -- What a console tells, and what each of its calls does to that (this project's profile).
-use Rattle.std.specs.Prelude.{◌≡◌, ℕ, List, [], ◌∷◌, ◌++◌, take, Option, Some, None, Result, Ok, Err}
+use Rattle.std.specs.Prelude.{◌≡◌, ◌≢◌, ℕ, List, [], ◌∷◌, ◌++◌, take, All, Option, Some, None, Result, Ok, Err}
 use Rattle.prov_outside.specs.declared.trouble.Trouble.{Trouble}
+
+-- none of the bytes is an LF
+abbrev pub IsLine : List ℕ → Type 0
+IsLine bytes = All (λ byte. byte ≢ 10) bytes
 
 -- the lines that are left to read, each without its LF, and the bytes written so far
 pub record ConsoleView : Type 0 where

@@ -1,8 +1,8 @@
 // The console: lines to read, and bytes to write.
-ghost use Rattle.std.specs.Prelude.{◌≡◌, Option, ℕ};
+ghost use Rattle.std.specs.Prelude.{◌≡◌, Option, ℕ, IfOk, IfSome};
 ghost use Rattle.prov_outside.specs.Count.{Counts};
 ghost use Rattle.prov_outside.specs.Tells.{Tells};
-ghost use Rattle.prov_outside.specs.Console.{ConsoleView, ReadsLine, Writes};
+ghost use Rattle.prov_outside.specs.Console.{ConsoleView, IsLine, ReadsLine, Writes};
 
 use crate::Trouble;
 use prov_base::Bytes;
@@ -23,7 +23,8 @@ pub trait Console {
     fn read_line(&mut self, alloc: Global) -> Result<Option<Bytes>, Trouble>
         ensures line { Tells (told self.old) (told self.new) (ReadsLine result) }
         ensures cause { Counts (in_faults self.old) (in_faults self.new) result }
-        ensures others { out_faults self.new ≡ out_faults self.old };
+        ensures others { out_faults self.new ≡ out_faults self.old }
+        ensures no_lf { IfOk result (λ line. IfSome line IsLine) };
 
     /// Writes all the bytes. After an `Err` a prefix of them was written.
     fn write(&mut self, alloc: Global, bytes: &[u8]) -> Result<(), Trouble>

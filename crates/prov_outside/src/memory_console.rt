@@ -1,6 +1,6 @@
 // A console in memory: the input is there from the start, and what was written can be read back.
-ghost use Rattle.std.specs.Prelude.{position, ◌==◌, ◌≡◌, ◌↔◌, ◌+◌, ◌≤◌, ◌<◌, Some, [], ◌∷◌, length, take, drop, IsErrOf, OnErr};
-ghost use Rattle.prov_outside.specs.Console.{ReadsLine, Writes};
+ghost use Rattle.std.specs.Prelude.{position, ◌==◌, ◌≡◌, ◌↔◌, ◌+◌, ◌≤◌, ◌<◌, Some, [], ◌∷◌, length, take, drop, IfOk, IfSome, IsErrOf, OnErr};
+ghost use Rattle.prov_outside.specs.Console.{IsLine, ReadsLine, Writes};
 ghost use Rattle.prov_outside.specs.Count.{Counts};
 ghost use Rattle.prov_outside.specs.MemoryConsole.{console_view, lines_of};
 ghost use Rattle.prov_outside.specs.Numbering.{NextFails, after_call, faults_after};
@@ -83,6 +83,7 @@ fn first_line_len(bytes: &[u8]) -> usize
     requires { 0 < length bytes.now }
     ensures within { result ≤ length bytes.now }
     ensures first { lines_of bytes.now ≡ take result bytes.now ∷ lines_of (drop (result + 1) bytes.now) }
+    ensures no_lf { IsLine (take result bytes.now) }
 {
     first_lf(bytes).unwrap_or(bytes.len())
 }
@@ -99,6 +100,7 @@ impl Console for MemoryConsole {
         ensures line { ReadsLine result (console_view self.old) (console_view self.new) }
         ensures cause { Counts self.old.in_faults self.new.in_faults result }
         ensures others { self.new.out_faults ≡ self.old.out_faults }
+        ensures no_lf { IfOk result (λ line. IfSome line IsLine) }
         ensures fails { IsErrOf result Trouble.Failed ↔ NextFails self.old.calls }
         ensures numbered { self.new.calls ≡ after_call self.old.calls }
         ensures counted { self.new.in_faults ≡ faults_after result self.old.in_faults }

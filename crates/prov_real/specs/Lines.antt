@@ -1,12 +1,9 @@
 -- Lines at the front of the bytes that a source has left.
-use Rattle.std.specs.Prelude.{◌≡◌, ◌≢◌, ◌<◌, ◌≤◌, ◌+◌, ◌⊎◌, ℕ, Bool, true, false, List, [], ◌∷◌, ◌++◌, length, take, drop, All, Option, Some, None, Result, Ok, Err}
+use Rattle.std.specs.Prelude.{◌≡◌, ◌≢◌, ◌<◌, ◌≤◌, ◌+◌, ◌⊎◌, ℕ, Bool, true, false, List, [], ◌∷◌, ◌++◌, length, take, drop, Option, Some, None, Result, Ok, Err}
 use Rattle.std.specs.Io.KnownBytes.{IsAtEnd}
+pub use Rattle.prov_outside.specs.Console.{IsLine}
 use Rattle.prov_outside.specs.declared.trouble.Trouble.{Trouble}
 use Rattle.prov_outside.specs.declared.trouble.Trouble.TheVariants.{Failed, Memory}
-
--- none of the bytes is an LF
-abbrev pub IsLine : List ℕ → Type 0
-IsLine bytes = All (λ byte. byte ≢ 10) bytes
 
 -- The line stood at the front with an LF behind it, or it was all that was left, and not empty.
 abbrev pub TakesLine : List ℕ → List ℕ → List ℕ → Type 0

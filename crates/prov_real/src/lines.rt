@@ -3,7 +3,7 @@
 // twice, is for memory and time alone: no clause speaks of it.
 ghost use Rattle.std.specs.Prelude.{◌≡◌, ◌≤◌, [], length, IfOk, IfSome, OnOk};
 ghost use Rattle.std.specs.Io.KnownBytes.{Keeps, prepend_known};
-ghost use Rattle.prov_real.specs.Lines.{ReadsLine, WhereKnown, GivesWholeLine, GivesLastLine, IsLineFeed, Grows};
+ghost use Rattle.prov_real.specs.Lines.{IsLine, ReadsLine, WhereKnown, GivesWholeLine, GivesLastLine, IsLineFeed, Grows};
 
 use prov_base::Bytes;
 use prov_outside::Trouble;
@@ -63,6 +63,7 @@ impl Unread {
         ensures line { WhereKnown (prepend_known self.old (R.remaining source.old))
             (prepend_known self.new (R.remaining source.new)) (ReadsLine result) }
         ensures length { IfOk result (λ line. IfSome line (λ bytes. length bytes ≤ LONGEST_LINE)) }
+        ensures no_lf { IfOk result (λ line. IfSome line IsLine) }
     {
         loop {
             if let Some(line) = self.whole_line(alloc)? {
