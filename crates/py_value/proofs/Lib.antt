@@ -1,0 +1,4 @@
+pub mod Equality
+pub mod Interning
+pub mod SameContents
+pub mod Worked

@@ -1,0 +1,40 @@
+-- What a value is, with its texts and tuples as their contents and no numbers for them (this project's profile).
+use Rattle.std.specs.Prelude.{ℕ, zero, suc, List, [], ◌∷◌, length, slice_get, unwrap_or}
+use Rattle.py_value.specs.declared.value.Value.{Value}
+use Rattle.py_value.specs.declared.value.Value.TheVariants.{None, Bool, Int, Text, Tuple, Range, Fn, Class, Exc, Builtin, Object}
+use Rattle.py_value.specs.Values.{ValuesView}
+
+mutual
+  -- a value that is neither a text nor a tuple, the bytes of a text, or the parts of a tuple
+  pub data Contents : Type 0 where
+    plain : Value → Contents
+    text : List ℕ → Contents
+    tuple : Parts → Contents
+
+  pub data Parts : Type 0 where
+    no_parts : Parts
+    part : Contents → Parts → Parts
+
+-- the parts of a tuple of these values
+abbrev pub parts_by : (Value → Contents) → List Value → Parts
+parts_by contents [] = no_parts
+parts_by contents (item ∷ items) = part (contents item) (parts_by contents items)
+
+-- the contents of a value, down to so many tuples inside one another
+abbrev pub contents_to : ℕ → ValuesView → Value → Contents
+contents_to levels view (Text id) = text (unwrap_or (slice_get view.texts id) [])
+contents_to zero view (Tuple id) = tuple no_parts
+contents_to (suc levels) view (Tuple id) = tuple (parts_by (contents_to levels view) (unwrap_or (slice_get view.tuples id) []))
+contents_to levels view None = plain None
+contents_to levels view (Bool b) = plain (Bool b)
+contents_to levels view (Int i) = plain (Int i)
+contents_to levels view (Range start end step) = plain (Range start end step)
+contents_to levels view (Fn place) = plain (Fn place)
+contents_to levels view (Class place) = plain (Class place)
+contents_to levels view (Exc number) = plain (Exc number)
+contents_to levels view (Builtin number) = plain (Builtin number)
+contents_to levels view (Object object) = plain (Object object)
+
+-- The contents of a value. A tuple's parts were named before it, so as many levels as there are tuples are enough.
+abbrev pub contents : ValuesView → Value → Contents
+contents view value = contents_to (length view.tuples) view value
