@@ -102,3 +102,15 @@ fn many_texts(rt: HostRuntime) -> Result<(), Fail> {
     }
     Ok(())
 }
+
+// It is run with each allocation failing in turn: a refused call changes nothing, and can be made again.
+#[test]
+fn refused_names_change_nothing(rt: HostRuntime) -> Result<(), Fail> {
+    let alloc = rt.alloc();
+    let mut values = Values::new(alloc)?;
+    let refused = values.text(alloc, "ab").is_err();
+    assert_eq!(rt; values.text(alloc, "ab")?, 0, "refused: {refused}");
+    let refused = values.tuple(alloc, &[Int(1)]).is_err();
+    assert_eq!(rt; values.tuple(alloc, &[Int(1)])?, 0, "refused: {refused}");
+    Ok(())
+}
