@@ -69,19 +69,19 @@ module _ {A : Type 0} where
       (λ a. ⊎_elim (λ b. absurd (gone j (b ∙ ap Some a.1))) (λ b. a.0 ∙ sym b.0) (which xs x y j at_j))
       (which xs x y i at_i)
 
--- fewer are more
-pub below_more : (texts tuples more fewer : ℕ) (value : Value) → texts ≤ more → tuples ≤ fewer → IsBelow texts tuples value → IsBelow more fewer value
-below_more texts tuples more fewer (Text id) a b is = omega (arith, a, is)
-below_more texts tuples more fewer (Tuple id) a b is = omega (arith, b, is)
-below_more texts tuples more fewer Nothing a b is = is
-below_more texts tuples more fewer (Truth t) a b is = is
-below_more texts tuples more fewer (Int i) a b is = is
-below_more texts tuples more fewer (Range start end step) a b is = is
-below_more texts tuples more fewer (Fn place) a b is = is
-below_more texts tuples more fewer (Class place) a b is = is
-below_more texts tuples more fewer (Exc number) a b is = is
-below_more texts tuples more fewer (Builtin number) a b is = is
-below_more texts tuples more fewer (Object object) a b is = is
+-- what is below a bound is below a greater one
+pub below_more : (texts tuples more_texts more_tuples : ℕ) (value : Value) → texts ≤ more_texts → tuples ≤ more_tuples → IsBelow texts tuples value → IsBelow more_texts more_tuples value
+below_more texts tuples more_texts more_tuples (Text id) a b is = omega (arith, a, is)
+below_more texts tuples more_texts more_tuples (Tuple id) a b is = omega (arith, b, is)
+below_more texts tuples more_texts more_tuples Nothing a b is = is
+below_more texts tuples more_texts more_tuples (Truth t) a b is = is
+below_more texts tuples more_texts more_tuples (Int i) a b is = is
+below_more texts tuples more_texts more_tuples (Range start end step) a b is = is
+below_more texts tuples more_texts more_tuples (Fn place) a b is = is
+below_more texts tuples more_texts more_tuples (Class place) a b is = is
+below_more texts tuples more_texts more_tuples (Exc number) a b is = is
+below_more texts tuples more_texts more_tuples (Builtin number) a b is = is
+below_more texts tuples more_texts more_tuples (Object object) a b is = is
 
 pub length-behind : {A : Type 0} (xs : List A) (x : A) → length (xs ++ x ∷ []) ≡ suc (length xs)
 length-behind [] x = refl

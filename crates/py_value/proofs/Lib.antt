@@ -1,4 +1,7 @@
 pub mod Equality
 pub mod Interning
+pub mod KeyNotes
+pub mod NormalForms
 pub mod SameContents
 pub mod Worked
+pub mod WorkedKeys

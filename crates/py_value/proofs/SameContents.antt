@@ -17,7 +17,7 @@ parts_of (plain v) = no_parts
 parts_of (text bytes) = no_parts
 parts_of (tuple parts) = parts
 
-item_at : {A : Type 0} (xs : List (List A)) (i : ℕ) → i < length xs → (ys : List A) × (slice_get xs i ≡ Some ys) × (unwrap_or (slice_get xs i) [] ≡ ys)
+pub item_at : {A : Type 0} (xs : List (List A)) (i : ℕ) → i < length xs → (ys : List A) × (slice_get xs i ≡ Some ys) × (unwrap_or (slice_get xs i) [] ≡ ys)
 item_at [] i within = absurd (omega (arith, within))
 item_at (x ∷ xs) zero within = (x, refl, refl)
 item_at (x ∷ xs) (suc i) within = item_at xs i (omega (arith, within))
@@ -82,7 +82,7 @@ module _ (view : ValuesView) (interned : AreInterned view) where
   pub same_contents : (v w : Value) → IsNamed view v → IsNamed view w → contents view v ≡ contents view w → v ≡ w
   same_contents v w a b is = same_to (length view.tuples) (omega arith) v w a b is
 
-keeps_length : {A : Type 0} (xs ys : List A) → Keeps xs ys → length xs ≤ length ys
+pub keeps_length : {A : Type 0} (xs ys : List A) → Keeps xs ys → length xs ≤ length ys
 keeps_length [] ys keeps = omega arith
 keeps_length (x ∷ xs) ys keeps =
     let last = slice_get-get_or (x ∷ xs) (length xs) x (omega arith) in
@@ -90,7 +90,7 @@ keeps_length (x ∷ xs) ys keeps =
     omega (arith, within)
 
 module _ (old new : ValuesView) (interned : AreInterned old) (texts : Keeps old.texts new.texts) (tuples : Keeps old.tuples new.tuples) where
-  stay_lists : (m n i : ℕ) → ((v : Value) → IsBelow (length old.texts) i v → contents_to n new v ≡ contents_to m old v)
+  pub stay_lists : (m n i : ℕ) → ((v : Value) → IsBelow (length old.texts) i v → contents_to n new v ≡ contents_to m old v)
       → (vs : List Value) → AreBelow (length old.texts) i vs → parts_by (contents_to n new) vs ≡ parts_by (contents_to m old) vs
   stay_lists m n i stay [] below = refl
   stay_lists m n i stay (v ∷ vs) below =
@@ -98,7 +98,7 @@ module _ (old new : ValuesView) (interned : AreInterned old) (texts : Keeps old.
       ∙ ap (part (contents_to m old v)) (stay_lists m n i stay vs (λ k item at. below (suc k) item at))
 
   -- the contents of a value, whose tuples have numbers below both
-  stay_to : (m n : ℕ) (v : Value) → IsNamed old v → IsBelow (length old.texts) m v → IsBelow (length old.texts) n v → contents_to n new v ≡ contents_to m old v
+  pub stay_to : (m n : ℕ) (v : Value) → IsNamed old v → IsBelow (length old.texts) m v → IsBelow (length old.texts) n v → contents_to n new v ≡ contents_to m old v
   stay_to m n (Text i) named a b =
       let x = item_at old.texts i named in
       ap (λ found. text (unwrap_or found [])) (texts i x.0 x.1 ∙ sym x.1)

@@ -1,3 +1,5 @@
 pub mod Contents
 pub mod Key
+pub mod KeyOf
+pub mod Notes
 pub mod Values

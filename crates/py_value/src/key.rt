@@ -57,3 +57,11 @@ impl<T: Drop> From<AllocFailed<T>> for KeyFault {
         KeyFault::Memory
     }
 }
+
+impl From<prov_base::Memory> for KeyFault {
+    ghost from_gives = { λ _ fault. fault ≡ Memory };
+
+    fn from(_: prov_base::Memory) -> Self {
+        KeyFault::Memory
+    }
+}

@@ -4,7 +4,7 @@ ghost use Rattle.py_value.specs.Contents.{contents};
 ghost use Rattle.py_value.specs.Values.{ValuesView, Adds, Keeps, IsNamed, AreNamed, AreInterned};
 ghost use Rattle.py_value.specs.declared.value.Value.{Value as OneValue};
 
-use crate::Value;
+use crate::{KeyFault, Value};
 use indexmap::IndexSet;
 use prov_base::Memory;
 use std::alloc::Global;
@@ -30,18 +30,35 @@ pub fn contents_stay()
 pub struct Values {
     texts: IndexSet<String>,
     tuples: IndexSet<Vec<Value>>,
+    notes: Vec<Note>,
+}
+
+/// A value as a key, where depth is left out: how many tuples stand inside one another in it, itself counted, and what
+/// is refused first of it. A value of which nothing is known has the greatest height.
+#[derive(Clone, Copy)]
+struct AsKey {
+    height: u32,
+    fault: Option<KeyFault>,
+}
+
+/// What is known of a tuple, once for each: the tuple as a key, and the number of its normal form once that is there.
+#[derive(Clone, Copy)]
+struct Note {
+    as_key: AsKey,
+    normal: Option<u32>,
 }
 
 impl Model for Values {
     ghost use Rattle.std.specs.Prelude.{map, vec_items};
     ghost use Rattle.std.specs.String.{string_bytes};
-    ghost use Rattle.py_value.specs.Values.{ValuesView, AreInterned};
+    ghost use Rattle.py_value.specs.Values.{ValuesView};
+    ghost use Rattle.py_value.specs.Notes.{AreNoted};
 
     ghost Value = { ValuesView };
 
     ghost view = { λ v. record { texts = map string_bytes v.texts.keys; tuples = map vec_items v.tuples.keys } };
 
-    ghost invariant = { λ v. AreInterned (record { texts = map string_bytes v.texts.keys; tuples = map vec_items v.tuples.keys }) };
+    ghost invariant = { λ v. AreNoted (record { texts = map string_bytes v.texts.keys; tuples = map vec_items v.tuples.keys }) v.notes.items };
 }
 
 impl Values {
@@ -52,6 +69,7 @@ impl Values {
         Ok(Values {
             texts: IndexSet::new(alloc),
             tuples: IndexSet::new(alloc),
+            notes: Vec::new(alloc),
         })
     }
 
@@ -129,5 +147,6 @@ impl Values {
     }
 }
 
+mod keys;
 #[cfg(test)]
 mod tests;

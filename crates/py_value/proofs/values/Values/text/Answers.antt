@@ -6,6 +6,7 @@ use Rattle.std.specs.String.{string_bytes}
 use Rattle.std.proofs.lemmas.List.{length-map}
 use Rattle.std.proofs.lemmas.Option.{slice_get_within}
 use Rattle.py_value.specs.Values.{Adds, Keeps, AreInterned}
+use Rattle.py_value.proofs.KeyNotes.{notes_stay}
 use Rattle.py_value.proofs.Interning.{found, absent, kept, grown, place_of, at_end, length-behind, keeps_behind, with_text, put}
 use Rattle.py_value.proofs.values.Values.text.Goals as goal
 
@@ -23,7 +24,8 @@ invariant_of-self-2 c =
     let becomes = put string_bytes c.args.s.now c.self.inside.texts.keys c.insert.new.self.keys c.in_ok-text.text _ (ap (λ b. list_any (λ k. bytes_eq b (string_bytes k)) c.self.inside.texts.keys) c.in_ok-text.ensures.ok ∙ none) c.in_ok-text.ensures.ok c.in_ok-insert.ensures.keys in
     let gone = absent string_bytes (λ k. bytes_eq c.args.s.now (string_bytes k)) c.args.s.now (λ k is. (bytes_decides c.args.s.now (string_bytes k)).1 (sym is)) c.self.inside.texts.keys none in
     let count : length (map string_bytes c.self.inside.texts.keys) ≡ c.len.result = length-map c.self.inside.texts.keys string_bytes ∙ sym c.len.ensures.len in
-    subst (λ list. AreInterned (record { texts = list; tuples = map vec_items c.self.inside.tuples.keys })) (sym becomes) (with_text (map string_bytes c.self.inside.texts.keys) (map vec_items c.self.inside.tuples.keys) c.self.invariant c.args.s.now gone (subst (λ n. n < 4294967296) (sym count) c.in-Ok.ensures.0))
+    let now : AreInterned (record { texts = map string_bytes c.insert.new.self.keys; tuples = map vec_items c.self.inside.tuples.keys }) = subst (λ list. AreInterned (record { texts = list; tuples = map vec_items c.self.inside.tuples.keys })) (sym becomes) (with_text (map string_bytes c.self.inside.texts.keys) (map vec_items c.self.inside.tuples.keys) c.self.invariant.interned c.args.s.now gone (subst (λ n. n < 4294967296) (sym count) c.in-Ok.ensures.0)) in
+    notes_stay (record { texts = map string_bytes c.self.inside.texts.keys; tuples = map vec_items c.self.inside.tuples.keys }) (record { texts = map string_bytes c.insert.new.self.keys; tuples = map vec_items c.self.inside.tuples.keys }) c.self.invariant.interned (keeps_behind (map string_bytes c.self.inside.texts.keys) (map string_bytes c.insert.new.self.keys) c.args.s.now becomes) (λ i x at. at) c.self.inside.notes.items c.self.invariant now
 
 pub returns-clause-name : goal.returns-clause-name
 returns-clause-name c =
@@ -40,7 +42,7 @@ returns-clause-texts c =
     subst (λ v. Adds v.texts (map string_bytes c.insert.new.self.keys) c.args.s.now) c.self.view_is (subst (λ list. Adds (map string_bytes c.self.inside.texts.keys) list c.args.s.now) (sym becomes) (grown (map string_bytes c.self.inside.texts.keys) c.args.s.now gone))
 
 pub returns-clause-interned : goal.returns-clause-interned
-returns-clause-interned c = invariant_of-self-2 c
+returns-clause-interned c = (invariant_of-self-2 c).interned
 
 pub returns-in-Some-clause-within : goal.returns-in-Some-clause-within
 returns-in-Some-clause-within c = slice_get_within c.args.self.now.texts c.in-Some.number c.args.s.now (returns-in-Some-clause-name c)

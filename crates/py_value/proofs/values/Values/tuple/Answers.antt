@@ -7,6 +7,7 @@ use Rattle.std.proofs.lemmas.List.{length-map}
 use Rattle.std.proofs.lemmas.Option.{slice_get_within}
 use Rattle.py_value.specs.Values.{Adds, Keeps, AreNamed, AreInterned}
 use Rattle.py_value.proofs.Equality.{values_decide}
+use Rattle.py_value.proofs.KeyNotes.{notes_stay}
 use Rattle.py_value.proofs.Interning.{found, absent, kept, grown, place_of, at_end, length-behind, keeps_behind, with_tuple, put}
 use Rattle.py_value.proofs.values.Values.tuple.Goals as goal
 
@@ -24,7 +25,8 @@ invariant_of-self-2 c =
     let becomes = put vec_items c.args.items.now c.self.inside.tuples.keys c.insert.new.self.keys c.in_ok-tuple.tuple _ (ap (λ b. list_any (λ k. pointwise ghosts.eq b (vec_items k)) c.self.inside.tuples.keys) c.in_ok-tuple.ensures.items ∙ none) c.in_ok-tuple.ensures.items c.in_ok-insert.ensures.keys in
     let gone = absent vec_items (λ k. pointwise ghosts.eq c.args.items.now (vec_items k)) c.args.items.now (λ k is. (values_decide c.args.items.now (vec_items k)).1 (sym is)) c.self.inside.tuples.keys none in
     let count : length (map vec_items c.self.inside.tuples.keys) ≡ c.len.result = length-map c.self.inside.tuples.keys vec_items ∙ sym c.len.ensures.len in
-    subst (λ list. AreInterned (record { texts = map string_bytes c.self.inside.texts.keys; tuples = list })) (sym becomes) (with_tuple (map string_bytes c.self.inside.texts.keys) (map vec_items c.self.inside.tuples.keys) c.self.invariant c.args.items.now (subst (λ v. AreNamed v c.args.items.now) (sym c.self.view_is) c.requires) gone (subst (λ n. n < 4294967296) (sym count) c.in-Ok.ensures.0))
+    let now : AreInterned (record { texts = map string_bytes c.self.inside.texts.keys; tuples = map vec_items c.insert.new.self.keys }) = subst (λ list. AreInterned (record { texts = map string_bytes c.self.inside.texts.keys; tuples = list })) (sym becomes) (with_tuple (map string_bytes c.self.inside.texts.keys) (map vec_items c.self.inside.tuples.keys) c.self.invariant.interned c.args.items.now (subst (λ v. AreNamed v c.args.items.now) (sym c.self.view_is) c.requires) gone (subst (λ n. n < 4294967296) (sym count) c.in-Ok.ensures.0)) in
+    notes_stay (record { texts = map string_bytes c.self.inside.texts.keys; tuples = map vec_items c.self.inside.tuples.keys }) (record { texts = map string_bytes c.self.inside.texts.keys; tuples = map vec_items c.insert.new.self.keys }) c.self.invariant.interned (λ i x at. at) (keeps_behind (map vec_items c.self.inside.tuples.keys) (map vec_items c.insert.new.self.keys) c.args.items.now becomes) c.self.inside.notes.items c.self.invariant now
 
 pub returns-clause-name : goal.returns-clause-name
 returns-clause-name c =
@@ -41,7 +43,7 @@ returns-clause-tuples c =
     subst (λ v. Adds v.tuples (map vec_items c.insert.new.self.keys) c.args.items.now) c.self.view_is (subst (λ list. Adds (map vec_items c.self.inside.tuples.keys) list c.args.items.now) (sym becomes) (grown (map vec_items c.self.inside.tuples.keys) c.args.items.now gone))
 
 pub returns-clause-interned : goal.returns-clause-interned
-returns-clause-interned c = invariant_of-self-2 c
+returns-clause-interned c = (invariant_of-self-2 c).interned
 
 pub returns-in-Some-clause-within : goal.returns-in-Some-clause-within
 returns-in-Some-clause-within c = slice_get_within c.args.self.now.tuples c.in-Some.number c.args.items.now (returns-in-Some-clause-name c)

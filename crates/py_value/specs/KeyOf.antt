@@ -1,0 +1,51 @@
+-- Keys of dictionaries (The Python Language Reference 3, section 6.2.7, in this project's profile): what is refused of a
+-- value, and the normal form of one that is a key.
+use Rattle.std.specs.Prelude.{◌≡◌, ℕ, zero, suc, true, false, List, [], ◌∷◌, slice_get, unwrap_or, Option, Some, pos}
+use Rattle.std.specs.Option.{option_or}
+use Rattle.std.specs.Prelude.{None as Nothing}
+use Rattle.py_value.specs.declared.value.Value.{Value}
+use Rattle.py_value.specs.declared.value.Value.TheVariants.{Bool as Truth, Int, Tuple, Range, Fn, Class, Exc, Builtin, Object}
+use Rattle.py_value.specs.declared.key.KeyFault.{KeyFault}
+use Rattle.py_value.specs.declared.key.KeyFault.TheVariants.{NoKey, NotHere, TooDeep}
+use Rattle.py_value.specs.Values.{ValuesView, IsNamed}
+use Rattle.py_value.specs.Contents.{Contents, Parts, plain, text, tuple, no_parts, part, contents}
+
+-- what is refused first of a list
+abbrev pub first_fault : (Value → Option KeyFault) → List Value → Option KeyFault
+first_fault fault [] = Nothing
+first_fault fault (item ∷ items) = option_or (fault item) (first_fault fault items)
+
+-- What is refused first of a value, its parts in their order, where so many tuples may stand inside one another: an
+-- object, a value of another kind that is no key, or one tuple too many.
+abbrev pub fault_within : ℕ → ValuesView → Value → Option KeyFault
+fault_within levels view (Object object) = Some (NoKey object)
+fault_within zero view (Tuple id) = Some TooDeep
+fault_within (suc levels) view (Tuple id) = first_fault (fault_within levels view) (unwrap_or (slice_get view.tuples id) [])
+fault_within levels view (Range start end step) = Some NotHere
+fault_within levels view (Fn place) = Some NotHere
+fault_within levels view (Class place) = Some NotHere
+fault_within levels view (Exc number) = Some NotHere
+fault_within levels view (Builtin number) = Some NotHere
+fault_within levels view value = Nothing
+
+-- a truth value is the integer 0 or 1
+abbrev pub normal_value : Value → Value
+normal_value (Truth true) = Int (pos 1)
+normal_value (Truth false) = Int (pos 0)
+normal_value value = value
+
+-- the normal form of a key, inside tuples too
+abbrev mutual
+  pub normal : Contents → Contents
+  normal (plain value) = plain (normal_value value)
+  normal (text bytes) = text bytes
+  normal (tuple parts) = tuple (normal_parts parts)
+
+  pub normal_parts : Parts → Parts
+  normal_parts no_parts = no_parts
+  normal_parts (part first rest) = part (normal first) (normal_parts rest)
+
+-- The form is the normal one of the value. The value was named at first, the form is named now.
+pub record IsNormalOf (old now : ValuesView) (value form : Value) : Type 0 where
+  pub named : IsNamed now form
+  pub form_is : contents now form ≡ normal (contents old value)
