@@ -1,5 +1,7 @@
 //! The values of a script's run, the places of its store and what is done to them, and the texts and tuples that
 //! values name. Nothing here knows of a script's tree or of a store: these are the words in which those crates speak.
+//! That a number belongs to a text or tuple here is asked of callers: of the interpreter, whose values all come from these
+//! calls, and of the store of a run, which keeps what the interpreter gave it.
 #![tactic(auto)]
 
 mod access;

@@ -1,4 +1,5 @@
-// Values as keys of dictionaries: what is refused first, and the normal form.
+// Values as keys of dictionaries: what is refused first, and the normal form. What is noted of tuples spares work alone:
+// without a note the answers are the same, so no contract asks that one is made, and a test shows that they are fast.
 ghost use Rattle.std.specs.Prelude.{◌≡◌, ◌<◌, ◌≤◌, ◌⊎◌, length, take, Some, IfOk, IfErr, IfSome, OnOk, OnErr};
 ghost use Rattle.std.specs.Prelude.{None as Nothing};
 ghost use Rattle.std.specs.Option.{option_or};
