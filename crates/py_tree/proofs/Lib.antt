@@ -1,0 +1,4 @@
+pub mod ExprTrees
+pub mod StmtTrees
+pub mod TargetTrees
+pub mod Walks

@@ -1,0 +1,160 @@
+// Deep copies of expressions and targets. A copy has the pure tree of what it copies.
+ghost use Rattle.std.specs.Prelude.{◌≡◌, IfOk, option_map};
+ghost use Rattle.py_tree.specs.Erasure.{expr_of, exprs_of, pairs_of, target_of, targets_of};
+
+use crate::expr::{Atom, Expr, Exprs, Pairs, Target, Targets};
+use prov_base::{Memory, Name};
+use std::alloc::Global;
+
+/// A name with the same text, or Memory.
+pub fn copy_name(alloc: Global, name: &Name) -> Result<Name, Memory>
+    ensures { IfOk result (λ n. n ≡ name.now) }
+{
+    Ok(Name::of(String::from_str(alloc, name.as_str())?))
+}
+
+impl Atom {
+    /// The same atom, or Memory.
+    pub fn copy(&self, alloc: Global) -> Result<Atom, Memory>
+        ensures { IfOk result (λ a. a ≡ self.now) }
+    {
+        match self {
+            Atom::None => Ok(Atom::None),
+            Atom::Bool(value) => Ok(Atom::Bool(*value)),
+            Atom::Int(value) => Ok(Atom::Int(*value)),
+            Atom::Text(text) => {
+                let copied = copy_name(alloc, text)?;
+                Ok(Atom::Text(copied))
+            }
+        }
+    }
+}
+
+impl Expr {
+    /// An expression with the same tree, or Memory.
+    #[cycle(copy_expr)]
+    pub fn copy(&self, alloc: Global) -> Result<Expr, Memory>
+        ensures { IfOk result (λ e. expr_of e ≡ expr_of self.now) }
+    {
+        match self {
+            Expr::Const(at, atom) => {
+                let atom = atom.copy(alloc)?;
+                Ok(Expr::Const(*at, atom))
+            }
+            Expr::Var(at, name) => {
+                let name = copy_name(alloc, name)?;
+                Ok(Expr::Var(*at, name))
+            }
+            Expr::Unary(at, op, operand) => {
+                let operand = operand.copy_boxed(alloc)?;
+                Ok(Expr::Unary(*at, *op, operand))
+            }
+            Expr::Binary(at, op, left, right) => {
+                let left = left.copy_boxed(alloc)?;
+                let right = right.copy_boxed(alloc)?;
+                Ok(Expr::Binary(*at, *op, left, right))
+            }
+            Expr::Compare(at, op, left, right) => {
+                let left = left.copy_boxed(alloc)?;
+                let right = right.copy_boxed(alloc)?;
+                Ok(Expr::Compare(*at, *op, left, right))
+            }
+            Expr::Logic(at, op, left, right) => {
+                let left = left.copy_boxed(alloc)?;
+                let right = right.copy_boxed(alloc)?;
+                Ok(Expr::Logic(*at, *op, left, right))
+            }
+            Expr::Choose(at, test, chosen, other) => {
+                let test = test.copy_boxed(alloc)?;
+                let chosen = chosen.copy_boxed(alloc)?;
+                let other = other.copy_boxed(alloc)?;
+                Ok(Expr::Choose(*at, test, chosen, other))
+            }
+            Expr::Call(at, callee, arguments) => {
+                let callee = callee.copy_boxed(alloc)?;
+                let arguments = arguments.copy(alloc)?;
+                Ok(Expr::Call(*at, callee, arguments))
+            }
+            Expr::Attr(at, object, name) => {
+                let object = object.copy_boxed(alloc)?;
+                let name = copy_name(alloc, name)?;
+                Ok(Expr::Attr(*at, object, name))
+            }
+            Expr::Part(at, object, index) => {
+                let object = object.copy_boxed(alloc)?;
+                let index = index.copy_boxed(alloc)?;
+                Ok(Expr::Part(*at, object, index))
+            }
+            Expr::Range(at, object, low, high) => {
+                let object = object.copy_boxed(alloc)?;
+                let low = copy_limit(low, alloc)?;
+                let high = copy_limit(high, alloc)?;
+                Ok(Expr::Range(*at, object, low, high))
+            }
+            Expr::List(at, items) => {
+                let items = items.copy(alloc)?;
+                Ok(Expr::List(*at, items))
+            }
+            Expr::Dict(at, pairs) => {
+                let pairs = pairs.copy(alloc)?;
+                Ok(Expr::Dict(*at, pairs))
+            }
+            Expr::Tuple(at, items) => {
+                let items = items.copy(alloc)?;
+                Ok(Expr::Tuple(*at, items))
+            }
+        }
+    }
+
+    #[cycle(copy_expr)]
+    fn copy_boxed(&self, alloc: Global) -> Result<Box<Expr>, Memory>
+        ensures { IfOk result (λ b. expr_of b.value ≡ expr_of self.now) }
+    {
+        let copied = self.copy(alloc)?;
+        Ok(Box::new(alloc, copied)?)
+    }
+}
+
+#[cycle(copy_expr)]
+fn copy_limit(limit: &Option<Box<Expr>>, alloc: Global) -> Result<Option<Box<Expr>>, Memory>
+    ensures { IfOk result (λ o. option_map (λ b. expr_of b.value) o ≡ option_map (λ b. expr_of b.value) limit.now) }
+{
+    match limit {
+        None => Ok(None),
+        Some(expr) => {
+            let copied = expr.copy_boxed(alloc)?;
+            Ok(Some(copied))
+        }
+    }
+}
+
+impl Exprs {
+    /// A list of expressions with the same trees, or Memory.
+    #[cycle(copy_expr)]
+    pub fn copy(&self, alloc: Global) -> Result<Exprs, Memory>
+        ensures { IfOk result (λ es. exprs_of es ≡ exprs_of self.now) }
+    {
+        let mut list = Vec::new(alloc);
+        for expr in &self.list {
+            let copied = expr.copy(alloc)?;
+            list.push(copied)?;
+        }
+        Ok(Exprs { list })
+    }
+}
+
+impl Pairs {
+    /// A list of pairs with the same trees, or Memory.
+    #[cycle(copy_expr)]
+    pub fn copy(&self, alloc: Global) -> Result<Pairs, Memory>
+        ensures { IfOk result (λ ps. pairs_of ps ≡ pairs_of self.now) }
+    {
+        let mut list = Vec::new(alloc);
+        for (key, value) in &self.list {
+            let key = key.copy(alloc)?;
+            let value = value.copy(alloc)?;
+            list.push((key, value))?;
+        }
+        Ok(Pairs { list })
+    }
+}
