@@ -2,3 +2,4 @@ pub mod ExprTrees
 pub mod StmtTrees
 pub mod TargetTrees
 pub mod Walks
+mod Worked

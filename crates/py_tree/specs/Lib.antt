@@ -1,2 +1,7 @@
+pub mod Deletion
 pub mod Erasure
+pub mod Numbering
+pub mod Places
+pub mod StmtSet
 pub mod Tree
+pub mod WellFormed
