@@ -1,3 +1,5 @@
+pub mod DeletionWalks
+pub mod Deletions
 pub mod ExprTrees
 pub mod StmtTrees
 pub mod TargetTrees

@@ -1,5 +1,6 @@
 pub mod Deletion
 pub mod Erasure
+pub mod Numbered
 pub mod Numbering
 pub mod Places
 pub mod StmtSet

@@ -3,11 +3,13 @@
 #![tactic(auto)]
 
 mod copy;
+mod deletion;
 mod expr;
 mod stmt;
 mod stmt_set;
 
 pub use copy::copy_name;
+pub use deletion::delete;
 pub use expr::{Atom, BinOp, CmpOp, Expr, Exprs, LogicOp, Pairs, Target, Targets, UnOp};
 pub use stmt::{Bound, Branches, Form, Globals, Handlers, Params, Script, Stmt, Suite};
 pub use stmt_set::StmtSet;
