@@ -1,6 +1,8 @@
+pub mod DeletionLaws
 pub mod DeletionWalks
 pub mod Deletions
 pub mod ExprTrees
+pub mod PlaceLaws
 pub mod StmtTrees
 pub mod TargetTrees
 pub mod Walks

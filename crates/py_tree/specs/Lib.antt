@@ -2,7 +2,9 @@ pub mod Deletion
 pub mod Erasure
 pub mod Numbered
 pub mod Numbering
+pub mod Parts
 pub mod Places
+pub mod Renumbering
 pub mod StmtSet
 pub mod Tree
 pub mod WellFormed
