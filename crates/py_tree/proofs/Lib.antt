@@ -5,5 +5,6 @@ pub mod ExprTrees
 pub mod PlaceLaws
 pub mod StmtTrees
 pub mod TargetTrees
+pub mod TwiceLaws
 pub mod Walks
 mod Worked

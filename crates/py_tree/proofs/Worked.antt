@@ -9,7 +9,7 @@ use Rattle.std.specs.Prelude.{codes, pos}
 use Rattle.prov_base.specs.declared.place.Pos.{Pos}
 use Rattle.prov_base.specs.declared.place.Span.{Span}
 use Rattle.py_tree.specs.declared.expr.Atom.TheVariants.{Int}
-use Rattle.py_tree.specs.Tree.{ExprTree, StmtTree, FormTree, SuiteTree, ScriptTree, const_expr, var_expr, call_expr, more_exprs, end_exprs, var_target, one_stmt, assign_form, do_form, if_form, pass_form, more_suite, end_suite, more_branches, end_branches, else_suite}
+use Rattle.py_tree.specs.Tree.{ExprTree, StmtTree, FormTree, SuiteTree, ScriptTree, const_expr, var_expr, call_expr, more_exprs, end_exprs, var_target, one_stmt, assign_form, do_form, if_form, pass_form, more_suite, end_suite, more_branches, end_branches, no_else, else_suite}
 use Rattle.py_tree.specs.Deletion.{deleted}
 use Rattle.py_tree.specs.StmtSet.{has}
 use Rattle.py_tree.specs.WellFormed.{IsWellFormed}
@@ -68,3 +68,21 @@ worked_whole = refl
 -- no statement is kept: nothing
 pub worked_nothing : deleted (has (false ∷ false ∷ false ∷ true ∷ true ∷ false ∷ [])) worked ≡ record { body = end_suite; count = 0 }
 worked_nothing = refl
+
+-- The script `if x:`, `    y = 1`, `    z = 2`. Where the first deletion takes `y = 1` and the second `z = 2`, `pass` stands
+-- at 3:5, the place of the first statement that the suite had then. One deletion of both puts it at 2:5.
+abbrev two : ScriptTree
+two = record {
+    body = row (one_stmt 0 (place 1 1) (bytes 0 25) (if_form (more_branches (name 1 4 (codes "x")) (row (one_stmt 1 (place 2 5) (bytes 10 15) (binding 2 5 121 1) ∷ one_stmt 2 (place 3 5) (bytes 20 25) (binding 3 5 122 2) ∷ [])) end_branches) no_else) ∷ []);
+    count = 3 }
+
+abbrev two_with_pass : ℕ → ℕ → ℕ → ScriptTree
+two_with_pass line from to = record {
+    body = row (one_stmt 0 (place 1 1) (bytes 0 25) (if_form (more_branches (name 1 4 (codes "x")) (row (one_stmt 1 (place line 5) (bytes from to) pass_form ∷ [])) end_branches) no_else) ∷ []);
+    count = 2 }
+
+pub worked_twice : deleted (has (true ∷ false ∷ [])) (deleted (has (true ∷ false ∷ true ∷ [])) two) ≡ two_with_pass 3 20 25
+worked_twice = refl
+
+pub worked_at_once : deleted (has (true ∷ false ∷ false ∷ [])) two ≡ two_with_pass 2 10 15
+worked_at_once = refl

@@ -7,4 +7,5 @@ pub mod Places
 pub mod Renumbering
 pub mod StmtSet
 pub mod Tree
+pub mod Unplaced
 pub mod WellFormed
