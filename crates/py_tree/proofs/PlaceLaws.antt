@@ -29,20 +29,20 @@ not_false false h = refl
 not_false true h = cc
 
 module _ {A : Type 0} where
-  part_none : (ys : List A) → IsPartOf [] ys
+  pub part_none : (ys : List A) → IsPartOf [] ys
   part_none [] = no_more
   part_none (y ∷ ys) = leaves (part_none ys)
 
-  part_same : (xs : List A) → IsPartOf xs xs
+  pub part_same : (xs : List A) → IsPartOf xs xs
   part_same [] = no_more
   part_same (x ∷ xs) = takes (part_same xs)
 
-  part_append : {xs ys us vs : List A} → IsPartOf xs ys → IsPartOf us vs → IsPartOf (xs ++ us) (ys ++ vs)
+  pub part_append : {xs ys us vs : List A} → IsPartOf xs ys → IsPartOf us vs → IsPartOf (xs ++ us) (ys ++ vs)
   part_append no_more q = q
   part_append (leaves p) q = leaves (part_append p q)
   part_append (takes p) q = takes (part_append p q)
 
-  part_behind : (ys : List A) {us vs : List A} → IsPartOf us vs → IsPartOf us (ys ++ vs)
+  pub part_behind : (ys : List A) {us vs : List A} → IsPartOf us vs → IsPartOf us (ys ++ vs)
   part_behind [] q = q
   part_behind (y ∷ ys) q = leaves (part_behind ys q)
 

@@ -134,9 +134,9 @@ mutual
   pub suite_twice : (first second : ℕ → Bool) (t : SuiteTree) → bare_suite (kept_suite second (kept_suite first t)) ≡ bare_suite (kept_suite (inter first second) t)
   suite_twice first second end_suite = refl
   suite_twice first second (more_suite (one_stmt number at span form) rest) =
-    twice_step second (first number) number at span (kept_form first form) (kept_form (inter first second) form) (kept_suite first rest) (kept_suite (inter first second) rest)
-    (bare_same number at span (kept_form second (kept_form first form)) (kept_form (inter first second) form) (pass_kept second (kept_form first form) ∙ (pass_kept first form ∙ sym (pass_kept (inter first second) form))) (form_twice first second form))
-    (suite_twice first second rest)
+      twice_step second (first number) number at span (kept_form first form) (kept_form (inter first second) form) (kept_suite first rest) (kept_suite (inter first second) rest)
+      (bare_same number at span (kept_form second (kept_form first form)) (kept_form (inter first second) form) (pass_kept second (kept_form first form) ∙ (pass_kept first form ∙ sym (pass_kept (inter first second) form))) (form_twice first second form))
+      (suite_twice first second rest)
 
   pub stmt_twice : (first second : ℕ → Bool) (t : StmtTree) → bare_stmt (kept_stmt second (kept_stmt first t)) ≡ bare_stmt (kept_stmt (inter first second) t)
   stmt_twice first second (one_stmt number at span form) = bare_same number at span (kept_form second (kept_form first form)) (kept_form (inter first second) form) (pass_kept second (kept_form first form) ∙ (pass_kept first form ∙ sym (pass_kept (inter first second) form))) (form_twice first second form)
@@ -300,8 +300,8 @@ mutual
   pub suite_kept_renamed : (keep : ℕ → Bool) (new : ℕ → ℕ) (t : SuiteTree) → kept_suite keep (renamed_suite new t) ≡ renamed_suite new (kept_suite (λ i. keep (new i)) t)
   suite_kept_renamed keep new end_suite = refl
   suite_kept_renamed keep new (more_suite (one_stmt number at span form) rest) =
-    renamed_choice new (keep (new number)) (one_stmt number at span (kept_form (λ i. keep (new i)) form)) (one_stmt (new number) at span (kept_form keep (renamed_form new form))) (kept_suite keep (renamed_suite new rest)) (kept_suite (λ i. keep (new i)) rest)
-    (ap (one_stmt (new number) at span) (form_kept_renamed keep new form)) (suite_kept_renamed keep new rest)
+      renamed_choice new (keep (new number)) (one_stmt number at span (kept_form (λ i. keep (new i)) form)) (one_stmt (new number) at span (kept_form keep (renamed_form new form))) (kept_suite keep (renamed_suite new rest)) (kept_suite (λ i. keep (new i)) rest)
+      (ap (one_stmt (new number) at span) (form_kept_renamed keep new form)) (suite_kept_renamed keep new rest)
 
   pub stmt_kept_renamed : (keep : ℕ → Bool) (new : ℕ → ℕ) (t : StmtTree) → kept_stmt keep (renamed_stmt new t) ≡ renamed_stmt new (kept_stmt (λ i. keep (new i)) t)
   stmt_kept_renamed keep new (one_stmt number at span form) = ap (one_stmt (new number) at span) (form_kept_renamed keep new form)
@@ -338,16 +338,16 @@ deleted_twice first second new s gives =
     let later : ℕ → Bool = λ i. second (new i) in
     let again : kept_suite second (numbered_suite 0 once) ≡ renamed_suite new (kept_suite later once) = ap (kept_suite second) (sym gives) ∙ suite_kept_renamed second new once in
     let bodies : unplaced_suite (numbered_suite 0 (kept_suite second (numbered_suite 0 once))) ≡ unplaced_suite (numbered_suite 0 (kept_suite (inter first later) s.body)) =
-        ap (λ t. unplaced_suite (numbered_suite 0 t)) again
-        ∙ (ap unplaced_suite (suite_numbered_renamed new 0 (kept_suite later once))
-        ∙ (suite_unplaced_numbered 0 (kept_suite later once)
-        ∙ (ap (numbered_suite 0) (suite_twice first later s.body)
-        ∙ sym (suite_unplaced_numbered 0 (kept_suite (inter first later) s.body))))) in
+    ap (λ t. unplaced_suite (numbered_suite 0 t)) again
+    ∙ (ap unplaced_suite (suite_numbered_renamed new 0 (kept_suite later once))
+    ∙ (suite_unplaced_numbered 0 (kept_suite later once)
+    ∙ (ap (numbered_suite 0) (suite_twice first later s.body)
+    ∙ sym (suite_unplaced_numbered 0 (kept_suite (inter first later) s.body))))) in
     let counts : size_suite (kept_suite second (numbered_suite 0 once)) ≡ size_suite (kept_suite (inter first later) s.body) =
-        ap size_suite again
-        ∙ (suite_renamed_size new (kept_suite later once)
-        ∙ (sym (suite_bare_size (kept_suite later once))
-        ∙ (ap size_suite (suite_twice first later s.body)
-        ∙ suite_bare_size (kept_suite (inter first later) s.body)))) in
+    ap size_suite again
+    ∙ (suite_renamed_size new (kept_suite later once)
+    ∙ (sym (suite_bare_size (kept_suite later once))
+    ∙ (ap size_suite (suite_twice first later s.body)
+    ∙ suite_bare_size (kept_suite (inter first later) s.body)))) in
     ap (λ b. script b (size_suite (kept_suite second (numbered_suite 0 once)))) bodies
     ∙ ap (script (unplaced_suite (numbered_suite 0 (kept_suite (inter first later) s.body)))) counts

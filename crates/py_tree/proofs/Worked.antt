@@ -73,13 +73,15 @@ worked_nothing = refl
 -- at 3:5, the place of the first statement that the suite had then. One deletion of both puts it at 2:5.
 abbrev two : ScriptTree
 two = record {
-    body = row (one_stmt 0 (place 1 1) (bytes 0 25) (if_form (more_branches (name 1 4 (codes "x")) (row (one_stmt 1 (place 2 5) (bytes 10 15) (binding 2 5 121 1) ∷ one_stmt 2 (place 3 5) (bytes 20 25) (binding 3 5 122 2) ∷ [])) end_branches) no_else) ∷ []);
-    count = 3 }
+  body = row (one_stmt 0 (place 1 1) (bytes 0 25) (if_form (more_branches (name 1 4 (codes "x")) (row (one_stmt 1 (place 2 5) (bytes 10 15) (binding 2 5 121 1) ∷ one_stmt 2 (place 3 5) (bytes 20 25) (binding 3 5 122 2) ∷ [])) end_branches) no_else) ∷ []);
+  count = 3;
+}
 
 abbrev two_with_pass : ℕ → ℕ → ℕ → ScriptTree
 two_with_pass line from to = record {
-    body = row (one_stmt 0 (place 1 1) (bytes 0 25) (if_form (more_branches (name 1 4 (codes "x")) (row (one_stmt 1 (place line 5) (bytes from to) pass_form ∷ [])) end_branches) no_else) ∷ []);
-    count = 2 }
+  body = row (one_stmt 0 (place 1 1) (bytes 0 25) (if_form (more_branches (name 1 4 (codes "x")) (row (one_stmt 1 (place line 5) (bytes from to) pass_form ∷ [])) end_branches) no_else) ∷ []);
+  count = 2;
+}
 
 pub worked_twice : deleted (has (true ∷ false ∷ [])) (deleted (has (true ∷ false ∷ true ∷ [])) two) ≡ two_with_pass 3 20 25
 worked_twice = refl

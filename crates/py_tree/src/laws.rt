@@ -5,6 +5,8 @@ ghost use Rattle.py_tree.specs.Numbering.{IsNumbered};
 ghost use Rattle.py_tree.specs.Deletion.{deleted};
 ghost use Rattle.py_tree.specs.Places.{suite_places, suite_starts};
 ghost use Rattle.py_tree.specs.Parts.{IsPartOf};
+ghost use Rattle.py_tree.specs.Renumbering.{new_number, both};
+ghost use Rattle.py_tree.specs.Unplaced.{unplaced};
 ghost use Rattle.py_tree.specs.WellFormed.{IsWellFormed};
 
 /// The law that a set of all statements gives the script itself.
@@ -23,4 +25,13 @@ pub fn deletion_keeps_places()
 /// outside it goes with its owner.
 pub fn deletion_is_well_formed()
     ensures { (keep : ℕ → Bool) (script : ScriptTree) → IsWellFormed script → IsWellFormed (deleted keep script) }
+{}
+
+/// The law that two deletions are one, by the statements of the first set that are, with the numbers that the first
+/// deletion gave them, in the second. An inserted `pass` is the same whether or not the second set has it. Only the place
+/// and the bytes of a `pass` may differ: the second deletion puts it where the first statement stood that the first
+/// deletion had left in the suite.
+pub fn deletion_twice()
+    ensures { (first second : ℕ → Bool) (script : ScriptTree) → IsNumbered script
+        → unplaced (deleted second (deleted first script)) ≡ unplaced (deleted (both first (new_number first script) second) script) }
 {}

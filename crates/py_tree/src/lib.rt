@@ -12,6 +12,8 @@ mod stmt_set;
 pub use copy::copy_name;
 pub use deletion::delete;
 pub use expr::{Atom, BinOp, CmpOp, Expr, Exprs, LogicOp, Pairs, Target, Targets, UnOp};
-pub use laws::{deletion_is_well_formed, deletion_keeps_places, deletion_of_nothing};
+pub use laws::{
+    deletion_is_well_formed, deletion_keeps_places, deletion_of_nothing, deletion_twice,
+};
 pub use stmt::{Bound, Branches, Form, Globals, Handlers, Params, Script, Stmt, Suite};
 pub use stmt_set::StmtSet;
