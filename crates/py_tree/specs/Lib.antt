@@ -1,0 +1,11 @@
+pub mod Deletion
+pub mod Erasure
+pub mod Numbered
+pub mod Numbering
+pub mod Parts
+pub mod Places
+pub mod Renumbering
+pub mod StmtSet
+pub mod Tree
+pub mod Unplaced
+pub mod WellFormed

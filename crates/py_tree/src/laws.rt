@@ -1,0 +1,37 @@
+// Laws of deletion, each as the clause of a function that does nothing.
+ghost use Rattle.std.specs.Prelude.{ℕ, Bool, ◌≡◌, ◌<◌, IsTrue};
+ghost use Rattle.py_tree.specs.Tree.{ScriptTree};
+ghost use Rattle.py_tree.specs.Numbering.{IsNumbered};
+ghost use Rattle.py_tree.specs.Deletion.{deleted};
+ghost use Rattle.py_tree.specs.Places.{suite_places, suite_starts};
+ghost use Rattle.py_tree.specs.Parts.{IsPartOf};
+ghost use Rattle.py_tree.specs.Renumbering.{new_number, both};
+ghost use Rattle.py_tree.specs.Unplaced.{unplaced};
+ghost use Rattle.py_tree.specs.WellFormed.{IsWellFormed};
+
+/// The law that a set of all statements gives the script itself.
+pub fn deletion_of_nothing()
+    ensures { (keep : ℕ → Bool) (script : ScriptTree) → IsNumbered script → ((i : ℕ) → i < script.count → IsTrue (keep i)) → deleted keep script ≡ script }
+{}
+
+/// The law that what stays keeps its place: the nodes of the result stand, in their order, at places of nodes of the
+/// script, and its statements, an inserted `pass` too, at places of statements.
+pub fn deletion_keeps_places()
+    ensures nodes { (keep : ℕ → Bool) (script : ScriptTree) → IsPartOf (suite_places (deleted keep script).body) (suite_places script.body) }
+    ensures statements { (keep : ℕ → Bool) (script : ScriptTree) → IsPartOf (suite_starts (deleted keep script).body) (suite_starts script.body) }
+{}
+
+/// The law that a deletion leaves a well-formed script well formed, whatever the set: a statement of the set whose owner is
+/// outside it goes with its owner.
+pub fn deletion_is_well_formed()
+    ensures { (keep : ℕ → Bool) (script : ScriptTree) → IsWellFormed script → IsWellFormed (deleted keep script) }
+{}
+
+/// The law that two deletions are one, by the statements of the first set that are, with the numbers that the first
+/// deletion gave them, in the second. An inserted `pass` is the same whether or not the second set has it. Only the place
+/// and the bytes of a `pass` may differ: the second deletion puts it where the first statement stood that the first
+/// deletion had left in the suite.
+pub fn deletion_twice()
+    ensures { (first second : ℕ → Bool) (script : ScriptTree) → IsNumbered script
+        → unplaced (deleted second (deleted first script)) ≡ unplaced (deleted (both first (new_number first script) second) script) }
+{}

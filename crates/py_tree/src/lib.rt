@@ -1,0 +1,19 @@
+//! The syntax tree of a script, sets of its statements, and the deletion of statements. Contracts speak of the *pure tree*
+//! of a script, which is the tree without boxes and buffers (`specs/Tree.antt`).
+#![tactic(auto)]
+
+mod copy;
+mod deletion;
+mod expr;
+mod laws;
+mod stmt;
+mod stmt_set;
+
+pub use copy::copy_name;
+pub use deletion::delete;
+pub use expr::{Atom, BinOp, CmpOp, Expr, Exprs, LogicOp, Pairs, Target, Targets, UnOp};
+pub use laws::{
+    deletion_is_well_formed, deletion_keeps_places, deletion_of_nothing, deletion_twice,
+};
+pub use stmt::{Bound, Branches, Form, Globals, Handlers, Params, Script, Stmt, Suite};
+pub use stmt_set::StmtSet;
