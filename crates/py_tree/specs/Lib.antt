@@ -1,2 +1,4 @@
+pub mod Binds
 pub mod Erasure
+pub mod Owners
 pub mod Tree
