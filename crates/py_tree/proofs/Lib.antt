@@ -1,5 +1,8 @@
 pub mod ExprTrees
+pub mod OwnersLaws
+pub mod OwnersLeaves
 pub mod OwnersRows
+pub mod OwnersWays
 pub mod StmtTrees
 pub mod TargetTrees
 pub mod Walks

@@ -4,11 +4,11 @@ use Rattle.std.specs.Option.{option_and_then}
 use Rattle.std.specs.List.{find}
 use Rattle.py_tree.specs.Tree.{StmtTree, FormTree, SuiteTree, BranchesTree, ElseTree, HandlersTree, ScriptTree, one_stmt, do_form, assign_form, aug_form, del_form, pass_form, break_form, continue_form, return_form, raise_form, assert_form, import_form, if_form, while_form, for_form, try_form, with_form, def_form, class_form, end_suite, more_suite, end_branches, more_branches, no_else, else_suite, end_handlers, more_handlers}
 
--- What a statement stands in: the innermost statement that has it in one of its suites, and the innermost `def` that
--- has it in its suite, directly or further in. At module level there is neither.
+-- What a statement stands in: the innermost statement that has it in one of its suites, and the number of the innermost
+-- `def` that has it in its suite, directly or further in. At module level there is neither.
 pub record Around : Type 0 where
   pub owner : Option StmtTree
-  pub function : Option StmtTree
+  pub function : Option ℕ
 
 abbrev pub at_module_level : Around
 at_module_level = record { owner = None; function = None }
@@ -30,7 +30,7 @@ is_def _ = false
 
 -- what the statements in the suites of this statement stand in
 abbrev pub within : StmtTree → Around → Around
-within stmt around = record { owner = Some stmt; function = (if is_def (form_in stmt) then Some stmt else around.function) }
+within stmt around = record { owner = Some stmt; function = (if is_def (form_in stmt) then Some (number_of stmt) else around.function) }
 
 abbrev mutual
   -- the statements in the order of the text, a compound one before those in it
@@ -66,6 +66,9 @@ abbrev mutual
 abbrev pub statements : ScriptTree → List Standing
 statements script = listed_suite at_module_level script.body
 
+abbrev pub number_at : Standing → ℕ
+number_at x = number_of x.stmt
+
 -- each number is at least n and above the one before it
 abbrev pub RiseFrom : ℕ → List ℕ → Type 0
 RiseFrom n [] = ⊤
@@ -73,16 +76,19 @@ RiseFrom n (x ∷ xs) = (n ≤ x) × RiseFrom (x + 1) xs
 
 -- the numbers of the statements rise in the order of the text
 abbrev pub HasRisingNumbers : ScriptTree → Type 0
-HasRisingNumbers script = RiseFrom 0 (map (λ x. number_of x.stmt) (statements script))
+HasRisingNumbers script = RiseFrom 0 (map number_at (statements script))
 
--- the first statement with number s
+-- the first with number s
+abbrev pub first_at : ℕ → List Standing → Option Standing
+first_at s xs = find (λ x. number_at x == s) xs
+
 abbrev pub standing_at : ScriptTree → ℕ → Option Standing
-standing_at script s = find (λ x. number_of x.stmt == s) (statements script)
+standing_at script s = first_at s (statements script)
 
 -- the number of the innermost statement that has statement s in one of its suites
 abbrev pub parent_of : ScriptTree → ℕ → Option ℕ
 parent_of script s = option_and_then (λ x. option_map number_of x.around.owner) (standing_at script s)
 
--- the number of the innermost `def` in whose suite statement s stands, directly or further in
+-- the number of the innermost `def` that has statement s in its suite, directly or further in
 abbrev pub function_of : ScriptTree → ℕ → Option ℕ
-function_of script s = option_and_then (λ x. option_map number_of x.around.function) (standing_at script s)
+function_of script s = option_and_then (λ x. x.around.function) (standing_at script s)

@@ -3,6 +3,7 @@
 
 mod copy;
 mod expr;
+mod owners;
 mod stmt;
 
 pub use copy::copy_name;
