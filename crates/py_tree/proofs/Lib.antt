@@ -1,4 +1,5 @@
 pub mod ExprTrees
+pub mod OwnersFinds
 pub mod OwnersLaws
 pub mod OwnersLeaves
 pub mod OwnersRows

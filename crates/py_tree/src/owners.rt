@@ -4,7 +4,7 @@
 ghost use Rattle.std.specs.Prelude.{◌≡◌, option_map};
 ghost use Rattle.py_tree.specs.Erasure.{branches_of, else_tree, form_of, handlers_of, script_of, stmt_of, suite_of};
 ghost use Rattle.py_tree.specs.Descent.{begins_by, branch_by, else_by, handler_by, last_by, row_numbers, suite_by};
-ghost use Rattle.py_tree.specs.Owners.{HasRisingNumbers, RiseFrom, function_of, parent_of, standing_at, within};
+ghost use Rattle.py_tree.specs.Owners.{HasRisingNumbers, RiseFrom, function_of, is_def, parent_of, standing_at, within};
 
 ghost use Rattle.py_tree.specs.Found.{around_of, standing_of};
 
@@ -30,7 +30,7 @@ impl<'a> Around<'a> {
     fn within(self, stmt: &'a Stmt) -> Around<'a>
         ensures { around_of result ≡ within (stmt_of stmt.entry.now) (around_of self.entry) }
     {
-        let function = if matches!(stmt.form, Form::Def(_, _, _, _)) {
+        let function = if stmt.form.is_def() {
             Some(stmt.no)
         } else {
             self.function
@@ -109,6 +109,16 @@ fn else_by(orelse: &Option<Suite>, s: u32) -> Option<&Suite>
 }
 
 impl Form {
+    /// Whether this is a `def`.
+    pub(crate) fn is_def(&self) -> bool
+        ensures { result ≡ is_def (form_of self.now) }
+    {
+        match self {
+            Form::Def(_, _, _, _) => true,
+            _ => false,
+        }
+    }
+
     /// The one suite of the form that can hold statement s.
     fn suite_by(&self, s: u32) -> Option<&Suite>
         ensures { option_map (λ body. suite_of body.now) result ≡ suite_by s (form_of self.now) }
