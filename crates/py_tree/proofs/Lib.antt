@@ -1,3 +1,6 @@
+pub mod BindsHandlers
+pub mod BindsLeaves
+pub mod BindsWalks
 pub mod ExprTrees
 pub mod OwnersFinds
 pub mod OwnersLaws

@@ -1,12 +1,15 @@
 -- The steps of the search for a statement, over the pure tree.
-use Rattle.std.proofs.Common.{◌≡◌, ℕ, ◌+◌, ◌<◌, ◌≤◌, ◌++◌, true, false, cond, List, ◌∷◌, length, Option, None, Some, refl, ap, sym, subst, ◌∙◌, arith, eq-eqb}
+use Rattle.std.proofs.Common.{◌≡◌, ℕ, ◌+◌, ◌<◌, ◌≤◌, ◌++◌, true, false, cond, List, ◌∷◌, length, Option, None, Some, option_map, Bor, refl, ap, sym, subst, ◌∙◌, arith, eq-eqb}
 use Rattle.std.proofs.lemmas.Bool.{ne_eqb}
 use Rattle.std.specs.Prelude.{◌==◌}
+use Rattle.std.specs.Option.{option_and_then}
+use Rattle.py_tree.specs.declared.owners.Found.{Found}
 use Rattle.py_tree.specs.declared.stmt.Stmt.{Stmt}
 use Rattle.py_tree.specs.declared.stmt.Suite.{Suite}
 use Rattle.py_tree.specs.Tree.{StmtTree, SuiteTree, one_stmt}
 use Rattle.py_tree.specs.Erasure.{stmt_of, suite_of, form_of}
 use Rattle.py_tree.specs.Owners.{Around, Standing, number_of, number_at, first_at, form_in, within, listed_stmt, listed_form, listed_suite}
+use Rattle.py_tree.specs.Found.{standing_of}
 use Rattle.py_tree.specs.Descent.{last_by, suite_by}
 use Rattle.py_tree.proofs.StmtTrees.{stmt_tree}
 use Rattle.py_tree.proofs.OwnersLaws.{Rise, rise_weaken, rise_within, shorter_within, row_law, row_within, form_law, form_within, in_stmt, in_body, IsWithin}
@@ -76,3 +79,8 @@ step_down s around inside row wanted stmt body looks is other is_inside found =
     };
     shorter = omega (arith, one, two, three)
   })
+
+-- the number of the owner that was found
+pub owner_number : (found : Found) (owner : Bor Stmt) (wanted : Option Standing) → Some (standing_of found) ≡ wanted → found.around.owner ≡ Some owner → Some owner.now.no ≡ option_and_then (λ x. option_map number_of x.around.owner) wanted
+owner_number found owner wanted is is_owner =
+  sym (ap (option_and_then (λ x. option_map number_of x.around.owner)) (sym is) ∙ ap (λ o. option_map number_of (option_map (λ x. stmt_of x.now) o)) is_owner ∙ ap (λ t. Some (number_of t)) (stmt_tree owner.now))

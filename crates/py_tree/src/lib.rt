@@ -1,6 +1,7 @@
 //! The syntax tree.
 #![tactic(auto)]
 
+mod binds;
 mod copy;
 mod expr;
 mod owners;
