@@ -44,15 +44,15 @@ above_none n s (x ∷ xs) above rise = not_first s x xs (ne_eqb (number_at x) s 
 least_by : (n s : ℕ) (xs : List Standing) → has_by s xs ≡ true → Rise n xs → n ≤ s
 least_by n s [] has rise = absurd (false≢true has)
 least_by n s (x ∷ xs) has rise = elim (leb_tells (number_at x) s) [
-    inl first ↦ omega (arith, rise.0, first.1)
+  | inl first ↦ omega (arith, rise.0, first.1)
   | inr later ↦ omega (arith, rise.0, least_by (number_at x + 1) s xs (ap (λ b. b || has_by s xs) (sym later.0) ∙ has) rise.1)
-  ]
+]
 
 -- what stands before a number that is at most s has no s
 before_none : (n s : ℕ) (xs ys : List Standing) → has_by s ys ≡ true → Rise n (xs ++ ys) → first_at s xs ≡ None
 before_none n s [] ys has rise = refl
 before_none n s (x ∷ xs) ys has rise =
-  not_first s x xs
+    not_first s x xs
     (ne_eqb (number_at x) s (λ same. omega (arith, least_by (number_at x + 1) s ys has (rise_back (number_at x + 1) xs ys rise.1))))
     (before_none (number_at x + 1) s xs ys has rise.1)
 
@@ -84,9 +84,9 @@ in_body s around o = option_and_then (λ body. first_at s (listed_suite around b
 row_has : (s : ℕ) (around : Around) (row : SuiteTree) (y : StmtTree) → last_by s row ≡ Some y → has_by s (listed_suite around row) ≡ true
 row_has s around end_suite y is = absurd (none-some _ is)
 row_has s around (more_suite (one_stmt k at span form) rest) y is = elim (leb_tells k s) [
-    inl first ↦ ap (λ b. b || has_by s (listed_form (within (one_stmt k at span form) around) form ++ listed_suite around rest)) first.0
+  | inl first ↦ ap (λ b. b || has_by s (listed_form (within (one_stmt k at span form) around) form ++ listed_suite around rest)) first.0
   | inr past ↦ absurd (none-some _ (ap (λ b. cond b (Some (unwrap_or (last_by s rest) (one_stmt k at span form))) None) (sym past.0) ∙ is))
-  ]
+]
 
 row_step : (n s : ℕ) (around : Around) (x : StmtTree) (rest : SuiteTree) (o : Option StmtTree) → last_by s rest ≡ o → Rise n (listed_stmt around x ++ listed_suite around rest) → first_at s (listed_suite around rest) ≡ in_stmt s around o → first_at s (listed_stmt around x ++ listed_suite around rest) ≡ in_stmt s around (Some (unwrap_or o x))
 row_step n s around x rest None is rise later = first_only s (listed_stmt around x) (listed_suite around rest) later
@@ -96,12 +96,12 @@ row_step n s around x rest (Some y) is rise later = second_only n s (listed_stmt
 pub row_law : (n s : ℕ) (around : Around) (row : SuiteTree) → Rise n (listed_suite around row) → first_at s (listed_suite around row) ≡ in_stmt s around (last_by s row)
 row_law n s around end_suite rise = refl
 row_law n s around (more_suite (one_stmt k at span form) rest) rise =
-  let x : StmtTree = one_stmt k at span form in
-  let later : first_at s (listed_suite around rest) ≡ in_stmt s around (last_by s rest) = row_law n s around rest (rise_back n (listed_stmt around x) (listed_suite around rest) rise) in
-  elim (leb_tells k s) [
-    inl first ↦ row_step n s around x rest (last_by s rest) refl rise later ∙ ap (λ b. in_stmt s around (cond b (Some (unwrap_or (last_by s rest) x)) None)) (sym first.0)
-  | inr past ↦ above_none k s (listed_suite around (more_suite x rest)) past.1 (omega arith, rise.1) ∙ ap (λ b. in_stmt s around (cond b (Some (unwrap_or (last_by s rest) x)) None)) (sym past.0)
-  ]
+    let x : StmtTree = one_stmt k at span form in
+    let later : first_at s (listed_suite around rest) ≡ in_stmt s around (last_by s rest) = row_law n s around rest (rise_back n (listed_stmt around x) (listed_suite around rest) rise) in
+    elim (leb_tells k s) [
+      | inl first ↦ row_step n s around x rest (last_by s rest) refl rise later ∙ ap (λ b. in_stmt s around (cond b (Some (unwrap_or (last_by s rest) x)) None)) (sym first.0)
+      | inr past ↦ above_none k s (listed_suite around (more_suite x rest)) past.1 (omega arith, rise.1) ∙ ap (λ b. in_stmt s around (cond b (Some (unwrap_or (last_by s rest) x)) None)) (sym past.0)
+    ]
 
 -- the numbers in a row rise
 pub row_numbers_rise : (n : ℕ) (around : Around) (row : SuiteTree) → Rise n (listed_suite around row) → RiseFrom n (row_numbers row)
@@ -113,18 +113,18 @@ row_numbers_rise n around (more_suite (one_stmt k at span form) rest) rise = (ri
 body_law : (n s : ℕ) (around : Around) (body : SuiteTree) → Rise n (listed_suite around body) → first_at s (listed_suite around body) ≡ in_body s around (body_by s body)
 body_law n s around end_suite rise = refl
 body_law n s around (more_suite (one_stmt k at span form) rest) rise =
-  let body : SuiteTree = more_suite (one_stmt k at span form) rest in
-  elim (leb_tells k s) [
-    inl first ↦ ap (λ b. in_body s around (cond b (Some body) None)) (sym first.0)
-  | inr past ↦ above_none k s (listed_suite around body) past.1 (omega arith, rise.1) ∙ ap (λ b. in_body s around (cond b (Some body) None)) (sym past.0)
-  ]
+    let body : SuiteTree = more_suite (one_stmt k at span form) rest in
+    elim (leb_tells k s) [
+      | inl first ↦ ap (λ b. in_body s around (cond b (Some body) None)) (sym first.0)
+      | inr past ↦ above_none k s (listed_suite around body) past.1 (omega arith, rise.1) ∙ ap (λ b. in_body s around (cond b (Some body) None)) (sym past.0)
+    ]
 
 body_has : (s : ℕ) (around : Around) (body found : SuiteTree) → body_by s body ≡ Some found → has_by s (listed_suite around body) ≡ true
 body_has s around end_suite found is = absurd (none-some _ is)
 body_has s around (more_suite (one_stmt k at span form) rest) found is = elim (leb_tells k s) [
-    inl first ↦ ap (λ b. b || has_by s (listed_form (within (one_stmt k at span form) around) form ++ listed_suite around rest)) first.0
+  | inl first ↦ ap (λ b. b || has_by s (listed_form (within (one_stmt k at span form) around) form ++ listed_suite around rest)) first.0
   | inr past ↦ absurd (none-some _ (ap (λ b. cond b (Some (more_suite (one_stmt k at span form) rest)) None) (sym past.0) ∙ is))
-  ]
+]
 
 -- two lists of suites, where the later one comes first
 two_lists : (n s : ℕ) (around : Around) (xs ys : List Standing) (here later : Option SuiteTree) → Rise n (xs ++ ys) → ((found : SuiteTree) → later ≡ Some found → has_by s ys ≡ true) → first_at s xs ≡ in_body s around here → first_at s ys ≡ in_body s around later → first_at s (xs ++ ys) ≡ in_body s around (option_or later here)
@@ -152,7 +152,7 @@ branches_have s around (more_branches test body rest) found is = either_has s (l
 branches_law : (n s : ℕ) (around : Around) (branches : BranchesTree) → Rise n (listed_branches around branches) → first_at s (listed_branches around branches) ≡ in_body s around (branch_by s branches)
 branches_law n s around end_branches rise = refl
 branches_law n s around (more_branches test body rest) rise =
-  two_lists n s around (listed_suite around body) (listed_branches around rest) (body_by s body) (branch_by s rest) rise (branches_have s around rest)
+    two_lists n s around (listed_suite around body) (listed_branches around rest) (body_by s body) (branch_by s rest) rise (branches_have s around rest)
     (body_law n s around body (rise_front n (listed_suite around body) (listed_branches around rest) rise))
     (branches_law n s around rest (rise_back n (listed_suite around body) (listed_branches around rest) rise))
 
@@ -163,7 +163,7 @@ handlers_have s around (more_handlers kind bound body rest) found is = either_ha
 handlers_law : (n s : ℕ) (around : Around) (handlers : HandlersTree) → Rise n (listed_handlers around handlers) → first_at s (listed_handlers around handlers) ≡ in_body s around (handler_by s handlers)
 handlers_law n s around end_handlers rise = refl
 handlers_law n s around (more_handlers kind bound body rest) rise =
-  two_lists n s around (listed_suite around body) (listed_handlers around rest) (body_by s body) (handler_by s rest) rise (handlers_have s around rest)
+    two_lists n s around (listed_suite around body) (listed_handlers around rest) (body_by s body) (handler_by s rest) rise (handlers_have s around rest)
     (body_law n s around body (rise_front n (listed_suite around body) (listed_handlers around rest) rise))
     (handlers_law n s around rest (rise_back n (listed_suite around body) (listed_handlers around rest) rise))
 
@@ -178,11 +178,11 @@ else_law n s around (else_suite body) rise = body_law n s around body rise
 -- only the last suite that begins by s can hold it
 pub form_law : (n s : ℕ) (around : Around) (form : FormTree) → Rise n (listed_form around form) → first_at s (listed_form around form) ≡ in_body s around (suite_by s form)
 form_law n s around (if_form branches orelse) rise =
-  two_lists n s around (listed_branches around branches) (listed_else around orelse) (branch_by s branches) (else_by s orelse) rise (else_has s around orelse)
+    two_lists n s around (listed_branches around branches) (listed_else around orelse) (branch_by s branches) (else_by s orelse) rise (else_has s around orelse)
     (branches_law n s around branches (rise_front n (listed_branches around branches) (listed_else around orelse) rise))
     (else_law n s around orelse (rise_back n (listed_branches around branches) (listed_else around orelse) rise))
 form_law n s around (try_form body handlers) rise =
-  two_lists n s around (listed_suite around body) (listed_handlers around handlers) (Some body) (handler_by s handlers) rise (handlers_have s around handlers) refl
+    two_lists n s around (listed_suite around body) (listed_handlers around handlers) (Some body) (handler_by s handlers) rise (handlers_have s around handlers) refl
     (handlers_law n s around handlers (rise_back n (listed_suite around body) (listed_handlers around handlers) rise))
 form_law n s around (while_form test body) rise = refl
 form_law n s around (for_form target items body) rise = refl
@@ -222,14 +222,14 @@ at_front : (inner xs ys : List Standing) → IsWithin inner xs → IsWithin inne
 at_front inner xs ys part = record {
   before = part.before;
   after = part.after ++ ys;
-  is = ap (λ l. l ++ ys) part.is ∙ append_assoc part.before (inner ++ part.after) ys ∙ ap (λ l. part.before ++ l) (append_assoc inner part.after ys)
+  is = ap (λ l. l ++ ys) part.is ∙ append_assoc part.before (inner ++ part.after) ys ∙ ap (λ l. part.before ++ l) (append_assoc inner part.after ys);
 }
 
 at_back : (inner xs ys : List Standing) → IsWithin inner ys → IsWithin inner (xs ++ ys)
 at_back inner xs ys part = record {
   before = xs ++ part.before;
   after = part.after;
-  is = ap (λ l. xs ++ l) part.is ∙ sym (append_assoc xs part.before (inner ++ part.after))
+  is = ap (λ l. xs ++ l) part.is ∙ sym (append_assoc xs part.before (inner ++ part.after));
 }
 
 -- the statement that the way goes through is in its row

@@ -1,5 +1,5 @@
 -- The other forms, where code tells some forms apart.
-use Rattle.std.proofs.Common.{◌≡◌, ℕ, Bool, true, false, List, Option, None, ap, sym, ◌∙◌}
+use Rattle.std.proofs.Common.{◌≡◌, ℕ, false, List, Option, None, ap, sym, ◌∙◌}
 use Rattle.py_tree.specs.declared.expr.Expr.{Expr}
 use Rattle.py_tree.specs.declared.expr.Target.{Target}
 use Rattle.py_tree.specs.declared.stmt.Bound.{Bound}

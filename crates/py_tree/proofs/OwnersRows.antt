@@ -1,10 +1,10 @@
 -- Worked scripts: where their statements stand and what they bind, by computation.
-use Rattle.std.proofs.Common.{◌≡◌, ℕ, ◌∷◌, [], List, map, Bool, true, false, Option, None, Some, refl, lit≤}
+use Rattle.std.proofs.Common.{◌≡◌, ℕ, ◌∷◌, [], List, map, true, false, None, Some, refl, lit≤}
 use Rattle.std.specs.Prelude.{codes}
 use Rattle.prov_base.specs.declared.place.Pos.{Pos}
 use Rattle.prov_base.specs.declared.place.Span.{Span}
 use Rattle.py_tree.specs.declared.expr.BinOp.TheVariants.{Add}
-use Rattle.py_tree.specs.Tree.{ExprTree, StmtTree, FormTree, SuiteTree, ScriptTree, one_stmt, do_form, assign_form, aug_form, del_form, pass_form, import_form, if_form, for_form, try_form, with_form, def_form, class_form, end_suite, more_suite, end_branches, more_branches, no_else, else_suite, end_handlers, more_handlers, var_target, part_target, field_target, many_target, end_targets, more_targets, var_expr}
+use Rattle.py_tree.specs.Tree.{ExprTree, StmtTree, FormTree, SuiteTree, ScriptTree, one_stmt, do_form, assign_form, aug_form, del_form, pass_form, import_form, if_form, for_form, try_form, with_form, def_form, class_form, end_branches, more_branches, no_else, else_suite, end_handlers, more_handlers, var_target, part_target, field_target, many_target, end_targets, more_targets, var_expr}
 use Rattle.py_tree.specs.Erasure.{suite_list}
 use Rattle.py_tree.specs.Owners.{HasRisingNumbers, parent_of, function_of}
 use Rattle.py_tree.specs.Binds.{binds}
@@ -26,12 +26,12 @@ name text = var_expr here text
 abbrev choice : ScriptTree
 choice = record {
   body = suite_list (
-    stmt 0 (assign_form (var_target here (codes "x")) (name (codes "zero")))
-    ∷ stmt 1 (assign_form (var_target here (codes "y")) (name (codes "five")))
-    ∷ stmt 2 (if_form (more_branches (name (codes "x")) (suite_list (stmt 3 (assign_form (var_target here (codes "y")) (name (codes "one"))) ∷ [])) end_branches) (else_suite (suite_list (stmt 4 (assign_form (var_target here (codes "z")) (name (codes "two"))) ∷ []))))
-    ∷ stmt 5 (do_form (name (codes "z")))
-    ∷ []);
-  count = 6
+      stmt 0 (assign_form (var_target here (codes "x")) (name (codes "zero")))
+      ∷ stmt 1 (assign_form (var_target here (codes "y")) (name (codes "five")))
+      ∷ stmt 2 (if_form (more_branches (name (codes "x")) (suite_list (stmt 3 (assign_form (var_target here (codes "y")) (name (codes "one"))) ∷ [])) end_branches) (else_suite (suite_list (stmt 4 (assign_form (var_target here (codes "z")) (name (codes "two"))) ∷ []))))
+      ∷ stmt 5 (do_form (name (codes "z")))
+      ∷ []);
+  count = 6;
 }
 
 choice_rises : HasRisingNumbers choice
@@ -61,18 +61,18 @@ choice_binds = refl
 --     x += 1
 abbrev method_body : SuiteTree
 method_body = suite_list (
-  stmt 2 (for_form (var_target here (codes "i")) (name (codes "p")) (suite_list (stmt 3 (if_form (more_branches (name (codes "i")) (suite_list (stmt 4 (del_form (var_target here (codes "a"))) ∷ [])) end_branches) no_else) ∷ [])))
-  ∷ stmt 5 (try_form (suite_list (stmt 6 (import_form (codes "sys")) ∷ [])) (more_handlers (Some (name (codes "E"))) (Some (record { at = here; name = codes "e" })) (suite_list (stmt 7 pass_form ∷ [])) end_handlers))
-  ∷ stmt 8 (with_form (name (codes "p")) (Some (record { at = here; name = codes "f" })) (suite_list (stmt 9 (assign_form (many_target (more_targets (var_target here (codes "a")) (more_targets (part_target here (name (codes "b")) (name (codes "zero"))) (more_targets (field_target here (name (codes "c")) (codes "d")) end_targets)))) (name (codes "t"))) ∷ [])))
-  ∷ [])
+    stmt 2 (for_form (var_target here (codes "i")) (name (codes "p")) (suite_list (stmt 3 (if_form (more_branches (name (codes "i")) (suite_list (stmt 4 (del_form (var_target here (codes "a"))) ∷ [])) end_branches) no_else) ∷ [])))
+    ∷ stmt 5 (try_form (suite_list (stmt 6 (import_form (codes "sys")) ∷ [])) (more_handlers (Some (name (codes "E"))) (Some (record { at = here; name = codes "e" })) (suite_list (stmt 7 pass_form ∷ [])) end_handlers))
+    ∷ stmt 8 (with_form (name (codes "p")) (Some (record { at = here; name = codes "f" })) (suite_list (stmt 9 (assign_form (many_target (more_targets (var_target here (codes "a")) (more_targets (part_target here (name (codes "b")) (name (codes "zero"))) (more_targets (field_target here (name (codes "c")) (codes "d")) end_targets)))) (name (codes "t"))) ∷ [])))
+    ∷ [])
 
 abbrev methods : ScriptTree
 methods = record {
   body = suite_list (
-    stmt 0 (class_form (codes "A") None (suite_list (stmt 1 (def_form (codes "run") [] [] method_body) ∷ [])))
-    ∷ stmt 10 (def_form (codes "g") [] [] (suite_list (stmt 11 (aug_form (var_target here (codes "x")) Add here (name (codes "one"))) ∷ [])))
-    ∷ []);
-  count = 12
+      stmt 0 (class_form (codes "A") None (suite_list (stmt 1 (def_form (codes "run") [] [] method_body) ∷ [])))
+      ∷ stmt 10 (def_form (codes "g") [] [] (suite_list (stmt 11 (aug_form (var_target here (codes "x")) Add here (name (codes "one"))) ∷ [])))
+      ∷ []);
+  count = 12;
 }
 
 methods_parents : map (parent_of methods) (0 ∷ 1 ∷ 2 ∷ 3 ∷ 4 ∷ 5 ∷ 6 ∷ 7 ∷ 8 ∷ 9 ∷ 10 ∷ 11 ∷ 12 ∷ []) ≡ None ∷ Some 0 ∷ Some 1 ∷ Some 2 ∷ Some 3 ∷ Some 1 ∷ Some 5 ∷ Some 5 ∷ Some 1 ∷ Some 8 ∷ None ∷ Some 10 ∷ None ∷ []

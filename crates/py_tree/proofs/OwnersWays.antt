@@ -13,7 +13,7 @@ use Rattle.py_tree.specs.declared.stmt.Stmt.{Stmt}
 use Rattle.py_tree.specs.declared.stmt.Suite.{Suite}
 use Rattle.py_tree.specs.declared.stmt.Form.TheViews.{out-Suite}
 use Rattle.py_tree.specs.Tree.{StmtTree, SuiteTree}
-use Rattle.py_tree.specs.Erasure.{stmt_of, suite_of, suite_list, branches_list, handlers_list, expr_of}
+use Rattle.py_tree.specs.Erasure.{stmt_of, suite_of, suite_list, branches_list, handlers_list}
 use Rattle.py_tree.specs.Owners.{number_of, RiseFrom}
 use Rattle.py_tree.specs.Descent.{begins_by, body_by, branch_by, handler_by, last_by, row_numbers}
 use Rattle.py_tree.proofs.StmtTrees.{stmt_tree, suite_tree}
@@ -51,7 +51,7 @@ choice_or false x last = refl
 -- one suite further, where `left` is the last suite that begins by s among those that are left
 pub walk_step : {X : Type 0} (s : ℕ) (body : X → Suite) (left : List X → Option SuiteTree) → ((x : X) (xs : List X) → left (x ∷ xs) ≡ option_or (left xs) (body_by s (suite_of (body x)))) → (items : List X) (i : ℕ) (x : X) (last new : Option SuiteTree) (begins : Bool) → i < length items → x ≡ get_or items i x → begins ≡ begins_by s (suite_of (body x)) → new ≡ cond begins (Some (suite_of (body x))) last → option_or (left (drop (i + 1) items)) new ≡ option_or (left (drop i items)) last
 walk_step s body left more items i x last new begins within at is_begun is_new =
-  sym (ap (λ rest. option_or (left rest) last) (next_left items i x within ∙ ap (λ y. y ∷ drop (i + 1) items) (sym at))
+    sym (ap (λ rest. option_or (left rest) last) (next_left items i x within ∙ ap (λ y. y ∷ drop (i + 1) items) (sym at))
     ∙ ap (λ o. option_or o last) (more x (drop (i + 1) items))
     ∙ option_or_assoc (left (drop (i + 1) items)) (body_by s (suite_of (body x))) last
     ∙ ap (option_or (left (drop (i + 1) items))) (choice_or (begins_by s (suite_of (body x))) (suite_of (body x)) last ∙ ap (λ b. cond b (Some (suite_of (body x))) last) (sym is_begun) ∙ sym is_new))
@@ -79,9 +79,9 @@ at_end : {X : Type 0} (xs : List X) → slice_get xs (length xs - 1) ≡ last_it
 at_end [] = refl
 at_end (x ∷ []) = refl
 at_end (x ∷ y ∷ xs) =
-  let here : suc (suc (length xs)) - 1 ≡ suc (length xs) = omega arith in
-  let there : length xs ≡ suc (length xs) - 1 = omega arith in
-  ap (slice_get (x ∷ y ∷ xs)) here ∙ ap (slice_get (y ∷ xs)) there ∙ at_end (y ∷ xs)
+    let here : suc (suc (length xs)) - 1 ≡ suc (length xs) = omega arith in
+    let there : length xs ≡ suc (length xs) - 1 = omega arith in
+    ap (slice_get (x ∷ y ∷ xs)) here ∙ ap (slice_get (y ∷ xs)) there ∙ at_end (y ∷ xs)
 
 abbrev is_by : ℕ → Stmt → Bool
 is_by s x = nat_le x.no s
@@ -98,9 +98,9 @@ kept_cases true x l rest is = ap Some (map_unwrap stmt_of (last_item l) x ∙ ap
 last_row : (s : ℕ) (items : List Stmt) → option_map stmt_of (last_item (take_while (is_by s) items)) ≡ last_by s (suite_list (map stmt_of items))
 last_row s [] = refl
 last_row s (x ∷ xs) =
-  ap (λ l. option_map stmt_of (last_item l)) (take_while-cons (is_by s) x xs)
-  ∙ kept_cases (is_by s x) x (take_while (is_by s) xs) (last_by s (suite_list (map stmt_of xs))) (last_row s xs)
-  ∙ ap (λ n. cond (nat_le n s) (Some (unwrap_or (last_by s (suite_list (map stmt_of xs))) (stmt_of x))) None) (sym (number_is x))
+    ap (λ l. option_map stmt_of (last_item l)) (take_while-cons (is_by s) x xs)
+    ∙ kept_cases (is_by s x) x (take_while (is_by s) xs) (last_by s (suite_list (map stmt_of xs))) (last_row s xs)
+    ∙ ap (λ n. cond (nat_le n s) (Some (unwrap_or (last_by s (suite_list (map stmt_of xs))) (stmt_of x))) None) (sym (number_is x))
 
 row_from : (n : ℕ) (items : List Stmt) → RiseFrom n (row_numbers (suite_list (map stmt_of items))) → (j : ℕ) (d : Stmt) → j < length items → n ≤ (get_or items j d).no
 row_from n [] rise j d within = absurd (omega arith)
@@ -125,7 +125,7 @@ copied_map f (Some x) = refl
 -- and what its answer gives
 pub row_last : (s : ℕ) (body : Suite) (items again : List Stmt) (count cut : ℕ) (found : Option (Bor Stmt)) → items ≡ (out-Suite body).list.items → again ≡ (out-Suite body).list.items → count ≤ length items → IsPartitionPoint (λ x. nat_le x.no s ≡ true) (λ x. nat_le x.no s ≡ false) items count → cut ≡ count → option_map (λ x. x.now) found ≡ slice_get (take cut again) (length (take cut again) - 1) → option_map (λ x. stmt_of x.now) found ≡ last_by s (suite_of body)
 row_last s body items again count cut found is is_again bound parted is_cut is_last =
-  copied_map stmt_of found
-  ∙ ap (option_map stmt_of) (is_last ∙ at_end (take cut again) ∙ ap (λ n. last_item (take n again)) (is_cut ∙ sym (prefix_len_at s items count bound parted)) ∙ ap (λ l. last_item (take (prefix_len (is_by s) items) l)) (is_again ∙ sym is))
-  ∙ last_row s items
-  ∙ ap (last_by s) (ap (λ l. suite_list (map stmt_of l)) is ∙ sym (suite_tree body))
+    copied_map stmt_of found
+    ∙ ap (option_map stmt_of) (is_last ∙ at_end (take cut again) ∙ ap (λ n. last_item (take n again)) (is_cut ∙ sym (prefix_len_at s items count bound parted)) ∙ ap (λ l. last_item (take (prefix_len (is_by s) items) l)) (is_again ∙ sym is))
+    ∙ last_row s items
+    ∙ ap (last_by s) (ap (λ l. suite_list (map stmt_of l)) is ∙ sym (suite_tree body))

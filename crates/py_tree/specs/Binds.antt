@@ -3,7 +3,7 @@ use Rattle.std.specs.Prelude.{ℕ, Bool, true, false, not, ◌&&◌, ◌||◌, L
 use Rattle.std.specs.Option.{option_map_or}
 use Rattle.std.specs.Str.{bytes_eq}
 use Rattle.py_tree.specs.declared.stmt.Bound.{Bound}
-use Rattle.py_tree.specs.Tree.{TargetTree, TargetsTree, StmtTree, FormTree, HandlersTree, ScriptTree, var_target, part_target, field_target, many_target, end_targets, more_targets, do_form, assign_form, aug_form, del_form, pass_form, break_form, continue_form, return_form, raise_form, assert_form, import_form, if_form, while_form, for_form, try_form, with_form, def_form, class_form, end_handlers, more_handlers}
+use Rattle.py_tree.specs.Tree.{TargetTree, TargetsTree, FormTree, HandlersTree, ScriptTree, var_target, part_target, field_target, many_target, end_targets, more_targets, assign_form, aug_form, del_form, import_form, for_form, try_form, with_form, def_form, class_form, end_handlers, more_handlers}
 use Rattle.py_tree.specs.Owners.{Standing, form_in, is_def, standing_at}
 
 abbrev mutual

@@ -1,5 +1,5 @@
 -- What the program's search for a statement gives, read on the pure tree.
-use Rattle.std.specs.Prelude.{Option, option_map}
+use Rattle.std.specs.Prelude.{option_map}
 use Rattle.py_tree.specs.declared.owners.Around.{Around as AroundRefs}
 use Rattle.py_tree.specs.declared.owners.Found.{Found}
 use Rattle.py_tree.specs.Erasure.{stmt_of}

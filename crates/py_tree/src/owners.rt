@@ -5,7 +5,6 @@ ghost use Rattle.std.specs.Prelude.{◌≡◌, option_map};
 ghost use Rattle.py_tree.specs.Erasure.{branches_of, else_tree, form_of, handlers_of, script_of, stmt_of, suite_of};
 ghost use Rattle.py_tree.specs.Descent.{begins_by, branch_by, else_by, handler_by, last_by, row_numbers, suite_by};
 ghost use Rattle.py_tree.specs.Owners.{HasRisingNumbers, RiseFrom, function_of, is_def, parent_of, standing_at, within};
-
 ghost use Rattle.py_tree.specs.Found.{around_of, standing_of};
 
 use crate::stmt::{Branches, Form, Handlers, Script, Stmt, Suite};
@@ -98,13 +97,7 @@ fn else_by(orelse: &Option<Suite>, s: u32) -> Option<&Suite>
 {
     match orelse {
         None => None,
-        Some(body) => {
-            if body.begins_by(s) {
-                Some(body)
-            } else {
-                None
-            }
-        }
+        Some(body) => { if body.begins_by(s) { Some(body) } else { None } }
     }
 }
 

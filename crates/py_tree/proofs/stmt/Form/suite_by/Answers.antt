@@ -1,6 +1,6 @@
-use Rattle.std.proofs.Common.{◌≡◌, ℕ, Option, None, Some, refl, rules, ap, sym, ◌∙◌}
+use Rattle.std.proofs.Common.{◌≡◌, Option, None, Some, refl, rules, ap, sym, ◌∙◌}
 use Rattle.std.specs.Option.{option_or}
-use Rattle.py_tree.specs.Descent.{suite_by, branch_by}
+use Rattle.py_tree.specs.Descent.{suite_by}
 use Rattle.py_tree.specs.Erasure.{form_of}
 use Rattle.py_tree.proofs.StmtTrees.{form_trees, if_tree, try_tree}
 use Rattle.py_tree.proofs.OwnersLeaves.{leaf_has_none}

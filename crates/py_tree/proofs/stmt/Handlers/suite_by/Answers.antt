@@ -1,4 +1,4 @@
-use Rattle.std.proofs.Common.{List, Option, None, option_map, sym, ◌∙◌, ap, refl}
+use Rattle.std.proofs.Common.{Option, option_map, sym, ◌∙◌, ap, refl}
 use Rattle.py_tree.specs.declared.expr.Expr.{Expr}
 use Rattle.py_tree.specs.declared.stmt.Bound.{Bound}
 use Rattle.py_tree.specs.declared.stmt.Suite.{Suite}
@@ -14,10 +14,10 @@ loop-body-init c = option_or_none _ ∙ ap (handlers_left c.args.s) c.deref-body
 
 pub loop-body-preserved : goal.loop-body-preserved
 loop-body-preserved c =
-  elim c.if-begins_by.branch [
-    then-begins_by w ↦ walk_step c.args.s (λ (h : Option Expr × Option Bound × Suite). h.2) (handlers_left c.args.s) (λ x xs. refl) _ _ c.loop-body-item.result _ _ _ c.loop-body-test.true c.loop-body-item.is (sym w.if-begins_by.true ∙ c.begins_by.ensures) (ap (option_map (λ body. suite_of body.now)) w.last-is) ∙ c.loop-body.invariant
-  | else-begins_by w ↦ walk_step c.args.s (λ (h : Option Expr × Option Bound × Suite). h.2) (handlers_left c.args.s) (λ x xs. refl) _ _ c.loop-body-item.result _ _ _ c.loop-body-test.true c.loop-body-item.is (sym w.if-begins_by.false ∙ c.begins_by.ensures) (ap (option_map (λ body. suite_of body.now)) w.last-is) ∙ c.loop-body.invariant
-  ]
+    elim c.if-begins_by.branch [
+      | then-begins_by w ↦ walk_step c.args.s (λ (h : Option Expr × Option Bound × Suite). h.2) (handlers_left c.args.s) (λ x xs. refl) _ _ c.loop-body-item.result _ _ _ c.loop-body-test.true c.loop-body-item.is (sym w.if-begins_by.true ∙ c.begins_by.ensures) (ap (option_map (λ body. suite_of body.now)) w.last-is) ∙ c.loop-body.invariant
+      | else-begins_by w ↦ walk_step c.args.s (λ (h : Option Expr × Option Bound × Suite). h.2) (handlers_left c.args.s) (λ x xs. refl) _ _ c.loop-body-item.result _ _ _ c.loop-body-test.true c.loop-body-item.is (sym w.if-begins_by.false ∙ c.begins_by.ensures) (ap (option_map (λ body. suite_of body.now)) w.last-is) ∙ c.loop-body.invariant
+    ]
 
 pub returns : goal.returns
 returns c = sym (walk_end (handlers_left c.args.s) refl _ _ _ c.loop-body-test.false) ∙ c.loop-body.invariant

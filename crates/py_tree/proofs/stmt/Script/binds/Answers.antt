@@ -1,4 +1,4 @@
-use Rattle.std.proofs.Common.{◌≡◌, ℕ, List, Bool, true, false, not, ◌&&◌, Option, Some, refl, ap, sym, ◌∙◌}
+use Rattle.std.proofs.Common.{◌≡◌, ℕ, List, false, not, ◌&&◌, Option, Some, ap, sym, ◌∙◌}
 use Rattle.std.specs.Option.{option_map_or}
 use Rattle.py_tree.specs.declared.owners.Found.{Found}
 use Rattle.py_tree.specs.Erasure.{form_of}
@@ -11,7 +11,7 @@ use Rattle.py_tree.proofs.stmt.Script.binds.Goals as goal
 -- the statement that was found, where it is no method
 binds_found : (found : Found) (wanted : Option Standing) (name : List ℕ) → Some (standing_of found) ≡ wanted → is_method (standing_of found) ≡ false → form_binds (form_of found.stmt.now.form) name ≡ option_map_or (λ x. not (is_method x) && form_binds (form_in x.stmt) name) wanted false
 binds_found found wanted name is no_method =
-  sym (ap (λ o. option_map_or (λ x. not (is_method x) && form_binds (form_in x.stmt) name) o false) (sym is)
+    sym (ap (λ o. option_map_or (λ x. not (is_method x) && form_binds (form_in x.stmt) name) o false) (sym is)
     ∙ ap (λ b. not b && form_binds (form_in (standing_of found).stmt) name) no_method
     ∙ ap (λ t. form_binds (form_in t) name) (stmt_tree found.stmt.now))
 

@@ -1,7 +1,7 @@
 use Rattle.std.proofs.Common.{refl, ap, ◌∙◌, option_map}
 use Rattle.py_tree.specs.Found.{standing_of}
 use Rattle.py_tree.proofs.OwnersLaws.{row_numbers_rise}
-use Rattle.py_tree.proofs.OwnersFinds.{Looks, no_row, found_here, no_suite, step_down}
+use Rattle.py_tree.proofs.OwnersFinds.{no_row, found_here, no_suite, step_down}
 use Rattle.py_tree.proofs.stmt.Script.find.Goals as goal
 
 pub loop-stmt-init : goal.loop-stmt-init
