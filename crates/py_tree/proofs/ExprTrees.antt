@@ -1,5 +1,5 @@
 -- The pure tree of each form of expression: what every proof above cites.
-use Rattle.std.proofs.Common.{◌≡◌, ℕ, List, [], ◌∷◌, ◌++◌, map, Option, None, Some, option_map, Box, Global, Vec, refl, ap, sym, ◌∙◌}
+use Rattle.std.proofs.Common.{◌≡◌, ℕ, List, map, Option, None, Some, option_map, Box, Global, ap, sym, ◌∙◌}
 use Rattle.prov_base.specs.declared.place.Pos.{Pos}
 use Rattle.py_tree.specs.declared.expr.UnOp.{UnOp}
 use Rattle.py_tree.specs.declared.expr.LogicOp.{LogicOp}
@@ -9,11 +9,11 @@ use Rattle.py_tree.specs.declared.expr.Atom.{Atom}
 use Rattle.py_tree.specs.declared.expr.Expr.{Expr}
 use Rattle.py_tree.specs.declared.expr.Exprs.{Exprs}
 use Rattle.py_tree.specs.declared.expr.Pairs.{Pairs}
-use Rattle.py_tree.specs.declared.expr.Expr.TheOpen.{Expr-F, Exprs-F, Pairs-F, Unary as Unary-F, Binary as Binary-F, Compare as Compare-F, Logic as Logic-F, Choose as Choose-F, Call as Call-F, Attr as Attr-F, Part as Part-F, Range as Range-F, List as List-F, Dict as Dict-F, Tuple as Tuple-F, Const as Const-F, Var as Var-F}
+use Rattle.py_tree.specs.declared.expr.Expr.TheOpen.{Unary as Unary-F, Binary as Binary-F, Compare as Compare-F, Logic as Logic-F, Choose as Choose-F, Call as Call-F, Attr as Attr-F, Part as Part-F, Range as Range-F, List as List-F, Dict as Dict-F, Tuple as Tuple-F, Const as Const-F, Var as Var-F}
 use Rattle.py_tree.specs.declared.expr.Expr.TheVariants.{Const, Var, rolls-Const, rolls-Var, rolls-Unary, rolls-Binary, rolls-Compare, rolls-Logic, rolls-Choose, rolls-Call, rolls-Attr, rolls-Part, rolls-List, rolls-Dict, rolls-Tuple, rolls-Range}
-use Rattle.py_tree.specs.declared.expr.Expr.TheViews.{Unary, Binary, Compare, Logic, Choose, Call, Attr, Part, Range, List as Listing, Dict, Tuple, roll-Expr, roll-Exprs, roll-Pairs}
+use Rattle.py_tree.specs.declared.expr.Expr.TheViews.{Unary, Binary, Compare, Logic, Choose, Call, Attr, Part, Range, List as Listing, Dict, Tuple}
 use Rattle.py_tree.specs.declared.expr.Expr.TheFolds.{fold-roll-Expr, fold_out-Exprs, fold_out-Pairs}
-use Rattle.py_tree.specs.Tree.{ExprTree, ExprsTree, PairsTree, MaybeTree, const_expr, var_expr, unary_expr, binary_expr, compare_expr, logic_expr, choose_expr, call_expr, attr_expr, part_expr, range_expr, list_expr, dict_expr, tuple_expr}
+use Rattle.py_tree.specs.Tree.{ExprTree, ExprsTree, PairsTree, const_expr, var_expr, unary_expr, binary_expr, compare_expr, logic_expr, choose_expr, call_expr, attr_expr, part_expr, range_expr, list_expr, dict_expr, tuple_expr}
 use Rattle.py_tree.specs.Erasure.{expr_of, exprs_of, pairs_of, maybe_tree, exprs_list, pairs_list, expr_step, exprs_step, pairs_step}
 
 pub const_tree : (at : Pos) (atom : Atom) → expr_of (Const at atom) ≡ const_expr at atom

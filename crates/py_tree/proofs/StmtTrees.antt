@@ -1,5 +1,5 @@
 -- The pure tree of each form of statement and of each list of statements: what every proof above cites.
-use Rattle.std.proofs.Common.{◌≡◌, ℕ, List, map, Option, None, Some, option_map, refl, ap, sym, ◌∙◌}
+use Rattle.std.proofs.Common.{◌≡◌, ℕ, List, map, Option, None, Some, option_map, ap, sym, ◌∙◌}
 use Rattle.prov_base.specs.declared.place.Pos.{Pos}
 use Rattle.py_tree.specs.declared.expr.BinOp.{BinOp}
 use Rattle.py_tree.specs.declared.expr.Expr.{Expr}
@@ -15,7 +15,7 @@ use Rattle.py_tree.specs.declared.stmt.Form.TheOpen.{Do as Do-F, Assign as Assig
 use Rattle.py_tree.specs.declared.stmt.Form.TheVariants.{Do, Assign, Aug, Del, Pass, Break, Continue, Return, Raise, Assert, Import, While, For, Try, With, Def, Class, rolls-Do, rolls-Assign, rolls-Aug, rolls-Del, rolls-Pass, rolls-Break, rolls-Continue, rolls-Return, rolls-Raise, rolls-Assert, rolls-Import, rolls-While, rolls-For, rolls-Try, rolls-With, rolls-Def, rolls-Class, rolls-If}
 use Rattle.py_tree.specs.declared.stmt.Form.TheViews.{If, out-Suite, out-Branches, out-Handlers}
 use Rattle.py_tree.specs.declared.stmt.Form.TheFolds.{fold-roll-Form, fold_out-Suite, fold_out-Stmt, fold_out-Branches, fold_out-Handlers}
-use Rattle.py_tree.specs.Tree.{StmtTree, FormTree, SuiteTree, BranchesTree, ElseTree, HandlersTree, one_stmt, do_form, assign_form, aug_form, del_form, pass_form, break_form, continue_form, return_form, raise_form, assert_form, import_form, if_form, while_form, for_form, try_form, with_form, def_form, class_form}
+use Rattle.py_tree.specs.Tree.{StmtTree, FormTree, SuiteTree, BranchesTree, HandlersTree, one_stmt, do_form, assign_form, aug_form, del_form, pass_form, break_form, continue_form, return_form, raise_form, assert_form, import_form, if_form, while_form, for_form, try_form, with_form, def_form, class_form}
 use Rattle.py_tree.specs.Erasure.{expr_of, target_of, form_of, branches_of, handlers_of, stmt_of, suite_of, suite_list, branches_list, handlers_list, else_tree, form_step, branches_step, handlers_step, stmt_step, suite_step}
 
 pub do_tree : (e : Expr) → form_of (Do e) ≡ do_form (expr_of e)

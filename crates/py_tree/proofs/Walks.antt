@@ -1,5 +1,5 @@
 -- Steps of a walk over a list, where what is done so far joined with what is left is the whole.
-use Rattle.std.proofs.Common.{◌≡◌, ℕ, ◌≤◌, length, List, [], ◌++◌, drop, ap, ◌∙◌}
+use Rattle.std.proofs.Common.{◌≡◌, ℕ, ◌≤◌, length, List, ◌++◌, drop, ap, ◌∙◌}
 use Rattle.std.proofs.lemmas.List.{drop_all, append-nil}
 
 -- at the end of the walk nothing is left

@@ -1,5 +1,5 @@
 -- The pure tree of each part of a script.
-use Rattle.std.specs.Prelude.{ℕ, List, [], ◌∷◌, Option, None, Some, option_map}
+use Rattle.std.specs.Prelude.{List, [], ◌∷◌, Option, None, Some, option_map}
 use Rattle.py_tree.specs.declared.expr.Expr.{Expr}
 use Rattle.py_tree.specs.declared.expr.Exprs.{Exprs}
 use Rattle.py_tree.specs.declared.expr.Pairs.{Pairs}

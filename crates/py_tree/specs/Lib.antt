@@ -1,6 +1,11 @@
 pub mod Binds
+pub mod Deletion
 pub mod Descent
 pub mod Erasure
 pub mod Found
+pub mod Numbering
 pub mod Owners
+pub mod Places
+pub mod StmtSet
 pub mod Tree
+pub mod WellFormed

@@ -1,8 +1,9 @@
-// Deep copies of expressions and targets. A copy has the pure tree of what it copies.
+// Deep copies of what stands in statements. A copy has the pure tree of what it copies.
 ghost use Rattle.std.specs.Prelude.{◌≡◌, IfOk, option_map};
 ghost use Rattle.py_tree.specs.Erasure.{expr_of, exprs_of, pairs_of, target_of, targets_of};
 
 use crate::expr::{Atom, Expr, Exprs, Pairs, Target, Targets};
+use crate::stmt::{Bound, Globals, Params};
 use prov_base::{Memory, Name};
 use std::alloc::Global;
 
@@ -156,5 +157,106 @@ impl Pairs {
             list.push((key, value))?;
         }
         Ok(Pairs { list })
+    }
+}
+
+/// An optional expression with the same tree, or Memory.
+pub fn copy_option(alloc: Global, expr: &Option<Expr>) -> Result<Option<Expr>, Memory>
+    ensures { IfOk result (λ o. option_map expr_of o ≡ option_map expr_of expr.now) }
+{
+    match expr {
+        None => Ok(None),
+        Some(expr) => {
+            let copied = expr.copy(alloc)?;
+            Ok(Some(copied))
+        }
+    }
+}
+
+impl Target {
+    /// A target with the same tree, or Memory.
+    #[cycle(copy_target)]
+    pub fn copy(&self, alloc: Global) -> Result<Target, Memory>
+        ensures { IfOk result (λ t. target_of t ≡ target_of self.now) }
+    {
+        match self {
+            Target::Var(at, name) => {
+                let name = copy_name(alloc, name)?;
+                Ok(Target::Var(*at, name))
+            }
+            Target::Part(at, object, index) => {
+                let object = object.copy(alloc)?;
+                let index = index.copy(alloc)?;
+                Ok(Target::Part(*at, object, index))
+            }
+            Target::Field(at, object, name) => {
+                let object = object.copy(alloc)?;
+                let name = copy_name(alloc, name)?;
+                Ok(Target::Field(*at, object, name))
+            }
+            Target::Many(targets) => {
+                let targets = targets.copy(alloc)?;
+                Ok(Target::Many(targets))
+            }
+        }
+    }
+}
+
+impl Targets {
+    /// A list of targets with the same trees, or Memory.
+    #[cycle(copy_target)]
+    pub fn copy(&self, alloc: Global) -> Result<Targets, Memory>
+        ensures { IfOk result (λ ts. targets_of ts ≡ targets_of self.now) }
+    {
+        let mut list = Vec::new(alloc);
+        for target in &self.list {
+            let copied = target.copy(alloc)?;
+            list.push(copied)?;
+        }
+        Ok(Targets { list })
+    }
+}
+
+/// The same name after `as`, or none, or Memory.
+pub fn copy_bound(alloc: Global, bound: &Option<Bound>) -> Result<Option<Bound>, Memory>
+    ensures { IfOk result (λ o. o ≡ bound.now) }
+{
+    match bound {
+        None => Ok(None),
+        Some(bound) => {
+            let name = copy_name(alloc, &bound.name)?;
+            Ok(Some(Bound { at: bound.at, name }))
+        }
+    }
+}
+
+fn copy_names(alloc: Global, names: &[Name]) -> Result<Vec<Name>, Memory>
+    ensures { IfOk result (λ v. v.items ≡ names.now) }
+{
+    let mut list = Vec::new(alloc);
+    for name in names {
+        let copied = copy_name(alloc, name)?;
+        list.push(copied)?;
+    }
+    Ok(list)
+}
+
+impl Params {
+    /// The same parameters, or Memory.
+    pub fn copy(&self, alloc: Global) -> Result<Params, Memory>
+        ensures { IfOk result (λ p. p.list.items ≡ self.now.list.items) }
+    {
+        let list = copy_names(alloc, self.list.as_slice())?;
+        Ok(Params { list })
+    }
+}
+
+impl Globals {
+    /// The same names, or Memory.
+    pub fn copy(&self, alloc: Global) -> Result<Globals, Memory>
+        ensures { IfOk result (λ g. g.list.items ≡ self.now.list.items) }
+    {
+        let list = copy_names(alloc, self.list.as_slice())?;
+        Ok(Globals { list })
     }
 }

@@ -1,4 +1,4 @@
-use Rattle.std.proofs.Common.{◌≡◌, List, ◌++◌, map, drop}
+use Rattle.std.proofs.Common.{◌≡◌, ◌++◌, map, drop}
 use Rattle.py_tree.specs.Erasure.{expr_of, exprs_of, exprs_list, pairs_of, pairs_list}
 use Rattle.py_tree.proofs.+copy_expr.Given as goal
 
