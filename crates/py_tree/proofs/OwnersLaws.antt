@@ -9,8 +9,8 @@ use Rattle.std.specs.Prelude.{nat_le, ◌==◌}
 use Rattle.std.specs.Option.{option_or, option_and_then}
 use Rattle.std.specs.List.{list_any}
 use Rattle.py_tree.specs.Tree.{StmtTree, FormTree, SuiteTree, BranchesTree, ElseTree, HandlersTree, one_stmt, do_form, assign_form, aug_form, del_form, pass_form, break_form, continue_form, return_form, raise_form, assert_form, import_form, if_form, while_form, for_form, try_form, with_form, def_form, class_form, end_suite, more_suite, end_branches, more_branches, no_else, else_suite, end_handlers, more_handlers}
-use Rattle.py_tree.specs.Owners.{Around, Standing, RiseFrom, number_of, number_at, first_at, within, listed_stmt, listed_form, listed_suite, listed_branches, listed_else, listed_handlers}
-use Rattle.py_tree.specs.Descent.{row_numbers, last_by, begins_by, body_by, branch_by, else_by, handler_by, suite_by}
+use Rattle.py_tree.specs.Owners.{Around, Standing, number_of, number_at, first_at, within, listed_stmt, listed_form, listed_suite, listed_branches, listed_else, listed_handlers}
+use Rattle.py_tree.specs.Descent.{RiseFrom, row_numbers, last_by, begins_by, body_by, branch_by, else_by, handler_by, suite_by}
 
 -- the numbers rise from n on
 abbrev pub Rise : ℕ → List Standing → Type 0

@@ -2,7 +2,8 @@
 use Rattle.std.proofs.Common.{◌≡◌, ℕ, ◌+◌, ◌≤◌, List, [], ◌∷◌, ◌++◌, map, subst, arith}
 use Rattle.py_tree.specs.Tree.{StmtTree, FormTree, SuiteTree, BranchesTree, ElseTree, HandlersTree, ScriptTree, one_stmt, do_form, assign_form, aug_form, del_form, pass_form, break_form, continue_form, return_form, raise_form, assert_form, import_form, if_form, while_form, for_form, try_form, with_form, def_form, class_form, end_suite, more_suite, end_branches, more_branches, no_else, else_suite, end_handlers, more_handlers}
 use Rattle.py_tree.specs.Numbering.{IsNumbered, size_stmt, size_form, size_suite, size_branches, size_else, size_handlers, numbered_stmt, numbered_form, numbered_suite, numbered_branches, numbered_else, numbered_handlers}
-use Rattle.py_tree.specs.Owners.{Around, Standing, HasRisingNumbers, RiseFrom, number_at, at_module_level, within, listed_stmt, listed_form, listed_suite, listed_branches, listed_else, listed_handlers}
+use Rattle.py_tree.specs.Descent.{RiseFrom}
+use Rattle.py_tree.specs.Owners.{Around, Standing, number_at, at_module_level, within, listed_stmt, listed_form, listed_suite, listed_branches, listed_else, listed_handlers}
 
 -- the numbers rise from n on and are below m
 abbrev RiseTo : ℕ → ℕ → List Standing → Type 0
@@ -78,5 +79,5 @@ mutual
     up_to n (n + size_suite body + size_handlers rest) (n + (size_suite body + size_handlers rest)) (xs ++ ys) (omega arith) (rise_join n (n + size_suite body) (n + size_suite body + size_handlers rest) xs ys (suite_to n around body) (handlers_to (n + size_suite body) around rest))
 
 -- a numbered script has rising numbers
-pub numbers_rise : (script : ScriptTree) → IsNumbered script → HasRisingNumbers script
+pub numbers_rise : (script : ScriptTree) → IsNumbered script → RiseFrom 0 (map number_at (listed_suite at_module_level script.body))
 numbers_rise script numbered = subst (λ body. RiseFrom 0 (map number_at (listed_suite at_module_level body))) numbered.in_order (rise_from 0 (0 + size_suite script.body) (listed_suite at_module_level (numbered_suite 0 script.body)) (suite_to 0 at_module_level script.body))

@@ -1,12 +1,13 @@
 -- Worked scripts: where their statements stand and what they bind, by computation.
-use Rattle.std.proofs.Common.{◌≡◌, ℕ, ◌∷◌, [], List, map, true, false, None, Some, refl, lit≤}
+use Rattle.std.proofs.Common.{◌≡◌, ℕ, ◌∷◌, [], List, map, true, false, None, Some, refl}
 use Rattle.std.specs.Prelude.{codes}
 use Rattle.prov_base.specs.declared.place.Pos.{Pos}
 use Rattle.prov_base.specs.declared.place.Span.{Span}
 use Rattle.py_tree.specs.declared.expr.BinOp.TheVariants.{Add}
 use Rattle.py_tree.specs.Tree.{ExprTree, StmtTree, FormTree, SuiteTree, ScriptTree, one_stmt, do_form, assign_form, aug_form, del_form, pass_form, import_form, if_form, for_form, try_form, with_form, def_form, class_form, end_branches, more_branches, no_else, else_suite, end_handlers, more_handlers, var_target, part_target, field_target, many_target, end_targets, more_targets, var_expr}
 use Rattle.py_tree.specs.Erasure.{suite_list}
-use Rattle.py_tree.specs.Owners.{HasRisingNumbers, parent_of, function_of}
+use Rattle.py_tree.specs.Owners.{parent_of, function_of}
+use Rattle.py_tree.specs.Numbering.{IsNumbered}
 use Rattle.py_tree.specs.Binds.{binds}
 
 -- places and bytes are all the same here, since nothing below reads them
@@ -34,8 +35,8 @@ choice = record {
   count = 6;
 }
 
-choice_rises : HasRisingNumbers choice
-choice_rises = (lit≤ tt, (lit≤ tt, (lit≤ tt, (lit≤ tt, (lit≤ tt, (lit≤ tt, tt))))))
+choice_is_numbered : IsNumbered choice
+choice_is_numbered = record { in_order = refl; counted = refl }
 
 choice_parents : map (parent_of choice) (0 ∷ 1 ∷ 2 ∷ 3 ∷ 4 ∷ 5 ∷ 6 ∷ []) ≡ None ∷ None ∷ None ∷ Some 2 ∷ Some 2 ∷ None ∷ None ∷ []
 choice_parents = refl
@@ -74,6 +75,9 @@ methods = record {
       ∷ []);
   count = 12;
 }
+
+methods_is_numbered : IsNumbered methods
+methods_is_numbered = record { in_order = refl; counted = refl }
 
 methods_parents : map (parent_of methods) (0 ∷ 1 ∷ 2 ∷ 3 ∷ 4 ∷ 5 ∷ 6 ∷ 7 ∷ 8 ∷ 9 ∷ 10 ∷ 11 ∷ 12 ∷ []) ≡ None ∷ Some 0 ∷ Some 1 ∷ Some 2 ∷ Some 3 ∷ Some 1 ∷ Some 5 ∷ Some 5 ∷ Some 1 ∷ Some 8 ∷ None ∷ Some 10 ∷ None ∷ []
 methods_parents = refl

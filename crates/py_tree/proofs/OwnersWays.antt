@@ -14,8 +14,8 @@ use Rattle.py_tree.specs.declared.stmt.Suite.{Suite}
 use Rattle.py_tree.specs.declared.stmt.Form.TheViews.{out-Suite}
 use Rattle.py_tree.specs.Tree.{StmtTree, SuiteTree}
 use Rattle.py_tree.specs.Erasure.{stmt_of, suite_of, suite_list, branches_list, handlers_list}
-use Rattle.py_tree.specs.Owners.{number_of, RiseFrom}
-use Rattle.py_tree.specs.Descent.{begins_by, body_by, branch_by, handler_by, last_by, row_numbers}
+use Rattle.py_tree.specs.Owners.{number_of}
+use Rattle.py_tree.specs.Descent.{RiseFrom, begins_by, body_by, branch_by, handler_by, last_by, row_numbers}
 use Rattle.py_tree.proofs.StmtTrees.{stmt_tree, suite_tree}
 
 pub number_is : (x : Stmt) → number_of (stmt_of x) ≡ x.no

@@ -1,10 +1,15 @@
 -- The way down to a statement by its number, where numbers rise in the order of the text: of statements in a row only
 -- the last one that is not past the number can be the statement or hold it, and of the suites of a statement only the
 -- last one that begins by then.
-use Rattle.std.specs.Prelude.{ℕ, nat_le, Bool, false, List, [], ◌∷◌, Option, None, Some, unwrap_or, if◌then◌else◌}
+use Rattle.std.specs.Prelude.{ℕ, ◌+◌, ◌≤◌, nat_le, ⊤, Bool, false, List, [], ◌∷◌, Option, None, Some, unwrap_or, if◌then◌else◌}
 use Rattle.std.specs.Option.{option_or}
 use Rattle.py_tree.specs.Tree.{StmtTree, FormTree, SuiteTree, BranchesTree, ElseTree, HandlersTree, if_form, while_form, for_form, try_form, with_form, def_form, class_form, end_suite, more_suite, end_branches, more_branches, no_else, else_suite, end_handlers, more_handlers}
 use Rattle.py_tree.specs.Owners.{number_of}
+
+-- each number is at least n and above the one before it
+abbrev pub RiseFrom : ℕ → List ℕ → Type 0
+RiseFrom n [] = ⊤
+RiseFrom n (x ∷ xs) = (n ≤ x) × RiseFrom (x + 1) xs
 
 -- the numbers of the statements in a row, without those in their suites
 abbrev pub row_numbers : SuiteTree → List ℕ

@@ -1,5 +1,5 @@
 -- Where the statements of a script stand: in the suite of which statement, and in which function.
-use Rattle.std.specs.Prelude.{ℕ, ◌+◌, ◌≤◌, ◌==◌, Bool, true, false, ⊤, List, [], ◌∷◌, ◌++◌, map, Option, None, Some, option_map, if◌then◌else◌}
+use Rattle.std.specs.Prelude.{ℕ, ◌==◌, Bool, true, false, List, [], ◌∷◌, ◌++◌, Option, None, Some, option_map, if◌then◌else◌}
 use Rattle.std.specs.Option.{option_and_then}
 use Rattle.std.specs.List.{find}
 use Rattle.py_tree.specs.Tree.{StmtTree, FormTree, SuiteTree, BranchesTree, ElseTree, HandlersTree, ScriptTree, one_stmt, if_form, while_form, for_form, try_form, with_form, def_form, class_form, end_suite, more_suite, end_branches, more_branches, no_else, else_suite, end_handlers, more_handlers}
@@ -68,15 +68,6 @@ statements script = listed_suite at_module_level script.body
 
 abbrev pub number_at : Standing → ℕ
 number_at x = number_of x.stmt
-
--- each number is at least n and above the one before it
-abbrev pub RiseFrom : ℕ → List ℕ → Type 0
-RiseFrom n [] = ⊤
-RiseFrom n (x ∷ xs) = (n ≤ x) × RiseFrom (x + 1) xs
-
--- the numbers of the statements rise in the order of the text
-abbrev pub HasRisingNumbers : ScriptTree → Type 0
-HasRisingNumbers script = RiseFrom 0 (map number_at (statements script))
 
 -- the first with number s
 abbrev pub first_at : ℕ → List Standing → Option Standing

@@ -3,7 +3,7 @@ ghost use Rattle.std.specs.Prelude.{◌≡◌};
 ghost use Rattle.py_tree.specs.Erasure.{form_of, handlers_of, script_of, target_of, targets_of};
 ghost use Rattle.py_tree.specs.Binds.{binds, bound_is, form_binds, handlers_bind, is_class, is_method, target_binds, targets_bind};
 ghost use Rattle.py_tree.specs.Found.{standing_of};
-ghost use Rattle.py_tree.specs.Owners.{HasRisingNumbers};
+ghost use Rattle.py_tree.specs.Numbering.{IsNumbered};
 
 use crate::expr::{Target, Targets};
 use crate::owners::Found;
@@ -110,7 +110,7 @@ impl Script {
     /// an augmented assignment, a `for` or a `del`, after `as` in an `except` or a `with`, by `import`, `def` or `class`. A
     /// method binds no name, and a number that no statement has gives `false`.
     pub fn binds(&self, s: u32, name: &str) -> bool
-        requires { HasRisingNumbers (script_of self.now) }
+        requires { IsNumbered (script_of self.now) }
         ensures { result ≡ binds (script_of self.now) s name.now }
     {
         match self.find(s) {

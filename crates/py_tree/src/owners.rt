@@ -3,8 +3,9 @@
 // the suites of that one the last that begins by then.
 ghost use Rattle.std.specs.Prelude.{◌≡◌, option_map};
 ghost use Rattle.py_tree.specs.Erasure.{branches_of, else_tree, form_of, handlers_of, script_of, stmt_of, suite_of};
-ghost use Rattle.py_tree.specs.Descent.{begins_by, branch_by, else_by, handler_by, last_by, row_numbers, suite_by};
-ghost use Rattle.py_tree.specs.Owners.{HasRisingNumbers, RiseFrom, function_of, is_def, parent_of, standing_at, within};
+ghost use Rattle.py_tree.specs.Descent.{RiseFrom, begins_by, branch_by, else_by, handler_by, last_by, row_numbers, suite_by};
+ghost use Rattle.py_tree.specs.Owners.{function_of, is_def, parent_of, standing_at, within};
+ghost use Rattle.py_tree.specs.Numbering.{IsNumbered};
 ghost use Rattle.py_tree.specs.Found.{around_of, standing_of};
 
 use crate::stmt::{Branches, Form, Handlers, Script, Stmt, Suite};
@@ -138,7 +139,7 @@ impl Form {
 impl Script {
     /// The first statement with number s, and what it stands in.
     pub(crate) fn find(&self, s: u32) -> Option<Found<'_>>
-        requires { HasRisingNumbers (script_of self.now) }
+        requires { IsNumbered (script_of self.now) }
         ensures { option_map standing_of result ≡ standing_at (script_of self.now) s }
     {
         let mut suite = &self.body;
@@ -159,7 +160,7 @@ impl Script {
     /// The number of the innermost statement that has statement s in one of its suites. `def` and `class` stand at module
     /// level and have none, but a method its class has. A number that no statement has gives `None`.
     pub fn parent_of(&self, s: u32) -> Option<u32>
-        requires { HasRisingNumbers (script_of self.now) }
+        requires { IsNumbered (script_of self.now) }
         ensures { result ≡ parent_of (script_of self.now) s }
     {
         let owner = self.find(s)?.around.owner?;
@@ -169,7 +170,7 @@ impl Script {
     /// The number of the innermost `def` that has statement s in its suite, directly or further in. At module level, for
     /// a function's own `def` too, there is none. A number that no statement has gives `None`.
     pub fn function_of(&self, s: u32) -> Option<u32>
-        requires { HasRisingNumbers (script_of self.now) }
+        requires { IsNumbered (script_of self.now) }
         ensures { result ≡ function_of (script_of self.now) s }
     {
         self.find(s)?.around.function

@@ -1,11 +1,12 @@
 use Rattle.std.proofs.Common.{refl, ap, ◌∙◌, option_map}
 use Rattle.py_tree.specs.Found.{standing_of}
+use Rattle.py_tree.proofs.OwnersNumbered.{numbers_rise}
 use Rattle.py_tree.proofs.OwnersLaws.{row_numbers_rise}
 use Rattle.py_tree.proofs.OwnersFinds.{no_row, found_here, no_suite, step_down}
 use Rattle.py_tree.proofs.stmt.Script.find.Goals as goal
 
 pub loop-stmt-init : goal.loop-stmt-init
-loop-stmt-init c = record { same = refl; rise = c.requires }
+loop-stmt-init c = record { same = refl; rise = numbers_rise _ c.requires }
 
 pub loop-stmt-preserved : goal.loop-stmt-preserved
 loop-stmt-preserved c = (step_down _ _ _ _ _ c.in_ok-stmt.stmt.now _ c.loop-stmt.invariant (c.in_ok-stmt.ensures (row_numbers_rise 0 _ _ c.loop-stmt.invariant.rise)) c.if-stmt-s.false c.within-around.ensures c.in_ok-suite.ensures).looks
