@@ -11,11 +11,11 @@ use Rattle.py_tree.specs.declared.stmt.Handlers.{Handlers}
 use Rattle.py_tree.specs.declared.stmt.Stmt.{Stmt}
 use Rattle.py_tree.specs.declared.stmt.Suite.{Suite}
 use Rattle.py_tree.specs.declared.stmt.Form.TheViews.{out-Suite, out-Branches, out-Handlers, roll-Suite, roll-Branches, roll-Handlers, out-roll-Suite, out-roll-Branches, out-roll-Handlers}
-use Rattle.py_tree.specs.Tree.{ExprTree, StmtTree, SuiteTree, BranchesTree, HandlersTree, one_stmt, end_suite, more_suite, end_branches, more_branches, end_handlers, more_handlers}
+use Rattle.py_tree.specs.Tree.{number_of, ExprTree, StmtTree, SuiteTree, BranchesTree, HandlersTree, one_stmt, end_suite, more_suite, end_branches, more_branches, end_handlers, more_handlers}
 use Rattle.py_tree.specs.Erasure.{expr_of, branches_of, handlers_of, stmt_of, suite_of, suite_list, branches_list, handlers_list}
 use Rattle.py_tree.specs.Numbering.{size_stmt, size_suite, size_branches, size_handlers, numbered_stmt, numbered_suite, numbered_branches, numbered_handlers}
 use Rattle.py_tree.specs.Numbered.{IsNumberedOn}
-use Rattle.py_tree.specs.Deletion.{number_of, pass_at, or_pass, kept_suite, kept_stmt, kept_branches, kept_handlers}
+use Rattle.py_tree.specs.Deletion.{pass_at, or_pass, kept_suite, kept_stmt, kept_branches, kept_handlers}
 use Rattle.py_tree.proofs.StmtTrees.{stmt_tree, suite_tree, branches_tree, handlers_tree}
 
 -- the list at a place that the walk has reached

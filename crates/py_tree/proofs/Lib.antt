@@ -1,8 +1,17 @@
+pub mod BindsHandlers
+pub mod BindsLeaves
+pub mod BindsWalks
 pub mod DeletionLaws
 pub mod DeletionWalks
 pub mod Deletions
 pub mod ExprTrees
 pub mod NewNumbers
+pub mod OwnersFinds
+pub mod OwnersLaws
+pub mod OwnersLeaves
+pub mod OwnersNumbered
+pub mod OwnersRows
+pub mod OwnersWays
 pub mod PlaceLaws
 pub mod StmtTrees
 pub mod TargetTrees

@@ -1,10 +1,7 @@
 -- A script without the statements outside a set.
 use Rattle.std.specs.Prelude.{ℕ, Bool, if◌then◌else◌}
-use Rattle.py_tree.specs.Tree.{StmtTree, FormTree, SuiteTree, BranchesTree, ElseTree, HandlersTree, ScriptTree, one_stmt, pass_form, if_form, while_form, for_form, try_form, with_form, def_form, class_form, end_suite, more_suite, end_branches, more_branches, no_else, else_suite, end_handlers, more_handlers}
+use Rattle.py_tree.specs.Tree.{number_of, StmtTree, FormTree, SuiteTree, BranchesTree, ElseTree, HandlersTree, ScriptTree, one_stmt, pass_form, if_form, while_form, for_form, try_form, with_form, def_form, class_form, end_suite, more_suite, end_branches, more_branches, no_else, else_suite, end_handlers, more_handlers}
 use Rattle.py_tree.specs.Numbering.{size_suite, numbered_suite}
-
-abbrev pub number_of : StmtTree → ℕ
-number_of (one_stmt number at span form) = number
 
 -- `pass` where this statement stood
 abbrev pub pass_at : StmtTree → StmtTree

@@ -1,7 +1,11 @@
+pub mod Binds
 pub mod Deletion
+pub mod Descent
 pub mod Erasure
+pub mod Found
 pub mod Numbered
 pub mod Numbering
+pub mod Owners
 pub mod Parts
 pub mod Places
 pub mod Renumbering

@@ -99,3 +99,6 @@ mutual
 pub record ScriptTree : Type 0 where
   pub body : SuiteTree
   pub count : ℕ
+
+abbrev pub number_of : StmtTree → ℕ
+number_of (one_stmt number at span form) = number

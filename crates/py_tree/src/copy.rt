@@ -8,7 +8,7 @@ use prov_base::{Memory, Name};
 use std::alloc::Global;
 
 /// A name with the same text, or Memory.
-pub fn copy_name(alloc: Global, name: &Name) -> Result<Name, Memory>
+pub(crate) fn copy_name(alloc: Global, name: &Name) -> Result<Name, Memory>
     ensures { IfOk result (λ n. n ≡ name.now) }
 {
     Ok(Name::of(String::from_str(alloc, name.as_str())?))
@@ -16,7 +16,7 @@ pub fn copy_name(alloc: Global, name: &Name) -> Result<Name, Memory>
 
 impl Atom {
     /// The same atom, or Memory.
-    pub fn copy(&self, alloc: Global) -> Result<Atom, Memory>
+    pub(crate) fn copy(&self, alloc: Global) -> Result<Atom, Memory>
         ensures { IfOk result (λ a. a ≡ self.now) }
     {
         match self {
@@ -34,7 +34,7 @@ impl Atom {
 impl Expr {
     /// An expression with the same tree, or Memory.
     #[cycle(copy_expr)]
-    pub fn copy(&self, alloc: Global) -> Result<Expr, Memory>
+    pub(crate) fn copy(&self, alloc: Global) -> Result<Expr, Memory>
         ensures { IfOk result (λ e. expr_of e ≡ expr_of self.now) }
     {
         match self {
@@ -132,7 +132,7 @@ fn copy_limit(limit: &Option<Box<Expr>>, alloc: Global) -> Result<Option<Box<Exp
 impl Exprs {
     /// A list of expressions with the same trees, or Memory.
     #[cycle(copy_expr)]
-    pub fn copy(&self, alloc: Global) -> Result<Exprs, Memory>
+    pub(crate) fn copy(&self, alloc: Global) -> Result<Exprs, Memory>
         ensures { IfOk result (λ es. exprs_of es ≡ exprs_of self.now) }
     {
         let mut list = Vec::new(alloc);
@@ -147,7 +147,7 @@ impl Exprs {
 impl Pairs {
     /// A list of pairs with the same trees, or Memory.
     #[cycle(copy_expr)]
-    pub fn copy(&self, alloc: Global) -> Result<Pairs, Memory>
+    pub(crate) fn copy(&self, alloc: Global) -> Result<Pairs, Memory>
         ensures { IfOk result (λ ps. pairs_of ps ≡ pairs_of self.now) }
     {
         let mut list = Vec::new(alloc);
@@ -161,7 +161,7 @@ impl Pairs {
 }
 
 /// An optional expression with the same tree, or Memory.
-pub fn copy_option(alloc: Global, expr: &Option<Expr>) -> Result<Option<Expr>, Memory>
+pub(crate) fn copy_option(alloc: Global, expr: &Option<Expr>) -> Result<Option<Expr>, Memory>
     ensures { IfOk result (λ o. option_map expr_of o ≡ option_map expr_of expr.now) }
 {
     match expr {
@@ -176,7 +176,7 @@ pub fn copy_option(alloc: Global, expr: &Option<Expr>) -> Result<Option<Expr>, M
 impl Target {
     /// A target with the same tree, or Memory.
     #[cycle(copy_target)]
-    pub fn copy(&self, alloc: Global) -> Result<Target, Memory>
+    pub(crate) fn copy(&self, alloc: Global) -> Result<Target, Memory>
         ensures { IfOk result (λ t. target_of t ≡ target_of self.now) }
     {
         match self {
@@ -205,7 +205,7 @@ impl Target {
 impl Targets {
     /// A list of targets with the same trees, or Memory.
     #[cycle(copy_target)]
-    pub fn copy(&self, alloc: Global) -> Result<Targets, Memory>
+    pub(crate) fn copy(&self, alloc: Global) -> Result<Targets, Memory>
         ensures { IfOk result (λ ts. targets_of ts ≡ targets_of self.now) }
     {
         let mut list = Vec::new(alloc);
@@ -218,7 +218,7 @@ impl Targets {
 }
 
 /// The same name after `as`, or none, or Memory.
-pub fn copy_bound(alloc: Global, bound: &Option<Bound>) -> Result<Option<Bound>, Memory>
+pub(crate) fn copy_bound(alloc: Global, bound: &Option<Bound>) -> Result<Option<Bound>, Memory>
     ensures { IfOk result (λ o. o ≡ bound.now) }
 {
     match bound {
@@ -243,7 +243,7 @@ fn copy_names(alloc: Global, names: &[Name]) -> Result<Vec<Name>, Memory>
 
 impl Params {
     /// The same parameters, or Memory.
-    pub fn copy(&self, alloc: Global) -> Result<Params, Memory>
+    pub(crate) fn copy(&self, alloc: Global) -> Result<Params, Memory>
         ensures { IfOk result (λ p. p.list.items ≡ self.now.list.items) }
     {
         let list = copy_names(alloc, self.list.as_slice())?;
@@ -253,7 +253,7 @@ impl Params {
 
 impl Globals {
     /// The same names, or Memory.
-    pub fn copy(&self, alloc: Global) -> Result<Globals, Memory>
+    pub(crate) fn copy(&self, alloc: Global) -> Result<Globals, Memory>
         ensures { IfOk result (λ g. g.list.items ≡ self.now.list.items) }
     {
         let list = copy_names(alloc, self.list.as_slice())?;

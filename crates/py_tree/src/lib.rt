@@ -2,14 +2,15 @@
 //! of a script, which is the tree without boxes and buffers (`specs/Tree.antt`).
 #![tactic(auto)]
 
+mod binds;
 mod copy;
 mod deletion;
 mod expr;
 mod laws;
+mod owners;
 mod stmt;
 mod stmt_set;
 
-pub use copy::copy_name;
 pub use deletion::delete;
 pub use expr::{Atom, BinOp, CmpOp, Expr, Exprs, LogicOp, Pairs, Target, Targets, UnOp};
 pub use laws::{

@@ -1,0 +1,54 @@
+-- The way down to a statement by its number, where numbers rise in the order of the text: of statements in a row only
+-- the last one that is not past the number can be the statement or hold it, and of the suites of a statement only the
+-- last one that begins by then.
+use Rattle.std.specs.Prelude.{ℕ, ◌+◌, ◌≤◌, nat_le, ⊤, Bool, false, List, [], ◌∷◌, Option, None, Some, unwrap_or, if◌then◌else◌}
+use Rattle.std.specs.Option.{option_or}
+use Rattle.py_tree.specs.Tree.{number_of, StmtTree, FormTree, SuiteTree, BranchesTree, ElseTree, HandlersTree, if_form, while_form, for_form, try_form, with_form, def_form, class_form, end_suite, more_suite, end_branches, more_branches, no_else, else_suite, end_handlers, more_handlers}
+
+-- each number is at least n and above the one before it
+abbrev pub RiseFrom : ℕ → List ℕ → Type 0
+RiseFrom n [] = ⊤
+RiseFrom n (x ∷ xs) = (n ≤ x) × RiseFrom (x + 1) xs
+
+-- the numbers of the statements in a row, without those in their suites
+abbrev pub row_numbers : SuiteTree → List ℕ
+row_numbers end_suite = []
+row_numbers (more_suite stmt rest) = number_of stmt ∷ row_numbers rest
+
+-- the last of the statements in a row, from the front on, whose numbers are at most s
+abbrev pub last_by : ℕ → SuiteTree → Option StmtTree
+last_by s end_suite = None
+last_by s (more_suite stmt rest) = if nat_le (number_of stmt) s then Some (unwrap_or (last_by s rest) stmt) else None
+
+-- whether the first statement has a number of at most s
+abbrev pub begins_by : ℕ → SuiteTree → Bool
+begins_by s end_suite = false
+begins_by s (more_suite stmt rest) = nat_le (number_of stmt) s
+
+-- this suite, if it begins by s
+abbrev pub body_by : ℕ → SuiteTree → Option SuiteTree
+body_by s body = if begins_by s body then Some body else None
+
+-- the last suite that begins by s
+abbrev pub branch_by : ℕ → BranchesTree → Option SuiteTree
+branch_by s end_branches = None
+branch_by s (more_branches test body rest) = option_or (branch_by s rest) (body_by s body)
+
+abbrev pub else_by : ℕ → ElseTree → Option SuiteTree
+else_by s no_else = None
+else_by s (else_suite body) = body_by s body
+
+abbrev pub handler_by : ℕ → HandlersTree → Option SuiteTree
+handler_by s end_handlers = None
+handler_by s (more_handlers kind bound body rest) = option_or (handler_by s rest) (body_by s body)
+
+-- the suite of the form that alone can hold statement s
+abbrev pub suite_by : ℕ → FormTree → Option SuiteTree
+suite_by s (if_form branches orelse) = option_or (else_by s orelse) (branch_by s branches)
+suite_by s (while_form test body) = Some body
+suite_by s (for_form target items body) = Some body
+suite_by s (try_form body handlers) = option_or (handler_by s handlers) (Some body)
+suite_by s (with_form value bound body) = Some body
+suite_by s (def_form name params globals body) = Some body
+suite_by s (class_form name base body) = Some body
+suite_by s _ = None
