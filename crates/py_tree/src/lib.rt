@@ -6,6 +6,8 @@ mod binds;
 mod copy;
 mod expr;
 mod owners;
+#[cfg(test)]
+mod owners_tests;
 mod stmt;
 mod stmt_set;
 
