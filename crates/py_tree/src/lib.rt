@@ -8,6 +8,8 @@ mod deletion;
 mod expr;
 mod laws;
 mod owners;
+#[cfg(test)]
+mod owners_tests;
 mod stmt;
 mod stmt_set;
 
