@@ -20,3 +20,6 @@ pub use laws::{
 };
 pub use stmt::{Bound, Branches, Form, Globals, Handlers, Params, Script, Stmt, Suite};
 pub use stmt_set::StmtSet;
+
+#[cfg(test)]
+mod tests;
