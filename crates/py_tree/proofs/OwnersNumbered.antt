@@ -29,13 +29,13 @@ mutual
 
   form_to : (n : ℕ) (around : Around) (form : FormTree) → RiseTo n (n + size_form form) (listed_form around (numbered_form n form))
   form_to n around (if_form branches orelse) =
-    let xs = listed_branches around (numbered_branches n branches) in
-    let ys = listed_else around (numbered_else (n + size_branches branches) orelse) in
-    up_to n (n + size_branches branches + size_else orelse) (n + (size_branches branches + size_else orelse)) (xs ++ ys) (omega arith) (rise_join n (n + size_branches branches) (n + size_branches branches + size_else orelse) xs ys (branches_to n around branches) (else_to (n + size_branches branches) around orelse))
+      let xs = listed_branches around (numbered_branches n branches) in
+      let ys = listed_else around (numbered_else (n + size_branches branches) orelse) in
+      up_to n (n + size_branches branches + size_else orelse) (n + (size_branches branches + size_else orelse)) (xs ++ ys) (omega arith) (rise_join n (n + size_branches branches) (n + size_branches branches + size_else orelse) xs ys (branches_to n around branches) (else_to (n + size_branches branches) around orelse))
   form_to n around (try_form body handlers) =
-    let xs = listed_suite around (numbered_suite n body) in
-    let ys = listed_handlers around (numbered_handlers (n + size_suite body) handlers) in
-    up_to n (n + size_suite body + size_handlers handlers) (n + (size_suite body + size_handlers handlers)) (xs ++ ys) (omega arith) (rise_join n (n + size_suite body) (n + size_suite body + size_handlers handlers) xs ys (suite_to n around body) (handlers_to (n + size_suite body) around handlers))
+      let xs = listed_suite around (numbered_suite n body) in
+      let ys = listed_handlers around (numbered_handlers (n + size_suite body) handlers) in
+      up_to n (n + size_suite body + size_handlers handlers) (n + (size_suite body + size_handlers handlers)) (xs ++ ys) (omega arith) (rise_join n (n + size_suite body) (n + size_suite body + size_handlers handlers) xs ys (suite_to n around body) (handlers_to (n + size_suite body) around handlers))
   form_to n around (while_form test body) = suite_to n around body
   form_to n around (for_form target items body) = suite_to n around body
   form_to n around (with_form value bound body) = suite_to n around body
@@ -56,16 +56,16 @@ mutual
   suite_to : (n : ℕ) (around : Around) (body : SuiteTree) → RiseTo n (n + size_suite body) (listed_suite around (numbered_suite n body))
   suite_to n around end_suite = omega arith
   suite_to n around (more_suite stmt rest) =
-    let xs = listed_stmt around (numbered_stmt n stmt) in
-    let ys = listed_suite around (numbered_suite (n + size_stmt stmt) rest) in
-    up_to n (n + size_stmt stmt + size_suite rest) (n + (size_stmt stmt + size_suite rest)) (xs ++ ys) (omega arith) (rise_join n (n + size_stmt stmt) (n + size_stmt stmt + size_suite rest) xs ys (stmt_to n around stmt) (suite_to (n + size_stmt stmt) around rest))
+      let xs = listed_stmt around (numbered_stmt n stmt) in
+      let ys = listed_suite around (numbered_suite (n + size_stmt stmt) rest) in
+      up_to n (n + size_stmt stmt + size_suite rest) (n + (size_stmt stmt + size_suite rest)) (xs ++ ys) (omega arith) (rise_join n (n + size_stmt stmt) (n + size_stmt stmt + size_suite rest) xs ys (stmt_to n around stmt) (suite_to (n + size_stmt stmt) around rest))
 
   branches_to : (n : ℕ) (around : Around) (branches : BranchesTree) → RiseTo n (n + size_branches branches) (listed_branches around (numbered_branches n branches))
   branches_to n around end_branches = omega arith
   branches_to n around (more_branches test body rest) =
-    let xs = listed_suite around (numbered_suite n body) in
-    let ys = listed_branches around (numbered_branches (n + size_suite body) rest) in
-    up_to n (n + size_suite body + size_branches rest) (n + (size_suite body + size_branches rest)) (xs ++ ys) (omega arith) (rise_join n (n + size_suite body) (n + size_suite body + size_branches rest) xs ys (suite_to n around body) (branches_to (n + size_suite body) around rest))
+      let xs = listed_suite around (numbered_suite n body) in
+      let ys = listed_branches around (numbered_branches (n + size_suite body) rest) in
+      up_to n (n + size_suite body + size_branches rest) (n + (size_suite body + size_branches rest)) (xs ++ ys) (omega arith) (rise_join n (n + size_suite body) (n + size_suite body + size_branches rest) xs ys (suite_to n around body) (branches_to (n + size_suite body) around rest))
 
   else_to : (n : ℕ) (around : Around) (orelse : ElseTree) → RiseTo n (n + size_else orelse) (listed_else around (numbered_else n orelse))
   else_to n around no_else = omega arith
@@ -74,9 +74,9 @@ mutual
   handlers_to : (n : ℕ) (around : Around) (handlers : HandlersTree) → RiseTo n (n + size_handlers handlers) (listed_handlers around (numbered_handlers n handlers))
   handlers_to n around end_handlers = omega arith
   handlers_to n around (more_handlers kind bound body rest) =
-    let xs = listed_suite around (numbered_suite n body) in
-    let ys = listed_handlers around (numbered_handlers (n + size_suite body) rest) in
-    up_to n (n + size_suite body + size_handlers rest) (n + (size_suite body + size_handlers rest)) (xs ++ ys) (omega arith) (rise_join n (n + size_suite body) (n + size_suite body + size_handlers rest) xs ys (suite_to n around body) (handlers_to (n + size_suite body) around rest))
+      let xs = listed_suite around (numbered_suite n body) in
+      let ys = listed_handlers around (numbered_handlers (n + size_suite body) rest) in
+      up_to n (n + size_suite body + size_handlers rest) (n + (size_suite body + size_handlers rest)) (xs ++ ys) (omega arith) (rise_join n (n + size_suite body) (n + size_suite body + size_handlers rest) xs ys (suite_to n around body) (handlers_to (n + size_suite body) around rest))
 
 -- a numbered script has rising numbers
 pub numbers_rise : (script : ScriptTree) → IsNumbered script → RiseFrom 0 (map number_at (listed_suite at_module_level script.body))

@@ -12,6 +12,6 @@ use Rattle.py_tree.proofs.owners_tests.suite.Goals as goal
 
 pub returns : goal.returns
 returns c =
-  suite_tree _
-  ∙ ap (λ (r : Suite-F Form Branches Handlers Stmt Suite). suite_list (map stmt_of r.list.items)) (out-roll-Suite _)
-  ∙ ap (λ (l : List Stmt). suite_list (map stmt_of l)) c.in_ok-list.ensures.items
+    suite_tree _
+    ∙ ap (λ (r : Suite-F Form Branches Handlers Stmt Suite). suite_list (map stmt_of r.list.items)) (out-roll-Suite _)
+    ∙ ap (λ (l : List Stmt). suite_list (map stmt_of l)) c.in_ok-list.ensures.items
