@@ -167,8 +167,8 @@ impl Script {
         Some(owner.no)
     }
 
-    /// The number of the innermost `def` that has statement s in its suite, directly or further in. At module level, for
-    /// a function's own `def` too, there is none. A number that no statement has gives `None`.
+    /// The number of the innermost `def` that has statement s in its suite, directly or further in. At module level there
+    /// is none, nor is there for a `def` itself, also in a class. A number that no statement has gives `None`.
     pub fn function_of(&self, s: u32) -> Option<u32>
         requires { IsNumbered (script_of self.now) }
         ensures { result ≡ function_of (script_of self.now) s }
