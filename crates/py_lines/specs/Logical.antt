@@ -1,0 +1,14 @@
+-- The logical lines of a text (The Python Language Reference 3, section 2.1). Limits are not part of it.
+use Rattle.std.specs.Prelude.{◌≡◌, ◌⊎◌, ◌≢◌, ℕ, List, [], ◌∷◌, ◌++◌, IsTrue}
+use Rattle.std.specs.Str.{IsUtf8}
+use Rattle.py_lines.specs.declared.parts.Line.{Line}
+use Rattle.py_lines.specs.Piece.{text_of, are_cut}
+use Rattle.py_lines.specs.Written.{Written, pieces_of, are_lines, lines_of}
+
+pub record HasLines (text : List ℕ) (lines : List Line) : Type 0 where
+  pub written : Written
+  pub utf8 : IsUtf8 text
+  pub text_is : text ≡ text_of (pieces_of written)
+  pub cut : IsTrue (are_cut (pieces_of written) [])
+  pub are_lines : IsTrue (are_lines written)
+  pub lines_are : lines ≡ lines_of text 0 written
