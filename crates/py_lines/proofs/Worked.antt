@@ -23,15 +23,19 @@ assign_cut : are_cut (pieces_of assign) [] ≡ true
 unfolding assign
 assign_cut = refl
 
-assign_lines : are_lines assign ≡ true
+assign_lines : are_lines 0 assign ≡ true
 unfolding assign
 assign_lines = refl
 
 assign_shown : lines_of (text_of (pieces_of assign)) 0 assign ≡
-    record { indent = 0; span = record { from = 0; to = 5 }; tokens =
-        record { at = record { line = 1; col = 1 }; span = record { from = 0; to = 1 }; kind = Word (codes "x") }
-        ∷ record { at = record { line = 1; col = 3 }; span = record { from = 2; to = 3 }; kind = Sign 9 }
-        ∷ record { at = record { line = 1; col = 5 }; span = record { from = 4; to = 5 }; kind = Number (pos 1) } ∷ [] } ∷ []
+    record {
+      indent = 0;
+      span = record { from = 0; to = 5 };
+      tokens =
+          record { at = record { line = 1; col = 1 }; span = record { from = 0; to = 1 }; kind = Word (codes "x") }
+          ∷ record { at = record { line = 1; col = 3 }; span = record { from = 2; to = 3 }; kind = Sign 9 }
+          ∷ record { at = record { line = 1; col = 5 }; span = record { from = 4; to = 5 }; kind = Number (pos 1) } ∷ [];
+    } ∷ []
 unfolding assign
 assign_shown = refl
 
@@ -50,20 +54,28 @@ block_cut : are_cut (pieces_of block) [] ≡ true
 unfolding block
 block_cut = refl
 
-block_lines : are_lines block ≡ true
+block_lines : are_lines 0 block ≡ true
 unfolding block
 block_lines = refl
 
 block_shown : lines_of (text_of (pieces_of block)) 0 block ≡
-    record { indent = 0; span = record { from = 0; to = 9 }; tokens =
-        record { at = record { line = 1; col = 1 }; span = record { from = 0; to = 2 }; kind = Keyword 20 }
-        ∷ record { at = record { line = 1; col = 4 }; span = record { from = 3; to = 4 }; kind = Word (codes "x") }
-        ∷ record { at = record { line = 1; col = 5 }; span = record { from = 4; to = 5 }; kind = Sign 7 } ∷ [] }
-    ∷ record { indent = 1; span = record { from = 13; to = 26 }; tokens =
-        record { at = record { line = 3; col = 2 }; span = record { from = 14; to = 15 }; kind = Word (codes "y") }
-        ∷ record { at = record { line = 3; col = 3 }; span = record { from = 15; to = 16 }; kind = Sign 0 }
-        ∷ record { at = record { line = 4; col = 2 }; span = record { from = 20; to = 25 }; kind = Text (10 ∷ 195 ∷ []) }
-        ∷ record { at = record { line = 4; col = 7 }; span = record { from = 25; to = 26 }; kind = Sign 1 } ∷ [] } ∷ []
+    record {
+      indent = 0;
+      span = record { from = 0; to = 9 };
+      tokens =
+          record { at = record { line = 1; col = 1 }; span = record { from = 0; to = 2 }; kind = Keyword 20 }
+          ∷ record { at = record { line = 1; col = 4 }; span = record { from = 3; to = 4 }; kind = Word (codes "x") }
+          ∷ record { at = record { line = 1; col = 5 }; span = record { from = 4; to = 5 }; kind = Sign 7 } ∷ [];
+    }
+    ∷ record {
+      indent = 1;
+      span = record { from = 13; to = 26 };
+      tokens =
+          record { at = record { line = 3; col = 2 }; span = record { from = 14; to = 15 }; kind = Word (codes "y") }
+          ∷ record { at = record { line = 3; col = 3 }; span = record { from = 15; to = 16 }; kind = Sign 0 }
+          ∷ record { at = record { line = 4; col = 2 }; span = record { from = 20; to = 25 }; kind = Text (10 ∷ 195 ∷ []) }
+          ∷ record { at = record { line = 4; col = 7 }; span = record { from = 25; to = 26 }; kind = Sign 1 } ∷ [];
+    } ∷ []
 unfolding block
 block_shown = refl
 
@@ -101,17 +113,17 @@ e4 : ends (word (codes "if")) (codes "1") ≡ false
 e4 = refl
 
 -- a stray bracket, a bracket of the wrong kind, an open one, a tab before a token
-l1 : are_lines (last (sign (codes ")") ∷ [])) ≡ false
+l1 : are_lines 0 (last (sign (codes ")") ∷ [])) ≡ false
 l1 = refl
 
-l2 : are_lines (last (sign (codes "(") ∷ sign (codes "]") ∷ [])) ≡ false
+l2 : are_lines 0 (last (sign (codes "(") ∷ sign (codes "]") ∷ [])) ≡ false
 l2 = refl
 
-l3 : are_lines (more (sign (codes "(") ∷ []) false (last [])) ≡ false
+l3 : are_lines 0 (more (sign (codes "(") ∷ []) false (last [])) ≡ false
 l3 = refl
 
-l4 : are_lines (last (blank 9 ∷ word (codes "x") ∷ [])) ≡ false
+l4 : are_lines 0 (last (blank 9 ∷ word (codes "x") ∷ [])) ≡ false
 l4 = refl
 
-l5 : are_lines (last (blank 9 ∷ comment [] ∷ [])) ≡ true
+l5 : are_lines 0 (last (blank 9 ∷ comment [] ∷ [])) ≡ true
 l5 = refl

@@ -1,11 +1,11 @@
 -- The first fault of a text that has no logical lines (this project's profile).
-use Rattle.std.specs.Prelude.{◌≡◌, ◌≢◌, ◌⊎◌, ◌↔◌, ℕ, ◌+◌, ◌-◌, ◌==◌, nat_lt, Bool, true, false, ◌&&◌, ◌||◌, not, List, [], ◌∷◌, ◌++◌, length, Option, Some, None, IsTrue, position, if◌then◌else◌}
+use Rattle.std.specs.Prelude.{◌≡◌, ◌≢◌, ℕ, suc, ◌+◌, ◌-◌, ◌==◌, Bool, true, false, ◌&&◌, ◌||◌, not, List, [], ◌∷◌, ◌++◌, length, Option, Some, None, IsTrue, option_map, if◌then◌else◌}
 use Rattle.std.specs.Option.{option_map_or}
-use Rattle.std.specs.List.{list_all, list_any}
+use Rattle.std.specs.List.{list_all}
 use Rattle.std.specs.Str.{bytes_eq}
 use Rattle.py_lines.specs.declared.parts.Line.{Line}
-use Rattle.py_lines.specs.Piece.{Piece, word, number, sign, literal, blank, comment, line_end, spelled, is_piece, ends, is_digit, is_numeral, text_of, are_cut, line_end_text}
-use Rattle.py_lines.specs.Written.{Written, last, more, pieces_of, Open, open_after, is_line, is_indented, is_blank}
+use Rattle.py_lines.specs.Piece.{Piece, spelled, is_piece, ends, is_digit, is_numeral, text_of, are_cut}
+use Rattle.py_lines.specs.Written.{Written, last, more, pieces_of, Open, open_after, is_line, is_indented, is_blank, is_tab, behind_line}
 use Rattle.py_lines.specs.Logical.{HasLines}
 
 -- ---- where no lines are left
@@ -23,21 +23,25 @@ abbrev pub last_line : Written → List Piece
 last_line (last line) = line
 last_line (more line return rest) = last_line rest
 
--- the offset at which the last line begins
+-- the offset at which the last line begins, where the first one begins at this offset
 abbrev pub last_from : ℕ → Written → ℕ
-last_from from (last line) = from
-last_from from (more line return rest) = last_from (from + length (text_of line) + length (line_end_text return)) rest
+last_from at (last line) = at
+last_from at (more line return rest) = last_from (behind_line at line return) rest
 
--- the brackets that are open at the end, the innermost first, where all lines but the last are lines and the last may go on
-abbrev pub open_at_end : ℕ → Written → Option (List Open)
-open_at_end from (last line) = if is_indented line then open_after from [] line else None
-open_at_end from (more line return rest) =
-    if is_line line then open_at_end (from + length (text_of line) + length (line_end_text return)) rest else None
+-- all lines but the last are lines
+abbrev pub are_lines_before : ℕ → Written → Bool
+are_lines_before at (last line) = true
+are_lines_before at (more line return rest) = is_line at line && are_lines_before (behind_line at line return) rest
+
+-- the brackets that are open at the end, the innermost first, where all lines but the last are lines and that may go on
+abbrev pub open_at_end : Written → Option (List Open)
+open_at_end written =
+    if are_lines_before 0 written && is_indented (last_line written) then open_after (last_from 0 written) [] (last_line written) else None
 
 pub record IsFront (front : List ℕ) (written : Written) (begun rest : List ℕ) (opened : List Open) : Type 0 where
   pub front_is : front ≡ text_of (pieces_of written) ++ begun
   pub cut : IsTrue (are_cut (pieces_of written) (begun ++ rest))
-  pub opened_is : open_at_end 0 written ≡ Some opened
+  pub opened_is : open_at_end written ≡ Some opened
   -- no piece stands where one is begun
   pub unfinished : begun ≢ [] → (piece : Piece) (after : List ℕ) → IsTrue (is_piece piece) → IsTrue (ends piece after) → begun ++ rest ≡ spelled piece ++ after → ⊥
 
@@ -85,13 +89,14 @@ bad_piece_at from begun rest =
     else (if is_text begun || bytes_eq begun (33 ∷ []) || grows_too_large begun rest then from
     else from + length begun))
 
-abbrev pub is_tab : Piece → Bool
-is_tab (blank byte) = byte == 9
-is_tab piece = false
+-- the position of the first tab
+abbrev pub tab_in : List Piece → Option ℕ
+tab_in [] = None
+tab_in (piece ∷ line) = if is_tab piece then Some 0 else option_map suc (tab_in line)
 
 -- the first tab of a line that has only blanks so far
 abbrev pub first_tab : List Piece → Option ℕ
-first_tab line = if list_all is_blank line then position is_tab line else None
+first_tab line = if list_all is_blank line then tab_in line else None
 
 -- the same, but a tab in the indentation of what would be a logical line stands before it
 abbrev pub bad_at : Written → List ℕ → List ℕ → ℕ

@@ -1,7 +1,7 @@
 -- Logical lines as they are written (The Python Language Reference 3, sections 2.1.5 to 2.1.8): pieces between line ends.
-use Rattle.std.specs.Prelude.{ℕ, ◌+◌, ◌==◌, Bool, true, false, ◌&&◌, ◌||◌, not, List, [], ◌∷◌, ◌++◌, length, codes, Option, Some, None, is_some, option_map, option_and_then, position, take_while, if◌then◌else◌, pos}
+use Rattle.std.specs.Prelude.{ℕ, ◌+◌, ◌==◌, Bool, true, false, ◌&&◌, ◌||◌, not, List, [], ◌∷◌, ◌++◌, length, codes, Option, Some, None, is_some, option_map, option_and_then, if◌then◌else◌, pos}
 use Rattle.std.specs.Option.{option_map_or}
-use Rattle.std.specs.List.{list_all, list_any}
+use Rattle.std.specs.List.{list_any}
 use Rattle.std.specs.Str.{bytes_eq}
 use Rattle.prov_base.specs.declared.place.Pos.{Pos}
 use Rattle.prov_base.specs.declared.place.Span.{Span}
@@ -9,8 +9,9 @@ use Rattle.py_lines.specs.declared.parts.Line.{Line}
 use Rattle.py_lines.specs.declared.parts.Token.{Token}
 use Rattle.py_lines.specs.declared.parts.TokenKind.{TokenKind}
 use Rattle.py_lines.specs.declared.parts.TokenKind.TheVariants.{Word, Keyword, Number, Text, Sign}
-use Rattle.py_lines.specs.Piece.{Piece, word, number, sign, literal, blank, comment, line_end, keywords, signs, number_of, items_value, line_end_text, spelled, text_of}
+use Rattle.py_lines.specs.Piece.{Piece, word, number, sign, literal, blank, comment, line_end, number_of, items_value, line_end_text, spelled, text_of}
 use Rattle.py_lines.specs.Place.{place}
+use Rattle.py_lines.specs.Tables.{keyword_number, sign_number}
 
 -- The text of a script: lines, each ended by LF or CR LF, and a last one which the end of the text ends. Blank lines are
 -- among them. A line goes on over the line ends that stand inside its brackets.
@@ -62,9 +63,9 @@ is_closed None = false
 -- ---- tokens
 
 abbrev pub kind_of : Piece → Option TokenKind
-kind_of (word name) = Some (option_map_or Keyword (position (λ other. bytes_eq other name) keywords) (Word name))
+kind_of (word name) = Some (option_map_or Keyword (keyword_number name) (Word name))
 kind_of (number digits) = Some (Number (pos (number_of digits)))
-kind_of (sign bytes) = option_map Sign (position (λ other. bytes_eq other bytes) signs)
+kind_of (sign bytes) = option_map Sign (sign_number bytes)
 kind_of (literal mark triple items) = Some (Text (items_value mark items))
 kind_of (blank byte) = None
 kind_of (comment bytes) = None
@@ -88,25 +89,30 @@ abbrev pub is_blank : Piece → Bool
 is_blank (blank byte) = true
 is_blank piece = false
 
-abbrev pub is_space : Piece → Bool
-is_space (blank byte) = byte == 32
-is_space piece = false
+abbrev pub is_tab : Piece → Bool
+is_tab (blank byte) = byte == 9
+is_tab piece = false
 
 -- the blanks before the first token
 abbrev pub indentation : List Piece → List Piece
-indentation line = take_while is_blank line
+indentation [] = []
+indentation (piece ∷ line) = if is_blank piece then piece ∷ indentation line else []
 
--- where there is a token, the indentation is spaces
+-- where there is a token, the indentation has no tab
 abbrev pub is_indented : List Piece → Bool
-is_indented line = not (list_any is_token line) || list_all is_space (indentation line)
+is_indented line = not (list_any is_token line) || not (list_any is_tab (indentation line))
 
--- a line has no stray bracket, no line end outside its brackets, and none open at its end
-abbrev pub is_line : List Piece → Bool
-is_line line = is_indented line && is_closed (open_after 0 [] line)
+-- a line that begins at this offset has no stray bracket, no line end outside its brackets, and none open at its end
+abbrev pub is_line : ℕ → List Piece → Bool
+is_line at line = is_indented line && is_closed (open_after at [] line)
 
-abbrev pub are_lines : Written → Bool
-are_lines (last line) = is_line line
-are_lines (more line return rest) = is_line line && are_lines rest
+-- the offset behind a line that begins at this one
+abbrev pub behind_line : ℕ → List Piece → Bool → ℕ
+behind_line at line return = at + length (text_of line) + length (line_end_text return)
+
+abbrev pub are_lines : ℕ → Written → Bool
+are_lines at (last line) = is_line at line
+are_lines at (more line return rest) = is_line at line && are_lines (behind_line at line return) rest
 
 -- A line with a token is a logical line. It covers its physical lines up to and without their last line end.
 abbrev pub line_at : List ℕ → ℕ → List Piece → List Line
@@ -119,4 +125,4 @@ line_at text at line =
 abbrev pub lines_of : List ℕ → ℕ → Written → List Line
 lines_of text at (last line) = line_at text at line
 lines_of text at (more line return rest) =
-    line_at text at line ++ lines_of text (at + length (text_of line) + length (line_end_text return)) rest
+    line_at text at line ++ lines_of text (behind_line at line return) rest

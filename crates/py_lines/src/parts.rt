@@ -1,7 +1,8 @@
 // Logical lines and their tokens.
-ghost use Rattle.std.specs.Prelude.{◌≡◌};
+ghost use Rattle.std.specs.Prelude.{◌≡◌, ◌++◌, [], ◌∷◌, OnOk};
 
 use prov_base::{Name, Pos, Span};
+use std::alloc::AllocError;
 use std::marker::Model;
 
 /// What a token is. Keywords and signs are numbered from 0, in the order of the tables in `docs/DECISIONS.md`.
@@ -56,6 +57,14 @@ impl Tokens {
     {
         self.tokens.as_slice()
     }
+
+    /// One more at the end.
+    pub(crate) fn push(&mut self, token: Token) -> Result<(), AllocError>
+        ensures { OnOk result (self.new ≡ self.old ++ token ∷ []) }
+    {
+        self.tokens.push(token)?;
+        Ok(())
+    }
 }
 
 /// A logical line.
@@ -96,5 +105,13 @@ impl Lines {
         ensures { result.now ≡ self.now }
     {
         self.lines.as_slice()
+    }
+
+    /// One more at the end.
+    pub(crate) fn push(&mut self, line: Line) -> Result<(), AllocError>
+        ensures { OnOk result (self.new ≡ self.old ++ line ∷ []) }
+    {
+        self.lines.push(line)?;
+        Ok(())
     }
 }
