@@ -1,6 +1,9 @@
+pub mod Accepting
 pub mod Answered
 pub mod Begun
+pub mod Complete
 pub mod Counts
+pub mod Finals
 pub mod InLines
 pub mod Pieces
 pub mod PlaceLemmas

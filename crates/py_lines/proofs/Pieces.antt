@@ -27,16 +27,16 @@ use Rattle.py_lines.proofs.Values.{literal_value}
 
 -- ---- shapes
 
-shaped_word : (name : List ℕ) → IsShaped (word name) H.Word
+pub shaped_word : (name : List ℕ) → IsShaped (word name) H.Word
 shaped_word name = record { kind_is = refl; brackets_alike = λ text at opened g here brackets. ap (λ (b : List Bracket). Some b) brackets }
 
-shaped_number : (digits : List ℕ) → IsShaped (number digits) (H.Number (number_of digits))
+pub shaped_number : (digits : List ℕ) → IsShaped (number digits) (H.Number (number_of digits))
 shaped_number digits = record { kind_is = refl; brackets_alike = λ text at opened g here brackets. ap (λ (b : List Bracket). Some b) brackets }
 
-shaped_sign : (bytes : List ℕ) (n : ℕ) → sign_number bytes ≡ Some n → IsShaped (sign bytes) (H.Sign n)
+pub shaped_sign : (bytes : List ℕ) (n : ℕ) → sign_number bytes ≡ Some n → IsShaped (sign bytes) (H.Sign n)
 shaped_sign bytes n is = record { kind_is = ap (option_map T.Sign) is; brackets_alike = sign_brackets bytes n }
 
-shaped_literal : (mark : ℕ) (triple : Bool) (items : List Item) → is_piece (literal mark triple items) ≡ true → IsShaped (literal mark triple items) (H.Text (record { mark = mark; triple = triple }))
+pub shaped_literal : (mark : ℕ) (triple : Bool) (items : List Item) → is_piece (literal mark triple items) ≡ true → IsShaped (literal mark triple items) (H.Text (record { mark = mark; triple = triple }))
 shaped_literal mark triple items is = record {
   kind_is = ap (λ (value : List ℕ). Some (T.Text value)) (sym (literal_value mark triple items is));
   brackets_alike = λ text at opened g here brackets. ap (λ (b : List Bracket). Some b) brackets;
@@ -197,34 +197,32 @@ module _ (text next rest : List ℕ) (w : Written) (g : Grouping) where
       stays (inner ∷ outer) is = refl
 
   -- a line end outside brackets
-  take_line_end : (r : Bool) → (t : Tracks text w g next) → next ≡ line_end_text r ++ rest → t.line.opened ≡ []
+  pub take_line_end : (r : Bool) → (t : Tracks text w g next) → next ≡ line_end_text r ++ rest → t.line.opened ≡ []
       → Tracks text (ended w r) (with_piece g K.LineEnd (line_end_text r)) rest
   take_line_end r t next_is none =
       subst (λ (after : Grouping). Tracks text (ended w r) (passed g after (line_end_text r)) rest)
       (sym (if_none g.brackets (with_line_ended g (g.at + length (line_end_text r))) g (t.line.brackets ∙ ap (brackets_at text) none)))
       (tracks_ended text next rest w g r t next_is none)
 
-  pub next_of : (p : Piece) (kind : Kind) → Tracks text w g next → next ≡ spelled p ++ rest → is_piece p ≡ true → ends p rest ≡ true → Fits p kind → fault_at g kind (spelled p) ≡ None
-      → Taken text rest w p (with_piece g kind (spelled p))
-  next_of (word name) kind t next_is is ends' fits fault =
-      subst (λ (k : Kind). fault_at g k name ≡ None → Taken text rest w (word name) (with_piece g k name)) (sym fits)
-      (λ none. record { written = put w (word name); tracks = take_token (word name) H.Word t next_is is (shaped_word name) none; pieces_are = put-pieces w (word name) }) fault
-  next_of (number digits) kind t next_is is ends' fits fault =
-      subst (λ (k : Kind). fault_at g k digits ≡ None → Taken text rest w (number digits) (with_piece g k digits)) (sym fits)
-      (λ none. record { written = put w (number digits); tracks = take_token (number digits) (H.Number (number_of digits)) t next_is is (shaped_number digits) none; pieces_are = put-pieces w (number digits) }) fault
-  next_of (sign bytes) kind t next_is is ends' (n, fits, number') fault =
-      subst (λ (k : Kind). fault_at g k bytes ≡ None → Taken text rest w (sign bytes) (with_piece g k bytes)) (sym fits)
-      (λ none. record { written = put w (sign bytes); tracks = take_token (sign bytes) (H.Sign n) t next_is is (shaped_sign bytes n number') none; pieces_are = put-pieces w (sign bytes) }) fault
-  next_of (literal mark triple items) kind t next_is is ends' fits fault =
+  -- a piece that does not end its line
+  pub put_of : (p : Piece) (kind : Kind) → (t : Tracks text w g next) → next ≡ spelled p ++ rest → is_piece p ≡ true → ends p rest ≡ true → Fits p kind → fault_at g kind (spelled p) ≡ None
+      → ((r : Bool) → p ≡ line_end r → t.line.opened ≡ [] → ⊥) → Tracks text (put w p) (with_piece g kind (spelled p)) rest
+  put_of (word name) kind t next_is is ends' fits fault stays =
+      subst (λ (k : Kind). fault_at g k name ≡ None → Tracks text (put w (word name)) (with_piece g k name) rest) (sym fits) (take_token (word name) H.Word t next_is is (shaped_word name)) fault
+  put_of (number digits) kind t next_is is ends' fits fault stays =
+      subst (λ (k : Kind). fault_at g k digits ≡ None → Tracks text (put w (number digits)) (with_piece g k digits) rest) (sym fits)
+      (take_token (number digits) (H.Number (number_of digits)) t next_is is (shaped_number digits)) fault
+  put_of (sign bytes) kind t next_is is ends' (n, fits, number') fault stays =
+      subst (λ (k : Kind). fault_at g k bytes ≡ None → Tracks text (put w (sign bytes)) (with_piece g k bytes) rest) (sym fits)
+      (take_token (sign bytes) (H.Sign n) t next_is is (shaped_sign bytes n number')) fault
+  put_of (literal mark triple items) kind t next_is is ends' fits fault stays =
       let p : Piece = literal mark triple items in
-      subst (λ (k : Kind). fault_at g k (spelled p) ≡ None → Taken text rest w p (with_piece g k (spelled p))) (sym fits)
-      (λ none. record { written = put w p; tracks = take_token p (H.Text (record { mark = mark; triple = triple })) t next_is is (shaped_literal mark triple items is) none; pieces_are = put-pieces w p }) fault
-  next_of (blank byte) kind t next_is is ends' fits fault =
-      subst (λ (k : Kind). Taken text rest w (blank byte) (with_piece g k (byte ∷ []))) (sym fits)
-      (record { written = put w (blank byte); tracks = take_blank byte t next_is is; pieces_are = put-pieces w (blank byte) })
-  next_of (comment bytes) kind t next_is is ends' fits fault =
-      subst (λ (k : Kind). Taken text rest w (comment bytes) (with_piece g k (35 ∷ bytes))) (sym fits)
-      (record { written = put w (comment bytes); tracks = take_comment bytes t next_is (comment_stops rest ends'); pieces_are = put-pieces w (comment bytes) })
+      subst (λ (k : Kind). fault_at g k (spelled p) ≡ None → Tracks text (put w p) (with_piece g k (spelled p)) rest) (sym fits)
+      (take_token p (H.Text (record { mark = mark; triple = triple })) t next_is is (shaped_literal mark triple items is)) fault
+  put_of (blank byte) kind t next_is is ends' fits fault stays =
+      subst (λ (k : Kind). Tracks text (put w (blank byte)) (with_piece g k (byte ∷ [])) rest) (sym fits) (take_blank byte t next_is is)
+  put_of (comment bytes) kind t next_is is ends' fits fault stays =
+      subst (λ (k : Kind). Tracks text (put w (comment bytes)) (with_piece g k (35 ∷ bytes)) rest) (sym fits) (take_comment bytes t next_is (comment_stops rest ends'))
     where
       comment_stops : (rest' : List ℕ) → ends (comment bytes) rest' ≡ true → begins_line_end rest' ≡ true
       comment_stops [] is' = refl
@@ -233,12 +231,35 @@ module _ (text next rest : List ℕ) (w : Written) (g : Grouping) where
           twice : (b : Bool) → not (not b) ≡ true → b ≡ true
           twice true is'' = refl
           twice false is'' = is''
-  next_of (line_end r) kind t next_is is ends' fits fault =
-      subst (λ (k : Kind). Taken text rest w (line_end r) (with_piece g k (line_end_text r))) (sym fits) (by_opened t.line.opened refl)
+  put_of (line_end r) kind t next_is is ends' fits fault stays =
+      subst (λ (k : Kind). Tracks text (put w (line_end r)) (with_piece g k (line_end_text r)) rest) (sym fits) (take_inner_end r t next_is (stays r refl))
+
+  pub next_of : (p : Piece) (kind : Kind) → Tracks text w g next → next ≡ spelled p ++ rest → is_piece p ≡ true → ends p rest ≡ true → Fits p kind → fault_at g kind (spelled p) ≡ None
+      → Taken text rest w p (with_piece g kind (spelled p))
+  next_of p kind t next_is is ends' fits fault = by_opened t.line.opened refl
     where
+      put_here : ((r : Bool) → p ≡ line_end r → t.line.opened ≡ [] → ⊥) → Taken text rest w p (with_piece g kind (spelled p))
+      put_here stays = record { written = put w p; tracks = put_of p kind t next_is is ends' fits fault stays; pieces_are = put-pieces w p }
+
+      ended_here : (r : Bool) → p ≡ line_end r → t.line.opened ≡ [] → Taken text rest w p (with_piece g kind (spelled p))
+      ended_here r p_is none =
+          let kind_is : kind ≡ K.LineEnd = subst (λ (q : Piece). Fits q kind) p_is fits in
+          subst (λ (q : Piece). Taken text rest w q (with_piece g kind (spelled q))) (sym p_is)
+          (subst (λ (k : Kind). Taken text rest w (line_end r) (with_piece g k (line_end_text r))) (sym kind_is)
+          (record { written = ended w r; tracks = take_line_end r t (next_is ∙ ap (λ (q : Piece). spelled q ++ rest) p_is) none; pieces_are = ended-pieces w r }))
+
       not_both : (inner : Open) (outer : List Open) → t.line.opened ≡ inner ∷ outer → t.line.opened ≡ [] → ⊥
       not_both inner outer is' none = cc
 
-      by_opened : (opened : List Open) → t.line.opened ≡ opened → Taken text rest w (line_end r) (with_piece g K.LineEnd (line_end_text r))
-      by_opened [] is' = record { written = ended w r; tracks = take_line_end r t next_is is'; pieces_are = ended-pieces w r }
-      by_opened (inner ∷ outer) is' = record { written = put w (line_end r); tracks = take_inner_end r t next_is (λ none. absurd (not_both inner outer is' none)); pieces_are = put-pieces w (line_end r) }
+      by_piece : (q : Piece) → p ≡ q → t.line.opened ≡ [] → Taken text rest w p (with_piece g kind (spelled p))
+      by_piece (word name) p_is none = put_here (λ r other none'. cc)
+      by_piece (number digits) p_is none = put_here (λ r other none'. cc)
+      by_piece (sign bytes) p_is none = put_here (λ r other none'. cc)
+      by_piece (literal mark triple items) p_is none = put_here (λ r other none'. cc)
+      by_piece (blank byte) p_is none = put_here (λ r other none'. cc)
+      by_piece (comment bytes) p_is none = put_here (λ r other none'. cc)
+      by_piece (line_end r) p_is none = ended_here r p_is none
+
+      by_opened : (opened : List Open) → t.line.opened ≡ opened → Taken text rest w p (with_piece g kind (spelled p))
+      by_opened [] is' = by_piece p refl is'
+      by_opened (inner ∷ outer) is' = put_here (λ r p_is none. not_both inner outer is' none)

@@ -146,24 +146,20 @@ scans_bytes text front (byte ∷ bytes) next r after s is =
     subst (λ (f : List ℕ). Scans text f after next) (append_assoc front (byte ∷ []) bytes)
     (scans_bytes text (front ++ byte ∷ []) bytes next found.0 after (scans_byte text front (bytes ++ next) r found.0 byte s found.1) found.2)
 
-pub scans_start : (text : List ℕ) → Scans text [] at_start text
-scans_start text = record {
-  written = last [];
-  begun = [];
-  tracks = record {
-    text_is = refl;
-    at = refl;
-    here = refl;
-    from = refl;
-    lines = refl;
-    before = refl;
-    comment_ends = λ all. absurd (cc);
-    line = record { tokens = refl; opened = []; opened_is = refl; brackets = refl; indented = refl; blanks = refl; tab = λ all. refl; indent = λ has. absurd (cc); unopened = λ has. refl };
-  };
-  mode = refl;
-  front_is = refl;
-  cut = refl;
+pub tracks_start : (text : List ℕ) → Tracks text (last []) nothing_read text
+tracks_start text = record {
+  text_is = refl;
+  at = refl;
+  here = refl;
+  from = refl;
+  lines = refl;
+  before = refl;
+  comment_ends = λ all. absurd (cc);
+  line = record { tokens = refl; opened = []; opened_is = refl; brackets = refl; indented = refl; blanks = refl; tab = λ all. refl; indent = λ has. absurd (cc); unopened = λ has. refl };
 }
+
+pub scans_start : (text : List ℕ) → Scans text [] at_start text
+scans_start text = record { written = last []; begun = []; tracks = tracks_start text; mode = refl; front_is = refl; cut = refl }
 
 -- what was read from the start
 pub scans_front : (front next : List ℕ) (r : Reader) → after_bytes [] at_start front ≡ Some r → Scans (front ++ next) front r next

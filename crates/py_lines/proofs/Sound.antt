@@ -48,11 +48,9 @@ written_lines text w g lines utf8 t cut is =
     let found = whole_of g (first_open g.brackets) lines is in
     let none = map_none text t.line.opened (sym t.line.brackets ∙ first_none g.brackets found.0) in
     record {
-      written = w;
       utf8 = utf8;
-      text_is = t.text_is ∙ append-nil (text_of (pieces_of w));
-      cut = cut;
-      are_lines = whole-are 0 w ∙ and_both (are_lines_before 0 w) (is_line (last_from 0 w) (last_line w)) t.before (line_ended text (last_from 0 w) (last_line w) g t.line none);
+      written = w;
+      is_written = record { text_is = t.text_is ∙ append-nil (text_of (pieces_of w)); cut = cut; are_lines = whole-are 0 w ∙ and_both (are_lines_before 0 w) (is_line (last_from 0 w) (last_line w)) t.before (line_ended text (last_from 0 w) (last_line w) g t.line none) };
       lines_are = sym found.1 ∙ shown_line text (last_from 0 w) (last_line w) g t.line t.from (offset_is text [] w g t)
           ∙ ap (λ (ls : List Line). ls ++ line_at text (last_from 0 w) (last_line w)) t.lines ∙ sym (whole-lines text 0 w);
     }

@@ -3,19 +3,18 @@ use Rattle.std.specs.Prelude.{◌≡◌, ◌≢◌, ℕ, suc, ◌+◌, ◌-◌, 
 use Rattle.std.specs.Option.{option_map_or}
 use Rattle.std.specs.List.{list_all}
 use Rattle.std.specs.Str.{bytes_eq}
-use Rattle.py_lines.specs.declared.parts.Line.{Line}
 use Rattle.py_lines.specs.Piece.{Piece, spelled, is_piece, ends, is_digit, is_numeral, text_of, are_cut}
 use Rattle.py_lines.specs.Written.{Written, last, more, pieces_of, Open, open_after, is_line, is_indented, is_blank, is_tab, behind_line}
-use Rattle.py_lines.specs.Logical.{HasLines}
+use Rattle.py_lines.specs.Logical.{IsWritten}
 
 -- ---- where no lines are left
 
--- however the text goes on, it has no logical lines
+-- however the text goes on, it is not written in logical lines
 abbrev pub IsFaulty : List ℕ → Type 0
-IsFaulty front = (rest : List ℕ) (lines : List Line) → HasLines (front ++ rest) lines → ⊥
+IsFaulty front = (rest : List ℕ) (written : Written) → IsWritten (front ++ rest) written → ⊥
 
 abbrev pub HasNoLines : List ℕ → Type 0
-HasNoLines text = (lines : List Line) → HasLines text lines → ⊥
+HasNoLines text = (written : Written) → IsWritten text written → ⊥
 
 -- ---- the front of a text: whole pieces, in lines of which the last may go on, and what is begun of a piece
 

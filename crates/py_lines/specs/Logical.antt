@@ -8,12 +8,17 @@ use Rattle.py_lines.specs.Piece.{text_of, are_cut}
 use Rattle.py_lines.specs.Place.{place}
 use Rattle.py_lines.specs.Written.{Written, pieces_of, are_lines, lines_of}
 
-pub record HasLines (text : List ℕ) (lines : List Line) : Type 0 where
-  pub written : Written
-  pub utf8 : IsUtf8 text
+-- the text is written so: in pieces, each the longest at its place, and in lines
+pub record IsWritten (text : List ℕ) (written : Written) : Type 0 where
   pub text_is : text ≡ text_of (pieces_of written)
   pub cut : IsTrue (are_cut (pieces_of written) [])
   pub are_lines : IsTrue (are_lines 0 written)
+
+-- the text is UTF-8 and written so that these are its logical lines
+pub record HasLines (text : List ℕ) (lines : List Line) : Type 0 where
+  pub utf8 : IsUtf8 text
+  pub written : Written
+  pub is_written : IsWritten text written
   pub lines_are : lines ≡ lines_of text 0 written
 
 -- the text is within the limit and not UTF-8: the place is that of the first byte of its first ill-formed sequence

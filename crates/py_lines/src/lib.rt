@@ -15,4 +15,4 @@ mod tables;
 
 pub use fault::LineFault;
 pub use parts::{Line, Lines, Token, TokenKind, Tokens};
-pub use scan::lines;
+pub use scan::{lines, one_list_of_lines};

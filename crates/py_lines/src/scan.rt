@@ -1,6 +1,7 @@
 // A text read byte by byte.
-ghost use Rattle.std.specs.Prelude.{◌≡◌, ◌↔◌, ◌≤◌, ◌<◌, ◌+◌, ◌⊎◌, Some, None, Err, IfOk, length, take, drop, slice_index, MatchResult};
+ghost use Rattle.std.specs.Prelude.{◌≡◌, ◌↔◌, ◌≤◌, ◌<◌, ◌+◌, ◌⊎◌, ℕ, List, Some, None, Ok, Err, IfOk, length, take, drop, slice_index, MatchResult};
 ghost use Rattle.py_lines.specs.declared.fault.LineFault.TheVariants.{Memory, BadToken, NotUtf8, TooLarge};
+ghost use Rattle.py_lines.specs.declared.parts.Line.{Line};
 ghost use Rattle.py_lines.specs.Logical.{HasLines, IsNotUtf8};
 ghost use Rattle.py_lines.specs.Reading as spec;
 ghost use Rattle.py_lines.specs.Stepping.{IsReadInRange};
@@ -150,6 +151,9 @@ pub fn lines(alloc: Global, text: &[u8]) -> Result<Lines, LineFault>
     ensures too_large { (result ≡ Err TooLarge) ↔ (262144 < length text.now) }
     ensures not_utf8 { (at : Pos) → (result ≡ Err (NotUtf8 at)) ↔ IsNotUtf8 text.now at }
     ensures lines { IfOk result (HasLines text.now) }
+    // Where the text has lines, no other answer is given but want of memory.
+    ensures complete { (found : List Line) → HasLines text.now found → length text.now ≤ 262144
+        → (result ≡ Ok found) ⊎ (result ≡ Err Memory) }
 {
     if text.len() > 262144 {
         return Err(LineFault::TooLarge);
@@ -161,3 +165,8 @@ pub fn lines(alloc: Global, text: &[u8]) -> Result<Lines, LineFault>
     }
     scan(alloc, text)
 }
+
+/// The law that at most one list of lines belongs to a text.
+pub fn one_list_of_lines()
+    ensures { (text : List ℕ) (a b : List Line) → HasLines text a → HasLines text b → a ≡ b }
+{}

@@ -1,7 +1,7 @@
 -- What is answered of a text is what it has.
 use Rattle.std.proofs.Common.{ℕ, take, arith, ap, ◌∙◌}
 use Rattle.py_lines.specs.Counting.{place_after}
-use Rattle.py_lines.proofs.Answered.{sound_result, ill_formed}
+use Rattle.py_lines.proofs.Answered.{sound_result, complete_result, ill_formed}
 use Rattle.py_lines.proofs.scan.lines.Goals as goal
 
 pub returns-in-Err-clause-not_utf8 : goal.returns-in-Err-clause-not_utf8
@@ -11,3 +11,6 @@ returns-in-Err-clause-not_utf8 c =
 
 pub returns-clause-lines : goal.returns-clause-lines
 returns-clause-lines c = sound_result c.args.text.now c.scan.result c.in_default.ensures.cases.1 c.scan.ensures
+
+pub returns-clause-complete : goal.returns-clause-complete
+returns-clause-complete c = λ found has within. complete_result c.args.text.now c.scan.result c.in_default.ensures.cases.1 c.scan.ensures found has
