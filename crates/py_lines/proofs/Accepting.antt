@@ -1,6 +1,6 @@
 -- Reading the bytes of a piece.
-use Rattle.std.proofs.Common.{◌≡◌, ◌⊎◌, ℕ, zero, suc, ◌+◌, ◌-◌, ◌*◌, ◌/◌, ◌<◌, ◌≤◌, ◌==◌, nat_le, nat_lt, Bool, true, false, ◌&&◌, ◌||◌, not, List, [], ◌∷◌, ◌++◌, length, replicate, Option, Some, None, option_and_then, is_none, is_some, refl, sym, ap, ◌∙◌, subst, append_assoc, append-nil, inl, inr, arith, eq-eqb, eqb-true, leb-true, le-leb, le-ltb, add-zero, if◌then◌else◌}
-use Rattle.std.specs.List.{list_all, list_any}
+use Rattle.std.proofs.Common.{◌≡◌, ◌⊎◌, ℕ, zero, suc, ◌+◌, ◌-◌, ◌*◌, ◌/◌, ◌<◌, ◌≤◌, ◌==◌, nat_le, Bool, true, false, ◌&&◌, ◌||◌, not, List, [], ◌∷◌, ◌++◌, replicate, Option, Some, None, option_and_then, is_some, refl, sym, ap, ◌∙◌, subst, append_assoc, append-nil, inl, inr, arith, eq-eqb, leb-true, le-ltb, add-zero, if◌then◌else◌}
+use Rattle.std.specs.List.{list_all}
 use Rattle.std.specs.Str.{bytes_eq}
 use Rattle.std.proofs.lemmas.Bool.{and_parts, not-true}
 use Rattle.py_lines.specs.declared.mode.Quote.{Quote}
@@ -9,18 +9,15 @@ use Rattle.py_lines.specs.declared.mode.Mode.TheVariants as M
 use Rattle.py_lines.specs.declared.mode.Kind.{Kind}
 use Rattle.py_lines.specs.declared.mode.Kind.TheVariants as K
 use Rattle.py_lines.specs.declared.mode.Shape.TheVariants as H
-use Rattle.py_lines.specs.declared.mode.Bad.TheVariants as B
-use Rattle.py_lines.specs.declared.mode.Read.{Read}
 use Rattle.py_lines.specs.declared.mode.Read.TheVariants as R
 use Rattle.py_lines.specs.declared.mode.Step.{Step}
 use Rattle.py_lines.specs.declared.mode.Step.TheVariants as S
-use Rattle.py_lines.specs.declared.mode.End.{End}
 use Rattle.py_lines.specs.declared.mode.End.TheVariants as E
-use Rattle.py_lines.specs.Piece.{Piece, word, number, sign, literal, blank, comment, line_end, Item, plain, escape, break, item_text, items_text, is_item, are_quotes, quotes_text, spelled, is_piece, goes_on, ends, is_name, is_numeral, number_of, number_after, greatest, is_digit, begins_name, is_name_byte, is_escape, is_sign, signs, ends_line, line_end_text}
-use Rattle.py_lines.specs.Stepping.{begins_sign, first_step, number_step, sign_step, broken_sign, inside_step, step, end, last_sign}
+use Rattle.py_lines.specs.Piece.{Piece, word, number, sign, literal, blank, comment, line_end, Item, plain, escape, break, item_text, items_text, is_item, are_quotes, spelled, is_piece, goes_on, is_name, is_numeral, number_of, number_after, greatest, is_digit, begins_name, is_name_byte, is_escape, is_sign, signs, ends_line, line_end_text}
+use Rattle.py_lines.specs.Stepping.{first_step, number_step, inside_step, step, end, last_sign}
 use Rattle.py_lines.specs.Tables.{sign_number}
 use Rattle.py_lines.proofs.InLines.{false_of, differ}
-use Rattle.py_lines.proofs.Begun.{Fits, is_mark, same_byte, or_split, is_sign-number, choose}
+use Rattle.py_lines.proofs.Begun.{Fits, is_mark, same_byte, or_split, is_sign-number}
 use Rattle.py_lines.proofs.Pieces.{in_table, same_bytes}
 
 abbrev pub mode_behind : Step → Option Mode
@@ -68,17 +65,17 @@ runs-append mode begun (byte ∷ a) b = after (mode_behind (step mode begun (beg
 pub runs_on : (mode middle last : Mode) (begun a b : List ℕ) → runs mode begun a ≡ Some middle → runs middle (begun ++ a) b ≡ Some last → runs mode begun (a ++ b) ≡ Some last
 runs_on mode middle last begun a b first second = runs-append mode begun a b ∙ ap (option_and_then (λ next. runs next (begun ++ a) b)) first ∙ second
 
-run_one : (mode next : Mode) (begun : List ℕ) (byte : ℕ) → step mode begun (begun ++ byte ∷ []) byte ≡ S.Reads (R.Goes next) → runs mode begun (byte ∷ []) ≡ Some next
+pub run_one : (mode next : Mode) (begun : List ℕ) (byte : ℕ) → step mode begun (begun ++ byte ∷ []) byte ≡ S.Reads (R.Goes next) → runs mode begun (byte ∷ []) ≡ Some next
 run_one mode next begun byte is = rw is refl
 
-run_more : (mode next last : Mode) (begun bytes : List ℕ) (byte : ℕ) → step mode begun (begun ++ byte ∷ []) byte ≡ S.Reads (R.Goes next) → runs next (begun ++ byte ∷ []) bytes ≡ Some last
+pub run_more : (mode next last : Mode) (begun bytes : List ℕ) (byte : ℕ) → step mode begun (begun ++ byte ∷ []) byte ≡ S.Reads (R.Goes next) → runs next (begun ++ byte ∷ []) bytes ≡ Some last
     → runs mode begun (byte ∷ bytes) ≡ Some last
 run_more mode next last begun bytes byte is rest = rw is rest
 
 -- ---- the first byte
 
 -- a byte that passes a test is not one that fails it
-other_byte : (test : ℕ → Bool) (a b : ℕ) → test a ≡ true → test b ≡ false → (a == b) ≡ false
+pub other_byte : (test : ℕ → Bool) (a b : ℕ) → test a ≡ true → test b ≡ false → (a == b) ≡ false
 other_byte test a b is not' = false_of (a == b) (λ same. differ (test a) is (ap test (same_byte a b same) ∙ not'))
 
 first_name : (c : ℕ) → begins_name c ≡ true → first_step c ≡ R.Goes M.Word
@@ -140,7 +137,7 @@ accepted_word (c ∷ cs) is =
 
 -- ---- numbers
 
-number_least : (value : ℕ) (digits : List ℕ) → value ≤ number_after value digits
+pub number_least : (value : ℕ) (digits : List ℕ) → value ≤ number_after value digits
 number_least value [] = omega arith
 number_least value (d ∷ digits) = let rest = number_least (10 * value + (d - 48)) digits in omega arith
 
@@ -229,6 +226,15 @@ sign_mode (Some (M.InsideReturn mark)) is = absurd (cc)
 
 sign_runs : (bytes : List ℕ) → is_sign bytes ≡ true → runs M.Between [] bytes ≡ Some M.Sign
 sign_runs bytes is = sign_mode (runs M.Between [] bytes) (in_table (λ one. is_sign_mode (runs M.Between [] one)) signs bytes refl is)
+
+-- a sign, however it is numbered
+pub breaking_sign : (bytes : List ℕ) (n : ℕ) → is_sign bytes ≡ true → sign_number bytes ≡ Some n → BreaksIn (sign bytes) (K.Token (H.Sign n))
+breaking_sign bytes n is same = record {
+  mode = M.Sign;
+  run = sign_runs bytes is;
+  breaks = λ byte stops. (let none : is_some (sign_number (bytes ++ byte ∷ [])) ≡ false = is_sign-number (bytes ++ byte ∷ []) ∙ stops in rw (none, same) refl);
+  last = ap last_sign same;
+}
 
 accepted_sign : (bytes : List ℕ) → is_sign bytes ≡ true → Accepted (sign bytes)
 accepted_sign bytes is = with_number (sign_number bytes) refl
@@ -383,7 +389,7 @@ first_mark mark is =
     (λ same. subst (λ (m : ℕ). first_step m ≡ R.Goes (M.OneQuote m)) (sym (same_byte mark 39 same)) refl)
     (λ same. subst (λ (m : ℕ). first_step m ≡ R.Goes (M.OneQuote m)) (sym (same_byte mark 34 same)) refl)
 
-not_mark : (byte mark : ℕ) → is_mark mark ≡ true → (byte == 39) ≡ false → (byte == 34) ≡ false → (byte == mark) ≡ false
+pub not_mark : (byte mark : ℕ) → is_mark mark ≡ true → (byte == 39) ≡ false → (byte == 34) ≡ false → (byte == mark) ≡ false
 not_mark byte mark is one two =
     or_split (mark == 39) (mark == 34) is
     (λ same. ap (λ (m : ℕ). byte == m) (same_byte mark 39 same) ∙ one)

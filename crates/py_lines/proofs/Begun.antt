@@ -1,6 +1,6 @@
 -- What is begun of a piece, and what the next byte makes of it.
-use Rattle.std.proofs.Common.{◌≡◌, ◌⊎◌, ℕ, suc, ◌+◌, ◌-◌, ◌*◌, ◌/◌, ◌<◌, ◌≤◌, ◌==◌, nat_le, nat_lt, Bool, true, false, ◌&&◌, ◌||◌, not, List, [], ◌∷◌, ◌++◌, length, replicate, position, Option, Some, None, is_none, is_some, refl, sym, ap, ◌∙◌, subst, append_assoc, append-nil, inl, inr, arith, eq-eqb, eqb-true, leb-true, ltb-false, le-leb, leb-false, lt-ltb, ltb-true, if◌then◌else◌}
-use Rattle.std.specs.List.{list_all, list_any, flat_map, prefix_len}
+use Rattle.std.proofs.Common.{◌≡◌, ◌⊎◌, ℕ, suc, ◌+◌, ◌-◌, ◌*◌, ◌/◌, ◌≤◌, ◌==◌, nat_le, nat_lt, Bool, true, false, ◌&&◌, ◌||◌, not, List, [], ◌∷◌, ◌++◌, length, replicate, position, Option, Some, None, is_some, refl, sym, ap, ◌∙◌, subst, append_assoc, append-nil, inl, inr, arith, eq-eqb, eqb-true, leb-true, ltb-false, le-leb, leb-false, lt-ltb, ltb-true, if◌then◌else◌}
+use Rattle.std.specs.List.{list_all, list_any, prefix_len}
 use Rattle.std.specs.Str.{bytes_eq}
 use Rattle.std.proofs.lemmas.Bool.{and_parts}
 use Rattle.std.proofs.lemmas.Bool.Decides.{nat_tests}
@@ -11,7 +11,6 @@ use Rattle.py_lines.specs.declared.mode.Mode.TheVariants as M
 use Rattle.py_lines.specs.declared.mode.Kind.{Kind}
 use Rattle.py_lines.specs.declared.mode.Kind.TheVariants as K
 use Rattle.py_lines.specs.declared.mode.Shape.TheVariants as H
-use Rattle.py_lines.specs.declared.mode.Bad.{Bad}
 use Rattle.py_lines.specs.declared.mode.Bad.TheVariants as B
 use Rattle.py_lines.specs.declared.mode.Read.{Read}
 use Rattle.py_lines.specs.declared.mode.Read.TheVariants as R
@@ -19,8 +18,8 @@ use Rattle.py_lines.specs.declared.mode.Step.{Step}
 use Rattle.py_lines.specs.declared.mode.Step.TheVariants as S
 use Rattle.py_lines.specs.declared.mode.End.{End}
 use Rattle.py_lines.specs.declared.mode.End.TheVariants as E
-use Rattle.py_lines.specs.Piece.{Piece, word, number, sign, literal, blank, comment, line_end, Item, plain, escape, break, item_text, items_text, is_item, are_quotes, quotes_text, spelled, is_piece, goes_on, ends, is_name, is_numeral, number_of, number_after, greatest, is_digit, begins_name, is_name_byte, is_escape, is_sign, signs, ends_line, line_end_text}
-use Rattle.py_lines.specs.Stepping.{begins_sign, first_step, number_step, sign_step, broken_sign, inside_step, step, end, last_sign}
+use Rattle.py_lines.specs.Piece.{Piece, word, number, sign, literal, blank, comment, line_end, Item, plain, escape, break, item_text, items_text, is_item, are_quotes, quotes_text, spelled, is_piece, goes_on, is_name, is_numeral, number_of, number_after, greatest, is_digit, begins_name, is_name_byte, is_escape, is_sign, signs, ends_line, line_end_text}
+use Rattle.py_lines.specs.Stepping.{begins_sign, first_step, number_step, broken_sign, inside_step, step, end, last_sign}
 use Rattle.py_lines.specs.Tables.{sign_number}
 
 abbrev pub is_mark : ℕ → Bool
@@ -173,7 +172,7 @@ zero_only : (d : ℕ) (bytes : List ℕ) → d ≡ 48 → bytes_eq bytes [] ≡ 
 zero_only d [] is none not_zero = let value : 10 * 0 + (d - 48) ≡ 0 = omega arith in let same = eq-eqb (10 * 0 + (d - 48)) 0 value in cc
 zero_only d (b ∷ bytes) is none not_zero = cc
 
-numeral_more : (bytes : List ℕ) (byte : ℕ) → is_numeral bytes ≡ true → (number_of bytes == 0) ≡ false → is_digit byte ≡ true → is_numeral (bytes ++ byte ∷ []) ≡ true
+pub numeral_more : (bytes : List ℕ) (byte : ℕ) → is_numeral bytes ≡ true → (number_of bytes == 0) ≡ false → is_digit byte ≡ true → is_numeral (bytes ++ byte ∷ []) ≡ true
 numeral_more [] byte is not_zero next = absurd (cc)
 numeral_more (d ∷ bytes) byte is not_zero next = more (d == 48) refl is
   where
@@ -280,7 +279,7 @@ few_none true = refl
 few_none false = refl
 
 -- one item more
-text_more : (quote : Quote) (quotes : ℕ) (front tail : List ℕ) (item : Item) → (t : InText quote quotes front) → item_text quote.mark item ≡ replicate quotes quote.mark ++ tail
+pub text_more : (quote : Quote) (quotes : ℕ) (front tail : List ℕ) (item : Item) → (t : InText quote quotes front) → item_text quote.mark item ≡ replicate quotes quote.mark ++ tail
     → is_item quote.mark quote.triple item ≡ true → Begun (M.Inside quote 0) (front ++ tail)
 text_more quote quotes front tail item t text is =
     let q : List ℕ = quotes_text quote.mark quote.triple in
@@ -306,10 +305,10 @@ plain_item : (quote : Quote) (quotes byte : ℕ) → are_quotes quote.triple quo
     → is_item quote.mark quote.triple (plain quotes byte) ≡ true
 plain_item quote quotes byte few a b c d = rw (few, a, b, c, d) refl
 
-break_item : (quote : Quote) (quotes : ℕ) (r : Bool) → are_quotes quote.triple quotes ≡ true → quote.triple ≡ true → is_item quote.mark quote.triple (break quotes r) ≡ true
+pub break_item : (quote : Quote) (quotes : ℕ) (r : Bool) → are_quotes quote.triple quotes ≡ true → quote.triple ≡ true → is_item quote.mark quote.triple (break quotes r) ≡ true
 break_item quote quotes r few triple = rw (few, triple) refl
 
-escape_item : (quote : Quote) (quotes byte : ℕ) → are_quotes quote.triple quotes ≡ true → is_escape byte ≡ true → is_item quote.mark quote.triple (escape quotes byte) ≡ true
+pub escape_item : (quote : Quote) (quotes byte : ℕ) → are_quotes quote.triple quotes ≡ true → is_escape byte ≡ true → is_item quote.mark quote.triple (escape quotes byte) ≡ true
 escape_item quote quotes byte few is = rw (few, is) refl
 
 replicate_more : (n mark : ℕ) → replicate n mark ++ mark ∷ [] ≡ replicate (n + 1) mark
@@ -331,7 +330,7 @@ never_on mark true items has byte = refl
 never_on mark false [] has byte = absurd (cc)
 never_on mark false (item ∷ items) has byte = refl
 
-closed_text : (quote : Quote) (quotes : ℕ) (bytes : List ℕ) → (t : InText quote quotes bytes) → has_items quote.triple t.items ≡ true → (not quote.triple || nat_le 2 quotes) ≡ true
+pub closed_text : (quote : Quote) (quotes : ℕ) (bytes : List ℕ) → (t : InText quote quotes bytes) → has_items quote.triple t.items ≡ true → (not quote.triple || nat_le 2 quotes) ≡ true
     → IsWhole (bytes ++ quote.mark ∷ []) (K.Token (H.Text quote))
 closed_text quote quotes bytes t has closes =
     let q : List ℕ = quotes_text quote.mark quote.triple in
@@ -347,7 +346,7 @@ closed_text quote quotes bytes t has closes =
       fits = refl;
     }
 
-more_quotes : (quote : Quote) (quotes : ℕ) (bytes : List ℕ) → Begun (M.Inside quote quotes) bytes → (not quote.triple || nat_le 2 quotes) ≡ false → Begun (M.Inside quote (quotes + 1)) (bytes ++ quote.mark ∷ [])
+pub more_quotes : (quote : Quote) (quotes : ℕ) (bytes : List ℕ) → Begun (M.Inside quote quotes) bytes → (not quote.triple || nat_le 2 quotes) ≡ false → Begun (M.Inside quote (quotes + 1)) (bytes ++ quote.mark ∷ [])
 more_quotes quote quotes bytes (t, has) opens =
     let q : List ℕ = quotes_text quote.mark quote.triple in
     let i : List ℕ = items_text quote.mark t.items in

@@ -1,7 +1,7 @@
 -- The lines of a text are read.
-use Rattle.std.proofs.Common.{◌≡◌, ℕ, ◌+◌, Bool, true, false, ◌&&◌, ◌||◌, not, List, [], ◌∷◌, ◌++◌, length, map, Option, Some, None, option_map, option_and_then, is_none, unwrap_or, refl, sym, ap, ◌∙◌, subst, append_assoc, append-nil, add-zero, length-append, arith, if◌then◌else◌}
+use Rattle.std.proofs.Common.{◌≡◌, ℕ, ◌+◌, Bool, true, false, ◌&&◌, ◌||◌, not, List, [], ◌∷◌, ◌++◌, length, Option, Some, None, option_map, option_and_then, is_none, refl, sym, ap, ◌∙◌, subst, append_assoc, append-nil, add-zero, length-append, arith, if◌then◌else◌}
 use Rattle.std.specs.List.{list_all, list_any}
-use Rattle.std.proofs.lemmas.Bool.{and_parts, not-true}
+use Rattle.std.proofs.lemmas.Bool.{and_parts}
 use Rattle.prov_base.specs.declared.place.Pos.{Pos}
 use Rattle.py_lines.specs.declared.brackets.Bracket.{Bracket}
 use Rattle.py_lines.specs.declared.grouping.Grouping.{Grouping}
@@ -14,20 +14,20 @@ use Rattle.py_lines.specs.declared.mode.Shape.{Shape}
 use Rattle.py_lines.specs.Piece.{Piece, word, number, sign, literal, blank, comment, line_end, spelled, text_of, line_end_text, is_piece, ends, are_cut}
 use Rattle.py_lines.specs.Place.{place}
 use Rattle.py_lines.specs.Written.{Written, last, more, pieces_of, Open, after_piece, open_after, is_closed, is_token, is_blank, is_tab, indentation, is_indented, is_line, are_lines, behind_line, line_at, lines_of}
-use Rattle.py_lines.specs.Faults.{IsFaulty, tab_in, last_line, last_from, are_lines_before}
+use Rattle.py_lines.specs.Faults.{IsFaulty, tab_in, last_line, last_from}
 use Rattle.py_lines.specs.Logical.{HasLines, IsWritten}
 use Rattle.py_lines.specs.Bracketing.{first_open}
-use Rattle.py_lines.specs.Grouping.{fault_at, with_piece, with_line, tab_before, token_fault, fault_among, brackets_after, nothing_read}
-use Rattle.py_lines.specs.Reading.{at_start, Ending, whole, ending, ending_of, after_byte, after_bytes}
-use Rattle.py_lines.proofs.Snoc.{text_of-append, text_of-snoc, open_after-snoc}
+use Rattle.py_lines.specs.Grouping.{fault_at, with_piece, tab_before, token_fault, fault_among, brackets_after, nothing_read}
+use Rattle.py_lines.specs.Reading.{at_start, whole, ending, ending_of, after_byte, after_bytes}
+use Rattle.py_lines.proofs.Snoc.{text_of-append, text_of-snoc}
 use Rattle.py_lines.proofs.WrittenLemmas.{put, ended, lines_before, put-pieces, put-last_line, put-last_from, put-lines, ended-pieces, ended-last_line, ended-last_from, ended-lines}
-use Rattle.py_lines.proofs.InLines.{InLine, IsShaped, brackets_at, false_of, differ, token_or_blank, tab_in_none}
+use Rattle.py_lines.proofs.InLines.{IsShaped, brackets_at, false_of, differ, token_or_blank, tab_in_none}
 use Rattle.py_lines.proofs.Tracks.{Tracks, offset_is, place_is, shown_line}
 use Rattle.py_lines.proofs.Begun.{Fits}
 use Rattle.py_lines.proofs.Pieces.{put_of, take_line_end, shaped_word, shaped_number, shaped_sign, shaped_literal}
 use Rattle.py_lines.proofs.Scanning.{tracks_start}
 use Rattle.py_lines.proofs.Runs.{after_bytes-append, reads_more}
-use Rattle.py_lines.proofs.Accepting.{Accepted, accepted}
+use Rattle.py_lines.proofs.Accepting.{accepted}
 use Rattle.py_lines.proofs.Finals.{final, piece_final}
 
 -- ---- pieces of which a line goes on
@@ -38,7 +38,7 @@ and_then_assoc : (at : ℕ) (b : List Piece) (p : Piece) (line : List Piece) (o 
 and_then_assoc at b p line None each = refl
 and_then_assoc at b p line (Some now) each = each now
 
-open_after-append : (at : ℕ) (opened : List Open) (a b : List Piece) → open_after at opened (a ++ b) ≡ option_and_then (λ now. open_after (at + length (text_of a)) now b) (open_after at opened a)
+pub open_after-append : (at : ℕ) (opened : List Open) (a b : List Piece) → open_after at opened (a ++ b) ≡ option_and_then (λ now. open_after (at + length (text_of a)) now b) (open_after at opened a)
 open_after-append at opened [] b = ap (λ (n : ℕ). open_after n opened b) (sym (add-zero at))
 open_after-append at opened (p ∷ a) b =
     let offset : (at + length (spelled p)) + length (text_of a) ≡ at + length (spelled p ++ text_of a) = simp length-append (omega arith) in

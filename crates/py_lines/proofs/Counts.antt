@@ -1,5 +1,5 @@
 -- How far a place moves over bytes, and that reading may go on behind a piece.
-use Rattle.std.proofs.Common.{◌≡◌, ℕ, ◌+◌, ◌≤◌, ◌==◌, Bool, true, false, List, [], ◌∷◌, length, take, drop, refl, sym, subst, arith, length-drop, length-take}
+use Rattle.std.proofs.Common.{◌≡◌, ℕ, ◌+◌, ◌≤◌, List, [], ◌∷◌, length, take, drop, sym, subst, arith, length-drop, length-take}
 use Rattle.prov_base.specs.declared.place.Pos.{Pos}
 use Rattle.py_lines.specs.declared.grouping.Grouping.{Grouping}
 use Rattle.py_lines.specs.declared.scan.Reader.{Reader}

@@ -1,5 +1,5 @@
 -- What reading the rest of a text gives, piece by piece.
-use Rattle.std.proofs.Common.{◌≡◌, ◌⊎◌, ⊎_elim, ℕ, ◌+◌, Bool, true, false, ◌&&◌, not, List, [], ◌∷◌, ◌++◌, length, drop, Option, Some, None, option_map, option_and_then, is_none, refl, sym, ap, ◌∙◌, subst, append_assoc, append-nil, if◌then◌else◌}
+use Rattle.std.proofs.Common.{◌≡◌, ⊎_elim, ℕ, Bool, true, false, not, List, [], ◌∷◌, ◌++◌, length, drop, Option, Some, None, option_map, option_and_then, is_none, refl, sym, ap, ◌∙◌, append_assoc, append-nil, if◌then◌else◌}
 use Rattle.py_lines.specs.declared.grouping.Grouping.{Grouping}
 use Rattle.py_lines.specs.declared.scan.Reader.{Reader}
 use Rattle.prov_base.specs.declared.place.Pos.{Pos}
@@ -12,10 +12,10 @@ use Rattle.py_lines.specs.declared.mode.Step.TheVariants as S
 use Rattle.py_lines.specs.declared.mode.End.{End}
 use Rattle.py_lines.specs.declared.mode.End.TheVariants as E
 use Rattle.py_lines.specs.Piece.{Piece, spelled, goes_on, ends}
-use Rattle.py_lines.specs.Bracketing.{first_open}
 use Rattle.py_lines.specs.Stepping.{step, first_step, end}
 use Rattle.py_lines.specs.Grouping.{fault_at, with_piece}
-use Rattle.py_lines.specs.Reading.{begun_of, with_piece_read, after_read, after_step, after_byte, after_bytes, Ending, last_piece, ending_at, ending, ending_of}
+use Rattle.py_lines.specs.declared.parts.Line.{Line}
+use Rattle.py_lines.specs.Reading.{with_piece_read, after_read, after_step, after_byte, after_bytes, Ending, whole, bad_token, last_piece, ending_at, ending}
 use Rattle.py_lines.proofs.Runs.{after_bytes-append, after_bytes-one}
 use Rattle.py_lines.proofs.Accepting.{mode_behind, runs, EndsIn, BreaksIn, Accepted}
 
@@ -121,3 +121,36 @@ module _ (front : List ℕ) (g : Grouping) (at : g.at ≡ length front) where
       (λ e. final-append front (reader_in g M.Between) (reader_in (with_piece g a.kind (spelled p)) M.Between) (spelled p) rest (whole_read (spelled p) a.kind e fault))
       (λ b. final-append front (reader_in g M.Between) (reader_in g b.mode) (spelled p) rest (from_between b.mode (spelled p) b.run) ∙ broken_alike p a.kind rest b ends' fault)
       a.how
+
+  -- a piece that shows a bad token
+  refused : (mode : Mode) (kind : Kind) (piece bytes : List ℕ) (at' : Pos) → bytes ≡ piece → fault_at g kind piece ≡ Some at' → with_piece_read (reader_in g mode) kind bytes ≡ None
+  refused mode kind piece bytes at' is fault =
+      ap (with_piece_read (reader_in g mode) kind) is
+      ∙ ap (λ (o : Option Pos). if is_none o then Some (reader_in (with_piece g kind piece) M.Between) else None) fault
+
+  broken_refused : (p : Piece) (kind : Kind) (rest : List ℕ) (at' : Pos) (lines : List Line) → (b : BreaksIn p kind) → ends p rest ≡ true → fault_at g kind (spelled p) ≡ Some at'
+      → final (front ++ spelled p) (reader_in g b.mode) rest ≡ Some (whole lines) → ⊥
+  broken_refused p kind [] at' lines b ends' fault same =
+      let l : List ℕ = front ++ spelled p in
+      let begun : drop g.at (l ++ []) ≡ spelled p = ap (drop g.at) (append-nil l) ∙ dropped (spelled p) in
+      let last : end b.mode (drop g.at (l ++ [])) ≡ E.Last kind = ap (end b.mode) begun ∙ b.last in
+      let shown : ending (l ++ []) (reader_in g b.mode) ≡ bad_token at' =
+      ap (ending_at (l ++ []) (reader_in g b.mode)) last ∙ ap (λ (x : List ℕ). last_piece g kind x (fault_at g kind x)) begun ∙ ap (last_piece g kind (spelled p)) fault in
+      cc (shown, same)
+  broken_refused p kind (byte ∷ rest) at' lines b ends' fault same =
+      let l : List ℕ = front ++ spelled p in
+      let stops : goes_on p byte ≡ false = from_not (goes_on p byte) ends' in
+      let one : after_byte l (l ++ byte ∷ []) byte (reader_in g b.mode) ≡ None =
+      steps b.mode (spelled p) byte ∙ ap (after_step l (l ++ byte ∷ []) byte (reader_in g b.mode)) (b.breaks byte stops)
+      ∙ ap (option_and_then (λ broken. after_read (l ++ byte ∷ []) broken (first_step byte))) (refused b.mode kind (spelled p) (drop g.at l) at' (dropped (spelled p)) fault) in
+      let none = ap (λ (o : Option Reader). option_map (ending (l ++ byte ∷ rest)) (option_and_then (λ next. after_bytes (l ++ byte ∷ []) next rest) o)) one in
+      cc (none, same)
+    where
+      from_not : (b' : Bool) → not b' ≡ true → b' ≡ false
+      from_not true is = cc
+      from_not false is = refl
+
+  pub broken_doomed : (p : Piece) (kind : Kind) (rest : List ℕ) (at' : Pos) (lines : List Line) → BreaksIn p kind → ends p rest ≡ true → fault_at g kind (spelled p) ≡ Some at'
+      → final front (reader_in g M.Between) (spelled p ++ rest) ≡ Some (whole lines) → ⊥
+  broken_doomed p kind rest at' lines b ends' fault same =
+      broken_refused p kind rest at' lines b ends' fault (sym (final-append front (reader_in g M.Between) (reader_in g b.mode) (spelled p) rest (from_between b.mode (spelled p) b.run)) ∙ same)

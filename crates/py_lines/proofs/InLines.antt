@@ -1,5 +1,5 @@
 -- What the reader keeps of the line that it is in.
-use Rattle.std.proofs.Common.{◌≡◌, ℕ, suc, ◌+◌, ◌-◌, ◌==◌, Bool, true, false, ◌&&◌, ◌||◌, not, List, [], ◌∷◌, ◌++◌, length, map, Option, Some, None, option_map, option_and_then, is_none, is_some, unwrap_or, IsTrue, refl, sym, ap, ◌∙◌, subst, append-nil, arith, if◌then◌else◌}
+use Rattle.std.proofs.Common.{◌≡◌, ℕ, suc, ◌+◌, ◌-◌, ◌==◌, Bool, true, false, ◌&&◌, ◌||◌, not, List, [], ◌∷◌, ◌++◌, length, map, Option, Some, None, option_map, option_and_then, is_none, unwrap_or, refl, sym, ap, ◌∙◌, append-nil, arith, if◌then◌else◌}
 use Rattle.std.specs.Option.{option_map_or}
 use Rattle.std.specs.List.{list_all, list_any}
 use Rattle.std.specs.Str.{bytes_eq}
@@ -16,8 +16,8 @@ use Rattle.py_lines.specs.Place.{place}
 use Rattle.py_lines.specs.Written.{Open, closing_byte, is_closing, close, after_piece, open_after, kind_of, is_token, token_at, tokens_of, is_blank, is_tab, indentation, is_indented}
 use Rattle.py_lines.specs.Faults.{tab_in}
 use Rattle.py_lines.specs.Bracketing as seen
-use Rattle.py_lines.specs.Grouping.{token_kind, tab_before, brackets_after, fault_among, token_fault, token_made, with_token, tab_after}
-use Rattle.py_lines.proofs.Snoc.{text_of-snoc, tokens_of-snoc, open_after-snoc, list_all-snoc, list_any-snoc, indentation-blank, indentation-snoc_more, indentation-snoc_end, length-blank, tab_in-snoc}
+use Rattle.py_lines.specs.Grouping.{token_kind, tab_before, brackets_after, fault_among, token_fault, with_token, tab_after}
+use Rattle.py_lines.proofs.Snoc.{tokens_of-snoc, open_after-snoc, list_all-snoc, list_any-snoc, indentation-snoc_more, indentation-snoc_end, length-blank, tab_in-snoc}
 
 abbrev pub bracket_at : List ℕ → Open → Bracket
 bracket_at text opened = record { closed_by = opened.closed_by; at = place text opened.at }

@@ -1,8 +1,14 @@
 pub mod Accepting
+pub mod Alive
 pub mod Answered
 pub mod Begun
 pub mod Complete
 pub mod Counts
+pub mod Doomed
+pub mod FaultCases
+pub mod FaultEnds
+pub mod FaultPlaces
+pub mod Faulting
 pub mod Finals
 pub mod InLines
 pub mod Pieces
@@ -12,6 +18,7 @@ pub mod Scanning
 pub mod Snoc
 pub mod Sound
 pub mod Stacks
+pub mod Stops
 pub mod Tracks
 pub mod Values
 mod Worked

@@ -1,9 +1,8 @@
 -- The reader takes a piece as the definition says.
-use Rattle.std.proofs.Common.{◌≡◌, ℕ, ◌+◌, ◌==◌, Bool, true, false, ◌&&◌, ◌||◌, not, List, [], ◌∷◌, ◌++◌, length, map, Option, Some, None, option_map, option_and_then, is_none, is_some, refl, sym, ap, ◌∙◌, subst, append_assoc, arith, if◌then◌else◌}
+use Rattle.std.proofs.Common.{◌≡◌, ℕ, ◌+◌, ◌==◌, Bool, true, false, ◌&&◌, ◌||◌, not, List, [], ◌∷◌, ◌++◌, length, Some, None, option_map, refl, sym, ap, ◌∙◌, subst, if◌then◌else◌}
 use Rattle.std.specs.List.{list_all, list_any}
 use Rattle.std.specs.Str.{bytes_eq}
 use Rattle.std.proofs.lemmas.Bool.{and_parts, not-true}
-use Rattle.prov_base.specs.declared.place.Pos.{Pos}
 use Rattle.py_lines.specs.declared.brackets.Bracket.{Bracket}
 use Rattle.py_lines.specs.declared.grouping.Grouping.{Grouping}
 use Rattle.py_lines.specs.declared.mode.Kind.{Kind}
@@ -11,16 +10,15 @@ use Rattle.py_lines.specs.declared.mode.Kind.TheVariants as K
 use Rattle.py_lines.specs.declared.mode.Shape.{Shape}
 use Rattle.py_lines.specs.declared.mode.Shape.TheVariants as H
 use Rattle.py_lines.specs.declared.parts.TokenKind.TheVariants as T
-use Rattle.py_lines.specs.Piece.{Piece, word, number, sign, literal, blank, comment, line_end, Item, spelled, text_of, line_end_text, ends_line, is_piece, ends, goes_on, is_name, is_numeral, number_of, begins_name, is_digit, is_sign, signs, quotes_text, items_text, items_value}
-use Rattle.py_lines.specs.Place.{place}
-use Rattle.py_lines.specs.Written.{Written, pieces_of, Open, after_piece, open_after, kind_of, is_token, is_blank, is_tab}
-use Rattle.py_lines.specs.Faults.{tab_in, last_line, last_from}
+use Rattle.py_lines.specs.Piece.{Piece, word, number, sign, literal, blank, comment, line_end, Item, spelled, text_of, line_end_text, ends_line, is_piece, ends, is_name, is_numeral, number_of, begins_name, is_digit, is_sign, signs}
+use Rattle.py_lines.specs.Written.{Written, pieces_of, Open, after_piece, open_after, is_token, is_blank}
+use Rattle.py_lines.specs.Faults.{last_line, last_from}
 use Rattle.py_lines.specs.Bracketing.{is_none_open}
-use Rattle.py_lines.specs.Grouping.{with_line_ended, with_line_end, with_kind, with_piece, passed, fault_at, with_token, token_fault, token_kind, tab_before, with_blank}
+use Rattle.py_lines.specs.Grouping.{with_line_ended, with_piece, passed, fault_at, with_token, token_fault, token_kind, with_blank}
 use Rattle.py_lines.specs.Tables.{sign_number}
 use Rattle.py_lines.proofs.Snoc.{list_all-snoc, list_any-snoc}
 use Rattle.py_lines.proofs.WrittenLemmas.{put, ended, put-pieces, ended-pieces}
-use Rattle.py_lines.proofs.InLines.{InLine, IsShaped, bracket_at, brackets_at, sign_brackets, in_line_other, in_line_token, blank_tab, blank_opens, token_blanks, false_of, differ, some_token, and_false, or_true_right, or_false_right}
+use Rattle.py_lines.proofs.InLines.{IsShaped, brackets_at, sign_brackets, in_line_other, in_line_token, blank_tab, blank_opens, false_of, differ, some_token, and_false, or_true_right, or_false_right}
 use Rattle.py_lines.proofs.Tracks.{Tracks, begins_line_end, offset_is, place_is, tracks_put, tracks_ended}
 use Rattle.py_lines.proofs.Begun.{Fits, same_byte, or_split, is_mark}
 use Rattle.py_lines.proofs.Values.{literal_value}

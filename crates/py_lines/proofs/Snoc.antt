@@ -1,11 +1,11 @@
 -- A line with one piece more.
-use Rattle.std.proofs.Common.{◌≡◌, ℕ, suc, ◌+◌, ◌==◌, Bool, true, false, ◌&&◌, ◌||◌, not, List, [], ◌∷◌, ◌++◌, length, Option, Some, None, option_map, option_and_then, IsTrue, refl, sym, ap, ◌∙◌, subst, append_assoc, append-nil, add_assoc, zero-add, add-zero, length-append, if◌then◌else◌, arith}
+use Rattle.std.proofs.Common.{◌≡◌, ℕ, suc, ◌+◌, Bool, true, false, ◌&&◌, ◌||◌, List, [], ◌∷◌, ◌++◌, length, Option, Some, None, option_map, option_and_then, refl, sym, ap, ◌∙◌, append_assoc, append-nil, add-zero, length-append, if◌then◌else◌, arith}
 use Rattle.std.proofs.lemmas.Bool.{and_parts}
-use Rattle.std.specs.List.{list_all, list_any, flat_map}
+use Rattle.std.specs.List.{list_all, list_any}
 use Rattle.py_lines.specs.declared.parts.Token.{Token}
 use Rattle.py_lines.specs.Piece.{Piece, word, number, sign, literal, blank, comment, line_end, spelled, text_of}
 use Rattle.py_lines.specs.Faults.{tab_in}
-use Rattle.py_lines.specs.Written.{Open, after_piece, open_after, is_token, token_at, tokens_of, is_blank, is_tab, indentation}
+use Rattle.py_lines.specs.Written.{Open, after_piece, open_after, token_at, tokens_of, is_blank, is_tab, indentation}
 
 pub text_of-append : (a b : List Piece) → text_of (a ++ b) ≡ text_of a ++ text_of b
 text_of-append [] b = refl

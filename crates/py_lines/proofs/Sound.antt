@@ -1,5 +1,5 @@
 -- The lines that are read are the text's.
-use Rattle.std.proofs.Common.{◌≡◌, ℕ, ◌+◌, Bool, true, false, ◌&&◌, List, [], ◌∷◌, ◌++◌, length, map, Option, Some, None, is_none, refl, sym, ap, ◌∙◌, subst, append_assoc, append-nil, arith}
+use Rattle.std.proofs.Common.{◌≡◌, ℕ, true, List, [], ◌∷◌, ◌++◌, Option, Some, None, unwrap_or, refl, sym, ap, ◌∙◌, subst, append-nil}
 use Rattle.std.specs.Str.{IsUtf8}
 use Rattle.prov_base.specs.declared.place.Pos.{Pos}
 use Rattle.py_lines.specs.declared.brackets.Bracket.{Bracket}
@@ -9,19 +9,19 @@ use Rattle.py_lines.specs.declared.scan.Reader.{Reader}
 use Rattle.py_lines.specs.declared.mode.Kind.{Kind}
 use Rattle.py_lines.specs.declared.mode.End.{End}
 use Rattle.py_lines.specs.declared.mode.End.TheVariants as E
-use Rattle.py_lines.specs.Piece.{Piece, spelled, text_of, is_piece, ends, are_cut}
-use Rattle.py_lines.specs.Written.{Written, pieces_of, Open, are_lines, lines_of, is_line, line_at}
+use Rattle.py_lines.specs.Piece.{Piece, spelled, text_of, are_cut}
+use Rattle.py_lines.specs.Written.{Written, pieces_of, Open, is_line, line_at}
 use Rattle.py_lines.specs.Faults.{last_line, last_from, are_lines_before}
 use Rattle.py_lines.specs.Logical.{HasLines}
 use Rattle.py_lines.specs.Bracketing.{first_open}
 use Rattle.py_lines.specs.Stepping.{end}
-use Rattle.py_lines.specs.Grouping.{fault_at, with_piece, with_line}
-use Rattle.py_lines.specs.Reading.{at_start, begun_of, after_bytes, Ending, whole, bad, left_open, ending_of, last_piece, ending_at, ending, IsRead}
-use Rattle.py_lines.proofs.WrittenLemmas.{lines_before, whole-lines, whole-are}
-use Rattle.py_lines.proofs.InLines.{InLine, brackets_at}
+use Rattle.py_lines.specs.Grouping.{fault_at, with_piece, with_line, tab_before}
+use Rattle.py_lines.specs.Reading.{open_text, begun_of, whole, ending_of, last_piece, ending_at, IsRead}
+use Rattle.py_lines.proofs.WrittenLemmas.{whole-lines, whole-are}
+use Rattle.py_lines.proofs.InLines.{brackets_at}
 use Rattle.py_lines.proofs.Tracks.{Tracks, offset_is, shown_line, line_ended}
-use Rattle.py_lines.proofs.Begun.{Ends, IsLast, end_reads, and_both}
-use Rattle.py_lines.proofs.Pieces.{Taken, next_of}
+use Rattle.py_lines.proofs.Begun.{Ends, end_reads, and_both}
+use Rattle.py_lines.proofs.Pieces.{next_of}
 use Rattle.py_lines.proofs.Scanning.{Scans, scans_front, begun_is, cut-snoc}
 
 first_none : (brackets : List Bracket) → first_open brackets ≡ None → brackets ≡ []
@@ -74,7 +74,11 @@ sound_end text r lines utf8 s (E.Last kind) last is =
     written_lines text taken.written (with_piece r.grouping kind (spelled last.piece)) lines utf8 taken.tracks
     (ap (λ (ps : List Piece). are_cut ps []) taken.pieces_are ∙ cut-snoc (pieces_of s.written) last.piece [] (ap (are_cut (pieces_of s.written)) (sym next) ∙ s.cut) last.is refl) found.1
 sound_end text r lines utf8 s (E.Bad shown) ends' is = absurd (cc)
-sound_end text r lines utf8 s E.Open ends' is = absurd (cc)
+sound_end text r lines utf8 s E.Open ends' is = absurd (not_whole (tab_before r.grouping) (unwrap_or (first_open r.grouping.brackets) r.grouping.here) is)
+  where
+    not_whole : (tab : Option Pos) (first : Pos) → open_text tab first ≡ whole lines → ⊥
+    not_whole (Some tab) first is' = cc
+    not_whole None first is' = cc
 
 pub sound : (text : List ℕ) (lines : List Line) → IsUtf8 text → IsRead text lines → HasLines text lines
 sound text lines utf8 is =

@@ -1,27 +1,21 @@
 -- What the reader keeps is what is written so far.
-use Rattle.std.proofs.Common.{◌≡◌, ℕ, suc, ◌+◌, ◌-◌, ◌==◌, Bool, true, false, ◌&&◌, ◌||◌, not, List, [], ◌∷◌, ◌++◌, length, map, Option, Some, None, option_map, is_none, is_some, refl, sym, ap, ◌∙◌, subst, append_assoc, append-nil, length-append, arith, if◌then◌else◌}
+use Rattle.std.proofs.Common.{◌≡◌, ℕ, ◌+◌, Bool, true, false, ◌&&◌, ◌||◌, List, [], ◌∷◌, ◌++◌, length, Option, Some, None, is_some, refl, sym, ap, ◌∙◌, subst, append_assoc, append-nil, length-append, arith}
 use Rattle.std.specs.List.{list_all, list_any}
-use Rattle.std.specs.Str.{bytes_eq}
 use Rattle.prov_base.specs.declared.place.Pos.{Pos}
-use Rattle.py_lines.specs.declared.brackets.Bracket.{Bracket}
 use Rattle.py_lines.specs.declared.grouping.Grouping.{Grouping}
-use Rattle.py_lines.specs.declared.mode.Kind.{Kind}
-use Rattle.py_lines.specs.declared.mode.Kind.TheVariants as K
-use Rattle.py_lines.specs.declared.mode.Shape.{Shape}
-use Rattle.py_lines.specs.declared.mode.Shape.TheVariants as H
 use Rattle.py_lines.specs.declared.parts.Line.{Line}
 use Rattle.py_lines.specs.declared.parts.Token.{Token}
 use Rattle.py_lines.specs.declared.parts.TokenKind.{TokenKind}
-use Rattle.py_lines.specs.Piece.{Piece, word, number, sign, literal, blank, comment, line_end, spelled, text_of, line_end_text, ends_line, is_piece, ends}
+use Rattle.py_lines.specs.Piece.{Piece, line_end, spelled, text_of, line_end_text, ends_line}
 use Rattle.py_lines.specs.Place.{place, place_behind}
-use Rattle.py_lines.specs.Written.{Written, last, more, pieces_of, Open, after_piece, open_after, is_closed, kind_of, is_token, token_at, tokens_of, is_blank, is_tab, indentation, is_indented, is_line, behind_line, line_at}
-use Rattle.py_lines.specs.Faults.{tab_in, last_line, last_from, are_lines_before}
+use Rattle.py_lines.specs.Written.{Written, pieces_of, Open, open_after, is_closed, kind_of, is_token, token_at, tokens_of, is_blank, indentation, is_indented, is_line, line_at}
+use Rattle.py_lines.specs.Faults.{last_line, last_from, are_lines_before}
 use Rattle.py_lines.specs.Counting.{place_after}
-use Rattle.py_lines.specs.Grouping.{with_line, with_line_ended, with_kind, with_piece, passed, fault_at, nothing_read, with_token, token_fault}
+use Rattle.py_lines.specs.Grouping.{with_line, with_line_ended, passed}
 use Rattle.py_lines.proofs.Snoc.{text_of-snoc}
 use Rattle.py_lines.proofs.WrittenLemmas.{put, ended, lines_before, put-pieces, put-last_line, put-last_from, put-before, put-lines, ended-pieces, ended-last_line, ended-last_from, ended-before, ended-lines, whole-length}
 use Rattle.py_lines.proofs.PlaceLemmas.{place_behind-append, place-front}
-use Rattle.py_lines.proofs.InLines.{InLine, IsShaped, brackets_at, in_line_other, in_line_token, blank_tab, blank_opens, token_blanks, no_token_at, shown_token}
+use Rattle.py_lines.proofs.InLines.{InLine, brackets_at, no_token_at, shown_token}
 
 -- nothing follows, or CR or LF
 abbrev pub begins_line_end : List ℕ → Bool

@@ -1,10 +1,9 @@
 -- A literal's value is what its items stand for.
-use Rattle.std.proofs.Common.{◌≡◌, ℕ, zero, suc, ◌+◌, ◌-◌, ◌*◌, ◌≤◌, ◌==◌, nat_lt, Bool, true, false, ◌&&◌, ◌||◌, not, List, [], ◌∷◌, ◌++◌, length, replicate, take, drop, slice_range, refl, sym, ap, ◌∙◌, append_assoc, append-nil, length-append, arith, if◌then◌else◌}
+use Rattle.std.proofs.Common.{◌≡◌, ℕ, zero, suc, ◌+◌, ◌-◌, ◌*◌, ◌==◌, nat_lt, Bool, true, false, ◌&&◌, not, List, [], ◌∷◌, ◌++◌, length, replicate, take, drop, slice_range, refl, sym, ap, ◌∙◌, append_assoc, length-append, arith, if◌then◌else◌}
 use Rattle.std.specs.List.{list_all}
 use Rattle.std.proofs.lemmas.Bool.{and_parts, le-ltb, not-true}
-use Rattle.py_lines.specs.declared.mode.Quote.{Quote}
-use Rattle.py_lines.specs.Piece.{Item, plain, escape, break, item_text, items_text, item_value, items_value, is_item, are_quotes, quotes_text, is_escape, escape_value, is_piece, spelled, literal}
-use Rattle.py_lines.specs.Literal.{width, inside_of, byte_value, escapes_next, value_of}
+use Rattle.py_lines.specs.Piece.{Item, plain, escape, break, item_text, items_text, item_value, items_value, is_item, are_quotes, quotes_text, escape_value, is_piece, spelled, literal}
+use Rattle.py_lines.specs.Literal.{width, inside_of, value_of}
 use Rattle.py_lines.proofs.Begun.{is_mark, same_byte, or_split}
 
 -- ---- between the quotes
@@ -75,7 +74,7 @@ module _ (mark : ℕ) (slash : (mark == 92) ≡ false) (cr : (mark == 13) ≡ fa
       let parts = and_parts (is_item mark triple item) (list_all (is_item mark triple) items) all in
       item_reads triple item (items_text mark items) parts.0 ∙ ap (λ (t : List ℕ). item_value mark item ++ t) (items_read triple items parts.1)
 
-mark_is_plain : (mark byte : ℕ) → is_mark mark ≡ true → (39 == byte) ≡ false → (34 == byte) ≡ false → (mark == byte) ≡ false
+pub mark_is_plain : (mark byte : ℕ) → is_mark mark ≡ true → (39 == byte) ≡ false → (34 == byte) ≡ false → (mark == byte) ≡ false
 mark_is_plain mark byte is one two =
     or_split (mark == 39) (mark == 34) is
     (λ same. ap (λ (m : ℕ). m == byte) (same_byte mark 39 same) ∙ one)

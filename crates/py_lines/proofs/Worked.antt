@@ -1,8 +1,7 @@
 -- Worked rows of the definitions, each found by computation.
-use Rattle.std.proofs.Common.{◌≡◌, ℕ, true, false, List, [], ◌∷◌, ◌++◌, length, codes, Some, None, refl, pos}
+use Rattle.std.proofs.Common.{◌≡◌, true, false, [], ◌∷◌, ◌++◌, length, codes, Some, refl, pos}
 use Rattle.py_lines.specs.declared.parts.TokenKind.TheVariants.{Word, Keyword, Number, Text, Sign}
 use Rattle.py_lines.specs.Piece.{Piece, word, number, sign, literal, blank, comment, line_end, plain, escape, break, keywords, signs, is_piece, ends, spelled, text_of, are_cut}
-use Rattle.py_lines.specs.Place.{place}
 use Rattle.py_lines.specs.Written.{Written, last, more, pieces_of, are_lines, lines_of, kind_of}
 
 k35 : length keywords ≡ 35

@@ -1,7 +1,7 @@
 -- What is written, with one piece or one line end more.
 use Rattle.std.proofs.Common.{◌≡◌, ℕ, ◌+◌, Bool, true, false, ◌&&◌, List, [], ◌∷◌, ◌++◌, length, refl, sym, ap, ◌∙◌, append_assoc, append-nil, length-append, arith}
 use Rattle.py_lines.specs.declared.parts.Line.{Line}
-use Rattle.py_lines.specs.Piece.{Piece, line_end, spelled, text_of, line_end_text}
+use Rattle.py_lines.specs.Piece.{Piece, line_end, text_of, line_end_text}
 use Rattle.py_lines.specs.Written.{Written, last, more, pieces_of, is_line, are_lines, behind_line, line_at, lines_of}
 use Rattle.py_lines.specs.Faults.{last_line, last_from, are_lines_before}
 use Rattle.py_lines.proofs.Snoc.{text_of-append}

@@ -5,7 +5,9 @@ use Rattle.std.specs.List.{list_all}
 use Rattle.std.specs.Str.{bytes_eq}
 use Rattle.py_lines.specs.Piece.{Piece, spelled, is_piece, ends, is_digit, is_numeral, text_of, are_cut}
 use Rattle.py_lines.specs.Written.{Written, last, more, pieces_of, Open, open_after, is_line, is_indented, is_blank, is_tab, behind_line}
+use Rattle.prov_base.specs.declared.place.Pos.{Pos}
 use Rattle.py_lines.specs.Logical.{IsWritten}
+use Rattle.py_lines.specs.Place.{place}
 
 -- ---- where no lines are left
 
@@ -61,10 +63,13 @@ abbrev pub is_escaping : Bool → List ℕ → Bool
 is_escaping escaping [] = escaping
 is_escaping escaping (byte ∷ bytes) = is_escaping (not escaping && (byte == 92)) bytes
 
+-- the last byte is a CR, or there is none and `before` says so
+abbrev pub is_return_last : Bool → List ℕ → Bool
+is_return_last before [] = before
+is_return_last before (byte ∷ bytes) = is_return_last (byte == 13) bytes
+
 abbrev pub ends_with_return : List ℕ → Bool
-ends_with_return [] = false
-ends_with_return (byte ∷ []) = byte == 13
-ends_with_return (byte ∷ next ∷ bytes) = ends_with_return (next ∷ bytes)
+ends_with_return bytes = is_return_last false bytes
 
 -- a CR that no LF follows
 abbrev pub begins_with_lone_return : List ℕ → Bool
@@ -142,3 +147,14 @@ pub record IsLeftOpen (text : List ℕ) (at : ℕ) : Type 0 where
   pub not_faulty : IsFaulty text → ⊥
   pub no_lines : HasNoLines text
   pub at_is : at ≡ first_open (length (text_of (pieces_of written))) opened
+
+-- the same by the place in the text
+pub record IsBadTokenPlace (text : List ℕ) (shown : Pos) : Type 0 where
+  pub at : ℕ
+  pub is : IsBadToken text at
+  pub shown_is : shown ≡ place text at
+
+pub record IsLeftOpenPlace (text : List ℕ) (shown : Pos) : Type 0 where
+  pub at : ℕ
+  pub is : IsLeftOpen text at
+  pub shown_is : shown ≡ place text at

@@ -1,9 +1,8 @@
 -- Pieces gathered to tokens, and tokens to logical lines: the reader's own steps. No public clause speaks of them.
-use Rattle.std.specs.Prelude.{ℕ, ◌+◌, ◌-◌, ◌<◌, ◌^◌, ◌==◌, Bool, true, false, ◌&&◌, not, List, [], ◌∷◌, ◌++◌, length, codes, Option, Some, None, is_none, unwrap_or, if◌then◌else◌, pos}
+use Rattle.std.specs.Prelude.{ℕ, ◌+◌, ◌-◌, ◌<◌, ◌^◌, Bool, true, false, ◌&&◌, List, [], ◌∷◌, ◌++◌, length, Option, Some, None, is_none, unwrap_or, if◌then◌else◌, pos}
 use Rattle.std.specs.Option.{option_map_or}
 use Rattle.std.specs.Str.{bytes_eq}
 use Rattle.prov_base.specs.declared.place.Pos.{Pos}
-use Rattle.prov_base.specs.declared.place.Span.{Span}
 use Rattle.py_lines.specs.declared.brackets.Bracket.{Bracket}
 use Rattle.py_lines.specs.declared.grouping.Grouping.{Grouping}
 use Rattle.py_lines.specs.declared.mode.Shape.{Shape}

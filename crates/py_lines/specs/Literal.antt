@@ -1,5 +1,5 @@
 -- The value of a text literal, byte by byte: the reader's own steps. No public clause speaks of them.
-use Rattle.std.specs.Prelude.{ℕ, ◌-◌, ◌*◌, ◌==◌, nat_lt, Bool, true, false, ◌&&◌, not, List, [], ◌∷◌, ◌++◌, length, slice_range, if◌then◌else◌}
+use Rattle.std.specs.Prelude.{ℕ, ◌-◌, ◌*◌, ◌==◌, nat_lt, Bool, ◌&&◌, not, List, [], ◌∷◌, ◌++◌, length, slice_range, if◌then◌else◌}
 use Rattle.py_lines.specs.declared.mode.Quote.{Quote}
 use Rattle.py_lines.specs.Piece.{escape_value}
 

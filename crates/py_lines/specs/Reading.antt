@@ -1,8 +1,6 @@
 -- A text read byte by byte: the reader's own steps. No public clause speaks of them.
-use Rattle.std.specs.Prelude.{◌≡◌, ◌≤◌, ◌<◌, ◌⊎◌, ℕ, ◌+◌, ◌-◌, ◌==◌, Bool, true, false, List, [], ◌∷◌, ◌++◌, length, take, drop, Option, Some, None, is_none, slice_index, option_and_then, unwrap_or, if◌then◌else◌}
-use Rattle.std.specs.Option.{option_map_or}
+use Rattle.std.specs.Prelude.{◌≡◌, ◌≤◌, ◌<◌, ◌⊎◌, ℕ, ◌+◌, ◌-◌, ◌==◌, Bool, false, List, [], ◌∷◌, ◌++◌, length, take, drop, Option, Some, None, is_none, slice_index, option_and_then, unwrap_or, if◌then◌else◌}
 use Rattle.prov_base.specs.declared.place.Pos.{Pos}
-use Rattle.py_lines.specs.declared.brackets.Bracket.{Bracket}
 use Rattle.py_lines.specs.declared.grouping.Grouping.{Grouping}
 use Rattle.py_lines.specs.declared.parts.Line.{Line}
 use Rattle.py_lines.specs.declared.fault.LineFault.{LineFault}
@@ -20,7 +18,7 @@ use Rattle.py_lines.specs.declared.mode.End.{End}
 use Rattle.py_lines.specs.declared.mode.End.TheVariants as E
 use Rattle.py_lines.specs.Bracketing.{first_open}
 use Rattle.py_lines.specs.Counting.{place_after}
-use Rattle.py_lines.specs.Grouping.{nothing_read, fault_at, with_piece, tab_before, with_line, HasRoom}
+use Rattle.py_lines.specs.Grouping.{nothing_read, fault_at, with_piece, tab_before, with_line}
 use Rattle.py_lines.specs.Stepping.{step, first_step, end, IsInRange}
 
 abbrev pub at_start : Reader
@@ -100,7 +98,7 @@ pub record IsReady (at : ℕ) (reader : Reader) : Type 0 where
 -- what the end of the text means: the lines; or the place of a bad token, or of what is open
 pub data Ending : Type 0 where
   whole : (lines : List Line) → Ending
-  bad : (at : Pos) → Ending
+  bad_token : (at : Pos) → Ending
   left_open : (at : Pos) → Ending
 
 abbrev pub ending_of : Grouping → Option Pos → Ending
@@ -109,13 +107,18 @@ ending_of grouping (Some at) = left_open at
 
 abbrev pub last_piece : Grouping → Kind → List ℕ → Option Pos → Ending
 last_piece grouping kind piece None = let behind = with_piece grouping kind piece in ending_of behind (first_open behind.brackets)
-last_piece grouping kind piece (Some at) = bad at
+last_piece grouping kind piece (Some at) = bad_token at
+
+-- a text of three quotes is open: a tab in its indentation stands before it
+abbrev pub open_text : Option Pos → Pos → Ending
+open_text (Some tab) first = bad_token tab
+open_text None first = left_open first
 
 abbrev pub ending_at : List ℕ → Reader → End → Ending
 ending_at text reader E.Whole = ending_of reader.grouping (first_open reader.grouping.brackets)
 ending_at text reader (E.Last kind) = last_piece reader.grouping kind (begun_of text reader) (fault_at reader.grouping kind (begun_of text reader))
-ending_at text reader (E.Bad shown) = bad (bad_place reader text [] shown)
-ending_at text reader E.Open = left_open (unwrap_or (first_open reader.grouping.brackets) reader.grouping.here)
+ending_at text reader (E.Bad shown) = bad_token (bad_place reader text [] shown)
+ending_at text reader E.Open = open_text (tab_before reader.grouping) (unwrap_or (first_open reader.grouping.brackets) reader.grouping.here)
 
 abbrev pub ending : List ℕ → Reader → Ending
 ending text reader = ending_at text reader (end reader.mode (begun_of text reader))
@@ -123,7 +126,7 @@ ending text reader = ending_at text reader (end reader.mode (begun_of text reade
 -- a fault that the end of the text may show, or want of memory
 abbrev pub IsEndingFault : Ending → LineFault → Type 0
 IsEndingFault (whole lines) fault = fault ≡ Memory
-IsEndingFault (bad at) fault = (fault ≡ Memory) ⊎ (fault ≡ BadToken at)
+IsEndingFault (bad_token at) fault = (fault ≡ Memory) ⊎ (fault ≡ BadToken at)
 IsEndingFault (left_open at) fault = (fault ≡ Memory) ⊎ (fault ≡ OpenBracket at)
 
 -- ---- a whole text

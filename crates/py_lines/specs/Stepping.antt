@@ -1,5 +1,5 @@
 -- What a next byte means where a piece is begun: the reader's own steps. No public clause speaks of them.
-use Rattle.std.specs.Prelude.{◌≡◌, ◌≤◌, ℕ, ◌+◌, ◌-◌, ◌*◌, ◌/◌, ◌==◌, nat_le, nat_lt, Bool, true, false, ◌&&◌, ◌||◌, not, List, [], ◌∷◌, ◌++◌, Option, Some, None, is_some, if◌then◌else◌}
+use Rattle.std.specs.Prelude.{◌≤◌, ℕ, ◌+◌, ◌-◌, ◌*◌, ◌/◌, ◌==◌, nat_le, nat_lt, Bool, true, false, ◌&&◌, ◌||◌, not, List, [], ◌∷◌, Option, Some, None, is_some, if◌then◌else◌}
 use Rattle.py_lines.specs.declared.mode.Quote.{Quote}
 use Rattle.py_lines.specs.declared.mode.Mode.{Mode}
 use Rattle.py_lines.specs.declared.mode.Mode.TheVariants as M
@@ -7,7 +7,6 @@ use Rattle.py_lines.specs.declared.mode.Shape.{Shape}
 use Rattle.py_lines.specs.declared.mode.Shape.TheVariants as H
 use Rattle.py_lines.specs.declared.mode.Kind.{Kind}
 use Rattle.py_lines.specs.declared.mode.Kind.TheVariants as K
-use Rattle.py_lines.specs.declared.mode.Bad.{Bad}
 use Rattle.py_lines.specs.declared.mode.Bad.TheVariants as B
 use Rattle.py_lines.specs.declared.mode.Read.{Read}
 use Rattle.py_lines.specs.declared.mode.Read.TheVariants as R

@@ -1,8 +1,9 @@
 // A text read byte by byte.
 ghost use Rattle.std.specs.Prelude.{◌≡◌, ◌↔◌, ◌≤◌, ◌<◌, ◌+◌, ◌⊎◌, ℕ, List, Some, None, Ok, Err, IfOk, length, take, drop, slice_index, MatchResult};
-ghost use Rattle.py_lines.specs.declared.fault.LineFault.TheVariants.{Memory, BadToken, NotUtf8, TooLarge};
+ghost use Rattle.py_lines.specs.declared.fault.LineFault.TheVariants.{Memory, BadToken, OpenBracket, NotUtf8, TooLarge};
 ghost use Rattle.py_lines.specs.declared.parts.Line.{Line};
 ghost use Rattle.py_lines.specs.Logical.{HasLines, IsNotUtf8};
+ghost use Rattle.py_lines.specs.Faults.{IsBadTokenPlace, IsLeftOpenPlace};
 ghost use Rattle.py_lines.specs.Reading as spec;
 ghost use Rattle.py_lines.specs.Stepping.{IsReadInRange};
 
@@ -122,6 +123,9 @@ impl Reader {
                 return Err(LineFault::BadToken(self.bad_place(text, text.len(), bad)));
             }
             End::Open => {
+                if let Some(tab) = self.grouping.tab_before() {
+                    return Err(LineFault::BadToken(tab));
+                }
                 let first = self.grouping.brackets.first().unwrap_or(self.grouping.here);
                 return Err(LineFault::OpenBracket(first));
             }
@@ -154,6 +158,8 @@ pub fn lines(alloc: Global, text: &[u8]) -> Result<Lines, LineFault>
     // Where the text has lines, no other answer is given but want of memory.
     ensures complete { (found : List Line) → HasLines text.now found → length text.now ≤ 262144
         → (result ≡ Ok found) ⊎ (result ≡ Err Memory) }
+    ensures bad_token { (at : Pos) → result ≡ Err (BadToken at) → IsBadTokenPlace text.now at }
+    ensures left_open { (at : Pos) → result ≡ Err (OpenBracket at) → IsLeftOpenPlace text.now at }
 {
     if text.len() > 262144 {
         return Err(LineFault::TooLarge);
