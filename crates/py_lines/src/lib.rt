@@ -16,3 +16,6 @@ mod tables;
 pub use fault::LineFault;
 pub use parts::{Line, Lines, Token, TokenKind, Tokens};
 pub use scan::{lines, one_list_of_lines};
+
+#[cfg(test)]
+mod tests;
