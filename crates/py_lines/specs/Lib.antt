@@ -1,0 +1,12 @@
+pub mod Bracketing
+pub mod Counting
+pub mod Faults
+pub mod Grouping
+pub mod Literal
+pub mod Logical
+pub mod Piece
+pub mod Place
+pub mod Reading
+pub mod Stepping
+pub mod Tables
+pub mod Written
