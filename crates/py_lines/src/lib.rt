@@ -1,4 +1,14 @@
 //! The logical lines of a script: indentation, and tokens with their places.
+//!
+//! What a text's logical lines are says `specs/`: a text is written as pieces (words, numbers, signs, text literals,
+//! blanks, comments, line ends), each the longest at its place, and the pieces as lines. [`lines`] reads a text byte by
+//! byte, and its clauses speak of the written form alone: the lines that it gives are the text's; a text that has lines
+//! within the limit gets them, unless memory runs out; and each fault is the first one, at the place that the table of
+//! bad tokens says. A first bad token is one that no shorter front of the text shows.
+//!
+//! A `lines` that always answers `Memory` for a text that is UTF-8 and not too large meets its clauses, since no clause
+//! can say that memory is left: that it succeeds is tested. The numbers of keywords and signs are their positions in
+//! the tables of `tables.rt`.
 #![tactic(auto)]
 
 mod brackets;
@@ -12,10 +22,9 @@ mod places;
 mod scan;
 mod step;
 mod tables;
+#[cfg(test)]
+mod tests;
 
 pub use fault::LineFault;
 pub use parts::{Line, Lines, Token, TokenKind, Tokens};
 pub use scan::{lines, one_list_of_lines};
-
-#[cfg(test)]
-mod tests;

@@ -57,6 +57,7 @@ pub fn text_of(bytes: Vec<u8>) -> Result<Name, LineFault>
 {
     match String::from_utf8(bytes) {
         Ok(text) => Ok(Name::of(text)),
+        // This is not reached: words are ASCII, and a literal's value is UTF-8 where the text is. No proof says so.
         Err(_) => Err(LineFault::Memory),
     }
 }

@@ -5,7 +5,7 @@ use prov_base::{Name, Pos, Span};
 use std::alloc::AllocError;
 use std::marker::Model;
 
-/// What a token is. Keywords and signs are numbered from 0, in the order of the tables in `docs/DECISIONS.md`.
+/// What a token is. Keywords and signs are numbered from 0, in the order of the tables in `specs/Piece.antt`.
 #[derive(Drop, Debug)]
 pub enum TokenKind {
     /// A name that is no keyword.
