@@ -1,5 +1,8 @@
 //! The syntax tree of a script, sets of its statements, and the deletion of statements. Contracts speak of the *pure tree*
 //! of a script, which is the tree without boxes and buffers (`specs/Tree.antt`).
+//!
+//! What takes memory may answer Memory at any call: no contract ties that answer to a cause, so a body that always gives
+//! it would be proved too. Tests show that the calls succeed.
 #![tactic(auto)]
 
 mod binds;

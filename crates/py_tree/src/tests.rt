@@ -1,4 +1,5 @@
 use super::*;
+use crate::copy::copy_bound;
 use prov_base::{Name, Pos, Span};
 use std::alloc::Global;
 use std::test::Fail;
@@ -154,5 +155,55 @@ fn deletes_the_worked_row(rt: HostRuntime) -> Result<(), Fail> {
     assert_eq!(rt; orelse.list.len(), 1);
     assert_eq!(rt; orelse.list[0].no, 3);
     assert_eq!(rt; orelse.list[0].pos, Pos { line: 4, col: 7 });
+    Ok(())
+}
+
+// a[7:]
+#[test]
+fn copies_a_slice(rt: HostRuntime) -> Result<(), Fail> {
+    let alloc = rt.alloc();
+    let object = var(alloc, 1, 1, "a")?;
+    let object = Box::new(alloc, object)?;
+    let low = Expr::Const(Pos { line: 1, col: 3 }, Atom::Int(7));
+    let low = Box::new(alloc, low)?;
+    let slice = Expr::Range(Pos { line: 1, col: 2 }, object, Some(low), None);
+    let copied = slice.copy(alloc)?;
+    let Expr::Range(at, object, Some(low), None) = &copied else {
+        return Err(Fail::from("no slice with a lower bound alone"));
+    };
+    assert_eq!(rt; *at, Pos { line: 1, col: 2 });
+    assert!(rt; matches!(&**low, Expr::Const(_, Atom::Int(7))));
+    let Expr::Var(at, text) = &**object else {
+        return Err(Fail::from("no name"));
+    };
+    assert_eq!(rt; *at, Pos { line: 1, col: 1 });
+    assert_eq!(rt; text.as_str(), "a");
+    Ok(())
+}
+
+// with .. as file, def .. (width), and global total
+#[test]
+fn copies_names(rt: HostRuntime) -> Result<(), Fail> {
+    let alloc = rt.alloc();
+    let file = name(alloc, "file")?;
+    let at = Pos { line: 2, col: 14 };
+    let bound = copy_bound(alloc, &Some(Bound { at, name: file }))?;
+    let Some(bound) = &bound else {
+        return Err(Fail::from("no name after `as`"));
+    };
+    assert_eq!(rt; bound.at, Pos { line: 2, col: 14 });
+    assert_eq!(rt; bound.name.as_str(), "file");
+    let mut list = Vec::new(alloc);
+    let width = name(alloc, "width")?;
+    list.push(width)?;
+    let params = Params { list }.copy(alloc)?;
+    assert_eq!(rt; params.list.len(), 1);
+    assert_eq!(rt; params.list[0].as_str(), "width");
+    let mut list = Vec::new(alloc);
+    let total = name(alloc, "total")?;
+    list.push(total)?;
+    let globals = Globals { list }.copy(alloc)?;
+    assert_eq!(rt; globals.list.len(), 1);
+    assert_eq!(rt; globals.list[0].as_str(), "total");
     Ok(())
 }
