@@ -1,0 +1,90 @@
+-- Worked scripts, each in the grammar with the tree that was written down by hand; found by computation.
+use Rattle.std.proofs.Common.{◌≡◌, ℕ, ◌+◌, ◌-◌, List, [], ◌∷◌, codes, refl}
+use Rattle.std.specs.Prelude.{pos, true}
+use Rattle.prov_base.specs.declared.place.Pos.{Pos}
+use Rattle.prov_base.specs.declared.place.Span.{Span}
+use Rattle.py_lines.specs.declared.parts.Line.{Line}
+use Rattle.py_lines.specs.declared.parts.Token.{Token}
+use Rattle.py_lines.specs.declared.parts.TokenKind.{TokenKind}
+use Rattle.py_lines.specs.declared.parts.TokenKind.TheVariants.{Word, Keyword, Number, Sign}
+use Rattle.py_tree.specs.declared.expr.Atom.TheVariants.{Int}
+use Rattle.py_tree.specs.Tree as T
+use Rattle.py_parser.specs.Concrete as C
+use Rattle.py_parser.specs.Written as W
+use Rattle.py_parser.specs.Grammar.{InGrammar}
+use Rattle.py_parser.specs.WellPlaced.{script_stands}
+use Rattle.py_parser.specs.Depth.{stmt_expr_depth, suites_in}
+
+-- a token on this line, from this column on, of so many bytes, where the line begins at this offset
+abbrev spot : ℕ → ℕ → ℕ → ℕ → C.Spot
+spot line col begins many = record { at = record { line = line; col = col }; span = record { from = begins + col - 1; to = begins + col - 1 + many } }
+
+abbrev tok : TokenKind → C.Spot → Token
+tok kind s = record { at = s.at; span = s.span; kind = kind }
+
+abbrev of_name : C.Spot → List ℕ → C.Expr
+of_name s name = C.plain_expr (C.plain_or (C.plain_and (C.plain_not (C.plain_cmp (C.plain_sum (C.plain_term (C.plain_unary (C.plain_prim (C.name s name)))))))))
+
+abbrev of_number : C.Spot → ℕ → C.Expr
+of_number s n = C.plain_expr (C.plain_or (C.plain_and (C.plain_not (C.plain_cmp (C.plain_sum (C.plain_term (C.plain_unary (C.plain_prim (C.number s n)))))))))
+
+-- `x = 0` with its places
+abbrev binding : C.Spot → List ℕ → C.Spot → C.Spot → ℕ → W.Simple
+binding x name equals value n = W.assign (W.one_target (W.named x name)) equals (C.one_expr (of_number value n))
+
+-- the script
+--     if x: y = 1
+--     else: z = 2
+abbrev first_line : Line
+first_line = record {
+  indent = 0;
+  span = record { from = 0; to = 11 };
+  tokens =
+      tok (Keyword 20) (spot 1 1 0 2) ∷ tok (Word (codes "x")) (spot 1 4 0 1) ∷ tok (Sign 7) (spot 1 5 0 1)
+      ∷ tok (Word (codes "y")) (spot 1 7 0 1) ∷ tok (Sign 9) (spot 1 9 0 1) ∷ tok (Number (pos 1)) (spot 1 11 0 1) ∷ [];
+}
+
+abbrev second_line : Line
+second_line = record {
+  indent = 0;
+  span = record { from = 12; to = 23 };
+  tokens =
+      tok (Keyword 14) (spot 2 1 12 4) ∷ tok (Sign 7) (spot 2 5 12 1)
+      ∷ tok (Word (codes "z")) (spot 2 7 12 1) ∷ tok (Sign 9) (spot 2 9 12 1) ∷ tok (Number (pos 2)) (spot 2 11 12 1) ∷ [];
+}
+
+abbrev choice : W.Stmt
+choice = W.if_stmt first_line (spot 1 1 0 2) (of_name (spot 1 4 0 1) (codes "x")) (spot 1 5 0 1)
+    (W.on_line (binding (spot 1 7 0 1) (codes "y") (spot 1 9 0 1) (spot 1 11 0 1) 1))
+    W.no_elif (W.else_part second_line (spot 2 1 12 4) (spot 2 5 12 1) (W.on_line (binding (spot 2 7 12 1) (codes "z") (spot 2 9 12 1) (spot 2 11 12 1) 2)))
+
+abbrev place : ℕ → ℕ → Pos
+place line col = record { line = line; col = col }
+
+abbrev bytes : ℕ → ℕ → Span
+bytes from to = record { from = from; to = to }
+
+abbrev tree : T.ScriptTree
+tree = record {
+  body = T.more_suite (T.one_stmt 0 (place 1 1) (bytes 0 23) (T.if_form
+      (T.more_branches (T.var_expr (place 1 4) (codes "x")) (T.more_suite (T.one_stmt 1 (place 1 7) (bytes 6 11) (T.assign_form (T.var_target (place 1 7) (codes "y")) (T.const_expr (place 1 11) (Int (pos 1))))) T.end_suite) T.end_branches)
+      (T.else_suite (T.more_suite (T.one_stmt 2 (place 2 7) (bytes 18 23) (T.assign_form (T.var_target (place 2 7) (codes "z")) (T.const_expr (place 2 11) (Int (pos 2))))) T.end_suite)))) T.end_suite;
+  count = 3;
+}
+
+one_line_suites : InGrammar (first_line ∷ second_line ∷ []) tree
+one_line_suites = record {
+  written = W.script (W.last_stmt choice);
+  lines_are = refl;
+  fits = (record { indent_is = refl; tokens_are = refl }, tt, tt, (record { indent_is = refl; tokens_are = refl }, tt));
+  tree_is = refl;
+}
+
+stands : script_stands tree ≡ true
+stands = refl
+
+depth : stmt_expr_depth choice ≡ 1
+depth = refl
+
+suites : suites_in choice ≡ 1
+suites = refl

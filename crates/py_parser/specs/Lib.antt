@@ -1,0 +1,12 @@
+pub mod Concrete
+pub mod Depth
+pub mod Grammar
+pub mod Layout
+pub mod Reader
+pub mod StatementReader
+pub mod StatementTokens
+pub mod StatementTrees
+pub mod Tokens
+pub mod Trees
+pub mod WellPlaced
+pub mod Written
