@@ -7,6 +7,7 @@ pub mod Logical
 pub mod Piece
 pub mod Place
 pub mod Reading
+pub mod Spelling
 pub mod Stepping
 pub mod Tables
 pub mod Written

@@ -19,6 +19,7 @@ use Rattle.py_lines.specs.declared.mode.End.TheVariants as E
 use Rattle.py_lines.specs.Bracketing.{first_open}
 use Rattle.py_lines.specs.Counting.{place_after}
 use Rattle.py_lines.specs.Grouping.{nothing_read, fault_at, with_piece, tab_before, with_line}
+use Rattle.py_lines.specs.Spelling.{IsKindText}
 use Rattle.py_lines.specs.Stepping.{step, first_step, end, IsInRange}
 
 abbrev pub at_start : Reader
@@ -153,3 +154,16 @@ pub record IsUnended (text : List ℕ) (fault : LineFault) : Type 0 where
 
 abbrev pub IsReadFault : List ℕ → LineFault → Type 0
 IsReadFault text fault = (fault ≡ Memory) ⊎ (((at : ℕ) × (shown : Pos) × (fault ≡ BadToken shown) × IsStopped text at shown) ⊎ IsUnended text fault)
+
+-- ---- texts of pieces
+
+-- the piece that the byte at this offset ends is UTF-8
+pub record AreTexts (text : List ℕ) (at : ℕ) (reader : Reader) : Type 0 where
+  pub ended : (kind : Kind) → step reader.mode (begun_of (take at text) reader) (begun_of (take (at + 1) text) reader) (slice_index text at) ≡ S.Reads (R.Ends kind)
+      → IsKindText kind (begun_of (take (at + 1) text) reader)
+  pub broken : (kind : Kind) → step reader.mode (begun_of (take at text) reader) (begun_of (take (at + 1) text) reader) (slice_index text at) ≡ S.Breaks kind
+      → IsKindText kind (begun_of (take at text) reader)
+
+-- and the piece that the end of the text ends
+pub record IsLastText (text : List ℕ) (reader : Reader) : Type 0 where
+  pub last : (kind : Kind) → end reader.mode (begun_of text reader) ≡ E.Last kind → IsKindText kind (begun_of text reader)

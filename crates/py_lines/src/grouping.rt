@@ -4,6 +4,7 @@ ghost use Rattle.py_lines.specs.declared.fault.LineFault.TheVariants.{Memory, Ba
 ghost use Rattle.py_lines.specs.Grouping as spec;
 ghost use Rattle.py_lines.specs.Bracketing.{first_open};
 ghost use Rattle.py_lines.specs.Reading.{ending_of, whole, IsEndingFault};
+ghost use Rattle.py_lines.specs.Spelling.{IsKindText, IsShapeText};
 ghost use Rattle.py_lines.specs.Stepping.{IsKindInRange, IsShapeInRange};
 
 use crate::brackets::Brackets;
@@ -38,14 +39,15 @@ pub struct Grouping {
 
 /// What the token is that the piece spells.
 fn token_kind(alloc: Global, shape: Shape, piece: &[u8]) -> Result<TokenKind, LineFault>
-    requires { IsShapeInRange shape }
+    requires range { IsShapeInRange shape }
+    requires text { IsShapeText shape piece.now }
     ensures found { IfOk result (λ found. found ≡ spec.token_kind shape piece.now) }
     ensures memory { IfErr result (λ fault. fault ≡ Memory) }
 {
     match shape {
         Shape::Word => match keyword_number(piece) {
             Some(number) => Ok(TokenKind::Keyword(number)),
-            None => Ok(TokenKind::Word(text_of(Vec::from_slice(alloc, piece)?)?)),
+            None => Ok(TokenKind::Word(text_of(Vec::from_slice(alloc, piece)?))),
         },
         Shape::Number(value) => Ok(TokenKind::Number(value as i64)),
         Shape::Sign(number) => Ok(TokenKind::Sign(number)),
@@ -139,6 +141,7 @@ impl Grouping {
 
     fn take_token(&mut self, alloc: Global, shape: Shape, piece: &[u8]) -> Result<(), LineFault>
         requires shape { IsShapeInRange shape }
+        requires text { IsShapeText shape piece.now }
         requires room { self.old.at + length piece.now < 2 ^ 32 }
         ensures { MatchResult result
             (λ _. (spec.token_fault self.old shape piece.now ≡ None) × (self.new ≡ spec.with_token self.old shape piece.now))
@@ -162,6 +165,7 @@ impl Grouping {
     /// Takes the next piece of the text.
     pub fn take(&mut self, alloc: Global, kind: Kind, piece: &[u8]) -> Result<(), LineFault>
         requires kind { IsKindInRange kind }
+        requires text { IsKindText kind piece.now }
         requires room { spec.HasRoom self.old (length piece.now) }
         ensures { MatchResult result
             (λ _. (spec.fault_at self.old kind piece.now ≡ None) × (self.new ≡ spec.with_piece self.old kind piece.now))

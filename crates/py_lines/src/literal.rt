@@ -1,6 +1,7 @@
 // The value of a text literal.
 ghost use Rattle.std.specs.Prelude.{◌≡◌, ◌++◌, false, IfOk, IfErr};
 ghost use Rattle.py_lines.specs.declared.fault.LineFault.TheVariants.{Memory};
+ghost use Rattle.std.specs.Str.{IsUtf8};
 ghost use Rattle.py_lines.specs.Literal as spec;
 
 use crate::bytes::escape_value;
@@ -51,22 +52,22 @@ fn value_of(alloc: Global, inside: &[u8]) -> Result<Vec<u8>, AllocError>
 }
 
 /// The bytes as a text.
-pub fn text_of(bytes: Vec<u8>) -> Result<Name, LineFault>
-    ensures text { IfOk result (λ name. name ≡ bytes.items) }
-    ensures memory { IfErr result (λ fault. fault ≡ Memory) }
+pub fn text_of(bytes: Vec<u8>) -> Name
+    requires { IsUtf8 bytes.items }
+    ensures { result ≡ bytes.items }
 {
     match String::from_utf8(bytes) {
-        Ok(text) => Ok(Name::of(text)),
-        // This is not reached: words are ASCII, and a literal's value is UTF-8 where the text is. No proof says so.
-        Err(_) => Err(LineFault::Memory),
+        Ok(text) => Name::of(text),
+        Err(_) => unreachable!(),
     }
 }
 
 /// The value of a literal that is written with these quotes.
 pub fn literal_value(alloc: Global, quote: Quote, piece: &[u8]) -> Result<Name, LineFault>
+    requires { IsUtf8 (spec.value_of false (spec.inside_of quote piece.now)) }
     ensures value { IfOk result (λ name. name ≡ spec.value_of false (spec.inside_of quote piece.now)) }
     ensures memory { IfErr result (λ fault. fault ≡ Memory) }
 {
     let value = value_of(alloc, inside_of(quote, piece))?;
-    text_of(value)
+    Ok(text_of(value))
 }

@@ -5,7 +5,9 @@ ghost use Rattle.py_lines.specs.declared.parts.Line.{Line};
 ghost use Rattle.py_lines.specs.Logical.{HasLines, IsNotUtf8};
 ghost use Rattle.py_lines.specs.Faults.{IsBadTokenPlace, IsLeftOpenPlace};
 ghost use Rattle.py_lines.specs.Reading as spec;
+ghost use Rattle.py_lines.specs.Spelling.{IsReadText};
 ghost use Rattle.py_lines.specs.Stepping.{IsReadInRange};
+ghost use Rattle.std.specs.Str.{IsUtf8};
 
 use crate::fault::LineFault;
 use crate::grouping::Grouping;
@@ -70,6 +72,7 @@ impl Reader {
         requires ready { spec.IsReady at self.old }
         requires within { at < length text.now }
         requires range { IsReadInRange read }
+        requires text { IsReadText read (spec.begun_of (take (at + 1) text.now) self.old) }
         ensures { MatchResult result
             (λ _. spec.after_read (take (at + 1) text.now) self.old read ≡ Some self.new)
             (λ fault. (fault ≡ Memory) ⊎ ((spec.after_read (take (at + 1) text.now) self.old read ≡ None)
@@ -91,6 +94,7 @@ impl Reader {
     fn read(&mut self, alloc: Global, text: &[u8], at: usize) -> Result<(), LineFault>
         requires ready { spec.IsReady at self.old }
         requires within { at < length text.now }
+        requires texts { spec.AreTexts text.now at self.old }
         ensures { MatchResult result
             (λ _. spec.after_byte (take at text.now) (take (at + 1) text.now) (slice_index text.now at) self.old ≡ Some self.new)
             (λ fault. (fault ≡ Memory) ⊎ ((spec.after_byte (take at text.now) (take (at + 1) text.now) (slice_index text.now at) self.old ≡ None)
@@ -110,7 +114,8 @@ impl Reader {
 
     /// The lines of the text, at whose end reading is.
     fn finish(mut self, alloc: Global, text: &[u8]) -> Result<Lines, LineFault>
-        requires { spec.IsReady (length text.now) self }
+        requires ready { spec.IsReady (length text.now) self }
+        requires last { spec.IsLastText text.now self }
         ensures { MatchResult result
             (λ lines. spec.ending text.now self ≡ spec.whole lines)
             (λ fault. spec.IsEndingFault (spec.ending text.now self) fault) }
@@ -136,7 +141,8 @@ impl Reader {
 
 /// Reads a whole text.
 fn scan(alloc: Global, text: &[u8]) -> Result<Lines, LineFault>
-    requires { length text.now ≤ 262144 }
+    requires short { length text.now ≤ 262144 }
+    requires utf8 { IsUtf8 text.now }
     ensures { MatchResult result (spec.IsRead text.now) (spec.IsReadFault text.now) }
 {
     let mut reader = Reader {
