@@ -508,7 +508,7 @@ sum_stops e is = stop read_sum sum_rest 2 3 (sum_tokens e) e (omega arith) is (�
 term_stops : (e : Term) → Leads read_term term_rest 1 (term_tokens e) e → Reads read_term 2 (term_tokens e) e
 term_stops e is = stop read_term term_rest 1 2 (term_tokens e) e (omega arith) is (λ m rest beyond. term_ends m e rest beyond)
 
-prim_stops : (e : Prim) → Leads read_prim prim_rest 0 (prim_tokens e) e → Reads read_prim 1 (prim_tokens e) e
+pub prim_stops : (e : Prim) → Leads read_prim prim_rest 0 (prim_tokens e) e → Reads read_prim 1 (prim_tokens e) e
 prim_stops e is = stop read_prim prim_rest 0 1 (prim_tokens e) e (omega arith) is (λ m rest beyond. prim_ends m e rest beyond)
 
 mutual

@@ -76,7 +76,7 @@ exprs_whole e n = ap (read_exprs (n + (exprs_read e).steps)) (sym (append-nil (e
 
 -- ---- which statement it is
 
-kw_class : (k : ℕ) (kind : TokenKind) → start_class (Keyword k) < start_class kind → is_keyword k kind ≡ false
+pub kw_class : (k : ℕ) (kind : TokenKind) → start_class (Keyword k) < start_class kind → is_keyword k kind ≡ false
 kw_class k kind more = not_keyword k kind (λ is. let same = ap start_class is in omega (arith, more, same))
 
 abbrev pub by_exprs : ℕ → List Token → Option Simple
@@ -104,10 +104,10 @@ nonempty_raise : (n : ℕ) (at : Spot) (ts : List Token) → IsStart (starts ts)
 nonempty_raise n at [] start = absurd (omega (arith, is_above 0 start))
 nonempty_raise n at (t ∷ ts) start = refl
 
-start_of_expr : (e : Expr) → IsStart (starts (expr_tokens e))
+pub start_of_expr : (e : Expr) → IsStart (starts (expr_tokens e))
 start_of_expr e = subst (λ ts. IsStart (starts ts)) (append-nil (expr_tokens e)) (expr_starts e [])
 
-start_of_exprs : (e : Exprs) → IsStart (starts (exprs_tokens e))
+pub start_of_exprs : (e : Exprs) → IsStart (starts (exprs_tokens e))
 start_of_exprs e = subst (λ ts. IsStart (starts ts)) (append-nil (exprs_tokens e)) (exprs_starts e [])
 
 expression_reads : (e : Exprs) → ReadsSimple (exprs_tokens e) (expression e)

@@ -1,6 +1,6 @@
 -- Worked scripts, each in the grammar with the tree that was written down by hand; found by computation.
-use Rattle.std.proofs.Common.{◌≡◌, ℕ, ◌+◌, ◌-◌, List, [], ◌∷◌, codes, refl}
-use Rattle.std.specs.Prelude.{pos, true}
+use Rattle.std.proofs.Common.{◌≡◌, ℕ, ◌+◌, ◌-◌, List, [], ◌∷◌, codes, refl, Some, None, slice_index_or, arith}
+use Rattle.std.specs.Prelude.{pos, true, false}
 use Rattle.prov_base.specs.declared.place.Pos.{Pos}
 use Rattle.prov_base.specs.declared.place.Span.{Span}
 use Rattle.py_lines.specs.declared.parts.Line.{Line}
@@ -12,7 +12,7 @@ use Rattle.py_tree.specs.Tree as T
 use Rattle.py_parser.specs.Concrete as C
 use Rattle.py_parser.specs.Written as W
 use Rattle.py_parser.specs.Grammar.{InGrammar}
-use Rattle.py_parser.specs.WellPlaced.{script_stands}
+use Rattle.py_parser.specs.WellPlaced.{script_stands, globals_stand}
 use Rattle.py_parser.specs.Depth.{stmt_expr_depth, suites_in}
 
 -- a token on this line, from this column on, of so many bytes, where the line begins at this offset
@@ -88,3 +88,53 @@ depth = refl
 
 suites : suites_in choice ≡ 1
 suites = refl
+
+-- the script
+--     def f(a):
+--         global g
+--         return a
+abbrev def_lines : List Line
+def_lines =
+    record {
+      indent = 0;
+      span = record { from = 0; to = 9 };
+      tokens =
+          tok (Keyword 11) (spot 1 1 0 3) ∷ tok (Word (codes "f")) (spot 1 5 0 1) ∷ tok (Sign 0) (spot 1 6 0 1) ∷ tok (Word (codes "a")) (spot 1 7 0 1)
+          ∷ tok (Sign 1) (spot 1 8 0 1) ∷ tok (Sign 7) (spot 1 9 0 1) ∷ [];
+    }
+    ∷ record { indent = 4; span = record { from = 10; to = 22 }; tokens = tok (Keyword 19) (spot 2 5 10 6) ∷ tok (Word (codes "g")) (spot 2 12 10 1) ∷ [] }
+    ∷ record { indent = 4; span = record { from = 23; to = 35 }; tokens = tok (Keyword 30) (spot 3 5 23 6) ∷ tok (Word (codes "a")) (spot 3 12 23 1) ∷ [] }
+    ∷ []
+
+abbrev line_at : ℕ → Line
+line_at n = slice_index_or def_lines n first_line
+
+abbrev function : W.Stmt
+function = W.def_stmt (line_at 0) (spot 1 1 0 3) (spot 1 5 0 1) (codes "f") (spot 1 6 0 1) (W.params (W.last_name (spot 1 7 0 1) (codes "a"))) (spot 1 8 0 1) (spot 1 9 0 1)
+    (W.def_block 4 (W.global_in_def (line_at 1) (spot 2 5 10 6) (W.last_name (spot 2 12 10 1) (codes "g"))
+    (W.stmt_in_def (W.simple (line_at 2) (W.return_value (spot 3 5 23 6) (C.one_expr (of_name (spot 3 12 23 1) (codes "a"))))) W.end_def)))
+
+abbrev def_tree : T.ScriptTree
+def_tree = record {
+  body = T.more_suite (T.one_stmt 0 (place 1 1) (bytes 0 35) (T.def_form (codes "f") (codes "a" ∷ []) (codes "g" ∷ [])
+      (T.more_suite (T.one_stmt 1 (place 3 5) (bytes 27 35) (T.return_form (Some (T.var_expr (place 3 12) (codes "a"))))) T.end_suite))) T.end_suite;
+  count = 2;
+}
+
+a_function : InGrammar def_lines def_tree
+a_function = record {
+  written = W.script (W.last_stmt function);
+  lines_are = refl;
+  fits = (record { indent_is = refl; tokens_are = refl }, (omega arith, refl, (record { indent_is = refl; tokens_are = refl }, (record { indent_is = refl; tokens_are = refl }, tt))));
+  tree_is = refl;
+}
+
+it_stands : script_stands def_tree ≡ true
+it_stands = refl
+
+globals_come_first : globals_stand function ≡ true
+globals_come_first = refl
+
+-- without its `def` the `return` stands nowhere
+alone : script_stands (record { body = T.more_suite (T.one_stmt 0 (place 1 1) (bytes 0 6) (T.return_form None)) T.end_suite; count = 1 }) ≡ false
+alone = refl

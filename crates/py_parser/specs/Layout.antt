@@ -1,5 +1,5 @@
 -- The lines of statements as they are written: which they are, and that each line has its tokens and its indentation.
-use Rattle.std.specs.Prelude.{◌≡◌, ℕ, ◌<◌, ⊤, List, [], ◌∷◌, ◌++◌, codes}
+use Rattle.std.specs.Prelude.{◌≡◌, ℕ, ◌<◌, Bool, true, false, IsTrue, ⊤, List, [], ◌∷◌, ◌++◌, codes}
 use Rattle.py_lines.specs.declared.parts.Line.{Line}
 use Rattle.py_lines.specs.declared.parts.Token.{Token}
 use Rattle.py_parser.specs.Tokens.{keyword, sign, word, expr_tokens, exprs_tokens}
@@ -51,6 +51,12 @@ pub record IsLine (line : Line) (indent : ℕ) (tokens : List Token) : Type 0 wh
   pub indent_is : line.indent ≡ indent
   pub tokens_are : line.tokens ≡ tokens
 
+-- at least one statement stands in the suite of a `def`
+abbrev pub has_stmt : DefBody → Bool
+has_stmt end_def = false
+has_stmt (stmt_in_def s rest) = true
+has_stmt (global_in_def line at names rest) = has_stmt rest
+
 abbrev mutual
   -- each line has the tokens that stand on it, and a block is indented more than the line before it
   pub FitsStmt : ℕ → Stmt → Type 0
@@ -98,7 +104,7 @@ abbrev mutual
 
   pub FitsDef : ℕ → DefSuite → Type 0
   FitsDef indent (def_line s) = ⊤
-  FitsDef indent (def_block inside body) = (indent < inside) × FitsDefBody inside body
+  FitsDef indent (def_block inside body) = (indent < inside) × IsTrue (has_stmt body) × FitsDefBody inside body
 
   pub FitsDefBody : ℕ → DefBody → Type 0
   FitsDefBody indent end_def = ⊤

@@ -2,6 +2,7 @@ pub mod Concrete
 pub mod Depth
 pub mod Grammar
 pub mod Layout
+pub mod LineReader
 pub mod Reader
 pub mod StatementReader
 pub mod StatementTokens

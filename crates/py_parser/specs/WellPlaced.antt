@@ -134,12 +134,6 @@ globals_stand_first end_def = true
 globals_stand_first (stmt_in_def s rest) = if is_pass_or_text (stmt_tree s) then globals_stand_first rest else no_globals rest
 globals_stand_first (global_in_def line at names rest) = globals_stand_first rest
 
--- at least one statement stands there
-abbrev pub has_stmt : DefBody → Bool
-has_stmt end_def = false
-has_stmt (stmt_in_def s rest) = true
-has_stmt (global_in_def line at names rest) = has_stmt rest
-
 abbrev mutual
   -- so it is in each `def`
   pub globals_stand : Stmt → Bool
@@ -150,7 +144,7 @@ abbrev mutual
   globals_stand (try_stmt line at colon suite handlers) = globals_in suite && globals_in_handlers handlers
   globals_stand (with_stmt line at e name colon suite) = globals_in suite
   globals_stand (def_stmt line at name_at bytes opening names closing colon (def_line s)) = true
-  globals_stand (def_stmt line at name_at bytes opening names closing colon (def_block inside body)) = has_stmt body && globals_stand_first body && globals_in_def body
+  globals_stand (def_stmt line at name_at bytes opening names closing colon (def_block inside body)) = globals_stand_first body && globals_in_def body
   globals_stand (class_stmt line at name_at bytes of colon suite) = globals_in suite
 
   pub globals_in : Suite → Bool

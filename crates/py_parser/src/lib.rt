@@ -5,4 +5,4 @@
 
 mod laws;
 
-pub use laws::{one_expression, one_simple_statement};
+pub use laws::{one_expression, one_script, one_simple_statement};
