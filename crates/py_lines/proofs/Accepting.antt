@@ -15,7 +15,7 @@ use Rattle.py_lines.specs.declared.mode.Step.TheVariants as S
 use Rattle.py_lines.specs.declared.mode.End.TheVariants as E
 use Rattle.py_lines.specs.Piece.{Piece, word, number, sign, literal, blank, comment, line_end, Item, plain, escape, break, item_text, items_text, is_item, are_quotes, spelled, is_piece, goes_on, is_name, is_numeral, number_of, number_after, greatest, is_digit, begins_name, is_name_byte, is_escape, is_sign, signs, ends_line, line_end_text}
 use Rattle.py_lines.specs.Stepping.{first_step, number_step, inside_step, step, end, last_sign}
-use Rattle.py_lines.specs.Tables.{sign_number}
+use Rattle.py_lines.specs.Tables.{sign_number, sign_at}
 use Rattle.py_lines.proofs.InLines.{false_of, differ}
 use Rattle.py_lines.proofs.Begun.{Fits, is_mark, same_byte, or_split, is_sign-number}
 use Rattle.py_lines.proofs.Pieces.{in_table, same_bytes}
@@ -228,7 +228,7 @@ sign_runs : (bytes : List ℕ) → is_sign bytes ≡ true → runs M.Between [] 
 sign_runs bytes is = sign_mode (runs M.Between [] bytes) (in_table (λ one. is_sign_mode (runs M.Between [] one)) signs bytes refl is)
 
 -- a sign, however it is numbered
-pub breaking_sign : (bytes : List ℕ) (n : ℕ) → is_sign bytes ≡ true → sign_number bytes ≡ Some n → BreaksIn (sign bytes) (K.Token (H.Sign n))
+pub breaking_sign : (bytes : List ℕ) (n : ℕ) → is_sign bytes ≡ true → sign_number bytes ≡ Some n → BreaksIn (sign bytes) (K.Token (H.Sign (sign_at n)))
 breaking_sign bytes n is same = record {
   mode = M.Sign;
   run = sign_runs bytes is;
@@ -242,7 +242,7 @@ accepted_sign bytes is = with_number (sign_number bytes) refl
     with_number : (number' : Option ℕ) → sign_number bytes ≡ number' → Accepted (sign bytes)
     with_number None same = absurd (differ (is_sign bytes) is (sym (is_sign-number bytes) ∙ ap is_some same))
     with_number (Some n) same = record {
-      kind = K.Token (H.Sign n);
+      kind = K.Token (H.Sign (sign_at n));
       fits = (n, refl, same);
       how = inr (record {
         mode = M.Sign;

@@ -5,6 +5,7 @@ use Rattle.std.specs.List.{list_all, list_any}
 use Rattle.std.specs.Str.{bytes_eq}
 use Rattle.std.proofs.lemmas.Bool.{and_parts}
 use Rattle.prov_base.specs.declared.place.Pos.{Pos}
+use Rattle.py_lines.specs.Tables.{sign_at}
 use Rattle.py_lines.specs.declared.grouping.Grouping.{Grouping}
 use Rattle.py_lines.specs.declared.scan.Reader.{Reader}
 use Rattle.py_lines.specs.declared.mode.Quote.{Quote}
@@ -350,7 +351,7 @@ closed_of (M.Number value) begun is closable = inr (record {
 closed_of M.Sign begun is closable = inr (record {
   more = 61 ∷ [];
   piece = sign (33 ∷ 61 ∷ []);
-  kind = K.Token (H.Sign 16);
+  kind = K.Token (H.Sign (sign_at 16));
   spelled_is = ap (λ (b : List ℕ). b ++ 61 ∷ []) (sym closable);
   is = refl;
   fits = (16, refl, refl);

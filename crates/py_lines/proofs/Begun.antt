@@ -20,7 +20,7 @@ use Rattle.py_lines.specs.declared.mode.End.{End}
 use Rattle.py_lines.specs.declared.mode.End.TheVariants as E
 use Rattle.py_lines.specs.Piece.{Piece, word, number, sign, literal, blank, comment, line_end, Item, plain, escape, break, item_text, items_text, is_item, are_quotes, quotes_text, spelled, is_piece, goes_on, is_name, is_numeral, number_of, number_after, greatest, is_digit, begins_name, is_name_byte, is_escape, is_sign, signs, ends_line, line_end_text}
 use Rattle.py_lines.specs.Stepping.{begins_sign, first_step, number_step, broken_sign, inside_step, step, end, last_sign}
-use Rattle.py_lines.specs.Tables.{sign_number}
+use Rattle.py_lines.specs.Tables.{sign_number, sign_at}
 
 abbrev pub is_mark : ℕ → Bool
 is_mark mark = (mark == 39) || (mark == 34)
@@ -55,7 +55,7 @@ Begun (M.InsideReturn mark) bytes = (front : List ℕ) × (quotes : ℕ) × InTe
 abbrev pub Fits : Piece → Kind → Type 0
 Fits (word name) kind = kind ≡ K.Token H.Word
 Fits (number digits) kind = kind ≡ K.Token (H.Number (number_of digits))
-Fits (sign bytes) kind = (n : ℕ) × (kind ≡ K.Token (H.Sign n)) × (sign_number bytes ≡ Some n)
+Fits (sign bytes) kind = (n : ℕ) × (kind ≡ K.Token (H.Sign (sign_at n))) × (sign_number bytes ≡ Some n)
 Fits (literal mark triple items) kind = kind ≡ K.Token (H.Text (record { mark = mark; triple = triple }))
 Fits (blank byte) kind = kind ≡ K.Blank
 Fits (comment bytes) kind = kind ≡ K.Comment

@@ -25,7 +25,7 @@ use Rattle.py_lines.specs.Written.{pieces_of, lines_of}
 use Rattle.py_lines.specs.Faults.{IsFaulty, IsFront, bad_piece_at, bad_at}
 use Rattle.py_lines.specs.Bracketing.{closing_byte, is_closing, close, after_sign}
 use Rattle.py_lines.specs.Stepping.{begins_sign, step, first_step, end, broken_sign, last_sign}
-use Rattle.py_lines.specs.Tables.{sign_number}
+use Rattle.py_lines.specs.Tables.{sign_number, sign_at}
 use Rattle.py_lines.specs.Grouping.{fault_at, with_piece, tab_before, token_fault, fault_among, brackets_after}
 use Rattle.py_lines.specs.Reading.{at_start, begun_of, with_piece_read, after_read, after_step, after_byte, after_bytes, bad_place, piece_fault, read_fault, step_fault, fault_place}
 use Rattle.py_lines.proofs.Begun.{Begun, IsBroken, Steps, step_reads, choose, or_split}
@@ -81,12 +81,12 @@ refuses_closing at bytes opened is = by (closing_byte bytes) (is_closing bytes) 
 
 module _ (text front next : List ℕ) (r : Reader) (s : Scans text front r next) where
   stray_faulty : (byte : ℕ) (number' : ℕ) (rest' : List ℕ) (at' : Pos) → s.begun ++ next ≡ byte ∷ rest' → is_sign (byte ∷ []) ≡ true → sign_number (byte ∷ []) ≡ Some number'
-      → ((after : ℕ) → is_sign (byte ∷ after ∷ []) ≡ false) → fault_at r.grouping (K.Token (H.Sign number')) (byte ∷ []) ≡ Some at' → IsFaulty (text_of (pieces_of s.written) ++ byte ∷ [])
+      → ((after : ℕ) → is_sign (byte ∷ after ∷ []) ≡ false) → fault_at r.grouping (K.Token (H.Sign (sign_at number'))) (byte ∷ []) ≡ Some at' → IsFaulty (text_of (pieces_of s.written) ++ byte ∷ [])
   stray_faulty byte number' rest' at' next_is is number_is never fault rest written' is_written =
       let f : List ℕ = text_of (pieces_of s.written) in
       let cut = cut_first (pieces_of s.written) byte rest' rest (ap (are_cut (pieces_of s.written)) (sym next_is) ∙ s.cut) in
       let all = complete ((f ++ byte ∷ []) ++ rest) written' is_written in
-      broken_doomed f r.grouping s.tracks.at (sign (byte ∷ [])) (K.Token (H.Sign number')) rest at' (lines_of ((f ++ byte ∷ []) ++ rest) 0 written') (breaking_sign (byte ∷ []) number' is number_is) (never_on rest) fault
+      broken_doomed f r.grouping s.tracks.at (sign (byte ∷ [])) (K.Token (H.Sign (sign_at number'))) rest at' (lines_of ((f ++ byte ∷ []) ++ rest) 0 written') (breaking_sign (byte ∷ []) number' is number_is) (never_on rest) fault
       (sym (s.resume (byte ∷ rest) cut) ∙ ap (final [] at_start) (sym (append_assoc f (byte ∷ []) rest)) ∙ all)
     where
       never_on : (after : List ℕ) → ends (sign (byte ∷ [])) after ≡ true
@@ -98,7 +98,7 @@ module _ (text front next : List ℕ) (r : Reader) (s : Scans text front r next)
       let f : List ℕ = text_of (pieces_of s.written) in
       let rest : List ℕ = st.byte ∷ rest' in
       let rest_is : s.begun ++ next ≡ rest = next_is ∙ ap (λ (b : List ℕ). b ++ rest') st.is in
-      let fault : fault_at r.grouping (K.Token (H.Sign st.number)) (st.byte ∷ []) ≡ Some r.grouping.here =
+      let fault : fault_at r.grouping (K.Token (H.Sign (sign_at st.number))) (st.byte ∷ []) ≡ Some r.grouping.here =
       ap (λ (o : Option Pos). fault_among o (after_sign r.grouping.here (st.byte ∷ []) r.grouping.brackets) r.grouping.here) tab
       ∙ ap (λ (o : Option (List Bracket)). fault_among None o r.grouping.here) (ap (λ (b : List ℕ). after_sign r.grouping.here b r.grouping.brackets) (sym st.is) ∙ none) in
       let small : bad_piece_at (length f) [] rest ≡ length f = (let d = st.no_digit in rw d (add-zero (length f))) in

@@ -5,6 +5,7 @@ use Rattle.std.specs.List.{list_all, list_any}
 use Rattle.std.specs.Str.{bytes_eq}
 use Rattle.std.proofs.lemmas.Bool.{and_parts}
 use Rattle.prov_base.specs.declared.place.Pos.{Pos}
+use Rattle.py_lines.specs.Tables.{sign_at}
 use Rattle.py_lines.specs.declared.brackets.Bracket.{Bracket}
 use Rattle.py_lines.specs.declared.grouping.Grouping.{Grouping}
 use Rattle.py_lines.specs.declared.mode.Shape.{Shape}
@@ -193,7 +194,7 @@ pub record IsShaped (p : Piece) (shape : Shape) : Type 0 where
       → brackets_after g shape (spelled p) ≡ option_map (brackets_at text) (after_piece at p opened)
 
 pub sign_brackets : (bytes : List ℕ) (n : ℕ) (text : List ℕ) (at : ℕ) (opened : List Open) (g : Grouping) → g.here ≡ place text at → g.brackets ≡ brackets_at text opened
-    → brackets_after g (H.Sign n) bytes ≡ option_map (brackets_at text) (after_piece at (sign bytes) opened)
+    → brackets_after g (H.Sign (sign_at n)) bytes ≡ option_map (brackets_at text) (after_piece at (sign bytes) opened)
 sign_brackets bytes n text at opened g here brackets =
     ap (λ (h : Pos). seen.after_sign h bytes g.brackets) here ∙ ap (λ (b : List Bracket). seen.after_sign (place text at) bytes b) brackets ∙ signs_alike text at bytes opened
 

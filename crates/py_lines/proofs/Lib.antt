@@ -19,6 +19,7 @@ pub mod Snoc
 pub mod Sound
 pub mod Stacks
 pub mod Stops
+pub mod TableNumbers
 pub mod Texts
 pub mod Tracks
 pub mod Values

@@ -15,7 +15,8 @@ use Rattle.py_lines.specs.Written.{Written, pieces_of, Open, after_piece, open_a
 use Rattle.py_lines.specs.Faults.{last_line, last_from}
 use Rattle.py_lines.specs.Bracketing.{is_none_open}
 use Rattle.py_lines.specs.Grouping.{with_line_ended, with_piece, passed, fault_at, with_token, token_fault, token_kind, with_blank}
-use Rattle.py_lines.specs.Tables.{sign_number}
+use Rattle.py_lines.proofs.TableNumbers.{sign_within}
+use Rattle.py_lines.specs.Tables.{sign_number, sign_at}
 use Rattle.py_lines.proofs.Snoc.{list_all-snoc, list_any-snoc}
 use Rattle.py_lines.proofs.WrittenLemmas.{put, ended, put-pieces, ended-pieces}
 use Rattle.py_lines.proofs.InLines.{IsShaped, brackets_at, sign_brackets, in_line_other, in_line_token, blank_tab, blank_opens, false_of, differ, some_token, and_false, or_true_right, or_false_right}
@@ -31,8 +32,8 @@ shaped_word name = record { kind_is = refl; brackets_alike = λ text at opened g
 pub shaped_number : (digits : List ℕ) → IsShaped (number digits) (H.Number (number_of digits))
 shaped_number digits = record { kind_is = refl; brackets_alike = λ text at opened g here brackets. ap (λ (b : List Bracket). Some b) brackets }
 
-pub shaped_sign : (bytes : List ℕ) (n : ℕ) → sign_number bytes ≡ Some n → IsShaped (sign bytes) (H.Sign n)
-shaped_sign bytes n is = record { kind_is = ap (option_map T.Sign) is; brackets_alike = sign_brackets bytes n }
+pub shaped_sign : (bytes : List ℕ) (n : ℕ) → sign_number bytes ≡ Some n → IsShaped (sign bytes) (H.Sign (sign_at n))
+shaped_sign bytes n is = record { kind_is = ap (option_map T.Sign) is ∙ ap (λ k. Some (T.Sign k)) (sym (sign_within bytes n is)); brackets_alike = sign_brackets bytes n }
 
 pub shaped_literal : (mark : ℕ) (triple : Bool) (items : List Item) → is_piece (literal mark triple items) ≡ true → IsShaped (literal mark triple items) (H.Text (record { mark = mark; triple = triple }))
 shaped_literal mark triple items is = record {
@@ -212,7 +213,7 @@ module _ (text next rest : List ℕ) (w : Written) (g : Grouping) where
       (take_token (number digits) (H.Number (number_of digits)) t next_is is (shaped_number digits)) fault
   put_of (sign bytes) kind t next_is is ends' (n, fits, number') fault stays =
       subst (λ (k : Kind). fault_at g k bytes ≡ None → Tracks text (put w (sign bytes)) (with_piece g k bytes) rest) (sym fits)
-      (take_token (sign bytes) (H.Sign n) t next_is is (shaped_sign bytes n number')) fault
+      (take_token (sign bytes) (H.Sign (sign_at n)) t next_is is (shaped_sign bytes n number')) fault
   put_of (literal mark triple items) kind t next_is is ends' fits fault stays =
       let p : Piece = literal mark triple items in
       subst (λ (k : Kind). fault_at g k (spelled p) ≡ None → Tracks text (put w p) (with_piece g k (spelled p)) rest) (sym fits)

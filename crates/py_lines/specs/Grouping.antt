@@ -16,7 +16,7 @@ use Rattle.py_lines.specs.declared.parts.TokenKind.TheVariants as T
 use Rattle.py_lines.specs.Bracketing.{after_sign, is_none_open}
 use Rattle.py_lines.specs.Counting.{place_after}
 use Rattle.py_lines.specs.Literal.{inside_of, value_of}
-use Rattle.py_lines.specs.Tables.{keyword_number}
+use Rattle.py_lines.specs.Tables.{keyword_number, sign_index}
 
 abbrev pub nothing_read : Grouping
 nothing_read = record { at = 0; here = record { line = 1; col = 1 }; from = 0; indent = 0; tab = None; only_blanks = true; tokens = []; brackets = []; lines = [] }
@@ -24,7 +24,7 @@ nothing_read = record { at = 0; here = record { line = 1; col = 1 }; from = 0; i
 abbrev pub token_kind : Shape → List ℕ → TokenKind
 token_kind H.Word piece = option_map_or T.Keyword (keyword_number piece) (T.Word piece)
 token_kind (H.Number value) piece = T.Number (pos value)
-token_kind (H.Sign number) piece = T.Sign number
+token_kind (H.Sign sign) piece = T.Sign (sign_index sign)
 token_kind (H.Text quote) piece = T.Text (value_of false (inside_of quote piece))
 
 abbrev pub tab_before : Grouping → Option Pos

@@ -14,7 +14,7 @@ use Rattle.py_lines.specs.declared.mode.Step.{Step}
 use Rattle.py_lines.specs.declared.mode.Step.TheVariants as S
 use Rattle.py_lines.specs.declared.mode.End.{End}
 use Rattle.py_lines.specs.declared.mode.End.TheVariants as E
-use Rattle.py_lines.specs.Tables.{sign_number}
+use Rattle.py_lines.specs.Tables.{sign_number, sign_at}
 use Rattle.py_lines.specs.Piece.{is_digit, begins_name, is_name_byte, is_escape, greatest}
 
 abbrev pub begins_sign : ℕ → Bool
@@ -38,7 +38,7 @@ number_step value byte =
     else (if begins_name byte || (byte == 46) then S.Reads (R.Bad B.Here) else S.Breaks (K.Token (H.Number value)))
 
 abbrev pub broken_sign : Option ℕ → Step
-broken_sign (Some number) = S.Breaks (K.Token (H.Sign number))
+broken_sign (Some number) = S.Breaks (K.Token (H.Sign (sign_at number)))
 broken_sign None = S.Reads (R.Bad B.Start)
 
 abbrev pub sign_step : List ℕ → List ℕ → Step
@@ -71,7 +71,7 @@ IsInRange (M.Number value) = value ≤ 9223372036854775807
 IsInRange mode = Unit {0}
 
 abbrev pub last_sign : Option ℕ → End
-last_sign (Some number) = E.Last (K.Token (H.Sign number))
+last_sign (Some number) = E.Last (K.Token (H.Sign (sign_at number)))
 last_sign None = E.Bad B.Start
 
 abbrev pub end : Mode → List ℕ → End

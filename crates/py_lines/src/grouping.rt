@@ -13,7 +13,7 @@ use crate::literal::{literal_value, text_of};
 use crate::mode::{Kind, Shape};
 use crate::parts::{Line, Lines, Token, TokenKind, Tokens};
 use crate::places::place_after;
-use crate::tables::keyword_number;
+use crate::tables::{find_keyword, number_of_keyword, number_of_sign};
 use prov_base::{Pos, Span};
 use std::alloc::Global;
 use std::mem;
@@ -45,12 +45,12 @@ fn token_kind(alloc: Global, shape: Shape, piece: &[u8]) -> Result<TokenKind, Li
     ensures memory { IfErr result (λ fault. fault ≡ Memory) }
 {
     match shape {
-        Shape::Word => match keyword_number(piece) {
-            Some(number) => Ok(TokenKind::Keyword(number)),
+        Shape::Word => match find_keyword(piece) {
+            Some(keyword) => Ok(TokenKind::Keyword(number_of_keyword(keyword))),
             None => Ok(TokenKind::Word(text_of(Vec::from_slice(alloc, piece)?))),
         },
         Shape::Number(value) => Ok(TokenKind::Number(value as i64)),
-        Shape::Sign(number) => Ok(TokenKind::Sign(number)),
+        Shape::Sign(sign) => Ok(TokenKind::Sign(number_of_sign(sign))),
         Shape::Text(quote) => Ok(TokenKind::Text(literal_value(alloc, quote, piece)?)),
     }
 }

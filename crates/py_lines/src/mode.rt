@@ -1,4 +1,5 @@
 // Where reading stands in a piece of the text, and what a next byte means there.
+use crate::tables::Sign;
 
 /// The quotes on both sides of a text literal.
 #[derive(Clone, Copy)]
@@ -34,12 +35,12 @@ pub enum Mode {
     InsideReturn(u8),
 }
 
-/// What a token is. A number has its value, a sign its number.
+/// What a token is. A number has its value.
 #[derive(Clone, Copy)]
 pub enum Shape {
     Word,
     Number(u64),
-    Sign(u8),
+    Sign(Sign),
     Text(Quote),
 }
 

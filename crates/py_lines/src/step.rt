@@ -4,7 +4,7 @@ ghost use Rattle.py_lines.specs.Stepping as spec;
 
 use crate::bytes::{begins_name, is_digit, is_escape, is_name_byte};
 use crate::mode::{Bad, End, Kind, Mode, Quote, Read, Shape, Step};
-use crate::tables::sign_number;
+use crate::tables::find_sign;
 
 /// The greatest integer: signed, of 64 bits.
 const GREATEST: u64 = 9223372036854775807;
@@ -13,7 +13,7 @@ const GREATEST: u64 = 9223372036854775807;
 fn begins_sign(byte: u8) -> bool
     ensures { result ≡ spec.begins_sign byte }
 {
-    byte == b'!' || sign_number(&[byte]).is_some()
+    byte == b'!' || find_sign(&[byte]).is_some()
 }
 
 /// The first byte of a piece.
@@ -68,11 +68,11 @@ fn sign_step(bytes: &[u8], longer: &[u8]) -> Step
     ensures step { result ≡ spec.sign_step bytes.now longer.now }
     ensures range { spec.IsStepInRange result }
 {
-    if sign_number(longer).is_some() {
+    if find_sign(longer).is_some() {
         return Step::Reads(Read::Goes(Mode::Sign));
     }
-    match sign_number(bytes) {
-        Some(number) => Step::Breaks(Kind::Token(Shape::Sign(number))),
+    match find_sign(bytes) {
+        Some(sign) => Step::Breaks(Kind::Token(Shape::Sign(sign))),
         None => Step::Reads(Read::Bad(Bad::Start)),
     }
 }
@@ -182,8 +182,8 @@ pub fn end(mode: Mode, bytes: &[u8]) -> End
         Mode::Between => End::Whole,
         Mode::Word => End::Last(Kind::Token(Shape::Word)),
         Mode::Number(value) => End::Last(Kind::Token(Shape::Number(value))),
-        Mode::Sign => match sign_number(bytes) {
-            Some(number) => End::Last(Kind::Token(Shape::Sign(number))),
+        Mode::Sign => match find_sign(bytes) {
+            Some(sign) => End::Last(Kind::Token(Shape::Sign(sign))),
             None => End::Bad(Bad::Start),
         },
         Mode::Return => End::Bad(Bad::Start),
