@@ -11,6 +11,8 @@ pub mod FaultPlaces
 pub mod Faulting
 pub mod Finals
 pub mod InLines
+pub mod OneCut
+pub mod OneFault
 pub mod Pieces
 pub mod PlaceLemmas
 pub mod Runs

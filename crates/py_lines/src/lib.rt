@@ -27,4 +27,4 @@ mod tests;
 
 pub use fault::LineFault;
 pub use parts::{Line, Lines, Token, TokenKind, Tokens};
-pub use scan::{lines, one_list_of_lines};
+pub use scan::{lines, one_fault, one_list_of_lines};

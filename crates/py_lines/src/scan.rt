@@ -182,3 +182,12 @@ pub fn lines(alloc: Global, text: &[u8]) -> Result<Lines, LineFault>
 pub fn one_list_of_lines()
     ensures { (text : List ℕ) (a b : List Line) → HasLines text a → HasLines text b → a ≡ b }
 {}
+
+/// The law that a text has at most one fault: one place of a first bad token, or one of what is left open, and not both.
+pub fn one_fault()
+    ensures bad_token { (text : List ℕ) (a b : Pos) → IsBadTokenPlace text a → IsBadTokenPlace text b → a ≡ b }
+    ensures left_open { (text : List ℕ) (a b : Pos) → IsLeftOpenPlace text a → IsLeftOpenPlace text b → a ≡ b }
+    ensures one_kind { (text : List ℕ) (a b : Pos) → IsBadTokenPlace text a → IsLeftOpenPlace text b → ⊥ }
+    // A text with lines has none.
+    ensures no_lines { (text : List ℕ) (lines : List Line) (at : Pos) → HasLines text lines → IsBadTokenPlace text at ⊎ IsLeftOpenPlace text at → ⊥ }
+{}
