@@ -17,7 +17,7 @@ sign_is k (Keyword n) is = cc
 sign_is k (Number value) is = cc
 sign_is k (Text bytes) is = cc
 
-keyword_is : (k : ℕ) (kind : TokenKind) → is_keyword k kind ≡ true → kind ≡ Keyword k
+pub keyword_is : (k : ℕ) (kind : TokenKind) → is_keyword k kind ≡ true → kind ≡ Keyword k
 keyword_is k (Keyword n) is = ap Keyword (eqb-true n k is)
 keyword_is k (Word bytes) is = cc
 keyword_is k (Sign n) is = cc

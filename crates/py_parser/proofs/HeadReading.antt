@@ -262,7 +262,7 @@ exprs_are_simple n (t ∷ ts) start =
     ∙ if_false (is_keyword 9 t.kind) _ _ (kw_class 9 t.kind (omega (arith, above)))
     ∙ if_false (is_keyword 19 t.kind) _ _ (kw_class 19 t.kind (omega (arith, above)))
 
-target_begins : (t : Target) (rest : List Token) → IsStart (starts (target_tokens t ++ rest))
+pub target_begins : (t : Target) (rest : List Token) → IsStart (starts (target_tokens t ++ rest))
 target_begins (one_target t) rest = inl (inl (target_starts t rest))
 target_begins (several_targets t comma r) rest = inl (inl (ap starts (append_assoc (one_target_tokens t) (token (Sign 6) comma ∷ target_rest_tokens r) rest) ∙ target_starts t (token (Sign 6) comma ∷ target_rest_tokens r ++ rest)))
 

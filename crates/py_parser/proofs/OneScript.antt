@@ -1,9 +1,9 @@
 -- Lines have at most one script: what each line begins is known, and blocks follow by their indentation.
-use Rattle.std.proofs.Common.{◌≡◌, ◌⊎◌, inl, inr, ℕ, ◌<◌, ◌≤◌, Bool, true, false, ◌||◌, List, [], ◌∷◌, ◌++◌, Option, Some, None, refl, ap, sym, ◌∙◌, arith, subst, append_assoc}
-use Rattle.std.specs.Prelude.{codes, ⊤}
+use Rattle.std.proofs.Common.{◌≡◌, inl, inr, ℕ, ◌<◌, Bool, true, false, ◌||◌, List, [], ◌∷◌, ◌++◌, refl, ap, sym, ◌∙◌, arith, subst, append_assoc}
+use Rattle.std.specs.Prelude.{codes}
 use Rattle.py_lines.specs.declared.parts.Line.{Line}
 use Rattle.py_lines.specs.declared.parts.Token.{Token}
-use Rattle.py_parser.specs.Written.{Simple, Kind, Names, Script, empty_script, script, Stmt, simple, if_stmt, while_stmt, for_stmt, try_stmt, with_stmt, def_stmt, class_stmt, Suite, on_line, block, Body, last_stmt, more_stmt, Elifs, no_elif, elif, Else, no_else_part, else_part, Handlers, last_handler, more_handler, DefSuite, def_line, def_block, DefBody, end_def, stmt_in_def, global_in_def}
+use Rattle.py_parser.specs.Written.{Kind, Names, Script, empty_script, script, Stmt, simple, if_stmt, while_stmt, for_stmt, try_stmt, with_stmt, def_stmt, class_stmt, Suite, on_line, block, Body, last_stmt, more_stmt, Elifs, no_elif, elif, Else, no_else_part, else_part, Handlers, last_handler, more_handler, DefSuite, def_line, def_block, DefBody, end_def, stmt_in_def, global_in_def}
 use Rattle.py_parser.specs.Layout.{stmt_lines, suite_lines, body_lines, elif_lines, else_lines, handler_lines, def_lines, def_body_lines, has_stmt, IsLine, FitsStmt, FitsSuite, FitsBody, FitsElifs, FitsElse, FitsHandlers, FitsDef, FitsDefBody}
 use Rattle.py_parser.specs.Concrete.{Spot, Expr}
 use Rattle.py_parser.specs.Tokens.{keyword, sign, word, expr_tokens, exprs_tokens}
@@ -11,96 +11,31 @@ use Rattle.py_parser.specs.StatementTokens.{suite_tokens, def_suite_tokens, targ
 use Rattle.py_tree.specs.Tree.{ScriptTree}
 use Rattle.py_parser.specs.StatementTrees.{script_tree}
 use Rattle.py_parser.specs.Grammar.{script_lines, FitsScript, InGrammar}
-use Rattle.py_parser.specs.LineReader.{Head, simple_head, if_head, elif_head, else_head, while_head, for_head, try_head, except_head, with_head, def_head, class_head, global_head, head_tokens, behind_tokens}
+use Rattle.py_parser.specs.LineReader.{Head, elif_head, else_head, except_head, global_head, head_tokens, behind_tokens}
+use Rattle.py_parser.specs.Follows.{behind_of, def_behind, line_of, head_of, more_lines, is_elif, is_else, is_except, goes_on, Below, Low, Without}
 use Rattle.py_parser.proofs.HeadReading.{same_head}
-
--- ---- what a line begins
-
-abbrev pub behind_of : Suite → Option Simple
-behind_of (on_line s) = Some s
-behind_of (block inside body) = None
-
-abbrev pub def_behind : DefSuite → Option Simple
-def_behind (def_line s) = Some s
-def_behind (def_block inside body) = None
-
-abbrev pub line_of : Stmt → Line
-line_of (simple line s) = line
-line_of (if_stmt line at test colon suite elifs orelse) = line
-line_of (while_stmt line at test colon suite) = line
-line_of (for_stmt line at t in_word e colon suite) = line
-line_of (try_stmt line at colon suite handlers) = line
-line_of (with_stmt line at e called colon suite) = line
-line_of (def_stmt line at name_at bytes opening given closing colon suite) = line
-line_of (class_stmt line at name_at bytes of colon suite) = line
-
-abbrev pub head_of : Stmt → Head
-head_of (simple line s) = simple_head s
-head_of (if_stmt line at test colon suite elifs orelse) = if_head at test colon (behind_of suite)
-head_of (while_stmt line at test colon suite) = while_head at test colon (behind_of suite)
-head_of (for_stmt line at t in_word e colon suite) = for_head at t in_word e colon (behind_of suite)
-head_of (try_stmt line at colon suite handlers) = try_head at colon (behind_of suite)
-head_of (with_stmt line at e called colon suite) = with_head at e called colon (behind_of suite)
-head_of (def_stmt line at name_at bytes opening given closing colon suite) = def_head at name_at bytes opening given closing colon (def_behind suite)
-head_of (class_stmt line at name_at bytes of colon suite) = class_head at name_at bytes of colon (behind_of suite)
 
 -- ---- what may follow
 
-abbrev pub is_elif : Head → Bool
-is_elif (elif_head at test colon behind) = true
-is_elif h = false
-
-abbrev pub is_else : Head → Bool
-is_else (else_head at colon behind) = true
-is_else h = false
-
-abbrev pub is_except : Head → Bool
-is_except (except_head at kind colon behind) = true
-is_except h = false
-
-abbrev pub goes_on : Head → Bool
-goes_on h = is_elif h || (is_else h || is_except h)
-
--- a line that is indented less follows, or none
-abbrev pub Below : ℕ → List Line → Type 0
-Below d [] = ⊤
-Below d (line ∷ lines) = line.indent < d
-
-abbrev pub Low : ℕ → List Line → Type 0
-Low d [] = ⊤
-Low d (line ∷ lines) = line.indent ≤ d
-
--- a line with this indentation that does not begin such a part
-pub record Begins (part : Head → Bool) (d : ℕ) (line : Line) : Type 0 where
-  pub indent_is : line.indent ≡ d
-  pub head : Head
-  pub tokens_are : line.tokens ≡ head_tokens head
-  pub no_part : part head ≡ false
-
--- a line that is indented less, one that begins no such part, or none
-abbrev pub Without : (Head → Bool) → ℕ → List Line → Type 0
-Without part d [] = ⊤
-Without part d (line ∷ lines) = (line.indent < d) ⊎ Begins part d line
-
-low_without : (part : Head → Bool) (d : ℕ) (lines : List Line) → Without part d lines → Low d lines
+pub low_without : (part : Head → Bool) (d : ℕ) (lines : List Line) → Without part d lines → Low d lines
 low_without part d [] is = tt
 low_without part d (line ∷ lines) (inl less) = omega (arith, less)
 low_without part d (line ∷ lines) (inr is) = let at = is.indent_is in omega (arith, at)
 
-below_without : (part : Head → Bool) (d : ℕ) (lines : List Line) → Below d lines → Without part d lines
+pub below_without : (part : Head → Bool) (d : ℕ) (lines : List Line) → Below d lines → Without part d lines
 below_without part d [] is = tt
 below_without part d (line ∷ lines) is = inl is
 
-below_low : (d inside : ℕ) (lines : List Line) → d < inside → Low d lines → Below inside lines
+pub below_low : (d inside : ℕ) (lines : List Line) → d < inside → Low d lines → Below inside lines
 below_low d inside [] more is = tt
 below_low d inside (line ∷ lines) more is = omega (arith, more, is)
 
-weaker : (part other : Head → Bool) (d : ℕ) (lines : List Line) → ((h : Head) → part h ≡ false → other h ≡ false) → Without part d lines → Without other d lines
+pub weaker : (part other : Head → Bool) (d : ℕ) (lines : List Line) → ((h : Head) → part h ≡ false → other h ≡ false) → Without part d lines → Without other d lines
 weaker part other d [] less is = tt
 weaker part other d (line ∷ lines) less (inl below) = inl below
 weaker part other d (line ∷ lines) less (inr is) = inr (record { indent_is = is.indent_is; head = is.head; tokens_are = is.tokens_are; no_part = less is.head is.no_part })
 
-no_elif_next : (h : Head) → goes_on h ≡ false → is_elif h ≡ false
+pub no_elif_next : (h : Head) → goes_on h ≡ false → is_elif h ≡ false
 no_elif_next h is = first (is_elif h) (is_else h || is_except h) is
   where
     first : (a b : Bool) → (a || b) ≡ false → a ≡ false
@@ -111,46 +46,46 @@ second_of : (a b : Bool) → (a || b) ≡ false → b ≡ false
 second_of false b is = is
 second_of true b is = cc
 
-no_else_next : (h : Head) → goes_on h ≡ false → is_else h ≡ false
+pub no_else_next : (h : Head) → goes_on h ≡ false → is_else h ≡ false
 no_else_next h is = first (is_else h) (is_except h) (second_of (is_elif h) (is_else h || is_except h) is)
   where
     first : (a b : Bool) → (a || b) ≡ false → a ≡ false
     first false b is = refl
     first true b is = is
 
-no_except_next : (h : Head) → goes_on h ≡ false → is_except h ≡ false
+pub no_except_next : (h : Head) → goes_on h ≡ false → is_except h ≡ false
 no_except_next h is = second_of (is_else h) (is_except h) (second_of (is_elif h) (is_else h || is_except h) is)
 
 -- a line that begins such a part cannot follow
-clash : (part : Head → Bool) (d : ℕ) (line : Line) (lines : List Line) (h : Head) → Without part d (line ∷ lines) → IsLine line d (head_tokens h) → part h ≡ true → ⊥
+pub clash : (part : Head → Bool) (d : ℕ) (line : Line) (lines : List Line) (h : Head) → Without part d (line ∷ lines) → IsLine line d (head_tokens h) → part h ≡ true → ⊥
 clash part d line lines h (inl less) is begun = let at = is.indent_is in omega (arith, less, at)
 clash part d line lines h (inr begins) is begun = both (ap part (same_head begins.head h (sym begins.tokens_are ∙ is.tokens_are)))
   where
     both : part begins.head ≡ part h → ⊥
     both same = cc (begins.no_part, begun, same)
 
-first_same : (a b : Line) (as_lines bs : List Line) → (a ∷ as_lines) ≡ (b ∷ bs) → a ≡ b
+pub first_same : (a b : Line) (as_lines bs : List Line) → (a ∷ as_lines) ≡ (b ∷ bs) → a ≡ b
 first_same a b as_lines bs is = cc
 
-rest_same : (a b : Line) (as_lines bs : List Line) → (a ∷ as_lines) ≡ (b ∷ bs) → as_lines ≡ bs
+pub rest_same : (a b : Line) (as_lines bs : List Line) → (a ∷ as_lines) ≡ (b ∷ bs) → as_lines ≡ bs
 rest_same a b as_lines bs is = cc
 
 -- one line begins one thing
-one_head : (a b : Line) (d e : ℕ) (h i : Head) → a ≡ b → IsLine a d (head_tokens h) → IsLine b e (head_tokens i) → h ≡ i
+pub one_head : (a b : Line) (d e : ℕ) (h i : Head) → a ≡ b → IsLine a d (head_tokens h) → IsLine b e (head_tokens i) → h ≡ i
 one_head a b d e h i same is_a is_b = same_head h i (sym is_a.tokens_are ∙ ap (λ (l : Line). l.tokens) same ∙ is_b.tokens_are)
 
-behind_is : (suite : Suite) → suite_tokens suite ≡ behind_tokens (behind_of suite)
+pub behind_is : (suite : Suite) → suite_tokens suite ≡ behind_tokens (behind_of suite)
 behind_is (on_line s) = refl
 behind_is (block inside body) = refl
 
-def_behind_is : (suite : DefSuite) → def_suite_tokens suite ≡ behind_tokens (def_behind suite)
+pub def_behind_is : (suite : DefSuite) → def_suite_tokens suite ≡ behind_tokens (def_behind suite)
 def_behind_is (def_line s) = refl
 def_behind_is (def_block inside body) = refl
 
-with_tokens : (line : Line) (d : ℕ) (ts us : List Token) → ts ≡ us → IsLine line d ts → IsLine line d us
+pub with_tokens : (line : Line) (d : ℕ) (ts us : List Token) → ts ≡ us → IsLine line d ts → IsLine line d us
 with_tokens line d ts us same is = record { indent_is = is.indent_is; tokens_are = is.tokens_are ∙ same }
 
-line_fits : (d : ℕ) (s : Stmt) → FitsStmt d s → IsLine (line_of s) d (head_tokens (head_of s))
+pub line_fits : (d : ℕ) (s : Stmt) → FitsStmt d s → IsLine (line_of s) d (head_tokens (head_of s))
 line_fits d (simple line s) fits = fits
 line_fits d (if_stmt line at test colon suite elifs orelse) fits = with_tokens line d _ _ (ap (λ ts. keyword (codes "if") at ++ (expr_tokens test ++ (sign (codes ":") colon ++ ts))) (behind_is suite)) fits.0
 line_fits d (while_stmt line at test colon suite) fits = with_tokens line d _ _ (ap (λ ts. keyword (codes "while") at ++ (expr_tokens test ++ (sign (codes ":") colon ++ ts))) (behind_is suite)) fits.0
@@ -161,7 +96,7 @@ line_fits d (def_stmt line at name_at bytes opening given closing colon suite) f
     with_tokens line d _ _ (ap (λ ts. keyword (codes "def") at ++ (word bytes name_at ++ (sign (codes "(") opening ++ (params_tokens given ++ (sign (codes ")") closing ++ (sign (codes ":") colon ++ ts)))))) (def_behind_is suite)) fits.0
 line_fits d (class_stmt line at name_at bytes of colon suite) fits = with_tokens line d _ _ (ap (λ ts. keyword (codes "class") at ++ (word bytes name_at ++ (base_tokens of ++ (sign (codes ":") colon ++ ts)))) (behind_is suite)) fits.0
 
-begins_stmt : (s : Stmt) → goes_on (head_of s) ≡ false
+pub begins_stmt : (s : Stmt) → goes_on (head_of s) ≡ false
 begins_stmt (simple line s) = refl
 begins_stmt (if_stmt line at test colon suite elifs orelse) = refl
 begins_stmt (while_stmt line at test colon suite) = refl
@@ -171,17 +106,7 @@ begins_stmt (with_stmt line at e called colon suite) = refl
 begins_stmt (def_stmt line at name_at bytes opening given closing colon suite) = refl
 begins_stmt (class_stmt line at name_at bytes of colon suite) = refl
 
-abbrev pub more_lines : Stmt → List Line
-more_lines (simple line s) = []
-more_lines (if_stmt line at test colon suite elifs orelse) = suite_lines suite ++ (elif_lines elifs ++ else_lines orelse)
-more_lines (while_stmt line at test colon suite) = suite_lines suite
-more_lines (for_stmt line at t in_word e colon suite) = suite_lines suite
-more_lines (try_stmt line at colon suite handlers) = suite_lines suite ++ handler_lines handlers
-more_lines (with_stmt line at e called colon suite) = suite_lines suite
-more_lines (def_stmt line at name_at bytes opening given closing colon suite) = def_lines suite
-more_lines (class_stmt line at name_at bytes of colon suite) = suite_lines suite
-
-stmt_first : (s : Stmt) → stmt_lines s ≡ line_of s ∷ more_lines s
+pub stmt_first : (s : Stmt) → stmt_lines s ≡ line_of s ∷ more_lines s
 stmt_first (simple line s) = refl
 stmt_first (if_stmt line at test colon suite elifs orelse) = refl
 stmt_first (while_stmt line at test colon suite) = refl
@@ -192,35 +117,35 @@ stmt_first (def_stmt line at name_at bytes opening given closing colon suite) = 
 stmt_first (class_stmt line at name_at bytes of colon suite) = refl
 
 -- a statement follows
-stmt_follows : (d : ℕ) (s : Stmt) (rest : List Line) → FitsStmt d s → Without goes_on d (stmt_lines s ++ rest)
+pub stmt_follows : (d : ℕ) (s : Stmt) (rest : List Line) → FitsStmt d s → Without goes_on d (stmt_lines s ++ rest)
 stmt_follows d s rest fits =
     let is = line_fits d s fits in
     subst (λ ls. Without goes_on d (ls ++ rest)) (sym (stmt_first s)) (inr (record { indent_is = is.indent_is; head = head_of s; tokens_are = is.tokens_are; no_part = begins_stmt s }))
 
-stmt_indent : (d : ℕ) (s : Stmt) (rest : List Line) → FitsStmt d s → Below d (stmt_lines s ++ rest) → ⊥
+pub stmt_indent : (d : ℕ) (s : Stmt) (rest : List Line) → FitsStmt d s → Below d (stmt_lines s ++ rest) → ⊥
 stmt_indent d s rest fits below =
     let is = line_fits d s fits in
     let at = is.indent_is in
     let less = subst (λ ls. Below d (ls ++ rest)) (stmt_first s) below in
     omega (arith, at, less)
 
-body_follows : (d : ℕ) (b : Body) (rest : List Line) → FitsBody d b → Without goes_on d (body_lines b ++ rest)
+pub body_follows : (d : ℕ) (b : Body) (rest : List Line) → FitsBody d b → Without goes_on d (body_lines b ++ rest)
 body_follows d (last_stmt s) rest fits = stmt_follows d s rest fits
 body_follows d (more_stmt s more) rest fits = subst (Without goes_on d) (sym (append_assoc (stmt_lines s) (body_lines more) rest)) (stmt_follows d s (body_lines more ++ rest) fits.0)
 
-body_indent : (d : ℕ) (b : Body) (rest : List Line) → FitsBody d b → Below d (body_lines b ++ rest) → ⊥
+pub body_indent : (d : ℕ) (b : Body) (rest : List Line) → FitsBody d b → Below d (body_lines b ++ rest) → ⊥
 body_indent d (last_stmt s) rest fits below = stmt_indent d s rest fits below
 body_indent d (more_stmt s more) rest fits below = stmt_indent d s (body_lines more ++ rest) fits.0 (subst (Below d) (append_assoc (stmt_lines s) (body_lines more) rest) below)
 
 -- ---- the parts of a compound statement
 
-elif_line_fits : (d : ℕ) (line : Line) (at : Spot) (test : Expr) (colon : Spot) (suite : Suite) → IsLine line d (keyword (codes "elif") at ++ (expr_tokens test ++ (sign (codes ":") colon ++ suite_tokens suite))) → IsLine line d (head_tokens (elif_head at test colon (behind_of suite)))
+pub elif_line_fits : (d : ℕ) (line : Line) (at : Spot) (test : Expr) (colon : Spot) (suite : Suite) → IsLine line d (keyword (codes "elif") at ++ (expr_tokens test ++ (sign (codes ":") colon ++ suite_tokens suite))) → IsLine line d (head_tokens (elif_head at test colon (behind_of suite)))
 elif_line_fits d line at test colon suite is = with_tokens line d _ _ (ap (λ ts. keyword (codes "elif") at ++ (expr_tokens test ++ (sign (codes ":") colon ++ ts))) (behind_is suite)) is
 
-else_line_fits : (d : ℕ) (line : Line) (at colon : Spot) (suite : Suite) → IsLine line d (keyword (codes "else") at ++ (sign (codes ":") colon ++ suite_tokens suite)) → IsLine line d (head_tokens (else_head at colon (behind_of suite)))
+pub else_line_fits : (d : ℕ) (line : Line) (at colon : Spot) (suite : Suite) → IsLine line d (keyword (codes "else") at ++ (sign (codes ":") colon ++ suite_tokens suite)) → IsLine line d (head_tokens (else_head at colon (behind_of suite)))
 else_line_fits d line at colon suite is = with_tokens line d _ _ (ap (λ ts. keyword (codes "else") at ++ (sign (codes ":") colon ++ ts)) (behind_is suite)) is
 
-except_line_fits : (d : ℕ) (line : Line) (at : Spot) (kind : Kind) (colon : Spot) (suite : Suite) → IsLine line d (keyword (codes "except") at ++ (kind_tokens kind ++ (sign (codes ":") colon ++ suite_tokens suite))) → IsLine line d (head_tokens (except_head at kind colon (behind_of suite)))
+pub except_line_fits : (d : ℕ) (line : Line) (at : Spot) (kind : Kind) (colon : Spot) (suite : Suite) → IsLine line d (keyword (codes "except") at ++ (kind_tokens kind ++ (sign (codes ":") colon ++ suite_tokens suite))) → IsLine line d (head_tokens (except_head at kind colon (behind_of suite)))
 except_line_fits d line at kind colon suite is = with_tokens line d _ _ (ap (λ ts. keyword (codes "except") at ++ (kind_tokens kind ++ (sign (codes ":") colon ++ ts))) (behind_is suite)) is
 
 -- behind `elif` parts
@@ -243,7 +168,7 @@ else_without_elif d (else_part line at colon suite) rest fits next =
     let is = else_line_fits d line at colon suite fits.0 in
     inr (record { indent_is = is.indent_is; head = else_head at colon (behind_of suite); tokens_are = is.tokens_are; no_part = refl })
 
-block_first : (d : ℕ) (b : Body) → FitsBody d b → (line : Line) × (lines : List Line) × (body_lines b ≡ line ∷ lines) × (line.indent ≡ d)
+pub block_first : (d : ℕ) (b : Body) → FitsBody d b → (line : Line) × (lines : List Line) × (body_lines b ≡ line ∷ lines) × (line.indent ≡ d)
 block_first d (last_stmt s) fits = (line_of s, more_lines s, stmt_first s, (line_fits d s fits).indent_is)
 block_first d (more_stmt s more) fits = (line_of s, more_lines s ++ body_lines more, ap (λ ls. ls ++ body_lines more) (stmt_first s), (line_fits d s fits.0).indent_is)
 
@@ -256,7 +181,7 @@ same_inside d e a b r q fits_a fits_b same =
 
 -- ---- the suites of functions
 
-global_fits : (d : ℕ) (line : Line) (at : Spot) (names : Names) → IsLine line d (keyword (codes "global") at ++ names_tokens names) → IsLine line d (head_tokens (global_head at names))
+pub global_fits : (d : ℕ) (line : Line) (at : Spot) (names : Names) → IsLine line d (keyword (codes "global") at ++ names_tokens names) → IsLine line d (head_tokens (global_head at names))
 global_fits d line at names is = is
 
 def_follows : (d : ℕ) (b : DefBody) (rest : List Line) → FitsDefBody d b → Below d rest → Without goes_on d (def_body_lines b ++ rest)
@@ -283,7 +208,7 @@ same_def_inside d e a b r q some_a some_b fits_a fits_b same =
 
 -- ---- every statement
 
-heads_same : (d : ℕ) (s t : Stmt) (r q : List Line) → FitsStmt d s → FitsStmt d t → stmt_lines s ++ r ≡ stmt_lines t ++ q
+pub heads_same : (d : ℕ) (s t : Stmt) (r q : List Line) → FitsStmt d s → FitsStmt d t → stmt_lines s ++ r ≡ stmt_lines t ++ q
     → (line_of s ≡ line_of t) × (head_of s ≡ head_of t) × (more_lines s ++ r ≡ more_lines t ++ q)
 heads_same d s t r q fits_s fits_t same =
     let both : (line_of s ∷ (more_lines s ++ r)) ≡ (line_of t ∷ (more_lines t ++ q)) = ap (λ ls. ls ++ r) (sym (stmt_first s)) ∙ same ∙ ap (λ ls. ls ++ q) (stmt_first t) in
@@ -291,7 +216,7 @@ heads_same d s t r q fits_s fits_t same =
     (line, one_head (line_of s) (line_of t) d d (head_of s) (head_of t) line (line_fits d s fits_s) (line_fits d t fits_t), rest_same _ _ _ _ both)
 
 -- two lists behind two, grouped to the right
-regroup : (a b r c e q : List Line) → (a ++ b) ++ r ≡ (c ++ e) ++ q → a ++ (b ++ r) ≡ c ++ (e ++ q)
+pub regroup : (a b r c e q : List Line) → (a ++ b) ++ r ≡ (c ++ e) ++ q → a ++ (b ++ r) ≡ c ++ (e ++ q)
 regroup a b r c e q same = sym (append_assoc a b r) ∙ same ∙ append_assoc c e q
 
 handler_clash : (d : ℕ) (h : Handlers) (rest : List Line) → FitsHandlers d h → Without is_except d (handler_lines h ++ rest) → ⊥

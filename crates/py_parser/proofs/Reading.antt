@@ -7,7 +7,7 @@ use Rattle.py_lines.specs.declared.parts.TokenKind.{TokenKind}
 use Rattle.py_lines.specs.declared.parts.TokenKind.TheVariants.{Keyword, Number, Text, Sign}
 use Rattle.py_parser.specs.Concrete.{Spot, AddSign, plus, minus, MulSign, times, floor, modulo, CmpSign, equal, unequal, less, less_equal, greater, greater_equal, within, not_within, same, not_same, Expr, plain_expr, choice, Or, plain_or, or_more, And, plain_and, and_more, Not, plain_not, not_of, Cmp, plain_cmp, compared, Sum, plain_sum, sum_more, Term, plain_term, term_more, Unary, plain_unary, signed, Prim, plain_prim, call, part, attribute, Index, one_index, range_index, Bound, no_bound, bound, Atom, name, number, text, none, true_word, false_word, empty_tuple, group, list, dict, Exprs, one_expr, several, Rest, end_rest, last_rest, more_rest, Items, no_items, items, Pairs, no_pairs, last_pair, more_pairs}
 use Rattle.py_parser.specs.Tokens.{token, keyword, sign, word, add_sign, mul_sign, cmp_tokens, items_tokens, index_tokens, rest_tokens, bound_tokens, pairs_tokens, expr_tokens, or_tokens, and_tokens, not_tokens, cmp_tokens_of, sum_tokens, term_tokens, unary_tokens, prim_tokens, atom_tokens, exprs_tokens}
-use Rattle.py_parser.specs.Reader.{Read, go_on, next_level, kind_level, start_class, starts, grouped, is_sign, read_keyword, read_sign, is_or_is_not, read_cmp_sign, read_expr, choice_rest, read_or, or_rest, read_and, and_rest, read_not, read_cmp, cmp_rest, read_sum, sum_rest, read_term, term_rest, read_unary, read_prim, prim_rest, read_atom, read_items, read_exprs, exprs_rest, read_rest, rest_rest, read_index, index_rest, read_bound, read_pairs, pairs_rest}
+use Rattle.py_parser.specs.Reader.{Read, go_on, next_level, kind_level, start_class, starts, grouped, is_sign, read_keyword, read_sign, is_or_is_not, no_second, read_cmp_sign, read_expr, choice_rest, read_or, or_rest, read_and, and_rest, read_not, read_cmp, cmp_rest, read_sum, sum_rest, read_term, term_rest, read_unary, read_prim, prim_rest, read_atom, read_items, read_exprs, exprs_rest, read_rest, rest_rest, read_index, index_rest, read_bound, read_pairs, pairs_rest}
 use Rattle.py_parser.proofs.Leading.{Beyond, Reads, Leads, lead_one, lead_more, stop, no_such}
 use Rattle.py_parser.proofs.Firsts.{IsPlain, IsStart, prim_starts, sum_starts, cmp_starts, expr_starts, exprs_starts, is_above, unary_is, no_not, not_is, items_is, rest_is, sum_ends, term_ends, prim_ends, by_class}
 
@@ -207,7 +207,7 @@ plain_cmp_of tokens e is = record {
       ∙ if_false (next_level rest == 4) _ _ (no_such (next_level rest) 4 beyond);
 }
 
-cmp_level : (op : CmpSign) (rest : List Token) → next_level (cmp_tokens op ++ rest) ≡ 4
+pub cmp_level : (op : CmpSign) (rest : List Token) → next_level (cmp_tokens op ++ rest) ≡ 4
 cmp_level (equal at) rest = refl
 cmp_level (unequal at) rest = refl
 cmp_level (less at) rest = refl
@@ -242,8 +242,9 @@ compared_of tokens left op more right start is next = record {
       ∙ ap (λ r. go_on r (λ e rest. cmp_rest ((suc n + next.steps) + is.steps) e rest)) (is.reads (suc n + next.steps) (cmp_tokens op ++ (more ++ rest)) (omega (arith, level)))
       ∙ more_steps (λ m. cmp_rest m left (cmp_tokens op ++ (more ++ rest))) ((suc n + next.steps) + is.steps) (suc ((n + is.steps) + next.steps)) (omega arith)
       ∙ if_true (next_level (cmp_tokens op ++ (more ++ rest)) == 4) _ _ (ap (λ l. l == 4) level)
-      ∙ ap (λ r. go_on r (λ op more. go_on (read_sum ((n + is.steps) + next.steps) more) (λ right rest. Some (compared left op right, rest)))) (read_sign_of op (more ++ rest) (start rest))
-      ∙ ap (λ r. go_on r (λ right rest. Some (compared left op right, rest))) (next.reads (n + is.steps) rest (omega (arith, beyond)));
+      ∙ ap (λ r. go_on r (λ op more. go_on (read_sum ((n + is.steps) + next.steps) more) (λ right rest. no_second (compared left op right) rest))) (read_sign_of op (more ++ rest) (start rest))
+      ∙ ap (λ r. go_on r (λ right rest. no_second (compared left op right) rest)) (next.reads (n + is.steps) rest (omega (arith, beyond)))
+      ∙ if_false (next_level rest == 4) _ _ (no_such (next_level rest) 4 beyond);
 }
 
 plain_not_of : (c : Cmp) → Reads read_cmp 4 (cmp_tokens_of c) c → Reads read_not 4 (cmp_tokens_of c) (plain_not c)
@@ -298,7 +299,7 @@ choice_of first chosen if_word second test else_word third other is_1 is_2 is_3 
 abbrev pub Items_to : ℕ → List Token → Items → Type 0
 Items_to closing tokens e = ReadsTo (λ n ts. read_items n closing ts) closing tokens e
 
-index_is : (m : ℕ) (ts : List Token) → IsStart (starts ts) → read_index (suc m) ts ≡ go_on (read_exprs m ts) (λ e rest. index_rest m e rest)
+pub index_is : (m : ℕ) (ts : List Token) → IsStart (starts ts) → read_index (suc m) ts ≡ go_on (read_exprs m ts) (λ e rest. index_rest m e rest)
 index_is m [] start = absurd (omega (arith, is_above 0 start))
 index_is m (t ∷ ts) start = if_false (is_sign 7 t.kind) _ _ (by_class 7 t.kind (let above = is_above (start_class t.kind) start in omega (arith, above)))
 
@@ -323,7 +324,7 @@ no_bound_of = record {
   reads = λ n t rest closes. more_steps (λ m. read_bound m (t ∷ rest)) (n + 1) (suc n) (omega arith) ∙ if_true (is_sign 3 t.kind) _ _ (is_closing 3 t.kind closes);
 }
 
-bound_is : (m : ℕ) (ts : List Token) → IsStart (starts ts) → read_bound (suc m) ts ≡ go_on (read_expr m ts) (λ e rest. Some (bound e, rest))
+pub bound_is : (m : ℕ) (ts : List Token) → IsStart (starts ts) → read_bound (suc m) ts ≡ go_on (read_expr m ts) (λ e rest. Some (bound e, rest))
 bound_is m [] start = absurd (omega (arith, is_above 0 start))
 bound_is m (t ∷ ts) start = if_false (is_sign 3 t.kind) _ _ (by_class 3 t.kind (let above = is_above (start_class t.kind) start in omega (arith, above)))
 
@@ -369,12 +370,12 @@ no_pairs_of = record {
 abbrev pub after_key : ℕ → Expr → List Token → Read Pairs
 after_key m key more = go_on (read_sign 7 more) (λ colon more_2. go_on (read_expr m more_2) (λ value rest. pairs_rest m key colon value rest))
 
-pairs_is : (m : ℕ) (ts : List Token) → IsStart (starts ts) → read_pairs (suc m) ts ≡ go_on (read_expr m ts) (λ key more. after_key m key more)
+pub pairs_is : (m : ℕ) (ts : List Token) → IsStart (starts ts) → read_pairs (suc m) ts ≡ go_on (read_expr m ts) (λ key more. after_key m key more)
 pairs_is m [] start = absurd (omega (arith, is_above 0 start))
 pairs_is m (t ∷ ts) start = if_false (is_sign 5 t.kind) _ _ (by_class 5 t.kind (let above = is_above (start_class t.kind) start in omega (arith, above)))
 
 -- a key and its value, and what follows them
-pair_of : (first : List Token) (key : Expr) (colon : Spot) (second : List Token) (value : Expr) (extra : ℕ) → ((rest : List Token) → IsStart (starts (first ++ rest))) → (is_1 : Reads read_expr 7 first key) → (is_2 : Reads read_expr 7 second value)
+pub pair_of : (first : List Token) (key : Expr) (colon : Spot) (second : List Token) (value : Expr) (extra : ℕ) → ((rest : List Token) → IsStart (starts (first ++ rest))) → (is_1 : Reads read_expr 7 first key) → (is_2 : Reads read_expr 7 second value)
     → (n : ℕ) (rest : List Token) → Beyond 7 rest
     → read_pairs (n + suc (suc (extra + (is_1.steps + is_2.steps)))) (first ++ (token (Sign 7) colon ∷ second ++ rest)) ≡ pairs_rest (suc (n + (extra + (is_1.steps + is_2.steps)))) key colon value rest
 pair_of first key colon second value extra start is_1 is_2 n rest beyond =
@@ -496,16 +497,16 @@ lead_attribute tokens p dot name_at bytes is = lead_more read_prim prim_rest 0 t
 
 -- ---- every expression
 
-or_stops : (e : Or) → Leads read_or or_rest 5 (or_tokens e) e → Reads read_or 6 (or_tokens e) e
+pub or_stops : (e : Or) → Leads read_or or_rest 5 (or_tokens e) e → Reads read_or 6 (or_tokens e) e
 or_stops e is = stop read_or or_rest 5 6 (or_tokens e) e (omega arith) is (λ m rest beyond. or_ends m e rest beyond)
 
-and_stops : (e : And) → Leads read_and and_rest 4 (and_tokens e) e → Reads read_and 5 (and_tokens e) e
+pub and_stops : (e : And) → Leads read_and and_rest 4 (and_tokens e) e → Reads read_and 5 (and_tokens e) e
 and_stops e is = stop read_and and_rest 4 5 (and_tokens e) e (omega arith) is (λ m rest beyond. and_ends m e rest beyond)
 
-sum_stops : (e : Sum) → Leads read_sum sum_rest 2 (sum_tokens e) e → Reads read_sum 3 (sum_tokens e) e
+pub sum_stops : (e : Sum) → Leads read_sum sum_rest 2 (sum_tokens e) e → Reads read_sum 3 (sum_tokens e) e
 sum_stops e is = stop read_sum sum_rest 2 3 (sum_tokens e) e (omega arith) is (λ m rest beyond. sum_ends m e rest beyond)
 
-term_stops : (e : Term) → Leads read_term term_rest 1 (term_tokens e) e → Reads read_term 2 (term_tokens e) e
+pub term_stops : (e : Term) → Leads read_term term_rest 1 (term_tokens e) e → Reads read_term 2 (term_tokens e) e
 term_stops e is = stop read_term term_rest 1 2 (term_tokens e) e (omega arith) is (λ m rest beyond. term_ends m e rest beyond)
 
 pub prim_stops : (e : Prim) → Leads read_prim prim_rest 0 (prim_tokens e) e → Reads read_prim 1 (prim_tokens e) e
@@ -517,31 +518,31 @@ mutual
   expr_reads (choice chosen if_word test else_word other) =
       choice_of (or_tokens chosen) chosen if_word (or_tokens test) test else_word (expr_tokens other) other (or_stops chosen (or_leads chosen)) (or_stops test (or_leads test)) (expr_reads other)
 
-  or_leads : (e : Or) → Leads read_or or_rest 5 (or_tokens e) e
+  pub or_leads : (e : Or) → Leads read_or or_rest 5 (or_tokens e) e
   or_leads (plain_or e) = lead_or_one (and_tokens e) e (and_stops e (and_leads e))
   or_leads (or_more left at right) = lead_or_more (or_tokens left) left at (and_tokens right) right (or_leads left) (and_stops right (and_leads right))
 
-  and_leads : (e : And) → Leads read_and and_rest 4 (and_tokens e) e
+  pub and_leads : (e : And) → Leads read_and and_rest 4 (and_tokens e) e
   and_leads (plain_and e) = lead_and_one (not_tokens e) e (not_reads e)
   and_leads (and_more left at right) = lead_and_more (and_tokens left) left at (not_tokens right) right (and_leads left) (not_reads right)
 
-  not_reads : (e : Not) → Reads read_not 4 (not_tokens e) e
+  pub not_reads : (e : Not) → Reads read_not 4 (not_tokens e) e
   not_reads (plain_not c) = plain_not_of c (cmp_reads c)
   not_reads (not_of at e) = not_of_of at (not_tokens e) e (not_reads e)
 
-  cmp_reads : (c : Cmp) → Reads read_cmp 4 (cmp_tokens_of c) c
+  pub cmp_reads : (c : Cmp) → Reads read_cmp 4 (cmp_tokens_of c) c
   cmp_reads (plain_cmp e) = plain_cmp_of (sum_tokens e) e (sum_stops e (sum_leads e))
   cmp_reads (compared left op right) = compared_of (sum_tokens left) left op (sum_tokens right) right (λ rest. sum_starts right rest) (sum_stops left (sum_leads left)) (sum_stops right (sum_leads right))
 
-  sum_leads : (e : Sum) → Leads read_sum sum_rest 2 (sum_tokens e) e
+  pub sum_leads : (e : Sum) → Leads read_sum sum_rest 2 (sum_tokens e) e
   sum_leads (plain_sum e) = lead_sum_one (term_tokens e) e (term_stops e (term_leads e))
   sum_leads (sum_more left at op right) = lead_sum_more (sum_tokens left) left at op (term_tokens right) right (sum_leads left) (term_stops right (term_leads right))
 
-  term_leads : (e : Term) → Leads read_term term_rest 1 (term_tokens e) e
+  pub term_leads : (e : Term) → Leads read_term term_rest 1 (term_tokens e) e
   term_leads (plain_term e) = lead_term_one (unary_tokens e) e (unary_reads e)
   term_leads (term_more left at op right) = lead_term_more (term_tokens left) left at op (unary_tokens right) right (term_leads left) (unary_reads right)
 
-  unary_reads : (u : Unary) → Reads read_unary 1 (unary_tokens u) u
+  pub unary_reads : (u : Unary) → Reads read_unary 1 (unary_tokens u) u
   unary_reads (plain_unary p) = plain_unary_of p (prim_stops p (prim_leads p))
   unary_reads (signed at op u) = signed_of at op (unary_tokens u) u (unary_reads u)
 

@@ -51,7 +51,7 @@ rest_spells end_rest_target = refl
 rest_spells (last_target t) = target_spells t
 rest_spells (more_target t comma rest) = ap (λ ts. ts ++ (sign (codes ",") comma ++ target_rest_tokens rest)) (target_spells t) ∙ ap (λ ts. expr_tokens (target_expr t) ++ (sign (codes ",") comma ++ ts)) (rest_spells rest)
 
-targets_spell : (t : Target) → target_tokens t ≡ exprs_tokens (target_exprs t)
+pub targets_spell : (t : Target) → target_tokens t ≡ exprs_tokens (target_exprs t)
 targets_spell (one_target t) = target_spells t
 targets_spell (several_targets t comma rest) = ap (λ ts. ts ++ (sign (codes ",") comma ++ target_rest_tokens rest)) (target_spells t) ∙ ap (λ ts. expr_tokens (target_expr t) ++ (sign (codes ",") comma ++ ts)) (rest_spells rest)
 
@@ -82,7 +82,7 @@ kw_class k kind more = not_keyword k kind (λ is. let same = ap start_class is i
 abbrev pub by_exprs : ℕ → List Token → Option Simple
 by_exprs n ts = option_and_then (λ found. behind_exprs n found.0 found.1) (read_exprs n ts)
 
-begins_with_exprs : (n : ℕ) (ts : List Token) → IsStart (starts ts) → read_simple n ts ≡ by_exprs n ts
+pub begins_with_exprs : (n : ℕ) (ts : List Token) → IsStart (starts ts) → read_simple n ts ≡ by_exprs n ts
 begins_with_exprs n [] start = absurd (omega (arith, is_above 0 start))
 begins_with_exprs n (t ∷ ts) start =
     let above = is_above (start_class t.kind) start in

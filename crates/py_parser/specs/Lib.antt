@@ -1,7 +1,11 @@
 pub mod Concrete
 pub mod Depth
+pub mod Follows
 pub mod Grammar
 pub mod Layout
+pub mod Parsed
+pub mod ParsedRows
+pub mod ParsedSimple
 pub mod LineReader
 pub mod Reader
 pub mod StatementReader

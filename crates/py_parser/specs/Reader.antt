@@ -84,6 +84,10 @@ read_cmp_sign (t ∷ ts) =
     else (if is_keyword 23 t.kind then is_or_is_not (spot_of t) (read_keyword 26 ts) ts
     else None))))))))
 
+-- no second comparison stands behind one
+abbrev pub no_second : Cmp → List Token → Read Cmp
+no_second e rest = if next_level rest == 4 then None else Some (e, rest)
+
 abbrev pub read_name : List Token → Read (Spot × List ℕ)
 read_name [] = None
 read_name (t ∷ ts) = name_of t.kind t ts
@@ -155,7 +159,7 @@ abbrev mutual
   pub cmp_rest : ℕ → Sum → List Token → Read Cmp
   cmp_rest zero left ts = None
   cmp_rest (suc n) left ts = if next_level ts == 4
-      then go_on (read_cmp_sign ts) (λ op more. go_on (read_sum n more) (λ right rest. Some (compared left op right, rest)))
+      then go_on (read_cmp_sign ts) (λ op more. go_on (read_sum n more) (λ right rest. no_second (compared left op right) rest))
       else Some (plain_cmp left, ts)
 
   pub read_sum : ℕ → List Token → Read Sum

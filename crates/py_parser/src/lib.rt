@@ -3,6 +3,21 @@
 //! tokens and lines are read off it, and so is its syntax tree, each node at its place.
 #![tactic(auto)]
 
+mod around;
+mod cursor;
+mod fault;
 mod laws;
+mod operators;
+mod part;
+mod primaries;
+mod rows;
+mod simple;
+mod targets;
+#[cfg(test)]
+mod tests;
+#[cfg(test)]
+mod tests_rows;
+mod words;
 
+pub use fault::ParseFault;
 pub use laws::{one_expression, one_script, one_simple_statement};
