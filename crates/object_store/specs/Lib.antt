@@ -1,0 +1,5 @@
+pub mod Cell
+pub mod File
+pub mod Object
+pub mod Room
+pub mod Store

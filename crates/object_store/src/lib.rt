@@ -1,0 +1,10 @@
+//! The store of a run: one finite map from locations to what stands there, with the kinds of its objects and the names
+//! of its functions and classes. Memory is taken first, for a whole plan of writes, and no write then takes any.
+#![tactic(auto)]
+
+mod cell;
+mod file;
+mod object;
+mod store;
+
+pub use store::Store;

@@ -1,0 +1,169 @@
+// One object of a run: its kind, its items where it is a list, and its keys in their order where it has keys.
+// It stands on a `Vec` and an `IndexSet`, and says for how many items and keys there is room.
+ghost use Rattle.std.specs.Prelude.{◌≡◌, ℕ, ◌+◌, ◌<◌, ◌≤◌, [], Some, OnOk, slice_get, slice_set, length};
+ghost use Rattle.object_store.specs.Object.{item_in, item_of, with_key, with_keys, without_key};
+
+use indexmap::IndexSet;
+use prov_base::Memory;
+use py_value::{Kind, Value};
+use std::alloc::Global;
+use std::marker::Model;
+
+/// An object. Contracts see its kind, its places for items, its keys in order, and for how many more keys there is room.
+#[derive(Drop)]
+pub struct Object {
+    kind: Kind,
+    items: Vec<Option<Value>>,
+    keys: IndexSet<Value>,
+}
+
+impl Model for Object {
+    ghost use Rattle.std.specs.Prelude.{◌-◌, ◌<◌, min, length};
+    ghost use Rattle.indexmap.specs.IndexSet.{spare};
+    ghost use Rattle.object_store.specs.Object.{ObjectView};
+
+    ghost Value = { ObjectView };
+
+    ghost view = { λ o. record { kind = o.kind; items = o.items.items; keys = o.keys.keys; spare = min (spare o.keys) (4294967295 - length o.keys.keys) } };
+
+    ghost invariant = { λ o. length o.keys.keys < 4294967296 };
+}
+
+impl Object {
+    /// An object of this kind with nothing set and no room.
+    pub fn new(alloc: Global, kind: Kind) -> Object
+        ensures kind { result.kind ≡ kind }
+        ensures items { result.items ≡ [] }
+        ensures keys { result.keys ≡ [] }
+    {
+        Object {
+            kind,
+            items: Vec::new(alloc),
+            keys: IndexSet::new(alloc),
+        }
+    }
+
+    /// What the object is.
+    pub fn kind(&self) -> Kind
+        ensures { result ≡ self.now.kind }
+    {
+        self.kind
+    }
+
+    /// Makes it an object of this kind.
+    pub fn set_kind(&mut self, kind: Kind)
+        ensures { self.new ≡ record self.old { kind = kind } }
+    {
+        self.kind = kind;
+    }
+
+    /// The item at a place, where one was set.
+    pub fn item(&self, i: u64) -> Option<Value>
+        ensures { result ≡ item_of self.now i }
+    {
+        match self.items.get(i as usize) {
+            Some(item) => *item,
+            None => None,
+        }
+    }
+
+    /// Sets the item at a place that is there.
+    pub fn set_item(&mut self, i: u64, item: Value)
+        requires { i < length self.old.items }
+        ensures { self.new ≡ record self.old { items = slice_set self.old.items i (Some item) } }
+    {
+        self.items[i as usize] = Some(item);
+    }
+
+    /// Makes this place for an item, and all before it.
+    pub fn reserve_item(&mut self, i: u64) -> Result<(), Memory>
+        ensures room { OnOk result (i < length self.new.items) }
+        ensures same { (k : ℕ) → item_of self.new k ≡ item_of self.old k }
+        ensures grows { length self.old.items ≤ length self.new.items }
+        ensures kind { self.new.kind ≡ self.old.kind }
+        ensures keys { self.new.keys ≡ self.old.keys }
+        ensures spare { self.new.spare ≡ self.old.spare }
+    {
+        reach(&mut self.items, i as usize)
+    }
+
+    /// How many keys there are. There is room for no more than have numbers.
+    pub fn key_count(&self) -> u32
+        ensures { result ≡ length self.now.keys }
+    {
+        self.keys.len() as u32
+    }
+
+    /// The key at a place of the order.
+    pub fn key_at(&self, i: usize) -> Value
+        requires { i < length self.now.keys }
+        ensures { slice_get self.now.keys i ≡ Some result }
+    {
+        self.keys.as_slice()[i]
+    }
+
+    /// Puts a key behind the others, where it is not there yet.
+    pub fn insert_key(&mut self, key: Value)
+        requires { 0 < self.old.spare }
+        ensures keys { self.new.keys ≡ with_key self.old.keys key }
+        ensures items { self.new.items ≡ self.old.items }
+        ensures kind { self.new.kind ≡ self.old.kind }
+        ensures spare { self.old.spare ≤ self.new.spare + 1 }
+    {
+        let _ = self.keys.insert(key);
+    }
+
+    /// Puts keys behind the others, one after another, each where it is not there yet.
+    pub fn insert_keys(&mut self, keys: &[Value])
+        requires { length keys.now ≤ self.old.spare }
+        ensures keys { self.new.keys ≡ with_keys self.old.keys keys.now }
+        ensures items { self.new.items ≡ self.old.items }
+        ensures kind { self.new.kind ≡ self.old.kind }
+        ensures spare { self.old.spare ≤ self.new.spare + length keys.now }
+    {
+        for key in keys {
+            self.insert_key(*key);
+        }
+    }
+
+    /// Takes a key out, where it is there.
+    pub fn delete_key(&mut self, key: Value)
+        ensures keys { self.new.keys ≡ without_key self.old.keys key }
+        ensures items { self.new.items ≡ self.old.items }
+        ensures kind { self.new.kind ≡ self.old.kind }
+        ensures spare { self.old.spare ≤ self.new.spare }
+    {
+        self.keys.shift_remove(&key);
+    }
+
+    /// Makes room for so many more keys.
+    pub fn reserve_keys(&mut self, count: usize) -> Result<(), Memory>
+        ensures room { OnOk result (count ≤ self.new.spare) }
+        ensures items { self.new.items ≡ self.old.items }
+        ensures kind { self.new.kind ≡ self.old.kind }
+        ensures keys { self.new.keys ≡ self.old.keys }
+        ensures grows { self.old.spare ≤ self.new.spare }
+    {
+        if u32::MAX as usize - self.keys.len() < count {
+            return Err(Memory);
+        }
+        self.keys.reserve(count)?;
+        Ok(())
+    }
+}
+
+// Makes a list of items reach a place.
+fn reach(items: &mut Vec<Option<Value>>, at: usize) -> Result<(), Memory>
+    ensures within { OnOk result (at < length items.new.items) }
+    ensures same { (k : ℕ) → item_in items.new.items k ≡ item_in items.old.items k }
+    ensures grows { length items.old.items ≤ length items.new.items }
+{
+    if at < items.len() {
+        return Ok(());
+    }
+    if at == usize::MAX {
+        return Err(Memory);
+    }
+    items.resize(at + 1, None)?;
+    Ok(())
+}

@@ -1,0 +1,163 @@
+// The store. It stands on a pool of objects, and on maps for what is no part of an object.
+ghost use Rattle.std.specs.Prelude.{◌≡◌, ◌<◌, ◌+◌, ◌≤◌, [], ◌∷◌, ◌++◌, length, slice_get, slice_set, if◌then◌else◌, Some, OnOk, OnErr, option_map};
+ghost use Rattle.object_store.specs.Store.{held_at, content_at, item_at, keys_at, kinds, name_at, file_at, whole, bytes as held_bytes, object_at, IsReadWhole, Writes, Notes};
+ghost use Rattle.std.specs.Option.{option_copied};
+ghost use Rattle.py_value.specs.declared.access.Location.{Location as OneLocation};
+ghost use Rattle.py_value.specs.declared.access.Location.TheVariants.{File as FileAt};
+ghost use Rattle.py_value.specs.contracts.access.LocationPartialEq.TheImpl.{ghosts as locations};
+ghost use Rattle.object_store.specs.Cell.{content_of};
+ghost use Rattle.object_store.specs.Object.{with_item};
+
+use crate::cell::Cell;
+use crate::file::File;
+use crate::object::Object;
+use indexmap::IndexMap;
+use prov_base::{Memory, Pos};
+use py_value::{Content, Kind, Location, Value};
+use region_pool::Pool;
+use std::alloc::Global;
+use std::marker::Model;
+use std::mem;
+
+/// The store of a run.
+#[derive(Drop)]
+pub struct Store {
+    objects: Pool<Object>,
+    cells: IndexMap<Location, Cell>,
+    files: IndexMap<u32, File>,
+    names: IndexMap<Pos, u32>,
+    next_object: Object,
+}
+
+impl Model for Store {
+    ghost use Rattle.indexmap.specs.IndexMap.{spare};
+    ghost use Rattle.object_store.specs.Store.{StoreView, IsEmpty};
+
+    ghost Value = { StoreView };
+
+    ghost view = { λ s. record { objects = s.objects.items; cells = s.cells.entries; files = s.files.entries; names = s.names.entries; next_object = s.next_object; spare_objects = s.objects.spare; spare_cells = spare s.cells } };
+
+    ghost invariant = { λ s. IsEmpty s.next_object };
+}
+
+impl Store {
+    /// What an object is.
+    pub fn kind(&self, o: u32) -> Kind
+        requires { o < length (kinds self.now) }
+        ensures { slice_get (kinds self.now) o ≡ Some result }
+    {
+        self.objects.get(o).kind()
+    }
+
+    /// The number of the object that is made next.
+    pub fn next(&self) -> u32
+        ensures { result ≡ length (kinds self.now) }
+    {
+        self.objects.len()
+    }
+
+    /// What stands at a location, where something was set. An order and a file are read by calls of their own.
+    pub fn read(&self, l: Location) -> Option<Content>
+        requires { IsReadWhole l }
+        ensures { option_map whole result ≡ held_at self.now l }
+    {
+        match l {
+            Location::Item(o, i) => match self.item(o, i) {
+                Some(item) => Some(Content::Item(item)),
+                None => None,
+            },
+            _ => self.content(l),
+        }
+    }
+
+    // The item of an object at a place, where one was set.
+    fn item(&self, o: u32, i: u64) -> Option<Value>
+        ensures { result ≡ item_at self.now o i }
+    {
+        if o >= self.objects.len() {
+            return None;
+        }
+        self.objects.get(o).item(i)
+    }
+
+    // What was set at a location that is no item, order or file.
+    fn content(&self, l: Location) -> Option<Content>
+        ensures { result ≡ content_at self.now l }
+    {
+        match self.cells.get(&l) {
+            Some(cell) => Some(cell.content()),
+            None => None,
+        }
+    }
+
+    /// How many keys an order has.
+    pub fn order_len(&self, o: u32) -> u32
+        requires { o < length (kinds self.now) }
+        ensures { result ≡ length (keys_at self.now o) }
+    {
+        self.objects.get(o).key_count()
+    }
+
+    /// The key at a place of an order.
+    pub fn order_key(&self, o: u32, i: u32) -> Value
+        requires { i < length (keys_at self.now o) }
+        ensures { slice_get (keys_at self.now o) i ≡ Some result }
+    {
+        self.objects.get(o).key_at(i as usize)
+    }
+
+    /// The bytes of the file at the path with this text.
+    pub fn file(&self, path: u32) -> Option<&[u8]>
+        ensures { option_copied result ≡ file_at self.now path }
+    {
+        match self.files.get(&path) {
+            Some(file) => file.content(),
+            None => None,
+        }
+    }
+
+    /// Sets the bytes of a file, as they were fetched.
+    pub fn place_file(&mut self, alloc: Global, path: u32, bytes: &[u8]) -> Result<(), Memory>
+        ensures held { OnOk result (Writes self.old self.new (FileAt path) (held_bytes bytes.now)) }
+        ensures err { OnErr result (self.new ≡ self.old) }
+    {
+        let file = File::holding(alloc, bytes)?;
+        self.files.insert(path, file)?;
+        Ok(())
+    }
+
+    /// The name that is noted for the function or class at a place.
+    pub fn name_at(&self, at: Pos) -> Option<u32>
+        ensures { result ≡ name_at self.now at }
+    {
+        self.names.get(&at).copied()
+    }
+
+    /// Notes the name of the function or class at a place, in place of an earlier one.
+    pub fn name_place(&mut self, at: Pos, name: u32) -> Result<(), Memory>
+        ensures noted { OnOk result (Notes self.old self.new at name) }
+        ensures err { OnErr result (self.new ≡ self.old) }
+        ensures same { self.new ≡ record self.old { names = self.new.names } }
+    {
+        self.names.insert(at, name)?;
+        Ok(())
+    }
+}
+
+impl Store {
+    /// Makes an object of this kind, of which nothing is set, and answers its number.
+    pub fn make(&mut self, kind: Kind) -> u32
+        requires { 0 < self.old.spare_objects }
+        ensures number { result ≡ length (kinds self.old) }
+        ensures kinds { kinds self.new ≡ kinds self.old ++ kind ∷ [] }
+        ensures held { (l : OneLocation) → held_at self.new l ≡ held_at self.old l }
+        ensures names { self.new.names ≡ self.old.names }
+    {
+        let alloc = *self.cells.allocator();
+        let mut object = mem::replace(&mut self.next_object, Object::new(alloc, Kind::List));
+        object.set_kind(kind);
+        self.objects.put(object)
+    }
+}
+
+mod writes;
