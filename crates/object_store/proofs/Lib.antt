@@ -1,1 +1,3 @@
 mod Making
+mod Writing
+mod Rooming

@@ -1,12 +1,14 @@
 // The store. It stands on a pool of objects, and on maps for what is no part of an object.
 ghost use Rattle.std.specs.Prelude.{◌≡◌, ◌<◌, ◌+◌, ◌≤◌, [], ◌∷◌, ◌++◌, length, slice_get, slice_set, if◌then◌else◌, Some, OnOk, OnErr, option_map};
-ghost use Rattle.object_store.specs.Store.{held_at, content_at, item_at, keys_at, kinds, name_at, file_at, whole, bytes as held_bytes, object_at, IsReadWhole, Writes, Notes};
+ghost use Rattle.object_store.specs.Store.{held_at, content_at, item_at, keys_at, kinds, name_at, file_at, whole, bytes as held_bytes, room_of, written, IsOwn, IsFresh, IsReadWhole, Writes, Notes};
 ghost use Rattle.std.specs.Option.{option_copied};
 ghost use Rattle.py_value.specs.declared.access.Location.{Location as OneLocation};
 ghost use Rattle.py_value.specs.declared.access.Location.TheVariants.{File as FileAt};
 ghost use Rattle.py_value.specs.contracts.access.LocationPartialEq.TheImpl.{ghosts as locations};
 ghost use Rattle.object_store.specs.Cell.{content_of};
 ghost use Rattle.object_store.specs.Object.{with_item};
+
+ghost use Rattle.object_store.specs.Room.{HasRoomToSet, Takes, cells_set, keys_set};
 
 use crate::cell::Cell;
 use crate::file::File;
@@ -157,6 +159,26 @@ impl Store {
         let mut object = mem::replace(&mut self.next_object, Object::new(alloc, Kind::List));
         object.set_kind(kind);
         self.objects.put(object)
+    }
+
+    /// Sets a location to a content of its own kind.
+    pub fn set(&mut self, l: Location, c: Content)
+        requires own { IsOwn l c }
+        requires fresh { IsFresh self.old l }
+        requires room { HasRoomToSet (room_of self.old) l c }
+        ensures writes { Writes self.old self.new l (written c) }
+        ensures left { Takes (room_of self.old) (room_of self.new) (cells_set l) (keys_set c) 0 }
+    {
+        if let Some(cell) = Cell::of(&c) {
+            self.set_cell(l, cell);
+            return;
+        }
+        match (l, c) {
+            (Location::Item(o, i), Content::Item(item)) => self.set_item(o, i, item),
+            (Location::Order(o), Content::Order(keys)) => self.insert_keys(o, keys.as_slice()),
+            (Location::File(path), Content::File(_)) => self.empty_file(path),
+            _ => {}
+        }
     }
 }
 
