@@ -1,6 +1,6 @@
 // The store. It stands on a pool of objects, and on maps for what is no part of an object.
 ghost use Rattle.std.specs.Prelude.{◌≡◌, ◌<◌, ◌+◌, ◌≤◌, [], ◌∷◌, ◌++◌, length, slice_get, slice_set, if◌then◌else◌, Some, OnOk, OnErr, option_map};
-ghost use Rattle.object_store.specs.Store.{held_at, content_at, item_at, keys_at, kinds, name_at, file_at, whole, bytes as held_bytes, room_of, written, IsOwn, IsFresh, IsReadWhole, Writes, Notes};
+ghost use Rattle.object_store.specs.Store.{held_at, content_at, item_at, keys_at, kinds, name_at, file_at, whole, bytes as held_bytes, room_of, written, changed, IsOwn, IsOwnChange, IsNamedChange, IsFresh, IsReadWhole, Writes, Notes};
 ghost use Rattle.std.specs.Option.{option_copied};
 ghost use Rattle.py_value.specs.declared.access.Location.{Location as OneLocation};
 ghost use Rattle.py_value.specs.declared.access.Location.TheVariants.{File as FileAt};
@@ -8,14 +8,14 @@ ghost use Rattle.py_value.specs.contracts.access.LocationPartialEq.TheImpl.{ghos
 ghost use Rattle.object_store.specs.Cell.{content_of};
 ghost use Rattle.object_store.specs.Object.{with_item};
 
-ghost use Rattle.object_store.specs.Room.{HasRoomToSet, Takes, cells_set, keys_set};
+ghost use Rattle.object_store.specs.Room.{HasRoomToSet, HasRoomToUpdate, Takes, cells_set, keys_set, keys_put, bytes_put};
 
 use crate::cell::Cell;
 use crate::file::File;
 use crate::object::Object;
 use indexmap::IndexMap;
 use prov_base::{Memory, Pos};
-use py_value::{Content, Kind, Location, Value};
+use py_value::{Change, Content, Kind, Location, Value, Values};
 use region_pool::Pool;
 use std::alloc::Global;
 use std::marker::Model;
@@ -177,6 +177,24 @@ impl Store {
             (Location::Item(o, i), Content::Item(item)) => self.set_item(o, i, item),
             (Location::Order(o), Content::Order(keys)) => self.insert_keys(o, keys.as_slice()),
             (Location::File(path), Content::File(_)) => self.empty_file(path),
+            _ => {}
+        }
+    }
+
+    /// Changes an order by a key, or a file by a text, and keeps the rest of what stands there.
+    pub fn update(&mut self, l: Location, c: Change, values: &Values)
+        requires own { IsOwnChange l c }
+        requires text { IsNamedChange values.now c }
+        requires room { HasRoomToUpdate values.now (room_of self.old) l c }
+        ensures writes { Writes self.old self.new l (changed values.now self.old l c) }
+        ensures left { Takes (room_of self.old) (room_of self.new) 0 (keys_put c) (bytes_put values.now c) }
+    {
+        match (l, c) {
+            (Location::Order(o), Change::Insert(key)) => self.insert_key(o, key),
+            (Location::Order(o), Change::Delete(key)) => self.delete_key(o, key),
+            (Location::File(path), Change::Append(text)) => {
+                self.append_file(path, values.text_of(text).as_bytes());
+            }
             _ => {}
         }
     }

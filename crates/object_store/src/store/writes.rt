@@ -77,7 +77,7 @@ impl Store {
     pub(super) fn append_file(&mut self, path: u32, bytes: &[u8])
         requires there { IsSome (slot_in (room_of self.old) path) }
         requires room { length bytes.now ≤ bytes_in (room_of self.old) path }
-        ensures file { (p : ℕ) → file_at self.new p ≡ (if path == p then Some (unwrap_or (file_at self.old p) [] ++ bytes.now) else file_at self.old p) }
+        ensures file { (p : ℕ) → file_at self.new p ≡ (if path == p then Some (unwrap_or (file_at self.old path) [] ++ bytes.now) else file_at self.old p) }
         ensures same { self.new ≡ record self.old { files = self.new.files } }
         ensures slots { (p : ℕ) → is_some (slot_in (room_of self.new) p) ≡ is_some (slot_in (room_of self.old) p) }
         ensures room { (p : ℕ) → bytes_in (room_of self.old) p ≤ bytes_in (room_of self.new) p + length bytes.now }
