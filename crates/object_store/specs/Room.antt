@@ -89,6 +89,46 @@ bytes_of values (Read l) = 0
 bytes_of values (Set l content) = 0
 bytes_of values (Update l change) = bytes_put values change
 
+-- what the accesses of a plan need together
+abbrev pub cells_in : List Access → ℕ
+cells_in [] = 0
+cells_in (access ∷ plan) = cells_of access + cells_in plan
+
+abbrev pub keys_in : List Access → ℕ
+keys_in [] = 0
+keys_in (access ∷ plan) = keys_of access + keys_in plan
+
+abbrev pub bytes_in_all : ValuesView → List Access → ℕ
+bytes_in_all values [] = 0
+bytes_in_all values (access ∷ plan) = bytes_of values access + bytes_in_all values plan
+
+-- the text of an append has a number
+abbrev pub IsNamedChange : ValuesView → Change → Type 0
+IsNamedChange values (Append text) = text < length values.texts
+IsNamedChange values change = ⊤
+
+abbrev pub IsNamedAccess : ValuesView → Access → Type 0
+IsNamedAccess values (Update l change) = IsNamedChange values change
+IsNamedAccess values (Read l) = ⊤
+IsNamedAccess values (Set l content) = ⊤
+
+abbrev pub AreNamedAccesses : ValuesView → List Access → Type 0
+AreNamedAccesses values plan = (k : ℕ) (access : Access) → slice_get plan k ≡ Some access → IsNamedAccess values access
+
+-- the object of an item or an order is one of so many
+abbrev pub IsWithin : ℕ → Location → Type 0
+IsWithin count (Item o i) = o < count
+IsWithin count (Order o) = o < count
+IsWithin count l = ⊤
+
+abbrev pub IsAccessWithin : ℕ → Access → Type 0
+IsAccessWithin count (Read l) = ⊤
+IsAccessWithin count (Set l content) = IsWithin count l
+IsAccessWithin count (Update l change) = IsWithin count l
+
+abbrev pub AreWithin : ℕ → List Access → Type 0
+AreWithin count plan = (k : ℕ) (access : Access) → slice_get plan k ≡ Some access → IsAccessWithin count access
+
 -- a write of so many cells, keys and bytes took no more room than that
 pub record Takes (old new : Room) (cells keys bytes : ℕ) : Type 0 where
   pub objects_stay : length new.objects ≡ length old.objects

@@ -130,11 +130,6 @@ IsOwnChange (Order o) (Delete key) = ⊤
 IsOwnChange (File path) (Append text) = ⊤
 IsOwnChange l change = ⊥
 
--- the text of an append has a number
-abbrev pub IsNamedChange : ValuesView → Change → Type 0
-IsNamedChange values (Append text) = text < length values.texts
-IsNamedChange values change = ⊤
-
 -- an order is set only where it has no keys
 abbrev pub IsFresh : StoreView → Location → Type 0
 IsFresh store (Order o) = keys_at store o ≡ []

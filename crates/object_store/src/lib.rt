@@ -4,6 +4,7 @@
 
 mod cell;
 mod file;
+mod need;
 mod object;
 mod store;
 

@@ -1,6 +1,6 @@
 // The store. It stands on a pool of objects, and on maps for what is no part of an object.
 ghost use Rattle.std.specs.Prelude.{◌≡◌, ◌<◌, ◌+◌, ◌≤◌, [], ◌∷◌, ◌++◌, length, slice_get, slice_set, if◌then◌else◌, Some, OnOk, OnErr, option_map};
-ghost use Rattle.object_store.specs.Store.{held_at, content_at, item_at, keys_at, kinds, name_at, file_at, whole, bytes as held_bytes, room_of, written, changed, IsOwn, IsOwnChange, IsNamedChange, IsFresh, IsReadWhole, Writes, Notes};
+ghost use Rattle.object_store.specs.Store.{held_at, content_at, item_at, keys_at, kinds, name_at, file_at, whole, bytes as held_bytes, room_of, written, changed, IsOwn, IsOwnChange, IsFresh, IsReadWhole, Writes, Notes};
 ghost use Rattle.std.specs.Option.{option_copied};
 ghost use Rattle.py_value.specs.declared.access.Location.{Location as OneLocation};
 ghost use Rattle.py_value.specs.declared.access.Location.TheVariants.{File as FileAt};
@@ -8,7 +8,7 @@ ghost use Rattle.py_value.specs.contracts.access.LocationPartialEq.TheImpl.{ghos
 ghost use Rattle.object_store.specs.Cell.{content_of};
 ghost use Rattle.object_store.specs.Object.{with_item};
 
-ghost use Rattle.object_store.specs.Room.{HasRoomToSet, HasRoomToUpdate, Takes, cells_set, keys_set, keys_put, bytes_put};
+ghost use Rattle.object_store.specs.Room.{HasRoomToSet, HasRoomToUpdate, IsNamedChange, Takes, cells_set, keys_set, keys_put, bytes_put};
 
 use crate::cell::Cell;
 use crate::file::File;
