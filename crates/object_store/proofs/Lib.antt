@@ -1,3 +1,4 @@
 mod Making
 mod Writing
 mod Rooming
+mod Reserving

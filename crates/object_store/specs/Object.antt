@@ -1,5 +1,5 @@
 -- What a contract sees of an object (this project's profile).
-use Rattle.std.specs.Prelude.{◌≡◌, ℕ, ◌+◌, ◌≤◌, List, [], ◌∷◌, ◌++◌, Option, slice_get, slice_set, Some, unwrap_or, None, if◌then◌else◌, Bool}
+use Rattle.std.specs.Prelude.{◌≡◌, ℕ, ◌+◌, ◌≤◌, List, [], ◌∷◌, ◌++◌, Option, slice_get, slice_set, length, Some, unwrap_or, None, if◌then◌else◌, Bool}
 use Rattle.std.specs.List.{list_any}
 use Rattle.std.specs.Set.{remove_key}
 use Rattle.py_value.specs.declared.value.Value.{Value}
@@ -49,3 +49,11 @@ pub record HasKeys (old new : ObjectView) (now : List Value) (used : ℕ) : Type
 -- an object with nothing in it, which stands for one that is not there
 abbrev pub no_object : ObjectView
 no_object = record { kind = ListKind; items = []; keys = []; spare = 0 }
+
+-- the object has more room now, and is as before
+pub record Grows (old new : ObjectView) : Type 0 where
+  pub items_stay : (i : ℕ) → item_of new i ≡ item_of old i
+  pub keys_stay : new.keys ≡ old.keys
+  pub kind_stays : new.kind ≡ old.kind
+  pub places : length old.items ≤ length new.items
+  pub spare : old.spare ≤ new.spare

@@ -149,3 +149,20 @@ IsReserved values room [] = ⊤
 IsReserved values room (access ∷ plan) =
     HasRoomFor values room access
     × ((after : Room) → Takes room after (cells_of access) (keys_of access) (bytes_of values access) → IsReserved values after plan)
+
+-- there is the place that an access needs, and room for so many keys and bytes in it
+abbrev pub HasPlaceToSet : Room → ℕ → Location → Type 0
+HasPlaceToSet room count (Item o i) = i < length (object_in room o).items
+HasPlaceToSet room count (Order o) = count ≤ (object_in room o).spare
+HasPlaceToSet room count (File path) = IsSome (slot_in room path)
+HasPlaceToSet room count l = ⊤
+
+abbrev pub HasPlaceToUpdate : Room → ℕ → ℕ → Location → Type 0
+HasPlaceToUpdate room count bytes (Order o) = count ≤ (object_in room o).spare
+HasPlaceToUpdate room count bytes (File path) = IsSome (slot_in room path) × (bytes ≤ bytes_in room path)
+HasPlaceToUpdate room count bytes l = ⊤
+
+abbrev pub HasPlaceFor : Room → ℕ → ℕ → Access → Type 0
+HasPlaceFor room count bytes (Read l) = ⊤
+HasPlaceFor room count bytes (Set l content) = HasPlaceToSet room count l
+HasPlaceFor room count bytes (Update l change) = HasPlaceToUpdate room count bytes l

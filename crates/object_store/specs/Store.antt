@@ -9,6 +9,7 @@ use Rattle.py_value.specs.declared.value.Value.{Value}
 use Rattle.py_value.specs.declared.access.Kind.{Kind}
 use Rattle.py_value.specs.declared.access.Location.{Location}
 use Rattle.py_value.specs.declared.access.Location.TheVariants.{Var, Len, Item, Entry, Order, File, Offset, Closed, Method, Base}
+use Rattle.py_value.specs.declared.access.Access.{Access}
 use Rattle.py_value.specs.declared.access.Change.{Change}
 use Rattle.py_value.specs.declared.access.Change.TheVariants.{Insert, Delete, Append}
 use Rattle.py_value.specs.declared.access.Content.{Content}
@@ -19,7 +20,7 @@ use Rattle.object_store.specs.Cell.{content_of}
 use Rattle.py_value.specs.Values.{ValuesView}
 use Rattle.object_store.specs.File.{FileView}
 use Rattle.object_store.specs.Object.{ObjectView, item_of, no_object, with_keys, with_key, without_key}
-use Rattle.object_store.specs.Room.{Room, object_in, text_in}
+use Rattle.object_store.specs.Room.{Room, object_in, text_in, IsReserved}
 
 -- What contracts see: the objects in the order in which they were made, what was set that is no item, order or file, the
 -- files by their path's text, the noted names; and the room: the object that is made next, and for how many more objects and cells there is room.
@@ -134,6 +135,33 @@ IsOwnChange l change = ⊥
 abbrev pub IsFresh : StoreView → Location → Type 0
 IsFresh store (Order o) = keys_at store o ≡ []
 IsFresh store l = ⊤
+
+-- everything that stands at a location, each kind and each noted name is as before
+pub record Keeps (old new : StoreView) : Type 0 where
+  pub held : (l : Location) → held_at new l ≡ held_at old l
+  pub kinds_stay : kinds new ≡ kinds old
+  pub names_stay : new.names ≡ old.names
+
+-- the object that was ready is there now, and is of this kind; no other room was used
+pub record Makes (old new : StoreView) (kind : Kind) : Type 0 where
+  pub objects_are : new.objects ≡ old.objects ++ record old.next_object { kind = kind } ∷ []
+  pub files_stay : new.files ≡ old.files
+  pub cells_stay : new.spare_cells ≡ old.spare_cells
+
+-- There is room for each access of a plan in its turn; where the plan makes an object first, once that is made.
+abbrev pub IsReservedFor : ValuesView → StoreView → Option Kind → List Access → Type 0
+IsReservedFor values store None plan = IsReserved values (room_of store) plan
+IsReservedFor values store (Some kind) plan =
+    (0 < store.spare_objects) × ((after : StoreView) → Makes store after kind → IsReserved values (room_of after) plan)
+
+-- what there is room for once the object that is ready is made
+abbrev pub room_with_next : StoreView → Room
+room_with_next store = record { objects = store.objects ++ store.next_object ∷ []; files = store.files; cells = store.spare_cells }
+
+-- how many objects a plan may name: those that are there, and the one that it makes
+abbrev pub count_with : Option Kind → StoreView → ℕ
+count_with None store = length store.objects
+count_with (Some kind) store = length store.objects + 1
 
 -- an object that was not given yet: nothing is set of it
 pub record IsEmpty (object : ObjectView) : Type 0 where

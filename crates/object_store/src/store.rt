@@ -1,6 +1,6 @@
 // The store. It stands on a pool of objects, and on maps for what is no part of an object.
 ghost use Rattle.std.specs.Prelude.{◌≡◌, ◌<◌, ◌+◌, ◌≤◌, [], ◌∷◌, ◌++◌, length, slice_get, slice_set, if◌then◌else◌, Some, OnOk, OnErr, option_map};
-ghost use Rattle.object_store.specs.Store.{held_at, content_at, item_at, keys_at, kinds, name_at, file_at, whole, bytes as held_bytes, room_of, written, changed, IsOwn, IsOwnChange, IsFresh, IsReadWhole, Writes, Notes};
+ghost use Rattle.object_store.specs.Store.{held_at, content_at, item_at, keys_at, kinds, name_at, file_at, whole, bytes as held_bytes, room_of, written, changed, IsOwn, IsOwnChange, IsFresh, IsReadWhole, Writes, Notes, Makes};
 ghost use Rattle.std.specs.Option.{option_copied};
 ghost use Rattle.py_value.specs.declared.access.Location.{Location as OneLocation};
 ghost use Rattle.py_value.specs.declared.access.Location.TheVariants.{File as FileAt};
@@ -154,6 +154,8 @@ impl Store {
         ensures kinds { kinds self.new ≡ kinds self.old ++ kind ∷ [] }
         ensures held { (l : OneLocation) → held_at self.new l ≡ held_at self.old l }
         ensures names { self.new.names ≡ self.old.names }
+        ensures makes { Makes self.old self.new kind }
+        ensures left { self.new.spare_objects + 1 ≡ self.old.spare_objects }
     {
         let alloc = *self.cells.allocator();
         let mut object = mem::replace(&mut self.next_object, Object::new(alloc, Kind::List));
@@ -200,4 +202,5 @@ impl Store {
     }
 }
 
+mod reserve;
 mod writes;

@@ -1,0 +1,16 @@
+use Rattle.std.proofs.Common.{◌≡◌, refl, sym, ap, subst, ◌∙◌, arith, ◌<◌, length}
+use Rattle.object_store.specs.Store.{StoreView, object_at}
+use Rattle.object_store.proofs.Reserving.{object_keeps}
+use Rattle.object_store.proofs.store.Store.make_item.Goals as goal
+
+pub returns-in_err-make_item_of-clause-keeps : goal.returns-in_err-make_item_of-clause-keeps
+returns-in_err-make_item_of-clause-keeps c =
+    let count : c.len.result ≡ length c.args.self.now.objects = c.len.ensures.count ∙ ap (λ (s : StoreView). length s.objects) c.self.view_is in
+    let within : c.args.o < length c.args.self.now.objects = omega arith in
+    object_keeps c.args.self.now c.make_item_of.new.self c.args.o (object_at c.make_item_of.new.self c.args.o) within c.make_item_of.ensures.same c.make_item_of.ensures.grows
+
+pub returns-in_ok-make_item_of-clause-keeps : goal.returns-in_ok-make_item_of-clause-keeps
+returns-in_ok-make_item_of-clause-keeps c =
+    let count : c.len.result ≡ length c.args.self.now.objects = c.len.ensures.count ∙ ap (λ (s : StoreView). length s.objects) c.self.view_is in
+    let within : c.args.o < length c.args.self.now.objects = omega arith in
+    object_keeps c.args.self.now c.make_item_of.new.self c.args.o (object_at c.make_item_of.new.self c.args.o) within c.make_item_of.ensures.same c.make_item_of.ensures.grows

@@ -1,0 +1,184 @@
+// Memory for a plan of writes, taken before the first of them. Whether it is had or refused, all that stands in the
+// store is as before.
+ghost use Rattle.std.specs.Prelude.{◌≡◌, ℕ, ◌+◌, ◌<◌, ◌≤◌, length, slice_set, slice_get, Some, IsSome, OnOk};
+ghost use Rattle.py_value.specs.declared.access.Access.{Access as OneAccess};
+ghost use Rattle.object_store.specs.Object.{Grows};
+ghost use Rattle.object_store.specs.Room.{object_in, slot_in, bytes_in, AreNamedAccesses, AreWithin, IsAccessWithin, Takes, HasPlaceFor};
+ghost use Rattle.object_store.specs.Store.{object_at, room_of, room_with_next, count_with, file_at, Keeps, IsReservedFor};
+
+use super::Store;
+use crate::file::File;
+use crate::need::Need;
+use prov_base::Memory;
+use py_value::{Access, Kind, Location, Values};
+use region_pool::NoRoom;
+use std::alloc::Global;
+
+impl Store {
+    /// Takes all memory that the writes of a plan need, in their order, with the object that is made first. The plan names
+    /// that object by `next`.
+    pub fn reserve_for(&mut self, alloc: Global, plan: &[Access], made: Option<Kind>, values: &Values) -> Result<(), Memory>
+        requires texts { AreNamedAccesses values.now plan.now }
+        requires objects { AreWithin (count_with made self.old) plan.now }
+        ensures reserved { OnOk result (IsReservedFor values.now self.new made plan.now) }
+        ensures keeps { Keeps self.old self.new }
+    {
+        let need = Need::of(plan, values)?;
+        self.cells.reserve(need.cells)?;
+        if made.is_some() {
+            self.make_object_room(alloc)?;
+        }
+        self.make_places(alloc, plan, need)?;
+        Ok(())
+    }
+
+    // Makes room for one object more.
+    fn make_object_room(&mut self, alloc: Global) -> Result<(), Memory>
+        ensures room { OnOk result (0 < self.new.spare_objects) }
+        ensures same { self.new ≡ record self.old { spare_objects = self.new.spare_objects } }
+    {
+        match self.objects.reserve(alloc, 1) {
+            Ok(()) => Ok(()),
+            Err(NoRoom) => Err(Memory),
+        }
+    }
+
+    // Makes the places that the accesses of a plan need, each with room for so many keys or bytes.
+    fn make_places(&mut self, alloc: Global, plan: &[Access], need: Need) -> Result<(), Memory>
+        requires { AreWithin (length self.old.objects + 1) plan.now }
+        ensures places { OnOk result ((k : ℕ) (access : OneAccess) → slice_get plan.now k ≡ Some access
+            → HasPlaceFor (room_with_next self.new) need.keys need.bytes access) }
+        ensures keeps { Keeps self.old self.new }
+        ensures left { Takes (room_with_next self.old) (room_with_next self.new) 0 0 0 }
+        ensures spare { self.new.spare_objects ≡ self.old.spare_objects }
+        ensures count { length self.new.objects ≡ length self.old.objects }
+    {
+        for access in plan {
+            self.make_place(alloc, access, need)?;
+        }
+        Ok(())
+    }
+
+    // Makes the place that an access needs.
+    fn make_place(&mut self, alloc: Global, access: &Access, need: Need) -> Result<(), Memory>
+        requires { IsAccessWithin (length self.old.objects + 1) access.now }
+        ensures place { OnOk result (HasPlaceFor (room_with_next self.new) need.keys need.bytes access.now) }
+        ensures keeps { Keeps self.old self.new }
+        ensures left { Takes (room_with_next self.old) (room_with_next self.new) 0 0 0 }
+        ensures spare { self.new.spare_objects ≡ self.old.spare_objects }
+        ensures count { length self.new.objects ≡ length self.old.objects }
+    {
+        match access {
+            Access::Set(Location::Item(o, i), _) => {
+                self.make_item(*o, *i)?;
+                Ok(())
+            }
+            Access::Set(Location::Order(o), _) | Access::Update(Location::Order(o), _) => {
+                self.make_keys(*o, need.keys)?;
+                Ok(())
+            }
+            Access::Set(Location::File(path), _) | Access::Update(Location::File(path), _) => {
+                self.make_file(alloc, *path, need.bytes)?;
+                Ok(())
+            }
+            _ => Ok(()),
+        }
+    }
+
+    // Makes a place for an item of an object, or of the one that is ready.
+    fn make_item(&mut self, o: u32, i: u64) -> Result<(), Memory>
+        requires { o < length self.old.objects + 1 }
+        ensures place { OnOk result (i < length (object_in (room_with_next self.new) o).items) }
+        ensures keeps { Keeps self.old self.new }
+        ensures left { Takes (room_with_next self.old) (room_with_next self.new) 0 0 0 }
+        ensures spare { self.new.spare_objects ≡ self.old.spare_objects }
+        ensures count { length self.new.objects ≡ length self.old.objects }
+    {
+        if o < self.objects.len() {
+            self.make_item_of(o, i)?;
+        } else {
+            self.make_item_of_next(i)?;
+        }
+        Ok(())
+    }
+
+    fn make_item_of(&mut self, o: u32, i: u64) -> Result<(), Memory>
+        requires { o < length self.old.objects }
+        ensures place { OnOk result (i < length (object_at self.new o).items) }
+        ensures same { self.new ≡ record self.old { objects = slice_set self.old.objects o (object_at self.new o) } }
+        ensures grows { Grows (object_at self.old o) (object_at self.new o) }
+    {
+        self.objects.get_mut(o).reserve_item(i)
+    }
+
+    fn make_item_of_next(&mut self, i: u64) -> Result<(), Memory>
+        ensures place { OnOk result (i < length self.new.next_object.items) }
+        ensures same { self.new ≡ record self.old { next_object = self.new.next_object } }
+        ensures grows { Grows self.old.next_object self.new.next_object }
+    {
+        self.next_object.reserve_item(i)
+    }
+
+    // Makes room for keys of an object, or of the one that is ready.
+    fn make_keys(&mut self, o: u32, count: usize) -> Result<(), Memory>
+        requires { o < length self.old.objects + 1 }
+        ensures place { OnOk result (count ≤ (object_in (room_with_next self.new) o).spare) }
+        ensures keeps { Keeps self.old self.new }
+        ensures left { Takes (room_with_next self.old) (room_with_next self.new) 0 0 0 }
+        ensures spare { self.new.spare_objects ≡ self.old.spare_objects }
+        ensures count { length self.new.objects ≡ length self.old.objects }
+    {
+        if o < self.objects.len() {
+            self.make_keys_of(o, count)?;
+        } else {
+            self.make_keys_of_next(count)?;
+        }
+        Ok(())
+    }
+
+    fn make_keys_of(&mut self, o: u32, count: usize) -> Result<(), Memory>
+        requires { o < length self.old.objects }
+        ensures place { OnOk result (count ≤ (object_at self.new o).spare) }
+        ensures same { self.new ≡ record self.old { objects = slice_set self.old.objects o (object_at self.new o) } }
+        ensures grows { Grows (object_at self.old o) (object_at self.new o) }
+    {
+        self.objects.get_mut(o).reserve_keys(count)
+    }
+
+    fn make_keys_of_next(&mut self, count: usize) -> Result<(), Memory>
+        ensures place { OnOk result (count ≤ self.new.next_object.spare) }
+        ensures same { self.new ≡ record self.old { next_object = self.new.next_object } }
+        ensures grows { Grows self.old.next_object self.new.next_object }
+    {
+        self.next_object.reserve_keys(count)
+    }
+
+    // Makes a place for a file, with room for so many more bytes. Where there was none, the file is absent.
+    fn make_file(&mut self, alloc: Global, path: u32, bytes: usize) -> Result<(), Memory>
+        ensures slot { OnOk result (IsSome (slot_in (room_with_next self.new) path)) }
+        ensures room { OnOk result (bytes ≤ bytes_in (room_with_next self.new) path) }
+        ensures files { (p : ℕ) → file_at self.new p ≡ file_at self.old p }
+        ensures same { self.new ≡ record self.old { files = self.new.files } }
+        ensures slots_left { (p : ℕ) → IsSome (slot_in (room_of self.old) p) → IsSome (slot_in (room_of self.new) p) }
+        ensures bytes_left { (p : ℕ) → bytes_in (room_of self.old) p ≤ bytes_in (room_of self.new) p }
+    {
+        self.make_slot(alloc, path)?;
+        if let Some(file) = self.files.get_mut(&path) {
+            file.reserve(bytes)?;
+        }
+        Ok(())
+    }
+
+    fn make_slot(&mut self, alloc: Global, path: u32) -> Result<(), Memory>
+        ensures slot { OnOk result (IsSome (slot_in (room_of self.new) path)) }
+        ensures files { (p : ℕ) → file_at self.new p ≡ file_at self.old p }
+        ensures same { self.new ≡ record self.old { files = self.new.files } }
+        ensures slots_left { (p : ℕ) → IsSome (slot_in (room_of self.old) p) → IsSome (slot_in (room_of self.new) p) }
+        ensures bytes_left { (p : ℕ) → bytes_in (room_of self.old) p ≤ bytes_in (room_of self.new) p }
+    {
+        if !self.files.contains_key(&path) {
+            self.files.insert(path, File::absent(alloc))?;
+        }
+        Ok(())
+    }
+}
