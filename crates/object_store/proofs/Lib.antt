@@ -2,3 +2,4 @@ mod Making
 mod Writing
 mod Rooming
 mod Reserving
+mod Planning

@@ -65,7 +65,7 @@ item_set (x ∷ xs) (suc i) item within (suc j) = grind (arith, common_steps, it
 
 pub items_set : (xs : List ObjectView) (o i : ℕ) (item : Value) → o < length xs → i < length (slice_index_or xs o no_object).items → (p j : ℕ)
     → option_and_then (λ (ob : ObjectView). item_of ob j) (slice_get (slice_set xs o (with_item (slice_index_or xs o no_object) i item)) p)
-      ≡ (if (o == p) && (i == j) then Some item else option_and_then (λ (ob : ObjectView). item_of ob j) (slice_get xs p))
+    ≡ (if (o == p) && (i == j) then Some item else option_and_then (λ (ob : ObjectView). item_of ob j) (slice_get xs p))
 items_set [] o i item within place p j = absurd (omega (arith, within))
 items_set (x ∷ xs) zero i item within place zero j = item_set x.items i (Some item) place j
 items_set (x ∷ xs) zero i item within place (suc p) j = grind (arith, common_steps)
@@ -95,7 +95,7 @@ item_if false item other = refl
 
 keys_if : (b : Bool) (object : ObjectView) (other : Option ObjectView)
     → Some (keys (unwrap_or (option_map (λ (ob : ObjectView). ob.keys) (if b then Some object else other)) []))
-      ≡ (if b then Some (keys object.keys) else Some (keys (unwrap_or (option_map (λ (ob : ObjectView). ob.keys) other) [])))
+    ≡ (if b then Some (keys object.keys) else Some (keys (unwrap_or (option_map (λ (ob : ObjectView). ob.keys) other) [])))
 keys_if true object other = refl
 keys_if false object other = refl
 

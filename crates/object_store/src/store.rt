@@ -7,7 +7,6 @@ ghost use Rattle.py_value.specs.declared.access.Location.TheVariants.{File as Fi
 ghost use Rattle.py_value.specs.contracts.access.LocationPartialEq.TheImpl.{ghosts as locations};
 ghost use Rattle.object_store.specs.Cell.{content_of};
 ghost use Rattle.object_store.specs.Object.{with_item};
-
 ghost use Rattle.object_store.specs.Room.{HasRoomToSet, HasRoomToUpdate, IsNamedChange, Takes, cells_set, keys_set, keys_put, bytes_put};
 
 use crate::cell::Cell;

@@ -1,6 +1,6 @@
 // Memory for a plan of writes, taken before the first of them. Whether it is had or refused, all that stands in the
 // store is as before.
-ghost use Rattle.std.specs.Prelude.{◌≡◌, ℕ, ◌+◌, ◌<◌, ◌≤◌, length, slice_set, slice_get, Some, IsSome, OnOk};
+ghost use Rattle.std.specs.Prelude.{◌≡◌, ℕ, ◌+◌, ◌<◌, ◌≤◌, length, slice_set, slice_get, Some, IsSome, IfSome, OnOk};
 ghost use Rattle.py_value.specs.declared.access.Access.{Access as OneAccess};
 ghost use Rattle.object_store.specs.Object.{Grows};
 ghost use Rattle.object_store.specs.Room.{object_in, slot_in, bytes_in, AreNamedAccesses, AreWithin, IsAccessWithin, Takes, HasPlaceFor};
@@ -17,26 +17,43 @@ use std::alloc::Global;
 impl Store {
     /// Takes all memory that the writes of a plan need, in their order, with the object that is made first. The plan names
     /// that object by `next`.
-    pub fn reserve_for(&mut self, alloc: Global, plan: &[Access], made: Option<Kind>, values: &Values) -> Result<(), Memory>
+    pub fn reserve_for(
+        &mut self,
+        alloc: Global,
+        plan: &[Access],
+        made: Option<Kind>,
+        values: &Values,
+    ) -> Result<(), Memory>
         requires texts { AreNamedAccesses values.now plan.now }
         requires objects { AreWithin (count_with made self.old) plan.now }
         ensures reserved { OnOk result (IsReservedFor values.now self.new made plan.now) }
         ensures keeps { Keeps self.old self.new }
     {
         let need = Need::of(plan, values)?;
-        self.cells.reserve(need.cells)?;
-        if made.is_some() {
-            self.make_object_room(alloc)?;
-        }
+        self.make_cell_room(need.cells)?;
+        self.make_object_room(alloc, made)?;
         self.make_places(alloc, plan, need)?;
         Ok(())
     }
 
-    // Makes room for one object more.
-    fn make_object_room(&mut self, alloc: Global) -> Result<(), Memory>
-        ensures room { OnOk result (0 < self.new.spare_objects) }
+    // Makes room for so many cells more.
+    fn make_cell_room(&mut self, count: usize) -> Result<(), Memory>
+        ensures room { OnOk result (count ≤ self.new.spare_cells) }
+        ensures same { self.new ≡ record self.old { spare_cells = self.new.spare_cells } }
+        ensures grows { self.old.spare_cells ≤ self.new.spare_cells }
+    {
+        self.cells.reserve(count)?;
+        Ok(())
+    }
+
+    // Makes room for the object that a plan makes.
+    fn make_object_room(&mut self, alloc: Global, made: Option<Kind>) -> Result<(), Memory>
+        ensures room { OnOk result (IfSome made (λ kind. 0 < self.new.spare_objects)) }
         ensures same { self.new ≡ record self.old { spare_objects = self.new.spare_objects } }
     {
+        if made.is_none() {
+            return Ok(());
+        }
         match self.objects.reserve(alloc, 1) {
             Ok(()) => Ok(()),
             Err(NoRoom) => Err(Memory),

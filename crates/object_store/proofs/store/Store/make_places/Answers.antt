@@ -14,7 +14,7 @@ loop-access-preserved c =
       c.make_place.ensures.spare ∙ c.loop-access.invariant.2,
       c.make_place.ensures.count ∙ c.loop-access.invariant.3,
       up_to (HasPlaceFor (room_with_next c.make_place.new.self) c.args.need.keys c.args.need.bytes) c.args.plan.now c.loop-access.access-index c.access-item.result at c.in_ok-make_place.ensures.place
-        (λ k a below is. place_later (room_with_next c.loop-access.self) (room_with_next c.make_place.new.self) 0 0 0 c.make_place.ensures.left c.args.need.keys c.args.need.bytes c.args.need.keys c.args.need.bytes (omega arith) (omega arith) a (c.loop-access.invariant.4 k a below is)),
+          (λ k a below is. place_later (room_with_next c.loop-access.self) (room_with_next c.make_place.new.self) 0 0 0 c.make_place.ensures.left c.args.need.keys c.args.need.bytes c.args.need.keys c.args.need.bytes (omega arith) (omega arith) a (c.loop-access.invariant.4 k a below is)),
     )
 
 pub returns-clause-places : goal.returns-clause-places

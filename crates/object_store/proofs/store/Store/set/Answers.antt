@@ -28,11 +28,11 @@ returns-in-Order-Order-clause-writes c =
     let room = rw (c.in-Order-Order.is-0, c.in-Order-Order.is-1) at c.requires.room in
     rw (c.in-Order-Order.is-0, c.in-Order-Order.is-1)
     (subst (λ ks. Writes c.args.self.now c.insert_keys.new.self (Order c.in-Order-Order.o) (keys ks))
-      (ap (λ ks. with_keys ks c.as_slice.result.now) (sym (keys_there c.args.self.now.objects c.in-Order-Order.o) ∙ fresh) ∙ ap (with_keys []) c.as_slice.ensures)
-      (order_held c.args.self.now c.insert_keys.new.self c.in-Order-Order.o (object_at c.insert_keys.new.self c.in-Order-Order.o) _ _ room.0 c.insert_keys.ensures.same c.insert_keys.ensures.keys))
+    (ap (λ ks. with_keys ks c.as_slice.result.now) (sym (keys_there c.args.self.now.objects c.in-Order-Order.o) ∙ fresh) ∙ ap (with_keys []) c.as_slice.ensures)
+    (order_held c.args.self.now c.insert_keys.new.self c.in-Order-Order.o (object_at c.insert_keys.new.self c.in-Order-Order.o) _ _ room.0 c.insert_keys.ensures.same c.insert_keys.ensures.keys))
 
 pub returns-in-Order-Order-clause-left : goal.returns-in-Order-Order-clause-left
 returns-in-Order-Order-clause-left c =
     rw (c.in-Order-Order.is-0, c.in-Order-Order.is-1)
     (subst (λ ks. Takes (room_of c.args.self.now) (room_of c.insert_keys.new.self) 0 (length ks) 0) c.as_slice.ensures
-      (keys_take c.args.self.now c.insert_keys.new.self c.in-Order-Order.o (object_at c.insert_keys.new.self c.in-Order-Order.o) _ _ c.insert_keys.ensures.same c.insert_keys.ensures.keys))
+    (keys_take c.args.self.now c.insert_keys.new.self c.in-Order-Order.o (object_at c.insert_keys.new.self c.in-Order-Order.o) _ _ c.insert_keys.ensures.same c.insert_keys.ensures.keys))

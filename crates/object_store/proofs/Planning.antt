@@ -1,0 +1,128 @@
+-- Where there is the place that each access of a plan needs, with room for all keys and bytes of the plan in it, there is
+-- room for each access in its turn.
+use Rattle.std.proofs.Common.{◌≡◌, ℕ, zero, suc, ◌+◌, ◌-◌, ◌<◌, ◌≤◌, List, [], ◌∷◌, ◌++◌, length, slice_get, slice_index_or, Option, Some, IsSome, IfSome, refl, ap, sym, subst, ◌∙◌, arith}
+use Rattle.std.specs.Prelude.{None}
+use Rattle.py_value.specs.declared.access.Access.{Access}
+use Rattle.py_value.specs.declared.access.Access.TheVariants.{Read, Set, Update}
+use Rattle.py_value.specs.declared.access.Change.TheVariants.{Insert, Delete, Append}
+use Rattle.py_value.specs.declared.access.Content.TheVariants.{Order as OrderContent}
+use Rattle.py_value.specs.declared.access.Kind.{Kind}
+use Rattle.py_value.specs.declared.access.Location.TheVariants.{Var, Len, Item, Entry, Order, File, Offset, Closed, Method, Base}
+use Rattle.py_value.specs.Values.{ValuesView}
+use Rattle.object_store.specs.Object.{ObjectView, no_object}
+use Rattle.object_store.specs.Room.{Room, Takes, HasPlaceFor, HasRoomFor, IsReserved, IsAccessWithin, AreWithin, cells_of, keys_of, bytes_of, cells_in, keys_in, bytes_in_all}
+use Rattle.object_store.specs.Store.{StoreView, Makes, IsReservedFor, room_of, room_with_next, count_with}
+use Rattle.object_store.proofs.Reserving.{place_later}
+
+has_room : (values : ValuesView) (room : Room) (keys bytes : ℕ) (access : Access) → HasPlaceFor room keys bytes access → IsAccessWithin (length room.objects) access
+    → cells_of access ≤ room.cells → keys_of access ≤ keys → bytes_of values access ≤ bytes → HasRoomFor values room access
+has_room values room keys bytes (Read l) place within cells_fit keys_fit bytes_fit = tt
+has_room values room keys bytes (Set (Item o i) content) place within cells_fit keys_fit bytes_fit = (within, place)
+has_room values room keys bytes (Set (Order o) (OrderContent ks)) place within cells_fit keys_fit bytes_fit = (within, omega arith)
+has_room values room keys bytes (Set (Order o) content) place within cells_fit keys_fit bytes_fit = tt
+has_room values room keys bytes (Set (File path) content) place within cells_fit keys_fit bytes_fit = place
+has_room values room keys bytes (Set l content) place within cells_fit keys_fit bytes_fit = omega arith
+has_room values room keys bytes (Update (Order o) (Insert key)) place within cells_fit keys_fit bytes_fit = (within, omega arith)
+has_room values room keys bytes (Update (Order o) (Delete key)) place within cells_fit keys_fit bytes_fit = within
+has_room values room keys bytes (Update (File path) (Append text)) place within cells_fit keys_fit bytes_fit = (place.0, omega (arith, place.1))
+has_room values room keys bytes (Update l change) place within cells_fit keys_fit bytes_fit = tt
+
+pub reserved : (values : ValuesView) (plan : List Access) (room : Room) (keys bytes : ℕ) → ((k : ℕ) (access : Access) → slice_get plan k ≡ Some access → HasPlaceFor room keys bytes access)
+    → AreWithin (length room.objects) plan → cells_in plan ≤ room.cells → keys_in plan ≤ keys → bytes_in_all values plan ≤ bytes → IsReserved values room plan
+reserved values [] room keys bytes places within cells_fit keys_fit bytes_fit = tt
+reserved values (access ∷ plan) room keys bytes places within cells_fit keys_fit bytes_fit = (
+  has_room values room keys bytes access (places 0 access refl) (within 0 access refl) (omega arith) (omega arith) (omega arith),
+  λ after takes.
+      reserved values plan after (keys - keys_of access) (bytes - bytes_of values access)
+      (λ k b is. place_later room after (cells_of access) (keys_of access) (bytes_of values access) takes (keys - keys_of access) (bytes - bytes_of values access) keys bytes (omega arith) (omega arith) b (places (suc k) b is))
+      (subst (λ count. AreWithin count plan) (sym takes.objects_stay) (λ k b is. within (suc k) b is))
+      (omega (arith, takes.cells_left)) (omega arith) (omega arith),
+)
+
+-- an object of the front is one of the longer list
+front : (xs : List ObjectView) (object : ObjectView) (o : ℕ) → o < length xs → slice_index_or (xs ++ object ∷ []) o no_object ≡ slice_index_or xs o no_object
+front [] object o within = absurd (omega (arith, within))
+front (x ∷ xs) object zero within = refl
+front (x ∷ xs) object (suc o) within = front xs object o (omega (arith, within))
+
+-- the kind of the last object is no matter of room
+items_last : (xs : List ObjectView) (object : ObjectView) (kind : Kind) (o : ℕ)
+    → length (slice_index_or (xs ++ object ∷ []) o no_object).items ≡ length (slice_index_or (xs ++ record object { kind = kind } ∷ []) o no_object).items
+items_last [] object kind zero = refl
+items_last [] object kind (suc o) = refl
+items_last (x ∷ xs) object kind zero = refl
+items_last (x ∷ xs) object kind (suc o) = items_last xs object kind o
+
+spare_last : (xs : List ObjectView) (object : ObjectView) (kind : Kind) (o : ℕ)
+    → (slice_index_or (xs ++ object ∷ []) o no_object).spare ≡ (slice_index_or (xs ++ record object { kind = kind } ∷ []) o no_object).spare
+spare_last [] object kind zero = refl
+spare_last [] object kind (suc o) = refl
+spare_last (x ∷ xs) object kind zero = refl
+spare_last (x ∷ xs) object kind (suc o) = spare_last xs object kind o
+
+count_last : (xs : List ObjectView) (object : ObjectView) → length (xs ++ object ∷ []) ≡ length xs + 1
+count_last [] object = refl
+count_last (x ∷ xs) object = omega (arith, count_last xs object)
+
+module _ (store : StoreView) (keys bytes : ℕ) where
+  -- a place of an object that is there is one without the object that is made next
+  here : (access : Access) → IsAccessWithin (length store.objects) access → HasPlaceFor (room_with_next store) keys bytes access → HasPlaceFor (room_of store) keys bytes access
+  here (Read l) within place = place
+  here (Set (Item o i) content) within place = subst (λ (ob : ObjectView). i < length ob.items) (front store.objects store.next_object o within) place
+  here (Set (Order o) content) within place = subst (λ (ob : ObjectView). keys ≤ ob.spare) (front store.objects store.next_object o within) place
+  here (Set (File path) content) within place = place
+  here (Set l content) within place = place
+  here (Update (Order o) change) within place = subst (λ (ob : ObjectView). keys ≤ ob.spare) (front store.objects store.next_object o within) place
+  here (Update (File path) change) within place = place
+  here (Update l change) within place = place
+
+-- making the object takes no room
+makes_takes : (store after : StoreView) (kind : Kind) → Makes store after kind → Takes (room_with_next store) (room_of after) 0 0 0
+makes_takes store after kind makes =
+    subst (λ objects. Takes (room_with_next store) (record { objects = objects; files = after.files; cells = after.spare_cells }) 0 0 0) (sym makes.objects_are)
+    (subst (λ files. Takes (room_with_next store) (record { objects = store.objects ++ record store.next_object { kind = kind } ∷ []; files = files; cells = after.spare_cells }) 0 0 0) (sym makes.files_stay)
+    (record {
+      objects_stay = count_last store.objects (record store.next_object { kind = kind }) ∙ sym (count_last store.objects store.next_object);
+      cells_left = omega (arith, makes.cells_stay);
+      items_left = λ o. omega (arith, items_last store.objects store.next_object kind o);
+      keys_left = λ o. omega (arith, spare_last store.objects store.next_object kind o);
+      slots_left = λ path there. there;
+      bytes_left = λ path. omega arith;
+    }))
+
+within_more : (few more : ℕ) → few ≤ more → (access : Access) → IsAccessWithin few access → IsAccessWithin more access
+within_more few more fits (Read l) within = within
+within_more few more fits (Set (Item o i) content) within = omega arith
+within_more few more fits (Set (Order o) content) within = omega arith
+within_more few more fits (Set l content) within = within
+within_more few more fits (Update (Item o i) change) within = omega arith
+within_more few more fits (Update (Order o) change) within = omega arith
+within_more few more fits (Update l change) within = within
+
+count_fits : (made : Option Kind) (store : StoreView) → count_with made store ≤ length store.objects + 1
+count_fits None store = omega arith
+count_fits (Some kind) store = omega arith
+
+-- what a plan may name is there, or is the object that is made next
+pub within_next : (made : Option Kind) (store : StoreView) (count : ℕ) → count ≡ length store.objects → (plan : List Access) → AreWithin (count_with made store) plan → AreWithin (count + 1) plan
+within_next made store count is plan within = λ k access at. within_more (count_with made store) (count + 1) (omega (arith, count_fits made store)) access (within k access at)
+
+count_same : (made : Option Kind) (old new : StoreView) → length new.objects ≡ length old.objects → count_with made new ≡ count_with made old
+count_same None old new is = is
+count_same (Some kind) old new is = ap (λ n. n + 1) is
+
+pub reserved_for : (values : ValuesView) (old store : StoreView) (plan : List Access) (made : Option Kind) (keys bytes : ℕ)
+    → ((k : ℕ) (access : Access) → slice_get plan k ≡ Some access → HasPlaceFor (room_with_next store) keys bytes access) → AreWithin (count_with made old) plan → length store.objects ≡ length old.objects
+    → cells_in plan ≤ store.spare_cells → keys_in plan ≤ keys → bytes_in_all values plan ≤ bytes → IfSome made (λ kind. 0 < store.spare_objects) → IsReservedFor values store made plan
+reserved_for values old store plan None keys bytes places within count cells_fit keys_fit bytes_fit spare =
+    let here_within = subst (λ n. AreWithin n plan) (sym count) within in
+    reserved values plan (room_of store) keys bytes (λ k access at. here store keys bytes access (here_within k access at) (places k access at)) here_within cells_fit keys_fit bytes_fit
+reserved_for values old store plan (Some kind) keys bytes places within count cells_fit keys_fit bytes_fit spare = (
+  spare,
+  λ after makes.
+      let takes = makes_takes store after kind makes in
+      let objects : length after.objects ≡ length old.objects + 1 = takes.objects_stay ∙ count_last store.objects store.next_object ∙ ap (λ n. n + 1) count in
+      reserved values plan (room_of after) keys bytes
+      (λ k access at. place_later (room_with_next store) (room_of after) 0 0 0 takes keys bytes keys bytes (omega arith) (omega arith) access (places k access at))
+      (subst (λ n. AreWithin n plan) (sym objects) within) (omega (arith, makes.cells_stay)) keys_fit bytes_fit,
+)
