@@ -3,3 +3,4 @@ mod Writing
 mod Rooming
 mod Reserving
 mod Planning
+mod Beginning

@@ -1,5 +1,5 @@
 -- A new object, of which nothing is set, changes nothing that stands at a location.
-use Rattle.std.proofs.Common.{◌≡◌, ℕ, zero, suc, ◌⊎◌, inl, inr, List, [], ◌∷◌, ◌++◌, map, slice_get, Option, Some, unwrap_or, refl, ap, sym, ◌∙◌}
+use Rattle.std.proofs.Common.{◌≡◌, ℕ, zero, suc, ◌⊎◌, inl, inr, List, [], ◌∷◌, ◌++◌, slice_get, Some, unwrap_or, refl, ap, sym, ◌∙◌}
 use Rattle.std.specs.Prelude.{None}
 use Rattle.std.specs.Option.{option_map, option_and_then}
 use Rattle.py_value.specs.declared.value.Value.{Value}

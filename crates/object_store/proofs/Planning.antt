@@ -1,13 +1,13 @@
 -- Where there is the place that each access of a plan needs, with room for all keys and bytes of the plan in it, there is
 -- room for each access in its turn.
-use Rattle.std.proofs.Common.{◌≡◌, ℕ, zero, suc, ◌+◌, ◌-◌, ◌<◌, ◌≤◌, List, [], ◌∷◌, ◌++◌, length, slice_get, slice_index_or, Option, Some, IsSome, IfSome, refl, ap, sym, subst, ◌∙◌, arith}
+use Rattle.std.proofs.Common.{◌≡◌, ℕ, zero, suc, ◌+◌, ◌-◌, ◌<◌, ◌≤◌, List, [], ◌∷◌, ◌++◌, length, slice_get, slice_index_or, Option, Some, IfSome, refl, ap, sym, subst, ◌∙◌, arith}
 use Rattle.std.specs.Prelude.{None}
 use Rattle.py_value.specs.declared.access.Access.{Access}
 use Rattle.py_value.specs.declared.access.Access.TheVariants.{Read, Set, Update}
 use Rattle.py_value.specs.declared.access.Change.TheVariants.{Insert, Delete, Append}
 use Rattle.py_value.specs.declared.access.Content.TheVariants.{Order as OrderContent}
 use Rattle.py_value.specs.declared.access.Kind.{Kind}
-use Rattle.py_value.specs.declared.access.Location.TheVariants.{Var, Len, Item, Entry, Order, File, Offset, Closed, Method, Base}
+use Rattle.py_value.specs.declared.access.Location.TheVariants.{Item, Order, File}
 use Rattle.py_value.specs.Values.{ValuesView}
 use Rattle.object_store.specs.Object.{ObjectView, no_object}
 use Rattle.object_store.specs.Room.{Room, Takes, HasPlaceFor, HasRoomFor, IsReserved, IsAccessWithin, AreWithin, cells_of, keys_of, bytes_of, cells_in, keys_in, bytes_in_all}

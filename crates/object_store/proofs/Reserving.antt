@@ -1,17 +1,16 @@
 -- More room changes nothing that stands in the store.
-use Rattle.std.proofs.Common.{◌≡◌, ℕ, zero, suc, ◌+◌, ◌<◌, ◌≤◌, List, [], ◌∷◌, ◌++◌, map, length, slice_get, slice_set, slice_index_or, Option, Some, IsSome, unwrap_or, refl, ap, sym, subst, ◌∙◌, arith, below_more}
+use Rattle.std.proofs.Common.{◌≡◌, ℕ, ◌+◌, ◌<◌, ◌≤◌, List, [], length, slice_get, slice_set, Some, unwrap_or, ap, sym, subst, ◌∙◌, arith, below_more}
 use Rattle.std.specs.Option.{option_map}
-use Rattle.std.proofs.lemmas.Grind.{common_steps}
 use Rattle.std.proofs.lemmas.Option.{same_Some}
 use Rattle.py_value.specs.declared.value.Value.{Value}
 use Rattle.py_value.specs.declared.access.Access.{Access}
 use Rattle.py_value.specs.declared.access.Access.TheVariants.{Read, Set, Update}
 use Rattle.py_value.specs.declared.access.Location.{Location}
-use Rattle.py_value.specs.declared.access.Location.TheVariants.{Var, Len, Item, Entry, Order, File, Offset, Closed, Method, Base}
+use Rattle.py_value.specs.declared.access.Location.TheVariants.{Item, Order, File}
 use Rattle.py_value.specs.declared.access.Content.TheVariants.{Item as ItemContent}
-use Rattle.object_store.specs.Object.{ObjectView, item_in, no_object, Grows}
-use Rattle.object_store.specs.Room.{Room, Takes, HasPlaceFor, object_in}
-use Rattle.object_store.specs.Store.{StoreView, Keeps, held_at, content_at, kinds, room_of, object_at, whole, keys}
+use Rattle.object_store.specs.Object.{ObjectView, Grows}
+use Rattle.object_store.specs.Room.{Room, Takes, HasPlaceFor}
+use Rattle.object_store.specs.Store.{StoreView, Keeps, held_at, content_at, kinds, object_at, whole, keys}
 use Rattle.object_store.proofs.Writing.{maps_same, items_same, kinds_same}
 
 module _ (old new : StoreView) (o : ℕ) (object : ObjectView) (within : o < length old.objects) (same : new ≡ record old { objects = slice_set old.objects o object })

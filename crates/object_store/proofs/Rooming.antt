@@ -1,10 +1,8 @@
 -- What room each single write leaves.
-use Rattle.std.proofs.Common.{◌≡◌, ℕ, zero, suc, ◌+◌, ◌<◌, ◌≤◌, Bool, true, false, List, [], ◌∷◌, length, slice_get, slice_set, slice_index_or, Option, Some, IsSome, refl, ap, sym, subst, ◌∙◌, arith}
-use Rattle.std.proofs.lemmas.Grind.{common_steps}
-use Rattle.std.proofs.lemmas.List.{length-set}
+use Rattle.std.proofs.Common.{◌≡◌, ℕ, zero, suc, ◌+◌, ◌≤◌, List, [], ◌∷◌, length, slice_set, slice_index_or, Option, Some, refl, ap, sym, subst, arith}
 use Rattle.py_value.specs.declared.value.Value.{Value}
 use Rattle.object_store.specs.Object.{ObjectView, with_item, no_object, HasKeys}
-use Rattle.object_store.specs.Room.{Room, Takes, object_in}
+use Rattle.object_store.specs.Room.{Takes}
 use Rattle.object_store.specs.Store.{StoreView, room_of, object_at}
 
 -- the items and the room for keys of each object after a write to one

@@ -1,11 +1,9 @@
 -- What each single write leaves at every location.
-use Rattle.std.proofs.Common.{◌≡◌, ℕ, zero, suc, ◌+◌, ◌<◌, ◌==◌, ◌&&◌, ◌||◌, Bool, true, false, List, [], ◌∷◌, ◌++◌, map, length, slice_get, slice_set, slice_index_or, Option, Some, IsSome, unwrap_or, if◌then◌else◌, refl, ap, sym, subst, ◌∙◌, arith, rules}
-use Rattle.std.specs.Prelude.{None}
+use Rattle.std.proofs.Common.{◌≡◌, ℕ, zero, suc, ◌<◌, ◌==◌, ◌&&◌, Bool, true, false, List, [], ◌∷◌, map, length, slice_get, slice_set, slice_index_or, Option, Some, unwrap_or, if◌then◌else◌, refl, ap, sym, ◌∙◌, arith, rules}
 use Rattle.std.specs.Option.{option_map, option_and_then}
 use Rattle.std.proofs.lemmas.Option.{same_Some}
 use Rattle.std.proofs.lemmas.Grind.{common_steps}
 use Rattle.py_value.specs.declared.value.Value.{Value}
-use Rattle.py_value.specs.declared.access.Kind.{Kind}
 use Rattle.py_value.specs.declared.access.Location.{Location}
 use Rattle.py_value.specs.declared.access.Location.TheVariants.{Var, Len, Item, Entry, Order, File, Offset, Closed, Method, Base}
 use Rattle.py_value.specs.declared.access.Content.{Content}
@@ -14,8 +12,8 @@ use Rattle.py_value.specs.contracts.access.LocationPartialEq.TheImpl.{ghosts as 
 use Rattle.object_store.specs.declared.cell.Cell.{Cell}
 use Rattle.object_store.specs.declared.cell.Cell.TheVariants.{Var as VarCell, Len as LenCell, Entry as EntryCell, Offset as OffsetCell, Closed as ClosedCell, Method as MethodCell, Base as BaseCell}
 use Rattle.object_store.specs.Cell.{content_of, cell_of}
-use Rattle.object_store.specs.Object.{ObjectView, item_in, item_of, with_item, no_object, HasKeys, with_keys}
-use Rattle.object_store.specs.Store.{StoreView, Held, Writes, IsOwn, held_at, item_at, keys_at, content_at, file_at, kinds, object_at, whole, keys, bytes, written}
+use Rattle.object_store.specs.Object.{ObjectView, item_in, item_of, with_item, no_object, HasKeys}
+use Rattle.object_store.specs.Store.{StoreView, Writes, IsOwn, held_at, item_at, content_at, kinds, object_at, whole, keys, written}
 
 -- the keys of the object that stands for one that is not there are none
 pub keys_there : (xs : List ObjectView) (o : ℕ) → unwrap_or (option_map (λ (ob : ObjectView). ob.keys) (slice_get xs o)) [] ≡ (slice_index_or xs o no_object).keys

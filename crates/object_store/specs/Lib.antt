@@ -1,5 +1,6 @@
 pub mod Cell
 pub mod File
 pub mod Object
+pub mod Opening
 pub mod Room
 pub mod Store

@@ -1,5 +1,5 @@
 -- Room for a plan of writes (this project's profile): what each write needs, and what it leaves for those after it.
-use Rattle.std.specs.Prelude.{◌≡◌, ℕ, ◌+◌, ◌<◌, ◌≤◌, ◌++◌, ⊤, List, [], ◌∷◌, length, is_some, slice_get, slice_index_or, unwrap_or, nat_eq, Option, Some, None, IsSome}
+use Rattle.std.specs.Prelude.{◌≡◌, ℕ, ◌+◌, ◌<◌, ◌≤◌, ⊤, List, [], ◌∷◌, length, slice_get, slice_index_or, unwrap_or, nat_eq, Option, Some, IsSome}
 use Rattle.std.specs.Option.{option_map}
 use Rattle.std.specs.Map.{lookup}
 use Rattle.py_value.specs.declared.access.Access.{Access}
@@ -8,9 +8,8 @@ use Rattle.py_value.specs.declared.access.Change.{Change}
 use Rattle.py_value.specs.declared.access.Change.TheVariants.{Insert, Delete, Append}
 use Rattle.py_value.specs.declared.access.Content.{Content}
 use Rattle.py_value.specs.declared.access.Content.TheVariants.{Order as OrderContent}
-use Rattle.py_value.specs.declared.access.Kind.{Kind}
 use Rattle.py_value.specs.declared.access.Location.{Location}
-use Rattle.py_value.specs.declared.access.Location.TheVariants.{Var, Len, Item, Entry, Order, File, Offset, Closed, Method, Base}
+use Rattle.py_value.specs.declared.access.Location.TheVariants.{Item, Order, File}
 use Rattle.py_value.specs.Values.{ValuesView}
 use Rattle.object_store.specs.File.{FileView}
 use Rattle.object_store.specs.Object.{ObjectView, no_object}

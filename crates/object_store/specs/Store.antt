@@ -1,6 +1,6 @@
 -- The store of a run (this project's profile): a finite map from locations to what stands there, with the kinds of the
 -- objects and the names of functions and classes.
-use Rattle.std.specs.Prelude.{⊤, ◌≡◌, ℕ, zero, suc, ◌+◌, ◌<◌, ◌≤◌, ◌==◌, Bool, List, [], ◌∷◌, ◌++◌, map, length, slice_get, unwrap_or, nat_eq, slice_index_or, Option, Some, None, if◌then◌else◌}
+use Rattle.std.specs.Prelude.{⊤, ◌≡◌, ℕ, ◌+◌, ◌<◌, List, [], ◌∷◌, ◌++◌, map, length, slice_get, unwrap_or, nat_eq, Option, Some, None, if◌then◌else◌}
 use Rattle.std.specs.Option.{option_map, option_and_then}
 use Rattle.std.specs.Map.{lookup}
 use Rattle.prov_base.specs.declared.place.Pos.{Pos}
@@ -19,7 +19,7 @@ use Rattle.object_store.specs.declared.cell.Cell.{Cell}
 use Rattle.object_store.specs.Cell.{content_of}
 use Rattle.py_value.specs.Values.{ValuesView}
 use Rattle.object_store.specs.File.{FileView}
-use Rattle.object_store.specs.Object.{ObjectView, item_of, no_object, with_keys, with_key, without_key}
+use Rattle.object_store.specs.Object.{ObjectView, item_of, with_keys, with_key, without_key}
 use Rattle.object_store.specs.Room.{Room, object_in, text_in, IsReserved}
 
 -- What contracts see: the objects in the order in which they were made, what was set that is no item, order or file, the

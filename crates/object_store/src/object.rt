@@ -1,6 +1,7 @@
 // One object of a run: its kind, its items where it is a list, and its keys in their order where it has keys.
 // It stands on a `Vec` and an `IndexSet`, and says for how many items and keys there is room.
 ghost use Rattle.std.specs.Prelude.{◌≡◌, ℕ, ◌+◌, ◌<◌, ◌≤◌, [], Some, OnOk, slice_get, slice_set, length};
+ghost use Rattle.py_value.specs.declared.access.Kind.TheVariants.{List as ListKind};
 ghost use Rattle.object_store.specs.Object.{item_in, item_of, with_key, with_keys, without_key};
 
 use indexmap::IndexSet;
@@ -39,6 +40,19 @@ impl Object {
         Object {
             kind,
             items: Vec::new(alloc),
+            keys: IndexSet::new(alloc),
+        }
+    }
+
+    /// A list with these items and no room for more.
+    pub fn list(alloc: Global, items: Vec<Option<Value>>) -> Object
+        ensures kind { result.kind ≡ ListKind }
+        ensures items { result.items ≡ items.items }
+        ensures keys { result.keys ≡ [] }
+    {
+        Object {
+            kind: Kind::List,
+            items,
             keys: IndexSet::new(alloc),
         }
     }

@@ -201,5 +201,6 @@ impl Store {
     }
 }
 
+mod opening;
 mod reserve;
 mod writes;

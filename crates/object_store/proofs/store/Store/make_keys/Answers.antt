@@ -1,4 +1,4 @@
-use Rattle.std.proofs.Common.{◌≡◌, refl, sym, ap, subst, ◌∙◌, arith, ◌<◌, length}
+use Rattle.std.proofs.Common.{◌≡◌, ap, ◌∙◌, arith, ◌<◌, length}
 use Rattle.object_store.specs.Store.{StoreView, object_at}
 use Rattle.object_store.proofs.Reserving.{object_keeps}
 use Rattle.object_store.proofs.store.Store.make_keys.Goals as goal

@@ -1,6 +1,5 @@
-use Rattle.std.proofs.Common.{◌≡◌, refl, sym, ap, subst, ◌∙◌, arith, ◌<◌, length, Some}
+use Rattle.std.proofs.Common.{sym, ap, ◌∙◌, arith, Some}
 use Rattle.std.proofs.lemmas.Option.{slice_get-get_or, slice_get_within}
-use Rattle.py_value.specs.declared.access.Access.{Access}
 use Rattle.object_store.specs.Room.{HasPlaceFor}
 use Rattle.object_store.specs.Store.{room_with_next}
 use Rattle.object_store.proofs.Reserving.{keeps_then, takes_then, place_later, up_to}

@@ -1,6 +1,5 @@
 use Rattle.std.proofs.Common.{◌≡◌, ◌<◌, IfSome, sym, subst, ap, ◌∙◌, arith, length}
-use Rattle.object_store.specs.Room.{cells_in, keys_in, bytes_in_all}
-use Rattle.object_store.specs.Store.{StoreView, count_with}
+use Rattle.object_store.specs.Store.{StoreView}
 use Rattle.object_store.proofs.Planning.{within_next, reserved_for}
 use Rattle.object_store.proofs.store.Store.reserve_for.Goals as goal
 

@@ -1,4 +1,4 @@
-use Rattle.std.proofs.Common.{[], length, ◌≡◌, refl, sym, ap, subst, ◌∙◌}
+use Rattle.std.proofs.Common.{[], length, sym, ap, subst, ◌∙◌}
 use Rattle.py_value.specs.declared.access.Location.TheVariants.{Order}
 use Rattle.object_store.specs.Object.{with_keys}
 use Rattle.object_store.specs.Room.{Takes}

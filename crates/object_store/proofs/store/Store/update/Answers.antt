@@ -1,4 +1,4 @@
-use Rattle.std.proofs.Common.{◌≡◌, refl, sym, ap, subst, ◌∙◌}
+use Rattle.std.proofs.Common.{sym, subst}
 use Rattle.py_value.specs.declared.access.Location.TheVariants.{Order}
 use Rattle.object_store.specs.Object.{with_key, without_key}
 use Rattle.object_store.specs.Store.{keys, object_at, Writes}

@@ -1,0 +1,7 @@
+use Rattle.std.proofs.Common.{◌∷◌, take}
+use Rattle.object_store.specs.Opening.{AreWords, GainsTexts}
+use Rattle.object_store.proofs.store.opening.words.Given as goal
+
+abbrev pub invariant-loop-argument : goal.invariant-loop-argument
+invariant-loop-argument l =
+    AreWords l.values l.items.items (l.path ∷ take l.argument-index l.arguments) × GainsTexts l.fn.values l.values
