@@ -1,7 +1,10 @@
 // The store. It stands on a pool of objects, and on maps for what is no part of an object.
-ghost use Rattle.std.specs.Prelude.{◌≡◌, ◌<◌, ◌+◌, ◌≤◌, [], ◌∷◌, ◌++◌, length, slice_get, slice_set, if◌then◌else◌, Some, OnOk, OnErr, option_map};
-ghost use Rattle.object_store.specs.Store.{held_at, content_at, item_at, keys_at, kinds, name_at, file_at, whole, bytes as held_bytes, room_of, written, changed, IsOwn, IsOwnChange, IsFresh, IsReadWhole, Writes, Notes, Makes};
+ghost use Rattle.std.specs.Prelude.{◌≡◌, ◌<◌, ◌+◌, ◌≤◌, [], ◌∷◌, ◌++◌, List, Option, length, slice_get, slice_set, if◌then◌else◌, Some, OnOk, OnErr, option_map};
+ghost use Rattle.object_store.specs.Store.{held_at, content_at, item_at, keys_at, kinds, name_at, file_at, whole, bytes as held_bytes, room_of, written, changed, IsOwn, IsOwnChange, IsFresh, IsReadWhole, IsReservedFor, Writes, Notes, Makes};
 ghost use Rattle.std.specs.Option.{option_copied};
+ghost use Rattle.py_value.specs.Values.{ValuesView};
+ghost use Rattle.py_value.specs.declared.access.Access.{Access as OneAccess};
+ghost use Rattle.py_value.specs.declared.access.Kind.{Kind as OneKind};
 ghost use Rattle.py_value.specs.declared.access.Location.{Location as OneLocation};
 ghost use Rattle.py_value.specs.declared.access.Location.TheVariants.{File as FileAt};
 ghost use Rattle.py_value.specs.contracts.access.LocationPartialEq.TheImpl.{ghosts as locations};
@@ -139,6 +142,10 @@ impl Store {
         ensures noted { OnOk result (Notes self.old self.new at name) }
         ensures err { OnErr result (self.new ≡ self.old) }
         ensures same { self.new ≡ record self.old { names = self.new.names } }
+
+        // A plan that was reserved stays reserved.
+        ensures reserved { (values : ValuesView) (made : Option OneKind) (plan : List OneAccess)
+            → IsReservedFor values self.old made plan → IsReservedFor values self.new made plan }
     {
         self.names.insert(at, name)?;
         Ok(())
