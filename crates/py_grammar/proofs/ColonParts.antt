@@ -1,0 +1,193 @@
+-- The `:` of a line and what stands behind it: what is read there, and how it is refused.
+use Rattle.std.proofs.Common.{◌≡◌, inl, inr, ℕ, suc, ◌+◌, ◌<◌, ◌≤◌, max, Bool, true, false, List, [], ◌∷◌, ◌++◌, Option, Some, None, option_map, is_some, refl, ap, sym, ◌∙◌, arith, subst, append_assoc, append-nil, if◌then◌else◌}
+use Rattle.std.specs.Bool.{⊤}
+use Rattle.std.specs.Prelude.{◌&&◌}
+use Rattle.std.proofs.Math.Nat.{le-max_right}
+use Rattle.std.proofs.lemmas.List.{append_cancel_left}
+use Rattle.std.proofs.lemmas.Option.{same_Some}
+use Rattle.prov_base.specs.declared.place.Pos.{Pos}
+use Rattle.py_lines.specs.declared.parts.Token.{Token}
+use Rattle.py_lines.specs.declared.parts.TokenKind.TheVariants.{Keyword, Sign}
+use Rattle.py_grammar.specs.declared.fault.ParseFault.{ParseFault}
+use Rattle.py_grammar.specs.declared.fault.ParseFault.TheVariants.{Unexpected, Unsupported, BadIndent, TooDeep, TooMany, Memory}
+use Rattle.py_grammar.specs.declared.fault.Stop.{Stop}
+use Rattle.py_grammar.specs.declared.fault.Stop.TheVariants.{Here, End}
+use Rattle.py_grammar.specs.declared.head.What.{What}
+use Rattle.py_grammar.specs.declared.head.LineHead.{LineHead}
+use Rattle.py_grammar.specs.declared.head.Behind.{Behind}
+use Rattle.py_grammar.specs.Concrete.{Spot, Expr}
+use Rattle.py_grammar.specs.Tokens.{token, word as word_tokens, expr_tokens}
+use Rattle.py_grammar.specs.Depth.{simple_depth}
+use Rattle.py_grammar.specs.Written.{Simple, del, named}
+use Rattle.py_grammar.specs.StatementTokens.{simple_tokens}
+use Rattle.py_grammar.specs.WellPlaced.{Around, simple_stands}
+use Rattle.py_grammar.specs.LineReader.{Head, simple_head, behind_tokens, colon_tokens, head_tokens, then_read, read_colon, read_behind, read_head}
+use Rattle.py_grammar.specs.Reader.{is_sign, spot_of, read_sign}
+use Rattle.py_grammar.specs.Parsed.{Begins, Refused, Taken, one_sign}
+use Rattle.py_grammar.specs.ParsedRows.{first_token}
+use Rattle.py_grammar.specs.ParsedSimple.{simple_part, BeginsSimple, BeginsDel}
+use Rattle.py_grammar.specs.ParsedHead.{Context, word_may, inner_around, behind_stands, head_stands, behind_depth, head_depth, behind_in, IsWhat, IsBehind, BehindFound, HeadFound, Opening, IsAmissPlaced, IsAmissHead, BeginsHead, BeginsReading, ShownBy, EndedBy, PlacedRefused, BehindRefused, HeadRefused}
+use Rattle.py_grammar.proofs.Stops.{some_spot}
+use Rattle.py_grammar.proofs.Refusals.{max_below}
+use Rattle.py_grammar.proofs.SimpleParts.{not_deeper}
+use Rattle.py_grammar.proofs.HeadReading.{head_reads}
+use Rattle.py_grammar.proofs.HeadParts.{HeadTurns, begins_part_head, refused_part_head}
+use Rattle.py_grammar.proofs.LineFirsts.{and_false, both_true, not_nothing, same_behind}
+
+-- ---- the `:`
+
+colon_turn : (n : ℕ) (made : Spot → Option Simple → Head) (more : List Token) → read_colon n made more ≡ then_read (read_sign 7 more) (λ colon rest. option_map (made colon) (read_behind n rest))
+colon_turn n made [] = refl
+colon_turn n made (t ∷ ts) = by (is_sign 7 t.kind)
+  where
+    by : (b : Bool) → (if b then option_map (made (spot_of t)) (read_behind n ts) else None) ≡ then_read (if b then Some (spot_of t, ts) else None) (λ colon rest. option_map (made colon) (read_behind n rest))
+    by true = refl
+    by false = refl
+
+-- no `:` stands where one has to
+pub colon_refused : (c : Context) (given : List (List ℕ)) (limited : Bool) (word : ℕ) (before after : List Token) (what : What) (stop : Stop) → Opening c word before what after → Refused (one_sign 7) 0 after stop → HeadRefused c given limited before stop
+colon_refused c given limited word before after what stop o refused =
+    refused_part_head c given limited (one_sign 7) 0 o.front after before stop (λ n colon rest. option_map (o.made colon) (read_behind (n + o.left) rest)) o.before_is
+    (begins_part_head (one_sign 7) o.front (λ colon. o.made colon None) (λ colon. []) (λ colon. o.tokens_are colon None))
+    (record { before = o.steps; behind = 0; turns = λ n more first. o.reads n more first ∙ colon_turn (n + o.left) o.made more })
+    (λ why n colon left deep. absurd (not_deeper why 0 deep)) refused
+
+-- ---- what stands behind it
+
+-- a line with these tokens is this one
+pub record IsMade (made : Option Simple → Head) (tail : List Token) (h : Head) : Type 0 where
+  pub behind : Option Simple
+  pub tokens_are : behind_tokens behind ≡ tail
+  pub is : h ≡ made behind
+
+pub made_of : (c : Context) (word : ℕ) (before after rest : List Token) (what : What) (spot : Spot) → (o : Opening c word before what after) → after ≡ token (Sign 7) spot ∷ rest
+    → (tail : List Token) (h : Head) → head_tokens h ≡ o.front ++ token (Sign 7) spot ∷ tail → IsMade (o.made spot) tail h
+made_of c word before after rest what spot o after_is tail h is =
+    let r = head_reads h in
+    let sum : r.steps + o.steps ≡ o.steps + r.steps = omega arith in
+    let read : read_colon (r.steps + o.left) o.made (token (Sign 7) spot ∷ tail) ≡ Some h =
+    sym (o.reads r.steps (token (Sign 7) spot ∷ tail) (sym (ap first_token after_is)))
+    ∙ ap (read_head (r.steps + o.steps)) (sym is) ∙ ap (λ m. read_head m (head_tokens h)) sum ∙ r.reads o.steps in
+    by (read_behind (r.steps + o.left) tail) read
+  where
+    by : (b : Option (Option Simple)) → option_map (o.made spot) b ≡ Some h → IsMade (o.made spot) tail h
+    by None none = cc
+    by (Some behind) some =
+        let same : o.made spot behind ≡ h = same_Some _ _ some in
+        record {
+          behind = behind;
+          tokens_are = same_behind _ _ (behind_tokens behind) tail (append_cancel_left o.front _ _ (sym (o.tokens_are spot behind) ∙ ap head_tokens same ∙ is));
+          is = sym same;
+        }
+
+-- where something stands behind the `:`
+pub record IsMadeWith (made : Option Simple → Head) (tail : List Token) (h : Head) : Type 0 where
+  pub s : Simple
+  pub tokens_are : simple_tokens s ≡ tail
+  pub is : h ≡ made (Some s)
+
+pub made_with : (made : Option Simple → Head) (tail : List Token) (h : Head) → (tail ≡ [] → ⊥) → IsMade made tail h → IsMadeWith made tail h
+made_with made tail h some m = by m.behind m.tokens_are m.is
+  where
+    by : (behind : Option Simple) → behind_tokens behind ≡ tail → h ≡ made behind → IsMadeWith made tail h
+    by None tokens is = absurd (some (sym tokens))
+    by (Some s) tokens is = record { s = s; tokens_are = tokens; is = is }
+
+shown_some : (front : List Token) (t : Token) (more : List Token) → front ++ t ∷ more ≡ [] → ⊥
+shown_some [] t more is = not_nothing t more is
+shown_some (first ∷ front) t more is = not_nothing first _ is
+
+-- what is amiss of the statement is amiss of the line
+amiss_line : (c : Context) (given : List (List ℕ)) (limited : Bool) (word : ℕ) (before after : List Token) (what : What) (spot : Spot) → (o : Opening c word before what after) → (stop : Stop) (s : Simple)
+    → IsAmissPlaced (inner_around word c.around) limited stop s → IsAmissHead c given limited stop (o.made spot (Some s))
+amiss_line c given limited word before after what spot o (Here (TooDeep at)) s (inl deep) =
+    inl (let is = o.depth_is spot (Some s) in let high = le-max_right o.depth (simple_depth s) in omega (arith, deep, is, high))
+amiss_line c given limited word before after what spot o (Here (TooDeep at)) s (inr limit) = inr (limit, ap is_some (o.behind_is spot (Some s)))
+amiss_line c given limited word before after what spot o (Here (TooMany at)) s limit = (limit, ap is_some (o.behind_is spot (Some s)))
+amiss_line c given limited word before after what spot o (Here (Unexpected at)) s amiss = o.stands given spot (Some s) ∙ and_false (word_may c word) _ amiss
+amiss_line c given limited word before after what spot o (Here (Unsupported at)) s amiss = o.stands given spot (Some s) ∙ and_false (word_may c word) _ amiss
+amiss_line c given limited word before after what spot o (Here (BadIndent at)) s amiss = absurd amiss
+amiss_line c given limited word before after what spot o (Here Memory) s amiss = absurd amiss
+amiss_line c given limited word before after what spot o End s amiss = absurd amiss
+
+-- a statement begins behind the `:`, and so does the line
+begins_line : (c : Context) (word : ℕ) (before after : List Token) (what : What) (spot : Spot) → (o : Opening c word before what after) → (tokens : List Token) → BeginsSimple tokens → BeginsHead (o.front ++ token (Sign 7) spot ∷ tokens)
+begins_line c word before after what spot o tokens (inl b) = inl (record {
+  some = o.made spot (Some b.some);
+  more = b.more;
+  tokens_are = o.tokens_are spot (Some b.some) ∙ ap (λ ts. o.front ++ token (Sign 7) spot ∷ ts) b.tokens_are ∙ sym (append_assoc o.front (token (Sign 7) spot ∷ tokens) b.more);
+})
+begins_line c word before after what spot o tokens (inr b) = inr (record {
+  opened = o.front ++ token (Sign 7) spot ∷ token (Keyword 12) b.spot ∷ [];
+  begins = record {
+    some = o.made spot (Some (del b.spot (named some_spot [])));
+    more = word_tokens [] some_spot;
+    tokens_are = o.tokens_are spot (Some (del b.spot (named some_spot []))) ∙ sym (append_assoc o.front (token (Sign 7) spot ∷ token (Keyword 12) b.spot ∷ []) (word_tokens [] some_spot));
+  };
+  some = b.some;
+  more = b.more;
+  tokens_are = append_assoc o.front (token (Sign 7) spot ∷ token (Keyword 12) b.spot ∷ []) (expr_tokens b.some)
+      ∙ ap (λ ts. o.front ++ token (Sign 7) spot ∷ ts) b.tokens_are ∙ sym (append_assoc o.front (token (Sign 7) spot ∷ tokens) b.more);
+})
+
+behind_shown : (c : Context) (given : List (List ℕ)) (limited : Bool) (word : ℕ) (before after rest : List Token) (what : What) (spot : Spot) → (o : Opening c word before what after) → after ≡ token (Sign 7) spot ∷ rest → (fault : ParseFault)
+    → ShownBy BeginsSimple simple_tokens (λ fault a. IsAmissPlaced (inner_around word c.around) limited (Here fault) a) rest fault → ShownBy BeginsHead head_tokens (λ fault a. IsAmissHead c given limited (Here fault) a) before fault
+behind_shown c given limited word before after rest what spot o is fault s = record {
+  front = o.front ++ token (Sign 7) spot ∷ s.front;
+  shown_by = s.shown_by;
+  behind = s.behind;
+  before_is = o.before_is ∙ ap (λ ts. o.front ++ ts) (is ∙ ap (λ ts. token (Sign 7) spot ∷ ts) s.before_is) ∙ sym (append_assoc o.front (token (Sign 7) spot ∷ s.front) (s.shown_by ∷ s.behind));
+  place_is = s.place_is;
+  begun = begins_line c word before after what spot o s.front s.begun;
+  none = λ h more same. none_there h more same;
+}
+  where
+    none_there : (h : Head) (more : List Token) → head_tokens h ≡ (o.front ++ token (Sign 7) spot ∷ s.front) ++ s.shown_by ∷ more → IsAmissHead c given limited (Here fault) h
+    none_there h more same =
+        let m = made_with (o.made spot) (s.front ++ s.shown_by ∷ more) h (shown_some s.front s.shown_by more)
+        (made_of c word before after rest what spot o is (s.front ++ s.shown_by ∷ more) h (same ∙ append_assoc o.front (token (Sign 7) spot ∷ s.front) (s.shown_by ∷ more))) in
+        subst (IsAmissHead c given limited (Here fault)) (sym m.is) (amiss_line c given limited word before after what spot o (Here fault) m.s (s.none m.s more m.tokens_are))
+
+behind_ended : (c : Context) (given : List (List ℕ)) (limited : Bool) (word : ℕ) (before after rest : List Token) (what : What) (spot : Spot) → (o : Opening c word before what after) → after ≡ token (Sign 7) spot ∷ rest → (stop : Stop) → (rest ≡ [] → ⊥)
+    → EndedBy BeginsSimple simple_tokens (IsAmissPlaced (inner_around word c.around) limited stop) rest → EndedBy BeginsHead head_tokens (IsAmissHead c given limited stop) before
+behind_ended c given limited word before after rest what spot o is stop some e = record {
+  begun = subst BeginsHead (sym (o.before_is ∙ ap (λ ts. o.front ++ ts) is)) (begins_line c word before after what spot o rest e.begun);
+  none = λ h same. none_there h same;
+}
+  where
+    none_there : (h : Head) → head_tokens h ≡ before → IsAmissHead c given limited stop h
+    none_there h same =
+        let m = made_with (o.made spot) rest h some (made_of c word before after rest what spot o is rest h (same ∙ o.before_is ∙ ap (λ ts. o.front ++ ts) is)) in
+        subst (IsAmissHead c given limited stop) (sym m.is) (amiss_line c given limited word before after what spot o stop m.s (e.none m.s m.tokens_are))
+
+-- what stands behind the `:` is refused
+pub behind_refused : (c : Context) (given : List (List ℕ)) (limited : Bool) (word : ℕ) (before after rest : List Token) (what : What) (spot : Spot) (stop : Stop) → Opening c word before what after → after ≡ token (Sign 7) spot ∷ rest
+    → BehindRefused (inner_around word c.around) limited rest stop → HeadRefused c given limited before stop
+behind_refused c given limited word before after rest what spot (Here Memory) o is refused = tt
+behind_refused c given limited word before after rest what spot (Here (Unexpected at)) o is refused = behind_shown c given limited word before after rest what spot o is (Unexpected at) refused.placed
+behind_refused c given limited word before after rest what spot (Here (TooDeep at)) o is refused = behind_shown c given limited word before after rest what spot o is (TooDeep at) refused.placed
+behind_refused c given limited word before after rest what spot (Here (TooMany at)) o is refused = behind_shown c given limited word before after rest what spot o is (TooMany at) refused.placed
+behind_refused c given limited word before after rest what spot (Here (BadIndent at)) o is refused = absurd refused.placed.place_is
+behind_refused c given limited word before after rest what spot (Here (Unsupported at)) o is refused = by refused.placed
+  where
+    by : PlacedRefused (inner_around word c.around) limited rest (Here (Unsupported at)) → HeadRefused c given limited before (Here (Unsupported at))
+    by (inl shown) = inl (behind_shown c given limited word before after rest what spot o is (Unsupported at) shown)
+    by (inr ends) = inr (behind_ended c given limited word before after rest what spot o is (Here (Unsupported at)) refused.some ends)
+behind_refused c given limited word before after rest what spot End o is refused = behind_ended c given limited word before after rest what spot o is End refused.some refused.placed
+
+-- ---- a line that may stand there
+
+behind_low : (b : Option Simple) → behind_depth b ≤ 100 → (depth : ℕ) → depth ≤ 100 → max depth (behind_depth b) ≤ 100
+behind_low b low depth other = max_below depth (behind_depth b) 100 other low
+
+pub line_found : (c : Context) (given : List (List ℕ)) (limited : Bool) (word : ℕ) (before after rest : List Token) (line : LineHead) (spot : Spot) → Opening c word before line.what after → after ≡ token (Sign 7) spot ∷ rest
+    → word_may c word ≡ true → BehindFound (inner_around word c.around) limited rest line.behind → HeadFound c given limited before line
+line_found c given limited word before after rest line spot o is may b = record {
+  written = o.made spot b.written;
+  before_is = o.before_is ∙ ap (λ ts. o.front ++ ts) (is ∙ ap (λ ts. token (Sign 7) spot ∷ ts) b.before_is) ∙ sym (o.tokens_are spot b.written);
+  what_is = o.what_is spot b.written;
+  behind_is = subst (IsBehind line.behind) (sym (o.behind_is spot b.written)) b.what_is;
+  fits = let deep = o.depth_is spot b.written in let low = behind_low b.written b.fits o.depth o.low in omega (arith, deep, low);
+  stands = o.stands given spot b.written ∙ both_true (word_may c word) _ may b.stands;
+  within = λ limit. o.behind_is spot b.written ∙ b.within limit;
+}

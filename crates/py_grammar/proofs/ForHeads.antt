@@ -1,0 +1,210 @@
+-- The line of a `for`: what is read of it, and how it is refused.
+use Rattle.std.proofs.Common.{◌≡◌, inl, inr, ℕ, ◌+◌, max, Bool, ◌≤◌, ◌<◌, List, [], ◌∷◌, ◌++◌, Option, Some, None, refl, ap, sym, ◌∙◌, arith, subst, append_assoc}
+use Rattle.std.proofs.Math.Nat.{le-max_left, le-max_right}
+use Rattle.prov_base.specs.declared.place.Pos.{Pos}
+use Rattle.py_lines.specs.declared.parts.Token.{Token}
+use Rattle.py_lines.specs.declared.parts.TokenKind.TheVariants.{Keyword}
+use Rattle.py_tree.specs.declared.expr.Target.{Target as TargetRead}
+use Rattle.py_tree.specs.Erasure.{target_of}
+use Rattle.py_grammar.specs.declared.fault.ParseFault.{ParseFault}
+use Rattle.py_grammar.specs.declared.fault.ParseFault.TheVariants.{Unexpected, Unsupported, BadIndent, TooDeep, TooMany, Memory}
+use Rattle.py_grammar.specs.declared.fault.Stop.{Stop}
+use Rattle.py_grammar.specs.declared.fault.Stop.TheVariants.{Here, End}
+use Rattle.py_grammar.specs.declared.head.What.TheVariants.{For}
+use Rattle.py_grammar.specs.declared.part.Part.{Part}
+use Rattle.py_grammar.specs.Concrete.{Spot, Exprs, one_expr}
+use Rattle.py_grammar.specs.Tokens.{token, exprs_tokens}
+use Rattle.py_grammar.specs.Depth.{target_depth, exprs_depth}
+use Rattle.py_grammar.specs.Written.{Simple, Target, named}
+use Rattle.py_grammar.specs.StatementTokens.{target_tokens}
+use Rattle.py_grammar.specs.StatementTrees.{target_tree}
+use Rattle.py_grammar.specs.LineReader.{Head, for_head, head_tokens, colon_tokens, then_read, read_colon, read_head, read_target}
+use Rattle.py_grammar.specs.Reader.{read_keyword, read_exprs}
+use Rattle.py_grammar.specs.Parsed.{IsDeep, Begins, Refused, FoundRow, Taken, one_keyword, exprs_part}
+use Rattle.py_grammar.specs.ParsedRows.{first_token, IsRead}
+use Rattle.py_grammar.specs.ParsedHead.{Took, target_part, Context, behind_stands, head_depth, behind_depth, IsAmissHead, BeginsHead, ShownBy, EndedBy, HeadRefused, head_part, Opening, OpeningFound, OpeningRefused}
+use Rattle.py_grammar.specs.ParsedNames.{Followed, followed_tokens, BeginsThen, TargetsRefused}
+use Rattle.py_grammar.proofs.Stops.{some_spot}
+use Rattle.py_grammar.proofs.SimpleReading.{target_expr}
+use Rattle.py_grammar.proofs.Refusals.{deeper}
+use Rattle.py_grammar.proofs.RowParts.{more_steps}
+use Rattle.py_grammar.proofs.ClosedParts.{not_deep}
+use Rattle.py_grammar.proofs.HeadParts.{OnlyHead, FindsHead, HeadTurns, finds_written, begins_part_head, refused_part_head, turns_on, ColonReads, colon_on, row_is_read}
+use Rattle.py_grammar.proofs.AmissParts.{begins_with}
+use Rattle.py_grammar.proofs.NameHeads.{only_then, only_colon}
+
+abbrev for_target_of : Spot → ℕ → Target → List Token → Option Head
+for_target_of spot n t more = then_read (read_keyword 22 more) (λ in_word more_2. then_read (read_exprs n more_2) (λ e rest. read_colon n (for_head spot t in_word e) rest))
+
+abbrev for_in : Spot → Target → ℕ → Spot → List Token → Option Head
+for_in spot t n in_word more = then_read (read_exprs n more) (λ e rest. read_colon n (for_head spot t in_word e) rest)
+
+abbrev for_exprs : Spot → Target → Spot → ℕ → Exprs → List Token → Option Head
+for_exprs spot t in_word n e rest = read_colon n (for_head spot t in_word e) rest
+
+some_exprs : Exprs
+some_exprs = one_expr (target_expr (named some_spot []))
+
+-- ---- what stands behind `for`
+
+-- a line that begins with `for`
+record IsFor (spot : Spot) (h : Head) : Type 0 where
+  target : Target
+  in_word : Spot
+  items : Exprs
+  colon : Spot
+  behind : Option Simple
+  is : h ≡ for_head spot target in_word items colon behind
+
+finds_for : (spot : Spot) (more : List Token) → FindsHead (IsFor spot) (token (Keyword 17) spot ∷ more)
+finds_for spot more = record {
+  steps = 0;
+  only = λ n. only_then (IsFor spot) (read_target (n + 0) more) _ (λ t more_2. only_then (IsFor spot) (read_keyword 22 more_2) _ (λ in_word more_3. only_then (IsFor spot) (read_exprs (n + 0) more_3) _ (λ e rest.
+      only_colon (IsFor spot) (n + 0) (for_head spot t in_word e) rest (λ colon behind. record { target = t; in_word = in_word; items = e; colon = colon; behind = behind; is = refl }))));
+}
+
+-- the target of such a line with its `in`, and what follows
+record ForThere (h : Head) (more : List Token) : Type 0 where
+  part : Followed Target
+  tokens_are : followed_tokens target_part part ≡ more
+  higher : target_depth part.part ≤ head_depth h
+
+for_there : (spot : Spot) (h : Head) (more : List Token) → head_tokens h ≡ token (Keyword 17) spot ∷ more → ForThere h more
+for_there spot h more is =
+    let f = finds_written (IsFor spot) (token (Keyword 17) spot ∷ more) h (finds_for spot more) is in
+    let depth : head_depth h ≡ max (max (target_depth f.target) (exprs_depth f.items)) (behind_depth f.behind) = ap head_depth f.is in
+    let one = le-max_left (target_depth f.target) (exprs_depth f.items) in
+    let two = le-max_left (max (target_depth f.target) (exprs_depth f.items)) (behind_depth f.behind) in
+    record {
+      part = record { part = f.target; in_word = f.in_word; behind = exprs_tokens f.items ++ colon_tokens f.colon f.behind };
+      tokens_are = behind_it (token (Keyword 17) spot) (token (Keyword 17) spot) _ more (sym (ap head_tokens f.is) ∙ is);
+      higher = omega (arith, depth, one, two);
+    }
+  where
+    behind_it : (a b : Token) (x y : List Token) → a ∷ x ≡ b ∷ y → x ≡ y
+    behind_it a b x y is = cc
+
+for_amiss : (c : Context) (given : List (List ℕ)) (limited : Bool) (why : Stop) (depth : ℕ) (h : Head) → IsDeep why 100 depth → depth ≤ head_depth h → IsAmissHead c given limited why h
+for_amiss c given limited (Here (TooDeep at)) depth h deep higher = inl (omega (arith, deep, higher))
+for_amiss c given limited (Here (Unexpected at)) depth h deep higher = absurd deep
+for_amiss c given limited (Here (Unsupported at)) depth h deep higher = absurd deep
+for_amiss c given limited (Here (BadIndent at)) depth h deep higher = absurd deep
+for_amiss c given limited (Here (TooMany at)) depth h deep higher = absurd deep
+for_amiss c given limited (Here Memory) depth h deep higher = absurd deep
+for_amiss c given limited End depth h deep higher = absurd deep
+
+for_begins : (spot : Spot) (ts : List Token) → BeginsThen target_part ts → BeginsHead (token (Keyword 17) spot ∷ ts)
+for_begins spot ts b = inr (record {
+  opened = token (Keyword 17) spot ∷ b.opened;
+  begins = begins_with head_part target_part (token (Keyword 17) spot ∷ []) (λ t. for_head spot t some_spot some_exprs some_spot None) (λ t. token (Keyword 22) some_spot ∷ (exprs_tokens some_exprs ++ colon_tokens some_spot None)) (λ t. refl) b.opened b.begins;
+  some = b.some;
+  more = b.more;
+  tokens_are = ap (λ ts. token (Keyword 17) spot ∷ ts) b.tokens_are;
+})
+
+-- ---- the target is refused
+
+module _ (c : Context) (given : List (List ℕ)) (limited : Bool) (spot : Spot) (before : List Token) where
+  shown_for : (fault : ParseFault) → ShownBy (BeginsThen target_part) (followed_tokens target_part) (λ fault w. IsDeep (Here fault) 100 (target_depth w.part)) before fault
+      → ShownBy BeginsHead head_tokens (λ fault h. IsAmissHead c given limited (Here fault) h) (token (Keyword 17) spot ∷ before) fault
+  shown_for fault s = record {
+    front = token (Keyword 17) spot ∷ s.front;
+    shown_by = s.shown_by;
+    behind = s.behind;
+    before_is = ap (λ ts. token (Keyword 17) spot ∷ ts) s.before_is;
+    place_is = s.place_is;
+    begun = for_begins spot s.front s.begun;
+    none = λ h more is.
+        let f = for_there spot h (s.front ++ s.shown_by ∷ more) is in
+        for_amiss c given limited (Here fault) (target_depth f.part.part) h (s.none f.part more f.tokens_are) f.higher;
+  }
+
+  ended_for : (stop : Stop) → EndedBy (BeginsThen target_part) (followed_tokens target_part) (λ w. IsDeep stop 100 (target_depth w.part)) before → EndedBy BeginsHead head_tokens (IsAmissHead c given limited stop) (token (Keyword 17) spot ∷ before)
+  ended_for stop e = record {
+    begun = for_begins spot before e.begun;
+    none = λ h is. let f = for_there spot h before is in for_amiss c given limited stop (target_depth f.part.part) h (e.none f.part f.tokens_are) f.higher;
+  }
+
+  refused_for : (stop : Stop) → TargetsRefused target_part 100 before stop → HeadRefused c given limited (token (Keyword 17) spot ∷ before) stop
+  refused_for (Here Memory) is = tt
+  refused_for (Here (Unexpected at)) is = shown_for (Unexpected at) is
+  refused_for (Here (Unsupported at)) (inl is) = inl (shown_for (Unsupported at) is)
+  refused_for (Here (Unsupported at)) (inr is) = inr (ended_for (Here (Unsupported at)) is)
+  refused_for (Here (TooDeep at)) is = shown_for (TooDeep at) is
+  refused_for (Here (BadIndent at)) is = shown_for (BadIndent at) is
+  refused_for (Here (TooMany at)) is = shown_for (TooMany at) is
+  refused_for End is = ended_for End is
+
+pub for_target_refused : (c : Context) (before : List Token) (stop : Stop) → TargetsRefused target_part 100 before stop → OpeningRefused c 17 before stop
+for_target_refused c before stop is = record { there = λ given limited spot. refused_for c given limited spot before stop is }
+
+-- ---- behind the target
+
+for_turns : (spot : Spot) (next : List Token) → HeadTurns target_part (token (Keyword 17) spot ∷ []) next (for_target_of spot)
+for_turns spot next = record {
+  before = 0;
+  behind = 0;
+  turns = λ n more first. more_steps (λ m. read_head m (token (Keyword 17) spot ∷ more)) (n + 0) n (omega arith) ∙ more_steps (λ m. then_read (read_target m more) (for_target_of spot n)) n (n + 0) (omega arith);
+}
+
+in_turns : {tree : _} {before middle : List Token} (spot : Spot) → (t : Took target_part target_tree before tree middle) → HeadTurns (one_keyword 22) (token (Keyword 17) spot ∷ target_tokens t.written) middle (λ n. for_in spot t.written (n + t.is_read.steps))
+in_turns {before = before} {middle = middle} spot t = turns_on target_part (one_keyword 22) (token (Keyword 17) spot ∷ []) before middle (for_target_of spot) 0 (for_in spot t.written) t.written (for_turns spot before) t.is_read t.before_is (λ n more first. refl)
+
+pub for_in_refused : (c : Context) (tree : _) (before middle : List Token) (stop : Stop) → Took target_part target_tree before tree middle → Refused (one_keyword 22) 0 middle stop → OpeningRefused c 17 before stop
+for_in_refused c tree before middle stop t is = record {
+  there = λ given limited spot.
+      refused_part_head c given limited (one_keyword 22) 0 (token (Keyword 17) spot ∷ target_tokens t.written) middle (token (Keyword 17) spot ∷ before) stop (λ n. for_in spot t.written (n + t.is_read.steps))
+      (ap (λ ts. token (Keyword 17) spot ∷ ts) t.before_is)
+      (begins_part_head (one_keyword 22) (token (Keyword 17) spot ∷ target_tokens t.written) (λ b. for_head spot t.written b some_exprs some_spot None) (λ b. exprs_tokens some_exprs ++ colon_tokens some_spot None) (λ b. refl))
+      (in_turns spot t) (λ why n b left deep. absurd (not_deep why deep)) is;
+}
+
+abbrev in_read : (spot : Spot) (after : List Token) → IsRead (one_keyword 22) spot after
+in_read spot after = record { steps = 0; reads = λ n more first. refl }
+
+items_turns : {tree : _} {before middle behind : List Token} {at : Pos} (spot : Spot) → (t : Took target_part target_tree before tree middle) → (k : Taken (Keyword 22) middle at behind)
+    → HeadTurns exprs_part ((token (Keyword 17) spot ∷ target_tokens t.written) ++ token (Keyword 22) k.spot ∷ []) behind (λ n. for_exprs spot t.written k.spot ((n + 0) + t.is_read.steps))
+items_turns {middle = middle} {behind = behind} spot t k = turns_on (one_keyword 22) exprs_part (token (Keyword 17) spot ∷ target_tokens t.written) middle behind (λ n. for_in spot t.written (n + t.is_read.steps)) t.is_read.steps
+    (λ n. for_exprs spot t.written k.spot (n + t.is_read.steps)) k.spot (in_turns spot t) (in_read k.spot behind) k.before_is (λ n more first. refl)
+
+for_before : {tree : _} {before middle behind : List Token} {at : Pos} (spot : Spot) → (t : Took target_part target_tree before tree middle) → (k : Taken (Keyword 22) middle at behind)
+    → token (Keyword 17) spot ∷ before ≡ ((token (Keyword 17) spot ∷ target_tokens t.written) ++ token (Keyword 22) k.spot ∷ []) ++ behind
+for_before {behind = behind} spot t k = ap (λ ts. token (Keyword 17) spot ∷ ts) (t.before_is ∙ ap (λ ts. target_tokens t.written ++ ts) k.before_is) ∙ sym (append_assoc (token (Keyword 17) spot ∷ target_tokens t.written) (token (Keyword 22) k.spot ∷ []) behind)
+
+pub for_items_refused : (c : Context) (tree : _) (before middle behind : List Token) (at : Pos) (stop : Stop) → Took target_part target_tree before tree middle → Taken (Keyword 22) middle at behind → Refused exprs_part 100 behind stop → OpeningRefused c 17 before stop
+for_items_refused c tree before middle behind at stop t k is = record {
+  there = λ given limited spot.
+      refused_part_head c given limited exprs_part 100 ((token (Keyword 17) spot ∷ target_tokens t.written) ++ token (Keyword 22) k.spot ∷ []) behind (token (Keyword 17) spot ∷ before) stop
+      (λ n. for_exprs spot t.written k.spot ((n + 0) + t.is_read.steps)) (for_before spot t k)
+      (begins_part_head exprs_part ((token (Keyword 17) spot ∷ target_tokens t.written) ++ token (Keyword 22) k.spot ∷ []) (λ e. for_head spot t.written k.spot e some_spot None) (λ e. colon_tokens some_spot None)
+      (λ e. sym (append_assoc (token (Keyword 17) spot ∷ target_tokens t.written) (token (Keyword 22) k.spot ∷ []) (exprs_tokens e ++ colon_tokens some_spot None))))
+      (items_turns spot t k)
+      (λ why n e left deep. only_colon (λ h. IsDeep why 100 (head_depth h)) ((n + 0) + t.is_read.steps) (for_head spot t.written k.spot e) left (λ colon behind. items_deep why (target_depth t.written) (exprs_depth e) (behind_depth behind) deep)) is;
+}
+  where
+    items_deep : (why : Stop) (a b c : ℕ) → IsDeep why 100 b → IsDeep why 100 (max (max a b) c)
+    items_deep why a b c deep = deeper why 100 b 100 (max (max a b) c) deep (let one = le-max_right a b in let two = le-max_left (max a b) c in omega (arith, one, two))
+
+pub for_found : (c : Context) (target : TargetRead) (items : Part) (before middle behind after : List Token) (at : Pos) → Took target_part target_tree before (target_of target) middle → Taken (Keyword 22) middle at behind → FoundRow 100 behind items after
+    → OpeningFound c 17 before (For target items.expr) after
+for_found c target items before middle behind after at t k e spot =
+    let front : List Token = (token (Keyword 17) spot ∷ target_tokens t.written) ++ token (Keyword 22) k.spot ∷ [] in
+    let reads : ColonReads (front ++ exprs_tokens e.written) after (for_head spot t.written k.spot e.written) =
+    colon_on exprs_part front behind after (λ n. for_exprs spot t.written k.spot ((n + 0) + t.is_read.steps)) t.is_read.steps (for_head spot t.written k.spot e.written) e.written
+    (items_turns spot t k) (row_is_read e) e.before_is (λ n more first. more_steps (λ m. read_colon m (for_head spot t.written k.spot e.written) more) ((n + 0) + t.is_read.steps) (n + t.is_read.steps) (omega arith)) in
+    record {
+      front = front ++ exprs_tokens e.written;
+      made = for_head spot t.written k.spot e.written;
+      before_is = for_before spot t k ∙ ap (λ ts. front ++ ts) e.before_is ∙ sym (append_assoc front (exprs_tokens e.written) after);
+      tokens_are = λ colon behind_it.
+          sym (append_assoc (token (Keyword 17) spot ∷ target_tokens t.written) (token (Keyword 22) k.spot ∷ []) (exprs_tokens e.written ++ colon_tokens colon behind_it)) ∙ sym (append_assoc front (exprs_tokens e.written) (colon_tokens colon behind_it));
+      steps = reads.steps;
+      left = reads.left;
+      reads = reads.reads;
+      what_is = λ colon behind_it. (t.value_is, e.tree_is);
+      behind_is = λ colon behind_it. refl;
+      depth = max (target_depth t.written) (exprs_depth e.written);
+      low = let one = t.fits in let two = e.fits in let same = e.height_is in omega (arith, one, two, same);
+      depth_is = λ colon behind_it. refl;
+      stands = λ given colon behind_it. refl;
+    }

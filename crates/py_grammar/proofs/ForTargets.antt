@@ -1,0 +1,702 @@
+-- The target of a `for`: what is read of it, and how it is refused.
+use Rattle.std.proofs.Common.{◌≡◌, ◌⊎◌, inl, inr, ℕ, zero, suc, ◌+◌, max, nat_lt, ◌≤◌, ◌<◌, Bool, true, false, ◌||◌, ◌==◌, List, [], ◌∷◌, ◌++◌, map, Option, Some, None, is_some, is_none, option_map, option_and_then, refl, ap, sym, ◌∙◌, arith, subst, append_assoc, append-nil, length, if◌then◌else◌}
+use Rattle.std.proofs.Math.Nat.{le-max_left, le-max_right}
+use Rattle.std.proofs.lemmas.Option.{same_Some}
+use Rattle.std.proofs.lemmas.List.{append_cancel_left}
+use Rattle.prov_base.specs.declared.place.Pos.{Pos}
+use Rattle.py_lines.specs.declared.parts.Token.{Token}
+use Rattle.py_lines.specs.declared.parts.TokenKind.{TokenKind}
+use Rattle.py_lines.specs.declared.parts.TokenKind.TheVariants.{Word, Keyword, Number, Text, Sign}
+use Rattle.py_tree.specs.declared.expr.Expr.{Expr as ExprRead}
+use Rattle.py_tree.specs.Tree.{ExprTree, TargetTree, TargetsTree, many_target, more_targets, more_exprs, tuple_expr}
+use Rattle.py_tree.specs.Erasure.{expr_of, exprs_list}
+use Rattle.py_grammar.specs.declared.fault.ParseFault.{ParseFault}
+use Rattle.py_grammar.specs.declared.fault.ParseFault.TheVariants.{Unexpected, Unsupported, BadIndent, TooDeep, TooMany, Memory}
+use Rattle.py_grammar.specs.declared.fault.Stop.{Stop}
+use Rattle.py_grammar.specs.declared.fault.Stop.TheVariants.{Here, End}
+use Rattle.py_grammar.specs.declared.part.Part.{Part}
+use Rattle.py_grammar.specs.declared.rows.Row.{Row}
+use Rattle.py_grammar.specs.Concrete.{Spot, Expr, plain_expr, plain_or, plain_and, plain_not, plain_cmp, Sum, plain_sum, plain_term, plain_unary}
+use Rattle.py_grammar.specs.Tokens.{token, expr_tokens, sum_tokens}
+use Rattle.py_grammar.specs.Trees.{sum_tree}
+use Rattle.py_grammar.specs.Depth.{sum_depth, one_target_depth, target_rest_depth, target_depth}
+use Rattle.py_grammar.specs.Reader.{Read, go_on, spot_of, next_level, kind_level, starts, begins_expr, is_keyword, is_sign, read_sign, read_sum}
+use Rattle.py_grammar.specs.Written.{OneTarget, named, item, field, TargetRest, end_rest_target, last_target, more_target, Target, one_target, several_targets}
+use Rattle.py_grammar.specs.StatementTokens.{one_target_tokens, target_rest_tokens, target_tokens}
+use Rattle.py_grammar.specs.StatementTrees.{one_target_tree, target_rest_tree, target_tree}
+use Rattle.py_grammar.specs.StatementReader.{prim_target, expr_target}
+use Rattle.py_grammar.specs.LineReader.{read_one_target, read_target_rest, target_rest_after, read_target}
+use Rattle.py_grammar.specs.Parsed.{Production, sum_part, is_form, Names, IsDeep, Only, Finds, Begins, Shown, Refused, Found, Taken, one_keyword, is_sign_next, IsAtFirst, IsTooDeep}
+use Rattle.py_grammar.specs.ParsedRows.{first_token, IsRead}
+use Rattle.py_grammar.specs.ParsedSimple.{target_form, targets_form, all_target_form}
+use Rattle.py_grammar.specs.ParsedHead.{Took, target_part, MayNameLine, ShownBy, EndedBy, LineRefused}
+use Rattle.py_grammar.specs.ParsedNames.{target_rest_part, Followed, followed_tokens, BeginsThen, TargetsRefused, ItemFound, WrongItem, ItemRefused, FoundTargets}
+use Rattle.py_grammar.proofs.Leading.{Reads}
+use Rattle.py_grammar.proofs.Reading.{if_true, if_false, sum_leads, sum_stops}
+use Rattle.py_grammar.proofs.Refusals.{deeper, max_below}
+use Rattle.py_grammar.proofs.Stops.{some_spot, keyword_refused}
+use Rattle.py_grammar.proofs.TargetForms.{target_spelled, target_deep, target_tree_is}
+use Rattle.py_grammar.proofs.SimpleReading.{target_expr}
+use Rattle.py_grammar.proofs.PrimParts.{go_on_once}
+use Rattle.py_grammar.proofs.RowParts.{more_steps, sign_first, no_start}
+use Rattle.py_grammar.proofs.HeadReading.{ReadsTargets, target_prim, one_target_reads, target_rest_reads, begins_target, target_starts}
+use Rattle.py_grammar.proofs.HeadParts.{first_same, first_shown, level_same, starts_same}
+
+-- ---- a target is read as a sum
+
+abbrev lift : Sum → Expr
+lift s = plain_expr (plain_or (plain_and (plain_not (plain_cmp s))))
+
+abbrev target_sum : OneTarget → Sum
+target_sum t = plain_sum (plain_term (plain_unary (target_prim t)))
+
+sum_spells : (t : OneTarget) → one_target_tokens t ≡ sum_tokens (target_sum t)
+sum_spells (named at bytes) = refl
+sum_spells (item p opening index closing) = refl
+sum_spells (field p dot name_at bytes) = refl
+
+sum_deep : (t : OneTarget) → sum_depth (target_sum t) ≡ one_target_depth t
+sum_deep (named at bytes) = refl
+sum_deep (item p opening index closing) = refl
+sum_deep (field p dot name_at bytes) = refl
+
+sum_form : (t : OneTarget) → is_form (expr_target (lift (target_sum t))) ≡ true
+sum_form (named at bytes) = refl
+sum_form (item p opening index closing) = refl
+sum_form (field p dot name_at bytes) = refl
+
+sum_reads : (s : Sum) → Reads read_sum 3 (sum_tokens s) s
+sum_reads s = sum_stops s (sum_leads s)
+
+a_form : (o : Option OneTarget) → is_form o ≡ true → (t : OneTarget) × (o ≡ Some t)
+a_form None is = absurd (let no : false ≡ true = is in cc)
+a_form (Some t) is = (t, refl)
+
+pub item_found : (room : ℕ) (before after : List Token) (part : Part) → Found sum_part sum_tree 3 room before part after → is_none part.wrong ≡ true → ItemFound room before part after
+item_found room before after part f fine =
+    let t = a_form (expr_target (lift f.written)) (sym f.form_is ∙ fine) in
+    record {
+      target = t.0;
+      before_is = f.before_is ∙ ap (λ ts. ts ++ after) (target_spelled (lift f.written) t.0 t.1);
+      tree_is = ap target_form f.tree_is ∙ target_tree_is (lift f.written) t.0 t.1;
+      height_is = f.height_is ∙ target_deep (lift f.written) t.0 t.1;
+      fits = f.fits;
+      beyond = f.beyond;
+    }
+
+pub item_unread : (room : ℕ) (before : List Token) (stop : Stop) → Refused sum_part room before stop → ItemRefused room before stop
+item_unread room before stop is = record { why = inl is }
+
+pub item_wrong : (room : ℕ) (before after : List Token) (part : Part) (place : Pos) → Found sum_part sum_tree 3 room before part after → is_none part.wrong ≡ false → ItemRefused room before (Here (Unsupported place))
+item_wrong room before after part place f other = record { why = inr (record { part = part; after = after; place = place; stop_is = refl; found = f; form = other }) }
+
+-- two readings of the same tokens
+same_read : {A : Type 0} (a b : A) (x y : List Token) (p : A × List Token) (q : A × List Token) → p ≡ (a, x) → q ≡ (b, y) → p ≡ q → (a ≡ b) × (x ≡ y)
+same_read a b x y p q one other is = (ap (λ (v : _ × List Token). v.0) (sym one ∙ is ∙ other), ap (λ (v : _ × List Token). v.1) (sym one ∙ is ∙ other))
+
+same_sum : (s r : Sum) (a b : List Token) → 3 < next_level a → 3 < next_level b → sum_tokens s ++ a ≡ sum_tokens r ++ b → (s ≡ r) × (a ≡ b)
+same_sum s r a b above high is =
+    let one = sum_reads s in
+    let other = sum_reads r in
+    let both : Some (s, a) ≡ Some (r, b) =
+    sym (one.reads other.steps a above) ∙ more_steps (λ n. read_sum n (sum_tokens s ++ a)) (other.steps + one.steps) (one.steps + other.steps) (omega arith) ∙ ap (read_sum (one.steps + other.steps)) is ∙ other.reads one.steps b high in
+    same_read s r a b (s, a) (r, b) refl refl (same_Some _ _ both)
+
+same_target : (t u : OneTarget) (a b : List Token) → 1 < next_level a → 1 < next_level b → one_target_tokens t ++ a ≡ one_target_tokens u ++ b → (t ≡ u) × (a ≡ b)
+same_target t u a b above high is =
+    let one = one_target_reads t in
+    let other = one_target_reads u in
+    let both : Some (t, a) ≡ Some (u, b) =
+    sym (one.reads other.steps a above) ∙ more_steps (λ n. read_one_target n (one_target_tokens t ++ a)) (other.steps + one.steps) (one.steps + other.steps) (omega arith) ∙ ap (read_one_target (one.steps + other.steps)) is ∙ other.reads one.steps b high in
+    same_read t u a b (t, a) (u, b) refl refl (same_Some _ _ both)
+
+-- ---- how a target is refused where one stands
+
+-- the target that is written there, no deeper than what it stands in
+pub record ItemThere (depth : ℕ) (more : List Token) : Type 0 where
+  pub target : OneTarget
+  pub tail : List Token
+  pub tokens_are : one_target_tokens target ++ tail ≡ more
+  pub beyond : 3 < next_level tail
+  pub higher : one_target_depth target ≤ depth
+
+found_deep : (why : Stop) (room depth : ℕ) (more : List Token) → Finds (λ s. IsDeep why room (sum_depth s)) read_sum more → ItemThere depth more → IsDeep why room depth
+found_deep why room depth more finds i =
+    let one = sum_reads (target_sum i.target) in
+    let is : read_sum (one.steps + finds.steps) more ≡ Some (target_sum i.target, i.tail) =
+    more_steps (λ n. read_sum n more) (one.steps + finds.steps) (finds.steps + one.steps) (omega arith)
+    ∙ ap (read_sum (finds.steps + one.steps)) (sym i.tokens_are ∙ ap (λ ts. ts ++ i.tail) (sum_spells i.target)) ∙ one.reads finds.steps i.tail i.beyond in
+    let deep : IsDeep why room (sum_depth (target_sum i.target)) = subst (Only (λ s. IsDeep why room (sum_depth s))) is (finds.only one.steps) in
+    let same = sum_deep i.target in
+    let higher = i.higher in
+    deeper why room (sum_depth (target_sum i.target)) room depth deep (omega (arith, same, higher))
+
+no_target : (s : Sum) (depth : ℕ) (rest more : List Token) → is_form (expr_target (lift s)) ≡ false → 3 < next_level rest → sum_tokens s ++ rest ≡ more → ItemThere depth more → ⊥
+no_target s depth rest more other above is i =
+    let same = same_sum s (target_sum i.target) rest i.tail above i.beyond (is ∙ sym i.tokens_are ∙ ap (λ ts. ts ++ i.tail) (sum_spells i.target)) in
+    let no : true ≡ false = sym (sum_form i.target) ∙ ap (λ s. is_form (expr_target (lift s))) (sym same.0) ∙ other in
+    cc
+
+begins_sum : {A : Type 0} (p : Production A) (front tokens : List Token) → Begins p front → Begins sum_part tokens → BeginsThen p (front ++ tokens)
+begins_sum p front tokens opens b = record {
+  opened = front;
+  begins = opens;
+  some = lift b.some;
+  more = b.more;
+  tokens_are = ap (λ ts. front ++ ts) b.tokens_are ∙ sym (append_assoc front tokens b.more);
+}
+
+module _ {A : Type 0} (p : Production A) (room : ℕ) (front rest before : List Token) (before_is : before ≡ front ++ rest) (opens : Begins p front)
+    (there : (w : Followed A) (more : List Token) → followed_tokens p w ≡ front ++ more → first_token more ≡ first_token rest → ItemThere (p.depth w.part) more) where
+  shown_item : (fault : ParseFault) → ((at : Pos) → Names at fault → MayNameLine at fault) → Shown sum_part room rest fault → ShownBy (BeginsThen p) (followed_tokens p) (λ fault w. IsDeep (Here fault) room (p.depth w.part)) before fault
+  shown_item fault places s = record {
+    front = front ++ s.front;
+    shown_by = s.shown_by;
+    behind = s.behind;
+    before_is = before_is ∙ ap (λ ts. front ++ ts) s.before_is ∙ sym (append_assoc front s.front (s.shown_by ∷ s.behind));
+    place_is = places s.shown_by.at s.place_is;
+    begun = begins_sum p front s.front opens s.begins;
+    none = λ w more is. found_deep (Here fault) room (p.depth w.part) (s.front ++ s.shown_by ∷ more) (s.none more)
+        (there w (s.front ++ s.shown_by ∷ more) (is ∙ append_assoc front s.front (s.shown_by ∷ more)) (first_shown s.front s.shown_by more s.behind ∙ sym (ap first_token s.before_is)));
+  }
+
+  read_refused : (stop : Stop) → Refused sum_part room rest stop → TargetsRefused p room before stop
+  read_refused (Here Memory) is = tt
+  read_refused (Here (Unexpected at)) is = shown_item (Unexpected at) (λ at same. same) is
+  read_refused (Here (Unsupported at)) is = inl (shown_item (Unsupported at) (λ at same. tt) is)
+  read_refused (Here (TooDeep at)) is = shown_item (TooDeep at) (λ at same. tt) is
+  read_refused (Here (BadIndent at)) is = absurd is.place_is
+  read_refused (Here (TooMany at)) is = absurd is.place_is
+  read_refused End is = record {
+    begun = subst (BeginsThen p) (sym before_is) (begins_sum p front rest opens is.0);
+    none = λ w same. found_deep End room (p.depth w.part) rest is.1 (there w rest (same ∙ before_is) refl);
+  }
+
+  wrong_at : (place : Pos) (part : Part) (after : List Token) → (f : Found sum_part sum_tree 3 room rest part after) → is_none part.wrong ≡ false → (ts : List Token) → after ≡ ts → TargetsRefused p room before (Here (Unsupported place))
+  wrong_at place part after f other [] is = inr (record {
+    begun = subst (BeginsThen p) (sym (before_is ∙ ap (λ ts. front ++ ts) f.before_is)) (begins_sum p front (sum_tokens f.written ++ after) opens
+        (record { some = f.written; more = []; tokens_are = sym (append-nil (sum_tokens f.written ++ after) ∙ ap (λ ts. sum_tokens f.written ++ ts) is ∙ append-nil (sum_tokens f.written)) }));
+    none = λ w same. absurd (no_target f.written (p.depth w.part) after rest (sym f.form_is ∙ other) f.beyond (sym f.before_is) (there w rest (same ∙ before_is) refl));
+  })
+  wrong_at place part after f other (t ∷ ts) is = inl (record {
+    front = front ++ sum_tokens f.written;
+    shown_by = t;
+    behind = ts;
+    before_is = before_is ∙ ap (λ ts. front ++ ts) (f.before_is ∙ ap (λ ts. sum_tokens f.written ++ ts) is) ∙ sym (append_assoc front (sum_tokens f.written) (t ∷ ts));
+    place_is = tt;
+    begun = begins_sum p front (sum_tokens f.written) opens (record { some = f.written; more = []; tokens_are = sym (append-nil (sum_tokens f.written)) });
+    none = λ w more same. absurd (no_target f.written (p.depth w.part) (t ∷ more) (sum_tokens f.written ++ t ∷ more) (sym f.form_is ∙ other) (subst (λ (ts : List Token). 3 < next_level ts) is f.beyond) refl
+        (there w (sum_tokens f.written ++ t ∷ more) (same ∙ append_assoc front (sum_tokens f.written) (t ∷ more))
+        (first_shown (sum_tokens f.written) t more ts ∙ sym (ap first_token (f.before_is ∙ ap (λ ts. sum_tokens f.written ++ ts) is)))));
+  })
+
+  pub item_refused : (stop : Stop) → ItemRefused room rest stop → TargetsRefused p room before stop
+  item_refused stop r = by r.why
+    where
+      by : Refused sum_part room rest stop ⊎ WrongItem room rest stop → TargetsRefused p room before stop
+      by (inl is) = read_refused stop is
+      by (inr w) = subst (λ (stop : Stop). TargetsRefused p room before stop) (sym w.stop_is) (wrong_at w.place w.part w.after w.found w.form w.after refl)
+
+-- ---- what is written in front of `in`
+
+-- what was refused inside is refused where it stands
+pub record Inner {B : Type 0} (q : Production B) (inner room depth : ℕ) (more : List Token) : Type 0 where
+  pub part : Followed B
+  pub tokens_are : followed_tokens q part ≡ more
+  pub higher : room + q.depth part.part ≤ inner + depth
+
+module _ {A B : Type 0} (p : Production A) (room : ℕ) (q : Production B) (inner : ℕ) (front rest before : List Token) (before_is : before ≡ front ++ rest) (opens : (ts : List Token) → BeginsThen q ts → BeginsThen p (front ++ ts))
+    (there : (w : Followed A) (more : List Token) → followed_tokens p w ≡ front ++ more → Inner q inner room (p.depth w.part) more) where
+  shown_rest : (fault : ParseFault) → ShownBy (BeginsThen q) (followed_tokens q) (λ fault w. IsDeep (Here fault) inner (q.depth w.part)) rest fault → ShownBy (BeginsThen p) (followed_tokens p) (λ fault w. IsDeep (Here fault) room (p.depth w.part)) before fault
+  shown_rest fault s = record {
+    front = front ++ s.front;
+    shown_by = s.shown_by;
+    behind = s.behind;
+    before_is = before_is ∙ ap (λ ts. front ++ ts) s.before_is ∙ sym (append_assoc front s.front (s.shown_by ∷ s.behind));
+    place_is = s.place_is;
+    begun = opens s.front s.begun;
+    none = λ w more is.
+        let i = there w (s.front ++ s.shown_by ∷ more) (is ∙ append_assoc front s.front (s.shown_by ∷ more)) in
+        deeper (Here fault) inner (q.depth i.part.part) room (p.depth w.part) (s.none i.part more i.tokens_are) i.higher;
+  }
+
+  ended_rest : (stop : Stop) → EndedBy (BeginsThen q) (followed_tokens q) (λ w. IsDeep stop inner (q.depth w.part)) rest → EndedBy (BeginsThen p) (followed_tokens p) (λ w. IsDeep stop room (p.depth w.part)) before
+  ended_rest stop e = record {
+    begun = subst (BeginsThen p) (sym before_is) (opens rest e.begun);
+    none = λ w is.
+        let i = there w rest (is ∙ before_is) in
+        deeper stop inner (q.depth i.part.part) room (p.depth w.part) (e.none i.part i.tokens_are) i.higher;
+  }
+
+  pub rest_refused : (stop : Stop) → TargetsRefused q inner rest stop → TargetsRefused p room before stop
+  rest_refused (Here Memory) is = tt
+  rest_refused (Here (Unexpected at)) is = shown_rest (Unexpected at) is
+  rest_refused (Here (Unsupported at)) (inl is) = inl (shown_rest (Unsupported at) is)
+  rest_refused (Here (Unsupported at)) (inr is) = inr (ended_rest (Here (Unsupported at)) is)
+  rest_refused (Here (TooDeep at)) is = shown_rest (TooDeep at) is
+  rest_refused (Here (BadIndent at)) is = shown_rest (BadIndent at) is
+  rest_refused (Here (TooMany at)) is = shown_rest (TooMany at) is
+  rest_refused End is = ended_rest End is
+
+some_target : OneTarget
+some_target = named some_spot []
+
+first_there : (w : Followed Target) (more : List Token) → followed_tokens target_part w ≡ more → ItemThere (target_depth w.part) more
+first_there w more is = by w.part is
+  where
+    by : (t : Target) → target_tokens t ++ token (Keyword 22) w.in_word ∷ w.behind ≡ more → ItemThere (target_depth t) more
+    by (one_target t) same = record { target = t; tail = token (Keyword 22) w.in_word ∷ w.behind; tokens_are = same; beyond = omega arith; higher = omega arith }
+    by (several_targets t comma r) same = record {
+      target = t;
+      tail = token (Sign 6) comma ∷ (target_rest_tokens r ++ token (Keyword 22) w.in_word ∷ w.behind);
+      tokens_are = sym (append_assoc (one_target_tokens t) (token (Sign 6) comma ∷ target_rest_tokens r) (token (Keyword 22) w.in_word ∷ w.behind)) ∙ same;
+      beyond = omega arith;
+      higher = let high = le-max_left (one_target_depth t) (target_rest_depth r) in omega (arith, high);
+    }
+
+begins_first : Begins target_part []
+begins_first = record { some = one_target some_target; more = one_target_tokens some_target; tokens_are = refl }
+
+-- the first target is refused
+pub first_refused : (before : List Token) (stop : Stop) → ItemRefused 100 before stop → TargetsRefused target_part 100 before stop
+first_refused before stop is = item_refused target_part 100 [] before before refl begins_first (λ w more same first. first_there w more same) stop is
+
+-- behind a target and a comma several are written
+record Several (w : Followed Target) (t : OneTarget) (more : List Token) : Type 0 where
+  comma : Spot
+  rest : TargetRest
+  part_is : w.part ≡ several_targets t comma rest
+  tokens_are : target_rest_tokens rest ++ token (Keyword 22) w.in_word ∷ w.behind ≡ more
+
+several_there : (w : Followed Target) (t : OneTarget) (comma : Spot) (more : List Token) → followed_tokens target_part w ≡ one_target_tokens t ++ token (Sign 6) comma ∷ more → Several w t more
+several_there w t comma more is = by w.part refl is
+  where
+    same_first : (a b : Token) (x y : List Token) → a ∷ x ≡ b ∷ y → a ≡ b
+    same_first a b x y is = cc
+
+    behind_it : (a b : Token) (x y : List Token) → a ∷ x ≡ b ∷ y → x ≡ y
+    behind_it a b x y is = cc
+
+    by : (u : Target) → w.part ≡ u → target_tokens u ++ token (Keyword 22) w.in_word ∷ w.behind ≡ one_target_tokens t ++ token (Sign 6) comma ∷ more → Several w t more
+    by (one_target u) part same =
+        let both = same_target u t (token (Keyword 22) w.in_word ∷ w.behind) (token (Sign 6) comma ∷ more) (omega arith) (omega arith) same in
+        let one : Keyword 22 ≡ Sign 6 = ap (λ (v : Token). v.kind) (same_first (token (Keyword 22) w.in_word) (token (Sign 6) comma) w.behind more both.1) in
+        absurd (let no : is_sign 6 (Keyword 22) ≡ is_sign 6 (Sign 6) = ap (is_sign 6) one in cc)
+    by (several_targets u c r) part same =
+        let i : List Token = token (Keyword 22) w.in_word ∷ w.behind in
+        let both = same_target u t (token (Sign 6) c ∷ (target_rest_tokens r ++ i)) (token (Sign 6) comma ∷ more) (omega arith) (omega arith) (sym (append_assoc (one_target_tokens u) (token (Sign 6) c ∷ target_rest_tokens r) i) ∙ same) in
+        record {
+          comma = c;
+          rest = r;
+          part_is = part ∙ ap (λ t. several_targets t c r) both.0;
+          tokens_are = behind_it (token (Sign 6) c) (token (Sign 6) comma) (target_rest_tokens r ++ i) more both.1;
+        }
+
+-- several targets lie one deeper, and there is no room
+pub first_full : (before middle behind : List Token) (at : Pos) (first : Part) (stop : Stop) → ItemFound 100 before first middle → Taken (Sign 6) middle at behind → IsTooDeep first.height 100 stop → TargetsRefused target_part 100 before stop
+first_full before middle behind at first (Here (TooDeep place)) f k deep = record {
+  front = one_target_tokens f.target;
+  shown_by = token (Sign 6) k.spot;
+  behind = behind;
+  before_is = f.before_is ∙ ap (λ ts. one_target_tokens f.target ++ ts) k.before_is;
+  place_is = tt;
+  begun = record { opened = one_target_tokens f.target; begins = record { some = one_target f.target; more = []; tokens_are = sym (append-nil (one_target_tokens f.target)) }; some = target_expr some_target; more = expr_tokens (target_expr some_target); tokens_are = refl };
+  none = λ w more is.
+      let s = several_there w f.target k.spot more is in
+      let depth : target_depth w.part ≡ target_depth (several_targets f.target s.comma s.rest) = ap target_depth s.part_is in
+      let high = le-max_left (one_target_depth f.target) (target_rest_depth s.rest) in
+      let height = f.height_is in
+      omega (arith, deep, depth, high, height);
+}
+first_full before middle behind at first (Here (Unexpected place)) f k deep = absurd deep
+first_full before middle behind at first (Here (Unsupported place)) f k deep = absurd deep
+first_full before middle behind at first (Here (BadIndent place)) f k deep = absurd deep
+first_full before middle behind at first (Here (TooMany place)) f k deep = absurd deep
+first_full before middle behind at first (Here Memory) f k deep = absurd deep
+first_full before middle behind at first End f k deep = absurd deep
+
+comma_behind : (tokens : List Token) (comma : Token) (more : List Token) → (tokens ++ comma ∷ []) ++ more ≡ tokens ++ comma ∷ more
+comma_behind tokens comma more = append_assoc tokens (comma ∷ []) more
+
+-- what stands behind the first comma is refused
+pub others_refused : (before middle behind : List Token) (at : Pos) (first : Part) (stop : Stop) → ItemFound 100 before first middle → Taken (Sign 6) middle at behind → TargetsRefused target_rest_part 99 behind stop → TargetsRefused target_part 100 before stop
+others_refused before middle behind at first stop f k is =
+    rest_refused target_part 100 target_rest_part 99 (one_target_tokens f.target ++ token (Sign 6) k.spot ∷ []) behind before
+    (f.before_is ∙ ap (λ ts. one_target_tokens f.target ++ ts) k.before_is ∙ sym (comma_behind (one_target_tokens f.target) (token (Sign 6) k.spot) behind))
+    (λ ts b. record {
+      opened = (one_target_tokens f.target ++ token (Sign 6) k.spot ∷ []) ++ b.opened;
+      begins = record {
+        some = several_targets f.target k.spot b.begins.some;
+        more = b.begins.more;
+        tokens_are = ap (λ ts. one_target_tokens f.target ++ token (Sign 6) k.spot ∷ ts) b.begins.tokens_are
+            ∙ sym (comma_behind (one_target_tokens f.target) (token (Sign 6) k.spot) (b.opened ++ b.begins.more)) ∙ sym (append_assoc (one_target_tokens f.target ++ token (Sign 6) k.spot ∷ []) b.opened b.begins.more);
+      };
+      some = b.some;
+      more = b.more;
+      tokens_are = append_assoc (one_target_tokens f.target ++ token (Sign 6) k.spot ∷ []) b.opened (expr_tokens b.some) ∙ ap (λ ts. (one_target_tokens f.target ++ token (Sign 6) k.spot ∷ []) ++ ts) b.tokens_are
+          ∙ sym (append_assoc (one_target_tokens f.target ++ token (Sign 6) k.spot ∷ []) ts b.more);
+    })
+    (λ w more same.
+    let s = several_there w f.target k.spot more (same ∙ comma_behind (one_target_tokens f.target) (token (Sign 6) k.spot) more) in
+    let depth : target_depth w.part ≡ target_depth (several_targets f.target s.comma s.rest) = ap target_depth s.part_is in
+    let high = le-max_right (one_target_depth f.target) (target_rest_depth s.rest) in
+    record { part = record { part = s.rest; in_word = w.in_word; behind = w.behind }; tokens_are = s.tokens_are; higher = omega (arith, depth, high) })
+    stop is
+
+-- ---- targets behind a comma
+
+-- `put` puts what comes behind what was read
+pub record TargetsGo (room : ℕ) (before : List Token) (old : Row) (after : List Token) (row : Row) : Type 0 where
+  pub put : TargetRest → TargetRest
+  pub front : List Token
+  pub before_is : before ≡ front ++ after
+  pub tokens_are : (r : TargetRest) → target_rest_tokens (put r) ≡ front ++ target_rest_tokens r
+  pub trees : List ExprTree
+  pub row_is : map expr_of row.list.items ≡ map expr_of old.list.items ++ trees
+  pub forms : (es : List ExprTree) (r : TargetRest) → targets_form (exprs_list es) ≡ Some (target_rest_tree r) → targets_form (exprs_list (trees ++ es)) ≡ Some (target_rest_tree (put r))
+  pub depth : ℕ
+  pub height_is : row.height ≡ max old.height depth
+  pub depth_is : (r : TargetRest) → target_rest_depth (put r) ≡ max depth (target_rest_depth r)
+  pub fits : row.height ≤ room
+  pub steps : ℕ
+  pub behind : ℕ
+  pub leads : (n : ℕ) (tail : List Token) → read_target_rest (n + steps) (front ++ tail) ≡ go_on (read_target_rest (n + behind) tail) (λ r rest. Some (put r, rest))
+
+go_on_itself : {A : Type 0} (r : Read A) → r ≡ go_on r (λ a rest. Some (a, rest))
+go_on_itself None = refl
+go_on_itself (Some (a, rest)) = refl
+
+pub targets_init : (room : ℕ) (before : List Token) (row : Row) → row.height ≤ room → TargetsGo room before row before row
+targets_init room before row fits = record {
+  put = λ r. r;
+  front = [];
+  before_is = refl;
+  tokens_are = λ r. refl;
+  trees = [];
+  row_is = sym (append-nil (map expr_of row.list.items));
+  forms = λ es r is. is;
+  depth = 0;
+  height_is = none_above row.height;
+  depth_is = λ r. none_below (target_rest_depth r);
+  fits = fits;
+  steps = 0;
+  behind = 0;
+  leads = λ n tail. go_on_itself (read_target_rest (n + 0) tail);
+}
+  where
+    none_above : (n : ℕ) → n ≡ max n 0
+    none_above n = omega arith
+
+    none_below : (n : ℕ) → n ≡ max 0 n
+    none_below n = omega arith
+
+map_append : (xs ys : List ExprRead) → map expr_of (xs ++ ys) ≡ map expr_of xs ++ map expr_of ys
+map_append [] ys = refl
+map_append (x ∷ xs) ys = ap (λ es. expr_of x ∷ es) (map_append xs ys)
+
+pushed_trees : (xs ys : List ExprRead) (e : ExprRead) (ts us : List ExprTree) → ys ≡ xs ++ e ∷ [] → map expr_of xs ≡ ts ++ us → map expr_of ys ≡ ts ++ (us ++ expr_of e ∷ [])
+pushed_trees xs ys e ts us is old = ap (map expr_of) is ∙ map_append xs (e ∷ []) ∙ ap (λ vs. vs ++ expr_of e ∷ []) old ∙ append_assoc ts us (expr_of e ∷ [])
+
+max_assoc : (a b c : ℕ) → max (max a b) c ≡ max a (max b c)
+max_assoc a b c = omega arith
+
+below_both : (a b c d : ℕ) → a ≡ max b c → b ≤ d → c ≤ d → a ≤ d
+below_both a b c d is one other = omega (arith, is, one, other)
+
+behind_comma : (front tokens : List Token) (comma : Token) (after : List Token) → front ++ (tokens ++ comma ∷ after) ≡ (front ++ (tokens ++ comma ∷ [])) ++ after
+behind_comma front tokens comma after = sym (append_assoc front (tokens ++ comma ∷ []) after ∙ ap (λ ts. front ++ ts) (append_assoc tokens (comma ∷ []) after))
+
+-- one more target in a row
+one_form : (e : ExprTree) (es : List ExprTree) (t : TargetTree) (ts : TargetsTree) → target_form e ≡ Some t → targets_form (exprs_list es) ≡ Some ts → targets_form (exprs_list (e ∷ es)) ≡ Some (more_targets t ts)
+one_form e es t ts is rest = ap (λ o. option_and_then (λ t. option_map (more_targets t) (targets_form (exprs_list es))) o) is ∙ ap (option_map (more_targets t)) rest
+
+comma_step : (t : OneTarget) (comma : Spot) (m : ℕ) (tail : List Token) → (is : Reads read_one_target 1 (one_target_tokens t) t)
+    → read_target_rest (suc (suc (m + is.steps))) (one_target_tokens t ++ token (Sign 6) comma ∷ tail) ≡ go_on (read_target_rest (m + is.steps) tail) (λ r rest. Some (more_target t comma r, rest))
+comma_step t comma m tail is =
+    begins_target t (suc (m + is.steps)) (token (Sign 6) comma ∷ tail)
+    ∙ more_steps (λ k. go_on (read_one_target k (one_target_tokens t ++ token (Sign 6) comma ∷ tail)) (λ t rest. target_rest_after (suc (m + is.steps)) t rest)) (suc (m + is.steps)) (suc m + is.steps) (omega arith)
+    ∙ ap (λ r. go_on r (λ t rest. target_rest_after (suc (m + is.steps)) t rest)) (is.reads (suc m) (token (Sign 6) comma ∷ tail) (omega arith))
+
+targets_lead : (put : TargetRest → TargetRest) (front : List Token) (steps behind : ℕ) → ((n : ℕ) (tail : List Token) → read_target_rest (n + steps) (front ++ tail) ≡ go_on (read_target_rest (n + behind) tail) (λ r rest. Some (put r, rest)))
+    → (t : OneTarget) (comma : Spot) (is : Reads read_one_target 1 (one_target_tokens t) t) (n : ℕ) (tail : List Token)
+    → read_target_rest (n + (suc (suc is.steps) + steps)) ((front ++ (one_target_tokens t ++ token (Sign 6) comma ∷ [])) ++ tail) ≡ go_on (read_target_rest (n + (behind + is.steps)) tail) (λ r rest. Some (put (more_target t comma r), rest))
+targets_lead put front steps behind leads t comma is n tail =
+    let c : Token = token (Sign 6) comma in
+    more_steps (λ k. read_target_rest k ((front ++ (one_target_tokens t ++ c ∷ [])) ++ tail)) (n + (suc (suc is.steps) + steps)) ((n + suc (suc is.steps)) + steps) (omega arith)
+    ∙ ap (read_target_rest ((n + suc (suc is.steps)) + steps)) (sym (behind_comma front (one_target_tokens t) c tail))
+    ∙ leads (n + suc (suc is.steps)) (one_target_tokens t ++ c ∷ tail)
+    ∙ more_steps (λ k. go_on (read_target_rest k (one_target_tokens t ++ c ∷ tail)) (λ r rest. Some (put r, rest))) ((n + suc (suc is.steps)) + behind) (suc (suc ((n + behind) + is.steps))) (omega arith)
+    ∙ ap (λ r. go_on r (λ r rest. Some (put r, rest))) (comma_step t comma (n + behind) tail is)
+    ∙ go_on_once (read_target_rest ((n + behind) + is.steps) tail) (more_target t comma) (λ r rest. Some (put r, rest))
+    ∙ more_steps (λ k. go_on (read_target_rest k tail) (λ r rest. Some (put (more_target t comma r), rest))) ((n + behind) + is.steps) (n + (behind + is.steps)) (omega arith)
+
+pub targets_next : (room : ℕ) (before after middle behind : List Token) (at : Pos) (old row row_2 : Row) (part : Part) → TargetsGo room before old after row → ItemFound room after part middle
+    → Taken (Sign 6) middle at behind → row_2.list.items ≡ row.list.items ++ part.expr ∷ [] → row_2.height ≡ max row.height part.height → TargetsGo room before old behind row_2
+targets_next room before after middle behind at old row row_2 part g f k items_are higher = record {
+  put = λ r. g.put (more_target f.target k.spot r);
+  front = g.front ++ (one_target_tokens f.target ++ token (Sign 6) k.spot ∷ []);
+  before_is = g.before_is ∙ ap (λ ts. g.front ++ ts) (f.before_is ∙ ap (λ ts. one_target_tokens f.target ++ ts) k.before_is) ∙ behind_comma g.front (one_target_tokens f.target) (token (Sign 6) k.spot) behind;
+  tokens_are = λ r. g.tokens_are (more_target f.target k.spot r) ∙ behind_comma g.front (one_target_tokens f.target) (token (Sign 6) k.spot) (target_rest_tokens r);
+  trees = g.trees ++ expr_of part.expr ∷ [];
+  row_is = pushed_trees row.list.items row_2.list.items part.expr (map expr_of old.list.items) g.trees items_are g.row_is;
+  forms = λ es r is. ap (λ xs. targets_form (exprs_list xs)) (append_assoc g.trees (expr_of part.expr ∷ []) es)
+      ∙ g.forms (expr_of part.expr ∷ es) (more_target f.target k.spot r) (one_form (expr_of part.expr) es (one_target_tree f.target) (target_rest_tree r) f.tree_is is);
+  depth = max g.depth (one_target_depth f.target);
+  height_is = higher ∙ ap (λ h. max h part.height) g.height_is ∙ ap (λ h. max (max old.height g.depth) h) f.height_is ∙ max_assoc old.height g.depth (one_target_depth f.target);
+  depth_is = λ r. g.depth_is (more_target f.target k.spot r) ∙ sym (max_assoc g.depth (one_target_depth f.target) (target_rest_depth r));
+  fits = below_both row_2.height row.height part.height room higher g.fits f.fits;
+  steps = suc (suc (one_target_reads f.target).steps) + g.steps;
+  behind = g.behind + (one_target_reads f.target).steps;
+  leads = λ n tail. targets_lead g.put g.front g.steps g.behind g.leads f.target k.spot (one_target_reads f.target) n tail;
+}
+
+level_word : (a b c d : Bool) → ((if a then 4 else (if b then 5 else (if c then 6 else (if d then 7 else 9)))) == 8) ≡ false
+level_word true b c d = refl
+level_word false true c d = refl
+level_word false false true d = refl
+level_word false false false true = refl
+level_word false false false false = refl
+
+level_sign : (a b c d e : Bool) → e ≡ false → ((if a then 1 else (if b then 2 else (if c then 3 else (if d then 4 else (if e then 8 else 9))))) == 8) ≡ false
+level_sign true b c d e other = refl
+level_sign false true c d e other = refl
+level_sign false false true d e other = refl
+level_sign false false false true e other = refl
+level_sign false false false false true other = cc
+level_sign false false false false false other = refl
+
+pub no_comma : (ts : List Token) → is_sign_next 6 ts ≡ false → (next_level ts == 8) ≡ false
+no_comma [] other = refl
+no_comma (t ∷ ts) other = by t.kind other
+  where
+    by : (kind : TokenKind) → is_sign 6 kind ≡ false → (kind_level kind == 8) ≡ false
+    by (Keyword n) other = level_word ((n == 22) || (n == 23) || (n == 26)) (n == 3) (n == 27) (n == 20)
+    by (Sign n) other = level_sign ((n == 0) || (n == 2) || (n == 8)) ((n == 12) || (n == 13) || (n == 14)) ((n == 10) || (n == 11)) ((n == 15) || (n == 16) || (n == 17) || (n == 18) || (n == 19) || (n == 20)) (n == 6) other
+    by (Word bytes) other = refl
+    by (Number value) other = refl
+    by (Text bytes) other = refl
+
+last_step : (t : OneTarget) (m : ℕ) (more : List Token) → (is : Reads read_one_target 1 (one_target_tokens t) t) → 1 < next_level more → (next_level more == 8) ≡ false
+    → read_target_rest (suc (suc (m + is.steps))) (one_target_tokens t ++ more) ≡ Some (last_target t, more)
+last_step t m more is beyond other =
+    begins_target t (suc (m + is.steps)) more
+    ∙ more_steps (λ k. go_on (read_one_target k (one_target_tokens t ++ more)) (λ t rest. target_rest_after (suc (m + is.steps)) t rest)) (suc (m + is.steps)) (suc m + is.steps) (omega arith)
+    ∙ ap (λ r. go_on r (λ t rest. target_rest_after (suc (m + is.steps)) t rest)) (is.reads (suc m) more beyond)
+    ∙ if_false (next_level more == 8) _ _ other
+
+pub targets_last : (room : ℕ) (before after middle : List Token) (old row row_2 : Row) (part : Part) → TargetsGo room before old after row → ItemFound room after part middle
+    → is_sign_next 6 middle ≡ false → row_2.list.items ≡ row.list.items ++ part.expr ∷ [] → row_2.height ≡ max row.height part.height → FoundTargets room before old row_2 middle
+targets_last room before after middle old row row_2 part g f other items_are higher = record {
+  written = g.put (last_target f.target);
+  before_is = g.before_is ∙ ap (λ ts. g.front ++ ts) f.before_is ∙ sym (append_assoc g.front (one_target_tokens f.target) middle) ∙ ap (λ ts. ts ++ middle) (sym (g.tokens_are (last_target f.target)));
+  trees = g.trees ++ expr_of part.expr ∷ [];
+  row_is = pushed_trees row.list.items row_2.list.items part.expr (map expr_of old.list.items) g.trees items_are g.row_is;
+  trees_are = g.forms (expr_of part.expr ∷ []) (last_target f.target) (one_form (expr_of part.expr) [] (one_target_tree f.target) (target_rest_tree end_rest_target) f.tree_is refl);
+  height_is = higher ∙ ap (λ h. max h part.height) g.height_is ∙ ap (λ h. max (max old.height g.depth) h) f.height_is ∙ max_assoc old.height g.depth (one_target_depth f.target) ∙ ap (max old.height) (sym (g.depth_is (last_target f.target)));
+  fits = below_both row_2.height row.height part.height room higher g.fits f.fits;
+  is_read = record {
+    steps = suc (suc (one_target_reads f.target).steps) + g.steps;
+    reads = λ n more first.
+        let is = one_target_reads f.target in
+        ap (λ ts. read_target_rest (n + (suc (suc is.steps) + g.steps)) (ts ++ more)) (g.tokens_are (last_target f.target))
+        ∙ ap (read_target_rest (n + (suc (suc is.steps) + g.steps))) (append_assoc g.front (one_target_tokens f.target) more)
+        ∙ more_steps (λ k. read_target_rest k (g.front ++ (one_target_tokens f.target ++ more))) (n + (suc (suc is.steps) + g.steps)) ((n + suc (suc is.steps)) + g.steps) (omega arith)
+        ∙ g.leads (n + suc (suc is.steps)) (one_target_tokens f.target ++ more)
+        ∙ more_steps (λ k. go_on (read_target_rest k (one_target_tokens f.target ++ more)) (λ r rest. Some (g.put r, rest))) ((n + suc (suc is.steps)) + g.behind) (suc (suc ((n + g.behind) + is.steps))) (omega arith)
+        ∙ ap (λ r. go_on r (λ r rest. Some (g.put r, rest)))
+        (last_step f.target (n + g.behind) more is (let level = level_same more middle first in let high = f.beyond in omega (arith, level, high)) (no_comma more (sign_first 6 middle more (first_same more middle first) ∙ other)));
+  };
+}
+
+end_step : (m : ℕ) (more : List Token) → starts more ≡ 0 → read_target_rest (suc m) more ≡ Some (end_rest_target, more)
+end_step m more ends = ap (λ c. if nat_lt 0 c then go_on (read_one_target m more) (λ t rest. target_rest_after m t rest) else Some (end_rest_target, more)) ends
+
+pub targets_end : (room : ℕ) (before after : List Token) (old row : Row) → TargetsGo room before old after row → begins_expr after ≡ false → FoundTargets room before old row after
+targets_end room before after old row g other = record {
+  written = g.put end_rest_target;
+  before_is = g.before_is ∙ ap (λ ts. ts ++ after) (sym (g.tokens_are end_rest_target ∙ append-nil g.front));
+  trees = g.trees;
+  row_is = g.row_is;
+  trees_are = ap (λ xs. targets_form (exprs_list xs)) (sym (append-nil g.trees)) ∙ g.forms [] end_rest_target refl;
+  height_is = g.height_is ∙ ap (max old.height) (sym (g.depth_is end_rest_target ∙ no_deeper g.depth));
+  fits = g.fits;
+  is_read = record {
+    steps = 1 + g.steps;
+    reads = λ n more first.
+        ap (λ ts. read_target_rest (n + (1 + g.steps)) (ts ++ more)) (g.tokens_are end_rest_target ∙ append-nil g.front)
+        ∙ more_steps (λ k. read_target_rest k (g.front ++ more)) (n + (1 + g.steps)) ((n + 1) + g.steps) (omega arith)
+        ∙ g.leads (n + 1) more
+        ∙ more_steps (λ k. go_on (read_target_rest k more) (λ r rest. Some (g.put r, rest))) ((n + 1) + g.behind) (suc (n + g.behind)) (omega arith)
+        ∙ ap (λ r. go_on r (λ r rest. Some (g.put r, rest))) (end_step (n + g.behind) more (starts_same more after first ∙ no_start after other));
+  };
+}
+  where
+    no_deeper : (n : ℕ) → max n 0 ≡ n
+    no_deeper n = omega arith
+
+-- what is written behind what was read
+record Peeled (put : TargetRest → TargetRest) (w : Followed TargetRest) (more : List Token) : Type 0 where
+  rest : TargetRest
+  part_is : w.part ≡ put rest
+  tokens_are : target_rest_tokens rest ++ token (Keyword 22) w.in_word ∷ w.behind ≡ more
+
+peeled : (room : ℕ) (before after : List Token) (old row : Row) → (g : TargetsGo room before old after row) → (w : Followed TargetRest) (more : List Token) → followed_tokens target_rest_part w ≡ g.front ++ more → Peeled g.put w more
+peeled room before after old row g w more is = by (read_target_rest (r.steps + g.behind) more) read
+  where
+    i : List Token
+    i = token (Keyword 22) w.in_word ∷ w.behind
+
+    r : ReadsTargets (target_rest_tokens w.part) w.part
+    r = target_rest_reads w.part
+
+    read : go_on (read_target_rest (r.steps + g.behind) more) (λ r rest. Some (g.put r, rest)) ≡ Some (w.part, i)
+    read = sym (g.leads r.steps more) ∙ more_steps (λ k. read_target_rest k (g.front ++ more)) (r.steps + g.steps) (g.steps + r.steps) (omega arith) ∙ ap (read_target_rest (g.steps + r.steps)) (sym is) ∙ r.reads g.steps i (omega arith) refl refl
+
+    by : (o : Read TargetRest) → go_on o (λ r rest. Some (g.put r, rest)) ≡ Some (w.part, i) → Peeled g.put w more
+    by None same = absurd (let no : None ≡ Some (w.part, i) = same in cc)
+    by (Some (rest, left)) same =
+        let part : g.put rest ≡ w.part = ap (λ (v : TargetRest × List Token). v.0) (same_Some _ _ same) in
+        record {
+          rest = rest;
+          part_is = sym part;
+          tokens_are = append_cancel_left g.front (target_rest_tokens rest ++ i) more
+              (sym (append_assoc g.front (target_rest_tokens rest) i) ∙ ap (λ ts. ts ++ i) (sym (g.tokens_are rest)) ∙ ap (λ t. target_rest_tokens t ++ i) part ∙ is);
+        }
+
+target_there : (room : ℕ) (before after : List Token) (old row : Row) → (g : TargetsGo room before old after row) → begins_expr after ≡ true → (w : Followed TargetRest) (more : List Token)
+    → followed_tokens target_rest_part w ≡ g.front ++ more → first_token more ≡ first_token after → ItemThere (target_rest_depth w.part) more
+target_there room before after old row g start w more is first = by p.rest refl p.tokens_are
+  where
+    i : List Token
+    i = token (Keyword 22) w.in_word ∷ w.behind
+
+    p : Peeled g.put w more
+    p = peeled room before after old row g w more is
+
+    low : (t : TargetRest) → p.rest ≡ t → target_rest_depth t ≤ target_rest_depth w.part
+    low t same =
+        let depth : target_rest_depth w.part ≡ max g.depth (target_rest_depth p.rest) = ap target_rest_depth p.part_is ∙ g.depth_is p.rest in
+        let one : target_rest_depth p.rest ≡ target_rest_depth t = ap target_rest_depth same in
+        let high = le-max_right g.depth (target_rest_depth p.rest) in
+        omega (arith, depth, one, high)
+
+    by : (t : TargetRest) → p.rest ≡ t → target_rest_tokens t ++ i ≡ more → ItemThere (target_rest_depth w.part) more
+    by end_rest_target same tokens =
+        let none : starts more ≡ 0 = ap starts (sym tokens) in
+        let some : begins_expr more ≡ true = ap (nat_lt 0) (starts_same more after first) ∙ start in
+        absurd (let no : false ≡ true = ap (nat_lt 0) (sym none) ∙ some in cc)
+    by (last_target t) same tokens = record { target = t; tail = i; tokens_are = tokens; beyond = omega arith; higher = low (last_target t) same }
+    by (more_target t comma r) same tokens = record {
+      target = t;
+      tail = token (Sign 6) comma ∷ (target_rest_tokens r ++ i);
+      tokens_are = sym (append_assoc (one_target_tokens t) (token (Sign 6) comma ∷ target_rest_tokens r) i) ∙ tokens;
+      beyond = omega arith;
+      higher = let deep = low (more_target t comma r) same in let high = le-max_left (one_target_depth t) (target_rest_depth r) in omega (arith, deep, high);
+    }
+
+pub next_refused : (room : ℕ) (before after : List Token) (old row : Row) (stop : Stop) → TargetsGo room before old after row → begins_expr after ≡ true → ItemRefused room after stop → TargetsRefused target_rest_part room before stop
+next_refused room before after old row stop g start is =
+    item_refused target_rest_part room g.front after before g.before_is (record { some = g.put end_rest_target; more = []; tokens_are = g.tokens_are end_rest_target })
+    (λ w more same first. target_there room before after old row g start w more same first) stop is
+
+-- ---- the whole target
+
+target_is : (t : OneTarget) (n : ℕ) (more : List Token) → (is : Reads read_one_target 1 (one_target_tokens t) t) → 1 < next_level more → (next_level more == 8) ≡ false → read_target (n + is.steps) (one_target_tokens t ++ more) ≡ Some (one_target t, more)
+target_is t n more is beyond other =
+    ap (λ r. go_on r (λ t rest. if next_level rest == 8
+    then go_on (read_sign 6 rest) (λ comma more. go_on (read_target_rest (n + is.steps) more) (λ found left. Some (several_targets t comma found, left))) else Some (one_target t, rest))) (is.reads n more beyond)
+    ∙ if_false (next_level more == 8) _ _ other
+
+pub one_found : (before after : List Token) (first : Part) (tree : TargetTree) → ItemFound 100 before first after → is_sign_next 6 after ≡ false → target_form (expr_of first.expr) ≡ Some tree → Took target_part target_tree before tree after
+one_found before after first tree f other built = record {
+  written = one_target f.target;
+  before_is = f.before_is;
+  value_is = same_Some _ _ (sym built ∙ f.tree_is);
+  fits = let high = f.height_is in let low = f.fits in omega (arith, high, low);
+  is_read = record {
+    steps = (one_target_reads f.target).steps;
+    reads = λ n more first. target_is f.target n more (one_target_reads f.target) (let level = level_same more after first in let high = f.beyond in omega (arith, level, high)) (no_comma more (sign_first 6 after more (first_same more after first) ∙ other));
+  };
+}
+
+pub one_is_target : (room : ℕ) (before after : List Token) (first : Part) → ItemFound room before first after → is_some (target_form (expr_of first.expr)) ≡ true
+one_is_target room before after first f = ap is_some f.tree_is
+
+several_is : (t : OneTarget) (comma : Spot) (r : TargetRest) (n steps : ℕ) (more : List Token) → (is : Reads read_one_target 1 (one_target_tokens t) t) → ((n : ℕ) → read_target_rest (n + steps) (target_rest_tokens r ++ more) ≡ Some (r, more))
+    → read_target (n + (is.steps + steps)) ((one_target_tokens t ++ token (Sign 6) comma ∷ target_rest_tokens r) ++ more) ≡ Some (several_targets t comma r, more)
+several_is t comma r n steps more is reads =
+    let k : ℕ = n + (is.steps + steps) in
+    let c : Token = token (Sign 6) comma in
+    ap (read_target k) (append_assoc (one_target_tokens t) (c ∷ target_rest_tokens r) more)
+    ∙ more_steps (λ m. go_on (read_one_target m (one_target_tokens t ++ (c ∷ target_rest_tokens r ++ more))) (λ t rest. if next_level rest == 8
+    then go_on (read_sign 6 rest) (λ comma more. go_on (read_target_rest k more) (λ found left. Some (several_targets t comma found, left))) else Some (one_target t, rest))) k ((n + steps) + is.steps) (omega arith)
+    ∙ ap (λ r. go_on r (λ t rest. if next_level rest == 8
+    then go_on (read_sign 6 rest) (λ comma more. go_on (read_target_rest k more) (λ found left. Some (several_targets t comma found, left))) else Some (one_target t, rest))) (is.reads (n + steps) (c ∷ target_rest_tokens r ++ more) (omega arith))
+    ∙ more_steps (λ m. go_on (read_target_rest m (target_rest_tokens r ++ more)) (λ found left. Some (several_targets t comma found, left))) k ((n + is.steps) + steps) (omega arith)
+    ∙ ap (λ r. go_on r (λ found left. Some (several_targets t comma found, left))) (reads (n + is.steps))
+
+-- the tuple of all targets
+tuple_form : (at : Pos) (e : ExprTree) (es : List ExprTree) (t : TargetTree) (ts : TargetsTree) → target_form e ≡ Some t → targets_form (exprs_list es) ≡ Some ts → all_target_form (tuple_expr at (exprs_list (e ∷ es))) ≡ Some (many_target (more_targets t ts))
+tuple_form at e es t ts one rest = ap (option_map many_target) (one_form e es t ts one rest)
+
+pub all_form : (before middle behind after : List Token) (at : Pos) (first part : Part) (row more : Row) → (f : ItemFound 100 before first middle) → row.list.items ≡ first.expr ∷ [] → (r : FoundTargets 99 behind row more after)
+    → expr_of part.expr ≡ tuple_expr at (exprs_list (map expr_of more.list.items)) → all_target_form (expr_of part.expr) ≡ Some (many_target (more_targets (one_target_tree f.target) (target_rest_tree r.written)))
+all_form before middle behind after at first part row more f one r tree =
+    ap all_target_form tree ∙ ap (λ es. all_target_form (tuple_expr at (exprs_list es))) (r.row_is ∙ ap (λ xs. map expr_of xs ++ r.trees) one)
+    ∙ tuple_form at (expr_of first.expr) r.trees (one_target_tree f.target) (target_rest_tree r.written) f.tree_is r.trees_are
+
+pub several_found : (before middle behind after : List Token) (at place : Pos) (first part : Part) (row more : Row) (tree : TargetTree) → ItemFound 100 before first middle → Taken (Sign 6) middle at behind → first.height < 100 → row.list.items ≡ first.expr ∷ []
+    → row.height ≡ first.height → FoundTargets 99 behind row more after → expr_of part.expr ≡ tuple_expr place (exprs_list (map expr_of more.list.items)) → all_target_form (expr_of part.expr) ≡ Some tree → Took target_part target_tree before tree after
+several_found before middle behind after at place first part row more tree f k less one height r tuple built = record {
+  written = several_targets f.target k.spot r.written;
+  before_is = f.before_is ∙ ap (λ ts. one_target_tokens f.target ++ ts) (k.before_is ∙ ap (λ ts. token (Sign 6) k.spot ∷ ts) r.before_is) ∙ sym (append_assoc (one_target_tokens f.target) (token (Sign 6) k.spot ∷ target_rest_tokens r.written) after);
+  value_is = same_Some _ _ (sym built ∙ all_form before middle behind after place first part row more f one r tuple);
+  fits =
+      let high = r.height_is in let low = r.fits in let same = f.height_is in
+      let inner = max_below (one_target_depth f.target) (target_rest_depth r.written) 99 (omega (arith, less, same)) (rest_low more.height row.height (target_rest_depth r.written) high low) in
+      omega (arith, inner);
+  is_read = record {
+    steps = (one_target_reads f.target).steps + r.is_read.steps;
+    reads = λ n more first. several_is f.target k.spot r.written n r.is_read.steps more (one_target_reads f.target) (λ n. r.is_read.reads n more first);
+  };
+}
+  where
+    rest_low : (a b c : ℕ) → a ≡ max b c → a ≤ 99 → c ≤ 99
+    rest_low a b c is low = let high = le-max_right b c in omega (arith, is, low, high)
+
+-- ---- steps of the loop
+
+pub targets_kept : (room : ℕ) (before : List Token) (old row : Row) (after kept : List Token) → after ≡ kept → FoundTargets room before old row kept → FoundTargets room before old row after
+targets_kept room before old row after kept is found = subst (λ (ts : List Token). FoundTargets room before old row ts) (sym is) found
+
+longer : (xs ys : List Token) → length ys ≤ length (xs ++ ys)
+longer [] ys = omega arith
+longer (x ∷ xs) ys = let more = longer xs ys in omega (arith, more)
+
+pub item_shorter : (room : ℕ) (before middle behind : List Token) (at : Pos) (part : Part) → ItemFound room before part middle → Taken (Sign 6) middle at behind → length behind < length before
+item_shorter room before middle behind at part f k =
+    let all : length before ≡ length (one_target_tokens f.target ++ middle) = ap length f.before_is in
+    let next : length middle ≡ suc (length behind) = ap length k.before_is in
+    let more = longer (one_target_tokens f.target) middle in
+    omega (arith, all, next, more)
+
+-- ---- the row behind the first target
+
+pub row_is_first : (empty row : Row) (first : Part) → empty.list.items ≡ [] → row.list.items ≡ empty.list.items ++ first.expr ∷ [] → row.list.items ≡ first.expr ∷ []
+row_is_first empty row first none_there list_is = list_is ∙ ap (λ xs. xs ++ first.expr ∷ []) none_there
+
+pub row_height : (empty row : Row) (first : Part) → empty.height ≡ 0 → row.height ≡ max empty.height first.height → row.height ≡ first.height
+row_height empty row first low height_is = omega (arith, low, height_is)
+
+pub took_kept : (before : List Token) (tree : TargetTree) (after kept : List Token) → after ≡ kept → Took target_part target_tree before tree kept → Took target_part target_tree before tree after
+took_kept before tree after kept is took = subst (λ (ts : List Token). Took target_part target_tree before tree ts) (sym is) took
+
+-- ---- a `:` where `in` has to stand
+
+no_in : (kind : TokenKind) → is_sign 7 kind ≡ true → is_keyword 22 kind ≡ false
+no_in (Keyword n) is = cc
+no_in kind is = refl
+
+pub colon_no_in : (before : List Token) (stop : Stop) → is_sign_next 7 before ≡ true → IsAtFirst before stop → Refused (one_keyword 22) 0 before stop
+colon_no_in [] stop colon at = cc
+colon_no_in (t ∷ ts) stop colon at = keyword_refused 22 (t ∷ ts) stop (no_in t.kind colon) at

@@ -1,0 +1,294 @@
+-- The lines that begin compound statements: how what is read of a part, or not, tells what is read of the line.
+use Rattle.std.proofs.Common.{◌≡◌, inl, inr, ℕ, suc, ◌+◌, ◌<◌, Bool, true, false, List, [], ◌∷◌, ◌++◌, Option, Some, None, option_map, refl, ap, sym, ◌∙◌, arith, subst, append_assoc, append-nil, if◌then◌else◌}
+use Rattle.std.specs.Bool.{⊤}
+use Rattle.prov_base.specs.declared.place.Pos.{Pos}
+use Rattle.py_lines.specs.declared.parts.Token.{Token}
+use Rattle.py_lines.specs.declared.parts.TokenKind.TheVariants.{Keyword, Sign}
+use Rattle.py_grammar.specs.declared.fault.ParseFault.{ParseFault}
+use Rattle.py_grammar.specs.declared.fault.ParseFault.TheVariants.{Unexpected, Unsupported, BadIndent, TooDeep, TooMany, Memory}
+use Rattle.py_grammar.specs.declared.fault.Stop.{Stop}
+use Rattle.py_grammar.specs.declared.fault.Stop.TheVariants.{Here, End}
+use Rattle.py_grammar.specs.declared.part.Part.{Part}
+use Rattle.py_grammar.specs.Concrete.{Spot, Expr, Exprs}
+use Rattle.py_grammar.specs.Tokens.{token, expr_tokens}
+use Rattle.py_grammar.specs.Trees.{expr_tree}
+use Rattle.py_grammar.specs.Written.{Simple}
+use Rattle.py_grammar.specs.LineReader.{Head, head_tokens, then_read, read_colon, read_head}
+use Rattle.py_grammar.specs.Reader.{Read, next_level, starts, is_keyword, is_sign}
+use Rattle.py_grammar.specs.Parsed.{Production, Names, IsAtFirst, IsDeep, Only, Finds, Begins, Shown, Refused, Found, FoundRow, Taken, TakenName, one_keyword, one_sign, one_name, expr_part, exprs_part}
+use Rattle.py_grammar.specs.ParsedRows.{first_token, IsRead}
+use Rattle.py_grammar.specs.ParsedHead.{Context, head_depth, head_part, IsAmissHead, MayNameLine, BeginsHead, ShownBy, EndedBy, HeadRefused}
+use Rattle.py_grammar.proofs.Reading.{expr_reads}
+use Rattle.py_grammar.proofs.RowReads.{row_reads}
+use Rattle.py_grammar.proofs.Refusals.{first_of, next_level_same}
+use Rattle.py_grammar.proofs.HeadReading.{head_reads}
+
+-- ---- what the reader gives
+
+abbrev pub OnlyHead : (Head → Type 0) → Option Head → Type 0
+OnlyHead P None = ⊤
+OnlyHead P (Some h) = P h
+
+-- with enough steps no line is read but one that is so
+pub record FindsHead (P : Head → Type 0) (ts : List Token) : Type 0 where
+  pub steps : ℕ
+  pub only : (n : ℕ) → OnlyHead P (read_head (n + steps) ts)
+
+pub only_head_is : (P : Head → Type 0) (x y : Option Head) → x ≡ y → OnlyHead P y → OnlyHead P x
+only_head_is P x y is only = subst (OnlyHead P) (sym is) only
+
+pub finds_head_weaker : (P Q : Head → Type 0) (ts : List Token) → ((h : Head) → P h → Q h) → FindsHead P ts → FindsHead Q ts
+finds_head_weaker P Q ts weaker finds = record { steps = finds.steps; only = λ n. weaken (read_head (n + finds.steps) ts) (finds.only n) }
+  where
+    weaken : (o : Option Head) → OnlyHead P o → OnlyHead Q o
+    weaken None only = tt
+    weaken (Some h) only = weaker h only
+
+pub finds_head_same : (P : Head → Type 0) (ts us : List Token) → ts ≡ us → FindsHead P us → FindsHead P ts
+finds_head_same P ts us is finds = subst (FindsHead P) (sym is) finds
+
+-- every line that has these tokens is so
+pub finds_written : (P : Head → Type 0) (ts : List Token) (h : Head) → FindsHead P ts → head_tokens h ≡ ts → P h
+finds_written P ts h finds is =
+    let r = head_reads h in
+    let sum : r.steps + finds.steps ≡ finds.steps + r.steps = omega arith in
+    subst (OnlyHead P) (ap (read_head (r.steps + finds.steps)) (sym is) ∙ ap (λ m. read_head m (head_tokens h)) sum ∙ r.reads finds.steps) (finds.only r.steps)
+
+-- ---- the next token
+
+pub first_same : (a b : List Token) → first_token a ≡ first_token b → first_of a ≡ first_of b
+first_same [] [] is = refl
+first_same [] (t ∷ ts) is = cc
+first_same (t ∷ ts) [] is = cc
+first_same (t ∷ ts) (u ∷ us) is = is
+
+pub first_behind : (ts a b : List Token) → first_token a ≡ first_token b → first_token (ts ++ a) ≡ first_token (ts ++ b)
+first_behind [] a b is = is
+first_behind (t ∷ ts) a b is = refl
+
+pub first_shown : (f : List Token) (t : Token) (more behind : List Token) → first_token (f ++ t ∷ more) ≡ first_token (f ++ t ∷ behind)
+first_shown f t more behind = first_behind f (t ∷ more) (t ∷ behind) refl
+
+pub level_same : (a b : List Token) → first_token a ≡ first_token b → next_level a ≡ next_level b
+level_same a b is = next_level_same a b (first_same a b is)
+
+pub starts_same : (a b : List Token) → first_token a ≡ first_token b → starts a ≡ starts b
+starts_same [] [] is = refl
+starts_same [] (t ∷ ts) is = cc
+starts_same (t ∷ ts) [] is = cc
+starts_same (t ∷ ts) (u ∷ us) is = by t u is
+  where
+    by : (t u : Token) → Some t ≡ Some u → starts (t ∷ ts) ≡ starts (u ∷ us)
+    by t u same = ap (λ (v : Token). starts (v ∷ [])) (one t u same)
+      where
+        one : (t u : Token) → Some t ≡ Some u → t ≡ u
+        one t u eq = cc
+
+-- ---- a part of a line
+
+-- Behind these tokens, where the next one is the first of these, what is read of the line goes by what is read of a part.
+pub record HeadTurns {B : Type 0} (q : Production B) (front next : List Token) (g : ℕ → B → List Token → Option Head) : Type 0 where
+  pub before : ℕ
+  pub behind : ℕ
+  pub turns : (n : ℕ) (more : List Token) → first_token more ≡ first_token next → read_head (n + before) (front ++ more) ≡ then_read (q.read (n + behind) more) (g n)
+
+-- what is found of the part tells what is found of the line
+pub turned_head : {B : Type 0} (Q : B → Type 0) (P : Head → Type 0) (q : Production B) (front next more : List Token) (g : ℕ → B → List Token → Option Head) → HeadTurns q front next g → first_token more ≡ first_token next
+    → ((n : ℕ) (b : B) (rest : List Token) → Q b → OnlyHead P (g n b rest)) → Finds Q q.read more → FindsHead P (front ++ more)
+turned_head Q P q front next more g is first each finds = record {
+  steps = finds.steps + is.before;
+  only = λ n.
+      let up : n + (finds.steps + is.before) ≡ (n + finds.steps) + is.before = omega arith in
+      let over : (n + finds.steps) + is.behind ≡ (n + is.behind) + finds.steps = omega arith in
+      only_head_is P _ _ (ap (λ m. read_head m (front ++ more)) up ∙ is.turns (n + finds.steps) more first ∙ ap (λ m. then_read (q.read m more) (g (n + finds.steps))) over)
+      (behind (g (n + finds.steps)) (q.read ((n + is.behind) + finds.steps) more) (finds.only (n + is.behind)) (each (n + finds.steps)));
+}
+  where
+    behind : (h : _ → List Token → Option Head) (r : Read _) → Only Q r → ((b : _) (rest : List Token) → Q b → OnlyHead P (h b rest)) → OnlyHead P (then_read r h)
+    behind h None only all = tt
+    behind h (Some (b, rest)) only all = all b rest only
+
+-- behind a part that was read
+pub turned_behind : {B : Type 0} (P : Head → Type 0) (q : Production B) (front next more : List Token) (g : ℕ → B → List Token → Option Head) (b : B) → HeadTurns q front next g → (is_read : IsRead q b more)
+    → first_token (q.tokens b ++ more) ≡ first_token next → ((n : ℕ) → OnlyHead P (g n b more)) → FindsHead P (front ++ (q.tokens b ++ more))
+turned_behind P q front next more g b is is_read first each = record {
+  steps = is_read.steps + is.before;
+  only = λ n.
+      let up : n + (is_read.steps + is.before) ≡ (n + is_read.steps) + is.before = omega arith in
+      let over : (n + is_read.steps) + is.behind ≡ (n + is.behind) + is_read.steps = omega arith in
+      only_head_is P _ _ (ap (λ m. read_head m (front ++ (q.tokens b ++ more))) up ∙ is.turns (n + is_read.steps) (q.tokens b ++ more) first
+      ∙ ap (λ m. then_read (q.read m (q.tokens b ++ more)) (g (n + is_read.steps))) over ∙ ap (λ r. then_read r (g (n + is_read.steps))) (is_read.reads (n + is.behind) more refl))
+      (each (n + is_read.steps));
+}
+
+-- a part behind a part that was read
+pub turns_on : {B C : Type 0} (q : Production B) (r : Production C) (front next after : List Token) (g : ℕ → B → List Token → Option Head) (k : ℕ) (f : ℕ → C → List Token → Option Head) (b : B)
+    → HeadTurns q front next g → (is_read : IsRead q b after) → next ≡ q.tokens b ++ after
+    → ((n : ℕ) (more : List Token) → first_token more ≡ first_token after → g n b more ≡ then_read (r.read (n + k) more) (f n))
+    → HeadTurns r (front ++ q.tokens b) after (λ n. f (n + is_read.steps))
+turns_on q r front next after g k f b is is_read next_is turns = record {
+  before = is_read.steps + is.before;
+  behind = is_read.steps + k;
+  turns = λ n more first.
+      let up : n + (is_read.steps + is.before) ≡ (n + is_read.steps) + is.before = omega arith in
+      let over : (n + is_read.steps) + is.behind ≡ (n + is.behind) + is_read.steps = omega arith in
+      let same : (n + is_read.steps) + k ≡ n + (is_read.steps + k) = omega arith in
+      ap (read_head (n + (is_read.steps + is.before))) (append_assoc front (q.tokens b) more)
+      ∙ ap (λ m. read_head m (front ++ (q.tokens b ++ more))) up
+      ∙ is.turns (n + is_read.steps) (q.tokens b ++ more) (first_behind (q.tokens b) more after first ∙ sym (ap first_token next_is))
+      ∙ ap (λ m. then_read (q.read m (q.tokens b ++ more)) (g (n + is_read.steps))) over
+      ∙ ap (λ r. then_read r (g (n + is_read.steps))) (is_read.reads (n + is.behind) more first)
+      ∙ turns (n + is_read.steps) more first
+      ∙ ap (λ m. then_read (r.read m more) (f (n + is_read.steps))) same;
+}
+
+-- the `:` behind a part that was read: what `Opening` asks of the reader
+pub record ColonReads (front after : List Token) (made : Spot → Option Simple → Head) : Type 0 where
+  pub steps : ℕ
+  pub left : ℕ
+  pub reads : (n : ℕ) (more : List Token) → first_token more ≡ first_token after → read_head (n + steps) (front ++ more) ≡ read_colon (n + left) made more
+
+pub colon_on : {B : Type 0} (q : Production B) (front next after : List Token) (g : ℕ → B → List Token → Option Head) (k : ℕ) (made : Spot → Option Simple → Head) (b : B)
+    → HeadTurns q front next g → IsRead q b after → next ≡ q.tokens b ++ after
+    → ((n : ℕ) (more : List Token) → first_token more ≡ first_token after → g n b more ≡ read_colon (n + k) made more)
+    → ColonReads (front ++ q.tokens b) after made
+colon_on q front next after g k made b is is_read next_is turns = record {
+  steps = is_read.steps + is.before;
+  left = is_read.steps + k;
+  reads = λ n more first.
+      let up : n + (is_read.steps + is.before) ≡ (n + is_read.steps) + is.before = omega arith in
+      let over : (n + is_read.steps) + is.behind ≡ (n + is.behind) + is_read.steps = omega arith in
+      let same : (n + is_read.steps) + k ≡ n + (is_read.steps + k) = omega arith in
+      ap (read_head (n + (is_read.steps + is.before))) (append_assoc front (q.tokens b) more)
+      ∙ ap (λ m. read_head m (front ++ (q.tokens b ++ more))) up
+      ∙ is.turns (n + is_read.steps) (q.tokens b ++ more) (first_behind (q.tokens b) more after first ∙ sym (ap first_token next_is))
+      ∙ ap (λ m. then_read (q.read m (q.tokens b ++ more)) (g (n + is_read.steps))) over
+      ∙ ap (λ r. then_read r (g (n + is_read.steps))) (is_read.reads (n + is.behind) more first)
+      ∙ turns (n + is_read.steps) more first
+      ∙ ap (λ m. read_colon m made more) same;
+}
+
+-- ---- parts that were read
+
+pub expr_is_read : {room : ℕ} {before after : List Token} {part : Part} → (f : Found expr_part expr_tree 7 room before part after) → IsRead expr_part f.written after
+expr_is_read f = record {
+  steps = (expr_reads f.written).steps;
+  reads = λ n more first. (expr_reads f.written).reads n more (let level = level_same more _ first in let beyond = f.beyond in omega (arith, level, beyond));
+}
+
+pub row_is_read : {room : ℕ} {before after : List Token} {part : Part} → (f : FoundRow room before part after) → IsRead exprs_part f.written after
+row_is_read f = record {
+  steps = (row_reads f.written).steps;
+  reads = λ n more first. (row_reads f.written).reads n more
+      (λ ends. let level = level_same more _ first in let beyond = f.beyond ends in omega (arith, level, beyond)) (λ ends. starts_same more _ first ∙ f.no_more ends);
+}
+
+-- a keyword or a sign, whose number is itself
+pub keyword_is_read : (number : ℕ) (spot : Spot) (after : List Token) → is_keyword number (Keyword number) ≡ true → IsRead (one_keyword number) spot after
+keyword_is_read number spot after itself = record { steps = 0; reads = λ n more first. ap (λ b. if b then Some (spot, more) else None) itself }
+
+pub sign_is_read : (number : ℕ) (spot : Spot) (after : List Token) → is_sign number (Sign number) ≡ true → IsRead (one_sign number) spot after
+sign_is_read number spot after itself = record { steps = 0; reads = λ n more first. ap (λ b. if b then Some (spot, more) else None) itself }
+
+pub name_is_read : (spot : Spot) (bytes : List ℕ) (after : List Token) → IsRead one_name (spot, bytes) after
+name_is_read spot bytes after = record { steps = 0; reads = λ n more first. refl }
+
+-- ---- how a line begins
+
+-- a line has these first tokens
+pub spelled_head : (h : Head) (front more : List Token) → head_tokens h ≡ front ++ more → BeginsHead front
+spelled_head h front more is = inl (record { some = h; more = more; tokens_are = is })
+
+-- a part begins, behind these tokens, and so does a line
+pub begins_part_head : {B : Type 0} (q : Production B) (front : List Token) (h : B → Head) (tail : B → List Token) → ((b : B) → head_tokens (h b) ≡ front ++ (q.tokens b ++ tail b)) → (tokens : List Token) → Begins q tokens → BeginsHead (front ++ tokens)
+begins_part_head q front h tail spells tokens b = inl (record {
+  some = h b.some;
+  more = b.more ++ tail b.some;
+  tokens_are = spells b.some ∙ ap (λ ts. front ++ (ts ++ tail b.some)) b.tokens_are ∙ regroup front tokens b.more (tail b.some);
+})
+  where
+    regroup : (w x y z : List Token) → w ++ ((x ++ y) ++ z) ≡ (w ++ x) ++ (y ++ z)
+    regroup w x y z = ap (λ ts. w ++ ts) (append_assoc x y z) ∙ sym (append_assoc w x (y ++ z))
+
+-- ---- how it is refused
+
+amiss_deep : (c : Context) (given : List (List ℕ)) (limited : Bool) (stop : Stop) (h : Head) → IsDeep stop 100 (head_depth h) → IsAmissHead c given limited stop h
+amiss_deep c given limited (Here (TooDeep at)) h deep = inl deep
+amiss_deep c given limited (Here (Unexpected at)) h deep = absurd deep
+amiss_deep c given limited (Here (Unsupported at)) h deep = absurd deep
+amiss_deep c given limited (Here (BadIndent at)) h deep = absurd deep
+amiss_deep c given limited (Here (TooMany at)) h deep = absurd deep
+amiss_deep c given limited (Here Memory) h deep = absurd deep
+amiss_deep c given limited End h deep = absurd deep
+
+-- the tokens begin a line, and those up to and with the next one none that may stand there
+pub shown_head : (c : Context) (given : List (List ℕ)) (limited : Bool) (front : List Token) (t : Token) (behind before : List Token) (fault : ParseFault) → before ≡ front ++ t ∷ behind → MayNameLine t.at fault → BeginsHead front
+    → ((more : List Token) → FindsHead (IsAmissHead c given limited (Here fault)) (front ++ t ∷ more)) → ShownBy BeginsHead head_tokens (λ fault a. IsAmissHead c given limited (Here fault) a) before fault
+shown_head c given limited front t behind before fault is named begun finds = record {
+  front = front;
+  shown_by = t;
+  behind = behind;
+  before_is = is;
+  place_is = named;
+  begun = begun;
+  none = λ h more same. finds_written _ (front ++ t ∷ more) h (finds more) same;
+}
+
+pub ended_line : (c : Context) (given : List (List ℕ)) (limited : Bool) (tokens before : List Token) (stop : Stop) → before ≡ tokens → BeginsHead tokens → FindsHead (IsAmissHead c given limited stop) tokens
+    → EndedBy BeginsHead head_tokens (IsAmissHead c given limited stop) before
+ended_line c given limited tokens before stop is begun finds = subst (λ (ts : List Token). EndedBy BeginsHead head_tokens (IsAmissHead c given limited stop) ts) (sym is)
+    (record { begun = begun; none = λ h same. finds_written _ tokens h finds same })
+
+-- a part stands behind these tokens: how it begins, and what is read there
+record StandsThere {B : Type 0} (q : Production B) (inner : ℕ) (front rest : List Token) : Type 0 where
+  begins : (tokens : List Token) → Begins q tokens → BeginsHead (front ++ tokens)
+  finds : (why : Stop) (more : List Token) → first_token more ≡ first_token rest → Finds (λ b. IsDeep why inner (q.depth b)) q.read more → FindsHead (λ h. IsDeep why 100 (head_depth h)) (front ++ more)
+
+shown_there : {B : Type 0} (c : Context) (given : List (List ℕ)) (limited : Bool) (q : Production B) (inner : ℕ) (front rest before : List Token) (fault : ParseFault) → before ≡ front ++ rest → StandsThere q inner front rest
+    → ((at : Pos) → Names at fault → MayNameLine at fault) → Shown q inner rest fault → ShownBy BeginsHead head_tokens (λ fault a. IsAmissHead c given limited (Here fault) a) before fault
+shown_there c given limited q inner front rest before fault is part named s = shown_head c given limited (front ++ s.front) s.shown_by s.behind before fault
+    (is ∙ ap (λ ts. front ++ ts) s.before_is ∙ sym (append_assoc front s.front (s.shown_by ∷ s.behind))) (named s.shown_by.at s.place_is) (part.begins s.front s.begins)
+    (λ more. finds_head_same _ _ _ (append_assoc front s.front (s.shown_by ∷ more))
+    (finds_head_weaker _ _ _ (amiss_deep c given limited (Here fault)) (part.finds (Here fault) (s.front ++ s.shown_by ∷ more) (first_shown s.front s.shown_by more s.behind ∙ sym (ap first_token s.before_is)) (s.none more))))
+
+refused_there : {B : Type 0} (c : Context) (given : List (List ℕ)) (limited : Bool) (q : Production B) (inner : ℕ) (front rest before : List Token) (stop : Stop) → before ≡ front ++ rest → StandsThere q inner front rest → Refused q inner rest stop → HeadRefused c given limited before stop
+refused_there c given limited q inner front rest before (Here Memory) is part refused = tt
+refused_there c given limited q inner front rest before (Here (Unexpected at)) is part refused = shown_there c given limited q inner front rest before (Unexpected at) is part (λ at named. named) refused
+refused_there c given limited q inner front rest before (Here (Unsupported at)) is part refused = inl (shown_there c given limited q inner front rest before (Unsupported at) is part (λ at named. tt) refused)
+refused_there c given limited q inner front rest before (Here (TooDeep at)) is part refused = shown_there c given limited q inner front rest before (TooDeep at) is part (λ at named. tt) refused
+refused_there c given limited q inner front rest before (Here (BadIndent at)) is part refused = absurd refused.place_is
+refused_there c given limited q inner front rest before (Here (TooMany at)) is part refused = absurd refused.place_is
+refused_there c given limited q inner front rest before End is part refused =
+    ended_line c given limited (front ++ rest) before End is (part.begins rest refused.0) (finds_head_weaker _ _ _ (amiss_deep c given limited End) (part.finds End rest refl refused.1))
+
+-- a part is refused behind these tokens
+pub refused_part_head : {B : Type 0} (c : Context) (given : List (List ℕ)) (limited : Bool) (q : Production B) (inner : ℕ) (front rest before : List Token) (stop : Stop) (g : ℕ → B → List Token → Option Head) → before ≡ front ++ rest
+    → ((tokens : List Token) → Begins q tokens → BeginsHead (front ++ tokens)) → HeadTurns q front rest g
+    → ((why : Stop) (n : ℕ) (b : B) (left : List Token) → IsDeep why inner (q.depth b) → OnlyHead (λ h. IsDeep why 100 (head_depth h)) (g n b left))
+    → Refused q inner rest stop → HeadRefused c given limited before stop
+refused_part_head c given limited q inner front rest before stop g is begins turns deep refused = refused_there c given limited q inner front rest before stop is
+    (record { begins = begins; finds = λ why more first finds. turned_head _ _ q front rest more g turns first (deep why) finds })
+    refused
+
+-- the tokens begin a line, and the next one fits nothing: this is how it is refused
+pub at_token_head : (c : Context) (given : List (List ℕ)) (limited : Bool) (front : List Token) (t : Token) (ts before : List Token) (fault : ParseFault) → before ≡ front ++ t ∷ ts → BeginsHead front → MayNameLine t.at fault
+    → ((more : List Token) → FindsHead (λ h. ⊥) (front ++ t ∷ more)) → ShownBy BeginsHead head_tokens (λ fault a. IsAmissHead c given limited (Here fault) a) before fault
+at_token_head c given limited front t ts before fault is begun named none =
+    shown_head c given limited front t ts before fault is named begun (λ more. finds_head_weaker _ _ _ (λ h no. absurd no) (none more))
+
+-- reading stops behind these tokens, where nothing fits that stands there
+pub ended_head : (c : Context) (given : List (List ℕ)) (limited : Bool) (front rest before : List Token) (stop : Stop) → before ≡ front ++ rest → BeginsHead front → IsAtFirst rest stop
+    → (rest ≡ [] → FindsHead (λ h. ⊥) front) → ((t : Token) (ts more : List Token) → rest ≡ t ∷ ts → FindsHead (λ h. ⊥) (front ++ t ∷ more)) → HeadRefused c given limited before stop
+ended_head c given limited front [] before (Here fault) is begun at none_end none = absurd (not_end fault at)
+  where
+    not_end : (fault : ParseFault) → Here fault ≡ End → ⊥
+    not_end fault same = cc
+ended_head c given limited front [] before End is begun at none_end none =
+    ended_line c given limited front before End (is ∙ append-nil front) begun (finds_head_weaker _ _ _ (λ h no. absurd no) (none_end refl))
+ended_head c given limited front (t ∷ ts) before (Here (Unexpected place)) is begun at none_end none = at_token_head c given limited front t ts before (Unexpected place) is begun at (λ more. none t ts more refl)
+ended_head c given limited front (t ∷ ts) before (Here (Unsupported place)) is begun at none_end none = inl (at_token_head c given limited front t ts before (Unsupported place) is begun tt (λ more. none t ts more refl))
+ended_head c given limited front (t ∷ ts) before (Here (BadIndent place)) is begun at none_end none = absurd at
+ended_head c given limited front (t ∷ ts) before (Here (TooDeep place)) is begun at none_end none = absurd at
+ended_head c given limited front (t ∷ ts) before (Here (TooMany place)) is begun at none_end none = absurd at
+ended_head c given limited front (t ∷ ts) before (Here Memory) is begun at none_end none = absurd at
+ended_head c given limited front (t ∷ ts) before End is begun at none_end none = absurd at

@@ -1,0 +1,232 @@
+-- Expressions in a row and items up to a closing sign: what is read of them, and how they are refused.
+use Rattle.std.proofs.Common.{◌≡◌, ℕ, zero, suc, ◌+◌, max, ◌≤◌, ◌<◌, true, false, List, [], ◌∷◌, ◌++◌, map, Some, is_some, is_none, refl, ap, sym, ◌∙◌, arith, subst, append_assoc, if◌then◌else◌}
+use Rattle.std.specs.Prelude.{◌==◌}
+use Rattle.std.proofs.Math.Nat.{le-max_left, le-max_right}
+use Rattle.std.proofs.lemmas.List.{append-nil}
+use Rattle.prov_base.specs.declared.place.Pos.{Pos}
+use Rattle.py_lines.specs.declared.parts.Token.{Token}
+use Rattle.py_lines.specs.declared.parts.TokenKind.TheVariants.{Sign}
+use Rattle.py_tree.specs.declared.expr.Expr.{Expr as ExprRead}
+use Rattle.py_tree.specs.Tree.{ExprTree, tuple_expr, end_exprs, more_exprs}
+use Rattle.py_tree.specs.Erasure.{expr_of, exprs_list}
+use Rattle.py_grammar.specs.declared.fault.Stop.{Stop}
+use Rattle.py_grammar.specs.declared.part.Part.{Part}
+use Rattle.py_grammar.specs.declared.rows.Row.{Row}
+use Rattle.py_grammar.specs.Concrete.{Spot, Expr, Exprs, one_expr, several, Rest, end_rest, last_rest, more_rest, Items, no_items, items}
+use Rattle.py_grammar.specs.Tokens.{token, expr_tokens, exprs_tokens, rest_tokens}
+use Rattle.py_grammar.specs.Trees.{expr_tree, rest_tree}
+use Rattle.py_grammar.specs.Depth.{expr_depth, exprs_depth, rest_depth}
+use Rattle.py_grammar.specs.Reader.{go_on, next_level, start_class, starts, is_sign, read_sign, read_expr, read_exprs, exprs_rest, read_rest, read_items}
+use Rattle.py_grammar.specs.StatementReader.{rest_target}
+use Rattle.py_grammar.specs.Parsed.{expr_part, exprs_part, Taken, Found, IsDeep, Only, Finds, Refused, IsTooDeep, is_sign_next}
+use Rattle.py_grammar.specs.ParsedRows.{IsRead, items_part, rest_part, rest_trees, FoundList, FoundRest, FoundItems}
+use Rattle.py_grammar.proofs.Firsts.{IsStart, expr_starts, exprs_starts, items_is}
+use Rattle.py_grammar.proofs.Reading.{if_false, if_true, expr_reads}
+use Rattle.py_grammar.proofs.Refusals.{Inside, only_any, only_go_on, only_if, only_is, finds_first, finds_behind, finds_at_once, finds_same, deeper, refused_inside, refused_same, one_behind, full}
+use Rattle.py_grammar.proofs.ClosedParts.{first_is}
+use Rattle.py_grammar.proofs.RowParts.{beyond_comma, sign_first, some_several, some_one, more_steps}
+use Rattle.py_grammar.proofs.SharpReads.{exprs_is_read}
+
+-- ---- a row is read
+
+pub row_one : (room : ℕ) (before after : List Token) (part : Part) → Found expr_part expr_tree 7 room before part after → is_sign_next 6 after ≡ false → FoundList room before part false after
+row_one room before after part f other = record {
+  row = record {
+    written = one_expr f.written;
+    before_is = f.before_is;
+    tree_is = f.tree_is;
+    height_is = f.height_is;
+    form_is = f.form_is ∙ sym (some_one f.written);
+    fits = f.fits;
+    beyond = λ closed_there. beyond_comma after f.beyond other;
+    no_more = λ open_there. cc;
+  };
+  comma_is = refl;
+}
+
+rest_list : (r : Rest) → exprs_list (rest_trees r) ≡ rest_tree r
+rest_list end_rest = refl
+rest_list (last_rest e) = refl
+rest_list (more_rest e comma r) = ap (more_exprs (expr_tree e)) (rest_list r)
+
+-- the first expression of a row, before what stands behind its comma
+pub record FirstOf (first : Part) (row : Row) : Type 0 where
+  pub list_is : row.list.items ≡ first.expr ∷ []
+  pub height_is : row.height ≡ first.height
+  pub form_is : is_none row.wrong ≡ is_none first.wrong
+
+pub first_pushed : (empty row : Row) (first : Part) → empty.list.items ≡ [] → empty.height ≡ 0 → is_none empty.wrong ≡ true → row.list.items ≡ empty.list.items ++ first.expr ∷ [] → row.height ≡ max empty.height first.height
+    → is_none row.wrong ≡ (if is_none empty.wrong then is_none first.wrong else false) → FirstOf first row
+first_pushed empty row first none_there low free list_is height_is form_is = record {
+  list_is = list_is ∙ ap (λ xs. xs ++ first.expr ∷ []) none_there;
+  height_is = height_is ∙ ap (λ h. max h first.height) low ∙ none_below first.height;
+  form_is = form_is ∙ ap (λ b. if b then is_none first.wrong else false) free;
+}
+  where
+    none_below : (n : ℕ) → max 0 n ≡ n
+    none_below n = omega arith
+
+first_trees : (row : Row) (first : Part) (e : ExprTree) (list : List ExprRead) (r : Rest) → FirstOf first row → expr_of first.expr ≡ e → map expr_of list ≡ map expr_of row.list.items ++ rest_trees r
+    → exprs_list (map expr_of list) ≡ more_exprs e (rest_tree r)
+first_trees row first e list r one is all =
+    ap exprs_list (all ∙ ap (λ xs. map expr_of xs ++ rest_trees r) one.list_is) ∙ ap (λ x. more_exprs x (exprs_list (rest_trees r))) is ∙ ap (more_exprs e) (rest_list r)
+
+pub row_several : (room inner : ℕ) (before middle behind after : List Token) (at : Pos) (first part : Part) (row more : Row) → Found expr_part expr_tree 7 room before first middle → Taken (Sign 6) middle at behind
+    → first.height < room → inner < room → FirstOf first row → FoundRest inner behind row more after
+    → expr_of part.expr ≡ tuple_expr at (exprs_list (map expr_of more.list.items)) → part.height ≡ suc more.height → is_none part.wrong ≡ is_none more.wrong → FoundList room before part true after
+row_several room inner before middle behind after at first part row more f k less smaller one r tree height form = record {
+  row = record {
+    written = several f.written k.spot r.written;
+    before_is = f.before_is ∙ ap (λ ts. expr_tokens f.written ++ ts) (k.before_is ∙ ap (λ ts. token (Sign 6) k.spot ∷ ts) r.before_is) ∙ sym (append_assoc (expr_tokens f.written) (token (Sign 6) k.spot ∷ rest_tokens r.written) after);
+    tree_is = tree ∙ ap (tuple_expr at) (first_trees row first (expr_tree f.written) more.list.items r.written one f.tree_is r.trees_are) ∙ ap (λ place. tuple_expr place (more_exprs (expr_tree f.written) (rest_tree r.written))) (sym k.at_is);
+    height_is = height ∙ ap suc (r.height_is ∙ ap (λ h. max h (rest_depth r.written)) (one.height_is ∙ f.height_is)) ∙ one_more (max (expr_depth f.written) (rest_depth r.written));
+    form_is = form ∙ r.form_is ∙ ap (λ b. if b then is_some (rest_target r.written) else false) (one.form_is ∙ f.form_is) ∙ sym (some_several f.written k.spot r.written);
+    fits = let small = r.fits in omega (arith, height, small, smaller);
+    beyond = r.beyond;
+    no_more = r.no_more;
+  };
+  comma_is = refl;
+}
+  where
+    one_more : (n : ℕ) → suc n ≡ 1 + n
+    one_more n = omega arith
+
+-- ---- and refused, for each way of telling how deep it is
+
+exprs_from : (P : Exprs → Type 0) (n : ℕ) (e : Expr) (ts : List Token) → P (one_expr e) → ((comma : Spot) (r : Rest) → P (several e comma r)) → Only P (exprs_rest n e ts)
+exprs_from P zero e ts one more = tt
+exprs_from P (suc n) e ts one more = only_if _ (next_level ts == 8) _ _ (only_any _ (read_sign 6 ts) _ (λ comma behind. only_any _ (read_rest n behind) _ (λ found rest. more comma found))) one
+
+pub exprs_finds_first : (P : Exprs → Type 0) (Q : Expr → Type 0) (ts : List Token) → ((e : Expr) → Q e → P (one_expr e)) → ((e : Expr) (comma : Spot) (r : Rest) → Q e → P (several e comma r)) → Finds Q read_expr ts → Finds P read_exprs ts
+exprs_finds_first P Q ts one more finds = finds_first Q P read_exprs read_expr (λ n e us. exprs_rest n e us) ts ts (λ n. refl) (λ n e us deep. exprs_from P n e us (one e deep) (λ comma r. more e comma r deep)) finds
+
+pub exprs_finds_rest : (P : Exprs → Type 0) (Q : Rest → Type 0) (e : Expr) (comma : Spot) (more : List Token) → ((r : Rest) → Q r → P (several e comma r)) → Finds Q read_rest more
+    → Finds P read_exprs ((expr_tokens e ++ token (Sign 6) comma ∷ []) ++ more)
+exprs_finds_rest P Q e comma more each finds = finds_same P read_exprs _ _ (append_assoc (expr_tokens e) (token (Sign 6) comma ∷ []) more)
+    (finds_behind P read_exprs read_expr (λ n e ts. exprs_rest n e ts) 7 (expr_tokens e) e (token (Sign 6) comma ∷ more) (λ n. refl) (expr_reads e) (omega arith)
+    (finds_first Q P (λ n ts. exprs_rest n e ts) read_rest (λ n r ts. Some (several e comma r, ts)) (token (Sign 6) comma ∷ more) more (λ n. refl) (λ n r ts deep. each r deep) finds))
+
+several_deep : (stop : Stop) (room : ℕ) (e : Expr) (comma : Spot) (r : Rest) → IsDeep stop room (expr_depth e) → IsDeep stop room (exprs_depth (several e comma r))
+several_deep stop room e comma r deep = deeper stop room (expr_depth e) room _ deep (let high = le-max_left (expr_depth e) (rest_depth r) in omega (arith, high))
+
+row_starts : (room : ℕ) (rest : List Token) → Inside exprs_part room expr_part room [] rest
+row_starts room rest = record {
+  begins = λ b. record { some = one_expr b; more = []; tokens_are = sym (append-nil (expr_tokens b)) };
+  finds = λ stop more first finds. exprs_finds_first _ (λ e. IsDeep stop room (expr_depth e)) more (λ e deep. deep) (λ e comma r deep. several_deep stop room e comma r deep) finds;
+}
+
+pub row_first : (room : ℕ) (before : List Token) (stop : Stop) → Refused expr_part room before stop → Refused exprs_part room before stop
+row_first room before stop is = refused_inside exprs_part room expr_part room [] before stop (row_starts room before) is
+
+row_goes_on : (room inner : ℕ) (e : Expr) (comma : Spot) (rest : List Token) → room ≤ suc inner → Inside exprs_part room rest_part inner (expr_tokens e ++ token (Sign 6) comma ∷ []) rest
+row_goes_on room inner e comma rest less = record {
+  begins = λ b. record { some = several e comma b; more = []; tokens_are = one_behind (expr_tokens e) (token (Sign 6) comma) (rest_tokens b) };
+  finds = λ stop more first finds. exprs_finds_rest _ (λ r. IsDeep stop inner (rest_depth r)) e comma more
+      (λ r deep. deeper stop inner (rest_depth r) room _ deep (let high = le-max_right (expr_depth e) (rest_depth r) in omega (arith, high, less))) finds;
+}
+
+pub row_rest : (room inner : ℕ) (before middle behind : List Token) (at : Pos) (first : Part) (stop : Stop) → Found expr_part expr_tree 7 room before first middle → Taken (Sign 6) middle at behind → room ≤ suc inner
+    → Refused rest_part inner behind stop → Refused exprs_part room before stop
+row_rest room inner before middle behind at first stop f k less is =
+    refused_same exprs_part room before _ stop (f.before_is ∙ ap (λ ts. expr_tokens f.written ++ ts) k.before_is ∙ sym (append_assoc (expr_tokens f.written) (token (Sign 6) k.spot ∷ []) behind))
+    (refused_inside exprs_part room rest_part inner (expr_tokens f.written ++ token (Sign 6) k.spot ∷ []) behind stop (row_goes_on room inner f.written k.spot behind less) is)
+
+pub row_full : (room : ℕ) (before middle behind : List Token) (at : Pos) (first : Part) (stop : Stop) → Found expr_part expr_tree 7 room before first middle → Taken (Sign 6) middle at behind
+    → IsTooDeep first.height room stop → Refused exprs_part room before stop
+row_full room before middle behind at first stop f k deep = full exprs_part room before (expr_tokens f.written) (token (Sign 6) k.spot) behind first.height stop deep
+    (f.before_is ∙ ap (λ ts. expr_tokens f.written ++ ts) k.before_is) (record { some = one_expr f.written; more = []; tokens_are = sym (append-nil (expr_tokens f.written)) })
+    (λ more. finds_behind _ read_exprs read_expr (λ n e ts. exprs_rest n e ts) 7 (expr_tokens f.written) f.written (token (Sign 6) k.spot ∷ more) (λ n. refl) (expr_reads f.written) (omega arith)
+    (finds_at_once _ (λ n ts. exprs_rest n f.written ts) (token (Sign 6) k.spot ∷ more)
+    (λ n. only_any _ (read_rest n more) _ (λ r rest. let high = le-max_left (expr_depth f.written) (rest_depth r) in let is = f.height_is in omega (arith, high, is)))))
+
+-- ---- items are read
+
+pub items_none : (closing room : ℕ) (before : List Token) (row : Row) → row.list.items ≡ [] → row.height ≡ 0 → is_sign_next closing before ≡ true → FoundItems closing room before row before
+items_none closing room before row none_there low closes = record {
+  written = no_items;
+  before_is = refl;
+  trees_are = ap (λ xs. exprs_list (map expr_of xs)) none_there;
+  height_is = low;
+  fits = omega (arith, low);
+  is_read = record {
+    steps = 1;
+    reads = λ n more first. more_steps (λ m. read_items m closing more) (n + 1) (suc n) (omega arith) ∙ ends n more (sign_first closing before more (sym (first_is more) ∙ first ∙ first_is before) ∙ closes);
+  };
+}
+  where
+    ends : (n : ℕ) (more : List Token) → is_sign_next closing more ≡ true → read_items (suc n) closing more ≡ Some (no_items, more)
+    ends n [] is = cc
+    ends n (t ∷ ts) is = if_true (is_sign closing t.kind) _ _ is
+
+pub items_is_read : (closing : ℕ) (e : Exprs) (rest : List Token) → start_class (Sign closing) ≡ 0 → IsRead exprs_part e rest → IsRead (items_part closing) (items e) rest
+items_is_read closing e rest closes is = record {
+  steps = suc is.steps;
+  reads = λ n more first.
+      more_steps (λ m. read_items m closing (exprs_tokens e ++ more)) (n + suc is.steps) (suc (n + is.steps)) (omega arith)
+      ∙ items_is (n + is.steps) closing (exprs_tokens e ++ more) closes (exprs_starts e more)
+      ∙ ap (λ r. go_on r (λ e rest. Some (items e, rest))) (is.reads n more first);
+}
+
+pub items_one : (closing room : ℕ) (before after : List Token) (first : Part) (row : Row) → start_class (Sign closing) ≡ 0 → Found expr_part expr_tree 7 room before first after → FirstOf first row → is_sign_next 6 after ≡ false
+    → FoundItems closing room before row after
+items_one closing room before after first row closes f one other = record {
+  written = items (one_expr f.written);
+  before_is = f.before_is;
+  trees_are = ap (λ xs. exprs_list (map expr_of xs)) one.list_is ∙ ap (λ e. more_exprs e end_exprs) f.tree_is;
+  height_is = one.height_is ∙ f.height_is;
+  fits = let is = one.height_is in let small = f.fits in omega (arith, is, small);
+  is_read = items_is_read closing (one_expr f.written) after closes (exprs_is_read (one_expr f.written) after (λ closed_there. beyond_comma after f.beyond other) (λ open_there. cc));
+}
+
+pub items_several : (closing room : ℕ) (before middle behind after : List Token) (at : Pos) (first : Part) (row more : Row) → start_class (Sign closing) ≡ 0 → Found expr_part expr_tree 7 room before first middle
+    → Taken (Sign 6) middle at behind → FirstOf first row → FoundRest room behind row more after → FoundItems closing room before more after
+items_several closing room before middle behind after at first row more closes f k one r = record {
+  written = items (several f.written k.spot r.written);
+  before_is = f.before_is ∙ ap (λ ts. expr_tokens f.written ++ ts) (k.before_is ∙ ap (λ ts. token (Sign 6) k.spot ∷ ts) r.before_is) ∙ sym (append_assoc (expr_tokens f.written) (token (Sign 6) k.spot ∷ rest_tokens r.written) after);
+  trees_are = first_trees row first (expr_tree f.written) more.list.items r.written one f.tree_is r.trees_are;
+  height_is = r.height_is ∙ ap (λ h. max h (rest_depth r.written)) (one.height_is ∙ f.height_is);
+  fits = r.fits;
+  is_read = items_is_read closing (several f.written k.spot r.written) after closes (exprs_is_read (several f.written k.spot r.written) after r.beyond r.no_more);
+}
+
+-- ---- and refused
+
+pub items_finds : (closing : ℕ) (P : Items → Type 0) (ts : List Token) → is_sign_next closing ts ≡ false → Finds (λ e. P (items e)) read_exprs ts → Finds P (λ n us. read_items n closing us) ts
+items_finds closing P ts other finds = record {
+  steps = suc finds.steps;
+  only = λ n. only_is _ _ _ (more_steps (λ m. read_items m closing ts) (n + suc finds.steps) (suc (n + finds.steps)) (omega arith)) (by ts (n + finds.steps) other (finds.only n));
+}
+  where
+    by : (us : List Token) (m : ℕ) → is_sign_next closing us ≡ false → Only (λ e. P (items e)) (read_exprs m us) → Only P (read_items (suc m) closing us)
+    by [] m no_sign only = tt
+    by (t ∷ us) m no_sign only = only_is _ _ _ (if_false (is_sign closing t.kind) _ _ no_sign) (only_go_on _ _ (read_exprs m (t ∷ us)) _ only (λ e rest deep. deep))
+
+items_inside : (closing room : ℕ) (rest : List Token) → is_sign_next closing rest ≡ false → Inside (items_part closing) room expr_part room [] rest
+items_inside closing room rest other = record {
+  begins = λ b. record { some = items (one_expr b); more = []; tokens_are = sym (append-nil (expr_tokens b)) };
+  finds = λ stop more first finds. items_finds closing _ more (sign_first closing rest more first ∙ other)
+      (exprs_finds_first _ (λ e. IsDeep stop room (expr_depth e)) more (λ e deep. deep) (λ e comma r deep. deeper stop room (expr_depth e) room _ deep (let high = le-max_left (expr_depth e) (rest_depth r) in omega (arith, high))) finds);
+}
+
+pub items_first : (closing room : ℕ) (before : List Token) (stop : Stop) → is_sign_next closing before ≡ false → Refused expr_part room before stop → Refused (items_part closing) room before stop
+items_first closing room before stop other is = refused_inside (items_part closing) room expr_part room [] before stop (items_inside closing room before other) is
+
+items_start : (closing : ℕ) (P : Items → Type 0) (ts : List Token) → start_class (Sign closing) ≡ 0 → IsStart (starts ts) → Finds (λ e. P (items e)) read_exprs ts → Finds P (λ n us. read_items n closing us) ts
+items_start closing P ts closes start finds = finds_first _ P (λ n us. read_items n closing us) read_exprs (λ n e us. Some (items e, us)) ts ts (λ n. items_is n closing ts closes start) (λ n e us deep. deep) finds
+
+items_go_on : (closing room : ℕ) (e : Expr) (comma : Spot) (rest : List Token) → start_class (Sign closing) ≡ 0 → Inside (items_part closing) room rest_part room (expr_tokens e ++ token (Sign 6) comma ∷ []) rest
+items_go_on closing room e comma rest closes = record {
+  begins = λ b. record { some = items (several e comma b); more = []; tokens_are = one_behind (expr_tokens e) (token (Sign 6) comma) (rest_tokens b) };
+  finds = λ stop more first finds.
+      items_start closing _ ((expr_tokens e ++ token (Sign 6) comma ∷ []) ++ more) closes (start more)
+      (exprs_finds_rest _ (λ r. IsDeep stop room (rest_depth r)) e comma more (λ r deep. deeper stop room (rest_depth r) room _ deep (let high = le-max_right (expr_depth e) (rest_depth r) in omega (arith, high))) finds);
+}
+  where
+    start : (more : List Token) → IsStart (starts ((expr_tokens e ++ token (Sign 6) comma ∷ []) ++ more))
+    start more = subst (λ ts. IsStart (starts ts)) (sym (append_assoc (expr_tokens e) (token (Sign 6) comma ∷ []) more)) (expr_starts e (token (Sign 6) comma ∷ more))
+
+pub items_rest : (closing room : ℕ) (before middle behind : List Token) (at : Pos) (first : Part) (stop : Stop) → start_class (Sign closing) ≡ 0 → Found expr_part expr_tree 7 room before first middle → Taken (Sign 6) middle at behind
+    → Refused rest_part room behind stop → Refused (items_part closing) room before stop
+items_rest closing room before middle behind at first stop closes f k is =
+    refused_same (items_part closing) room before _ stop (f.before_is ∙ ap (λ ts. expr_tokens f.written ++ ts) k.before_is ∙ sym (append_assoc (expr_tokens f.written) (token (Sign 6) k.spot ∷ []) behind))
+    (refused_inside (items_part closing) room rest_part room (expr_tokens f.written ++ token (Sign 6) k.spot ∷ []) behind stop (items_go_on closing room f.written k.spot behind closes) is)

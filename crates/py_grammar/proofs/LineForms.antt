@@ -1,0 +1,248 @@
+-- The lines that have no `:` or nothing before it, and the tokens with which none may begin.
+use Rattle.std.proofs.Common.{◌≡◌, inl, inr, ℕ, ◌+◌, ◌<◌, ◌≤◌, Bool, true, false, not, List, [], ◌∷◌, ◌++◌, length, Option, Some, None, refl, ap, sym, ◌∙◌, arith, subst, append-nil}
+use Rattle.std.specs.Bool.{⊤}
+use Rattle.std.specs.Prelude.{◌&&◌}
+use Rattle.prov_base.specs.declared.place.Pos.{Pos}
+use Rattle.py_lines.specs.declared.parts.Token.{Token}
+use Rattle.py_lines.specs.declared.parts.TokenKind.TheVariants.{Keyword, Sign}
+use Rattle.py_tree.specs.declared.stmt.Form.{Form}
+use Rattle.py_tree.specs.declared.stmt.Globals.{Globals}
+use Rattle.py_grammar.specs.declared.fault.ParseFault.{ParseFault}
+use Rattle.py_grammar.specs.declared.fault.ParseFault.TheVariants.{Unexpected, Unsupported, BadIndent, TooDeep, TooMany, Memory}
+use Rattle.py_grammar.specs.declared.fault.Stop.{Stop}
+use Rattle.py_grammar.specs.declared.fault.Stop.TheVariants.{Here, End}
+use Rattle.py_grammar.specs.declared.head.What.{What}
+use Rattle.py_grammar.specs.declared.head.What.TheVariants.{Simple as SimpleIs, Else, Try, Global}
+use Rattle.py_grammar.specs.declared.head.LineHead.{LineHead}
+use Rattle.py_grammar.specs.declared.head.Behind.{Behind}
+use Rattle.py_grammar.specs.Concrete.{Spot, Expr}
+use Rattle.py_grammar.specs.Tokens.{token, word as word_tokens, expr_tokens}
+use Rattle.py_grammar.specs.Written.{Simple, pass, del, named}
+use Rattle.py_grammar.specs.StatementTokens.{simple_tokens}
+use Rattle.py_grammar.specs.WellPlaced.{Around, simple_stands}
+use Rattle.py_grammar.specs.LineReader.{Head, simple_head, else_head, try_head, global_head, head_tokens}
+use Rattle.py_grammar.specs.Parsed.{Begins, IsAtFirst, Taken, Refused, one_sign}
+use Rattle.py_grammar.specs.ParsedSimple.{BeginsSimple}
+use Rattle.py_grammar.specs.ParsedHead.{Context, lacks_handler, kind_may, may_begin, is_compound_kind, begins_compound, head_stands, PlacedFound, HeadFound, Opening, OpeningFound, OpeningRefused, BehindFound, BehindRefused, inner_around, is_compound, IsAmissPlaced, IsAmissHead, MayNameLine, BeginsHead, ShownBy, EndedBy, PlacedRefused, HeadRefused, GlobalFound, GlobalRefused, word_may, Misplaced}
+use Rattle.py_grammar.proofs.Stops.{some_spot}
+use Rattle.py_grammar.proofs.HeadParts.{spelled_head}
+use Rattle.py_grammar.proofs.ColonParts.{colon_refused, behind_refused, line_found}
+use Rattle.py_grammar.proofs.PlacedParts.{none_there}
+use Rattle.py_grammar.proofs.LineFirsts.{and_false, both_true, same_first, simple_some, head_some, head_simple, may_as_simple, may_as_word, misplaced_head}
+
+-- ---- where no line may begin
+
+at_first_token : (c : Context) (given : List (List ℕ)) (limited : Bool) (t : Token) (behind : List Token) (fault : ParseFault) → MayNameLine t.at fault → ((h : Head) (more : List Token) → head_tokens h ≡ t ∷ more → IsAmissHead c given limited (Here fault) h)
+    → ShownBy BeginsHead head_tokens (λ fault a. IsAmissHead c given limited (Here fault) a) (t ∷ behind) fault
+at_first_token c given limited t behind fault at_it none = record {
+  front = [];
+  shown_by = t;
+  behind = behind;
+  before_is = refl;
+  place_is = at_it;
+  begun = spelled_head (simple_head (pass some_spot)) [] (simple_tokens (pass some_spot)) refl;
+  none = none;
+}
+
+pub misplaced_refused : (c : Context) (t : Token) (behind : List Token) (stop : Stop) → kind_may c t.kind ≡ false → IsAtFirst (t ∷ behind) stop → Misplaced c (t ∷ behind) stop
+misplaced_refused c t behind (Here (Unexpected place)) absent at = record { there = λ given limited. at_first_token c given limited t behind (Unexpected place) at (λ h more same. misplaced_head c given h t more same absent) }
+misplaced_refused c t behind (Here (Unsupported place)) absent at = record { there = λ given limited. inl (at_first_token c given limited t behind (Unsupported place) tt (λ h more same. misplaced_head c given h t more same absent)) }
+misplaced_refused c t behind (Here (TooDeep place)) absent at = absurd at
+misplaced_refused c t behind (Here (TooMany place)) absent at = absurd at
+misplaced_refused c t behind (Here (BadIndent place)) absent at = absurd at
+misplaced_refused c t behind (Here Memory) absent at = absurd at
+misplaced_refused c t behind End absent at = absurd at
+
+-- a keyword with which a line may begin there
+pub word_is_placed : (c : Context) (n : ℕ) (spot : Spot) (before rest : List Token) → before ≡ token (Keyword n) spot ∷ rest → is_compound_kind (Keyword n) ≡ true → may_begin c before ≡ true → word_may c n ≡ true
+word_is_placed c n spot before rest is present may = sym (may_as_word c n present) ∙ sym (ap (may_begin c) is) ∙ may
+
+-- ---- simple statements
+
+no_handler_lacks : (c : Context) (before : List Token) (s : Simple) → before ≡ simple_tokens s → begins_compound before ≡ false → may_begin c before ≡ true → not (lacks_handler c.last) ≡ true
+no_handler_lacks c [] s is absent may = absurd (simple_some s (sym is))
+no_handler_lacks c (t ∷ ts) s is absent may = sym (may_as_simple c t.kind absent) ∙ may
+
+pub simple_line : (c : Context) (given : List (List ℕ)) (limited : Bool) (before : List Token) (form : Form) → may_begin c before ≡ true → begins_compound before ≡ false → PlacedFound c.around before form
+    → HeadFound c given limited before (record { what = SimpleIs form; behind = None })
+simple_line c given limited before form may absent f = record {
+  written = simple_head f.written;
+  before_is = f.before_is;
+  what_is = f.tree_is;
+  behind_is = tt;
+  fits = f.fits;
+  stands = both_true _ _ (no_handler_lacks c before f.written f.before_is absent may) f.stands;
+  within = λ limit. refl;
+}
+
+amiss_simple : (c : Context) (given : List (List ℕ)) (limited : Bool) (stop : Stop) (s : Simple) → IsAmissPlaced c.around false stop s → IsAmissHead c given limited stop (simple_head s)
+amiss_simple c given limited (Here (TooDeep at)) s (inl deep) = inl deep
+amiss_simple c given limited (Here (TooDeep at)) s (inr absent) = cc
+amiss_simple c given limited (Here (TooMany at)) s absent = cc
+amiss_simple c given limited (Here (Unexpected at)) s amiss = and_false _ (simple_stands c.around s) amiss
+amiss_simple c given limited (Here (Unsupported at)) s amiss = and_false _ (simple_stands c.around s) amiss
+amiss_simple c given limited (Here (BadIndent at)) s amiss = absurd amiss
+amiss_simple c given limited (Here Memory) s amiss = absurd amiss
+amiss_simple c given limited End s amiss = absurd amiss
+
+begins_simple_line : (tokens : List Token) → BeginsSimple tokens → BeginsHead tokens
+begins_simple_line tokens (inl b) = inl (record { some = simple_head b.some; more = b.more; tokens_are = b.tokens_are })
+begins_simple_line tokens (inr b) = inr (record {
+  opened = token (Keyword 12) b.spot ∷ [];
+  begins = record { some = simple_head (del b.spot (named some_spot [])); more = word_tokens [] some_spot; tokens_are = refl };
+  some = b.some;
+  more = b.more;
+  tokens_are = b.tokens_are;
+})
+
+-- a line with these tokens is a simple statement
+only_simple : (P : Head → Type 0) (before : List Token) (h : Head) → begins_compound before ≡ false → head_tokens h ≡ before → ((s : Simple) → simple_tokens s ≡ before → P (simple_head s)) → P h
+only_simple P [] h absent same each = absurd (head_some h same)
+only_simple P (t ∷ ts) h absent same each =
+    let is = head_simple h t ts same absent in
+    subst P (sym is.is) (each is.s (sym (ap head_tokens is.is) ∙ same))
+
+same_begins : (front : List Token) (t : Token) (a b : List Token) → begins_compound (front ++ t ∷ a) ≡ begins_compound (front ++ t ∷ b)
+same_begins [] t a b = refl
+same_begins (first ∷ front) t a b = refl
+
+simple_shown : (c : Context) (given : List (List ℕ)) (limited : Bool) (before : List Token) (fault : ParseFault) → begins_compound before ≡ false → ShownBy BeginsSimple simple_tokens (λ fault a. IsAmissPlaced c.around false (Here fault) a) before fault
+    → ShownBy BeginsHead head_tokens (λ fault a. IsAmissHead c given limited (Here fault) a) before fault
+simple_shown c given limited before fault absent s = record {
+  front = s.front;
+  shown_by = s.shown_by;
+  behind = s.behind;
+  before_is = s.before_is;
+  place_is = s.place_is;
+  begun = begins_simple_line s.front s.begun;
+  none = λ h more same. only_simple (IsAmissHead c given limited (Here fault)) (s.front ++ s.shown_by ∷ more) h (same_begins s.front s.shown_by more s.behind ∙ sym (ap begins_compound s.before_is) ∙ absent) same
+      (λ a is. amiss_simple c given limited (Here fault) a (s.none a more is));
+}
+
+simple_ended : (c : Context) (given : List (List ℕ)) (limited : Bool) (before : List Token) (stop : Stop) → begins_compound before ≡ false → EndedBy BeginsSimple simple_tokens (IsAmissPlaced c.around false stop) before
+    → EndedBy BeginsHead head_tokens (IsAmissHead c given limited stop) before
+simple_ended c given limited before stop absent e = record {
+  begun = begins_simple_line before e.begun;
+  none = λ h same. only_simple (IsAmissHead c given limited stop) before h absent same (λ a is. amiss_simple c given limited stop a (e.none a is));
+}
+
+pub simple_line_refused : (c : Context) (given : List (List ℕ)) (limited : Bool) (before : List Token) (stop : Stop) → begins_compound before ≡ false → PlacedRefused c.around false before stop → HeadRefused c given limited before stop
+simple_line_refused c given limited before (Here Memory) absent is = tt
+simple_line_refused c given limited before (Here (Unexpected at)) absent is = simple_shown c given limited before (Unexpected at) absent is
+simple_line_refused c given limited before (Here (TooDeep at)) absent is = simple_shown c given limited before (TooDeep at) absent is
+simple_line_refused c given limited before (Here (TooMany at)) absent is = simple_shown c given limited before (TooMany at) absent is
+simple_line_refused c given limited before (Here (BadIndent at)) absent is = absurd is.place_is
+simple_line_refused c given limited before (Here (Unsupported at)) absent (inl is) = inl (simple_shown c given limited before (Unsupported at) absent is)
+simple_line_refused c given limited before (Here (Unsupported at)) absent (inr is) = inr (simple_ended c given limited before (Here (Unsupported at)) absent is)
+simple_line_refused c given limited before End absent is = simple_ended c given limited before End absent is
+
+-- ---- `global`
+
+pub global_line : (c : Context) (given : List (List ℕ)) (limited : Bool) (spot : Spot) (before rest : List Token) (names : Globals) → before ≡ token (Keyword 19) spot ∷ rest → may_begin c before ≡ true → GlobalFound given rest names
+    → HeadFound c given limited before (record { what = Global names; behind = None })
+global_line c given limited spot before rest names is may g = record {
+  written = global_head spot g.written;
+  before_is = is ∙ ap (λ ts. token (Keyword 19) spot ∷ ts) g.before_is;
+  what_is = g.names_are;
+  behind_is = tt;
+  fits = omega arith;
+  stands = both_true _ _ (word_is_placed c 19 spot before rest is refl may) g.none;
+  within = λ limit. refl;
+}
+
+-- ---- `else`, `try`
+
+pub else_found : (c : Context) (before : List Token) → OpeningFound c 14 before Else before
+else_found c before spot = record {
+  front = token (Keyword 14) spot ∷ [];
+  made = else_head spot;
+  before_is = refl;
+  tokens_are = λ colon behind. refl;
+  steps = 0;
+  left = 0;
+  reads = λ n more first. refl;
+  what_is = λ colon behind. tt;
+  behind_is = λ colon behind. refl;
+  depth = 0;
+  low = omega arith;
+  depth_is = λ colon behind. refl;
+  stands = λ given colon behind. refl;
+}
+
+pub try_found : (c : Context) (before : List Token) → OpeningFound c 31 before Try before
+try_found c before spot = record {
+  front = token (Keyword 31) spot ∷ [];
+  made = try_head spot;
+  before_is = refl;
+  tokens_are = λ colon behind. refl;
+  steps = 0;
+  left = 0;
+  reads = λ n more first. refl;
+  what_is = λ colon behind. tt;
+  behind_is = λ colon behind. refl;
+  depth = 0;
+  low = omega arith;
+  depth_is = λ colon behind. refl;
+  stands = λ given colon behind. refl;
+}
+
+-- ---- with what was taken
+
+abbrev RefusedThere : Context → List (List ℕ) → (limited : Bool) → Stop → List Token → Type 0
+RefusedThere c given limited stop ts = HeadRefused c given limited ts stop
+
+pub opening_refused_there : (c : Context) (given : List (List ℕ)) (limited : Bool) (word : ℕ) (at : Pos) (before rest : List Token) (stop : Stop) → Taken (Keyword word) before at rest → OpeningRefused c word rest stop → HeadRefused c given limited before stop
+opening_refused_there c given limited word at before rest stop t refused = subst (RefusedThere c given limited stop) (sym t.before_is) (refused.there given limited t.spot)
+
+pub sign_refused_there : (c : Context) (given : List (List ℕ)) (limited : Bool) (word : ℕ) (at : Pos) (before rest after : List Token) (what : What) (stop : Stop) → Taken (Keyword word) before at rest → OpeningFound c word rest what after
+    → Refused (one_sign 7) 0 after stop → HeadRefused c given limited before stop
+sign_refused_there c given limited word at before rest after what stop t found refused =
+    subst (RefusedThere c given limited stop) (sym t.before_is) (colon_refused c given limited word (token (Keyword word) t.spot ∷ rest) after what stop (found t.spot) refused)
+
+pub behind_refused_there : (c : Context) (given : List (List ℕ)) (limited : Bool) (word : ℕ) (at colon_at : Pos) (before rest after behind : List Token) (what : What) (around : Around) (stop : Stop) → Taken (Keyword word) before at rest
+    → OpeningFound c word rest what after → Taken (Sign 7) after colon_at behind → around ≡ inner_around word c.around → BehindRefused around limited behind stop → HeadRefused c given limited before stop
+behind_refused_there c given limited word at colon_at before rest after behind what around stop t found colon is refused =
+    subst (RefusedThere c given limited stop) (sym t.before_is)
+    (behind_refused c given limited word (token (Keyword word) t.spot ∷ rest) after behind what colon.spot stop (found t.spot) colon.before_is (subst (λ (a : Around). BehindRefused a limited behind stop) is refused))
+
+pub line_there : (c : Context) (given : List (List ℕ)) (limited : Bool) (word : ℕ) (at colon_at : Pos) (before rest after behind : List Token) (what : What) (written : Option Behind) (around : Around) → Taken (Keyword word) before at rest
+    → is_compound word ≡ true → may_begin c before ≡ true → OpeningFound c word rest what after → Taken (Sign 7) after colon_at behind → around ≡ inner_around word c.around → BehindFound around limited behind written
+    → HeadFound c given limited before (record { what = what; behind = written })
+line_there c given limited word at colon_at before rest after behind what written around t word_is may found colon is b =
+    subst (λ (ts : List Token). HeadFound c given limited ts (record { what = what; behind = written })) (sym t.before_is)
+    (line_found c given limited word (token (Keyword word) t.spot ∷ rest) after behind (record { what = what; behind = written }) colon.spot (found t.spot) colon.before_is
+    (word_is_placed c word t.spot before rest t.before_is word_is may) (subst (λ (a : Around). BehindFound a limited behind written) is b))
+
+pub global_refused_there : (c : Context) (given : List (List ℕ)) (limited : Bool) (word : ℕ) (at : Pos) (before rest : List Token) (stop : Stop) → Taken (Keyword word) before at rest → word ≡ 19 → GlobalRefused given rest stop → HeadRefused c given limited before stop
+global_refused_there c given limited word at before rest stop t is refused =
+    subst (RefusedThere c given limited stop) (sym (t.before_is ∙ ap (λ n. token (Keyword n) t.spot ∷ rest) is)) (refused.there c limited t.spot)
+
+pub global_there : (c : Context) (given : List (List ℕ)) (limited : Bool) (word : ℕ) (at : Pos) (before rest : List Token) (names : Globals) → Taken (Keyword word) before at rest → word ≡ 19 → may_begin c before ≡ true → GlobalFound given rest names
+    → HeadFound c given limited before (record { what = Global names; behind = None })
+global_there c given limited word at before rest names t is may g =
+    global_line c given limited t.spot before rest names (t.before_is ∙ ap (λ n. token (Keyword n) t.spot ∷ rest) is) may g
+
+-- where no keyword was taken
+pub simple_there : (c : Context) (given : List (List ℕ)) (limited : Bool) (before kept : List Token) (form : Form) → kept ≡ before → may_begin c before ≡ true → begins_compound before ≡ false → PlacedFound c.around kept form
+    → HeadFound c given limited before (record { what = SimpleIs form; behind = None })
+simple_there c given limited before kept form is may other f = simple_line c given limited before form may other (subst (λ (ts : List Token). PlacedFound c.around ts form) is f)
+
+pub simple_refused_there : (c : Context) (given : List (List ℕ)) (limited : Bool) (before kept : List Token) (stop : Stop) → kept ≡ before → begins_compound before ≡ false → PlacedRefused c.around false kept stop → HeadRefused c given limited before stop
+simple_refused_there c given limited before kept stop is other refused = simple_line_refused c given limited before stop other (subst (λ (ts : List Token). PlacedRefused c.around false ts stop) is refused)
+
+-- ---- tokens that may not begin a line
+
+pub misplaced_there : (c : Context) (before : List Token) (t : Token) (ts : List Token) (may : Bool) (stop : Stop) → before ≡ t ∷ ts → may ≡ kind_may c t.kind → may ≡ false → IsAtFirst (t ∷ ts) stop → Misplaced c before stop
+misplaced_there c before t ts may stop is may_is other at = subst (λ (us : List Token). Misplaced c us stop) (sym is) (misplaced_refused c t ts stop (sym may_is ∙ other) at)
+
+pub may_begin_there : (c : Context) (before : List Token) (t : Token) (ts : List Token) (may : Bool) → before ≡ t ∷ ts → may ≡ kind_may c t.kind → may ≡ true → may_begin c before ≡ true
+may_begin_there c before t ts may is may_is so = ap (may_begin c) is ∙ sym may_is ∙ so
+
+pub may_begin_end : (c : Context) (before : List Token) → length before ≡ 0 → may_begin c before ≡ true
+may_begin_end c before none = ap (may_begin c) (none_there before none)
+
+pub else_there : (c : Context) (word : ℕ) (before : List Token) → word ≡ 14 → OpeningFound c word before Else before
+else_there c word before is = subst (λ n. OpeningFound c n before Else before) (sym is) (else_found c before)
+
+pub try_there : (c : Context) (word : ℕ) (before : List Token) → word ≡ 31 → OpeningFound c word before Try before
+try_there c word before is = subst (λ n. OpeningFound c n before Try before) (sym is) (try_found c before)

@@ -1,0 +1,99 @@
+-- Parameters in their brackets: what is read of them, and how they are refused.
+use Rattle.std.proofs.Common.{◌≡◌, ℕ, ◌+◌, ◌==◌, Bool, true, false, List, [], ◌∷◌, ◌++◌, Option, Some, None, refl, ap, sym, ◌∙◌, arith, append_assoc, append-nil, if◌then◌else◌}
+use Rattle.std.proofs.lemmas.Bool.{eqb-true}
+use Rattle.prov_base.specs.declared.place.Pos.{Pos}
+use Rattle.py_lines.specs.declared.parts.Token.{Token}
+use Rattle.py_lines.specs.declared.parts.TokenKind.TheVariants.{Sign}
+use Rattle.py_lines.specs.declared.parts.TokenKind.{TokenKind}
+use Rattle.py_grammar.specs.declared.fault.Stop.{Stop}
+use Rattle.py_grammar.specs.Concrete.{Spot}
+use Rattle.py_grammar.specs.Tokens.{token}
+use Rattle.py_grammar.specs.Written.{Params, no_params}
+use Rattle.py_grammar.specs.StatementTokens.{params_tokens}
+use Rattle.py_grammar.specs.Reader.{Read, go_on, is_sign, read_sign}
+use Rattle.py_grammar.specs.LineReader.{read_params}
+use Rattle.py_grammar.specs.Parsed.{Only, Finds, Refused, Taken, one_sign, is_sign_next, IsAtFirst}
+use Rattle.py_grammar.specs.ParsedRows.{first_token, IsRead}
+use Rattle.py_grammar.specs.ParsedHead.{params_part}
+use Rattle.py_grammar.specs.ParsedNames.{RefusedAmiss, IsRepeated, DifferentFound, BracketNames, bracket_part, ParamsFound, IsRepeatedIn}
+use Rattle.py_grammar.proofs.Refusals.{Inside, first_of, only_any, only_go_on, only_is, refused_inside, refused_same}
+use Rattle.py_grammar.proofs.ClosedParts.{first_is, first_same, not_deep}
+use Rattle.py_grammar.proofs.Stops.{some_spot}
+use Rattle.py_grammar.proofs.AmissParts.{AmissInside, amiss_inside, amiss_of_refused, amiss_same, amiss_here, begins_with}
+
+-- ---- the opening bracket
+
+opening_inside : (rest : List Token) → Inside bracket_part 0 (one_sign 0) 0 [] rest
+opening_inside rest = record {
+  begins = λ b. record { some = (b, no_params, some_spot); more = token (Sign 1) some_spot ∷ []; tokens_are = refl };
+  finds = λ stop more first finds. record { steps = finds.steps; only = λ n. only_go_on _ _ (read_sign 0 more) _ (finds.only n) (λ found rest deep. absurd (not_deep stop deep)) };
+}
+
+pub opening_refused : (before : List Token) (stop : Stop) → Refused (one_sign 0) 0 before stop → RefusedAmiss bracket_part IsRepeatedIn before stop
+opening_refused before stop is = amiss_of_refused bracket_part 0 IsRepeatedIn before stop (λ why w deep. absurd (not_deep why deep)) (refused_inside bracket_part 0 (one_sign 0) 0 [] before stop (opening_inside before) is)
+
+-- ---- the names
+
+names_inside : (opening : Spot) (rest : List Token) → AmissInside bracket_part IsRepeatedIn params_part IsRepeated (token (Sign 0) opening ∷ []) rest
+names_inside opening rest = record {
+  begins = begins_with bracket_part params_part (token (Sign 0) opening ∷ []) (λ names. (opening, names, some_spot)) (λ names. token (Sign 1) some_spot ∷ []) (λ names. refl);
+  finds = λ stop more first finds. record {
+    steps = finds.steps;
+    only = λ n. only_go_on (IsRepeated stop) (IsRepeatedIn stop) (read_params (n + finds.steps) more) _ (finds.only n) (λ names rest is. only_any (IsRepeatedIn stop) (read_sign 1 rest) _ (λ closing left. is));
+  };
+}
+
+pub names_refused : (at : Pos) (before behind : List Token) (stop : Stop) → Taken (Sign 0) before at behind → RefusedAmiss params_part IsRepeated behind stop → RefusedAmiss bracket_part IsRepeatedIn before stop
+names_refused at before behind stop k is = amiss_same bracket_part IsRepeatedIn before _ stop k.before_is (amiss_inside bracket_part IsRepeatedIn params_part IsRepeated (token (Sign 0) k.spot ∷ []) behind stop (names_inside k.spot behind) is)
+
+-- ---- what is no closing bracket
+
+front_is : (at : Pos) (before behind after : List Token) (list : List (List ℕ)) → (k : Taken (Sign 0) before at behind) → (f : DifferentFound behind list after) → before ≡ (token (Sign 0) k.spot ∷ params_tokens f.written) ++ after
+front_is at before behind after list k f = k.before_is ∙ ap (λ ts. token (Sign 0) k.spot ∷ ts) f.before_is
+
+closing_inside : (opening : Spot) (names : Params) (rest : List Token) → IsRead params_part names rest → Inside bracket_part 0 (one_sign 1) 0 (token (Sign 0) opening ∷ params_tokens names) rest
+closing_inside opening names rest is = record {
+  begins = λ b. record { some = (opening, names, b); more = []; tokens_are = sym (append-nil (token (Sign 0) opening ∷ (params_tokens names ++ token (Sign 1) b ∷ []))) };
+  finds = λ stop more first finds. record {
+    steps = is.steps;
+    only = λ n. only_is _ _ _
+        (ap (λ r. go_on r (λ names more_2. go_on (read_sign 1 more_2) (λ closing rest. Some ((opening, names, closing), rest)))) (is.reads n more (first_same more rest first)))
+        (only_go_on _ _ (read_sign 1 more) _ (finds.only n) (λ found rest deep. absurd (not_deep stop deep)));
+  };
+}
+
+pub closing_refused : (at : Pos) (before behind after : List Token) (list : List (List ℕ)) (stop : Stop) → Taken (Sign 0) before at behind → DifferentFound behind list after → Refused (one_sign 1) 0 after stop → RefusedAmiss bracket_part IsRepeatedIn before stop
+closing_refused at before behind after list stop k f is = amiss_of_refused bracket_part 0 IsRepeatedIn before stop (λ why w deep. absurd (not_deep why deep))
+    (refused_same bracket_part 0 before _ stop (front_is at before behind after list k f)
+    (refused_inside bracket_part 0 (one_sign 1) 0 (token (Sign 0) k.spot ∷ params_tokens f.written) after stop (closing_inside k.spot f.written after f.is_read) is))
+
+no_closing : (kind : TokenKind) → is_sign 7 kind ≡ true → is_sign 1 kind ≡ false
+no_closing (Sign n) is = ap (λ n. n == 1) (eqb-true n 7 is)
+no_closing kind is = cc
+
+pub colon_refused : (at : Pos) (before behind after : List Token) (list : List (List ℕ)) (stop : Stop) → Taken (Sign 0) before at behind → DifferentFound behind list after → is_sign_next 7 after ≡ true → IsAtFirst after stop → RefusedAmiss bracket_part IsRepeatedIn before stop
+colon_refused at before behind after list stop k f colon first = amiss_here bracket_part IsRepeatedIn before (token (Sign 0) k.spot ∷ params_tokens f.written) after stop (front_is at before behind after list k f) first
+    (record { some = (k.spot, f.written, some_spot); more = token (Sign 1) some_spot ∷ []; tokens_are = refl })
+    (λ empty. absurd (let no : false ≡ true = sym (ap (is_sign_next 7) empty) ∙ colon in cc))
+    (λ t ts more is. record {
+      steps = f.is_read.steps;
+      only = λ n. only_is _ _ None
+          (ap (λ r. go_on r (λ names more_2. go_on (read_sign 1 more_2) (λ closing rest. Some ((k.spot, names, closing), rest)))) (f.is_read.reads n (t ∷ more) (sym (ap first_token is)))
+          ∙ ap (λ (b : Bool). go_on (if b then Some (record { at = t.at; span = t.span }, more) else None) (λ closing rest. Some ((k.spot, f.written, closing), rest))) (no_closing t.kind (sym (ap (is_sign_next 7) is) ∙ colon))) tt;
+    })
+
+-- ---- all is read
+
+pub params_found : (at last : Pos) (before behind middle after : List Token) (list : List (List ℕ)) → Taken (Sign 0) before at behind → DifferentFound behind list middle → Taken (Sign 1) middle last after → ParamsFound before list after
+params_found at last before behind middle after list k f c = record {
+  written = (k.spot, f.written, c.spot);
+  before_is = front_is at before behind middle list k f ∙ ap (λ ts. token (Sign 0) k.spot ∷ (params_tokens f.written ++ ts)) c.before_is ∙ ap (λ ts. token (Sign 0) k.spot ∷ ts) (sym (append_assoc (params_tokens f.written) (token (Sign 1) c.spot ∷ []) after));
+  names_are = f.names_are;
+  different = f.different;
+  is_read = record {
+    steps = f.is_read.steps;
+    reads = λ n more first.
+        ap (λ ts. go_on (read_params (n + f.is_read.steps) ts) (λ names more_2. go_on (read_sign 1 more_2) (λ closing rest. Some ((k.spot, names, closing), rest)))) (append_assoc (params_tokens f.written) (token (Sign 1) c.spot ∷ []) more)
+        ∙ ap (λ r. go_on r (λ names more_2. go_on (read_sign 1 more_2) (λ closing rest. Some ((k.spot, names, closing), rest)))) (f.is_read.reads n (token (Sign 1) c.spot ∷ more) (sym (ap first_token c.before_is)));
+  };
+}

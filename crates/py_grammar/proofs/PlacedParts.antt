@@ -1,0 +1,263 @@
+-- A simple statement where one has to stand: what is found and refused, of what is written.
+use Rattle.std.proofs.Common.{◌≡◌, inl, inr, ℕ, ◌+◌, ◌<◌, Bool, true, false, not, List, [], ◌∷◌, ◌++◌, length, Option, Some, None, is_some, refl, ap, sym, ◌∙◌, arith, subst, append-nil}
+use Rattle.std.specs.Bool.{⊤}
+use Rattle.std.specs.Prelude.{◌&&◌, ◌||◌, ◌==◌}
+use Rattle.std.proofs.lemmas.Bool.{eqb-true}
+use Rattle.prov_base.specs.declared.place.Pos.{Pos}
+use Rattle.py_lines.specs.declared.parts.Token.{Token}
+use Rattle.py_lines.specs.declared.parts.TokenKind.{TokenKind}
+use Rattle.py_lines.specs.declared.parts.TokenKind.TheVariants.{Word, Keyword, Number, Text, Sign}
+use Rattle.py_tree.specs.declared.stmt.Form.{Form}
+use Rattle.py_grammar.specs.declared.context.Limit.{Limit}
+use Rattle.py_grammar.specs.declared.fault.ParseFault.{ParseFault}
+use Rattle.py_grammar.specs.declared.fault.ParseFault.TheVariants.{Unexpected, Unsupported, BadIndent, TooDeep, TooMany, Memory}
+use Rattle.py_grammar.specs.declared.fault.Stop.{Stop}
+use Rattle.py_grammar.specs.declared.fault.Stop.TheVariants.{Here, End}
+use Rattle.py_grammar.specs.declared.head.Behind.{Behind}
+use Rattle.py_grammar.specs.Concrete.{Spot, plain_expr, plain_or, plain_and, plain_not, plain_cmp, plain_sum, plain_term, plain_unary, plain_prim, text, one_expr}
+use Rattle.py_grammar.specs.Tokens.{token}
+use Rattle.py_grammar.specs.Depth.{simple_depth}
+use Rattle.py_grammar.specs.Written.{Simple, expression, pass}
+use Rattle.py_grammar.specs.StatementTokens.{simple_tokens}
+use Rattle.py_grammar.specs.StatementTrees.{simple_form}
+use Rattle.py_grammar.specs.WellPlaced.{Around, form_stands, simple_stands, are_alone, alone_kind}
+use Rattle.py_grammar.specs.Reader.{spot_of}
+use Rattle.py_grammar.specs.StatementReader.{read_simple}
+use Rattle.py_grammar.specs.Parsed.{Only, Finds}
+use Rattle.py_grammar.specs.ParsedSimple.{leaving_none, simple_part, SimpleFound, IsAmiss, BeginsSimple, SimpleShown, SimpleEnds, SimpleRefused, MayName}
+use Rattle.py_grammar.specs.ParsedHead.{PlacedFound, IsAmissPlaced, begins_at, IsThere, ShownBy, EndedBy, PlacedRefused, BehindRefused, BehindFound, is_compound_kind, may_be_alone, is_refused_kind, is_text_kind, IsLimit, IsRefusedInClass, MayNameLine}
+use Rattle.py_grammar.proofs.Stops.{some_spot}
+use Rattle.py_grammar.proofs.SimpleReading.{simple_reads}
+use Rattle.py_grammar.proofs.SimpleParts.{nothing_there}
+use Rattle.py_grammar.proofs.LineFirsts.{and_false, both_true, same_first, simple_not_compound, simple_some, pass_is_alone, not_nothing}
+
+-- every simple statement that has these tokens is so
+finds_simple : (P : Simple → Type 0) (ts : List Token) (s : Simple) → Finds P simple_part.read ts → simple_tokens s ≡ ts → P s
+finds_simple P ts s finds is =
+    let r = simple_reads s in
+    let sum : r.steps + finds.steps ≡ finds.steps + r.steps = omega arith in
+    subst (Only P) (ap leaving_none (ap (read_simple (r.steps + finds.steps)) (sym is) ∙ ap (λ m. read_simple m (simple_tokens s)) sum ∙ r.reads finds.steps)) (finds.only r.steps)
+
+-- ---- what is refused
+
+amiss_placed : (around : Around) (limited : Bool) (stop : Stop) (s : Simple) → IsAmiss around stop s → IsAmissPlaced around limited stop s
+amiss_placed around limited (Here (TooDeep at)) s deep = inl deep
+amiss_placed around limited (Here (Unexpected at)) s amiss = and_false _ (form_stands around (simple_form s)) amiss
+amiss_placed around limited (Here (Unsupported at)) s amiss = and_false _ (form_stands around (simple_form s)) amiss
+amiss_placed around limited (Here (BadIndent at)) s amiss = absurd amiss
+amiss_placed around limited (Here (TooMany at)) s amiss = absurd amiss
+amiss_placed around limited (Here Memory) s amiss = absurd amiss
+amiss_placed around limited End s amiss = absurd amiss
+
+placed_shown : (around : Around) (limited : Bool) (before : List Token) (fault : ParseFault) → SimpleShown around before fault → ((at : Pos) → MayName at fault → MayNameLine at fault) → ShownBy BeginsSimple simple_tokens (λ fault a. IsAmissPlaced around limited (Here fault) a) before fault
+placed_shown around limited before fault s named = record {
+  front = s.front;
+  shown_by = s.shown_by;
+  behind = s.behind;
+  before_is = s.before_is;
+  place_is = named s.shown_by.at s.place_is;
+  begun = s.begins;
+  none = λ a more same. amiss_placed around limited (Here fault) a (finds_simple _ (s.front ++ s.shown_by ∷ more) a (s.none more) same);
+}
+
+placed_ended : (around : Around) (limited : Bool) (before : List Token) (stop : Stop) → SimpleEnds around before stop → EndedBy BeginsSimple simple_tokens (IsAmissPlaced around limited stop) before
+placed_ended around limited before stop e = record { begun = e.begins; none = λ a same. amiss_placed around limited stop a (finds_simple _ before a e.none same) }
+
+pub placed_refused : (around : Around) (limited : Bool) (before : List Token) (stop : Stop) → SimpleRefused around before stop → PlacedRefused around limited before stop
+placed_refused around limited before (Here Memory) is = tt
+placed_refused around limited before (Here (Unexpected at)) is = placed_shown around limited before (Unexpected at) is (λ place named. named)
+placed_refused around limited before (Here (TooDeep at)) is = placed_shown around limited before (TooDeep at) is (λ place named. tt)
+placed_refused around limited before (Here (TooMany at)) is = absurd is.place_is
+placed_refused around limited before (Here (BadIndent at)) is = absurd is.place_is
+placed_refused around limited before (Here (Unsupported at)) (inl is) = inl (placed_shown around limited before (Unsupported at) is (λ place named. tt))
+placed_refused around limited before (Here (Unsupported at)) (inr is) = inr (placed_ended around limited before (Here (Unsupported at)) is)
+placed_refused around limited before End is = placed_ended around limited before End is
+
+-- nothing stands there
+pub placed_end : (around : Around) (limited : Bool) (before : List Token) → before ≡ [] → PlacedRefused around limited before End
+placed_end around limited before is = subst (λ (ts : List Token). PlacedRefused around limited ts End) (sym is)
+    (record { begun = inl (record { some = pass some_spot; more = simple_tokens (pass some_spot); tokens_are = refl }); none = λ s same. absurd (simple_some s same) })
+
+-- the first token shows it
+at_first_token : (around : Around) (limited : Bool) (t : Token) (behind : List Token) (fault : ParseFault) → MayNameLine t.at fault → ((s : Simple) (more : List Token) → simple_tokens s ≡ t ∷ more → IsAmissPlaced around limited (Here fault) s)
+    → ShownBy BeginsSimple simple_tokens (λ fault a. IsAmissPlaced around limited (Here fault) a) (t ∷ behind) fault
+at_first_token around limited t behind fault named none = record { front = []; shown_by = t; behind = behind; before_is = refl; place_is = named; begun = inl (record { some = pass some_spot; more = simple_tokens (pass some_spot); tokens_are = refl }); none = none }
+
+-- a limit is passed
+pub placed_limited : (around : Around) (t : Token) (behind : List Token) (fault : ParseFault) → IsLimit t.at fault → PlacedRefused around true (t ∷ behind) (Here fault)
+placed_limited around t behind (TooMany place) is = at_first_token around true t behind (TooMany place) is (λ s more same. refl)
+placed_limited around t behind (TooDeep place) is = at_first_token around true t behind (TooDeep place) tt (λ s more same. inr refl)
+placed_limited around t behind (Unexpected place) is = absurd is
+placed_limited around t behind (Unsupported place) is = absurd is
+placed_limited around t behind (BadIndent place) is = absurd is
+placed_limited around t behind Memory is = absurd is
+
+-- `def`, `class` and `global`
+refused_is_compound : (kind : TokenKind) → is_refused_kind kind ≡ true → is_compound_kind kind ≡ true
+refused_is_compound (Word bytes) is = cc
+refused_is_compound (Number value) is = cc
+refused_is_compound (Text bytes) is = cc
+refused_is_compound (Sign n) is = cc
+refused_is_compound (Keyword n) is = by (n == 11) refl (n == 9) refl (n == 19) refl is
+  where
+    by : (a : Bool) → (n == 11) ≡ a → (b : Bool) → (n == 9) ≡ b → (d : Bool) → (n == 19) ≡ d → (a || b || d) ≡ true → is_compound_kind (Keyword n) ≡ true
+    by true one b other d last any = ap (λ m. is_compound_kind (Keyword m)) (eqb-true n 11 one)
+    by false one true other d last any = ap (λ m. is_compound_kind (Keyword m)) (eqb-true n 9 other)
+    by false one false other true last any = ap (λ m. is_compound_kind (Keyword m)) (eqb-true n 19 last)
+    by false one false other false last any = cc
+
+pub placed_word : (around : Around) (limited : Bool) (t : Token) (behind : List Token) → is_refused_kind t.kind ≡ true → PlacedRefused around limited (t ∷ behind) (Here (Unsupported t.at))
+placed_word around limited t behind is = inl (at_first_token around limited t behind (Unsupported t.at) tt (λ s more same. absurd (no_such s more same)))
+  where
+    no_such : (s : Simple) (more : List Token) → simple_tokens s ≡ t ∷ more → ⊥
+    no_such s more same = let absent : true ≡ false = sym (refused_is_compound t.kind is) ∙ simple_not_compound s t more same in cc
+
+-- ---- in a class
+
+not_alone : (around : Around) (s : Simple) → around.in_class ≡ true → are_alone (simple_tokens s) ≡ false → simple_stands around s ≡ false
+not_alone around s inside other = by around.in_class (are_alone (simple_tokens s)) inside other (form_stands around (simple_form s))
+  where
+    by : (a b : Bool) → a ≡ true → b ≡ false → (d : Bool) → ((not a || b) && d) ≡ false
+    by true false one other d = refl
+    by false b one other d = cc
+    by true true one other d = cc
+
+kind_not_alone : (t : Token) (more : List Token) → alone_kind t.kind ≡ false → are_alone (t ∷ more) ≡ false
+kind_not_alone t [] absent = absent
+kind_not_alone t (u ∷ us) absent = refl
+
+other_kind : (kind : TokenKind) (behind : List Token) → may_be_alone kind behind ≡ false → is_text_kind kind ≡ false → alone_kind kind ≡ false
+other_kind (Word bytes) behind absent other = refl
+other_kind (Number value) behind absent other = refl
+other_kind (Text bytes) behind absent other = cc
+other_kind (Sign n) behind absent other = refl
+other_kind (Keyword n) behind absent other = absent
+
+amiss_in_class : (around : Around) (t : Token) (behind : List Token) → around.in_class ≡ true → may_be_alone t.kind behind ≡ false → is_text_kind t.kind ≡ false → (s : Simple) (more : List Token) → simple_tokens s ≡ t ∷ more → simple_stands around s ≡ false
+amiss_in_class around t behind inside absent other s more same = not_alone around s inside (ap are_alone same ∙ kind_not_alone t more (other_kind t.kind behind absent other))
+
+abbrev text_statement : Token → List ℕ → Simple
+text_statement t bytes = expression (one_expr (plain_expr (plain_or (plain_and (plain_not (plain_cmp (plain_sum (plain_term (plain_unary (plain_prim (text (spot_of t) bytes)))))))))))
+
+-- a text, behind which something stands, which shows it
+begins_text : (t : Token) → is_text_kind t.kind ≡ true → BeginsSimple (t ∷ [])
+begins_text t is = by t.kind is refl
+  where
+    by : (kind : TokenKind) → is_text_kind kind ≡ true → t.kind ≡ kind → BeginsSimple (t ∷ [])
+    by (Text bytes) is same = inl (record { some = text_statement t bytes; more = []; tokens_are = ap (λ k. record { at = t.at; span = t.span; kind = k } ∷ []) (sym same) })
+    by (Word bytes) is same = cc
+    by (Number value) is same = cc
+    by (Keyword n) is same = cc
+    by (Sign n) is same = cc
+
+text_behind : (kind : TokenKind) → is_text_kind kind ≡ true → may_be_alone kind [] ≡ false → ⊥
+text_behind (Text bytes) is absent = cc
+text_behind (Word bytes) is absent = cc
+text_behind (Number value) is absent = cc
+text_behind (Keyword n) is absent = cc
+text_behind (Sign n) is absent = cc
+
+text_in_class : (around : Around) (limited : Bool) (t : Token) (behind : List Token) (place : Pos) → around.in_class ≡ true → may_be_alone t.kind behind ≡ false → is_text_kind t.kind ≡ true
+    → ShownBy BeginsSimple simple_tokens (λ fault a. IsAmissPlaced around limited (Here fault) a) (t ∷ behind) (Unsupported place)
+text_in_class around limited t [] place inside absent is = absurd (text_behind t.kind is absent)
+text_in_class around limited t (u ∷ us) place inside absent is = record {
+  front = t ∷ [];
+  shown_by = u;
+  behind = us;
+  before_is = refl;
+  place_is = tt;
+  begun = begins_text t is;
+  none = λ s more same. not_alone around s inside (ap are_alone same);
+}
+
+other_in_class : (around : Around) (limited : Bool) (t : Token) (behind : List Token) (place : Pos) → around.in_class ≡ true → may_be_alone t.kind behind ≡ false → (b : Bool) → is_text_kind t.kind ≡ b
+    → ShownBy BeginsSimple simple_tokens (λ fault a. IsAmissPlaced around limited (Here fault) a) (t ∷ behind) (Unsupported place)
+other_in_class around limited t behind place inside absent true is = text_in_class around limited t behind place inside absent is
+other_in_class around limited t behind place inside absent false is = at_first_token around limited t behind (Unsupported place) tt (λ s more same. amiss_in_class around t behind inside absent is s more same)
+
+pub placed_in_class : (around : Around) (limited : Bool) (t : Token) (behind : List Token) (stop : Stop) → around.in_class ≡ true → may_be_alone t.kind behind ≡ false → IsRefusedInClass (t ∷ behind) stop → PlacedRefused around limited (t ∷ behind) stop
+placed_in_class around limited t behind (Here (Unexpected place)) inside absent is = at_first_token around limited t behind (Unexpected place) is.0 (λ s more same. amiss_in_class around t behind inside absent is.1 s more same)
+placed_in_class around limited t behind (Here (Unsupported place)) inside absent is = inl (other_in_class around limited t behind place inside absent (is_text_kind t.kind) refl)
+placed_in_class around limited t behind (Here (TooDeep place)) inside absent is = absurd is
+placed_in_class around limited t behind (Here (TooMany place)) inside absent is = absurd is
+placed_in_class around limited t behind (Here (BadIndent place)) inside absent is = absurd is
+placed_in_class around limited t behind (Here Memory) inside absent is = absurd is
+placed_in_class around limited t behind End inside absent is = absurd is
+
+-- ---- what is found
+
+alone_there : (t : Token) (behind : List Token) (s : Simple) → simple_tokens s ≡ t ∷ behind → may_be_alone t.kind behind ≡ true → are_alone (t ∷ behind) ≡ true
+alone_there t behind s same may = by t.kind refl may
+  where
+    with_nothing : (kind : TokenKind) → t.kind ≡ kind → alone_kind kind ≡ true → behind ≡ [] → are_alone (t ∷ behind) ≡ true
+    with_nothing kind is alone nothing = ap (λ (ts : List Token). are_alone (t ∷ ts)) nothing ∙ ap alone_kind is ∙ alone
+
+    by : (kind : TokenKind) → t.kind ≡ kind → may_be_alone kind behind ≡ true → are_alone (t ∷ behind) ≡ true
+    by (Text bytes) is may = with_nothing (Text bytes) is refl (nothing_there behind (length behind == 0) refl may)
+    by (Keyword n) is may = with_nothing (Keyword n) is may (pass_is_alone s t behind same (is ∙ ap Keyword (eqb-true n 28 may)))
+    by (Word bytes) is may = cc
+    by (Number value) is may = cc
+    by (Sign n) is may = cc
+
+-- in a class it is a text alone, or `pass`
+pub placed_found : (around : Around) (t : Token) (behind : List Token) (form : Form) → (around.in_class ≡ true → may_be_alone t.kind behind ≡ true) → SimpleFound around (t ∷ behind) form → PlacedFound around (t ∷ behind) form
+placed_found around t behind form alone f = record {
+  written = f.written;
+  before_is = f.before_is;
+  tree_is = f.tree_is;
+  fits = f.fits;
+  stands = by around.in_class refl (form_stands around (simple_form f.written)) f.stands;
+}
+  where
+    by : (inside : Bool) → around.in_class ≡ inside → (b : Bool) → b ≡ true → ((not inside || are_alone (simple_tokens f.written)) && b) ≡ true
+    by false is true stands = refl
+    by true is true stands = ap (λ c. c && true) (ap are_alone (sym f.before_is) ∙ alone_there t behind f.written (sym f.before_is) (alone is))
+    by inside is false stands = cc
+
+-- ---- with what is known of the tokens
+
+abbrev PlacedThere : Around → (limited : Bool) → Stop → List Token → Type 0
+PlacedThere around limited stop ts = PlacedRefused around limited ts stop
+
+pub limit_there : (around : Around) (limit : Option Limit) (l : Limit) (before : List Token) (t : Token) (behind : List Token) (fault : ParseFault) → limit ≡ Some l → before ≡ t ∷ behind → IsLimit t.at fault → PlacedRefused around (is_some limit) before (Here fault)
+limit_there around limit l before t behind fault some is at =
+    subst (λ b. PlacedRefused around b before (Here fault)) (sym (ap is_some some)) (subst (PlacedThere around true (Here fault)) (sym is) (placed_limited around t behind fault at))
+
+pub word_there : (around : Around) (limited : Bool) (before : List Token) (t : Token) (behind : List Token) → before ≡ t ∷ behind → is_refused_kind t.kind ≡ true → PlacedRefused around limited before (Here (Unsupported t.at))
+word_there around limited before t behind is kind = subst (PlacedThere around limited (Here (Unsupported t.at))) (sym is) (placed_word around limited t behind kind)
+
+pub class_there : (around : Around) (limited : Bool) (before : List Token) (t : Token) (behind : List Token) (stop : Stop) → before ≡ t ∷ behind → around.in_class ≡ true → may_be_alone t.kind behind ≡ false → IsRefusedInClass before stop → PlacedRefused around limited before stop
+class_there around limited before t behind stop is inside alone refused =
+    subst (PlacedThere around limited stop) (sym is) (placed_in_class around limited t behind stop inside alone (subst (λ (ts : List Token). IsRefusedInClass ts stop) is refused))
+
+pub found_there : (around : Around) (before : List Token) (t : Token) (behind : List Token) (form : Form) → before ≡ t ∷ behind → (around.in_class ≡ true → may_be_alone t.kind behind ≡ true) → SimpleFound around before form → PlacedFound around before form
+found_there around before t behind form is alone f =
+    subst (λ (ts : List Token). PlacedFound around ts form) (sym is) (placed_found around t behind form alone (subst (λ (ts : List Token). SimpleFound around ts form) is f))
+
+-- ---- behind a `:`
+
+pub behind_none : (around : Around) (limited : Bool) (before : List Token) → before ≡ [] → BehindFound around limited before None
+behind_none around limited before is = record { written = None; before_is = is; what_is = tt; fits = omega arith; stands = refl; within = λ limit. refl }
+
+pub behind_some : (around : Around) (limited : Bool) (before : List Token) (t : Token) (ts : List Token) (form : Form) → before ≡ t ∷ ts → limited ≡ false → PlacedFound around before form
+    → BehindFound around limited before (Some (record { at = t.at; from = t.span.from; form = form }))
+behind_some around limited before t ts form is free f = record {
+  written = Some f.written;
+  before_is = f.before_is;
+  what_is = record { form_is = f.tree_is; begins = subst (λ (us : List Token). begins_at us t.at t.span.from) (sym is ∙ f.before_is) (refl, refl) };
+  fits = f.fits;
+  stands = f.stands;
+  within = λ limit. let wrong : true ≡ false = sym limit ∙ free in cc;
+}
+
+pub behind_is_refused : (around : Around) (limited : Bool) (before : List Token) (t : Token) (ts : List Token) (stop : Stop) → before ≡ t ∷ ts → PlacedRefused around limited before stop → BehindRefused around limited before stop
+behind_is_refused around limited before t ts stop is refused = record { placed = refused; some = λ none. not_nothing t ts (sym is ∙ none) }
+
+-- what is asked in a class is asked nowhere else
+pub outside : (inside alone : Bool) → inside ≡ false → inside ≡ true → alone ≡ true
+outside false alone other is = cc
+outside true alone other is = cc
+
+pub none_there : (ts : List Token) → length ts ≡ 0 → ts ≡ []
+none_there [] is = refl
+none_there (t ∷ ts) is = absurd (omega (arith, is))

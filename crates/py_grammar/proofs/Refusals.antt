@@ -1,0 +1,260 @@
+-- How a refusal of a part is one of what it stands in.
+use Rattle.std.proofs.Common.{◌≡◌, ℕ, suc, max, ◌+◌, ◌≤◌, ◌<◌, Bool, true, false, List, [], ◌∷◌, ◌++◌, Option, Some, None, refl, ap, sym, ◌∙◌, arith, subst, append_assoc, if◌then◌else◌}
+use Rattle.std.specs.Bool.{⊤}
+use Rattle.std.specs.Option.{option_map_or}
+use Rattle.std.proofs.lemmas.List.{append-nil}
+use Rattle.py_lines.specs.declared.parts.Token.{Token}
+use Rattle.py_grammar.specs.declared.fault.ParseFault.{ParseFault}
+use Rattle.py_grammar.specs.declared.fault.ParseFault.TheVariants.{Unexpected, Unsupported, BadIndent, TooDeep, TooMany, Memory}
+use Rattle.py_grammar.specs.declared.fault.Stop.{Stop}
+use Rattle.py_grammar.specs.declared.fault.Stop.TheVariants.{Here, End}
+use Rattle.py_grammar.specs.Parsed.{Production, IsDeep, Only, Finds, Begins, Shown, Refused, IsTooDeep, is_keyword_next}
+use Rattle.py_grammar.specs.Reader.{Read, go_on, next_level, kind_level, is_keyword}
+use Rattle.py_grammar.proofs.Leading.{Beyond, Reads, Leads}
+
+abbrev pub first_of : List Token → Option Token
+first_of [] = None
+first_of (t ∷ ts) = Some t
+
+-- A part stands in another behind these tokens: any such part is the beginning of one there, and where none is read that
+-- begins with the same token none is read there.
+pub record Inside {A B : Type 0} (p : Production A) (room : ℕ) (q : Production B) (inner : ℕ) (front rest : List Token) : Type 0 where
+  pub begins : (b : B) → Begins p (front ++ q.tokens b)
+  pub finds : (stop : Stop) (more : List Token) → first_of more ≡ first_of rest → Finds (λ b. IsDeep stop inner (q.depth b)) q.read more
+      → Finds (λ a. IsDeep stop room (p.depth a)) p.read (front ++ more)
+
+-- ---- what is read with enough steps
+
+pub only_any : {A B : Type 0} (P : B → Type 0) (r : Read A) (f : A → List Token → Read B) → ((a : A) (rest : List Token) → Only P (f a rest)) → Only P (go_on r f)
+only_any P None f each = tt
+only_any P (Some (a, rest)) f each = each a rest
+
+pub only_go_on : {A B : Type 0} (Q : A → Type 0) (P : B → Type 0) (r : Read A) (f : A → List Token → Read B) → Only Q r → ((a : A) (rest : List Token) → Q a → Only P (f a rest)) → Only P (go_on r f)
+only_go_on Q P None f is each = tt
+only_go_on Q P (Some (a, rest)) f is each = each a rest is
+
+pub only_if : {A : Type 0} (P : A → Type 0) (b : Bool) (x y : Read A) → Only P x → Only P y → Only P (if b then x else y)
+only_if P true x y one other = one
+only_if P false x y one other = other
+
+pub only_map_or : {A X : Type 0} (P : A → Type 0) (o : Option X) (f : X → Read A) (other : Read A) → ((x : X) → Only P (f x)) → Only P other → Only P (option_map_or f o other)
+only_map_or P None f other each or_else = or_else
+only_map_or P (Some x) f other each or_else = each x
+
+pub only_is : {A : Type 0} (P : A → Type 0) (x y : Read A) → x ≡ y → Only P y → Only P x
+only_is P x y is only = subst (Only P) (sym is) only
+
+-- the first thing that is read
+pub finds_first : {A B : Type 0} (Q : B → Type 0) (P : A → Type 0) (read : ℕ → List Token → Read A) (sub : ℕ → List Token → Read B) (f : ℕ → B → List Token → Read A) (ts us : List Token)
+    → ((n : ℕ) → read (suc n) ts ≡ go_on (sub n us) (f n)) → ((n : ℕ) (b : B) (rest : List Token) → Q b → Only P (f n b rest)) → Finds Q sub us → Finds P read ts
+finds_first Q P read sub f ts us is each finds = record {
+  steps = suc finds.steps;
+  only = λ n.
+      let up : n + suc finds.steps ≡ suc (n + finds.steps) = omega arith in
+      only_is P _ _ (ap (λ m. read m ts) up ∙ is (n + finds.steps)) (only_go_on Q P (sub (n + finds.steps) us) (f (n + finds.steps)) (finds.only n) (each (n + finds.steps)));
+}
+
+-- behind something that was read
+pub finds_behind : {A B : Type 0} (P : A → Type 0) (read : ℕ → List Token → Read A) (sub : ℕ → List Token → Read B) (f : ℕ → B → List Token → Read A) (level : ℕ) (tokens : List Token) (value : B) (tail : List Token)
+    → ((n : ℕ) → read (suc n) (tokens ++ tail) ≡ go_on (sub n (tokens ++ tail)) (f n)) → Reads sub level tokens value → Beyond level tail → Finds P (λ n ts. f n value ts) tail → Finds P read (tokens ++ tail)
+finds_behind P read sub f level tokens value tail is reads beyond finds = record {
+  steps = suc (finds.steps + reads.steps);
+  only = λ n.
+      let up : n + suc (finds.steps + reads.steps) ≡ suc ((n + finds.steps) + reads.steps) = omega arith in
+      let over : (n + finds.steps) + reads.steps ≡ (n + reads.steps) + finds.steps = omega arith in
+      only_is P _ _ (ap (λ m. read m (tokens ++ tail)) up ∙ is ((n + finds.steps) + reads.steps) ∙ ap (λ r. go_on r (f ((n + finds.steps) + reads.steps))) (reads.reads (n + finds.steps) tail beyond) ∙ ap (λ m. f m value tail) over)
+      (finds.only (n + reads.steps));
+}
+
+-- behind what leads there
+pub finds_lead : {A : Type 0} (P : A → Type 0) (read : ℕ → List Token → Read A) (more : ℕ → A → List Token → Read A) (level : ℕ) (tokens : List Token) (value : A) (tail : List Token)
+    → Leads read more level tokens value → Beyond level tail → Finds P (λ n ts. more n value ts) tail → Finds P read (tokens ++ tail)
+finds_lead P read more level tokens value tail lead beyond finds = record {
+  steps = finds.steps + lead.before;
+  only = λ n.
+      let up : n + (finds.steps + lead.before) ≡ (n + finds.steps) + lead.before = omega arith in
+      let over : (n + finds.steps) + lead.behind ≡ (n + lead.behind) + finds.steps = omega arith in
+      only_is P _ _ (ap (λ m. read m (tokens ++ tail)) up ∙ lead.leads (n + finds.steps) tail beyond ∙ ap (λ m. more m value tail) over) (finds.only (n + lead.behind));
+}
+
+-- one step more
+pub finds_step : {A : Type 0} (P : A → Type 0) (read other : ℕ → List Token → Read A) (ts more : List Token) → ((n : ℕ) → read (suc n) ts ≡ other n more) → Finds P other more → Finds P read ts
+finds_step P read other ts more is finds = record {
+  steps = suc finds.steps;
+  only = λ n.
+      let up : n + suc finds.steps ≡ suc (n + finds.steps) = omega arith in
+      only_is P _ _ (ap (λ m. read m ts) up ∙ is (n + finds.steps)) (finds.only n);
+}
+
+pub finds_at_once : {A : Type 0} (P : A → Type 0) (read : ℕ → List Token → Read A) (ts : List Token) → ((n : ℕ) → Only P (read (suc n) ts)) → Finds P read ts
+finds_at_once P read ts only = record { steps = 1; only = λ n. let up : n + 1 ≡ suc n = omega arith in only_is P _ _ (ap (λ m. read m ts) up) (only n) }
+
+pub finds_same : {A : Type 0} (P : A → Type 0) (read : ℕ → List Token → Read A) (ts us : List Token) → ts ≡ us → Finds P read us → Finds P read ts
+finds_same P read ts us is finds = subst (Finds P read) (sym is) finds
+
+-- ---- depth
+
+pub deeper : (stop : Stop) (room depth outer above : ℕ) → IsDeep stop room depth → outer + depth ≤ room + above → IsDeep stop outer above
+deeper (Here (TooDeep at)) room depth outer above deep less = omega (arith, deep, less)
+deeper (Here (Unexpected at)) room depth outer above deep less = absurd deep
+deeper (Here (Unsupported at)) room depth outer above deep less = absurd deep
+deeper (Here (BadIndent at)) room depth outer above deep less = absurd deep
+deeper (Here (TooMany at)) room depth outer above deep less = absurd deep
+deeper (Here Memory) room depth outer above deep less = absurd deep
+deeper End room depth outer above deep less = absurd deep
+
+-- ---- a refusal of what stands inside
+
+pub first_alike : (f : List Token) (t : Token) (more behind : List Token) → first_of (f ++ t ∷ more) ≡ first_of (f ++ t ∷ behind)
+first_alike [] t more behind = refl
+first_alike (first ∷ f) t more behind = refl
+
+begins_inside : {A B : Type 0} (p : Production A) (q : Production B) (front part : List Token) → ((b : B) → Begins p (front ++ q.tokens b)) → Begins q part → Begins p (front ++ part)
+begins_inside p q front part begins b =
+    let whole = begins b.some in
+    record {
+      some = whole.some;
+      more = b.more ++ whole.more;
+      tokens_are = whole.tokens_are ∙ ap (λ ts. (front ++ ts) ++ whole.more) b.tokens_are ∙ regroup front part b.more whole.more;
+    }
+  where
+    regroup : (w x y z : List Token) → (w ++ (x ++ y)) ++ z ≡ (w ++ x) ++ (y ++ z)
+    regroup w x y z = append_assoc w (x ++ y) z ∙ ap (λ ts. w ++ ts) (append_assoc x y z) ∙ sym (append_assoc w x (y ++ z))
+
+shown_inside : {A B : Type 0} (p : Production A) (room : ℕ) (q : Production B) (inner : ℕ) (front rest : List Token) (fault : ParseFault) → Inside p room q inner front rest → Shown q inner rest fault → Shown p room (front ++ rest) fault
+shown_inside p room q inner front rest fault inside s = record {
+  front = front ++ s.front;
+  shown_by = s.shown_by;
+  behind = s.behind;
+  before_is = ap (λ ts. front ++ ts) s.before_is ∙ sym (append_assoc front s.front (s.shown_by ∷ s.behind));
+  place_is = s.place_is;
+  begins = begins_inside p q front s.front inside.begins s.begins;
+  none = λ more. finds_same _ p.read _ _ (append_assoc front s.front (s.shown_by ∷ more))
+      (inside.finds (Here fault) (s.front ++ s.shown_by ∷ more) (first_alike s.front s.shown_by more s.behind ∙ sym (ap first_of s.before_is)) (s.none more));
+}
+
+pub refused_inside : {A B : Type 0} (p : Production A) (room : ℕ) (q : Production B) (inner : ℕ) (front rest : List Token) (stop : Stop) → Inside p room q inner front rest → Refused q inner rest stop → Refused p room (front ++ rest) stop
+refused_inside p room q inner front rest (Here Memory) inside is = tt
+refused_inside p room q inner front rest (Here (Unexpected at)) inside is = shown_inside p room q inner front rest (Unexpected at) inside is
+refused_inside p room q inner front rest (Here (Unsupported at)) inside is = shown_inside p room q inner front rest (Unsupported at) inside is
+refused_inside p room q inner front rest (Here (BadIndent at)) inside is = shown_inside p room q inner front rest (BadIndent at) inside is
+refused_inside p room q inner front rest (Here (TooDeep at)) inside is = shown_inside p room q inner front rest (TooDeep at) inside is
+refused_inside p room q inner front rest (Here (TooMany at)) inside is = shown_inside p room q inner front rest (TooMany at) inside is
+refused_inside p room q inner front rest End inside is = (begins_inside p q front rest inside.begins is.0, inside.finds End rest refl is.1)
+
+pub refused_same : {A : Type 0} (p : Production A) (room : ℕ) (before other : List Token) (stop : Stop) → before ≡ other → Refused p room other stop → Refused p room before stop
+refused_same p room before other stop is refused = subst (λ ts. Refused p room ts stop) (sym is) refused
+
+pub one_behind : (front : List Token) (t : Token) (tokens : List Token) → front ++ t ∷ tokens ≡ ((front ++ t ∷ []) ++ tokens) ++ []
+one_behind front t tokens = sym (append-nil ((front ++ t ∷ []) ++ tokens) ∙ append_assoc front (t ∷ []) tokens)
+
+pub finds_weaker : {A : Type 0} (P Q : A → Type 0) (read : ℕ → List Token → Read A) (ts : List Token) → ((a : A) → P a → Q a) → Finds P read ts → Finds Q read ts
+finds_weaker P Q read ts weaker finds = record { steps = finds.steps; only = λ n. weaken (read (n + finds.steps) ts) (finds.only n) }
+  where
+    weaken : (r : Read _) → Only P r → Only Q r
+    weaken None only = tt
+    weaken (Some (a, rest)) only = weaker a only
+
+-- there is no room over what was read, and the next token begins something over it
+pub full : {A : Type 0} (p : Production A) (room : ℕ) (before front : List Token) (t : Token) (behind : List Token) (height : ℕ) (stop : Stop) → IsTooDeep height room stop → before ≡ front ++ t ∷ behind → Begins p front
+    → ((more : List Token) → Finds (λ a. height < p.depth a) p.read (front ++ t ∷ more)) → Refused p room before stop
+full p room before front t behind height (Here (TooDeep at)) deep before_is begins over = record {
+  front = front;
+  shown_by = t;
+  behind = behind;
+  before_is = before_is;
+  place_is = tt;
+  begins = begins;
+  none = λ more. finds_weaker _ _ p.read (front ++ t ∷ more) (λ a higher. omega (arith, deep, higher)) (over more);
+}
+full p room before front t behind height (Here (Unexpected at)) deep before_is begins over = absurd deep
+full p room before front t behind height (Here (Unsupported at)) deep before_is begins over = absurd deep
+full p room before front t behind height (Here (BadIndent at)) deep before_is begins over = absurd deep
+full p room before front t behind height (Here (TooMany at)) deep before_is begins over = absurd deep
+full p room before front t behind height (Here Memory) deep before_is begins over = absurd deep
+full p room before front t behind height End deep before_is begins over = absurd deep
+
+-- ---- heights
+
+pub over_both : (a b c d : ℕ) → a ≡ b → c ≡ d → suc (max a c) ≡ 1 + max b d
+over_both a b c d one other = ap (λ x. suc (max x c)) one ∙ ap (λ x. suc (max b x)) other ∙ one_more (max b d)
+  where
+    one_more : (n : ℕ) → suc n ≡ 1 + n
+    one_more n = omega arith
+
+pub max_below : (a b c : ℕ) → a ≤ c → b ≤ c → max a b ≤ c
+max_below a b c one other = omega (arith, one, other)
+
+pub fits_above : (room left right height : ℕ) → height ≡ suc (max left right) → left < room → right < room → height ≤ room
+fits_above room left right height is one other = let low = max_below left right room (omega (arith, one)) (omega (arith, other)) in omega (arith, is, one, other)
+
+-- whatever is read
+anything : {A : Type 0} (r : Read A) → Only (λ a. ⊤) r
+anything None = tt
+anything (Some (a, rest)) = tt
+
+pub finds_anything : {A : Type 0} (read : ℕ → List Token → Read A) (ts : List Token) → Finds (λ a. ⊤) read ts
+finds_anything read ts = record { steps = 0; only = λ n. anything (read (n + 0) ts) }
+
+-- ---- further steps
+
+-- behind something that was read behind other tokens
+pub finds_after : {A B : Type 0} (P : A → Type 0) (read : ℕ → List Token → Read A) (sub : ℕ → List Token → Read B) (f : ℕ → B → List Token → Read A) (level : ℕ) (ts tokens : List Token) (value : B) (tail : List Token)
+    → ((n : ℕ) → read (suc n) ts ≡ go_on (sub n (tokens ++ tail)) (f n)) → Reads sub level tokens value → Beyond level tail → Finds P (λ n us. f n value us) tail → Finds P read ts
+finds_after P read sub f level ts tokens value tail is reads beyond finds = record {
+  steps = suc (finds.steps + reads.steps);
+  only = λ n.
+      let up : n + suc (finds.steps + reads.steps) ≡ suc ((n + finds.steps) + reads.steps) = omega arith in
+      let over : (n + finds.steps) + reads.steps ≡ (n + reads.steps) + finds.steps = omega arith in
+      only_is P _ _ (ap (λ m. read m ts) up ∙ is ((n + finds.steps) + reads.steps) ∙ ap (λ r. go_on r (f ((n + finds.steps) + reads.steps))) (reads.reads (n + finds.steps) tail beyond) ∙ ap (λ m. f m value tail) over)
+      (finds.only (n + reads.steps));
+}
+
+pub finds_behind_now : {A B : Type 0} (P : A → Type 0) (read : ℕ → List Token → Read A) (sub : ℕ → List Token → Read B) (f : ℕ → B → List Token → Read A) (level : ℕ) (tokens : List Token) (value : B) (tail : List Token)
+    → ((n : ℕ) → read n (tokens ++ tail) ≡ go_on (sub n (tokens ++ tail)) (f n)) → Reads sub level tokens value → Beyond level tail → Finds P (λ n us. f n value us) tail → Finds P read (tokens ++ tail)
+finds_behind_now P read sub f level tokens value tail is reads beyond finds = record {
+  steps = finds.steps + reads.steps;
+  only = λ n.
+      let up : n + (finds.steps + reads.steps) ≡ (n + finds.steps) + reads.steps = omega arith in
+      let over : (n + finds.steps) + reads.steps ≡ (n + reads.steps) + finds.steps = omega arith in
+      only_is P _ _ (ap (λ m. read m (tokens ++ tail)) up ∙ is ((n + finds.steps) + reads.steps) ∙ ap (λ r. go_on r (f ((n + finds.steps) + reads.steps))) (reads.reads (n + finds.steps) tail beyond) ∙ ap (λ m. f m value tail) over)
+      (finds.only (n + reads.steps));
+}
+
+-- without a step between
+pub finds_now : {A B : Type 0} (Q : B → Type 0) (P : A → Type 0) (read : ℕ → List Token → Read A) (sub : ℕ → List Token → Read B) (f : ℕ → B → List Token → Read A) (ts us : List Token)
+    → ((n : ℕ) → read n ts ≡ go_on (sub n us) (f n)) → ((n : ℕ) (b : B) (rest : List Token) → Q b → Only P (f n b rest)) → Finds Q sub us → Finds P read ts
+finds_now Q P read sub f ts us is each finds = record {
+  steps = finds.steps;
+  only = λ n. only_is P _ _ (is (n + finds.steps)) (only_go_on Q P (sub (n + finds.steps) us) (f (n + finds.steps)) (finds.only n) (each (n + finds.steps)));
+}
+
+-- what the next token tells is the same of all that begin with it
+pub next_level_same : (a b : List Token) → first_of a ≡ first_of b → next_level a ≡ next_level b
+next_level_same [] [] is = refl
+next_level_same [] (t ∷ ts) is = cc
+next_level_same (t ∷ ts) [] is = cc
+next_level_same (t ∷ ts) (u ∷ us) is = ap (λ (v : Token). kind_level v.kind) (same_token t u is)
+  where
+    same_token : (v w : Token) → Some v ≡ Some w → v ≡ w
+    same_token v w eq = cc
+
+pub keyword_next_same : (n : ℕ) (a b : List Token) → first_of a ≡ first_of b → is_keyword_next n a ≡ is_keyword_next n b
+keyword_next_same n [] [] is = refl
+keyword_next_same n [] (t ∷ ts) is = cc
+keyword_next_same n (t ∷ ts) [] is = cc
+keyword_next_same n (t ∷ ts) (u ∷ us) is = ap (λ (v : Token). is_keyword n v.kind) (same_token t u is)
+  where
+    same_token : (v w : Token) → Some v ≡ Some w → v ≡ w
+    same_token v w eq = cc
+
+-- ---- tokens regrouped
+
+pub two_behind : (front : List Token) (t : Token) (b x : List Token) → front ++ t ∷ (b ++ x) ≡ ((front ++ t ∷ []) ++ b) ++ x
+two_behind front t b x = sym (append_assoc (front ++ t ∷ []) b x ∙ append_assoc front (t ∷ []) (b ++ x))
+
+pub one_between : (front : List Token) (t : Token) (b : List Token) (u : Token) (x : List Token) → front ++ t ∷ (b ++ u ∷ x) ≡ ((front ++ t ∷ b) ++ u ∷ []) ++ x
+one_between front t b u x = sym (append_assoc (front ++ t ∷ b) (u ∷ []) x ∙ append_assoc front (t ∷ b) (u ∷ x))
+
+pub last_behind : (front : List Token) (t : Token) (b : List Token) (u : Token) (c : List Token) → front ++ t ∷ (b ++ u ∷ c) ≡ ((front ++ t ∷ (b ++ u ∷ [])) ++ c) ++ []
+last_behind front t b u c = sym (append-nil ((front ++ t ∷ (b ++ u ∷ [])) ++ c) ∙ append_assoc front (t ∷ (b ++ u ∷ [])) c ∙ ap (λ ts. front ++ t ∷ ts) (append_assoc b (u ∷ []) c))

@@ -1,0 +1,242 @@
+-- Simple statements: how what is read of a part, or not, tells what is read of the statement.
+use Rattle.std.proofs.Common.{◌≡◌, inl, ℕ, suc, ◌+◌, ◌<◌, Bool, true, false, List, [], ◌∷◌, ◌++◌, Option, Some, None, option_map, option_and_then, refl, ap, sym, ◌∙◌, arith, subst, append_assoc, append-nil, length, is_some, IfNone, if◌then◌else◌}
+use Rattle.std.specs.Prelude.{◌==◌}
+use Rattle.std.proofs.lemmas.Bool.{eqb-true}
+use Rattle.prov_base.specs.declared.place.Pos.{Pos}
+use Rattle.py_lines.specs.declared.parts.Token.{Token}
+use Rattle.py_grammar.specs.declared.fault.ParseFault.{ParseFault}
+use Rattle.py_grammar.specs.declared.fault.ParseFault.TheVariants.{Unexpected, Unsupported, BadIndent, TooDeep, TooMany, Memory}
+use Rattle.py_grammar.specs.declared.fault.Stop.{Stop}
+use Rattle.py_grammar.specs.declared.fault.Stop.TheVariants.{Here, End}
+use Rattle.py_grammar.specs.declared.part.Part.{Part}
+use Rattle.py_grammar.specs.Tokens.{expr_tokens, exprs_tokens}
+use Rattle.py_grammar.specs.Trees.{expr_tree}
+use Rattle.py_grammar.specs.Written.{Simple, pass}
+use Rattle.py_grammar.specs.StatementTokens.{simple_tokens}
+use Rattle.py_grammar.specs.Depth.{simple_depth}
+use Rattle.py_grammar.specs.WellPlaced.{Around}
+use Rattle.py_grammar.specs.Reader.{Read, spot_of, next_level, starts, read_expr, read_exprs}
+use Rattle.py_grammar.specs.StatementReader.{whole, alone, read_simple}
+use Rattle.py_grammar.specs.Parsed.{Production, Names, IsDeep, Only, Finds, Begins, Shown, Refused, Found, FoundRow, expr_part}
+use Rattle.py_grammar.specs.ParsedSimple.{leaving_none, simple_part, BeginsSimple, IsAmiss, MayName, SimpleShown, SimpleEnds, SimpleRefused, IsMore}
+use Rattle.py_grammar.proofs.Reading.{expr_reads}
+use Rattle.py_grammar.proofs.RowReads.{row_reads}
+use Rattle.py_grammar.proofs.Refusals.{first_of, only_is, finds_same, finds_weaker}
+
+-- ---- what the reader gives
+
+-- no statement is read
+pub record ReadsNone (ts : List Token) : Type 0 where
+  pub steps : ℕ
+  pub none : (n : ℕ) → read_simple (n + steps) ts ≡ None
+
+pub none_found : (P : Simple → Type 0) (ts : List Token) → ReadsNone ts → Finds P simple_part.read ts
+none_found P ts is = record { steps = is.steps; only = λ n. only_is P (leaving_none (read_simple (n + is.steps) ts)) None (ap leaving_none (is.none n)) tt }
+
+pub one_found : (P : Simple → Type 0) (ts : List Token) (s : Simple) (steps : ℕ) → ((n : ℕ) → read_simple (n + steps) ts ≡ Some s) → P s → Finds P simple_part.read ts
+one_found P ts s steps is holds = record { steps = steps; only = λ n. only_is P (leaving_none (read_simple (n + steps) ts)) (Some (s, [])) (ap leaving_none (is n)) holds }
+
+-- what is read goes by what is read of a part of it
+pub record Turns {B : Type 0} (q : Production B) (ts more : List Token) (g : ℕ → B → List Token → Option Simple) : Type 0 where
+  pub before : ℕ
+  pub behind : ℕ
+  pub turns : (n : ℕ) → read_simple (n + before) ts ≡ option_and_then (λ found. g n found.0 found.1) (q.read (n + behind) more)
+
+-- nothing is read where the part is read, and what follows fits nothing
+pub turned_none : {B : Type 0} (q : Production B) (ts more rest : List Token) (g : ℕ → B → List Token → Option Simple) (b : B) (steps : ℕ) → Turns q ts more g
+    → ((n : ℕ) → q.read (n + steps) more ≡ Some (b, rest)) → ((n : ℕ) → g n b rest ≡ None) → ReadsNone ts
+turned_none q ts more rest g b steps is reads none = record {
+  steps = steps + is.before;
+  none = λ n.
+      let up : n + (steps + is.before) ≡ (n + steps) + is.before = omega arith in
+      let over : (n + steps) + is.behind ≡ (n + is.behind) + steps = omega arith in
+      ap (λ m. read_simple m ts) up ∙ is.turns (n + steps) ∙ ap (λ m. option_and_then (λ found. g (n + steps) found.0 found.1) (q.read m more)) over
+      ∙ ap (option_and_then (λ found. g (n + steps) found.0 found.1)) (reads (n + is.behind)) ∙ none (n + steps);
+}
+
+-- what is found of the part tells what is found of the statement
+pub turned_found : {B : Type 0} (Q : B → Type 0) (P : Simple → Type 0) (q : Production B) (ts more : List Token) (g : ℕ → B → List Token → Option Simple) → Turns q ts more g
+    → ((n : ℕ) (b : B) (rest : List Token) → Q b → Only P (leaving_none (g n b rest))) → Finds Q q.read more → Finds P simple_part.read ts
+turned_found Q P q ts more g is each finds = record {
+  steps = finds.steps + is.before;
+  only = λ n.
+      let up : n + (finds.steps + is.before) ≡ (n + finds.steps) + is.before = omega arith in
+      let over : (n + finds.steps) + is.behind ≡ (n + is.behind) + finds.steps = omega arith in
+      only_is P _ _ (ap leaving_none (ap (λ m. read_simple m ts) up ∙ is.turns (n + finds.steps) ∙ ap (λ m. option_and_then (λ found. g (n + finds.steps) found.0 found.1) (q.read m more)) over))
+      (behind (g (n + finds.steps)) (q.read ((n + is.behind) + finds.steps) more) (finds.only (n + is.behind)) (each (n + finds.steps)));
+}
+  where
+    behind : (h : _ → List Token → Option Simple) (r : Read _) → Only Q r → ((b : _) (rest : List Token) → Q b → Only P (leaving_none (h b rest))) → Only P (leaving_none (option_and_then (λ found. h found.0 found.1) r))
+    behind h None only all = tt
+    behind h (Some (b, rest)) only all = all b rest only
+
+-- all tokens are this part
+abbrev pub as_whole : {B : Type 0} → (B → Option Simple) → ℕ → B → List Token → Option Simple
+as_whole f n b [] = f b
+as_whole f n b (t ∷ ts) = None
+
+pub whole_then : {B : Type 0} (f : B → Option Simple) (n : ℕ) (r : Read B) → option_and_then f (whole r) ≡ option_and_then (λ found. as_whole f n found.0 found.1) r
+whole_then f n None = refl
+whole_then f n (Some (b, [])) = refl
+whole_then f n (Some (b, t ∷ ts)) = refl
+
+pub map_whole : {B : Type 0} (f : B → Simple) (n : ℕ) (r : Read B) → option_map f (whole r) ≡ option_and_then (λ found. as_whole (λ b. Some (f b)) n found.0 found.1) r
+map_whole f n None = refl
+map_whole f n (Some (b, [])) = refl
+map_whole f n (Some (b, t ∷ ts)) = refl
+
+pub only_whole : {B : Type 0} (P : Simple → Type 0) (f : B → Option Simple) (n : ℕ) (b : B) (rest : List Token) → Only P (leaving_none (f b)) → Only P (leaving_none (as_whole f n b rest))
+only_whole P f n b [] only = only
+only_whole P f n b (t ∷ ts) only = tt
+
+pub only_map : {B : Type 0} (P : Simple → Type 0) (f : B → Simple) (o : Option B) → ((b : B) → P (f b)) → Only P (leaving_none (option_map f o))
+only_map P f None each = tt
+only_map P f (Some b) each = each b
+
+pub only_alone : (P : Simple → Type 0) (s : Simple) (more : List Token) → P s → Only P (leaving_none (alone s more))
+only_alone P s [] holds = holds
+only_alone P s (t ∷ ts) holds = tt
+
+pub only_if_simple : (P : Simple → Type 0) (b : Bool) (x y : Option Simple) → Only P (leaving_none x) → Only P (leaving_none y) → Only P (leaving_none (if b then x else y))
+only_if_simple P true x y one other = one
+only_if_simple P false x y one other = other
+
+pub turns_same : {B : Type 0} (q : Production B) (ts us more : List Token) (g : ℕ → B → List Token → Option Simple) → ts ≡ us → Turns q us more g → Turns q ts more g
+turns_same q ts us more g is turns = subst (λ (ts : List Token). Turns q ts more g) (sym is) turns
+
+-- ---- how it is refused
+
+pub spelled : (s : Simple) (tokens : List Token) → simple_tokens s ≡ tokens → BeginsSimple tokens
+spelled s tokens is = inl (record { some = s; more = []; tokens_are = is ∙ sym (append-nil tokens) })
+
+-- whatever stands there, a statement can begin so far
+nothing_yet : (t : Token) → BeginsSimple []
+nothing_yet t = inl (record { some = pass (spot_of t); more = simple_tokens (pass (spot_of t)); tokens_are = refl })
+
+-- a part begins, behind these tokens, and so does a statement
+pub begins_part : {B : Type 0} (q : Production B) (front : List Token) (s : B → Simple) → ((b : B) → simple_tokens (s b) ≡ front ++ q.tokens b) → (tokens : List Token) → Begins q tokens → BeginsSimple (front ++ tokens)
+begins_part q front s spells tokens b = inl (record { some = s b.some; more = b.more; tokens_are = spells b.some ∙ ap (λ ts. front ++ ts) b.tokens_are ∙ sym (append_assoc front tokens b.more) })
+
+first_alike : (f : List Token) (t : Token) (more behind : List Token) → first_of (f ++ t ∷ more) ≡ first_of (f ++ t ∷ behind)
+first_alike [] t more behind = refl
+first_alike (first ∷ f) t more behind = refl
+
+abbrev IsWeaker : Around → Stop → Type 0
+IsWeaker around stop = (s : Simple) → IsDeep stop 100 (simple_depth s) → IsAmiss around stop s
+
+-- a part stands behind these tokens: how it begins, and what is read there
+record Stands {B : Type 0} (q : Production B) (inner : ℕ) (front rest : List Token) : Type 0 where
+  begins : (tokens : List Token) → Begins q tokens → BeginsSimple (front ++ tokens)
+  finds : (why : Stop) (more : List Token) → first_of more ≡ first_of rest → Finds (λ b. IsDeep why inner (q.depth b)) q.read more → Finds (λ s. IsDeep why 100 (simple_depth s)) simple_part.read (front ++ more)
+
+shown_part : {B : Type 0} (around : Around) (q : Production B) (inner : ℕ) (front rest before : List Token) (fault : ParseFault) → before ≡ front ++ rest → Stands q inner front rest → IsWeaker around (Here fault)
+    → ((at : Pos) → Names at fault → MayName at fault) → Shown q inner rest fault → SimpleShown around before fault
+shown_part around q inner front rest before fault is part weaker named s = record {
+  front = front ++ s.front;
+  shown_by = s.shown_by;
+  behind = s.behind;
+  before_is = is ∙ ap (λ ts. front ++ ts) s.before_is ∙ sym (append_assoc front s.front (s.shown_by ∷ s.behind));
+  place_is = named s.shown_by.at s.place_is;
+  begins = part.begins s.front s.begins;
+  none = λ more. finds_same _ simple_part.read _ _ (append_assoc front s.front (s.shown_by ∷ more))
+      (finds_weaker _ _ simple_part.read _ weaker (part.finds (Here fault) (s.front ++ s.shown_by ∷ more) (first_alike s.front s.shown_by more s.behind ∙ sym (ap first_of s.before_is)) (s.none more)));
+}
+
+refused_there : {B : Type 0} (around : Around) (q : Production B) (inner : ℕ) (front rest before : List Token) (stop : Stop) → before ≡ front ++ rest → Stands q inner front rest → Refused q inner rest stop → SimpleRefused around before stop
+refused_there around q inner front rest before (Here Memory) is part refused = tt
+refused_there around q inner front rest before (Here (Unexpected at)) is part refused = shown_part around q inner front rest before (Unexpected at) is part (λ s deep. absurd deep) (λ at named. named) refused
+refused_there around q inner front rest before (Here (Unsupported at)) is part refused = inl (shown_part around q inner front rest before (Unsupported at) is part (λ s deep. absurd deep) (λ at named. tt) refused)
+refused_there around q inner front rest before (Here (TooDeep at)) is part refused = shown_part around q inner front rest before (TooDeep at) is part (λ s deep. deep) (λ at named. tt) refused
+refused_there around q inner front rest before (Here (BadIndent at)) is part refused = absurd refused.place_is
+refused_there around q inner front rest before (Here (TooMany at)) is part refused = absurd refused.place_is
+refused_there around q inner front rest before End is part refused =
+    subst (λ (ts : List Token). SimpleEnds around ts End) (sym is)
+    (record { begins = part.begins rest refused.0; none = finds_weaker _ _ simple_part.read _ (λ s deep. absurd deep) (part.finds End rest refl refused.1) })
+
+-- a part is refused behind these tokens
+pub refused_part : {B : Type 0} (around : Around) (q : Production B) (inner : ℕ) (front rest before : List Token) (stop : Stop) (g : ℕ → B → List Token → Option Simple) → before ≡ front ++ rest
+    → ((tokens : List Token) → Begins q tokens → BeginsSimple (front ++ tokens)) → ((more : List Token) → first_of more ≡ first_of rest → Turns q (front ++ more) more g)
+    → ((why : Stop) (n : ℕ) (b : B) (left : List Token) → IsDeep why inner (q.depth b) → Only (λ s. IsDeep why 100 (simple_depth s)) (leaving_none (g n b left)))
+    → Refused q inner rest stop → SimpleRefused around before stop
+refused_part around q inner front rest before stop g is begins turns deep refused = refused_there around q inner front rest before stop is
+    (record { begins = begins; finds = λ why more first finds. turned_found _ _ q (front ++ more) more g (turns more first) (deep why) finds })
+    refused
+
+-- the tokens are a statement, and something stands behind them
+pub at_token : (around : Around) (tokens : List Token) (t : Token) (ts before : List Token) (fault : ParseFault) (s : Simple) → before ≡ tokens ++ t ∷ ts → simple_tokens s ≡ tokens → MayName t.at fault
+    → ((more : List Token) → ReadsNone (tokens ++ t ∷ more)) → SimpleShown around before fault
+at_token around tokens t ts before fault s is spells named none = record {
+  front = tokens;
+  shown_by = t;
+  behind = ts;
+  before_is = is;
+  place_is = named;
+  begins = spelled s tokens spells;
+  none = λ more. none_found _ (tokens ++ t ∷ more) (none more);
+}
+
+pub ended : (around : Around) (tokens behind before : List Token) (stop : Stop) (s : Simple) → before ≡ tokens ++ behind → simple_tokens s ≡ tokens → IsMore behind stop
+    → ((t : Token) (ts more : List Token) → behind ≡ t ∷ ts → ReadsNone (tokens ++ t ∷ more)) → SimpleRefused around before stop
+ended around tokens [] before stop s is spells more none = absurd more
+ended around tokens (t ∷ ts) before (Here (Unexpected at)) s is spells more none = at_token around tokens t ts before (Unexpected at) s is spells more (λ rest. none t ts rest refl)
+ended around tokens (t ∷ ts) before (Here (Unsupported at)) s is spells more none = inl (at_token around tokens t ts before (Unsupported at) s is spells tt (λ rest. none t ts rest refl))
+ended around tokens (t ∷ ts) before (Here (BadIndent at)) s is spells more none = absurd more
+ended around tokens (t ∷ ts) before (Here (TooDeep at)) s is spells more none = absurd more
+ended around tokens (t ∷ ts) before (Here (TooMany at)) s is spells more none = absurd more
+ended around tokens (t ∷ ts) before (Here Memory) s is spells more none = absurd more
+ended around tokens (t ∷ ts) before End s is spells more none = absurd more
+
+-- a word that no statement may begin with there
+pub misplaced : (around : Around) (t : Token) (behind : List Token) (fault : ParseFault) → MayName t.at fault
+    → ((n : ℕ) (more : List Token) → Only (IsAmiss around (Here fault)) (leaving_none (read_simple n (t ∷ more)))) → SimpleShown around (t ∷ behind) fault
+misplaced around t behind fault named amiss = record {
+  front = [];
+  shown_by = t;
+  behind = behind;
+  before_is = refl;
+  place_is = named;
+  begins = nothing_yet t;
+  none = λ more. record { steps = 0; only = λ n. amiss (n + 0) more };
+}
+
+-- ---- expressions that were read
+
+pub expr_all : {room : ℕ} {before after : List Token} {part : Part} → (f : Found expr_part expr_tree 7 room before part after) → after ≡ [] → before ≡ expr_tokens f.written
+expr_all f is = f.before_is ∙ ap (λ ts. expr_tokens f.written ++ ts) is ∙ append-nil (expr_tokens f.written)
+
+pub row_all : {room : ℕ} {before after : List Token} {part : Part} → (f : FoundRow room before part after) → after ≡ [] → before ≡ exprs_tokens f.written
+row_all f is = f.before_is ∙ ap (λ ts. exprs_tokens f.written ++ ts) is ∙ append-nil (exprs_tokens f.written)
+
+-- they are read too where other tokens follow the next one
+pub expr_goes : {room : ℕ} {before after : List Token} {part : Part} → (f : Found expr_part expr_tree 7 room before part after) → (t : Token) (ts rest : List Token) → after ≡ t ∷ ts
+    → (n : ℕ) → read_expr (n + (expr_reads f.written).steps) (expr_tokens f.written ++ t ∷ rest) ≡ Some (f.written, t ∷ rest)
+expr_goes f t ts rest is n = (expr_reads f.written).reads n (t ∷ rest) (subst (λ (ts : List Token). 7 < next_level ts) is f.beyond)
+
+pub row_goes : {room : ℕ} {before after : List Token} {part : Part} → (f : FoundRow room before part after) → (t : Token) (ts rest : List Token) → after ≡ t ∷ ts
+    → (n : ℕ) → read_exprs (n + (row_reads f.written).steps) (exprs_tokens f.written ++ t ∷ rest) ≡ Some (f.written, t ∷ rest)
+row_goes f t ts rest is n = (row_reads f.written).reads n (t ∷ rest) (λ ends. subst (λ (ts : List Token). 8 < next_level ts) is (f.beyond ends)) (λ ends. subst (λ (ts : List Token). starts ts ≡ 0) is (f.no_more ends))
+
+-- nothing is deeper than it is
+pub not_deeper : (why : Stop) (depth : ℕ) → IsDeep why depth depth → ⊥
+not_deeper (Here (TooDeep at)) depth deep = absurd (omega (arith, deep))
+not_deeper (Here (Unexpected at)) depth deep = deep
+not_deeper (Here (Unsupported at)) depth deep = deep
+not_deeper (Here (BadIndent at)) depth deep = deep
+not_deeper (Here (TooMany at)) depth deep = deep
+not_deeper (Here Memory) depth deep = deep
+not_deeper End depth deep = deep
+
+-- ---- whether something stands there
+
+pub nothing_there : (ts : List Token) (b : Bool) → b ≡ (length ts == 0) → b ≡ true → ts ≡ []
+nothing_there [] b is empty = refl
+nothing_there (t ∷ ts) b is empty = let counted : (suc (length ts) == 0) ≡ true = sym is ∙ empty in absurd (omega (arith, eqb-true (suc (length ts)) 0 counted))
+
+pub something_there : (ts : List Token) (b : Bool) → b ≡ (length ts == 0) → b ≡ false → ts ≡ [] → ⊥
+something_there [] b is full none = let no : true ≡ false = sym is ∙ full in cc
+something_there (t ∷ ts) b is full none = cc
+
+-- what holds where nothing was taken
+pub from_none : {X : Type 0} (P : Type 0) (o : Option X) (b : Bool) → b ≡ is_some o → b ≡ false → IfNone o P → P
+from_none P None b is none holds = holds
+from_none P (Some x) b is none holds = absurd (let no : true ≡ false = sym is ∙ none in cc)

@@ -1,0 +1,238 @@
+-- `assert` and `del`: what is read, and how it is refused.
+use Rattle.std.proofs.Common.{◌≡◌, inl, inr, ℕ, ◌+◌, true, false, List, [], ◌∷◌, ◌++◌, Option, Some, None, option_map, option_and_then, is_none, is_some, refl, ap, sym, ◌∙◌, arith, subst, append_assoc, append-nil}
+use Rattle.std.proofs.Math.Nat.{le-max_left, le-max_right}
+use Rattle.std.proofs.lemmas.Option.{same_Some}
+use Rattle.prov_base.specs.declared.place.Pos.{Pos}
+use Rattle.py_lines.specs.declared.parts.Token.{Token}
+use Rattle.py_lines.specs.declared.parts.TokenKind.TheVariants.{Keyword, Sign}
+use Rattle.py_tree.specs.declared.expr.Target.{Target as BuiltTarget}
+use Rattle.py_tree.specs.declared.stmt.Form.{Form}
+use Rattle.py_tree.specs.Erasure.{expr_of, form_of, target_of}
+use Rattle.py_tree.specs.Tree.{ExprTree, assert_form, del_form, field_target, attr_expr}
+use Rattle.py_grammar.specs.declared.fault.ParseFault.TheVariants.{Unsupported}
+use Rattle.py_grammar.specs.declared.fault.Stop.{Stop}
+use Rattle.py_grammar.specs.declared.fault.Stop.TheVariants.{Here}
+use Rattle.py_grammar.specs.declared.part.Part.{Part}
+use Rattle.py_grammar.specs.Concrete.{Spot, Expr}
+use Rattle.py_grammar.specs.Tokens.{token, expr_tokens}
+use Rattle.py_grammar.specs.Trees.{expr_tree}
+use Rattle.py_grammar.specs.Depth.{expr_depth, simple_depth}
+use Rattle.py_grammar.specs.Written.{OneTarget, named, item, field, Simple, assert, assert_message, del}
+use Rattle.py_grammar.specs.StatementTrees.{one_target_tree}
+use Rattle.py_grammar.specs.WellPlaced.{Around, may_go}
+use Rattle.py_grammar.specs.Reader.{Read, is_sign, spot_of, read_expr}
+use Rattle.py_grammar.specs.StatementReader.{expr_target, whole, after_test}
+use Rattle.py_grammar.specs.Parsed.{IsDeep, Only, Begins, Found, Refused, Taken, is_sign_next, is_form, expr_part}
+use Rattle.py_grammar.specs.ParsedSimple.{leaving_none, BeginsSimple, IsAmiss, SimpleEnds, SimpleRefused, FoundBehindAny, RefusedBehindAny, IsMore, target_form}
+use Rattle.py_grammar.proofs.Reading.{expr_reads, if_false}
+use Rattle.py_grammar.proofs.Refusals.{only_is, deeper, max_below}
+use Rattle.py_grammar.proofs.TargetForms.{target_is, target_deep, target_spelled, target_tree_is}
+use Rattle.py_grammar.proofs.ExprForms.{is_attr_tree}
+use Rattle.py_grammar.proofs.SimpleParts.{Turns, turned_none, turns_same, as_whole, map_whole, only_whole, only_map, only_if_simple, none_found, begins_part, refused_part, ended, expr_all, expr_goes}
+
+-- ---- `assert`
+
+abbrev assert_turn : Spot → ℕ → Expr → List Token → Option Simple
+assert_turn spot n e rest = after_test (n + 0) spot e rest
+
+assert_turns : (spot : Spot) (more : List Token) → Turns expr_part (token (Keyword 5) spot ∷ more) more (assert_turn spot)
+assert_turns spot more = record { before = 0; behind = 0; turns = λ n. refl }
+
+assert_deep : (why : Stop) (n : ℕ) (spot : Spot) (e : Expr) (left : List Token) → IsDeep why 100 (expr_depth e) → Only (λ s. IsDeep why 100 (simple_depth s)) (leaving_none (after_test n spot e left))
+assert_deep why n spot e [] deep = deep
+assert_deep why n spot e (t ∷ ts) deep = only_if_simple _ (is_sign 6 t.kind) _ None
+    (only_map _ (assert_message spot e (spot_of t)) (whole (read_expr n ts)) (λ m. deeper why 100 (expr_depth e) 100 _ deep (let high = le-max_left (expr_depth e) (expr_depth m) in omega (arith, high)))) tt
+
+pub assert_refused : (behind : List Token) (stop : Stop) → Refused expr_part 100 behind stop → RefusedBehindAny 5 behind stop
+assert_refused behind stop is = record {
+  there = λ around spot.
+      refused_part around expr_part 100 (token (Keyword 5) spot ∷ []) behind (token (Keyword 5) spot ∷ behind) stop (assert_turn spot) refl
+      (begins_part expr_part (token (Keyword 5) spot ∷ []) (assert spot) (λ e. refl)) (λ more first. assert_turns spot more)
+      (λ why n e left deep. assert_deep why (n + 0) spot e left deep) is;
+}
+
+pub assert_more : (behind after : List Token) (part : Part) (stop : Stop) → Found expr_part expr_tree 7 100 behind part after → is_sign_next 6 after ≡ false → IsMore after stop → RefusedBehindAny 5 behind stop
+assert_more behind after part stop f other more = record {
+  there = λ around spot.
+      ended around (token (Keyword 5) spot ∷ expr_tokens f.written) after (token (Keyword 5) spot ∷ behind) stop (assert spot f.written) (ap (λ ts. token (Keyword 5) spot ∷ ts) f.before_is) refl more
+      (λ t ts rest is. turned_none expr_part _ (expr_tokens f.written ++ t ∷ rest) (t ∷ rest) (assert_turn spot) f.written (expr_reads f.written).steps (assert_turns spot _) (expr_goes f t ts rest is)
+      (λ n. if_false (is_sign 6 t.kind) _ _ (subst (λ (ts : List Token). is_sign_next 6 ts ≡ false) is other)));
+}
+
+pub assert_found : (behind after : List Token) (part : Part) (form : Form) → Found expr_part expr_tree 7 100 behind part after → after ≡ [] → form_of form ≡ assert_form (expr_of part.expr) None → FoundBehindAny 5 behind form
+assert_found behind after part form f is tree around spot = record {
+  written = assert spot f.written;
+  before_is = ap (λ ts. token (Keyword 5) spot ∷ ts) (expr_all f is);
+  tree_is = tree ∙ ap (λ e. assert_form e None) f.tree_is;
+  fits = let high = f.height_is in let low = f.fits in omega (arith, high, low);
+  stands = refl;
+}
+
+-- with a message
+
+abbrev message_turn : Spot → Expr → Spot → ℕ → Expr → List Token → Option Simple
+message_turn spot e comma = as_whole (λ m. Some (assert_message spot e comma m))
+
+message_turns : (spot : Spot) (e : Expr) (comma : Spot) (more : List Token) → Turns expr_part (token (Keyword 5) spot ∷ (expr_tokens e ++ token (Sign 6) comma ∷ more)) more (message_turn spot e comma)
+message_turns spot e comma more = record {
+  before = (expr_reads e).steps;
+  behind = (expr_reads e).steps;
+  turns = λ n.
+      ap (λ o. option_and_then (λ found. after_test (n + (expr_reads e).steps) spot found.0 found.1) o) ((expr_reads e).reads n (token (Sign 6) comma ∷ more) (omega arith))
+      ∙ map_whole (assert_message spot e comma) n (read_expr (n + (expr_reads e).steps) more);
+}
+
+pub message_refused : (comma_at : Pos) (behind middle after : List Token) (part : Part) (stop : Stop) → Found expr_part expr_tree 7 100 behind part middle → Taken (Sign 6) middle comma_at after → Refused expr_part 100 after stop
+    → RefusedBehindAny 5 behind stop
+message_refused comma_at behind middle after part stop f k is = record {
+  there = λ around spot.
+      let e = f.written in
+      let c : Token = token (Sign 6) k.spot in
+      let w : Token = token (Keyword 5) spot in
+      refused_part around expr_part 100 (w ∷ (expr_tokens e ++ c ∷ [])) after (w ∷ behind) stop (message_turn spot e k.spot)
+      (ap (λ ts. w ∷ ts) (f.before_is ∙ ap (λ ts. expr_tokens e ++ ts) k.before_is ∙ sym (append_assoc (expr_tokens e) (c ∷ []) after)))
+      (begins_part expr_part (w ∷ (expr_tokens e ++ c ∷ [])) (assert_message spot e k.spot) (λ m. ap (λ ts. w ∷ ts) (sym (append_assoc (expr_tokens e) (c ∷ []) (expr_tokens m)))))
+      (λ more first. turns_same expr_part _ (w ∷ (expr_tokens e ++ c ∷ more)) more _ (ap (λ ts. w ∷ ts) (append_assoc (expr_tokens e) (c ∷ []) more)) (message_turns spot e k.spot more))
+      (λ why n m left deep. only_whole _ (λ m. Some (assert_message spot e k.spot m)) n m left (deeper why 100 (expr_depth m) 100 _ deep (let high = le-max_right (expr_depth e) (expr_depth m) in omega (arith, high))))
+      is;
+}
+
+pub message_more : (comma_at : Pos) (behind middle after last : List Token) (part message : Part) (stop : Stop) → Found expr_part expr_tree 7 100 behind part middle → Taken (Sign 6) middle comma_at after
+    → Found expr_part expr_tree 7 100 after message last → IsMore last stop → RefusedBehindAny 5 behind stop
+message_more comma_at behind middle after last part message stop f k m more = record {
+  there = λ around spot.
+      let e = f.written in
+      let c : Token = token (Sign 6) k.spot in
+      let w : Token = token (Keyword 5) spot in
+      ended around (w ∷ (expr_tokens e ++ (c ∷ expr_tokens m.written))) last (w ∷ behind) stop (assert_message spot e k.spot m.written)
+      (ap (λ ts. w ∷ ts) (f.before_is ∙ ap (λ ts. expr_tokens e ++ ts) (k.before_is ∙ ap (λ ts. c ∷ ts) m.before_is) ∙ sym (append_assoc (expr_tokens e) (c ∷ expr_tokens m.written) last))) refl more
+      (λ t ts rest is. turned_none expr_part _ (expr_tokens m.written ++ t ∷ rest) (t ∷ rest) (message_turn spot e k.spot) m.written (expr_reads m.written).steps
+      (turns_same expr_part _ _ _ _ (ap (λ ts. w ∷ ts) (append_assoc (expr_tokens e) (c ∷ expr_tokens m.written) (t ∷ rest))) (message_turns spot e k.spot (expr_tokens m.written ++ t ∷ rest)))
+      (expr_goes m t ts rest is) (λ n. refl));
+}
+
+pub message_found : (comma_at : Pos) (behind middle after last : List Token) (part message : Part) (form : Form) → Found expr_part expr_tree 7 100 behind part middle → Taken (Sign 6) middle comma_at after
+    → Found expr_part expr_tree 7 100 after message last → last ≡ [] → form_of form ≡ assert_form (expr_of part.expr) (Some (expr_of message.expr)) → FoundBehindAny 5 behind form
+message_found comma_at behind middle after last part message form f k m is tree around spot = record {
+  written = assert_message spot f.written k.spot m.written;
+  before_is = ap (λ ts. token (Keyword 5) spot ∷ ts) (f.before_is ∙ ap (λ ts. expr_tokens f.written ++ ts) (k.before_is ∙ ap (λ ts. token (Sign 6) k.spot ∷ ts) (expr_all m is)));
+  tree_is = tree ∙ ap (λ e. assert_form e (Some (expr_of message.expr))) f.tree_is ∙ ap (λ e. assert_form (expr_tree f.written) (Some e)) m.tree_is;
+  fits = let high = f.height_is in let low = f.fits in let high_2 = m.height_is in let low_2 = m.fits in max_below _ _ 100 (omega (arith, high, low)) (omega (arith, high_2, low_2));
+  stands = refl;
+}
+
+-- ---- `del`
+
+abbrev del_of : Spot → Expr → Option Simple
+del_of spot e = option_map (del spot) (expr_target e)
+
+abbrev del_turn : Spot → ℕ → Expr → List Token → Option Simple
+del_turn spot = as_whole (del_of spot)
+
+del_turns : (spot : Spot) (more : List Token) → Turns expr_part (token (Keyword 12) spot ∷ more) more (del_turn spot)
+del_turns spot more = record { before = 0; behind = 0; turns = λ n. by n (read_expr (n + 0) more) }
+  where
+    by : (n : ℕ) (r : Read Expr) → option_map (del spot) (option_and_then expr_target (whole r)) ≡ option_and_then (λ found. del_turn spot n found.0 found.1) r
+    by n None = refl
+    by n (Some (e, [])) = refl
+    by n (Some (e, t ∷ ts)) = refl
+
+del_begins : (spot : Spot) (tokens : List Token) → Begins expr_part tokens → BeginsSimple (token (Keyword 12) spot ∷ tokens)
+del_begins spot tokens b = inr (record { spot = spot; some = b.some; more = b.more; tokens_are = ap (λ ts. token (Keyword 12) spot ∷ ts) b.tokens_are })
+
+del_deep : (why : Stop) (spot : Spot) (e : Expr) → IsDeep why 100 (expr_depth e) → Only (λ s. IsDeep why 100 (simple_depth s)) (leaving_none (del_of spot e))
+del_deep why spot e deep = by (expr_target e) refl
+  where
+    by : (o : Option OneTarget) → expr_target e ≡ o → Only (λ s. IsDeep why 100 (simple_depth s)) (leaving_none (option_map (del spot) o))
+    by None is = tt
+    by (Some t) is = subst (λ (d : ℕ). IsDeep why 100 d) (target_deep e t is) deep
+
+pub del_refused : (behind : List Token) (stop : Stop) → Refused expr_part 100 behind stop → RefusedBehindAny 12 behind stop
+del_refused behind stop is = record {
+  there = λ around spot.
+      refused_part around expr_part 100 (token (Keyword 12) spot ∷ []) behind (token (Keyword 12) spot ∷ behind) stop (del_turn spot) refl
+      (del_begins spot) (λ more first. del_turns spot more) (λ why n e left deep. only_whole _ (del_of spot) n e left (del_deep why spot e deep)) is;
+}
+
+-- the expression was read, and is none that can be deleted
+del_stops : (wrong : Pos) (behind after : List Token) (part : Part) → (f : Found expr_part expr_tree 7 100 behind part after)
+    → ((around : Around) (spot : Spot) → Only (IsAmiss around (Here (Unsupported wrong))) (leaving_none (del_of spot f.written))) → RefusedBehindAny 12 behind (Here (Unsupported wrong))
+del_stops wrong behind after part f amiss = record { there = λ around spot. by around spot after refl }
+  where
+    begins : (spot : Spot) → BeginsSimple (token (Keyword 12) spot ∷ expr_tokens f.written)
+    begins spot = del_begins spot (expr_tokens f.written) (record { some = f.written; more = []; tokens_are = sym (append-nil (expr_tokens f.written)) })
+
+    by : (around : Around) (spot : Spot) (rest : List Token) → after ≡ rest → SimpleRefused around (token (Keyword 12) spot ∷ behind) (Here (Unsupported wrong))
+    by around spot [] is = inr (subst (λ (ts : List Token). SimpleEnds around (token (Keyword 12) spot ∷ ts) (Here (Unsupported wrong))) (sym (expr_all f is))
+        (record {
+          begins = begins spot;
+          none = record {
+            steps = (expr_reads f.written).steps;
+            only = λ n. only_is _ _ _ (ap leaving_none (ap (λ o. option_map (del spot) (option_and_then expr_target (whole o)))
+                (ap (read_expr (n + (expr_reads f.written).steps)) (sym (append-nil (expr_tokens f.written))) ∙ (expr_reads f.written).reads n [] (omega arith)))) (amiss around spot);
+          };
+        }))
+    by around spot (t ∷ ts) is = inl (record {
+      front = token (Keyword 12) spot ∷ expr_tokens f.written;
+      shown_by = t;
+      behind = ts;
+      before_is = ap (λ us. token (Keyword 12) spot ∷ us) (f.before_is ∙ ap (λ us. expr_tokens f.written ++ us) is);
+      place_is = tt;
+      begins = begins spot;
+      none = λ more. none_found _ _ (turned_none expr_part _ (expr_tokens f.written ++ t ∷ more) (t ∷ more) (del_turn spot) f.written (expr_reads f.written).steps (del_turns spot _) (expr_goes f t ts more is) (λ n. refl));
+    })
+
+no_form : (o : Option OneTarget) → is_form o ≡ false → o ≡ None
+no_form None is = refl
+no_form (Some t) is = cc
+
+a_form : (o : Option OneTarget) → is_form o ≡ true → (t : OneTarget) × (o ≡ Some t)
+a_form None is = absurd (let no : false ≡ true = is in cc)
+a_form (Some t) is = (t, refl)
+
+pub del_wrong : (wrong : Pos) (behind after : List Token) (part : Part) → Found expr_part expr_tree 7 100 behind part after → is_none part.wrong ≡ false → RefusedBehindAny 12 behind (Here (Unsupported wrong))
+del_wrong wrong behind after part f other = del_stops wrong behind after part f
+    (λ around spot. only_is _ _ None (ap (λ o. leaving_none (option_map (del spot) o)) (no_form _ (sym f.form_is ∙ other))) tt)
+
+pub del_attribute : (dot : Pos) (e : ExprTree) (name : List ℕ) (behind after : List Token) (part : Part) → Found expr_part expr_tree 7 100 behind part after → is_none part.wrong ≡ true
+    → expr_of part.expr ≡ attr_expr dot e name → RefusedBehindAny 12 behind (Here (Unsupported dot))
+del_attribute dot e name behind after part f fine tree = del_stops dot behind after part f
+    (λ around spot. only_is _ _ (Some (del spot t.0, [])) (ap (λ o. leaving_none (option_map (del spot) o)) t.1) (ap may_go stays))
+  where
+    t : (t : OneTarget) × (expr_target f.written ≡ Some t)
+    t = a_form (expr_target f.written) (sym f.form_is ∙ fine)
+
+    stays : one_target_tree t.0 ≡ field_target dot e name
+    stays = same_Some _ _ (sym (target_tree_is f.written t.0 t.1) ∙ ap target_form (sym f.tree_is ∙ tree))
+
+-- the target that the expression is
+pub del_target : {behind after : List Token} {part : Part} → (f : Found expr_part expr_tree 7 100 behind part after) → is_none part.wrong ≡ true → (t : OneTarget) × (expr_target f.written ≡ Some t)
+del_target f fine = a_form (expr_target f.written) (sym f.form_is ∙ fine)
+
+pub del_is_target : (behind after : List Token) (part : Part) → Found expr_part expr_tree 7 100 behind part after → is_none part.wrong ≡ true → is_some (target_form (expr_of part.expr)) ≡ true
+del_is_target behind after part f fine = let t = del_target f fine in ap (λ e. is_some (target_form e)) f.tree_is ∙ ap is_some (target_tree_is f.written t.0 t.1)
+
+pub del_more : (behind after : List Token) (part : Part) (stop : Stop) → Found expr_part expr_tree 7 100 behind part after → is_none part.wrong ≡ true → IsMore after stop → RefusedBehindAny 12 behind stop
+del_more behind after part stop f fine more = let t = del_target f fine in record {
+  there = λ around spot.
+      ended around (token (Keyword 12) spot ∷ expr_tokens f.written) after (token (Keyword 12) spot ∷ behind) stop (del spot t.0) (ap (λ ts. token (Keyword 12) spot ∷ ts) f.before_is)
+      (ap (λ ts. token (Keyword 12) spot ∷ ts) (sym (target_spelled f.written t.0 t.1))) more
+      (λ t ts rest is. turned_none expr_part _ (expr_tokens f.written ++ t ∷ rest) (t ∷ rest) (del_turn spot) f.written (expr_reads f.written).steps (del_turns spot _) (expr_goes f t ts rest is) (λ n. refl));
+}
+
+goes : (t : OneTarget) (e : Expr) → expr_target e ≡ Some t → is_attr_tree (expr_tree e) ≡ false → may_go (one_target_tree t) ≡ true
+goes (named at bytes) e is other = refl
+goes (item p opening index closing) e is other = refl
+goes (field p dot name_at bytes) e is other = let no : true ≡ false = sym (ap (λ e. is_attr_tree (expr_tree e)) (target_is e (field p dot name_at bytes) is)) ∙ other in cc
+
+pub del_found : (behind after : List Token) (part : Part) (target : BuiltTarget) (form : Form) → Found expr_part expr_tree 7 100 behind part after → is_none part.wrong ≡ true → is_attr_tree (expr_of part.expr) ≡ false
+    → target_form (expr_of part.expr) ≡ Some (target_of target) → after ≡ [] → form_of form ≡ del_form (target_of target) → FoundBehindAny 12 behind form
+del_found behind after part target form f fine other built is tree around spot =
+    let t = del_target f fine in
+    record {
+      written = del spot t.0;
+      before_is = ap (λ ts. token (Keyword 12) spot ∷ ts) (expr_all f is ∙ target_spelled f.written t.0 t.1);
+      tree_is = tree ∙ ap del_form (same_Some _ _ (sym built ∙ ap target_form f.tree_is ∙ target_tree_is f.written t.0 t.1));
+      fits = let high = f.height_is in let low = f.fits in let same = target_deep f.written t.0 t.1 in omega (arith, high, low, same);
+      stands = goes t.0 f.written t.1 (ap is_attr_tree (sym f.tree_is) ∙ other);
+    }

@@ -1,0 +1,379 @@
+-- What the parser answers of the tokens of a line: a simple statement, or what begins a compound one or a part of it. No
+-- public clause speaks of it.
+use Rattle.std.specs.Prelude.{◌≡◌, ⊤, ◌⊎◌, ℕ, ◌+◌, ◌<◌, ◌≤◌, max, Bool, true, false, ◌&&◌, ◌||◌, not, ◌==◌, List, [], ◌∷◌, ◌++◌, length, Option, Some, None, option_map, is_some, is_none, if◌then◌else◌}
+use Rattle.prov_base.specs.declared.place.Pos.{Pos}
+use Rattle.py_lines.specs.declared.parts.Token.{Token}
+use Rattle.py_lines.specs.declared.parts.TokenKind.{TokenKind}
+use Rattle.py_lines.specs.declared.parts.TokenKind.TheVariants.{Keyword, Text}
+use Rattle.py_tree.specs.declared.stmt.Form.{Form}
+use Rattle.py_tree.specs.declared.stmt.Bound.{Bound}
+use Rattle.py_tree.specs.declared.stmt.Globals.{Globals}
+use Rattle.py_tree.specs.Erasure.{expr_of, target_of, form_of}
+use Rattle.py_grammar.specs.declared.context.Context.{Context as Standing}
+use Rattle.py_grammar.specs.declared.context.Last.{Last}
+use Rattle.py_grammar.specs.declared.context.Last.TheVariants.{Nothing, Loop, If as AfterIf, Try as AfterTry, Handler, Every}
+use Rattle.py_grammar.specs.declared.fault.ParseFault.{ParseFault}
+use Rattle.py_grammar.specs.declared.fault.ParseFault.TheVariants.{Unexpected, Unsupported, TooDeep, TooMany, Memory}
+use Rattle.py_grammar.specs.declared.fault.Stop.{Stop}
+use Rattle.py_grammar.specs.declared.fault.Stop.TheVariants.{Here, End}
+use Rattle.py_grammar.specs.declared.head.What.{What}
+use Rattle.py_grammar.specs.declared.head.What.TheVariants.{Simple as SimpleIs, If, Elif, Else, While, For, Try, Except, With, Def, Class, Global}
+use Rattle.py_grammar.specs.declared.head.LineHead.{LineHead}
+use Rattle.py_grammar.specs.declared.head.Behind.{Behind}
+use Rattle.py_grammar.specs.Concrete.{Spot, Expr, Exprs}
+use Rattle.py_grammar.specs.Tokens.{token, expr_tokens}
+use Rattle.py_grammar.specs.Trees.{expr_tree, exprs_tree}
+use Rattle.py_grammar.specs.Written.{Simple, Names, Params, Naming, Kind, Base, Target}
+use Rattle.py_grammar.specs.StatementTokens.{simple_tokens, target_tokens, names_tokens, params_tokens, naming_tokens, kind_tokens, base_tokens}
+use Rattle.py_grammar.specs.StatementTrees.{simple_form, target_tree, names_list, params_list, naming_bound, kind_class, kind_bound, base_tree}
+use Rattle.py_grammar.specs.Depth.{expr_depth, exprs_depth, simple_depth, target_depth, kind_depth}
+use Rattle.py_grammar.specs.WellPlaced.{Around, in_suite, in_loop_suite, in_handler_suite, in_def_suite, in_class_suite, simple_stands, def_stands, none_given, are_alone}
+use Rattle.py_grammar.specs.LineReader.{Head, simple_head, if_head, elif_head, else_head, while_head, for_head, try_head, except_head, with_head, def_head, class_head, global_head, behind_tokens, colon_tokens, head_tokens, read_colon, read_head, read_target, read_names, read_params, read_naming, read_kind, read_base}
+use Rattle.py_grammar.specs.Parsed.{Production, Begins, IsMemory}
+use Rattle.py_grammar.specs.ParsedRows.{first_token, IsRead}
+use Rattle.py_grammar.specs.ParsedSimple.{around_of, leaving_none, BeginsSimple, MayName}
+
+-- ---- the parts of a line
+
+abbrev pub target_part : Production Target
+target_part = record { tokens = target_tokens; depth = target_depth; form = λ _. false; read = read_target }
+
+abbrev pub names_part : Production Names
+names_part = record { tokens = names_tokens; depth = λ _. 0; form = λ _. false; read = read_names }
+
+abbrev pub params_part : Production Params
+params_part = record { tokens = params_tokens; depth = λ _. 0; form = λ _. false; read = read_params }
+
+abbrev pub naming_part : Production Naming
+naming_part = record { tokens = naming_tokens; depth = λ _. 0; form = λ _. false; read = λ _ ts. read_naming ts }
+
+abbrev pub kind_part : Production Kind
+kind_part = record { tokens = kind_tokens; depth = kind_depth; form = λ _. false; read = read_kind }
+
+abbrev pub base_part : Production Base
+base_part = record { tokens = base_tokens; depth = λ _. 0; form = λ _. false; read = λ _ ts. read_base ts }
+
+abbrev pub head_part : Production Head
+head_part = record { tokens = head_tokens; depth = λ _. 0; form = λ _. false; read = λ n ts. leaving_none (read_head n ts) }
+
+-- such a part was read, which is this
+pub record Took {A V : Type 0} (p : Production A) (view : A → V) (before : List Token) (value : V) (after : List Token) : Type 0 where
+  pub written : A
+  pub before_is : before ≡ p.tokens written ++ after
+  pub value_is : value ≡ view written
+  pub fits : p.depth written ≤ 100
+  pub is_read : IsRead p written after
+
+-- ---- where a line stands
+
+-- what is asked of a line beside the grammar: where it stands, which part of the statement before it at the same
+-- indentation may follow, whether a `global` line may stand there
+pub record Context : Type 0 where
+  pub around : Around
+  pub last : Last
+  pub may_declare : Bool
+
+abbrev pub context_of : Standing → Context
+context_of c = record { around = around_of c.around; last = c.last; may_declare = c.may_declare }
+
+abbrev pub takes_branch : Last → Bool
+takes_branch AfterIf = true
+takes_branch last = false
+
+abbrev pub takes_handler : Last → Bool
+takes_handler AfterTry = true
+takes_handler Handler = true
+takes_handler last = false
+
+abbrev pub lacks_handler : Last → Bool
+lacks_handler AfterTry = true
+lacks_handler last = false
+
+-- a statement may begin with this keyword there, or a part of one
+abbrev pub word_may : Context → ℕ → Bool
+word_may c n =
+    if (n == 13) || (n == 14) then takes_branch c.last
+    else (if n == 15 then takes_handler c.last
+    else (not (lacks_handler c.last) && (if n == 19 then c.may_declare
+    else (if n == 11 then c.around.at_module_level || c.around.in_class
+    else (if n == 9 then c.around.at_module_level
+    else not c.around.in_class)))))
+
+-- the suite of what begins with this keyword
+abbrev pub inner_around : ℕ → Around → Around
+inner_around n around =
+    if (n == 32) || (n == 17) then in_loop_suite around
+    else (if n == 15 then in_handler_suite around
+    else (if n == 11 then in_def_suite
+    else (if n == 9 then in_class_suite else in_suite around)))
+
+abbrev pub behind_stands : Around → Option Simple → Bool
+behind_stands around None = true
+behind_stands around (Some s) = simple_stands around s
+
+-- A line may stand there. Of a `def` this speaks of its name and parameters too, and of a `global` line of its names.
+abbrev pub head_stands : Context → List (List ℕ) → Head → Bool
+head_stands c given (simple_head s) = not (lacks_handler c.last) && simple_stands c.around s
+head_stands c given (if_head at test colon behind) = word_may c 20 && behind_stands (in_suite c.around) behind
+head_stands c given (elif_head at test colon behind) = word_may c 13 && behind_stands (in_suite c.around) behind
+head_stands c given (else_head at colon behind) = word_may c 14 && behind_stands (in_suite c.around) behind
+head_stands c given (while_head at test colon behind) = word_may c 32 && behind_stands (in_loop_suite c.around) behind
+head_stands c given (for_head at t in_word e colon behind) = word_may c 17 && behind_stands (in_loop_suite c.around) behind
+head_stands c given (try_head at colon behind) = word_may c 31 && behind_stands (in_suite c.around) behind
+head_stands c given (except_head at kind colon behind) = word_may c 15 && behind_stands (in_handler_suite c.around) behind
+head_stands c given (with_head at e called colon behind) = word_may c 33 && behind_stands (in_suite c.around) behind
+head_stands c given (def_head at name_at bytes opening names closing colon behind) = word_may c 11 && def_stands c.around bytes (params_list names) && behind_stands in_def_suite behind
+head_stands c given (class_head at name_at bytes of colon behind) = word_may c 9 && behind_stands in_class_suite behind
+head_stands c given (global_head at names) = word_may c 19 && none_given given (names_list names)
+
+abbrev pub behind_depth : Option Simple → ℕ
+behind_depth None = 0
+behind_depth (Some s) = simple_depth s
+
+-- the deepest expression of a line
+abbrev pub head_depth : Head → ℕ
+head_depth (simple_head s) = simple_depth s
+head_depth (if_head at test colon behind) = max (expr_depth test) (behind_depth behind)
+head_depth (elif_head at test colon behind) = max (expr_depth test) (behind_depth behind)
+head_depth (else_head at colon behind) = max 0 (behind_depth behind)
+head_depth (while_head at test colon behind) = max (expr_depth test) (behind_depth behind)
+head_depth (for_head at t in_word e colon behind) = max (max (target_depth t) (exprs_depth e)) (behind_depth behind)
+head_depth (try_head at colon behind) = max 0 (behind_depth behind)
+head_depth (except_head at kind colon behind) = max (kind_depth kind) (behind_depth behind)
+head_depth (with_head at e called colon behind) = max (expr_depth e) (behind_depth behind)
+head_depth (def_head at name_at bytes opening names closing colon behind) = max 0 (behind_depth behind)
+head_depth (class_head at name_at bytes of colon behind) = max 1 (behind_depth behind)
+head_depth (global_head at names) = 0
+
+-- the statement behind the `:`
+abbrev pub behind_in : Head → Option Simple
+behind_in (simple_head s) = None
+behind_in (if_head at test colon behind) = behind
+behind_in (elif_head at test colon behind) = behind
+behind_in (else_head at colon behind) = behind
+behind_in (while_head at test colon behind) = behind
+behind_in (for_head at t in_word e colon behind) = behind
+behind_in (try_head at colon behind) = behind
+behind_in (except_head at kind colon behind) = behind
+behind_in (with_head at e called colon behind) = behind
+behind_in (def_head at name_at bytes opening names closing colon behind) = behind
+behind_in (class_head at name_at bytes of colon behind) = behind
+behind_in (global_head at names) = None
+
+-- ---- what was read
+
+-- the line begins this
+abbrev pub IsWhat : What → Head → Type 0
+IsWhat (SimpleIs form) (simple_head s) = form_of form ≡ simple_form s
+IsWhat (If e) (if_head at test colon behind) = expr_of e ≡ expr_tree test
+IsWhat (Elif e) (elif_head at test colon behind) = expr_of e ≡ expr_tree test
+IsWhat Else (else_head at colon behind) = ⊤
+IsWhat (While e) (while_head at test colon behind) = expr_of e ≡ expr_tree test
+IsWhat (For target e) (for_head at t in_word items colon behind) = (target_of target ≡ target_tree t) × (expr_of e ≡ exprs_tree items)
+IsWhat Try (try_head at colon behind) = ⊤
+IsWhat (Except class bound) (except_head at kind colon behind) = (option_map expr_of class ≡ kind_class kind) × (bound ≡ kind_bound kind)
+IsWhat (With e bound) (with_head at value called colon behind) = (expr_of e ≡ expr_tree value) × (bound ≡ naming_bound called)
+IsWhat (Def name params) (def_head at name_at bytes opening names closing colon behind) = (name ≡ bytes) × (params.list.items ≡ params_list names)
+IsWhat (Class name base) (class_head at name_at bytes of colon behind) = (name ≡ bytes) × (option_map expr_of base ≡ base_tree of)
+IsWhat (Global names) (global_head at written) = names.list.items ≡ names_list written
+IsWhat what head = ⊥
+
+-- the statement behind the `:`, with the place and the first byte of its first token
+abbrev pub begins_at : List Token → Pos → ℕ → Type 0
+begins_at [] at from = ⊥
+begins_at (t ∷ ts) at from = (at ≡ t.at) × (from ≡ t.span.from)
+
+pub record IsThere (b : Behind) (s : Simple) : Type 0 where
+  pub form_is : form_of b.form ≡ simple_form s
+  pub begins : begins_at (simple_tokens s) b.at b.from
+
+abbrev pub IsBehind : Option Behind → Option Simple → Type 0
+IsBehind None None = ⊤
+IsBehind (Some b) (Some s) = IsThere b s
+IsBehind b s = ⊥
+
+-- a simple statement that all the tokens are, and that stands there
+pub record PlacedFound (around : Around) (before : List Token) (form : Form) : Type 0 where
+  pub written : Simple
+  pub before_is : before ≡ simple_tokens written
+  pub tree_is : form_of form ≡ simple_form written
+  pub fits : simple_depth written ≤ 100
+  pub stands : simple_stands around written ≡ true
+
+-- what stands behind a `:`, where none may stand if it would be one too many or lie too deep
+pub record BehindFound (around : Around) (limited : Bool) (before : List Token) (behind : Option Behind) : Type 0 where
+  pub written : Option Simple
+  pub before_is : before ≡ behind_tokens written
+  pub what_is : IsBehind behind written
+  pub fits : behind_depth written ≤ 100
+  pub stands : behind_stands around written ≡ true
+  pub within : limited ≡ true → written ≡ None
+
+-- a line that may stand there
+pub record HeadFound (c : Context) (given : List (List ℕ)) (limited : Bool) (before : List Token) (line : LineHead) : Type 0 where
+  pub written : Head
+  pub before_is : before ≡ head_tokens written
+  pub what_is : IsWhat line.what written
+  pub behind_is : IsBehind line.behind (behind_in written)
+  pub fits : head_depth written ≤ 100
+  pub stands : head_stands c given written ≡ true
+  pub within : limited ≡ true → behind_in written ≡ None
+
+-- What begins a line up to its `:` was read: every line with these tokens is this one. `word` is its keyword.
+pub record Opening (c : Context) (word : ℕ) (before : List Token) (what : What) (after : List Token) : Type 0 where
+  pub front : List Token
+  pub made : Spot → Option Simple → Head
+  pub before_is : before ≡ front ++ after
+  pub tokens_are : (colon : Spot) (behind : Option Simple) → head_tokens (made colon behind) ≡ front ++ colon_tokens colon behind
+  pub steps : ℕ
+  pub left : ℕ
+  pub reads : (n : ℕ) (more : List Token) → first_token more ≡ first_token after → read_head (n + steps) (front ++ more) ≡ read_colon (n + left) made more
+  pub what_is : (colon : Spot) (behind : Option Simple) → IsWhat what (made colon behind)
+  pub behind_is : (colon : Spot) (behind : Option Simple) → behind_in (made colon behind) ≡ behind
+  pub depth : ℕ
+  pub low : depth ≤ 100
+  pub depth_is : (colon : Spot) (behind : Option Simple) → head_depth (made colon behind) ≡ max depth (behind_depth behind)
+  pub stands : (given : List (List ℕ)) (colon : Spot) (behind : Option Simple) → head_stands c given (made colon behind) ≡ word_may c word && behind_stands (inner_around word c.around) behind
+
+-- ---- what is refused
+
+-- What has these tokens all the same: with TooDeep and TooMany what passes a limit, else what does not stand there.
+abbrev pub IsAmissPlaced : Around → (limited : Bool) → Stop → Simple → Type 0
+IsAmissPlaced around limited (Here (TooDeep at)) s = (100 < simple_depth s) ⊎ (limited ≡ true)
+IsAmissPlaced around limited (Here (TooMany at)) s = limited ≡ true
+IsAmissPlaced around limited (Here (Unexpected at)) s = simple_stands around s ≡ false
+IsAmissPlaced around limited (Here (Unsupported at)) s = simple_stands around s ≡ false
+IsAmissPlaced around limited stop s = ⊥
+
+abbrev pub passes : (limited : Bool) → Head → Type 0
+passes limited h = (limited ≡ true) × (is_some (behind_in h) ≡ true)
+
+abbrev pub IsAmissHead : Context → List (List ℕ) → (limited : Bool) → Stop → Head → Type 0
+IsAmissHead c given limited (Here (TooDeep at)) h = (100 < head_depth h) ⊎ passes limited h
+IsAmissHead c given limited (Here (TooMany at)) h = passes limited h
+IsAmissHead c given limited (Here (Unexpected at)) h = head_stands c given h ≡ false
+IsAmissHead c given limited (Here (Unsupported at)) h = head_stands c given h ≡ false
+IsAmissHead c given limited stop h = ⊥
+
+-- Unexpected and TooMany name this place; Unsupported and TooDeep may name an earlier one.
+abbrev pub MayNameLine : Pos → ParseFault → Type 0
+MayNameLine at (Unexpected place) = place ≡ at
+MayNameLine at (TooMany place) = place ≡ at
+MayNameLine at (Unsupported place) = ⊤
+MayNameLine at (TooDeep place) = ⊤
+MayNameLine at fault = ⊥
+
+-- tokens that begin a line, and then the first tokens of an expression, which is read before it is asked whether it is a target
+pub record BeginsReading (front : List Token) : Type 0 where
+  pub opened : List Token
+  pub begins : Begins head_part opened
+  pub some : Expr
+  pub more : List Token
+  pub tokens_are : opened ++ expr_tokens some ≡ front ++ more
+
+abbrev pub BeginsHead : List Token → Type 0
+BeginsHead front = Begins head_part front ⊎ BeginsReading front
+
+-- The tokens before this one begin what is asked for, and those up to and with it begin nothing that may stand there.
+pub record ShownBy {A : Type 0} (begins : List Token → Type 0) (tokens : A → List Token) (amiss : ParseFault → A → Type 0) (before : List Token) (fault : ParseFault) : Type 0 where
+  pub front : List Token
+  pub shown_by : Token
+  pub behind : List Token
+  pub before_is : before ≡ front ++ shown_by ∷ behind
+  pub place_is : MayNameLine shown_by.at fault
+  pub begun : begins front
+  pub none : (a : A) (more : List Token) → tokens a ≡ front ++ shown_by ∷ more → amiss fault a
+
+-- The tokens begin what is asked for, and are nothing that may stand there.
+pub record EndedBy {A : Type 0} (begins : List Token → Type 0) (tokens : A → List Token) (amiss : A → Type 0) (before : List Token) : Type 0 where
+  pub begun : begins before
+  pub none : (a : A) → tokens a ≡ before → amiss a
+
+-- nothing was read that may stand there
+abbrev pub LineRefused : {A : Type 0} → (List Token → Type 0) → (A → List Token) → (Stop → A → Type 0) → List Token → Stop → Type 0
+LineRefused begins tokens amiss before (Here Memory) = ⊤
+LineRefused begins tokens amiss before (Here (Unsupported at)) =
+    ShownBy begins tokens (λ fault a. amiss (Here fault) a) before (Unsupported at) ⊎ EndedBy begins tokens (amiss (Here (Unsupported at))) before
+LineRefused begins tokens amiss before (Here fault) = ShownBy begins tokens (λ fault a. amiss (Here fault) a) before fault
+LineRefused begins tokens amiss before End = EndedBy begins tokens (amiss End) before
+
+abbrev pub PlacedRefused : Around → (limited : Bool) → List Token → Stop → Type 0
+PlacedRefused around limited before stop = LineRefused BeginsSimple simple_tokens (IsAmissPlaced around limited) before stop
+
+-- what stands behind a `:` is refused: something does stand there
+pub record BehindRefused (around : Around) (limited : Bool) (before : List Token) (stop : Stop) : Type 0 where
+  pub placed : PlacedRefused around limited before stop
+  pub some : before ≡ [] → ⊥
+
+abbrev pub HeadRefused : Context → List (List ℕ) → (limited : Bool) → List Token → Stop → Type 0
+HeadRefused c given limited before stop = LineRefused BeginsHead head_tokens (IsAmissHead c given limited) before stop
+
+-- behind this keyword
+abbrev pub OpeningFound : Context → ℕ → List Token → What → List Token → Type 0
+OpeningFound c word before what after = (spot : Spot) → Opening c word (token (Keyword word) spot ∷ before) what after
+
+pub record OpeningRefused (c : Context) (word : ℕ) (before : List Token) (stop : Stop) : Type 0 where
+  pub there : (given : List (List ℕ)) (limited : Bool) (spot : Spot) → HeadRefused c given limited (token (Keyword word) spot ∷ before) stop
+
+-- such a token may be all that stands in a class: a text with nothing behind it, or `pass`
+abbrev pub may_be_alone : TokenKind → List Token → Bool
+may_be_alone (Text bytes) behind = length behind == 0
+may_be_alone (Keyword n) behind = n == 28
+may_be_alone kind behind = false
+
+-- `def`, `class`, `global`: no simple statement begins so
+abbrev pub is_refused_kind : TokenKind → Bool
+is_refused_kind (Keyword n) = (n == 11) || (n == 9) || (n == 19)
+is_refused_kind kind = false
+
+-- a limit is named at this place
+abbrev pub IsLimit : Pos → ParseFault → Type 0
+IsLimit at (TooMany place) = place ≡ at
+IsLimit at (TooDeep place) = place ≡ at
+IsLimit at fault = ⊥
+
+abbrev pub is_text_kind : TokenKind → Bool
+is_text_kind (Text bytes) = true
+is_text_kind kind = false
+
+-- what may not stand in a class is refused at its first token; a text always as a refused form
+abbrev pub IsRefusedInClass : List Token → Stop → Type 0
+IsRefusedInClass [] stop = stop ≡ End
+IsRefusedInClass (t ∷ ts) (Here (Unexpected place)) = (place ≡ t.at) × (is_text_kind t.kind ≡ false)
+IsRefusedInClass (t ∷ ts) (Here (Unsupported place)) = place ≡ t.at
+IsRefusedInClass (t ∷ ts) stop = ⊥
+
+-- no line may stand there that begins with the next token
+pub record Misplaced (c : Context) (before : List Token) (stop : Stop) : Type 0 where
+  pub there : (given : List (List ℕ)) (limited : Bool) → HeadRefused c given limited before stop
+
+-- the names behind the keyword of a `global` line, of which none is given
+pub record GlobalFound (given : List (List ℕ)) (before : List Token) (names : Globals) : Type 0 where
+  pub written : Names
+  pub before_is : before ≡ names_tokens written
+  pub names_are : names.list.items ≡ names_list written
+  pub none : none_given given (names_list written) ≡ true
+
+pub record GlobalRefused (given : List (List ℕ)) (before : List Token) (stop : Stop) : Type 0 where
+  pub there : (c : Context) (limited : Bool) (spot : Spot) → HeadRefused c given limited (token (Keyword 19) spot ∷ before) stop
+
+-- a keyword with which a compound statement, a part of one or a `global` line begins
+abbrev pub is_compound : ℕ → Bool
+is_compound n = (n == 9) || (n == 11) || (n == 13) || (n == 14) || (n == 15) || (n == 17) || (n == 19) || (n == 20) || (n == 31) || (n == 32) || (n == 33)
+
+abbrev pub is_compound_kind : TokenKind → Bool
+is_compound_kind (Keyword n) = is_compound n
+is_compound_kind kind = false
+
+abbrev pub begins_compound : List Token → Bool
+begins_compound [] = false
+begins_compound (t ∷ ts) = is_compound_kind t.kind
+
+-- the first token may stand there
+abbrev pub kind_may : Context → TokenKind → Bool
+kind_may c (Keyword n) = if is_compound n then word_may c n else not (lacks_handler c.last)
+kind_may c kind = not (lacks_handler c.last)
+
+abbrev pub may_begin : Context → List Token → Bool
+may_begin c [] = true
+may_begin c (t ∷ ts) = kind_may c t.kind

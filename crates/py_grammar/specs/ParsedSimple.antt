@@ -1,0 +1,193 @@
+-- What the parser answers of the tokens of a simple statement. No public clause speaks of it.
+use Rattle.std.specs.Prelude.{◌≡◌, ⊤, ◌⊎◌, ℕ, ◌<◌, ◌≤◌, Bool, true, false, ◌||◌, ◌==◌, List, [], ◌∷◌, ◌++◌, Option, Some, None, option_map, option_and_then, is_some, is_none}
+use Rattle.prov_base.specs.declared.place.Pos.{Pos}
+use Rattle.py_lines.specs.declared.parts.Token.{Token}
+use Rattle.py_lines.specs.declared.parts.TokenKind.{TokenKind}
+use Rattle.py_lines.specs.declared.parts.TokenKind.TheVariants.{Keyword, Sign}
+use Rattle.py_tree.specs.declared.expr.BinOp.{BinOp}
+use Rattle.py_tree.specs.declared.stmt.Form.{Form}
+use Rattle.py_tree.specs.Tree.{ExprTree, ExprsTree, TargetTree, TargetsTree, var_expr, attr_expr, part_expr, tuple_expr, end_exprs, more_exprs, var_target, part_target, field_target, many_target, end_targets, more_targets}
+use Rattle.py_tree.specs.Erasure.{expr_of, form_of}
+use Rattle.py_grammar.specs.declared.around.Around.{Around as Standing}
+use Rattle.py_grammar.specs.declared.fault.ParseFault.{ParseFault}
+use Rattle.py_grammar.specs.declared.fault.ParseFault.TheVariants.{Unexpected, Unsupported, TooDeep, Memory}
+use Rattle.py_grammar.specs.declared.fault.Stop.{Stop}
+use Rattle.py_grammar.specs.declared.fault.Stop.TheVariants.{Here, End}
+use Rattle.py_grammar.specs.declared.part.Part.{Part}
+use Rattle.py_grammar.specs.Concrete.{Spot, Expr, Exprs}
+use Rattle.py_grammar.specs.Trees.{exprs_tree}
+use Rattle.py_grammar.specs.Written.{AugSign, Simple}
+use Rattle.py_grammar.specs.Tokens.{token, sign, expr_tokens}
+use Rattle.py_grammar.specs.StatementTokens.{aug_sign, simple_tokens}
+use Rattle.py_grammar.specs.StatementTrees.{aug_op, simple_form}
+use Rattle.py_grammar.specs.Depth.{simple_depth}
+use Rattle.py_grammar.specs.WellPlaced.{Around, form_stands}
+use Rattle.py_grammar.specs.Reader.{Read}
+use Rattle.py_grammar.specs.StatementReader.{aug_sign_of, exprs_target, read_simple}
+use Rattle.py_grammar.specs.Parsed.{Production, Finds, Begins, Taken, FoundRow}
+
+-- where the code is, in the words of the grammar
+abbrev pub around_of : Standing → Around
+around_of a = record { at_module_level = a.at_module_level; in_class = a.in_class; in_function = a.in_function; in_loop = a.in_loop; in_handler = a.in_handler }
+
+-- a reader of all tokens, as one that leaves none
+abbrev pub leaving_none : {A : Type 0} → Option A → Read A
+leaving_none None = None
+leaving_none (Some value) = Some (value, [])
+
+abbrev pub simple_part : Production Simple
+simple_part = record { tokens = simple_tokens; depth = simple_depth; form = λ _. false; read = λ n ts. leaving_none (read_simple n ts) }
+
+-- ---- what is read
+
+-- a simple statement that all the tokens are, and that stands there
+pub record SimpleFound (around : Around) (before : List Token) (form : Form) : Type 0 where
+  pub written : Simple
+  pub before_is : before ≡ simple_tokens written
+  pub tree_is : form_of form ≡ simple_form written
+  pub fits : simple_depth written ≤ 100
+  pub stands : form_stands around (simple_form written) ≡ true
+
+-- ---- what is refused
+
+-- What is read all the same where reading stopped: with TooDeep what goes too deep, else what does not stand there.
+abbrev pub IsAmiss : Around → Stop → Simple → Type 0
+IsAmiss around (Here (TooDeep at)) s = 100 < simple_depth s
+IsAmiss around (Here (Unexpected at)) s = form_stands around (simple_form s) ≡ false
+IsAmiss around (Here (Unsupported at)) s = form_stands around (simple_form s) ≡ false
+IsAmiss around stop s = ⊥
+
+-- Unexpected names this place; Unsupported and TooDeep may name an earlier one
+abbrev pub MayName : Pos → ParseFault → Type 0
+MayName at (Unexpected place) = place ≡ at
+MayName at (Unsupported place) = ⊤
+MayName at (TooDeep place) = ⊤
+MayName at fault = ⊥
+
+-- `del` and the first tokens of an expression, which is read before it is asked whether it is a target
+pub record BeginsDel (front : List Token) : Type 0 where
+  pub spot : Spot
+  pub some : Expr
+  pub more : List Token
+  pub tokens_are : token (Keyword 12) spot ∷ expr_tokens some ≡ front ++ more
+
+abbrev pub BeginsSimple : List Token → Type 0
+BeginsSimple front = Begins simple_part front ⊎ BeginsDel front
+
+-- The tokens before this one begin a simple statement, and those up to and with it begin none that may stand there.
+pub record SimpleShown (around : Around) (before : List Token) (fault : ParseFault) : Type 0 where
+  pub front : List Token
+  pub shown_by : Token
+  pub behind : List Token
+  pub before_is : before ≡ front ++ shown_by ∷ behind
+  pub place_is : MayName shown_by.at fault
+  pub begins : BeginsSimple front
+  pub none : (more : List Token) → Finds (IsAmiss around (Here fault)) simple_part.read (front ++ shown_by ∷ more)
+
+-- The tokens begin a simple statement, and are none that may stand there.
+pub record SimpleEnds (around : Around) (before : List Token) (stop : Stop) : Type 0 where
+  pub begins : BeginsSimple before
+  pub none : Finds (IsAmiss around stop) simple_part.read before
+
+-- no simple statement was read
+abbrev pub SimpleRefused : Around → List Token → Stop → Type 0
+SimpleRefused around before (Here Memory) = ⊤
+SimpleRefused around before (Here (Unsupported at)) = SimpleShown around before (Unsupported at) ⊎ SimpleEnds around before (Here (Unsupported at))
+SimpleRefused around before (Here fault) = SimpleShown around before fault
+SimpleRefused around before End = SimpleEnds around before End
+
+-- behind this keyword
+abbrev pub FoundBehind : ℕ → Around → List Token → Form → Type 0
+FoundBehind word around before form = (spot : Spot) → SimpleFound around (token (Keyword word) spot ∷ before) form
+
+pub record RefusedBehind (word : ℕ) (at : Pos) (around : Around) (before : List Token) (stop : Stop) : Type 0 where
+  pub there : (spot : Spot) → spot.at ≡ at → SimpleRefused around (token (Keyword word) spot ∷ before) stop
+
+-- wherever it stands
+abbrev pub FoundAnywhere : List Token → Form → Type 0
+FoundAnywhere before form = (around : Around) → SimpleFound around before form
+
+pub record RefusedAnywhere (before : List Token) (stop : Stop) : Type 0 where
+  pub there : (around : Around) → SimpleRefused around before stop
+
+-- behind this keyword, wherever it stands
+abbrev pub FoundBehindAny : ℕ → List Token → Form → Type 0
+FoundBehindAny word before form = (around : Around) (spot : Spot) → SimpleFound around (token (Keyword word) spot ∷ before) form
+
+pub record RefusedBehindAny (word : ℕ) (before : List Token) (stop : Stop) : Type 0 where
+  pub there : (around : Around) (spot : Spot) → SimpleRefused around (token (Keyword word) spot ∷ before) stop
+
+-- a keyword of a simple statement: `assert`, `break`, `continue`, `del`, `import`, `pass`, `raise`, `return`
+abbrev pub is_word : ℕ → Bool
+is_word n = (n == 5) || (n == 8) || (n == 10) || (n == 12) || (n == 21) || (n == 28) || (n == 29) || (n == 30)
+
+abbrev pub is_word_kind : TokenKind → Bool
+is_word_kind (Keyword n) = is_word n
+is_word_kind kind = false
+
+abbrev pub begins_word : List Token → Bool
+begins_word [] = false
+begins_word (t ∷ ts) = is_word_kind t.kind
+
+-- something stands there, and this refuses it
+abbrev pub IsMore : List Token → Stop → Type 0
+IsMore [] stop = ⊥
+IsMore (t ∷ ts) (Here (Unexpected place)) = place ≡ t.at
+IsMore (t ∷ ts) (Here (Unsupported place)) = place ≡ t.at
+IsMore (t ∷ ts) stop = ⊥
+
+-- ---- behind expressions
+
+abbrev pub aug_sign_next : List Token → Option AugSign
+aug_sign_next [] = None
+aug_sign_next (t ∷ ts) = aug_sign_of t.kind
+
+-- the operator of an augmented assignment was taken
+pub record TakenAug (before : List Token) (at : Pos) (op : BinOp) (after : List Token) : Type 0 where
+  pub which : AugSign
+  pub spot : Spot
+  pub before_is : before ≡ sign (aug_sign which) spot ++ after
+  pub at_is : spot.at ≡ at
+  pub op_is : op ≡ aug_op which
+
+-- expressions in a row were read as this
+pub record IsRow (part : Part) : Type 0 where
+  pub written : Exprs
+  pub tree_is : expr_of part.expr ≡ exprs_tree written
+  pub form_is : is_none part.wrong ≡ is_some (exprs_target written)
+
+-- behind these expressions and `=`
+abbrev pub FoundAfter : Part → List Token → Form → Type 0
+FoundAfter first behind form = (around : Around) (at : Pos) (before middle : List Token) → FoundRow 100 before first middle → Taken (Sign 9) middle at behind → SimpleFound around before form
+
+pub record RefusedAfter (first : Part) (behind : List Token) (stop : Stop) : Type 0 where
+  pub there : (around : Around) (at : Pos) (before middle : List Token) → FoundRow 100 before first middle → Taken (Sign 9) middle at behind → SimpleRefused around before stop
+
+-- behind these expressions and the operator of an augmented assignment
+abbrev pub FoundAfterOp : Part → Pos → BinOp → List Token → Form → Type 0
+FoundAfterOp first at op behind form = (around : Around) (before middle : List Token) → FoundRow 100 before first middle → TakenAug middle at op behind → SimpleFound around before form
+
+pub record RefusedAfterOp (first : Part) (at : Pos) (op : BinOp) (behind : List Token) (stop : Stop) : Type 0 where
+  pub there : (around : Around) (before middle : List Token) → FoundRow 100 before first middle → TakenAug middle at op behind → SimpleRefused around before stop
+
+-- ---- targets
+
+abbrev pub is_tuple_tree : ExprTree → Bool
+is_tuple_tree (tuple_expr at items) = true
+is_tuple_tree e = false
+
+-- the target that has the form of this expression
+abbrev pub target_form : ExprTree → Option TargetTree
+target_form (var_expr at name) = Some (var_target at name)
+target_form (part_expr at e index) = Some (part_target at e index)
+target_form (attr_expr at e name) = Some (field_target at e name)
+target_form _ = None
+
+abbrev pub targets_form : ExprsTree → Option TargetsTree
+targets_form end_exprs = Some end_targets
+targets_form (more_exprs e rest) = option_and_then (λ t. option_map (more_targets t) (targets_form rest)) (target_form e)
+
+-- the same, where a tuple is several targets
+abbrev pub all_target_form : ExprTree → Option TargetTree
+all_target_form (tuple_expr at items) = option_map many_target (targets_form items)
+all_target_form e = target_form e

@@ -1,0 +1,184 @@
+// The tokens of a line that are not read yet.
+ghost use Rattle.std.specs.Prelude.{◌≡◌, false, IfSome, IfNone, IfOk, IfErr};
+ghost use Rattle.py_lines.specs.declared.parts.TokenKind.TheVariants.{Keyword, Sign};
+ghost use Rattle.py_grammar.specs.Parsed.{Taken, is_keyword_next, is_sign_next, IsAtFirst, Refused, one_keyword, one_sign, one_name, TakenName};
+ghost use Rattle.py_grammar.specs.LineReader.{begins_name};
+
+use crate::fault::{ParseFault, Stop};
+use crate::words::{
+    ASSIGN, ASYNC, AWAIT, FINALLY, FOR, FROM, IN, LAMBDA, NONLOCAL, NOT, SEMICOLON, STAR, YIELD,
+};
+use prov_base::{Name, Pos};
+use py_lines::{Token, TokenKind};
+use std::alloc::Global;
+
+/// The innermost bracket that is open.
+#[derive(Clone, Copy, PartialEq, Eq)]
+pub(crate) enum Inside {
+    /// None.
+    Line,
+    /// That of a call or of a parameter list.
+    Call,
+    /// Another one.
+    Bracket,
+}
+
+/// The tokens that are not read yet, and what is remembered to tell faults apart.
+#[derive(Drop)]
+pub(crate) struct Cursor<'a> {
+    pub rest: &'a [Token],
+    pub inside: Inside,
+}
+
+impl<'a> Cursor<'a> {
+    /// The next token is taken where it is this keyword.
+    #[tactic(auto, using(crate::proofs::Taking::taken))]
+    pub(crate) fn take_keyword(&mut self, number: u8) -> Option<Pos>
+        ensures taken { IfSome result (λ at. Taken (Keyword number) self.old.rest.now at self.new.rest.now) }
+        ensures absent { IfNone result (is_keyword_next number self.old.rest.now ≡ false) }
+        ensures kept { IfNone result (self.new.rest.now ≡ self.old.rest.now) }
+    {
+        let (token, rest) = self.rest.split_first()?;
+        match &token.kind {
+            TokenKind::Keyword(found) if *found == number => {
+                self.rest = rest;
+                Some(token.at)
+            }
+            _ => None,
+        }
+    }
+
+    /// The next token is taken where it is this sign.
+    #[tactic(auto, using(crate::proofs::Taking::taken))]
+    pub(crate) fn take_sign(&mut self, number: u8) -> Option<Pos>
+        ensures taken { IfSome result (λ at. Taken (Sign number) self.old.rest.now at self.new.rest.now) }
+        ensures absent { IfNone result (is_sign_next number self.old.rest.now ≡ false) }
+        ensures kept { IfNone result (self.new.rest.now ≡ self.old.rest.now) }
+    {
+        let (token, rest) = self.rest.split_first()?;
+        match &token.kind {
+            TokenKind::Sign(found) if *found == number => {
+                self.rest = rest;
+                Some(token.at)
+            }
+            _ => None,
+        }
+    }
+
+    /// The next token is this keyword, which is taken.
+    #[tactic(auto, using(crate::proofs::Stops::keyword_refused))]
+    pub(crate) fn keyword(&mut self, number: u8) -> Result<Pos, Stop>
+        ensures taken { IfOk result (λ at. Taken (Keyword number) self.old.rest.now at self.new.rest.now) }
+        ensures refused { IfErr result (Refused (one_keyword number) 0 self.old.rest.now) }
+    {
+        match self.take_keyword(number) {
+            Some(at) => Ok(at),
+            None => Err(self.refuse()),
+        }
+    }
+
+    /// The next token is this sign, which is taken.
+    #[tactic(auto, using(crate::proofs::Stops::sign_refused))]
+    pub(crate) fn sign(&mut self, number: u8) -> Result<Pos, Stop>
+        ensures taken { IfOk result (λ at. Taken (Sign number) self.old.rest.now at self.new.rest.now) }
+        ensures refused { IfErr result (Refused (one_sign number) 0 self.old.rest.now) }
+    {
+        match self.take_sign(number) {
+            Some(at) => Ok(at),
+            None => Err(self.refuse()),
+        }
+    }
+
+    /// The next token is taken where it is a name, which is lent.
+    #[tactic(auto, using(crate::proofs::Taking::taken_name))]
+    fn take_name(&mut self) -> Option<(Pos, &'a Name)>
+        ensures taken { IfSome result (λ found. TakenName self.old.rest.now found.0 found.1.now self.new.rest.now) }
+        ensures absent { IfNone result (begins_name self.old.rest.now ≡ false) }
+        ensures kept { IfNone result (self.new.rest.now ≡ self.old.rest.now) }
+    {
+        let (token, rest) = self.rest.split_first()?;
+        match &token.kind {
+            TokenKind::Word(name) => {
+                self.rest = rest;
+                Some((token.at, name))
+            }
+            _ => None,
+        }
+    }
+
+    /// The next token is a name, which is taken.
+    #[tactic(auto, using(crate::proofs::Stops::name_refused))]
+    pub(crate) fn name(&mut self, alloc: Global) -> Result<(Pos, Name), Stop>
+        ensures taken { IfOk result (λ found. TakenName self.old.rest.now found.0 found.1 self.new.rest.now) }
+        ensures refused { IfErr result (Refused one_name 0 self.old.rest.now) }
+    {
+        let Some((at, name)) = self.take_name() else {
+            return Err(self.refuse());
+        };
+        let name = Name::of(String::from_str(alloc, name.as_str())?);
+        Ok((at, name))
+    }
+
+    /// That the grammar has no such token as the next one here: Unsupported where it is of a form that this profile refuses.
+    pub(crate) fn refuse(&self) -> Stop
+        ensures { IsAtFirst self.now.rest.now result }
+    {
+        match self.rest.split_first() {
+            None => Stop::End,
+            Some((token, _)) => {
+                if self.is_refused(&token.kind) {
+                    Stop::Here(ParseFault::Unsupported(token.at))
+                } else {
+                    Stop::Here(ParseFault::Unexpected(token.at))
+                }
+            }
+        }
+    }
+
+    /// A token of this kind is of a refused form where the grammar has another.
+    pub(crate) fn is_refused(&self, kind: &TokenKind) -> bool {
+        match kind {
+            TokenKind::Keyword(FOR) => self.inside != Inside::Line,
+            TokenKind::Keyword(number) => is_never_word(*number),
+            TokenKind::Sign(ASSIGN | STAR) => self.inside == Inside::Call,
+            TokenKind::Sign(number) => is_never_sign(*number),
+            _ => false,
+        }
+    }
+
+    /// That a second comparison begins here: Unsupported, but a `not` without `in` begins none.
+    pub(crate) fn refuse_second(&self) -> Stop
+        ensures { IsAtFirst self.now.rest.now result }
+    {
+        match self.rest.split_first() {
+            None => Stop::End,
+            Some((token, behind)) => {
+                if is_keyword(token, NOT)
+                    && !behind.first().is_some_and(|next| is_keyword(next, IN))
+                {
+                    Stop::Here(ParseFault::Unexpected(token.at))
+                } else {
+                    Stop::Here(ParseFault::Unsupported(token.at))
+                }
+            }
+        }
+    }
+}
+
+/// The token is this keyword.
+fn is_keyword(token: &Token, number: u8) -> bool {
+    matches!(&token.kind, TokenKind::Keyword(found) if *found == number)
+}
+
+/// A keyword that stands nowhere: `async`, `await`, `finally`, `from`, `lambda`, `nonlocal`, `yield`.
+fn is_never_word(number: u8) -> bool {
+    matches!(
+        number,
+        ASYNC | AWAIT | FINALLY | FROM | LAMBDA | NONLOCAL | YIELD
+    )
+}
+
+/// A sign that stands nowhere: `;`, `@`, `/`, `**` and those behind them in the table.
+fn is_never_sign(number: u8) -> bool {
+    SEMICOLON <= number
+}

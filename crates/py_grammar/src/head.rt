@@ -1,0 +1,294 @@
+// The lines of a script: a simple statement, or what begins a compound one or a part of it, up to what stands behind its `:`.
+ghost use Rattle.std.specs.Prelude.{◌≡◌, ◌==◌, ℕ, List, Bool, true, false, is_some, IfSome, IfNone, IfOk, IfErr};
+ghost use Rattle.py_lines.specs.declared.parts.TokenKind.TheVariants.{Keyword};
+ghost use Rattle.py_grammar.specs.Parsed.{Taken};
+ghost use Rattle.py_grammar.specs.ParsedSimple.{around_of};
+ghost use Rattle.py_grammar.specs.ParsedHead.{Context as Standing, context_of, inner_around, is_compound, begins_compound, may_begin, kind_may, may_be_alone, is_refused_kind, is_text_kind, IsRefusedInClass, Misplaced, BehindFound, BehindRefused, HeadFound, HeadRefused, OpeningFound, OpeningRefused, PlacedFound, PlacedRefused};
+
+use crate::around::Around;
+use crate::context::{Context, Last, Limit};
+use crate::cursor::Cursor;
+use crate::fault::{ParseFault, Stop};
+use crate::simple::begins_simple;
+use crate::words::{
+    CLASS, COLON, DEF, ELIF, ELSE, EXCEPT, FOR, GLOBAL, IF, PASS, TRY, WHILE, WITH,
+};
+use prov_base::{Name, Pos};
+use py_lines::{Token, TokenKind};
+use py_tree::{Bound, Expr, Form, Globals, Params, Target};
+use std::alloc::Global;
+
+/// What a line begins, without what stands behind its `:`.
+#[derive(Drop)]
+pub enum What {
+    /// A statement that is one line.
+    Simple(Form),
+    /// `"if" expr`.
+    If(Expr),
+    /// `"elif" expr`.
+    Elif(Expr),
+    /// `else`
+    Else,
+    /// `"while" expr`.
+    While(Expr),
+    /// `"for" target "in" exprs`.
+    For(Target, Expr),
+    /// `try`
+    Try,
+    /// `"except" [expr ["as" NAME]]`.
+    Except(Option<Expr>, Option<Bound>),
+    /// `"with" expr ["as" NAME]`.
+    With(Expr, Option<Bound>),
+    /// `"def" NAME "(" [NAME { "," NAME } [","]] ")"`.
+    Def(Name, Params),
+    /// `"class" NAME ["(" [NAME] ")"]`.
+    Class(Name, Option<Expr>),
+    /// `"global" NAME { "," NAME }`.
+    Global(Globals),
+}
+
+/// The statement behind a `:`, with the place and the first byte of its first token.
+#[derive(Drop)]
+pub struct Behind {
+    pub at: Pos,
+    pub from: u32,
+    pub form: Form,
+}
+
+/// A line as it was read.
+#[derive(Drop)]
+pub struct LineHead {
+    pub what: What,
+    pub behind: Option<Behind>,
+}
+
+impl<'a> Cursor<'a> {
+    /// The line that all the tokens are. `given` are the parameters of the function in whose suite a `global` line may stand.
+    pub fn head(
+        &mut self,
+        alloc: Global,
+        context: Context,
+        given: &[Name],
+        limit: Option<Limit>,
+    ) -> Result<LineHead, Stop>
+        ensures found { IfOk result (HeadFound (context_of context) given.now (is_some limit) self.old.rest.now) }
+        ensures refused { IfErr result (HeadRefused (context_of context) given.now (is_some limit) self.old.rest.now) }
+    {
+        if let Some(stop) = self.misplaced(context) {
+            return Err(stop);
+        }
+        let Some((word, _)) = self.take_compound() else {
+            let form = self.placed(alloc, context.around, None)?;
+            return Ok(LineHead {
+                what: What::Simple(form),
+                behind: None,
+            });
+        };
+        if word == GLOBAL {
+            let names = self.global_names(alloc, given)?;
+            return Ok(LineHead {
+                what: What::Global(names),
+                behind: None,
+            });
+        }
+        let what = self.opening(alloc, word, context.around)?;
+        self.sign(COLON)?;
+        let behind = self.behind(alloc, suite_around(word, context.around), limit)?;
+        Ok(LineHead { what, behind })
+    }
+
+    /// That no statement or part of one may begin with the next token here.
+    fn misplaced(&self, context: Context) -> Option<Stop>
+        ensures refused { IfSome result (Misplaced (context_of context) self.now.rest.now) }
+        ensures fine { IfNone result (may_begin (context_of context) self.now.rest.now ≡ true) }
+    {
+        let (token, _) = self.rest.split_first()?;
+        if may_stand(context, &token.kind) {
+            return None;
+        }
+        if self.is_refused_there(context, &token.kind) {
+            Some(Stop::Here(ParseFault::Unsupported(token.at)))
+        } else {
+            Some(Stop::Here(ParseFault::Unexpected(token.at)))
+        }
+    }
+
+    /// A token of this kind that may not stand here is of a refused form.
+    fn is_refused_there(&self, context: Context, kind: &TokenKind) -> bool {
+        match kind {
+            TokenKind::Keyword(ELIF | EXCEPT) => false,
+            TokenKind::Keyword(ELSE) => context.last != Last::Nothing,
+            TokenKind::Keyword(IF | WHILE | FOR | TRY | WITH | DEF | CLASS | GLOBAL) => {
+                context.last != Last::Try
+            }
+            _ => self.is_refused(kind),
+        }
+    }
+
+    /// The keyword of a compound statement, of a part of one or of a `global` line, which is taken where it is next.
+    #[tactic(auto, using(crate::proofs::Taking::taken))]
+    fn take_compound(&mut self) -> Option<(u8, Pos)>
+        ensures taken { IfSome result (λ found. Taken (Keyword found.0) self.old.rest.now found.1 self.new.rest.now) }
+        ensures word { IfSome result (λ found. is_compound found.0 ≡ true) }
+        ensures absent { IfNone result (begins_compound self.old.rest.now ≡ false) }
+        ensures kept { IfNone result (self.new.rest.now ≡ self.old.rest.now) }
+    {
+        let (token, rest) = self.rest.split_first()?;
+        match &token.kind {
+            TokenKind::Keyword(word) if begins_clause(*word) => {
+                self.rest = rest;
+                Some((*word, token.at))
+            }
+            _ => None,
+        }
+    }
+
+    /// What stands between the keyword of a compound statement or of a part of one and its `:`.
+    fn opening(&mut self, alloc: Global, word: u8, around: Around) -> Result<What, Stop>
+        requires word { is_compound word ≡ true }
+        requires other { (word == 19) ≡ false }
+        ensures found { (c : Standing) → c.around ≡ around_of around → IfOk result (λ what. OpeningFound c word self.old.rest.now what self.new.rest.now) }
+        ensures refused { (c : Standing) → c.around ≡ around_of around → IfErr result (OpeningRefused c word self.old.rest.now) }
+    {
+        match word {
+            IF => self.if_opening(alloc),
+            ELIF => self.elif_opening(alloc),
+            ELSE => Ok(What::Else),
+            WHILE => self.while_opening(alloc),
+            FOR => self.for_opening(alloc),
+            TRY => Ok(What::Try),
+            EXCEPT => self.except_opening(alloc),
+            WITH => self.with_opening(alloc),
+            DEF => self.def_opening(alloc, around),
+            _ => self.class_opening(alloc),
+        }
+    }
+
+    /// What stands behind the `:`, up to the end of the line.
+    fn behind(
+        &mut self,
+        alloc: Global,
+        around: Around,
+        limit: Option<Limit>,
+    ) -> Result<Option<Behind>, Stop>
+        ensures found { IfOk result (BehindFound (around_of around) (is_some limit) self.old.rest.now) }
+        ensures refused { IfErr result (BehindRefused (around_of around) (is_some limit) self.old.rest.now) }
+    {
+        let Some((token, _)) = self.rest.split_first() else {
+            return Ok(None);
+        };
+        let (at, from) = (token.at, token.span.from);
+        let form = self.placed(alloc, around, limit)?;
+        Ok(Some(Behind { at, from, form }))
+    }
+
+    /// The simple statement that all the tokens are, where one may stand. A limit that it would pass is named at its first
+    /// token.
+    fn placed(&mut self, alloc: Global, around: Around, limit: Option<Limit>) -> Result<Form, Stop>
+        ensures found { IfOk result (PlacedFound (around_of around) self.old.rest.now) }
+        ensures within { IfOk result (λ _. is_some limit ≡ false) }
+        ensures refused { IfErr result (PlacedRefused (around_of around) (is_some limit) self.old.rest.now) }
+    {
+        let Some((token, behind)) = self.rest.split_first() else {
+            return Err(Stop::End);
+        };
+        let at = token.at;
+        if let Some(limit) = limit {
+            return Err(Stop::Here(limit.fault(at)));
+        }
+        if around.in_class && !is_alone(&token.kind, behind) {
+            return Err(self.refuse_in_class());
+        }
+        if !around.in_class && is_refused_word(&token.kind) {
+            return Err(Stop::Here(ParseFault::Unsupported(at)));
+        }
+        let form = self.simple(alloc, around)?;
+        Ok(form)
+    }
+
+    /// That the next token begins nothing that may stand in a class: Unsupported where it begins something else.
+    fn refuse_in_class(&self) -> Stop
+        ensures { IsRefusedInClass self.now.rest.now result }
+    {
+        match self.rest.first() {
+            None => Stop::End,
+            Some(token) => {
+                if self.begins_statement(&token.kind) || self.is_refused(&token.kind) {
+                    Stop::Here(ParseFault::Unsupported(token.at))
+                } else {
+                    Stop::Here(ParseFault::Unexpected(token.at))
+                }
+            }
+        }
+    }
+
+    /// A statement begins with the next token, which is of this kind, but for a `def`.
+    fn begins_statement(&self, kind: &TokenKind) -> bool
+        ensures text { is_text_kind kind.now ≡ true → result ≡ true }
+    {
+        match kind {
+            TokenKind::Word(_) | TokenKind::Number(_) | TokenKind::Text(_) => true,
+            TokenKind::Keyword(IF | WHILE | FOR | TRY | WITH | CLASS | GLOBAL) => true,
+            TokenKind::Keyword(word) if begins_simple(*word) => true,
+            _ => self.at_expr(),
+        }
+    }
+}
+
+/// A text with nothing behind it, or `pass`.
+fn is_alone(kind: &TokenKind, behind: &[Token]) -> bool
+    ensures { result ≡ may_be_alone kind.now behind.now }
+{
+    match kind {
+        TokenKind::Text(_) => behind.is_empty(),
+        TokenKind::Keyword(word) => *word == PASS,
+        _ => false,
+    }
+}
+
+/// The word of a statement that is refused where a simple one stands: `def`, `class` or `global`.
+fn is_refused_word(kind: &TokenKind) -> bool
+    ensures { result ≡ is_refused_kind kind.now }
+{
+    matches!(kind, TokenKind::Keyword(DEF | CLASS | GLOBAL))
+}
+
+/// The suite of what begins with this keyword.
+fn suite_around(word: u8, around: Around) -> Around
+    ensures { around_of result ≡ inner_around word (around_of around) }
+{
+    match word {
+        WHILE | FOR => around.in_loop_suite(),
+        EXCEPT => around.in_handler_suite(),
+        DEF => Around::in_def_suite(),
+        CLASS => Around::in_class_suite(),
+        _ => around.in_suite(),
+    }
+}
+
+/// The keyword begins a compound statement, a part of one or a `global` line.
+fn begins_clause(word: u8) -> bool
+    ensures { result ≡ is_compound word }
+{
+    matches!(
+        word,
+        CLASS | DEF | ELIF | ELSE | EXCEPT | FOR | GLOBAL | IF | TRY | WHILE | WITH
+    )
+}
+
+/// A statement or a part of one may begin with a token of this kind here.
+fn may_stand(context: Context, kind: &TokenKind) -> bool
+    ensures { result ≡ kind_may (context_of context) kind.now }
+{
+    let around = context.around;
+    let lacks_handler = context.last == Last::Try;
+    match kind {
+        TokenKind::Keyword(ELIF | ELSE) => context.last == Last::If,
+        TokenKind::Keyword(EXCEPT) => lacks_handler || context.last == Last::Handler,
+        TokenKind::Keyword(GLOBAL) => !lacks_handler && context.may_declare,
+        TokenKind::Keyword(DEF) => !lacks_handler && (around.at_module_level || around.in_class),
+        TokenKind::Keyword(CLASS) => !lacks_handler && around.at_module_level,
+        TokenKind::Keyword(IF | WHILE | FOR | TRY | WITH) => !lacks_handler && !around.in_class,
+        _ => !lacks_handler,
+    }
+}

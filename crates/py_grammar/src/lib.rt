@@ -1,0 +1,29 @@
+//! The grammar of scripts: a relation between logical lines and the syntax tree (`specs/Grammar.antt`). A script as it is
+//! written is a tree of its own, with a constructor for each production (`specs/Concrete.antt`, `specs/Written.antt`); its
+//! tokens and lines are read off it, and so is its syntax tree, each node at its place.
+#![tactic(auto)]
+
+mod around;
+mod context;
+mod cursor;
+mod fault;
+mod head;
+mod laws;
+mod names;
+mod openings;
+mod operators;
+mod part;
+mod primaries;
+mod rows;
+mod simple;
+mod targets;
+#[cfg(test)]
+mod tests;
+#[cfg(test)]
+mod tests_heads;
+#[cfg(test)]
+mod tests_rows;
+mod words;
+
+pub use fault::ParseFault;
+pub use laws::{one_expression, one_script, one_simple_statement};

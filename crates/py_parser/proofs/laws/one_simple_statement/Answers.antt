@@ -1,5 +1,0 @@
-use Rattle.py_parser.proofs.OneReading.{one_simple}
-use Rattle.py_parser.proofs.laws.one_simple_statement.Goals as goal
-
-pub returns : goal.returns
-returns c a b same = one_simple a b same
