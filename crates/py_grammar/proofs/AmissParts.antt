@@ -1,17 +1,17 @@
 -- Refusals where something may be read all the same: how one of a part is one of what it stands in, and one of a line.
-use Rattle.std.proofs.Common.{◌≡◌, inl, inr, ℕ, suc, ◌+◌, ◌<◌, Bool, true, false, List, [], ◌∷◌, ◌++◌, Option, Some, None, refl, ap, sym, ◌∙◌, arith, subst, append_assoc, append-nil}
+use Rattle.std.proofs.Common.{◌≡◌, inl, ℕ, Bool, List, [], ◌∷◌, ◌++◌, Option, refl, ap, sym, ◌∙◌, subst, append_assoc, append-nil}
 use Rattle.py_lines.specs.declared.parts.Token.{Token}
 use Rattle.py_grammar.specs.declared.fault.ParseFault.{ParseFault}
 use Rattle.py_grammar.specs.declared.fault.ParseFault.TheVariants.{Unexpected, Unsupported, BadIndent, TooDeep, TooMany, Memory}
 use Rattle.prov_base.specs.declared.place.Pos.{Pos}
 use Rattle.py_grammar.specs.declared.fault.Stop.{Stop}
 use Rattle.py_grammar.specs.declared.fault.Stop.TheVariants.{Here, End}
-use Rattle.py_grammar.specs.Parsed.{Production, Names, IsAtFirst, IsDeep, Only, Finds, Begins, Shown, Refused}
+use Rattle.py_grammar.specs.Parsed.{Production, Names, IsAtFirst, IsDeep, Finds, Begins, Refused}
 use Rattle.py_grammar.specs.ParsedRows.{first_token}
 use Rattle.py_grammar.specs.ParsedHead.{Context, IsAmissHead, MayNameLine, BeginsHead, ShownBy, HeadRefused}
 use Rattle.py_grammar.specs.LineReader.{Head, head_tokens}
 use Rattle.py_grammar.specs.ParsedNames.{ShownAmiss, RefusedAmiss}
-use Rattle.py_grammar.proofs.Refusals.{first_of, finds_same, finds_weaker}
+use Rattle.py_grammar.proofs.Refusals.{finds_same, finds_weaker}
 use Rattle.py_grammar.proofs.HeadParts.{OnlyHead, HeadTurns, turned_head, shown_head, ended_line, finds_head_same, first_shown}
 
 -- ---- refusals as such

@@ -1,11 +1,8 @@
 -- The `:` of a line and what stands behind it: what is read there, and how it is refused.
-use Rattle.std.proofs.Common.{◌≡◌, inl, inr, ℕ, suc, ◌+◌, ◌<◌, ◌≤◌, max, Bool, true, false, List, [], ◌∷◌, ◌++◌, Option, Some, None, option_map, is_some, refl, ap, sym, ◌∙◌, arith, subst, append_assoc, append-nil, if◌then◌else◌}
-use Rattle.std.specs.Bool.{⊤}
-use Rattle.std.specs.Prelude.{◌&&◌}
+use Rattle.std.proofs.Common.{◌≡◌, inl, inr, ℕ, ◌+◌, ◌≤◌, max, Bool, true, false, List, [], ◌∷◌, ◌++◌, Option, Some, None, option_map, is_some, refl, ap, sym, ◌∙◌, arith, subst, append_assoc, if◌then◌else◌}
 use Rattle.std.proofs.Math.Nat.{le-max_right}
 use Rattle.std.proofs.lemmas.List.{append_cancel_left}
 use Rattle.std.proofs.lemmas.Option.{same_Some}
-use Rattle.prov_base.specs.declared.place.Pos.{Pos}
 use Rattle.py_lines.specs.declared.parts.Token.{Token}
 use Rattle.py_lines.specs.declared.parts.TokenKind.TheVariants.{Keyword, Sign}
 use Rattle.py_grammar.specs.declared.fault.ParseFault.{ParseFault}
@@ -14,24 +11,22 @@ use Rattle.py_grammar.specs.declared.fault.Stop.{Stop}
 use Rattle.py_grammar.specs.declared.fault.Stop.TheVariants.{Here, End}
 use Rattle.py_grammar.specs.declared.head.What.{What}
 use Rattle.py_grammar.specs.declared.head.LineHead.{LineHead}
-use Rattle.py_grammar.specs.declared.head.Behind.{Behind}
-use Rattle.py_grammar.specs.Concrete.{Spot, Expr}
+use Rattle.py_grammar.specs.Concrete.{Spot}
 use Rattle.py_grammar.specs.Tokens.{token, word as word_tokens, expr_tokens}
 use Rattle.py_grammar.specs.Depth.{simple_depth}
 use Rattle.py_grammar.specs.Written.{Simple, del, named}
 use Rattle.py_grammar.specs.StatementTokens.{simple_tokens}
-use Rattle.py_grammar.specs.WellPlaced.{Around, simple_stands}
-use Rattle.py_grammar.specs.LineReader.{Head, simple_head, behind_tokens, colon_tokens, head_tokens, then_read, read_colon, read_behind, read_head}
+use Rattle.py_grammar.specs.LineReader.{Head, behind_tokens, head_tokens, then_read, read_colon, read_behind, read_head}
 use Rattle.py_grammar.specs.Reader.{is_sign, spot_of, read_sign}
-use Rattle.py_grammar.specs.Parsed.{Begins, Refused, Taken, one_sign}
+use Rattle.py_grammar.specs.Parsed.{Refused, one_sign}
 use Rattle.py_grammar.specs.ParsedRows.{first_token}
-use Rattle.py_grammar.specs.ParsedSimple.{simple_part, BeginsSimple, BeginsDel}
-use Rattle.py_grammar.specs.ParsedHead.{Context, word_may, inner_around, behind_stands, head_stands, behind_depth, head_depth, behind_in, IsWhat, IsBehind, BehindFound, HeadFound, Opening, IsAmissPlaced, IsAmissHead, BeginsHead, BeginsReading, ShownBy, EndedBy, PlacedRefused, BehindRefused, HeadRefused}
+use Rattle.py_grammar.specs.ParsedSimple.{BeginsSimple}
+use Rattle.py_grammar.specs.ParsedHead.{Context, word_may, inner_around, behind_depth, IsBehind, BehindFound, HeadFound, Opening, IsAmissPlaced, IsAmissHead, BeginsHead, ShownBy, EndedBy, PlacedRefused, BehindRefused, HeadRefused}
 use Rattle.py_grammar.proofs.Stops.{some_spot}
 use Rattle.py_grammar.proofs.Refusals.{max_below}
 use Rattle.py_grammar.proofs.SimpleParts.{not_deeper}
 use Rattle.py_grammar.proofs.HeadReading.{head_reads}
-use Rattle.py_grammar.proofs.HeadParts.{HeadTurns, begins_part_head, refused_part_head}
+use Rattle.py_grammar.proofs.HeadParts.{begins_part_head, refused_part_head}
 use Rattle.py_grammar.proofs.LineFirsts.{and_false, both_true, not_nothing, same_behind}
 
 -- ---- the `:`

@@ -1,5 +1,5 @@
 -- The line of a `for`: what is read of it, and how it is refused.
-use Rattle.std.proofs.Common.{◌≡◌, inl, inr, ℕ, ◌+◌, max, Bool, ◌≤◌, ◌<◌, List, [], ◌∷◌, ◌++◌, Option, Some, None, refl, ap, sym, ◌∙◌, arith, subst, append_assoc}
+use Rattle.std.proofs.Common.{◌≡◌, inl, inr, ℕ, ◌+◌, max, Bool, ◌≤◌, List, [], ◌∷◌, ◌++◌, Option, None, refl, ap, sym, ◌∙◌, arith, append_assoc}
 use Rattle.std.proofs.Math.Nat.{le-max_left, le-max_right}
 use Rattle.prov_base.specs.declared.place.Pos.{Pos}
 use Rattle.py_lines.specs.declared.parts.Token.{Token}
@@ -20,16 +20,16 @@ use Rattle.py_grammar.specs.StatementTokens.{target_tokens}
 use Rattle.py_grammar.specs.StatementTrees.{target_tree}
 use Rattle.py_grammar.specs.LineReader.{Head, for_head, head_tokens, colon_tokens, then_read, read_colon, read_head, read_target}
 use Rattle.py_grammar.specs.Reader.{read_keyword, read_exprs}
-use Rattle.py_grammar.specs.Parsed.{IsDeep, Begins, Refused, FoundRow, Taken, one_keyword, exprs_part}
-use Rattle.py_grammar.specs.ParsedRows.{first_token, IsRead}
-use Rattle.py_grammar.specs.ParsedHead.{Took, target_part, Context, behind_stands, head_depth, behind_depth, IsAmissHead, BeginsHead, ShownBy, EndedBy, HeadRefused, head_part, Opening, OpeningFound, OpeningRefused}
+use Rattle.py_grammar.specs.Parsed.{IsDeep, Refused, FoundRow, Taken, one_keyword, exprs_part}
+use Rattle.py_grammar.specs.ParsedRows.{IsRead}
+use Rattle.py_grammar.specs.ParsedHead.{Took, target_part, Context, head_depth, behind_depth, IsAmissHead, BeginsHead, ShownBy, EndedBy, HeadRefused, head_part, OpeningFound, OpeningRefused}
 use Rattle.py_grammar.specs.ParsedNames.{Followed, followed_tokens, BeginsThen, TargetsRefused}
 use Rattle.py_grammar.proofs.Stops.{some_spot}
 use Rattle.py_grammar.proofs.SimpleReading.{target_expr}
 use Rattle.py_grammar.proofs.Refusals.{deeper}
 use Rattle.py_grammar.proofs.RowParts.{more_steps}
 use Rattle.py_grammar.proofs.ClosedParts.{not_deep}
-use Rattle.py_grammar.proofs.HeadParts.{OnlyHead, FindsHead, HeadTurns, finds_written, begins_part_head, refused_part_head, turns_on, ColonReads, colon_on, row_is_read}
+use Rattle.py_grammar.proofs.HeadParts.{FindsHead, HeadTurns, finds_written, begins_part_head, refused_part_head, turns_on, ColonReads, colon_on, row_is_read}
 use Rattle.py_grammar.proofs.AmissParts.{begins_with}
 use Rattle.py_grammar.proofs.NameHeads.{only_then, only_colon}
 

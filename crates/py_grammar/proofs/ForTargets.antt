@@ -1,5 +1,5 @@
 -- The target of a `for`: what is read of it, and how it is refused.
-use Rattle.std.proofs.Common.{◌≡◌, ◌⊎◌, inl, inr, ℕ, zero, suc, ◌+◌, max, nat_lt, ◌≤◌, ◌<◌, Bool, true, false, ◌||◌, ◌==◌, List, [], ◌∷◌, ◌++◌, map, Option, Some, None, is_some, is_none, option_map, option_and_then, refl, ap, sym, ◌∙◌, arith, subst, append_assoc, append-nil, length, if◌then◌else◌}
+use Rattle.std.proofs.Common.{◌≡◌, ◌⊎◌, inl, inr, ℕ, suc, ◌+◌, max, nat_lt, ◌≤◌, ◌<◌, Bool, true, false, ◌||◌, ◌==◌, List, [], ◌∷◌, ◌++◌, map, Option, Some, None, is_some, is_none, option_map, option_and_then, refl, ap, sym, ◌∙◌, arith, subst, append_assoc, append-nil, length, if◌then◌else◌}
 use Rattle.std.proofs.Math.Nat.{le-max_left, le-max_right}
 use Rattle.std.proofs.lemmas.Option.{same_Some}
 use Rattle.std.proofs.lemmas.List.{append_cancel_left}
@@ -8,7 +8,7 @@ use Rattle.py_lines.specs.declared.parts.Token.{Token}
 use Rattle.py_lines.specs.declared.parts.TokenKind.{TokenKind}
 use Rattle.py_lines.specs.declared.parts.TokenKind.TheVariants.{Word, Keyword, Number, Text, Sign}
 use Rattle.py_tree.specs.declared.expr.Expr.{Expr as ExprRead}
-use Rattle.py_tree.specs.Tree.{ExprTree, TargetTree, TargetsTree, many_target, more_targets, more_exprs, tuple_expr}
+use Rattle.py_tree.specs.Tree.{ExprTree, TargetTree, TargetsTree, many_target, more_targets, tuple_expr}
 use Rattle.py_tree.specs.Erasure.{expr_of, exprs_list}
 use Rattle.py_grammar.specs.declared.fault.ParseFault.{ParseFault}
 use Rattle.py_grammar.specs.declared.fault.ParseFault.TheVariants.{Unexpected, Unsupported, BadIndent, TooDeep, TooMany, Memory}
@@ -20,26 +20,26 @@ use Rattle.py_grammar.specs.Concrete.{Spot, Expr, plain_expr, plain_or, plain_an
 use Rattle.py_grammar.specs.Tokens.{token, expr_tokens, sum_tokens}
 use Rattle.py_grammar.specs.Trees.{sum_tree}
 use Rattle.py_grammar.specs.Depth.{sum_depth, one_target_depth, target_rest_depth, target_depth}
-use Rattle.py_grammar.specs.Reader.{Read, go_on, spot_of, next_level, kind_level, starts, begins_expr, is_keyword, is_sign, read_sign, read_sum}
+use Rattle.py_grammar.specs.Reader.{Read, go_on, next_level, kind_level, starts, begins_expr, is_keyword, is_sign, read_sign, read_sum}
 use Rattle.py_grammar.specs.Written.{OneTarget, named, item, field, TargetRest, end_rest_target, last_target, more_target, Target, one_target, several_targets}
 use Rattle.py_grammar.specs.StatementTokens.{one_target_tokens, target_rest_tokens, target_tokens}
 use Rattle.py_grammar.specs.StatementTrees.{one_target_tree, target_rest_tree, target_tree}
-use Rattle.py_grammar.specs.StatementReader.{prim_target, expr_target}
+use Rattle.py_grammar.specs.StatementReader.{expr_target}
 use Rattle.py_grammar.specs.LineReader.{read_one_target, read_target_rest, target_rest_after, read_target}
 use Rattle.py_grammar.specs.Parsed.{Production, sum_part, is_form, Names, IsDeep, Only, Finds, Begins, Shown, Refused, Found, Taken, one_keyword, is_sign_next, IsAtFirst, IsTooDeep}
-use Rattle.py_grammar.specs.ParsedRows.{first_token, IsRead}
+use Rattle.py_grammar.specs.ParsedRows.{first_token}
 use Rattle.py_grammar.specs.ParsedSimple.{target_form, targets_form, all_target_form}
-use Rattle.py_grammar.specs.ParsedHead.{Took, target_part, MayNameLine, ShownBy, EndedBy, LineRefused}
+use Rattle.py_grammar.specs.ParsedHead.{Took, target_part, MayNameLine, ShownBy, EndedBy}
 use Rattle.py_grammar.specs.ParsedNames.{target_rest_part, Followed, followed_tokens, BeginsThen, TargetsRefused, ItemFound, WrongItem, ItemRefused, FoundTargets}
 use Rattle.py_grammar.proofs.Leading.{Reads}
-use Rattle.py_grammar.proofs.Reading.{if_true, if_false, sum_leads, sum_stops}
+use Rattle.py_grammar.proofs.Reading.{if_false, sum_leads, sum_stops}
 use Rattle.py_grammar.proofs.Refusals.{deeper, max_below}
 use Rattle.py_grammar.proofs.Stops.{some_spot, keyword_refused}
 use Rattle.py_grammar.proofs.TargetForms.{target_spelled, target_deep, target_tree_is}
 use Rattle.py_grammar.proofs.SimpleReading.{target_expr}
 use Rattle.py_grammar.proofs.PrimParts.{go_on_once}
 use Rattle.py_grammar.proofs.RowParts.{more_steps, sign_first, no_start}
-use Rattle.py_grammar.proofs.HeadReading.{ReadsTargets, target_prim, one_target_reads, target_rest_reads, begins_target, target_starts}
+use Rattle.py_grammar.proofs.HeadReading.{ReadsTargets, target_prim, one_target_reads, target_rest_reads, begins_target}
 use Rattle.py_grammar.proofs.HeadParts.{first_same, first_shown, level_same, starts_same}
 
 -- ---- a target is read as a sum

@@ -1,5 +1,5 @@
 -- The lines that begin compound statements: how what is read of a part, or not, tells what is read of the line.
-use Rattle.std.proofs.Common.{◌≡◌, inl, inr, ℕ, suc, ◌+◌, ◌<◌, Bool, true, false, List, [], ◌∷◌, ◌++◌, Option, Some, None, option_map, refl, ap, sym, ◌∙◌, arith, subst, append_assoc, append-nil, if◌then◌else◌}
+use Rattle.std.proofs.Common.{◌≡◌, inl, ℕ, ◌+◌, Bool, true, List, [], ◌∷◌, ◌++◌, Option, Some, None, refl, ap, sym, ◌∙◌, arith, subst, append_assoc, append-nil, if◌then◌else◌}
 use Rattle.std.specs.Bool.{⊤}
 use Rattle.prov_base.specs.declared.place.Pos.{Pos}
 use Rattle.py_lines.specs.declared.parts.Token.{Token}
@@ -9,15 +9,14 @@ use Rattle.py_grammar.specs.declared.fault.ParseFault.TheVariants.{Unexpected, U
 use Rattle.py_grammar.specs.declared.fault.Stop.{Stop}
 use Rattle.py_grammar.specs.declared.fault.Stop.TheVariants.{Here, End}
 use Rattle.py_grammar.specs.declared.part.Part.{Part}
-use Rattle.py_grammar.specs.Concrete.{Spot, Expr, Exprs}
-use Rattle.py_grammar.specs.Tokens.{token, expr_tokens}
+use Rattle.py_grammar.specs.Concrete.{Spot}
 use Rattle.py_grammar.specs.Trees.{expr_tree}
 use Rattle.py_grammar.specs.Written.{Simple}
 use Rattle.py_grammar.specs.LineReader.{Head, head_tokens, then_read, read_colon, read_head}
 use Rattle.py_grammar.specs.Reader.{Read, next_level, starts, is_keyword, is_sign}
-use Rattle.py_grammar.specs.Parsed.{Production, Names, IsAtFirst, IsDeep, Only, Finds, Begins, Shown, Refused, Found, FoundRow, Taken, TakenName, one_keyword, one_sign, one_name, expr_part, exprs_part}
+use Rattle.py_grammar.specs.Parsed.{Production, Names, IsAtFirst, IsDeep, Only, Finds, Begins, Shown, Refused, Found, FoundRow, one_keyword, one_sign, one_name, expr_part, exprs_part}
 use Rattle.py_grammar.specs.ParsedRows.{first_token, IsRead}
-use Rattle.py_grammar.specs.ParsedHead.{Context, head_depth, head_part, IsAmissHead, MayNameLine, BeginsHead, ShownBy, EndedBy, HeadRefused}
+use Rattle.py_grammar.specs.ParsedHead.{Context, head_depth, IsAmissHead, MayNameLine, BeginsHead, ShownBy, EndedBy, HeadRefused}
 use Rattle.py_grammar.proofs.Reading.{expr_reads}
 use Rattle.py_grammar.proofs.RowReads.{row_reads}
 use Rattle.py_grammar.proofs.Refusals.{first_of, next_level_same}

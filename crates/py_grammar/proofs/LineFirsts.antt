@@ -1,5 +1,5 @@
 -- The first token of a line tells which line it is.
-use Rattle.std.proofs.Common.{◌≡◌, inl, inr, ℕ, nat_lt, ◌<◌, Bool, true, false, not, List, [], ◌∷◌, ◌++◌, Option, Some, None, refl, ap, sym, ◌∙◌, arith, subst, if◌then◌else◌}
+use Rattle.std.proofs.Common.{◌≡◌, ℕ, nat_lt, ◌<◌, Bool, true, false, not, List, [], ◌∷◌, ◌++◌, refl, ap, sym, ◌∙◌, arith, if◌then◌else◌}
 use Rattle.std.specs.Prelude.{◌==◌, ◌||◌, ◌&&◌}
 use Rattle.std.proofs.lemmas.Bool.{eqb-true, leb-false}
 use Rattle.py_lines.specs.declared.parts.Token.{Token}
@@ -9,11 +9,10 @@ use Rattle.py_grammar.specs.Concrete.{Spot}
 use Rattle.py_grammar.specs.Tokens.{token, exprs_tokens}
 use Rattle.py_grammar.specs.Written.{Simple, expression, assign, augmented, add_to, take_from, multiply_by, divide_by, leave_of, del, pass, break, continue, return, return_value, raise, raise_value, assert, assert_message, import_module, one_target}
 use Rattle.py_grammar.specs.StatementTokens.{simple_tokens, target_tokens, one_target_tokens}
-use Rattle.py_grammar.specs.WellPlaced.{are_alone, alone_kind}
 use Rattle.py_grammar.specs.LineReader.{Head, simple_head, if_head, elif_head, else_head, while_head, for_head, try_head, except_head, with_head, def_head, class_head, global_head, head_tokens}
 use Rattle.py_grammar.specs.Reader.{start_class, starts}
-use Rattle.py_grammar.specs.ParsedSimple.{is_word, is_word_kind}
-use Rattle.py_grammar.specs.ParsedHead.{Context, lacks_handler, word_may, kind_may, may_begin, is_compound, is_compound_kind, begins_compound, head_stands}
+use Rattle.py_grammar.specs.ParsedSimple.{is_word_kind}
+use Rattle.py_grammar.specs.ParsedHead.{Context, lacks_handler, word_may, kind_may, is_compound, is_compound_kind, head_stands}
 use Rattle.py_grammar.proofs.Firsts.{IsStart, is_above}
 use Rattle.py_grammar.proofs.SimpleReading.{start_of_exprs}
 use Rattle.py_grammar.proofs.HeadReading.{target_begins}

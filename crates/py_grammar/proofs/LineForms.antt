@@ -1,7 +1,5 @@
 -- The lines that have no `:` or nothing before it, and the tokens with which none may begin.
-use Rattle.std.proofs.Common.{◌≡◌, inl, inr, ℕ, ◌+◌, ◌<◌, ◌≤◌, Bool, true, false, not, List, [], ◌∷◌, ◌++◌, length, Option, Some, None, refl, ap, sym, ◌∙◌, arith, subst, append-nil}
-use Rattle.std.specs.Bool.{⊤}
-use Rattle.std.specs.Prelude.{◌&&◌}
+use Rattle.std.proofs.Common.{◌≡◌, inl, inr, ℕ, Bool, true, false, not, List, [], ◌∷◌, ◌++◌, length, Option, None, refl, ap, sym, ◌∙◌, arith, subst}
 use Rattle.prov_base.specs.declared.place.Pos.{Pos}
 use Rattle.py_lines.specs.declared.parts.Token.{Token}
 use Rattle.py_lines.specs.declared.parts.TokenKind.TheVariants.{Keyword, Sign}
@@ -13,22 +11,21 @@ use Rattle.py_grammar.specs.declared.fault.Stop.{Stop}
 use Rattle.py_grammar.specs.declared.fault.Stop.TheVariants.{Here, End}
 use Rattle.py_grammar.specs.declared.head.What.{What}
 use Rattle.py_grammar.specs.declared.head.What.TheVariants.{Simple as SimpleIs, Else, Try, Global}
-use Rattle.py_grammar.specs.declared.head.LineHead.{LineHead}
 use Rattle.py_grammar.specs.declared.head.Behind.{Behind}
-use Rattle.py_grammar.specs.Concrete.{Spot, Expr}
-use Rattle.py_grammar.specs.Tokens.{token, word as word_tokens, expr_tokens}
+use Rattle.py_grammar.specs.Concrete.{Spot}
+use Rattle.py_grammar.specs.Tokens.{token, word as word_tokens}
 use Rattle.py_grammar.specs.Written.{Simple, pass, del, named}
 use Rattle.py_grammar.specs.StatementTokens.{simple_tokens}
 use Rattle.py_grammar.specs.WellPlaced.{Around, simple_stands}
 use Rattle.py_grammar.specs.LineReader.{Head, simple_head, else_head, try_head, global_head, head_tokens}
-use Rattle.py_grammar.specs.Parsed.{Begins, IsAtFirst, Taken, Refused, one_sign}
+use Rattle.py_grammar.specs.Parsed.{IsAtFirst, Taken, Refused, one_sign}
 use Rattle.py_grammar.specs.ParsedSimple.{BeginsSimple}
-use Rattle.py_grammar.specs.ParsedHead.{Context, lacks_handler, kind_may, may_begin, is_compound_kind, begins_compound, head_stands, PlacedFound, HeadFound, Opening, OpeningFound, OpeningRefused, BehindFound, BehindRefused, inner_around, is_compound, IsAmissPlaced, IsAmissHead, MayNameLine, BeginsHead, ShownBy, EndedBy, PlacedRefused, HeadRefused, GlobalFound, GlobalRefused, word_may, Misplaced}
+use Rattle.py_grammar.specs.ParsedHead.{Context, lacks_handler, kind_may, may_begin, is_compound_kind, begins_compound, PlacedFound, HeadFound, OpeningFound, OpeningRefused, BehindFound, BehindRefused, inner_around, is_compound, IsAmissPlaced, IsAmissHead, MayNameLine, BeginsHead, ShownBy, EndedBy, PlacedRefused, HeadRefused, GlobalFound, GlobalRefused, word_may, Misplaced}
 use Rattle.py_grammar.proofs.Stops.{some_spot}
 use Rattle.py_grammar.proofs.HeadParts.{spelled_head}
 use Rattle.py_grammar.proofs.ColonParts.{colon_refused, behind_refused, line_found}
 use Rattle.py_grammar.proofs.PlacedParts.{none_there}
-use Rattle.py_grammar.proofs.LineFirsts.{and_false, both_true, same_first, simple_some, head_some, head_simple, may_as_simple, may_as_word, misplaced_head}
+use Rattle.py_grammar.proofs.LineFirsts.{and_false, both_true, simple_some, head_some, head_simple, may_as_simple, may_as_word, misplaced_head}
 
 -- ---- where no line may begin
 

@@ -1,6 +1,5 @@
 -- The lines that begin with a name behind their keyword, `def` and `class`: what is read of them, and how they are refused.
-use Rattle.std.proofs.Common.{◌≡◌, inl, ℕ, ◌+◌, ◌<◌, Bool, true, false, not, ◌&&◌, ◌||◌, List, [], ◌∷◌, ◌++◌, Option, Some, None, option_map, refl, ap, sym, ◌∙◌, arith, append_assoc, append-nil, if◌then◌else◌}
-use Rattle.std.specs.Bool.{⊤}
+use Rattle.std.proofs.Common.{◌≡◌, inl, ℕ, ◌+◌, Bool, true, false, not, ◌&&◌, ◌||◌, List, [], ◌∷◌, ◌++◌, Option, Some, None, option_map, refl, ap, sym, ◌∙◌, arith, append_assoc, if◌then◌else◌}
 use Rattle.prov_base.specs.declared.place.Pos.{Pos}
 use Rattle.py_lines.specs.declared.parts.Token.{Token}
 use Rattle.py_lines.specs.declared.parts.TokenKind.TheVariants.{Word, Keyword, Sign}
@@ -13,20 +12,19 @@ use Rattle.py_grammar.specs.declared.fault.Stop.TheVariants.{Here, End}
 use Rattle.py_grammar.specs.declared.head.What.TheVariants.{Def, Class}
 use Rattle.py_grammar.specs.Concrete.{Spot}
 use Rattle.py_grammar.specs.Tokens.{token, word}
-use Rattle.py_grammar.specs.Written.{Simple, Params, no_params, Base, no_base}
+use Rattle.py_grammar.specs.Written.{Simple, Params, no_params, no_base}
 use Rattle.py_grammar.specs.StatementTokens.{params_tokens, base_tokens}
 use Rattle.py_grammar.specs.StatementTrees.{params_list, base_tree}
 use Rattle.py_grammar.specs.LineReader.{Head, def_head, class_head, head_tokens, colon_tokens, then_read, read_colon, read_behind, read_head, read_params, read_base}
-use Rattle.py_grammar.specs.Reader.{Read, go_on, is_sign, read_name, read_sign}
-use Rattle.py_grammar.specs.WellPlaced.{Around, may_be_method, are_different, in_def_suite}
-use Rattle.py_grammar.specs.Parsed.{Only, IsDeep, Refused, TakenName, one_name}
-use Rattle.py_grammar.specs.ParsedRows.{first_token}
-use Rattle.py_grammar.specs.ParsedHead.{Took, base_part, Context, lacks_handler, behind_stands, head_stands, head_depth, IsAmissHead, BeginsHead, HeadRefused, Opening, OpeningFound, OpeningRefused}
+use Rattle.py_grammar.specs.Reader.{Read, go_on, is_sign, read_sign}
+use Rattle.py_grammar.specs.WellPlaced.{may_be_method, are_different, in_def_suite}
+use Rattle.py_grammar.specs.Parsed.{IsDeep, Refused, TakenName, one_name}
+use Rattle.py_grammar.specs.ParsedHead.{Took, base_part, Context, lacks_handler, behind_stands, IsAmissHead, OpeningFound, OpeningRefused}
 use Rattle.py_grammar.specs.ParsedNames.{RefusedAmiss, BracketNames, bracket_tokens, read_bracket, bracket_part, ParamsFound, IsRepeatedIn}
 use Rattle.py_grammar.proofs.Stops.{some_spot}
 use Rattle.py_grammar.proofs.RowParts.{more_steps}
 use Rattle.py_grammar.proofs.ClosedParts.{not_deep}
-use Rattle.py_grammar.proofs.HeadParts.{OnlyHead, FindsHead, HeadTurns, shown_head, spelled_head, begins_part_head, refused_part_head}
+use Rattle.py_grammar.proofs.HeadParts.{OnlyHead, HeadTurns, shown_head, spelled_head, begins_part_head, refused_part_head}
 use Rattle.py_grammar.proofs.AmissParts.{amiss_head}
 
 -- ---- what is read up to the end of the line

@@ -1,8 +1,8 @@
 -- Names in a row, one after the other: what is read of them, and how they are refused.
-use Rattle.std.proofs.Common.{◌≡◌, inl, ℕ, zero, suc, ◌+◌, ◌<◌, Bool, true, false, not, ◌&&◌, ◌||◌, ◌==◌, List, [], ◌∷◌, ◌++◌, Option, Some, None, refl, ap, sym, ◌∙◌, arith, subst, append_assoc, append-nil, if◌then◌else◌}
+use Rattle.std.proofs.Common.{◌≡◌, ℕ, zero, suc, ◌+◌, ◌<◌, Bool, true, false, not, ◌&&◌, ◌||◌, ◌==◌, List, [], ◌∷◌, ◌++◌, Some, None, refl, ap, sym, ◌∙◌, arith, subst, append_assoc, append-nil, if◌then◌else◌}
 use Rattle.std.specs.Prelude.{nat_lt, length, take, drop, codes, ◌-◌}
 use Rattle.std.proofs.Math.Dec.{eqb}
-use Rattle.std.specs.List.{list_all, list_any, starts_with, ends_with}
+use Rattle.std.specs.List.{starts_with, ends_with}
 use Rattle.std.specs.Str.{bytes_eq}
 use Rattle.std.proofs.lemmas.Bool.{eqb-true, eqb-false, leb-false}
 use Rattle.prov_base.specs.declared.place.Pos.{Pos}
@@ -21,20 +21,20 @@ use Rattle.py_grammar.specs.StatementTokens.{names_tokens, params_tokens}
 use Rattle.py_grammar.specs.StatementTrees.{names_list, params_list}
 use Rattle.py_grammar.specs.Reader.{Read, go_on, is_sign, read_name}
 use Rattle.py_grammar.specs.StatementReader.{whole}
-use Rattle.py_grammar.specs.LineReader.{Head, global_head, is_word, begins_name, read_names, names_after, params_after, read_params, then_read, global_end}
+use Rattle.py_grammar.specs.LineReader.{global_head, is_word, begins_name, read_names, names_after, params_after, read_params, then_read, global_end}
 use Rattle.py_grammar.specs.WellPlaced.{is_special, is_in, are_different, none_given}
 use Rattle.py_grammar.specs.Parsed.{Only, Finds, Begins, IsDeep, Refused, Taken, TakenName, one_name, is_sign_next, IsAtFirst, IsMemory}
-use Rattle.py_grammar.specs.ParsedRows.{first_token, IsRead}
+use Rattle.py_grammar.specs.ParsedRows.{first_token}
 use Rattle.py_grammar.specs.ParsedSimple.{IsMore, leaving_none}
-use Rattle.py_grammar.specs.ParsedHead.{Context, word_may, names_part, params_part, IsAmissHead, BeginsHead, GlobalFound, GlobalRefused}
-use Rattle.py_grammar.specs.ParsedNames.{ShownAmiss, RefusedAmiss, all_names, IsGiven, OthersFound, IsRepeated, DifferentFound}
+use Rattle.py_grammar.specs.ParsedHead.{Context, word_may, params_part, IsAmissHead, GlobalFound, GlobalRefused}
+use Rattle.py_grammar.specs.ParsedNames.{RefusedAmiss, all_names, IsGiven, OthersFound, IsRepeated, DifferentFound}
 use Rattle.py_grammar.proofs.Reading.{if_true, if_false}
 use Rattle.py_grammar.proofs.Refusals.{Inside, only_any, only_go_on, only_if, only_is, finds_same, finds_weaker, refused_inside, refused_same}
 use Rattle.py_grammar.proofs.ClosedParts.{not_deep}
 use Rattle.py_grammar.proofs.PrimParts.{go_on_once}
 use Rattle.py_grammar.proofs.RowParts.{more_steps, sign_first}
-use Rattle.py_grammar.proofs.HeadParts.{OnlyHead, HeadTurns, first_same, begins_part_head}
-use Rattle.py_grammar.proofs.AmissParts.{amiss_of_refused, amiss_same, amiss_here, amiss_head}
+use Rattle.py_grammar.proofs.HeadParts.{HeadTurns, first_same, begins_part_head}
+use Rattle.py_grammar.proofs.AmissParts.{amiss_of_refused, amiss_here, amiss_head}
 
 -- ---- whether a name is among others
 

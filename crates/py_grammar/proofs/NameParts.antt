@@ -1,5 +1,5 @@
 -- The parts of a line that are names: what is read of `as` with a name and of a class's base, and how they are refused.
-use Rattle.std.proofs.Common.{◌≡◌, ℕ, ◌+◌, Bool, true, false, not, List, [], ◌∷◌, ◌++◌, Option, Some, None, option_map, refl, ap, sym, ◌∙◌, arith, if◌then◌else◌}
+use Rattle.std.proofs.Common.{◌≡◌, ℕ, true, false, List, [], ◌∷◌, ◌++◌, Some, None, refl, ap, sym, ◌∙◌, arith, if◌then◌else◌}
 use Rattle.prov_base.specs.declared.place.Pos.{Pos}
 use Rattle.py_lines.specs.declared.parts.Token.{Token}
 use Rattle.py_lines.specs.declared.parts.TokenKind.TheVariants.{Keyword, Sign}
@@ -10,11 +10,11 @@ use Rattle.py_tree.proofs.ExprTrees.{var_tree}
 use Rattle.py_grammar.specs.declared.fault.Stop.{Stop}
 use Rattle.py_grammar.specs.Concrete.{Spot}
 use Rattle.py_grammar.specs.Tokens.{token, word}
-use Rattle.py_grammar.specs.Written.{Naming, naming, Base, empty_base, base}
+use Rattle.py_grammar.specs.Written.{naming, Base, empty_base, base}
 use Rattle.py_grammar.specs.StatementTrees.{naming_bound, base_tree}
-use Rattle.py_grammar.specs.LineReader.{begins_name, is_word, read_naming, read_base}
+use Rattle.py_grammar.specs.LineReader.{begins_name, is_word}
 use Rattle.py_grammar.specs.Reader.{Read, go_on, read_name, read_sign}
-use Rattle.py_grammar.specs.Parsed.{Only, Finds, Refused, Taken, TakenName, one_name, one_sign}
+use Rattle.py_grammar.specs.Parsed.{Refused, Taken, TakenName, one_name, one_sign}
 use Rattle.py_grammar.specs.ParsedHead.{Took, naming_part, base_part}
 use Rattle.py_grammar.proofs.Refusals.{Inside, first_of, only_go_on, only_is, refused_inside, refused_same}
 use Rattle.py_grammar.proofs.ClosedParts.{not_deep}

@@ -1,5 +1,5 @@
 -- Parameters in their brackets: what is read of them, and how they are refused.
-use Rattle.std.proofs.Common.{◌≡◌, ℕ, ◌+◌, ◌==◌, Bool, true, false, List, [], ◌∷◌, ◌++◌, Option, Some, None, refl, ap, sym, ◌∙◌, arith, append_assoc, append-nil, if◌then◌else◌}
+use Rattle.std.proofs.Common.{◌≡◌, ℕ, ◌+◌, ◌==◌, Bool, true, false, List, [], ◌∷◌, ◌++◌, Some, None, refl, ap, sym, ◌∙◌, append_assoc, append-nil, if◌then◌else◌}
 use Rattle.std.proofs.lemmas.Bool.{eqb-true}
 use Rattle.prov_base.specs.declared.place.Pos.{Pos}
 use Rattle.py_lines.specs.declared.parts.Token.{Token}
@@ -10,14 +10,14 @@ use Rattle.py_grammar.specs.Concrete.{Spot}
 use Rattle.py_grammar.specs.Tokens.{token}
 use Rattle.py_grammar.specs.Written.{Params, no_params}
 use Rattle.py_grammar.specs.StatementTokens.{params_tokens}
-use Rattle.py_grammar.specs.Reader.{Read, go_on, is_sign, read_sign}
+use Rattle.py_grammar.specs.Reader.{go_on, is_sign, read_sign}
 use Rattle.py_grammar.specs.LineReader.{read_params}
-use Rattle.py_grammar.specs.Parsed.{Only, Finds, Refused, Taken, one_sign, is_sign_next, IsAtFirst}
+use Rattle.py_grammar.specs.Parsed.{Refused, Taken, one_sign, is_sign_next, IsAtFirst}
 use Rattle.py_grammar.specs.ParsedRows.{first_token, IsRead}
 use Rattle.py_grammar.specs.ParsedHead.{params_part}
-use Rattle.py_grammar.specs.ParsedNames.{RefusedAmiss, IsRepeated, DifferentFound, BracketNames, bracket_part, ParamsFound, IsRepeatedIn}
-use Rattle.py_grammar.proofs.Refusals.{Inside, first_of, only_any, only_go_on, only_is, refused_inside, refused_same}
-use Rattle.py_grammar.proofs.ClosedParts.{first_is, first_same, not_deep}
+use Rattle.py_grammar.specs.ParsedNames.{RefusedAmiss, IsRepeated, DifferentFound, bracket_part, ParamsFound, IsRepeatedIn}
+use Rattle.py_grammar.proofs.Refusals.{Inside, only_any, only_go_on, only_is, refused_inside, refused_same}
+use Rattle.py_grammar.proofs.ClosedParts.{first_same, not_deep}
 use Rattle.py_grammar.proofs.Stops.{some_spot}
 use Rattle.py_grammar.proofs.AmissParts.{AmissInside, amiss_inside, amiss_of_refused, amiss_same, amiss_here, begins_with}
 

@@ -1,6 +1,5 @@
 -- A simple statement where one has to stand: what is found and refused, of what is written.
-use Rattle.std.proofs.Common.{◌≡◌, inl, inr, ℕ, ◌+◌, ◌<◌, Bool, true, false, not, List, [], ◌∷◌, ◌++◌, length, Option, Some, None, is_some, refl, ap, sym, ◌∙◌, arith, subst, append-nil}
-use Rattle.std.specs.Bool.{⊤}
+use Rattle.std.proofs.Common.{◌≡◌, inl, inr, ℕ, ◌+◌, Bool, true, false, not, List, [], ◌∷◌, ◌++◌, length, Option, Some, None, is_some, refl, ap, sym, ◌∙◌, arith, subst}
 use Rattle.std.specs.Prelude.{◌&&◌, ◌||◌, ◌==◌}
 use Rattle.std.proofs.lemmas.Bool.{eqb-true}
 use Rattle.prov_base.specs.declared.place.Pos.{Pos}
@@ -13,10 +12,7 @@ use Rattle.py_grammar.specs.declared.fault.ParseFault.{ParseFault}
 use Rattle.py_grammar.specs.declared.fault.ParseFault.TheVariants.{Unexpected, Unsupported, BadIndent, TooDeep, TooMany, Memory}
 use Rattle.py_grammar.specs.declared.fault.Stop.{Stop}
 use Rattle.py_grammar.specs.declared.fault.Stop.TheVariants.{Here, End}
-use Rattle.py_grammar.specs.declared.head.Behind.{Behind}
-use Rattle.py_grammar.specs.Concrete.{Spot, plain_expr, plain_or, plain_and, plain_not, plain_cmp, plain_sum, plain_term, plain_unary, plain_prim, text, one_expr}
-use Rattle.py_grammar.specs.Tokens.{token}
-use Rattle.py_grammar.specs.Depth.{simple_depth}
+use Rattle.py_grammar.specs.Concrete.{plain_expr, plain_or, plain_and, plain_not, plain_cmp, plain_sum, plain_term, plain_unary, plain_prim, text, one_expr}
 use Rattle.py_grammar.specs.Written.{Simple, expression, pass}
 use Rattle.py_grammar.specs.StatementTokens.{simple_tokens}
 use Rattle.py_grammar.specs.StatementTrees.{simple_form}
@@ -25,11 +21,11 @@ use Rattle.py_grammar.specs.Reader.{spot_of}
 use Rattle.py_grammar.specs.StatementReader.{read_simple}
 use Rattle.py_grammar.specs.Parsed.{Only, Finds}
 use Rattle.py_grammar.specs.ParsedSimple.{leaving_none, simple_part, SimpleFound, IsAmiss, BeginsSimple, SimpleShown, SimpleEnds, SimpleRefused, MayName}
-use Rattle.py_grammar.specs.ParsedHead.{PlacedFound, IsAmissPlaced, begins_at, IsThere, ShownBy, EndedBy, PlacedRefused, BehindRefused, BehindFound, is_compound_kind, may_be_alone, is_refused_kind, is_text_kind, IsLimit, IsRefusedInClass, MayNameLine}
+use Rattle.py_grammar.specs.ParsedHead.{PlacedFound, IsAmissPlaced, begins_at, ShownBy, EndedBy, PlacedRefused, BehindRefused, BehindFound, is_compound_kind, may_be_alone, is_refused_kind, is_text_kind, IsLimit, IsRefusedInClass, MayNameLine}
 use Rattle.py_grammar.proofs.Stops.{some_spot}
 use Rattle.py_grammar.proofs.SimpleReading.{simple_reads}
 use Rattle.py_grammar.proofs.SimpleParts.{nothing_there}
-use Rattle.py_grammar.proofs.LineFirsts.{and_false, both_true, same_first, simple_not_compound, simple_some, pass_is_alone, not_nothing}
+use Rattle.py_grammar.proofs.LineFirsts.{and_false, simple_not_compound, simple_some, pass_is_alone, not_nothing}
 
 -- every simple statement that has these tokens is so
 finds_simple : (P : Simple → Type 0) (ts : List Token) (s : Simple) → Finds P simple_part.read ts → simple_tokens s ≡ ts → P s

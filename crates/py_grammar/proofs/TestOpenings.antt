@@ -1,6 +1,5 @@
 -- `if`, `elif`, `while`, `with` and `except`, up to the `:`.
-use Rattle.std.proofs.Common.{◌≡◌, ℕ, ◌+◌, ◌<◌, ◌≤◌, max, nat_lt, Bool, true, false, List, [], ◌∷◌, ◌++◌, Option, Some, None, option_map, refl, ap, sym, ◌∙◌, arith, subst, append_assoc, if◌then◌else◌}
-use Rattle.std.specs.Bool.{⊤}
+use Rattle.std.proofs.Common.{◌≡◌, ℕ, ◌+◌, ◌≤◌, max, nat_lt, Bool, true, false, List, [], ◌∷◌, ◌++◌, Option, Some, None, option_map, refl, ap, sym, ◌∙◌, arith, append_assoc, if◌then◌else◌}
 use Rattle.std.specs.Prelude.{◌&&◌}
 use Rattle.std.proofs.Math.Nat.{le-max_left}
 use Rattle.py_lines.specs.declared.parts.Token.{Token}
@@ -19,15 +18,14 @@ use Rattle.py_grammar.specs.Depth.{expr_depth}
 use Rattle.py_grammar.specs.Written.{Simple, Naming, no_naming, every_kind, one_kind}
 use Rattle.py_grammar.specs.StatementTokens.{naming_tokens}
 use Rattle.py_grammar.specs.StatementTrees.{naming_bound}
-use Rattle.py_grammar.specs.LineReader.{Head, if_head, elif_head, while_head, except_head, with_head, colon_tokens, head_tokens, then_read, read_colon, read_behind, read_naming, read_kind, read_head}
-use Rattle.py_grammar.specs.Reader.{Read, go_on, is_sign, spot_of, starts, begins_expr, read_expr}
+use Rattle.py_grammar.specs.LineReader.{Head, if_head, elif_head, while_head, except_head, with_head, colon_tokens, head_tokens, then_read, read_colon, read_behind, read_naming, read_head}
+use Rattle.py_grammar.specs.Reader.{Read, go_on, is_sign, spot_of, begins_expr, read_expr}
 use Rattle.py_grammar.specs.Parsed.{IsDeep, Refused, Found, expr_part}
-use Rattle.py_grammar.specs.ParsedRows.{first_token, IsRead}
-use Rattle.py_grammar.specs.ParsedHead.{Context, Took, naming_part, word_may, inner_around, behind_stands, head_stands, behind_depth, head_depth, behind_in, IsWhat, Opening, OpeningFound, OpeningRefused}
+use Rattle.py_grammar.specs.ParsedHead.{Context, Took, naming_part, word_may, inner_around, behind_stands, head_stands, behind_depth, head_depth, behind_in, IsWhat, OpeningFound, OpeningRefused}
 use Rattle.py_grammar.proofs.Stops.{some_spot}
 use Rattle.py_grammar.proofs.Reading.{if_true, if_false}
 use Rattle.py_grammar.proofs.Refusals.{deeper}
-use Rattle.py_grammar.proofs.HeadParts.{OnlyHead, HeadTurns, turns_on, ColonReads, colon_on, expr_is_read, starts_same, begins_part_head, refused_part_head}
+use Rattle.py_grammar.proofs.HeadParts.{OnlyHead, HeadTurns, turns_on, colon_on, expr_is_read, starts_same, begins_part_head, refused_part_head}
 
 -- ---- what stands behind the `:`
 

@@ -1,5 +1,5 @@
 -- Worked scripts, each in the grammar with the tree that was written down by hand; found by computation.
-use Rattle.std.proofs.Common.{◌≡◌, ℕ, ◌+◌, ◌-◌, List, [], ◌∷◌, codes, refl, Some, None, slice_index_or, arith}
+use Rattle.std.proofs.Common.{◌≡◌, ℕ, ◌+◌, ◌-◌, List, [], ◌∷◌, codes, refl, Some, slice_index_or, arith}
 use Rattle.std.specs.Prelude.{pos, true, false}
 use Rattle.prov_base.specs.declared.place.Pos.{Pos}
 use Rattle.prov_base.specs.declared.place.Span.{Span}

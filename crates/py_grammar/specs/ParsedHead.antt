@@ -1,17 +1,16 @@
 -- What the parser answers of the tokens of a line: a simple statement, or what begins a compound one or a part of it. No
 -- public clause speaks of it.
-use Rattle.std.specs.Prelude.{◌≡◌, ⊤, ◌⊎◌, ℕ, ◌+◌, ◌<◌, ◌≤◌, max, Bool, true, false, ◌&&◌, ◌||◌, not, ◌==◌, List, [], ◌∷◌, ◌++◌, length, Option, Some, None, option_map, is_some, is_none, if◌then◌else◌}
+use Rattle.std.specs.Prelude.{◌≡◌, ⊤, ◌⊎◌, ℕ, ◌+◌, ◌<◌, ◌≤◌, max, Bool, true, false, ◌&&◌, ◌||◌, not, ◌==◌, List, [], ◌∷◌, ◌++◌, length, Option, Some, None, option_map, is_some, if◌then◌else◌}
 use Rattle.prov_base.specs.declared.place.Pos.{Pos}
 use Rattle.py_lines.specs.declared.parts.Token.{Token}
 use Rattle.py_lines.specs.declared.parts.TokenKind.{TokenKind}
 use Rattle.py_lines.specs.declared.parts.TokenKind.TheVariants.{Keyword, Text}
 use Rattle.py_tree.specs.declared.stmt.Form.{Form}
-use Rattle.py_tree.specs.declared.stmt.Bound.{Bound}
 use Rattle.py_tree.specs.declared.stmt.Globals.{Globals}
 use Rattle.py_tree.specs.Erasure.{expr_of, target_of, form_of}
 use Rattle.py_grammar.specs.declared.context.Context.{Context as Standing}
 use Rattle.py_grammar.specs.declared.context.Last.{Last}
-use Rattle.py_grammar.specs.declared.context.Last.TheVariants.{Nothing, Loop, If as AfterIf, Try as AfterTry, Handler, Every}
+use Rattle.py_grammar.specs.declared.context.Last.TheVariants.{If as AfterIf, Try as AfterTry, Handler}
 use Rattle.py_grammar.specs.declared.fault.ParseFault.{ParseFault}
 use Rattle.py_grammar.specs.declared.fault.ParseFault.TheVariants.{Unexpected, Unsupported, TooDeep, TooMany, Memory}
 use Rattle.py_grammar.specs.declared.fault.Stop.{Stop}
@@ -20,18 +19,18 @@ use Rattle.py_grammar.specs.declared.head.What.{What}
 use Rattle.py_grammar.specs.declared.head.What.TheVariants.{Simple as SimpleIs, If, Elif, Else, While, For, Try, Except, With, Def, Class, Global}
 use Rattle.py_grammar.specs.declared.head.LineHead.{LineHead}
 use Rattle.py_grammar.specs.declared.head.Behind.{Behind}
-use Rattle.py_grammar.specs.Concrete.{Spot, Expr, Exprs}
+use Rattle.py_grammar.specs.Concrete.{Spot, Expr}
 use Rattle.py_grammar.specs.Tokens.{token, expr_tokens}
 use Rattle.py_grammar.specs.Trees.{expr_tree, exprs_tree}
 use Rattle.py_grammar.specs.Written.{Simple, Names, Params, Naming, Kind, Base, Target}
 use Rattle.py_grammar.specs.StatementTokens.{simple_tokens, target_tokens, names_tokens, params_tokens, naming_tokens, kind_tokens, base_tokens}
 use Rattle.py_grammar.specs.StatementTrees.{simple_form, target_tree, names_list, params_list, naming_bound, kind_class, kind_bound, base_tree}
 use Rattle.py_grammar.specs.Depth.{expr_depth, exprs_depth, simple_depth, target_depth, kind_depth}
-use Rattle.py_grammar.specs.WellPlaced.{Around, in_suite, in_loop_suite, in_handler_suite, in_def_suite, in_class_suite, simple_stands, def_stands, none_given, are_alone}
+use Rattle.py_grammar.specs.WellPlaced.{Around, in_suite, in_loop_suite, in_handler_suite, in_def_suite, in_class_suite, simple_stands, def_stands, none_given}
 use Rattle.py_grammar.specs.LineReader.{Head, simple_head, if_head, elif_head, else_head, while_head, for_head, try_head, except_head, with_head, def_head, class_head, global_head, behind_tokens, colon_tokens, head_tokens, read_colon, read_head, read_target, read_names, read_params, read_naming, read_kind, read_base}
-use Rattle.py_grammar.specs.Parsed.{Production, Begins, IsMemory}
+use Rattle.py_grammar.specs.Parsed.{Production, Begins}
 use Rattle.py_grammar.specs.ParsedRows.{first_token, IsRead}
-use Rattle.py_grammar.specs.ParsedSimple.{around_of, leaving_none, BeginsSimple, MayName}
+use Rattle.py_grammar.specs.ParsedSimple.{around_of, leaving_none, BeginsSimple}
 
 -- ---- the parts of a line
 

@@ -1,4 +1,4 @@
-use Rattle.std.proofs.Common.{rules, is_some, ap, ◌∙◌, arith}
+use Rattle.std.proofs.Common.{rules, is_some, ap}
 use Rattle.py_grammar.proofs.ForTargets.{first_refused, first_full, others_refused, one_found, one_is_target, several_found, all_form, row_is_first, row_height, took_kept}
 use Rattle.py_grammar.proofs.cursor.Cursor.for_target.Goals as goal
 

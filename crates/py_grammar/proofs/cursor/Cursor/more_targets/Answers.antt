@@ -1,6 +1,4 @@
-use Rattle.std.proofs.Common.{rules, List, subst, sym, ◌∙◌}
-use Rattle.py_lines.specs.declared.parts.Token.{Token}
-use Rattle.py_grammar.specs.ParsedNames.{FoundTargets}
+use Rattle.std.proofs.Common.{rules, sym, ◌∙◌}
 use Rattle.py_grammar.proofs.ForTargets.{targets_init, targets_next, targets_last, targets_end, next_refused, targets_kept, item_shorter}
 use Rattle.py_grammar.proofs.cursor.Cursor.more_targets.Goals as goal
 

@@ -1,4 +1,4 @@
-use Rattle.std.proofs.Common.{rules, List, ℕ, subst, sym, ◌∙◌}
+use Rattle.std.proofs.Common.{rules, List, subst, sym, ◌∙◌}
 use Rattle.py_grammar.specs.ParsedNames.{OthersFound}
 use Rattle.py_lines.specs.declared.parts.Token.{Token}
 use Rattle.py_grammar.proofs.NameLists.{others_init, others_next, others_found, others_given, others_name}

@@ -1,4 +1,4 @@
-use Rattle.std.proofs.Common.{rules, List, subst, sym, ◌∙◌}
+use Rattle.std.proofs.Common.{rules, sym, ◌∙◌}
 use Rattle.py_grammar.proofs.ParamParts.{opening_refused, names_refused, closing_refused, colon_refused, params_found}
 use Rattle.py_grammar.proofs.cursor.Cursor.params.Goals as goal
 
