@@ -1,6 +1,7 @@
 -- Refusals where something may be read all the same: how one of a part is one of what it stands in, and one of a line.
 use Rattle.std.proofs.Common.{◌≡◌, inl, ℕ, Bool, List, [], ◌∷◌, ◌++◌, Option, refl, ap, sym, ◌∙◌, subst, append_assoc, append-nil}
 use Rattle.py_lines.specs.declared.parts.Token.{Token}
+use Rattle.py_grammar.specs.declared.context.Limit.{Limit}
 use Rattle.py_grammar.specs.declared.fault.ParseFault.{ParseFault}
 use Rattle.py_grammar.specs.declared.fault.ParseFault.TheVariants.{Unexpected, Unsupported, BadIndent, TooDeep, TooMany, Memory}
 use Rattle.prov_base.specs.declared.place.Pos.{Pos}
@@ -84,33 +85,33 @@ amiss_here p amiss before front (t ∷ ts) End is at begins none_end none_there 
 -- ---- refusals of a line
 
 -- a part of a line stands behind these tokens: how it begins, and what is read there
-record StandsSo {B : Type 0} (c : Context) (given : List (List ℕ)) (limited : Bool) (q : Production B) (inner : Stop → B → Type 0) (front rest : List Token) : Type 0 where
+record StandsSo {B : Type 0} (c : Context) (given : List (List ℕ)) (limit : Option Limit) (q : Production B) (inner : Stop → B → Type 0) (front rest : List Token) : Type 0 where
   begins : (tokens : List Token) → Begins q tokens → BeginsHead (front ++ tokens)
   g : ℕ → B → List Token → Option Head
   turns : HeadTurns q front rest g
-  each : (why : Stop) (n : ℕ) (b : B) (left : List Token) → inner why b → OnlyHead (IsAmissHead c given limited why) (g n b left)
+  each : (why : Stop) (n : ℕ) (b : B) (left : List Token) → inner why b → OnlyHead (IsAmissHead c given limit why) (g n b left)
 
-shown_so : {B : Type 0} (c : Context) (given : List (List ℕ)) (limited : Bool) (q : Production B) (inner : Stop → B → Type 0) (front rest before : List Token) (fault : ParseFault) → before ≡ front ++ rest → StandsSo c given limited q inner front rest
-    → ((at : Pos) → Names at fault → MayNameLine at fault) → ShownAmiss q inner rest fault → ShownBy BeginsHead head_tokens (λ fault a. IsAmissHead c given limited (Here fault) a) before fault
-shown_so c given limited q inner front rest before fault is part named s = shown_head c given limited (front ++ s.front) s.shown_by s.behind before fault
+shown_so : {B : Type 0} (c : Context) (given : List (List ℕ)) (limit : Option Limit) (q : Production B) (inner : Stop → B → Type 0) (front rest before : List Token) (fault : ParseFault) → before ≡ front ++ rest → StandsSo c given limit q inner front rest
+    → ((at : Pos) → Names at fault → MayNameLine at fault) → ShownAmiss q inner rest fault → ShownBy BeginsHead head_tokens (λ fault a. IsAmissHead c given limit (Here fault) a) before fault
+shown_so c given limit q inner front rest before fault is part named s = shown_head c given limit (front ++ s.front) s.shown_by s.behind before fault
     (is ∙ ap (λ ts. front ++ ts) s.before_is ∙ sym (append_assoc front s.front (s.shown_by ∷ s.behind))) (named s.shown_by.at s.place_is) (part.begins s.front s.begins)
     (λ more. finds_head_same _ _ _ (append_assoc front s.front (s.shown_by ∷ more))
     (turned_head _ _ q front rest (s.front ++ s.shown_by ∷ more) part.g part.turns (first_shown s.front s.shown_by more s.behind ∙ sym (ap first_token s.before_is)) (part.each (Here fault)) (s.none more)))
 
-refused_so : {B : Type 0} (c : Context) (given : List (List ℕ)) (limited : Bool) (q : Production B) (inner : Stop → B → Type 0) (front rest before : List Token) (stop : Stop) → before ≡ front ++ rest → StandsSo c given limited q inner front rest → RefusedAmiss q inner rest stop → HeadRefused c given limited before stop
-refused_so c given limited q inner front rest before (Here Memory) is part refused = tt
-refused_so c given limited q inner front rest before (Here (Unexpected at)) is part refused = shown_so c given limited q inner front rest before (Unexpected at) is part (λ at named. named) refused
-refused_so c given limited q inner front rest before (Here (Unsupported at)) is part refused = inl (shown_so c given limited q inner front rest before (Unsupported at) is part (λ at named. tt) refused)
-refused_so c given limited q inner front rest before (Here (TooDeep at)) is part refused = shown_so c given limited q inner front rest before (TooDeep at) is part (λ at named. tt) refused
-refused_so c given limited q inner front rest before (Here (BadIndent at)) is part refused = absurd refused.place_is
-refused_so c given limited q inner front rest before (Here (TooMany at)) is part refused = absurd refused.place_is
-refused_so c given limited q inner front rest before End is part refused =
-    ended_line c given limited (front ++ rest) before End is (part.begins rest refused.0) (turned_head _ _ q front rest rest part.g part.turns refl (part.each End) refused.1)
+refused_so : {B : Type 0} (c : Context) (given : List (List ℕ)) (limit : Option Limit) (q : Production B) (inner : Stop → B → Type 0) (front rest before : List Token) (stop : Stop) → before ≡ front ++ rest → StandsSo c given limit q inner front rest → RefusedAmiss q inner rest stop → HeadRefused c given limit before stop
+refused_so c given limit q inner front rest before (Here Memory) is part refused = tt
+refused_so c given limit q inner front rest before (Here (Unexpected at)) is part refused = shown_so c given limit q inner front rest before (Unexpected at) is part (λ at named. named) refused
+refused_so c given limit q inner front rest before (Here (Unsupported at)) is part refused = inl (shown_so c given limit q inner front rest before (Unsupported at) is part (λ at named. tt) refused)
+refused_so c given limit q inner front rest before (Here (TooDeep at)) is part refused = shown_so c given limit q inner front rest before (TooDeep at) is part (λ at named. tt) refused
+refused_so c given limit q inner front rest before (Here (BadIndent at)) is part refused = absurd refused.place_is
+refused_so c given limit q inner front rest before (Here (TooMany at)) is part refused = absurd refused.place_is
+refused_so c given limit q inner front rest before End is part refused =
+    ended_line c given limit (front ++ rest) before End is (part.begins rest refused.0) (turned_head _ _ q front rest rest part.g part.turns refl (part.each End) refused.1)
 
 -- a part is refused behind these tokens
-pub amiss_head : {B : Type 0} (c : Context) (given : List (List ℕ)) (limited : Bool) (q : Production B) (inner : Stop → B → Type 0) (front rest before : List Token) (stop : Stop) (g : ℕ → B → List Token → Option Head) → before ≡ front ++ rest
+pub amiss_head : {B : Type 0} (c : Context) (given : List (List ℕ)) (limit : Option Limit) (q : Production B) (inner : Stop → B → Type 0) (front rest before : List Token) (stop : Stop) (g : ℕ → B → List Token → Option Head) → before ≡ front ++ rest
     → ((tokens : List Token) → Begins q tokens → BeginsHead (front ++ tokens)) → HeadTurns q front rest g
-    → ((why : Stop) (n : ℕ) (b : B) (left : List Token) → inner why b → OnlyHead (IsAmissHead c given limited why) (g n b left))
-    → RefusedAmiss q inner rest stop → HeadRefused c given limited before stop
-amiss_head c given limited q inner front rest before stop g is begins turns each refused = refused_so c given limited q inner front rest before stop is
+    → ((why : Stop) (n : ℕ) (b : B) (left : List Token) → inner why b → OnlyHead (IsAmissHead c given limit why) (g n b left))
+    → RefusedAmiss q inner rest stop → HeadRefused c given limit before stop
+amiss_head c given limit q inner front rest before stop g is begins turns each refused = refused_so c given limit q inner front rest before stop is
     (record { begins = begins; g = g; turns = turns; each = each }) refused

@@ -5,6 +5,7 @@ use Rattle.std.proofs.lemmas.List.{append_cancel_left}
 use Rattle.std.proofs.lemmas.Option.{same_Some}
 use Rattle.py_lines.specs.declared.parts.Token.{Token}
 use Rattle.py_lines.specs.declared.parts.TokenKind.TheVariants.{Keyword, Sign}
+use Rattle.py_grammar.specs.declared.context.Limit.{Limit}
 use Rattle.py_grammar.specs.declared.fault.ParseFault.{ParseFault}
 use Rattle.py_grammar.specs.declared.fault.ParseFault.TheVariants.{Unexpected, Unsupported, BadIndent, TooDeep, TooMany, Memory}
 use Rattle.py_grammar.specs.declared.fault.Stop.{Stop}
@@ -40,9 +41,9 @@ colon_turn n made (t ∷ ts) = by (is_sign 7 t.kind)
     by false = refl
 
 -- no `:` stands where one has to
-pub colon_refused : (c : Context) (given : List (List ℕ)) (limited : Bool) (word : ℕ) (before after : List Token) (what : What) (stop : Stop) → Opening c word before what after → Refused (one_sign 7) 0 after stop → HeadRefused c given limited before stop
-colon_refused c given limited word before after what stop o refused =
-    refused_part_head c given limited (one_sign 7) 0 o.front after before stop (λ n colon rest. option_map (o.made colon) (read_behind (n + o.left) rest)) o.before_is
+pub colon_refused : (c : Context) (given : List (List ℕ)) (limit : Option Limit) (word : ℕ) (before after : List Token) (what : What) (stop : Stop) → Opening c word before what after → Refused (one_sign 7) 0 after stop → HeadRefused c given limit before stop
+colon_refused c given limit word before after what stop o refused =
+    refused_part_head c given limit (one_sign 7) 0 o.front after before stop (λ n colon rest. option_map (o.made colon) (read_behind (n + o.left) rest)) o.before_is
     (begins_part_head (one_sign 7) o.front (λ colon. o.made colon None) (λ colon. []) (λ colon. o.tokens_are colon None))
     (record { before = o.steps; behind = 0; turns = λ n more first. o.reads n more first ∙ colon_turn (n + o.left) o.made more })
     (λ why n colon left deep. absurd (not_deeper why 0 deep)) refused
@@ -93,17 +94,17 @@ shown_some [] t more is = not_nothing t more is
 shown_some (first ∷ front) t more is = not_nothing first _ is
 
 -- what is amiss of the statement is amiss of the line
-amiss_line : (c : Context) (given : List (List ℕ)) (limited : Bool) (word : ℕ) (before after : List Token) (what : What) (spot : Spot) → (o : Opening c word before what after) → (stop : Stop) (s : Simple)
-    → IsAmissPlaced (inner_around word c.around) limited stop s → IsAmissHead c given limited stop (o.made spot (Some s))
-amiss_line c given limited word before after what spot o (Here (TooDeep at)) s (inl deep) =
+amiss_line : (c : Context) (given : List (List ℕ)) (limit : Option Limit) (word : ℕ) (before after : List Token) (what : What) (spot : Spot) → (o : Opening c word before what after) → (stop : Stop) (s : Simple)
+    → IsAmissPlaced (inner_around word c.around) limit stop s → IsAmissHead c given limit stop (o.made spot (Some s))
+amiss_line c given limit word before after what spot o (Here (TooDeep at)) s (inl deep) =
     inl (let is = o.depth_is spot (Some s) in let high = le-max_right o.depth (simple_depth s) in omega (arith, deep, is, high))
-amiss_line c given limited word before after what spot o (Here (TooDeep at)) s (inr limit) = inr (limit, ap is_some (o.behind_is spot (Some s)))
-amiss_line c given limited word before after what spot o (Here (TooMany at)) s limit = (limit, ap is_some (o.behind_is spot (Some s)))
-amiss_line c given limited word before after what spot o (Here (Unexpected at)) s amiss = o.stands given spot (Some s) ∙ and_false (word_may c word) _ amiss
-amiss_line c given limited word before after what spot o (Here (Unsupported at)) s amiss = o.stands given spot (Some s) ∙ and_false (word_may c word) _ amiss
-amiss_line c given limited word before after what spot o (Here (BadIndent at)) s amiss = absurd amiss
-amiss_line c given limited word before after what spot o (Here Memory) s amiss = absurd amiss
-amiss_line c given limited word before after what spot o End s amiss = absurd amiss
+amiss_line c given limit word before after what spot o (Here (TooDeep at)) s (inr passed) = inr (passed, ap is_some (o.behind_is spot (Some s)))
+amiss_line c given limit word before after what spot o (Here (TooMany at)) s passed = (passed, ap is_some (o.behind_is spot (Some s)))
+amiss_line c given limit word before after what spot o (Here (Unexpected at)) s amiss = o.stands given spot (Some s) ∙ and_false (word_may c word) _ amiss
+amiss_line c given limit word before after what spot o (Here (Unsupported at)) s amiss = o.stands given spot (Some s) ∙ and_false (word_may c word) _ amiss
+amiss_line c given limit word before after what spot o (Here (BadIndent at)) s amiss = absurd amiss
+amiss_line c given limit word before after what spot o (Here Memory) s amiss = absurd amiss
+amiss_line c given limit word before after what spot o End s amiss = absurd amiss
 
 -- a statement begins behind the `:`, and so does the line
 begins_line : (c : Context) (word : ℕ) (before after : List Token) (what : What) (spot : Spot) → (o : Opening c word before what after) → (tokens : List Token) → BeginsSimple tokens → BeginsHead (o.front ++ token (Sign 7) spot ∷ tokens)
@@ -125,9 +126,9 @@ begins_line c word before after what spot o tokens (inr b) = inr (record {
       ∙ ap (λ ts. o.front ++ token (Sign 7) spot ∷ ts) b.tokens_are ∙ sym (append_assoc o.front (token (Sign 7) spot ∷ tokens) b.more);
 })
 
-behind_shown : (c : Context) (given : List (List ℕ)) (limited : Bool) (word : ℕ) (before after rest : List Token) (what : What) (spot : Spot) → (o : Opening c word before what after) → after ≡ token (Sign 7) spot ∷ rest → (fault : ParseFault)
-    → ShownBy BeginsSimple simple_tokens (λ fault a. IsAmissPlaced (inner_around word c.around) limited (Here fault) a) rest fault → ShownBy BeginsHead head_tokens (λ fault a. IsAmissHead c given limited (Here fault) a) before fault
-behind_shown c given limited word before after rest what spot o is fault s = record {
+behind_shown : (c : Context) (given : List (List ℕ)) (limit : Option Limit) (word : ℕ) (before after rest : List Token) (what : What) (spot : Spot) → (o : Opening c word before what after) → after ≡ token (Sign 7) spot ∷ rest → (fault : ParseFault)
+    → ShownBy BeginsSimple simple_tokens (λ fault a. IsAmissPlaced (inner_around word c.around) limit (Here fault) a) rest fault → ShownBy BeginsHead head_tokens (λ fault a. IsAmissHead c given limit (Here fault) a) before fault
+behind_shown c given limit word before after rest what spot o is fault s = record {
   front = o.front ++ token (Sign 7) spot ∷ s.front;
   shown_by = s.shown_by;
   behind = s.behind;
@@ -137,52 +138,52 @@ behind_shown c given limited word before after rest what spot o is fault s = rec
   none = λ h more same. none_there h more same;
 }
   where
-    none_there : (h : Head) (more : List Token) → head_tokens h ≡ (o.front ++ token (Sign 7) spot ∷ s.front) ++ s.shown_by ∷ more → IsAmissHead c given limited (Here fault) h
+    none_there : (h : Head) (more : List Token) → head_tokens h ≡ (o.front ++ token (Sign 7) spot ∷ s.front) ++ s.shown_by ∷ more → IsAmissHead c given limit (Here fault) h
     none_there h more same =
         let m = made_with (o.made spot) (s.front ++ s.shown_by ∷ more) h (shown_some s.front s.shown_by more)
         (made_of c word before after rest what spot o is (s.front ++ s.shown_by ∷ more) h (same ∙ append_assoc o.front (token (Sign 7) spot ∷ s.front) (s.shown_by ∷ more))) in
-        subst (IsAmissHead c given limited (Here fault)) (sym m.is) (amiss_line c given limited word before after what spot o (Here fault) m.s (s.none m.s more m.tokens_are))
+        subst (IsAmissHead c given limit (Here fault)) (sym m.is) (amiss_line c given limit word before after what spot o (Here fault) m.s (s.none m.s more m.tokens_are))
 
-behind_ended : (c : Context) (given : List (List ℕ)) (limited : Bool) (word : ℕ) (before after rest : List Token) (what : What) (spot : Spot) → (o : Opening c word before what after) → after ≡ token (Sign 7) spot ∷ rest → (stop : Stop) → (rest ≡ [] → ⊥)
-    → EndedBy BeginsSimple simple_tokens (IsAmissPlaced (inner_around word c.around) limited stop) rest → EndedBy BeginsHead head_tokens (IsAmissHead c given limited stop) before
-behind_ended c given limited word before after rest what spot o is stop some e = record {
+behind_ended : (c : Context) (given : List (List ℕ)) (limit : Option Limit) (word : ℕ) (before after rest : List Token) (what : What) (spot : Spot) → (o : Opening c word before what after) → after ≡ token (Sign 7) spot ∷ rest → (stop : Stop) → (rest ≡ [] → ⊥)
+    → EndedBy BeginsSimple simple_tokens (IsAmissPlaced (inner_around word c.around) limit stop) rest → EndedBy BeginsHead head_tokens (IsAmissHead c given limit stop) before
+behind_ended c given limit word before after rest what spot o is stop some e = record {
   begun = subst BeginsHead (sym (o.before_is ∙ ap (λ ts. o.front ++ ts) is)) (begins_line c word before after what spot o rest e.begun);
   none = λ h same. none_there h same;
 }
   where
-    none_there : (h : Head) → head_tokens h ≡ before → IsAmissHead c given limited stop h
+    none_there : (h : Head) → head_tokens h ≡ before → IsAmissHead c given limit stop h
     none_there h same =
         let m = made_with (o.made spot) rest h some (made_of c word before after rest what spot o is rest h (same ∙ o.before_is ∙ ap (λ ts. o.front ++ ts) is)) in
-        subst (IsAmissHead c given limited stop) (sym m.is) (amiss_line c given limited word before after what spot o stop m.s (e.none m.s m.tokens_are))
+        subst (IsAmissHead c given limit stop) (sym m.is) (amiss_line c given limit word before after what spot o stop m.s (e.none m.s m.tokens_are))
 
 -- what stands behind the `:` is refused
-pub behind_refused : (c : Context) (given : List (List ℕ)) (limited : Bool) (word : ℕ) (before after rest : List Token) (what : What) (spot : Spot) (stop : Stop) → Opening c word before what after → after ≡ token (Sign 7) spot ∷ rest
-    → BehindRefused (inner_around word c.around) limited rest stop → HeadRefused c given limited before stop
-behind_refused c given limited word before after rest what spot (Here Memory) o is refused = tt
-behind_refused c given limited word before after rest what spot (Here (Unexpected at)) o is refused = behind_shown c given limited word before after rest what spot o is (Unexpected at) refused.placed
-behind_refused c given limited word before after rest what spot (Here (TooDeep at)) o is refused = behind_shown c given limited word before after rest what spot o is (TooDeep at) refused.placed
-behind_refused c given limited word before after rest what spot (Here (TooMany at)) o is refused = behind_shown c given limited word before after rest what spot o is (TooMany at) refused.placed
-behind_refused c given limited word before after rest what spot (Here (BadIndent at)) o is refused = absurd refused.placed.place_is
-behind_refused c given limited word before after rest what spot (Here (Unsupported at)) o is refused = by refused.placed
+pub behind_refused : (c : Context) (given : List (List ℕ)) (limit : Option Limit) (word : ℕ) (before after rest : List Token) (what : What) (spot : Spot) (stop : Stop) → Opening c word before what after → after ≡ token (Sign 7) spot ∷ rest
+    → BehindRefused (inner_around word c.around) limit rest stop → HeadRefused c given limit before stop
+behind_refused c given limit word before after rest what spot (Here Memory) o is refused = tt
+behind_refused c given limit word before after rest what spot (Here (Unexpected at)) o is refused = behind_shown c given limit word before after rest what spot o is (Unexpected at) refused.placed
+behind_refused c given limit word before after rest what spot (Here (TooDeep at)) o is refused = behind_shown c given limit word before after rest what spot o is (TooDeep at) refused.placed
+behind_refused c given limit word before after rest what spot (Here (TooMany at)) o is refused = behind_shown c given limit word before after rest what spot o is (TooMany at) refused.placed
+behind_refused c given limit word before after rest what spot (Here (BadIndent at)) o is refused = absurd refused.placed.place_is
+behind_refused c given limit word before after rest what spot (Here (Unsupported at)) o is refused = by refused.placed
   where
-    by : PlacedRefused (inner_around word c.around) limited rest (Here (Unsupported at)) → HeadRefused c given limited before (Here (Unsupported at))
-    by (inl shown) = inl (behind_shown c given limited word before after rest what spot o is (Unsupported at) shown)
-    by (inr ends) = inr (behind_ended c given limited word before after rest what spot o is (Here (Unsupported at)) refused.some ends)
-behind_refused c given limited word before after rest what spot End o is refused = behind_ended c given limited word before after rest what spot o is End refused.some refused.placed
+    by : PlacedRefused (inner_around word c.around) limit rest (Here (Unsupported at)) → HeadRefused c given limit before (Here (Unsupported at))
+    by (inl shown) = inl (behind_shown c given limit word before after rest what spot o is (Unsupported at) shown)
+    by (inr ends) = inr (behind_ended c given limit word before after rest what spot o is (Here (Unsupported at)) refused.some ends)
+behind_refused c given limit word before after rest what spot End o is refused = behind_ended c given limit word before after rest what spot o is End refused.some refused.placed
 
 -- ---- a line that may stand there
 
 behind_low : (b : Option Simple) → behind_depth b ≤ 100 → (depth : ℕ) → depth ≤ 100 → max depth (behind_depth b) ≤ 100
 behind_low b low depth other = max_below depth (behind_depth b) 100 other low
 
-pub line_found : (c : Context) (given : List (List ℕ)) (limited : Bool) (word : ℕ) (before after rest : List Token) (line : LineHead) (spot : Spot) → Opening c word before line.what after → after ≡ token (Sign 7) spot ∷ rest
-    → word_may c word ≡ true → BehindFound (inner_around word c.around) limited rest line.behind → HeadFound c given limited before line
-line_found c given limited word before after rest line spot o is may b = record {
+pub line_found : (c : Context) (given : List (List ℕ)) (limit : Option Limit) (word : ℕ) (before after rest : List Token) (line : LineHead) (spot : Spot) → Opening c word before line.what after → after ≡ token (Sign 7) spot ∷ rest
+    → word_may c word ≡ true → BehindFound (inner_around word c.around) limit rest line.behind → HeadFound c given limit before line
+line_found c given limit word before after rest line spot o is may b = record {
   written = o.made spot b.written;
   before_is = o.before_is ∙ ap (λ ts. o.front ++ ts) (is ∙ ap (λ ts. token (Sign 7) spot ∷ ts) b.before_is) ∙ sym (o.tokens_are spot b.written);
   what_is = o.what_is spot b.written;
   behind_is = subst (IsBehind line.behind) (sym (o.behind_is spot b.written)) b.what_is;
   fits = let deep = o.depth_is spot b.written in let low = behind_low b.written b.fits o.depth o.low in omega (arith, deep, low);
   stands = o.stands given spot b.written ∙ both_true (word_may c word) _ may b.stands;
-  within = λ limit. o.behind_is spot b.written ∙ b.within limit;
+  within = λ passed. o.behind_is spot b.written ∙ b.within passed;
 }

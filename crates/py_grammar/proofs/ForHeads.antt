@@ -6,6 +6,7 @@ use Rattle.py_lines.specs.declared.parts.Token.{Token}
 use Rattle.py_lines.specs.declared.parts.TokenKind.TheVariants.{Keyword}
 use Rattle.py_tree.specs.declared.expr.Target.{Target as TargetRead}
 use Rattle.py_tree.specs.Erasure.{target_of}
+use Rattle.py_grammar.specs.declared.context.Limit.{Limit}
 use Rattle.py_grammar.specs.declared.fault.ParseFault.{ParseFault}
 use Rattle.py_grammar.specs.declared.fault.ParseFault.TheVariants.{Unexpected, Unsupported, BadIndent, TooDeep, TooMany, Memory}
 use Rattle.py_grammar.specs.declared.fault.Stop.{Stop}
@@ -84,14 +85,14 @@ for_there spot h more is =
     behind_it : (a b : Token) (x y : List Token) → a ∷ x ≡ b ∷ y → x ≡ y
     behind_it a b x y is = cc
 
-for_amiss : (c : Context) (given : List (List ℕ)) (limited : Bool) (why : Stop) (depth : ℕ) (h : Head) → IsDeep why 100 depth → depth ≤ head_depth h → IsAmissHead c given limited why h
-for_amiss c given limited (Here (TooDeep at)) depth h deep higher = inl (omega (arith, deep, higher))
-for_amiss c given limited (Here (Unexpected at)) depth h deep higher = absurd deep
-for_amiss c given limited (Here (Unsupported at)) depth h deep higher = absurd deep
-for_amiss c given limited (Here (BadIndent at)) depth h deep higher = absurd deep
-for_amiss c given limited (Here (TooMany at)) depth h deep higher = absurd deep
-for_amiss c given limited (Here Memory) depth h deep higher = absurd deep
-for_amiss c given limited End depth h deep higher = absurd deep
+for_amiss : (c : Context) (given : List (List ℕ)) (limit : Option Limit) (why : Stop) (depth : ℕ) (h : Head) → IsDeep why 100 depth → depth ≤ head_depth h → IsAmissHead c given limit why h
+for_amiss c given limit (Here (TooDeep at)) depth h deep higher = inl (omega (arith, deep, higher))
+for_amiss c given limit (Here (Unexpected at)) depth h deep higher = absurd deep
+for_amiss c given limit (Here (Unsupported at)) depth h deep higher = absurd deep
+for_amiss c given limit (Here (BadIndent at)) depth h deep higher = absurd deep
+for_amiss c given limit (Here (TooMany at)) depth h deep higher = absurd deep
+for_amiss c given limit (Here Memory) depth h deep higher = absurd deep
+for_amiss c given limit End depth h deep higher = absurd deep
 
 for_begins : (spot : Spot) (ts : List Token) → BeginsThen target_part ts → BeginsHead (token (Keyword 17) spot ∷ ts)
 for_begins spot ts b = inr (record {
@@ -104,9 +105,9 @@ for_begins spot ts b = inr (record {
 
 -- ---- the target is refused
 
-module _ (c : Context) (given : List (List ℕ)) (limited : Bool) (spot : Spot) (before : List Token) where
+module _ (c : Context) (given : List (List ℕ)) (limit : Option Limit) (spot : Spot) (before : List Token) where
   shown_for : (fault : ParseFault) → ShownBy (BeginsThen target_part) (followed_tokens target_part) (λ fault w. IsDeep (Here fault) 100 (target_depth w.part)) before fault
-      → ShownBy BeginsHead head_tokens (λ fault h. IsAmissHead c given limited (Here fault) h) (token (Keyword 17) spot ∷ before) fault
+      → ShownBy BeginsHead head_tokens (λ fault h. IsAmissHead c given limit (Here fault) h) (token (Keyword 17) spot ∷ before) fault
   shown_for fault s = record {
     front = token (Keyword 17) spot ∷ s.front;
     shown_by = s.shown_by;
@@ -116,16 +117,16 @@ module _ (c : Context) (given : List (List ℕ)) (limited : Bool) (spot : Spot) 
     begun = for_begins spot s.front s.begun;
     none = λ h more is.
         let f = for_there spot h (s.front ++ s.shown_by ∷ more) is in
-        for_amiss c given limited (Here fault) (target_depth f.part.part) h (s.none f.part more f.tokens_are) f.higher;
+        for_amiss c given limit (Here fault) (target_depth f.part.part) h (s.none f.part more f.tokens_are) f.higher;
   }
 
-  ended_for : (stop : Stop) → EndedBy (BeginsThen target_part) (followed_tokens target_part) (λ w. IsDeep stop 100 (target_depth w.part)) before → EndedBy BeginsHead head_tokens (IsAmissHead c given limited stop) (token (Keyword 17) spot ∷ before)
+  ended_for : (stop : Stop) → EndedBy (BeginsThen target_part) (followed_tokens target_part) (λ w. IsDeep stop 100 (target_depth w.part)) before → EndedBy BeginsHead head_tokens (IsAmissHead c given limit stop) (token (Keyword 17) spot ∷ before)
   ended_for stop e = record {
     begun = for_begins spot before e.begun;
-    none = λ h is. let f = for_there spot h before is in for_amiss c given limited stop (target_depth f.part.part) h (e.none f.part f.tokens_are) f.higher;
+    none = λ h is. let f = for_there spot h before is in for_amiss c given limit stop (target_depth f.part.part) h (e.none f.part f.tokens_are) f.higher;
   }
 
-  refused_for : (stop : Stop) → TargetsRefused target_part 100 before stop → HeadRefused c given limited (token (Keyword 17) spot ∷ before) stop
+  refused_for : (stop : Stop) → TargetsRefused target_part 100 before stop → HeadRefused c given limit (token (Keyword 17) spot ∷ before) stop
   refused_for (Here Memory) is = tt
   refused_for (Here (Unexpected at)) is = shown_for (Unexpected at) is
   refused_for (Here (Unsupported at)) (inl is) = inl (shown_for (Unsupported at) is)
@@ -136,7 +137,7 @@ module _ (c : Context) (given : List (List ℕ)) (limited : Bool) (spot : Spot) 
   refused_for End is = ended_for End is
 
 pub for_target_refused : (c : Context) (before : List Token) (stop : Stop) → TargetsRefused target_part 100 before stop → OpeningRefused c 17 before stop
-for_target_refused c before stop is = record { there = λ given limited spot. refused_for c given limited spot before stop is }
+for_target_refused c before stop is = record { there = λ given limit spot. refused_for c given limit spot before stop is }
 
 -- ---- behind the target
 
@@ -152,8 +153,8 @@ in_turns {before = before} {middle = middle} spot t = turns_on target_part (one_
 
 pub for_in_refused : (c : Context) (tree : _) (before middle : List Token) (stop : Stop) → Took target_part target_tree before tree middle → Refused (one_keyword 22) 0 middle stop → OpeningRefused c 17 before stop
 for_in_refused c tree before middle stop t is = record {
-  there = λ given limited spot.
-      refused_part_head c given limited (one_keyword 22) 0 (token (Keyword 17) spot ∷ target_tokens t.written) middle (token (Keyword 17) spot ∷ before) stop (λ n. for_in spot t.written (n + t.is_read.steps))
+  there = λ given limit spot.
+      refused_part_head c given limit (one_keyword 22) 0 (token (Keyword 17) spot ∷ target_tokens t.written) middle (token (Keyword 17) spot ∷ before) stop (λ n. for_in spot t.written (n + t.is_read.steps))
       (ap (λ ts. token (Keyword 17) spot ∷ ts) t.before_is)
       (begins_part_head (one_keyword 22) (token (Keyword 17) spot ∷ target_tokens t.written) (λ b. for_head spot t.written b some_exprs some_spot None) (λ b. exprs_tokens some_exprs ++ colon_tokens some_spot None) (λ b. refl))
       (in_turns spot t) (λ why n b left deep. absurd (not_deep why deep)) is;
@@ -173,8 +174,8 @@ for_before {behind = behind} spot t k = ap (λ ts. token (Keyword 17) spot ∷ t
 
 pub for_items_refused : (c : Context) (tree : _) (before middle behind : List Token) (at : Pos) (stop : Stop) → Took target_part target_tree before tree middle → Taken (Keyword 22) middle at behind → Refused exprs_part 100 behind stop → OpeningRefused c 17 before stop
 for_items_refused c tree before middle behind at stop t k is = record {
-  there = λ given limited spot.
-      refused_part_head c given limited exprs_part 100 ((token (Keyword 17) spot ∷ target_tokens t.written) ++ token (Keyword 22) k.spot ∷ []) behind (token (Keyword 17) spot ∷ before) stop
+  there = λ given limit spot.
+      refused_part_head c given limit exprs_part 100 ((token (Keyword 17) spot ∷ target_tokens t.written) ++ token (Keyword 22) k.spot ∷ []) behind (token (Keyword 17) spot ∷ before) stop
       (λ n. for_exprs spot t.written k.spot ((n + 0) + t.is_read.steps)) (for_before spot t k)
       (begins_part_head exprs_part ((token (Keyword 17) spot ∷ target_tokens t.written) ++ token (Keyword 22) k.spot ∷ []) (λ e. for_head spot t.written k.spot e some_spot None) (λ e. colon_tokens some_spot None)
       (λ e. sym (append_assoc (token (Keyword 17) spot ∷ target_tokens t.written) (token (Keyword 22) k.spot ∷ []) (exprs_tokens e ++ colon_tokens some_spot None))))

@@ -4,6 +4,7 @@ use Rattle.std.specs.Bool.{⊤}
 use Rattle.prov_base.specs.declared.place.Pos.{Pos}
 use Rattle.py_lines.specs.declared.parts.Token.{Token}
 use Rattle.py_lines.specs.declared.parts.TokenKind.TheVariants.{Keyword, Sign}
+use Rattle.py_grammar.specs.declared.context.Limit.{Limit}
 use Rattle.py_grammar.specs.declared.fault.ParseFault.{ParseFault}
 use Rattle.py_grammar.specs.declared.fault.ParseFault.TheVariants.{Unexpected, Unsupported, BadIndent, TooDeep, TooMany, Memory}
 use Rattle.py_grammar.specs.declared.fault.Stop.{Stop}
@@ -211,19 +212,19 @@ begins_part_head q front h tail spells tokens b = inl (record {
 
 -- ---- how it is refused
 
-amiss_deep : (c : Context) (given : List (List ℕ)) (limited : Bool) (stop : Stop) (h : Head) → IsDeep stop 100 (head_depth h) → IsAmissHead c given limited stop h
-amiss_deep c given limited (Here (TooDeep at)) h deep = inl deep
-amiss_deep c given limited (Here (Unexpected at)) h deep = absurd deep
-amiss_deep c given limited (Here (Unsupported at)) h deep = absurd deep
-amiss_deep c given limited (Here (BadIndent at)) h deep = absurd deep
-amiss_deep c given limited (Here (TooMany at)) h deep = absurd deep
-amiss_deep c given limited (Here Memory) h deep = absurd deep
-amiss_deep c given limited End h deep = absurd deep
+amiss_deep : (c : Context) (given : List (List ℕ)) (limit : Option Limit) (stop : Stop) (h : Head) → IsDeep stop 100 (head_depth h) → IsAmissHead c given limit stop h
+amiss_deep c given limit (Here (TooDeep at)) h deep = inl deep
+amiss_deep c given limit (Here (Unexpected at)) h deep = absurd deep
+amiss_deep c given limit (Here (Unsupported at)) h deep = absurd deep
+amiss_deep c given limit (Here (BadIndent at)) h deep = absurd deep
+amiss_deep c given limit (Here (TooMany at)) h deep = absurd deep
+amiss_deep c given limit (Here Memory) h deep = absurd deep
+amiss_deep c given limit End h deep = absurd deep
 
 -- the tokens begin a line, and those up to and with the next one none that may stand there
-pub shown_head : (c : Context) (given : List (List ℕ)) (limited : Bool) (front : List Token) (t : Token) (behind before : List Token) (fault : ParseFault) → before ≡ front ++ t ∷ behind → MayNameLine t.at fault → BeginsHead front
-    → ((more : List Token) → FindsHead (IsAmissHead c given limited (Here fault)) (front ++ t ∷ more)) → ShownBy BeginsHead head_tokens (λ fault a. IsAmissHead c given limited (Here fault) a) before fault
-shown_head c given limited front t behind before fault is named begun finds = record {
+pub shown_head : (c : Context) (given : List (List ℕ)) (limit : Option Limit) (front : List Token) (t : Token) (behind before : List Token) (fault : ParseFault) → before ≡ front ++ t ∷ behind → MayNameLine t.at fault → BeginsHead front
+    → ((more : List Token) → FindsHead (IsAmissHead c given limit (Here fault)) (front ++ t ∷ more)) → ShownBy BeginsHead head_tokens (λ fault a. IsAmissHead c given limit (Here fault) a) before fault
+shown_head c given limit front t behind before fault is named begun finds = record {
   front = front;
   shown_by = t;
   behind = behind;
@@ -233,9 +234,9 @@ shown_head c given limited front t behind before fault is named begun finds = re
   none = λ h more same. finds_written _ (front ++ t ∷ more) h (finds more) same;
 }
 
-pub ended_line : (c : Context) (given : List (List ℕ)) (limited : Bool) (tokens before : List Token) (stop : Stop) → before ≡ tokens → BeginsHead tokens → FindsHead (IsAmissHead c given limited stop) tokens
-    → EndedBy BeginsHead head_tokens (IsAmissHead c given limited stop) before
-ended_line c given limited tokens before stop is begun finds = subst (λ (ts : List Token). EndedBy BeginsHead head_tokens (IsAmissHead c given limited stop) ts) (sym is)
+pub ended_line : (c : Context) (given : List (List ℕ)) (limit : Option Limit) (tokens before : List Token) (stop : Stop) → before ≡ tokens → BeginsHead tokens → FindsHead (IsAmissHead c given limit stop) tokens
+    → EndedBy BeginsHead head_tokens (IsAmissHead c given limit stop) before
+ended_line c given limit tokens before stop is begun finds = subst (λ (ts : List Token). EndedBy BeginsHead head_tokens (IsAmissHead c given limit stop) ts) (sym is)
     (record { begun = begun; none = λ h same. finds_written _ tokens h finds same })
 
 -- a part stands behind these tokens: how it begins, and what is read there
@@ -243,51 +244,51 @@ record StandsThere {B : Type 0} (q : Production B) (inner : ℕ) (front rest : L
   begins : (tokens : List Token) → Begins q tokens → BeginsHead (front ++ tokens)
   finds : (why : Stop) (more : List Token) → first_token more ≡ first_token rest → Finds (λ b. IsDeep why inner (q.depth b)) q.read more → FindsHead (λ h. IsDeep why 100 (head_depth h)) (front ++ more)
 
-shown_there : {B : Type 0} (c : Context) (given : List (List ℕ)) (limited : Bool) (q : Production B) (inner : ℕ) (front rest before : List Token) (fault : ParseFault) → before ≡ front ++ rest → StandsThere q inner front rest
-    → ((at : Pos) → Names at fault → MayNameLine at fault) → Shown q inner rest fault → ShownBy BeginsHead head_tokens (λ fault a. IsAmissHead c given limited (Here fault) a) before fault
-shown_there c given limited q inner front rest before fault is part named s = shown_head c given limited (front ++ s.front) s.shown_by s.behind before fault
+shown_there : {B : Type 0} (c : Context) (given : List (List ℕ)) (limit : Option Limit) (q : Production B) (inner : ℕ) (front rest before : List Token) (fault : ParseFault) → before ≡ front ++ rest → StandsThere q inner front rest
+    → ((at : Pos) → Names at fault → MayNameLine at fault) → Shown q inner rest fault → ShownBy BeginsHead head_tokens (λ fault a. IsAmissHead c given limit (Here fault) a) before fault
+shown_there c given limit q inner front rest before fault is part named s = shown_head c given limit (front ++ s.front) s.shown_by s.behind before fault
     (is ∙ ap (λ ts. front ++ ts) s.before_is ∙ sym (append_assoc front s.front (s.shown_by ∷ s.behind))) (named s.shown_by.at s.place_is) (part.begins s.front s.begins)
     (λ more. finds_head_same _ _ _ (append_assoc front s.front (s.shown_by ∷ more))
-    (finds_head_weaker _ _ _ (amiss_deep c given limited (Here fault)) (part.finds (Here fault) (s.front ++ s.shown_by ∷ more) (first_shown s.front s.shown_by more s.behind ∙ sym (ap first_token s.before_is)) (s.none more))))
+    (finds_head_weaker _ _ _ (amiss_deep c given limit (Here fault)) (part.finds (Here fault) (s.front ++ s.shown_by ∷ more) (first_shown s.front s.shown_by more s.behind ∙ sym (ap first_token s.before_is)) (s.none more))))
 
-refused_there : {B : Type 0} (c : Context) (given : List (List ℕ)) (limited : Bool) (q : Production B) (inner : ℕ) (front rest before : List Token) (stop : Stop) → before ≡ front ++ rest → StandsThere q inner front rest → Refused q inner rest stop → HeadRefused c given limited before stop
-refused_there c given limited q inner front rest before (Here Memory) is part refused = tt
-refused_there c given limited q inner front rest before (Here (Unexpected at)) is part refused = shown_there c given limited q inner front rest before (Unexpected at) is part (λ at named. named) refused
-refused_there c given limited q inner front rest before (Here (Unsupported at)) is part refused = inl (shown_there c given limited q inner front rest before (Unsupported at) is part (λ at named. tt) refused)
-refused_there c given limited q inner front rest before (Here (TooDeep at)) is part refused = shown_there c given limited q inner front rest before (TooDeep at) is part (λ at named. tt) refused
-refused_there c given limited q inner front rest before (Here (BadIndent at)) is part refused = absurd refused.place_is
-refused_there c given limited q inner front rest before (Here (TooMany at)) is part refused = absurd refused.place_is
-refused_there c given limited q inner front rest before End is part refused =
-    ended_line c given limited (front ++ rest) before End is (part.begins rest refused.0) (finds_head_weaker _ _ _ (amiss_deep c given limited End) (part.finds End rest refl refused.1))
+refused_there : {B : Type 0} (c : Context) (given : List (List ℕ)) (limit : Option Limit) (q : Production B) (inner : ℕ) (front rest before : List Token) (stop : Stop) → before ≡ front ++ rest → StandsThere q inner front rest → Refused q inner rest stop → HeadRefused c given limit before stop
+refused_there c given limit q inner front rest before (Here Memory) is part refused = tt
+refused_there c given limit q inner front rest before (Here (Unexpected at)) is part refused = shown_there c given limit q inner front rest before (Unexpected at) is part (λ at named. named) refused
+refused_there c given limit q inner front rest before (Here (Unsupported at)) is part refused = inl (shown_there c given limit q inner front rest before (Unsupported at) is part (λ at named. tt) refused)
+refused_there c given limit q inner front rest before (Here (TooDeep at)) is part refused = shown_there c given limit q inner front rest before (TooDeep at) is part (λ at named. tt) refused
+refused_there c given limit q inner front rest before (Here (BadIndent at)) is part refused = absurd refused.place_is
+refused_there c given limit q inner front rest before (Here (TooMany at)) is part refused = absurd refused.place_is
+refused_there c given limit q inner front rest before End is part refused =
+    ended_line c given limit (front ++ rest) before End is (part.begins rest refused.0) (finds_head_weaker _ _ _ (amiss_deep c given limit End) (part.finds End rest refl refused.1))
 
 -- a part is refused behind these tokens
-pub refused_part_head : {B : Type 0} (c : Context) (given : List (List ℕ)) (limited : Bool) (q : Production B) (inner : ℕ) (front rest before : List Token) (stop : Stop) (g : ℕ → B → List Token → Option Head) → before ≡ front ++ rest
+pub refused_part_head : {B : Type 0} (c : Context) (given : List (List ℕ)) (limit : Option Limit) (q : Production B) (inner : ℕ) (front rest before : List Token) (stop : Stop) (g : ℕ → B → List Token → Option Head) → before ≡ front ++ rest
     → ((tokens : List Token) → Begins q tokens → BeginsHead (front ++ tokens)) → HeadTurns q front rest g
     → ((why : Stop) (n : ℕ) (b : B) (left : List Token) → IsDeep why inner (q.depth b) → OnlyHead (λ h. IsDeep why 100 (head_depth h)) (g n b left))
-    → Refused q inner rest stop → HeadRefused c given limited before stop
-refused_part_head c given limited q inner front rest before stop g is begins turns deep refused = refused_there c given limited q inner front rest before stop is
+    → Refused q inner rest stop → HeadRefused c given limit before stop
+refused_part_head c given limit q inner front rest before stop g is begins turns deep refused = refused_there c given limit q inner front rest before stop is
     (record { begins = begins; finds = λ why more first finds. turned_head _ _ q front rest more g turns first (deep why) finds })
     refused
 
 -- the tokens begin a line, and the next one fits nothing: this is how it is refused
-pub at_token_head : (c : Context) (given : List (List ℕ)) (limited : Bool) (front : List Token) (t : Token) (ts before : List Token) (fault : ParseFault) → before ≡ front ++ t ∷ ts → BeginsHead front → MayNameLine t.at fault
-    → ((more : List Token) → FindsHead (λ h. ⊥) (front ++ t ∷ more)) → ShownBy BeginsHead head_tokens (λ fault a. IsAmissHead c given limited (Here fault) a) before fault
-at_token_head c given limited front t ts before fault is begun named none =
-    shown_head c given limited front t ts before fault is named begun (λ more. finds_head_weaker _ _ _ (λ h no. absurd no) (none more))
+pub at_token_head : (c : Context) (given : List (List ℕ)) (limit : Option Limit) (front : List Token) (t : Token) (ts before : List Token) (fault : ParseFault) → before ≡ front ++ t ∷ ts → BeginsHead front → MayNameLine t.at fault
+    → ((more : List Token) → FindsHead (λ h. ⊥) (front ++ t ∷ more)) → ShownBy BeginsHead head_tokens (λ fault a. IsAmissHead c given limit (Here fault) a) before fault
+at_token_head c given limit front t ts before fault is begun named none =
+    shown_head c given limit front t ts before fault is named begun (λ more. finds_head_weaker _ _ _ (λ h no. absurd no) (none more))
 
 -- reading stops behind these tokens, where nothing fits that stands there
-pub ended_head : (c : Context) (given : List (List ℕ)) (limited : Bool) (front rest before : List Token) (stop : Stop) → before ≡ front ++ rest → BeginsHead front → IsAtFirst rest stop
-    → (rest ≡ [] → FindsHead (λ h. ⊥) front) → ((t : Token) (ts more : List Token) → rest ≡ t ∷ ts → FindsHead (λ h. ⊥) (front ++ t ∷ more)) → HeadRefused c given limited before stop
-ended_head c given limited front [] before (Here fault) is begun at none_end none = absurd (not_end fault at)
+pub ended_head : (c : Context) (given : List (List ℕ)) (limit : Option Limit) (front rest before : List Token) (stop : Stop) → before ≡ front ++ rest → BeginsHead front → IsAtFirst rest stop
+    → (rest ≡ [] → FindsHead (λ h. ⊥) front) → ((t : Token) (ts more : List Token) → rest ≡ t ∷ ts → FindsHead (λ h. ⊥) (front ++ t ∷ more)) → HeadRefused c given limit before stop
+ended_head c given limit front [] before (Here fault) is begun at none_end none = absurd (not_end fault at)
   where
     not_end : (fault : ParseFault) → Here fault ≡ End → ⊥
     not_end fault same = cc
-ended_head c given limited front [] before End is begun at none_end none =
-    ended_line c given limited front before End (is ∙ append-nil front) begun (finds_head_weaker _ _ _ (λ h no. absurd no) (none_end refl))
-ended_head c given limited front (t ∷ ts) before (Here (Unexpected place)) is begun at none_end none = at_token_head c given limited front t ts before (Unexpected place) is begun at (λ more. none t ts more refl)
-ended_head c given limited front (t ∷ ts) before (Here (Unsupported place)) is begun at none_end none = inl (at_token_head c given limited front t ts before (Unsupported place) is begun tt (λ more. none t ts more refl))
-ended_head c given limited front (t ∷ ts) before (Here (BadIndent place)) is begun at none_end none = absurd at
-ended_head c given limited front (t ∷ ts) before (Here (TooDeep place)) is begun at none_end none = absurd at
-ended_head c given limited front (t ∷ ts) before (Here (TooMany place)) is begun at none_end none = absurd at
-ended_head c given limited front (t ∷ ts) before (Here Memory) is begun at none_end none = absurd at
-ended_head c given limited front (t ∷ ts) before End is begun at none_end none = absurd at
+ended_head c given limit front [] before End is begun at none_end none =
+    ended_line c given limit front before End (is ∙ append-nil front) begun (finds_head_weaker _ _ _ (λ h no. absurd no) (none_end refl))
+ended_head c given limit front (t ∷ ts) before (Here (Unexpected place)) is begun at none_end none = at_token_head c given limit front t ts before (Unexpected place) is begun at (λ more. none t ts more refl)
+ended_head c given limit front (t ∷ ts) before (Here (Unsupported place)) is begun at none_end none = inl (at_token_head c given limit front t ts before (Unsupported place) is begun tt (λ more. none t ts more refl))
+ended_head c given limit front (t ∷ ts) before (Here (BadIndent place)) is begun at none_end none = absurd at
+ended_head c given limit front (t ∷ ts) before (Here (TooDeep place)) is begun at none_end none = absurd at
+ended_head c given limit front (t ∷ ts) before (Here (TooMany place)) is begun at none_end none = absurd at
+ended_head c given limit front (t ∷ ts) before (Here Memory) is begun at none_end none = absurd at
+ended_head c given limit front (t ∷ ts) before End is begun at none_end none = absurd at

@@ -5,6 +5,7 @@ use Rattle.py_lines.specs.declared.parts.Token.{Token}
 use Rattle.py_lines.specs.declared.parts.TokenKind.TheVariants.{Keyword, Sign}
 use Rattle.py_tree.specs.declared.stmt.Form.{Form}
 use Rattle.py_tree.specs.declared.stmt.Globals.{Globals}
+use Rattle.py_grammar.specs.declared.context.Limit.{Limit}
 use Rattle.py_grammar.specs.declared.fault.ParseFault.{ParseFault}
 use Rattle.py_grammar.specs.declared.fault.ParseFault.TheVariants.{Unexpected, Unsupported, BadIndent, TooDeep, TooMany, Memory}
 use Rattle.py_grammar.specs.declared.fault.Stop.{Stop}
@@ -29,9 +30,9 @@ use Rattle.py_grammar.proofs.LineFirsts.{and_false, both_true, simple_some, head
 
 -- ---- where no line may begin
 
-at_first_token : (c : Context) (given : List (List ℕ)) (limited : Bool) (t : Token) (behind : List Token) (fault : ParseFault) → MayNameLine t.at fault → ((h : Head) (more : List Token) → head_tokens h ≡ t ∷ more → IsAmissHead c given limited (Here fault) h)
-    → ShownBy BeginsHead head_tokens (λ fault a. IsAmissHead c given limited (Here fault) a) (t ∷ behind) fault
-at_first_token c given limited t behind fault at_it none = record {
+at_first_token : (c : Context) (given : List (List ℕ)) (limit : Option Limit) (t : Token) (behind : List Token) (fault : ParseFault) → MayNameLine t.at fault → ((h : Head) (more : List Token) → head_tokens h ≡ t ∷ more → IsAmissHead c given limit (Here fault) h)
+    → ShownBy BeginsHead head_tokens (λ fault a. IsAmissHead c given limit (Here fault) a) (t ∷ behind) fault
+at_first_token c given limit t behind fault at_it none = record {
   front = [];
   shown_by = t;
   behind = behind;
@@ -42,8 +43,8 @@ at_first_token c given limited t behind fault at_it none = record {
 }
 
 pub misplaced_refused : (c : Context) (t : Token) (behind : List Token) (stop : Stop) → kind_may c t.kind ≡ false → IsAtFirst (t ∷ behind) stop → Misplaced c (t ∷ behind) stop
-misplaced_refused c t behind (Here (Unexpected place)) absent at = record { there = λ given limited. at_first_token c given limited t behind (Unexpected place) at (λ h more same. misplaced_head c given h t more same absent) }
-misplaced_refused c t behind (Here (Unsupported place)) absent at = record { there = λ given limited. inl (at_first_token c given limited t behind (Unsupported place) tt (λ h more same. misplaced_head c given h t more same absent)) }
+misplaced_refused c t behind (Here (Unexpected place)) absent at = record { there = λ given limit. at_first_token c given limit t behind (Unexpected place) at (λ h more same. misplaced_head c given h t more same absent) }
+misplaced_refused c t behind (Here (Unsupported place)) absent at = record { there = λ given limit. inl (at_first_token c given limit t behind (Unsupported place) tt (λ h more same. misplaced_head c given h t more same absent)) }
 misplaced_refused c t behind (Here (TooDeep place)) absent at = absurd at
 misplaced_refused c t behind (Here (TooMany place)) absent at = absurd at
 misplaced_refused c t behind (Here (BadIndent place)) absent at = absurd at
@@ -60,27 +61,27 @@ no_handler_lacks : (c : Context) (before : List Token) (s : Simple) → before �
 no_handler_lacks c [] s is absent may = absurd (simple_some s (sym is))
 no_handler_lacks c (t ∷ ts) s is absent may = sym (may_as_simple c t.kind absent) ∙ may
 
-pub simple_line : (c : Context) (given : List (List ℕ)) (limited : Bool) (before : List Token) (form : Form) → may_begin c before ≡ true → begins_compound before ≡ false → PlacedFound c.around before form
-    → HeadFound c given limited before (record { what = SimpleIs form; behind = None })
-simple_line c given limited before form may absent f = record {
+pub simple_line : (c : Context) (given : List (List ℕ)) (limit : Option Limit) (before : List Token) (form : Form) → may_begin c before ≡ true → begins_compound before ≡ false → PlacedFound c.around before form
+    → HeadFound c given limit before (record { what = SimpleIs form; behind = None })
+simple_line c given limit before form may absent f = record {
   written = simple_head f.written;
   before_is = f.before_is;
   what_is = f.tree_is;
   behind_is = tt;
   fits = f.fits;
   stands = both_true _ _ (no_handler_lacks c before f.written f.before_is absent may) f.stands;
-  within = λ limit. refl;
+  within = λ passed. refl;
 }
 
-amiss_simple : (c : Context) (given : List (List ℕ)) (limited : Bool) (stop : Stop) (s : Simple) → IsAmissPlaced c.around false stop s → IsAmissHead c given limited stop (simple_head s)
-amiss_simple c given limited (Here (TooDeep at)) s (inl deep) = inl deep
-amiss_simple c given limited (Here (TooDeep at)) s (inr absent) = cc
-amiss_simple c given limited (Here (TooMany at)) s absent = cc
-amiss_simple c given limited (Here (Unexpected at)) s amiss = and_false _ (simple_stands c.around s) amiss
-amiss_simple c given limited (Here (Unsupported at)) s amiss = and_false _ (simple_stands c.around s) amiss
-amiss_simple c given limited (Here (BadIndent at)) s amiss = absurd amiss
-amiss_simple c given limited (Here Memory) s amiss = absurd amiss
-amiss_simple c given limited End s amiss = absurd amiss
+amiss_simple : (c : Context) (given : List (List ℕ)) (limit : Option Limit) (stop : Stop) (s : Simple) → IsAmissPlaced c.around None stop s → IsAmissHead c given limit stop (simple_head s)
+amiss_simple c given limit (Here (TooDeep at)) s (inl deep) = inl deep
+amiss_simple c given limit (Here (TooDeep at)) s (inr absent) = cc
+amiss_simple c given limit (Here (TooMany at)) s absent = cc
+amiss_simple c given limit (Here (Unexpected at)) s amiss = and_false _ (simple_stands c.around s) amiss
+amiss_simple c given limit (Here (Unsupported at)) s amiss = and_false _ (simple_stands c.around s) amiss
+amiss_simple c given limit (Here (BadIndent at)) s amiss = absurd amiss
+amiss_simple c given limit (Here Memory) s amiss = absurd amiss
+amiss_simple c given limit End s amiss = absurd amiss
 
 begins_simple_line : (tokens : List Token) → BeginsSimple tokens → BeginsHead tokens
 begins_simple_line tokens (inl b) = inl (record { some = simple_head b.some; more = b.more; tokens_are = b.tokens_are })
@@ -103,48 +104,48 @@ same_begins : (front : List Token) (t : Token) (a b : List Token) → begins_com
 same_begins [] t a b = refl
 same_begins (first ∷ front) t a b = refl
 
-simple_shown : (c : Context) (given : List (List ℕ)) (limited : Bool) (before : List Token) (fault : ParseFault) → begins_compound before ≡ false → ShownBy BeginsSimple simple_tokens (λ fault a. IsAmissPlaced c.around false (Here fault) a) before fault
-    → ShownBy BeginsHead head_tokens (λ fault a. IsAmissHead c given limited (Here fault) a) before fault
-simple_shown c given limited before fault absent s = record {
+simple_shown : (c : Context) (given : List (List ℕ)) (limit : Option Limit) (before : List Token) (fault : ParseFault) → begins_compound before ≡ false → ShownBy BeginsSimple simple_tokens (λ fault a. IsAmissPlaced c.around None (Here fault) a) before fault
+    → ShownBy BeginsHead head_tokens (λ fault a. IsAmissHead c given limit (Here fault) a) before fault
+simple_shown c given limit before fault absent s = record {
   front = s.front;
   shown_by = s.shown_by;
   behind = s.behind;
   before_is = s.before_is;
   place_is = s.place_is;
   begun = begins_simple_line s.front s.begun;
-  none = λ h more same. only_simple (IsAmissHead c given limited (Here fault)) (s.front ++ s.shown_by ∷ more) h (same_begins s.front s.shown_by more s.behind ∙ sym (ap begins_compound s.before_is) ∙ absent) same
-      (λ a is. amiss_simple c given limited (Here fault) a (s.none a more is));
+  none = λ h more same. only_simple (IsAmissHead c given limit (Here fault)) (s.front ++ s.shown_by ∷ more) h (same_begins s.front s.shown_by more s.behind ∙ sym (ap begins_compound s.before_is) ∙ absent) same
+      (λ a is. amiss_simple c given limit (Here fault) a (s.none a more is));
 }
 
-simple_ended : (c : Context) (given : List (List ℕ)) (limited : Bool) (before : List Token) (stop : Stop) → begins_compound before ≡ false → EndedBy BeginsSimple simple_tokens (IsAmissPlaced c.around false stop) before
-    → EndedBy BeginsHead head_tokens (IsAmissHead c given limited stop) before
-simple_ended c given limited before stop absent e = record {
+simple_ended : (c : Context) (given : List (List ℕ)) (limit : Option Limit) (before : List Token) (stop : Stop) → begins_compound before ≡ false → EndedBy BeginsSimple simple_tokens (IsAmissPlaced c.around None stop) before
+    → EndedBy BeginsHead head_tokens (IsAmissHead c given limit stop) before
+simple_ended c given limit before stop absent e = record {
   begun = begins_simple_line before e.begun;
-  none = λ h same. only_simple (IsAmissHead c given limited stop) before h absent same (λ a is. amiss_simple c given limited stop a (e.none a is));
+  none = λ h same. only_simple (IsAmissHead c given limit stop) before h absent same (λ a is. amiss_simple c given limit stop a (e.none a is));
 }
 
-pub simple_line_refused : (c : Context) (given : List (List ℕ)) (limited : Bool) (before : List Token) (stop : Stop) → begins_compound before ≡ false → PlacedRefused c.around false before stop → HeadRefused c given limited before stop
-simple_line_refused c given limited before (Here Memory) absent is = tt
-simple_line_refused c given limited before (Here (Unexpected at)) absent is = simple_shown c given limited before (Unexpected at) absent is
-simple_line_refused c given limited before (Here (TooDeep at)) absent is = simple_shown c given limited before (TooDeep at) absent is
-simple_line_refused c given limited before (Here (TooMany at)) absent is = simple_shown c given limited before (TooMany at) absent is
-simple_line_refused c given limited before (Here (BadIndent at)) absent is = absurd is.place_is
-simple_line_refused c given limited before (Here (Unsupported at)) absent (inl is) = inl (simple_shown c given limited before (Unsupported at) absent is)
-simple_line_refused c given limited before (Here (Unsupported at)) absent (inr is) = inr (simple_ended c given limited before (Here (Unsupported at)) absent is)
-simple_line_refused c given limited before End absent is = simple_ended c given limited before End absent is
+pub simple_line_refused : (c : Context) (given : List (List ℕ)) (limit : Option Limit) (before : List Token) (stop : Stop) → begins_compound before ≡ false → PlacedRefused c.around None before stop → HeadRefused c given limit before stop
+simple_line_refused c given limit before (Here Memory) absent is = tt
+simple_line_refused c given limit before (Here (Unexpected at)) absent is = simple_shown c given limit before (Unexpected at) absent is
+simple_line_refused c given limit before (Here (TooDeep at)) absent is = simple_shown c given limit before (TooDeep at) absent is
+simple_line_refused c given limit before (Here (TooMany at)) absent is = simple_shown c given limit before (TooMany at) absent is
+simple_line_refused c given limit before (Here (BadIndent at)) absent is = absurd is.place_is
+simple_line_refused c given limit before (Here (Unsupported at)) absent (inl is) = inl (simple_shown c given limit before (Unsupported at) absent is)
+simple_line_refused c given limit before (Here (Unsupported at)) absent (inr is) = inr (simple_ended c given limit before (Here (Unsupported at)) absent is)
+simple_line_refused c given limit before End absent is = simple_ended c given limit before End absent is
 
 -- ---- `global`
 
-pub global_line : (c : Context) (given : List (List ℕ)) (limited : Bool) (spot : Spot) (before rest : List Token) (names : Globals) → before ≡ token (Keyword 19) spot ∷ rest → may_begin c before ≡ true → GlobalFound given rest names
-    → HeadFound c given limited before (record { what = Global names; behind = None })
-global_line c given limited spot before rest names is may g = record {
+pub global_line : (c : Context) (given : List (List ℕ)) (limit : Option Limit) (spot : Spot) (before rest : List Token) (names : Globals) → before ≡ token (Keyword 19) spot ∷ rest → may_begin c before ≡ true → GlobalFound given rest names
+    → HeadFound c given limit before (record { what = Global names; behind = None })
+global_line c given limit spot before rest names is may g = record {
   written = global_head spot g.written;
   before_is = is ∙ ap (λ ts. token (Keyword 19) spot ∷ ts) g.before_is;
   what_is = g.names_are;
   behind_is = tt;
   fits = omega arith;
   stands = both_true _ _ (word_is_placed c 19 spot before rest is refl may) g.none;
-  within = λ limit. refl;
+  within = λ passed. refl;
 }
 
 -- ---- `else`, `try`
@@ -185,47 +186,47 @@ try_found c before spot = record {
 
 -- ---- with what was taken
 
-abbrev RefusedThere : Context → List (List ℕ) → (limited : Bool) → Stop → List Token → Type 0
-RefusedThere c given limited stop ts = HeadRefused c given limited ts stop
+abbrev RefusedThere : Context → List (List ℕ) → (limit : Option Limit) → Stop → List Token → Type 0
+RefusedThere c given limit stop ts = HeadRefused c given limit ts stop
 
-pub opening_refused_there : (c : Context) (given : List (List ℕ)) (limited : Bool) (word : ℕ) (at : Pos) (before rest : List Token) (stop : Stop) → Taken (Keyword word) before at rest → OpeningRefused c word rest stop → HeadRefused c given limited before stop
-opening_refused_there c given limited word at before rest stop t refused = subst (RefusedThere c given limited stop) (sym t.before_is) (refused.there given limited t.spot)
+pub opening_refused_there : (c : Context) (given : List (List ℕ)) (limit : Option Limit) (word : ℕ) (at : Pos) (before rest : List Token) (stop : Stop) → Taken (Keyword word) before at rest → OpeningRefused c word rest stop → HeadRefused c given limit before stop
+opening_refused_there c given limit word at before rest stop t refused = subst (RefusedThere c given limit stop) (sym t.before_is) (refused.there given limit t.spot)
 
-pub sign_refused_there : (c : Context) (given : List (List ℕ)) (limited : Bool) (word : ℕ) (at : Pos) (before rest after : List Token) (what : What) (stop : Stop) → Taken (Keyword word) before at rest → OpeningFound c word rest what after
-    → Refused (one_sign 7) 0 after stop → HeadRefused c given limited before stop
-sign_refused_there c given limited word at before rest after what stop t found refused =
-    subst (RefusedThere c given limited stop) (sym t.before_is) (colon_refused c given limited word (token (Keyword word) t.spot ∷ rest) after what stop (found t.spot) refused)
+pub sign_refused_there : (c : Context) (given : List (List ℕ)) (limit : Option Limit) (word : ℕ) (at : Pos) (before rest after : List Token) (what : What) (stop : Stop) → Taken (Keyword word) before at rest → OpeningFound c word rest what after
+    → Refused (one_sign 7) 0 after stop → HeadRefused c given limit before stop
+sign_refused_there c given limit word at before rest after what stop t found refused =
+    subst (RefusedThere c given limit stop) (sym t.before_is) (colon_refused c given limit word (token (Keyword word) t.spot ∷ rest) after what stop (found t.spot) refused)
 
-pub behind_refused_there : (c : Context) (given : List (List ℕ)) (limited : Bool) (word : ℕ) (at colon_at : Pos) (before rest after behind : List Token) (what : What) (around : Around) (stop : Stop) → Taken (Keyword word) before at rest
-    → OpeningFound c word rest what after → Taken (Sign 7) after colon_at behind → around ≡ inner_around word c.around → BehindRefused around limited behind stop → HeadRefused c given limited before stop
-behind_refused_there c given limited word at colon_at before rest after behind what around stop t found colon is refused =
-    subst (RefusedThere c given limited stop) (sym t.before_is)
-    (behind_refused c given limited word (token (Keyword word) t.spot ∷ rest) after behind what colon.spot stop (found t.spot) colon.before_is (subst (λ (a : Around). BehindRefused a limited behind stop) is refused))
+pub behind_refused_there : (c : Context) (given : List (List ℕ)) (limit : Option Limit) (word : ℕ) (at colon_at : Pos) (before rest after behind : List Token) (what : What) (around : Around) (stop : Stop) → Taken (Keyword word) before at rest
+    → OpeningFound c word rest what after → Taken (Sign 7) after colon_at behind → around ≡ inner_around word c.around → BehindRefused around limit behind stop → HeadRefused c given limit before stop
+behind_refused_there c given limit word at colon_at before rest after behind what around stop t found colon is refused =
+    subst (RefusedThere c given limit stop) (sym t.before_is)
+    (behind_refused c given limit word (token (Keyword word) t.spot ∷ rest) after behind what colon.spot stop (found t.spot) colon.before_is (subst (λ (a : Around). BehindRefused a limit behind stop) is refused))
 
-pub line_there : (c : Context) (given : List (List ℕ)) (limited : Bool) (word : ℕ) (at colon_at : Pos) (before rest after behind : List Token) (what : What) (written : Option Behind) (around : Around) → Taken (Keyword word) before at rest
-    → is_compound word ≡ true → may_begin c before ≡ true → OpeningFound c word rest what after → Taken (Sign 7) after colon_at behind → around ≡ inner_around word c.around → BehindFound around limited behind written
-    → HeadFound c given limited before (record { what = what; behind = written })
-line_there c given limited word at colon_at before rest after behind what written around t word_is may found colon is b =
-    subst (λ (ts : List Token). HeadFound c given limited ts (record { what = what; behind = written })) (sym t.before_is)
-    (line_found c given limited word (token (Keyword word) t.spot ∷ rest) after behind (record { what = what; behind = written }) colon.spot (found t.spot) colon.before_is
-    (word_is_placed c word t.spot before rest t.before_is word_is may) (subst (λ (a : Around). BehindFound a limited behind written) is b))
+pub line_there : (c : Context) (given : List (List ℕ)) (limit : Option Limit) (word : ℕ) (at colon_at : Pos) (before rest after behind : List Token) (what : What) (written : Option Behind) (around : Around) → Taken (Keyword word) before at rest
+    → is_compound word ≡ true → may_begin c before ≡ true → OpeningFound c word rest what after → Taken (Sign 7) after colon_at behind → around ≡ inner_around word c.around → BehindFound around limit behind written
+    → HeadFound c given limit before (record { what = what; behind = written })
+line_there c given limit word at colon_at before rest after behind what written around t word_is may found colon is b =
+    subst (λ (ts : List Token). HeadFound c given limit ts (record { what = what; behind = written })) (sym t.before_is)
+    (line_found c given limit word (token (Keyword word) t.spot ∷ rest) after behind (record { what = what; behind = written }) colon.spot (found t.spot) colon.before_is
+    (word_is_placed c word t.spot before rest t.before_is word_is may) (subst (λ (a : Around). BehindFound a limit behind written) is b))
 
-pub global_refused_there : (c : Context) (given : List (List ℕ)) (limited : Bool) (word : ℕ) (at : Pos) (before rest : List Token) (stop : Stop) → Taken (Keyword word) before at rest → word ≡ 19 → GlobalRefused given rest stop → HeadRefused c given limited before stop
-global_refused_there c given limited word at before rest stop t is refused =
-    subst (RefusedThere c given limited stop) (sym (t.before_is ∙ ap (λ n. token (Keyword n) t.spot ∷ rest) is)) (refused.there c limited t.spot)
+pub global_refused_there : (c : Context) (given : List (List ℕ)) (limit : Option Limit) (word : ℕ) (at : Pos) (before rest : List Token) (stop : Stop) → Taken (Keyword word) before at rest → word ≡ 19 → GlobalRefused given rest stop → HeadRefused c given limit before stop
+global_refused_there c given limit word at before rest stop t is refused =
+    subst (RefusedThere c given limit stop) (sym (t.before_is ∙ ap (λ n. token (Keyword n) t.spot ∷ rest) is)) (refused.there c limit t.spot)
 
-pub global_there : (c : Context) (given : List (List ℕ)) (limited : Bool) (word : ℕ) (at : Pos) (before rest : List Token) (names : Globals) → Taken (Keyword word) before at rest → word ≡ 19 → may_begin c before ≡ true → GlobalFound given rest names
-    → HeadFound c given limited before (record { what = Global names; behind = None })
-global_there c given limited word at before rest names t is may g =
-    global_line c given limited t.spot before rest names (t.before_is ∙ ap (λ n. token (Keyword n) t.spot ∷ rest) is) may g
+pub global_there : (c : Context) (given : List (List ℕ)) (limit : Option Limit) (word : ℕ) (at : Pos) (before rest : List Token) (names : Globals) → Taken (Keyword word) before at rest → word ≡ 19 → may_begin c before ≡ true → GlobalFound given rest names
+    → HeadFound c given limit before (record { what = Global names; behind = None })
+global_there c given limit word at before rest names t is may g =
+    global_line c given limit t.spot before rest names (t.before_is ∙ ap (λ n. token (Keyword n) t.spot ∷ rest) is) may g
 
 -- where no keyword was taken
-pub simple_there : (c : Context) (given : List (List ℕ)) (limited : Bool) (before kept : List Token) (form : Form) → kept ≡ before → may_begin c before ≡ true → begins_compound before ≡ false → PlacedFound c.around kept form
-    → HeadFound c given limited before (record { what = SimpleIs form; behind = None })
-simple_there c given limited before kept form is may other f = simple_line c given limited before form may other (subst (λ (ts : List Token). PlacedFound c.around ts form) is f)
+pub simple_there : (c : Context) (given : List (List ℕ)) (limit : Option Limit) (before kept : List Token) (form : Form) → kept ≡ before → may_begin c before ≡ true → begins_compound before ≡ false → PlacedFound c.around kept form
+    → HeadFound c given limit before (record { what = SimpleIs form; behind = None })
+simple_there c given limit before kept form is may other f = simple_line c given limit before form may other (subst (λ (ts : List Token). PlacedFound c.around ts form) is f)
 
-pub simple_refused_there : (c : Context) (given : List (List ℕ)) (limited : Bool) (before kept : List Token) (stop : Stop) → kept ≡ before → begins_compound before ≡ false → PlacedRefused c.around false kept stop → HeadRefused c given limited before stop
-simple_refused_there c given limited before kept stop is other refused = simple_line_refused c given limited before stop other (subst (λ (ts : List Token). PlacedRefused c.around false ts stop) is refused)
+pub simple_refused_there : (c : Context) (given : List (List ℕ)) (limit : Option Limit) (before kept : List Token) (stop : Stop) → kept ≡ before → begins_compound before ≡ false → PlacedRefused c.around None kept stop → HeadRefused c given limit before stop
+simple_refused_there c given limit before kept stop is other refused = simple_line_refused c given limit before stop other (subst (λ (ts : List Token). PlacedRefused c.around None ts stop) is refused)
 
 -- ---- tokens that may not begin a line
 

@@ -6,6 +6,7 @@ use Rattle.py_lines.specs.declared.parts.TokenKind.TheVariants.{Word, Keyword, S
 use Rattle.py_tree.specs.declared.expr.Expr.{Expr as ExprRead}
 use Rattle.py_tree.specs.declared.stmt.Params.{Params as ParamsRead}
 use Rattle.py_tree.specs.Erasure.{expr_of}
+use Rattle.py_grammar.specs.declared.context.Limit.{Limit}
 use Rattle.py_grammar.specs.declared.fault.ParseFault.TheVariants.{Unexpected, Unsupported, BadIndent, TooDeep, TooMany, Memory}
 use Rattle.py_grammar.specs.declared.fault.Stop.{Stop}
 use Rattle.py_grammar.specs.declared.fault.Stop.TheVariants.{Here, End}
@@ -64,16 +65,16 @@ base_turns spot name_at name next = record { before = 0; behind = 0; turns = λ 
 
 pub class_name_refused : (c : Context) (before : List Token) (stop : Stop) → Refused one_name 0 before stop → OpeningRefused c 9 before stop
 class_name_refused c before stop is = record {
-  there = λ given limited spot.
-      refused_part_head c given limited one_name 0 (token (Keyword 9) spot ∷ []) before (token (Keyword 9) spot ∷ before) stop (class_named spot) refl
+  there = λ given limit spot.
+      refused_part_head c given limit one_name 0 (token (Keyword 9) spot ∷ []) before (token (Keyword 9) spot ∷ before) stop (class_named spot) refl
       (begins_part_head one_name (token (Keyword 9) spot ∷ []) (λ found. class_head spot found.0 found.1 no_base some_spot None) (λ found. colon_tokens some_spot None) (λ found. refl))
       (class_turns spot before) (λ why n found left deep. absurd (not_deep why deep)) is;
 }
 
 pub class_base_refused : (c : Context) (place : Pos) (name : List ℕ) (before after : List Token) (stop : Stop) → TakenName before place name after → Refused base_part 100 after stop → OpeningRefused c 9 before stop
 class_base_refused c place name before after stop f is = record {
-  there = λ given limited spot.
-      refused_part_head c given limited base_part 100 (token (Keyword 9) spot ∷ word name f.spot) after (token (Keyword 9) spot ∷ before) stop (λ n of rest. read_colon n (class_head spot f.spot name of) rest)
+  there = λ given limit spot.
+      refused_part_head c given limit base_part 100 (token (Keyword 9) spot ∷ word name f.spot) after (token (Keyword 9) spot ∷ before) stop (λ n of rest. read_colon n (class_head spot f.spot name of) rest)
       (ap (λ ts. token (Keyword 9) spot ∷ ts) f.before_is)
       (begins_part_head base_part (token (Keyword 9) spot ∷ word name f.spot) (λ of. class_head spot f.spot name of some_spot None) (λ of. colon_tokens some_spot None) (λ of. refl))
       (base_turns spot f.spot name after) (λ why n of left deep. absurd (not_deep_there why deep)) is;
@@ -134,8 +135,8 @@ bracket_turns spot name_at name next = record {
 
 pub def_name_refused : (c : Context) (before : List Token) (stop : Stop) → Refused one_name 0 before stop → OpeningRefused c 11 before stop
 def_name_refused c before stop is = record {
-  there = λ given limited spot.
-      refused_part_head c given limited one_name 0 (token (Keyword 11) spot ∷ []) before (token (Keyword 11) spot ∷ before) stop (def_named spot) refl
+  there = λ given limit spot.
+      refused_part_head c given limit one_name 0 (token (Keyword 11) spot ∷ []) before (token (Keyword 11) spot ∷ before) stop (def_named spot) refl
       (begins_part_head one_name (token (Keyword 11) spot ∷ []) (λ found. def_head spot found.0 found.1 some_spot no_params some_spot some_spot None) (λ found. token (Sign 0) some_spot ∷ token (Sign 1) some_spot ∷ colon_tokens some_spot None) (λ found. refl))
       (def_turns spot before) (λ why n found left deep. absurd (not_deep why deep)) is;
 }
@@ -150,7 +151,7 @@ no_method false false false false d x inner other = refl
 
 pub def_no_method : (c : Context) (place : Pos) (name : List ℕ) (before after : List Token) → TakenName before place name after → c.around.at_module_level ≡ false → may_be_method name ≡ false → OpeningRefused c 11 before (Here (Unsupported place))
 def_no_method c place name before after f inner other = record {
-  there = λ given limited spot. inl (shown_head c given limited (token (Keyword 11) spot ∷ []) (token (Word name) f.spot) after (token (Keyword 11) spot ∷ before) (Unsupported place)
+  there = λ given limit spot. inl (shown_head c given limit (token (Keyword 11) spot ∷ []) (token (Word name) f.spot) after (token (Keyword 11) spot ∷ before) (Unsupported place)
       (ap (λ ts. token (Keyword 11) spot ∷ ts) f.before_is) tt
       (spelled_head (def_head spot f.spot name some_spot no_params some_spot some_spot None) (token (Keyword 11) spot ∷ []) _ refl)
       (λ more. record {
@@ -171,27 +172,27 @@ not_different l m i o false x is = by (not l && (m || i)) (m || (i && o))
     by true false = refl
     by false b = refl
 
-repeated_amiss : (c : Context) (given : List (List ℕ)) (limited : Bool) (spot name_at : Spot) (name : List ℕ) (why : Stop) (n : ℕ) (w : BracketNames) (left : List Token) → IsRepeatedIn why w
-    → OnlyHead (IsAmissHead c given limited why) (def_bracket spot name_at name n w left)
-repeated_amiss c given limited spot name_at name (Here (Unexpected at)) n w left is = only_colon _ n (def_head spot name_at name w.0 w.1 w.2) left
+repeated_amiss : (c : Context) (given : List (List ℕ)) (limit : Option Limit) (spot name_at : Spot) (name : List ℕ) (why : Stop) (n : ℕ) (w : BracketNames) (left : List Token) → IsRepeatedIn why w
+    → OnlyHead (IsAmissHead c given limit why) (def_bracket spot name_at name n w left)
+repeated_amiss c given limit spot name_at name (Here (Unexpected at)) n w left is = only_colon _ n (def_head spot name_at name w.0 w.1 w.2) left
     (λ colon behind. not_different (lacks_handler c.last) c.around.at_module_level c.around.in_class (may_be_method name) (are_different (params_list w.1)) (behind_stands in_def_suite behind) is)
-repeated_amiss c given limited spot name_at name (Here (Unsupported at)) n w left is = absurd is
-repeated_amiss c given limited spot name_at name (Here (BadIndent at)) n w left is = absurd is
-repeated_amiss c given limited spot name_at name (Here (TooDeep at)) n w left is = absurd is
-repeated_amiss c given limited spot name_at name (Here (TooMany at)) n w left is = absurd is
-repeated_amiss c given limited spot name_at name (Here Memory) n w left is = absurd is
-repeated_amiss c given limited spot name_at name End n w left is = absurd is
+repeated_amiss c given limit spot name_at name (Here (Unsupported at)) n w left is = absurd is
+repeated_amiss c given limit spot name_at name (Here (BadIndent at)) n w left is = absurd is
+repeated_amiss c given limit spot name_at name (Here (TooDeep at)) n w left is = absurd is
+repeated_amiss c given limit spot name_at name (Here (TooMany at)) n w left is = absurd is
+repeated_amiss c given limit spot name_at name (Here Memory) n w left is = absurd is
+repeated_amiss c given limit spot name_at name End n w left is = absurd is
 
 def_spells : (spot name_at : Spot) (name : List ℕ) (w : BracketNames) (colon : Spot) (behind : Option Simple) → head_tokens (def_head spot name_at name w.0 w.1 w.2 colon behind) ≡ (token (Keyword 11) spot ∷ word name name_at) ++ (bracket_tokens w ++ colon_tokens colon behind)
 def_spells spot name_at name w colon behind = ap (λ ts. token (Keyword 11) spot ∷ token (Word name) name_at ∷ token (Sign 0) w.0 ∷ ts) (sym (append_assoc (params_tokens w.1) (token (Sign 1) w.2 ∷ []) (colon_tokens colon behind)))
 
 pub def_params_refused : (c : Context) (place : Pos) (name : List ℕ) (before after : List Token) (stop : Stop) → TakenName before place name after → RefusedAmiss bracket_part IsRepeatedIn after stop → OpeningRefused c 11 before stop
 def_params_refused c place name before after stop f is = record {
-  there = λ given limited spot.
-      amiss_head c given limited bracket_part IsRepeatedIn (token (Keyword 11) spot ∷ word name f.spot) after (token (Keyword 11) spot ∷ before) stop (def_bracket spot f.spot name)
+  there = λ given limit spot.
+      amiss_head c given limit bracket_part IsRepeatedIn (token (Keyword 11) spot ∷ word name f.spot) after (token (Keyword 11) spot ∷ before) stop (def_bracket spot f.spot name)
       (ap (λ ts. token (Keyword 11) spot ∷ ts) f.before_is)
       (begins_part_head bracket_part (token (Keyword 11) spot ∷ word name f.spot) (λ w. def_head spot f.spot name w.0 w.1 w.2 some_spot None) (λ w. colon_tokens some_spot None) (λ w. def_spells spot f.spot name w some_spot None))
-      (bracket_turns spot f.spot name after) (λ why n w left is. repeated_amiss c given limited spot f.spot name why n w left is) is;
+      (bracket_turns spot f.spot name after) (λ why n w left is. repeated_amiss c given limit spot f.spot name why n w left is) is;
 }
 
 method_there : (l m i o d x : Bool) → (not m && not o) ≡ false → d ≡ true → ((not l && (m || i)) && ((m || (i && o)) && d) && x) ≡ ((not l && (m || i)) && x)

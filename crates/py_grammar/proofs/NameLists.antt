@@ -1,5 +1,5 @@
 -- Names in a row, one after the other: what is read of them, and how they are refused.
-use Rattle.std.proofs.Common.{◌≡◌, ℕ, zero, suc, ◌+◌, ◌<◌, Bool, true, false, not, ◌&&◌, ◌||◌, ◌==◌, List, [], ◌∷◌, ◌++◌, Some, None, refl, ap, sym, ◌∙◌, arith, subst, append_assoc, append-nil, if◌then◌else◌}
+use Rattle.std.proofs.Common.{◌≡◌, ℕ, zero, suc, ◌+◌, ◌<◌, Bool, true, false, not, ◌&&◌, ◌||◌, ◌==◌, List, [], ◌∷◌, ◌++◌, Some, None, refl, ap, sym, ◌∙◌, arith, subst, append_assoc, append-nil, if◌then◌else◌, Option}
 use Rattle.std.specs.Prelude.{nat_lt, length, take, drop, codes, ◌-◌}
 use Rattle.std.proofs.Math.Dec.{eqb}
 use Rattle.std.specs.List.{starts_with, ends_with}
@@ -11,6 +11,7 @@ use Rattle.py_lines.specs.declared.parts.Token.{Token}
 use Rattle.py_lines.specs.declared.parts.TokenKind.{TokenKind}
 use Rattle.py_lines.specs.declared.parts.TokenKind.TheVariants.{Word, Keyword, Number, Text, Sign}
 use Rattle.py_tree.specs.declared.stmt.Globals.{Globals}
+use Rattle.py_grammar.specs.declared.context.Limit.{Limit}
 use Rattle.py_grammar.specs.declared.fault.ParseFault.TheVariants.{Unexpected, Unsupported, BadIndent, TooDeep, TooMany, Memory}
 use Rattle.py_grammar.specs.declared.fault.Stop.{Stop}
 use Rattle.py_grammar.specs.declared.fault.Stop.TheVariants.{Here, End}
@@ -341,24 +342,24 @@ global_turn spot (Some (names, t ∷ ts)) = refl
 global_turns : (spot : Spot) (next : List Token) → HeadTurns all_names (token (Keyword 19) spot ∷ []) next (λ n names rest. Some (global_head spot names))
 global_turns spot next = record { before = 0; behind = 0; turns = λ n more first. global_turn spot (read_names (n + 0) more) }
 
-given_amiss : (c : Context) (given : List (List ℕ)) (limited : Bool) (spot : Spot) (stop : Stop) (names : Names) → IsGiven given stop names → IsAmissHead c given limited stop (global_head spot names)
-given_amiss c given limited spot (Here (Unexpected at)) names is = by (word_may c 19) (none_given given (names_list names)) is
+given_amiss : (c : Context) (given : List (List ℕ)) (limit : Option Limit) (spot : Spot) (stop : Stop) (names : Names) → IsGiven given stop names → IsAmissHead c given limit stop (global_head spot names)
+given_amiss c given limit spot (Here (Unexpected at)) names is = by (word_may c 19) (none_given given (names_list names)) is
   where
     by : (a b : Bool) → b ≡ false → (a && b) ≡ false
     by true b is = is
     by false b is = refl
-given_amiss c given limited spot (Here (Unsupported at)) names is = absurd is
-given_amiss c given limited spot (Here (BadIndent at)) names is = absurd is
-given_amiss c given limited spot (Here (TooDeep at)) names is = absurd is
-given_amiss c given limited spot (Here (TooMany at)) names is = absurd is
-given_amiss c given limited spot (Here Memory) names is = absurd is
-given_amiss c given limited spot End names is = absurd is
+given_amiss c given limit spot (Here (Unsupported at)) names is = absurd is
+given_amiss c given limit spot (Here (BadIndent at)) names is = absurd is
+given_amiss c given limit spot (Here (TooDeep at)) names is = absurd is
+given_amiss c given limit spot (Here (TooMany at)) names is = absurd is
+given_amiss c given limit spot (Here Memory) names is = absurd is
+given_amiss c given limit spot End names is = absurd is
 
 pub global_refused : (given : List (List ℕ)) (before : List Token) (stop : Stop) → RefusedAmiss all_names (IsGiven given) before stop → GlobalRefused given before stop
 global_refused given before stop is = record {
-  there = λ c limited spot. amiss_head c given limited all_names (IsGiven given) (token (Keyword 19) spot ∷ []) before (token (Keyword 19) spot ∷ before) stop (λ n names rest. Some (global_head spot names)) refl
+  there = λ c limit spot. amiss_head c given limit all_names (IsGiven given) (token (Keyword 19) spot ∷ []) before (token (Keyword 19) spot ∷ before) stop (λ n names rest. Some (global_head spot names)) refl
       (begins_part_head all_names (token (Keyword 19) spot ∷ []) (global_head spot) (λ names. []) (λ names. ap (λ ts. token (Keyword 19) spot ∷ ts) (sym (append-nil (names_tokens names)))))
-      (global_turns spot before) (λ why n names left is. given_amiss c given limited spot why names is) is;
+      (global_turns spot before) (λ why n names left is. given_amiss c given limit spot why names is) is;
 }
 
 more_at : (rest : List Token) (stop : Stop) → IsMore rest stop → IsAtFirst rest stop

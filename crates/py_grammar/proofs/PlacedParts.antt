@@ -8,6 +8,7 @@ use Rattle.py_lines.specs.declared.parts.TokenKind.{TokenKind}
 use Rattle.py_lines.specs.declared.parts.TokenKind.TheVariants.{Word, Keyword, Number, Text, Sign}
 use Rattle.py_tree.specs.declared.stmt.Form.{Form}
 use Rattle.py_grammar.specs.declared.context.Limit.{Limit}
+use Rattle.py_grammar.specs.declared.context.Limit.TheVariants.{Number as ByNumber, Depth as ByDepth}
 use Rattle.py_grammar.specs.declared.fault.ParseFault.{ParseFault}
 use Rattle.py_grammar.specs.declared.fault.ParseFault.TheVariants.{Unexpected, Unsupported, BadIndent, TooDeep, TooMany, Memory}
 use Rattle.py_grammar.specs.declared.fault.Stop.{Stop}
@@ -21,7 +22,7 @@ use Rattle.py_grammar.specs.Reader.{spot_of}
 use Rattle.py_grammar.specs.StatementReader.{read_simple}
 use Rattle.py_grammar.specs.Parsed.{Only, Finds}
 use Rattle.py_grammar.specs.ParsedSimple.{leaving_none, simple_part, SimpleFound, IsAmiss, BeginsSimple, SimpleShown, SimpleEnds, SimpleRefused, MayName}
-use Rattle.py_grammar.specs.ParsedHead.{PlacedFound, IsAmissPlaced, begins_at, ShownBy, EndedBy, PlacedRefused, BehindRefused, BehindFound, is_compound_kind, may_be_alone, is_refused_kind, is_text_kind, IsLimit, IsRefusedInClass, MayNameLine}
+use Rattle.py_grammar.specs.ParsedHead.{PlacedFound, IsAmissPlaced, begins_at, ShownBy, EndedBy, PlacedRefused, BehindRefused, BehindFound, is_compound_kind, may_be_alone, is_refused_kind, is_text_kind, limit_fault, IsRefusedInClass, MayNameLine}
 use Rattle.py_grammar.proofs.Stops.{some_spot}
 use Rattle.py_grammar.proofs.SimpleReading.{simple_reads}
 use Rattle.py_grammar.proofs.SimpleParts.{nothing_there}
@@ -36,57 +37,53 @@ finds_simple P ts s finds is =
 
 -- ---- what is refused
 
-amiss_placed : (around : Around) (limited : Bool) (stop : Stop) (s : Simple) → IsAmiss around stop s → IsAmissPlaced around limited stop s
-amiss_placed around limited (Here (TooDeep at)) s deep = inl deep
-amiss_placed around limited (Here (Unexpected at)) s amiss = and_false _ (form_stands around (simple_form s)) amiss
-amiss_placed around limited (Here (Unsupported at)) s amiss = and_false _ (form_stands around (simple_form s)) amiss
-amiss_placed around limited (Here (BadIndent at)) s amiss = absurd amiss
-amiss_placed around limited (Here (TooMany at)) s amiss = absurd amiss
-amiss_placed around limited (Here Memory) s amiss = absurd amiss
-amiss_placed around limited End s amiss = absurd amiss
+amiss_placed : (around : Around) (limit : Option Limit) (stop : Stop) (s : Simple) → IsAmiss around stop s → IsAmissPlaced around limit stop s
+amiss_placed around limit (Here (TooDeep at)) s deep = inl deep
+amiss_placed around limit (Here (Unexpected at)) s amiss = and_false _ (form_stands around (simple_form s)) amiss
+amiss_placed around limit (Here (Unsupported at)) s amiss = and_false _ (form_stands around (simple_form s)) amiss
+amiss_placed around limit (Here (BadIndent at)) s amiss = absurd amiss
+amiss_placed around limit (Here (TooMany at)) s amiss = absurd amiss
+amiss_placed around limit (Here Memory) s amiss = absurd amiss
+amiss_placed around limit End s amiss = absurd amiss
 
-placed_shown : (around : Around) (limited : Bool) (before : List Token) (fault : ParseFault) → SimpleShown around before fault → ((at : Pos) → MayName at fault → MayNameLine at fault) → ShownBy BeginsSimple simple_tokens (λ fault a. IsAmissPlaced around limited (Here fault) a) before fault
-placed_shown around limited before fault s named = record {
+placed_shown : (around : Around) (limit : Option Limit) (before : List Token) (fault : ParseFault) → SimpleShown around before fault → ((at : Pos) → MayName at fault → MayNameLine at fault) → ShownBy BeginsSimple simple_tokens (λ fault a. IsAmissPlaced around limit (Here fault) a) before fault
+placed_shown around limit before fault s named = record {
   front = s.front;
   shown_by = s.shown_by;
   behind = s.behind;
   before_is = s.before_is;
   place_is = named s.shown_by.at s.place_is;
   begun = s.begins;
-  none = λ a more same. amiss_placed around limited (Here fault) a (finds_simple _ (s.front ++ s.shown_by ∷ more) a (s.none more) same);
+  none = λ a more same. amiss_placed around limit (Here fault) a (finds_simple _ (s.front ++ s.shown_by ∷ more) a (s.none more) same);
 }
 
-placed_ended : (around : Around) (limited : Bool) (before : List Token) (stop : Stop) → SimpleEnds around before stop → EndedBy BeginsSimple simple_tokens (IsAmissPlaced around limited stop) before
-placed_ended around limited before stop e = record { begun = e.begins; none = λ a same. amiss_placed around limited stop a (finds_simple _ before a e.none same) }
+placed_ended : (around : Around) (limit : Option Limit) (before : List Token) (stop : Stop) → SimpleEnds around before stop → EndedBy BeginsSimple simple_tokens (IsAmissPlaced around limit stop) before
+placed_ended around limit before stop e = record { begun = e.begins; none = λ a same. amiss_placed around limit stop a (finds_simple _ before a e.none same) }
 
-pub placed_refused : (around : Around) (limited : Bool) (before : List Token) (stop : Stop) → SimpleRefused around before stop → PlacedRefused around limited before stop
-placed_refused around limited before (Here Memory) is = tt
-placed_refused around limited before (Here (Unexpected at)) is = placed_shown around limited before (Unexpected at) is (λ place named. named)
-placed_refused around limited before (Here (TooDeep at)) is = placed_shown around limited before (TooDeep at) is (λ place named. tt)
-placed_refused around limited before (Here (TooMany at)) is = absurd is.place_is
-placed_refused around limited before (Here (BadIndent at)) is = absurd is.place_is
-placed_refused around limited before (Here (Unsupported at)) (inl is) = inl (placed_shown around limited before (Unsupported at) is (λ place named. tt))
-placed_refused around limited before (Here (Unsupported at)) (inr is) = inr (placed_ended around limited before (Here (Unsupported at)) is)
-placed_refused around limited before End is = placed_ended around limited before End is
+pub placed_refused : (around : Around) (limit : Option Limit) (before : List Token) (stop : Stop) → SimpleRefused around before stop → PlacedRefused around limit before stop
+placed_refused around limit before (Here Memory) is = tt
+placed_refused around limit before (Here (Unexpected at)) is = placed_shown around limit before (Unexpected at) is (λ place named. named)
+placed_refused around limit before (Here (TooDeep at)) is = placed_shown around limit before (TooDeep at) is (λ place named. tt)
+placed_refused around limit before (Here (TooMany at)) is = absurd is.place_is
+placed_refused around limit before (Here (BadIndent at)) is = absurd is.place_is
+placed_refused around limit before (Here (Unsupported at)) (inl is) = inl (placed_shown around limit before (Unsupported at) is (λ place named. tt))
+placed_refused around limit before (Here (Unsupported at)) (inr is) = inr (placed_ended around limit before (Here (Unsupported at)) is)
+placed_refused around limit before End is = placed_ended around limit before End is
 
 -- nothing stands there
-pub placed_end : (around : Around) (limited : Bool) (before : List Token) → before ≡ [] → PlacedRefused around limited before End
-placed_end around limited before is = subst (λ (ts : List Token). PlacedRefused around limited ts End) (sym is)
+pub placed_end : (around : Around) (limit : Option Limit) (before : List Token) → before ≡ [] → PlacedRefused around limit before End
+placed_end around limit before is = subst (λ (ts : List Token). PlacedRefused around limit ts End) (sym is)
     (record { begun = inl (record { some = pass some_spot; more = simple_tokens (pass some_spot); tokens_are = refl }); none = λ s same. absurd (simple_some s same) })
 
 -- the first token shows it
-at_first_token : (around : Around) (limited : Bool) (t : Token) (behind : List Token) (fault : ParseFault) → MayNameLine t.at fault → ((s : Simple) (more : List Token) → simple_tokens s ≡ t ∷ more → IsAmissPlaced around limited (Here fault) s)
-    → ShownBy BeginsSimple simple_tokens (λ fault a. IsAmissPlaced around limited (Here fault) a) (t ∷ behind) fault
-at_first_token around limited t behind fault named none = record { front = []; shown_by = t; behind = behind; before_is = refl; place_is = named; begun = inl (record { some = pass some_spot; more = simple_tokens (pass some_spot); tokens_are = refl }); none = none }
+at_first_token : (around : Around) (limit : Option Limit) (t : Token) (behind : List Token) (fault : ParseFault) → MayNameLine t.at fault → ((s : Simple) (more : List Token) → simple_tokens s ≡ t ∷ more → IsAmissPlaced around limit (Here fault) s)
+    → ShownBy BeginsSimple simple_tokens (λ fault a. IsAmissPlaced around limit (Here fault) a) (t ∷ behind) fault
+at_first_token around limit t behind fault named none = record { front = []; shown_by = t; behind = behind; before_is = refl; place_is = named; begun = inl (record { some = pass some_spot; more = simple_tokens (pass some_spot); tokens_are = refl }); none = none }
 
 -- a limit is passed
-pub placed_limited : (around : Around) (t : Token) (behind : List Token) (fault : ParseFault) → IsLimit t.at fault → PlacedRefused around true (t ∷ behind) (Here fault)
-placed_limited around t behind (TooMany place) is = at_first_token around true t behind (TooMany place) is (λ s more same. refl)
-placed_limited around t behind (TooDeep place) is = at_first_token around true t behind (TooDeep place) tt (λ s more same. inr refl)
-placed_limited around t behind (Unexpected place) is = absurd is
-placed_limited around t behind (Unsupported place) is = absurd is
-placed_limited around t behind (BadIndent place) is = absurd is
-placed_limited around t behind Memory is = absurd is
+pub placed_limited : (around : Around) (l : Limit) (t : Token) (behind : List Token) → PlacedRefused around (Some l) (t ∷ behind) (Here (limit_fault l t.at))
+placed_limited around ByNumber t behind = at_first_token around (Some ByNumber) t behind (TooMany t.at) refl (λ s more same. refl)
+placed_limited around ByDepth t behind = at_first_token around (Some ByDepth) t behind (TooDeep t.at) tt (λ s more same. inr refl)
 
 -- `def`, `class` and `global`
 refused_is_compound : (kind : TokenKind) → is_refused_kind kind ≡ true → is_compound_kind kind ≡ true
@@ -102,8 +99,8 @@ refused_is_compound (Keyword n) is = by (n == 11) refl (n == 9) refl (n == 19) r
     by false one false other true last any = ap (λ m. is_compound_kind (Keyword m)) (eqb-true n 19 last)
     by false one false other false last any = cc
 
-pub placed_word : (around : Around) (limited : Bool) (t : Token) (behind : List Token) → is_refused_kind t.kind ≡ true → PlacedRefused around limited (t ∷ behind) (Here (Unsupported t.at))
-placed_word around limited t behind is = inl (at_first_token around limited t behind (Unsupported t.at) tt (λ s more same. absurd (no_such s more same)))
+pub placed_word : (around : Around) (limit : Option Limit) (t : Token) (behind : List Token) → is_refused_kind t.kind ≡ true → PlacedRefused around limit (t ∷ behind) (Here (Unsupported t.at))
+placed_word around limit t behind is = inl (at_first_token around limit t behind (Unsupported t.at) tt (λ s more same. absurd (no_such s more same)))
   where
     no_such : (s : Simple) (more : List Token) → simple_tokens s ≡ t ∷ more → ⊥
     no_such s more same = let absent : true ≡ false = sym (refused_is_compound t.kind is) ∙ simple_not_compound s t more same in cc
@@ -153,10 +150,10 @@ text_behind (Number value) is absent = cc
 text_behind (Keyword n) is absent = cc
 text_behind (Sign n) is absent = cc
 
-text_in_class : (around : Around) (limited : Bool) (t : Token) (behind : List Token) (place : Pos) → around.in_class ≡ true → may_be_alone t.kind behind ≡ false → is_text_kind t.kind ≡ true
-    → ShownBy BeginsSimple simple_tokens (λ fault a. IsAmissPlaced around limited (Here fault) a) (t ∷ behind) (Unsupported place)
-text_in_class around limited t [] place inside absent is = absurd (text_behind t.kind is absent)
-text_in_class around limited t (u ∷ us) place inside absent is = record {
+text_in_class : (around : Around) (limit : Option Limit) (t : Token) (behind : List Token) (place : Pos) → around.in_class ≡ true → may_be_alone t.kind behind ≡ false → is_text_kind t.kind ≡ true
+    → ShownBy BeginsSimple simple_tokens (λ fault a. IsAmissPlaced around limit (Here fault) a) (t ∷ behind) (Unsupported place)
+text_in_class around limit t [] place inside absent is = absurd (text_behind t.kind is absent)
+text_in_class around limit t (u ∷ us) place inside absent is = record {
   front = t ∷ [];
   shown_by = u;
   behind = us;
@@ -166,19 +163,19 @@ text_in_class around limited t (u ∷ us) place inside absent is = record {
   none = λ s more same. not_alone around s inside (ap are_alone same);
 }
 
-other_in_class : (around : Around) (limited : Bool) (t : Token) (behind : List Token) (place : Pos) → around.in_class ≡ true → may_be_alone t.kind behind ≡ false → (b : Bool) → is_text_kind t.kind ≡ b
-    → ShownBy BeginsSimple simple_tokens (λ fault a. IsAmissPlaced around limited (Here fault) a) (t ∷ behind) (Unsupported place)
-other_in_class around limited t behind place inside absent true is = text_in_class around limited t behind place inside absent is
-other_in_class around limited t behind place inside absent false is = at_first_token around limited t behind (Unsupported place) tt (λ s more same. amiss_in_class around t behind inside absent is s more same)
+other_in_class : (around : Around) (limit : Option Limit) (t : Token) (behind : List Token) (place : Pos) → around.in_class ≡ true → may_be_alone t.kind behind ≡ false → (b : Bool) → is_text_kind t.kind ≡ b
+    → ShownBy BeginsSimple simple_tokens (λ fault a. IsAmissPlaced around limit (Here fault) a) (t ∷ behind) (Unsupported place)
+other_in_class around limit t behind place inside absent true is = text_in_class around limit t behind place inside absent is
+other_in_class around limit t behind place inside absent false is = at_first_token around limit t behind (Unsupported place) tt (λ s more same. amiss_in_class around t behind inside absent is s more same)
 
-pub placed_in_class : (around : Around) (limited : Bool) (t : Token) (behind : List Token) (stop : Stop) → around.in_class ≡ true → may_be_alone t.kind behind ≡ false → IsRefusedInClass (t ∷ behind) stop → PlacedRefused around limited (t ∷ behind) stop
-placed_in_class around limited t behind (Here (Unexpected place)) inside absent is = at_first_token around limited t behind (Unexpected place) is.0 (λ s more same. amiss_in_class around t behind inside absent is.1 s more same)
-placed_in_class around limited t behind (Here (Unsupported place)) inside absent is = inl (other_in_class around limited t behind place inside absent (is_text_kind t.kind) refl)
-placed_in_class around limited t behind (Here (TooDeep place)) inside absent is = absurd is
-placed_in_class around limited t behind (Here (TooMany place)) inside absent is = absurd is
-placed_in_class around limited t behind (Here (BadIndent place)) inside absent is = absurd is
-placed_in_class around limited t behind (Here Memory) inside absent is = absurd is
-placed_in_class around limited t behind End inside absent is = absurd is
+pub placed_in_class : (around : Around) (limit : Option Limit) (t : Token) (behind : List Token) (stop : Stop) → around.in_class ≡ true → may_be_alone t.kind behind ≡ false → IsRefusedInClass (t ∷ behind) stop → PlacedRefused around limit (t ∷ behind) stop
+placed_in_class around limit t behind (Here (Unexpected place)) inside absent is = at_first_token around limit t behind (Unexpected place) is.0 (λ s more same. amiss_in_class around t behind inside absent is.1 s more same)
+placed_in_class around limit t behind (Here (Unsupported place)) inside absent is = inl (other_in_class around limit t behind place inside absent (is_text_kind t.kind) refl)
+placed_in_class around limit t behind (Here (TooDeep place)) inside absent is = absurd is
+placed_in_class around limit t behind (Here (TooMany place)) inside absent is = absurd is
+placed_in_class around limit t behind (Here (BadIndent place)) inside absent is = absurd is
+placed_in_class around limit t behind (Here Memory) inside absent is = absurd is
+placed_in_class around limit t behind End inside absent is = absurd is
 
 -- ---- what is found
 
@@ -212,19 +209,20 @@ placed_found around t behind form alone f = record {
 
 -- ---- with what is known of the tokens
 
-abbrev PlacedThere : Around → (limited : Bool) → Stop → List Token → Type 0
-PlacedThere around limited stop ts = PlacedRefused around limited ts stop
+abbrev PlacedThere : Around → (limit : Option Limit) → Stop → List Token → Type 0
+PlacedThere around limit stop ts = PlacedRefused around limit ts stop
 
-pub limit_there : (around : Around) (limit : Option Limit) (l : Limit) (before : List Token) (t : Token) (behind : List Token) (fault : ParseFault) → limit ≡ Some l → before ≡ t ∷ behind → IsLimit t.at fault → PlacedRefused around (is_some limit) before (Here fault)
+pub limit_there : (around : Around) (limit : Option Limit) (l : Limit) (before : List Token) (t : Token) (behind : List Token) (fault : ParseFault) → limit ≡ Some l → before ≡ t ∷ behind → fault ≡ limit_fault l t.at → PlacedRefused around limit before (Here fault)
 limit_there around limit l before t behind fault some is at =
-    subst (λ b. PlacedRefused around b before (Here fault)) (sym (ap is_some some)) (subst (PlacedThere around true (Here fault)) (sym is) (placed_limited around t behind fault at))
+    subst (λ w. PlacedRefused around limit before (Here w)) (sym at)
+    (subst (λ o. PlacedRefused around o before (Here (limit_fault l t.at))) (sym some) (subst (PlacedThere around (Some l) (Here (limit_fault l t.at))) (sym is) (placed_limited around l t behind)))
 
-pub word_there : (around : Around) (limited : Bool) (before : List Token) (t : Token) (behind : List Token) → before ≡ t ∷ behind → is_refused_kind t.kind ≡ true → PlacedRefused around limited before (Here (Unsupported t.at))
-word_there around limited before t behind is kind = subst (PlacedThere around limited (Here (Unsupported t.at))) (sym is) (placed_word around limited t behind kind)
+pub word_there : (around : Around) (limit : Option Limit) (before : List Token) (t : Token) (behind : List Token) → before ≡ t ∷ behind → is_refused_kind t.kind ≡ true → PlacedRefused around limit before (Here (Unsupported t.at))
+word_there around limit before t behind is kind = subst (PlacedThere around limit (Here (Unsupported t.at))) (sym is) (placed_word around limit t behind kind)
 
-pub class_there : (around : Around) (limited : Bool) (before : List Token) (t : Token) (behind : List Token) (stop : Stop) → before ≡ t ∷ behind → around.in_class ≡ true → may_be_alone t.kind behind ≡ false → IsRefusedInClass before stop → PlacedRefused around limited before stop
-class_there around limited before t behind stop is inside alone refused =
-    subst (PlacedThere around limited stop) (sym is) (placed_in_class around limited t behind stop inside alone (subst (λ (ts : List Token). IsRefusedInClass ts stop) is refused))
+pub class_there : (around : Around) (limit : Option Limit) (before : List Token) (t : Token) (behind : List Token) (stop : Stop) → before ≡ t ∷ behind → around.in_class ≡ true → may_be_alone t.kind behind ≡ false → IsRefusedInClass before stop → PlacedRefused around limit before stop
+class_there around limit before t behind stop is inside alone refused =
+    subst (PlacedThere around limit stop) (sym is) (placed_in_class around limit t behind stop inside alone (subst (λ (ts : List Token). IsRefusedInClass ts stop) is refused))
 
 pub found_there : (around : Around) (before : List Token) (t : Token) (behind : List Token) (form : Form) → before ≡ t ∷ behind → (around.in_class ≡ true → may_be_alone t.kind behind ≡ true) → SimpleFound around before form → PlacedFound around before form
 found_there around before t behind form is alone f =
@@ -232,22 +230,22 @@ found_there around before t behind form is alone f =
 
 -- ---- behind a `:`
 
-pub behind_none : (around : Around) (limited : Bool) (before : List Token) → before ≡ [] → BehindFound around limited before None
-behind_none around limited before is = record { written = None; before_is = is; what_is = tt; fits = omega arith; stands = refl; within = λ limit. refl }
+pub behind_none : (around : Around) (limit : Option Limit) (before : List Token) → before ≡ [] → BehindFound around limit before None
+behind_none around limit before is = record { written = None; before_is = is; what_is = tt; fits = omega arith; stands = refl; within = λ passed. refl }
 
-pub behind_some : (around : Around) (limited : Bool) (before : List Token) (t : Token) (ts : List Token) (form : Form) → before ≡ t ∷ ts → limited ≡ false → PlacedFound around before form
-    → BehindFound around limited before (Some (record { at = t.at; from = t.span.from; form = form }))
-behind_some around limited before t ts form is free f = record {
+pub behind_some : (around : Around) (limit : Option Limit) (before : List Token) (t : Token) (ts : List Token) (form : Form) → before ≡ t ∷ ts → is_some limit ≡ false → PlacedFound around before form
+    → BehindFound around limit before (Some (record { at = t.at; from = t.span.from; form = form }))
+behind_some around limit before t ts form is free f = record {
   written = Some f.written;
   before_is = f.before_is;
   what_is = record { form_is = f.tree_is; begins = subst (λ (us : List Token). begins_at us t.at t.span.from) (sym is ∙ f.before_is) (refl, refl) };
   fits = f.fits;
   stands = f.stands;
-  within = λ limit. let wrong : true ≡ false = sym limit ∙ free in cc;
+  within = λ passed. let wrong : true ≡ false = sym passed ∙ free in cc;
 }
 
-pub behind_is_refused : (around : Around) (limited : Bool) (before : List Token) (t : Token) (ts : List Token) (stop : Stop) → before ≡ t ∷ ts → PlacedRefused around limited before stop → BehindRefused around limited before stop
-behind_is_refused around limited before t ts stop is refused = record { placed = refused; some = λ none. not_nothing t ts (sym is ∙ none) }
+pub behind_is_refused : (around : Around) (limit : Option Limit) (before : List Token) (t : Token) (ts : List Token) (stop : Stop) → before ≡ t ∷ ts → PlacedRefused around limit before stop → BehindRefused around limit before stop
+behind_is_refused around limit before t ts stop is refused = record { placed = refused; some = λ none. not_nothing t ts (sym is ∙ none) }
 
 -- what is asked in a class is asked nowhere else
 pub outside : (inside alone : Bool) → inside ≡ false → inside ≡ true → alone ≡ true

@@ -7,6 +7,7 @@ use Rattle.py_lines.specs.declared.parts.TokenKind.TheVariants.{Keyword}
 use Rattle.py_tree.specs.declared.expr.Expr.{Expr as BuiltExpr}
 use Rattle.py_tree.specs.declared.stmt.Bound.{Bound}
 use Rattle.py_tree.specs.Erasure.{expr_of}
+use Rattle.py_grammar.specs.declared.context.Limit.{Limit}
 use Rattle.py_grammar.specs.declared.fault.Stop.{Stop}
 use Rattle.py_grammar.specs.declared.part.Part.{Part}
 use Rattle.py_grammar.specs.declared.head.What.{What}
@@ -96,8 +97,8 @@ test_found word head what is c before after part f spot =
 test_refused : (word : ℕ) (head : Spot → Expr → Spot → Option Simple → Head) (what : BuiltExpr → What) → Tested word head what → (c : Context) (before : List Token) (stop : Stop)
     → Refused expr_part 100 before stop → OpeningRefused c word before stop
 test_refused word head what is c before stop refused = record {
-  there = λ given limited spot.
-      refused_part_head c given limited expr_part 100 (token (Keyword word) spot ∷ []) before (token (Keyword word) spot ∷ before) stop (test_turn head spot) refl
+  there = λ given limit spot.
+      refused_part_head c given limit expr_part 100 (token (Keyword word) spot ∷ []) before (token (Keyword word) spot ∷ before) stop (test_turn head spot) refl
       (begins_part_head expr_part (token (Keyword word) spot ∷ []) (λ e. head spot e some_spot None) (λ e. colon_tokens some_spot None) (λ e. is.tokens_are spot e some_spot None))
       (test_turns word head what is spot before)
       (λ why n e left deep. deep_colon why (n + 0) (head spot e) left 100 (expr_depth e) (expr_depth e) (λ colon behind. is.depth_is spot e colon behind) (omega arith) deep) refused;
@@ -131,8 +132,8 @@ with_turns spot next = record { before = 0; behind = 0; turns = λ n more first.
 
 pub with_refused : (c : Context) (before : List Token) (stop : Stop) → Refused expr_part 100 before stop → OpeningRefused c 33 before stop
 with_refused c before stop refused = record {
-  there = λ given limited spot.
-      refused_part_head c given limited expr_part 100 (token (Keyword 33) spot ∷ []) before (token (Keyword 33) spot ∷ before) stop (with_turn spot) refl
+  there = λ given limit spot.
+      refused_part_head c given limit expr_part 100 (token (Keyword 33) spot ∷ []) before (token (Keyword 33) spot ∷ before) stop (with_turn spot) refl
       (begins_part_head expr_part (token (Keyword 33) spot ∷ []) (λ e. with_head spot e no_naming some_spot None) (λ e. colon_tokens some_spot None) (λ e. refl))
       (with_turns spot before) (λ why n e left deep. deep_naming why n spot e left deep) refused;
 }
@@ -154,8 +155,8 @@ called_turns spot before after part f =
 
 pub with_name_refused : (c : Context) (before after : List Token) (part : Part) (stop : Stop) → Found expr_part expr_tree 7 100 before part after → Refused naming_part 100 after stop → OpeningRefused c 33 before stop
 with_name_refused c before after part stop f refused = record {
-  there = λ given limited spot.
-      refused_part_head c given limited naming_part 100 (token (Keyword 33) spot ∷ expr_tokens f.written) after (token (Keyword 33) spot ∷ before) stop (λ n. called_turn spot f.written (n + (expr_is_read f).steps))
+  there = λ given limit spot.
+      refused_part_head c given limit naming_part 100 (token (Keyword 33) spot ∷ expr_tokens f.written) after (token (Keyword 33) spot ∷ before) stop (λ n. called_turn spot f.written (n + (expr_is_read f).steps))
       (ap (λ ts. token (Keyword 33) spot ∷ ts) f.before_is)
       (begins_part_head naming_part (token (Keyword 33) spot ∷ expr_tokens f.written) (λ called. with_head spot f.written called some_spot None) (λ called. colon_tokens some_spot None) (λ called. refl))
       (called_turns spot before after part f)
@@ -220,8 +221,8 @@ except_turns spot next begins = record {
 
 pub except_refused : (c : Context) (before : List Token) (stop : Stop) → begins_expr before ≡ true → Refused expr_part 100 before stop → OpeningRefused c 15 before stop
 except_refused c before stop begins refused = record {
-  there = λ given limited spot.
-      refused_part_head c given limited expr_part 100 (token (Keyword 15) spot ∷ []) before (token (Keyword 15) spot ∷ before) stop (except_turn spot) refl
+  there = λ given limit spot.
+      refused_part_head c given limit expr_part 100 (token (Keyword 15) spot ∷ []) before (token (Keyword 15) spot ∷ before) stop (except_turn spot) refl
       (begins_part_head expr_part (token (Keyword 15) spot ∷ []) (λ e. except_head spot (one_kind e no_naming) some_spot None) (λ e. colon_tokens some_spot None)
       (λ e. ap (λ ts. token (Keyword 15) spot ∷ ts) (append_assoc (expr_tokens e) [] (colon_tokens some_spot None))))
       (except_turns spot before begins) (λ why n e left deep. deep_naming why n spot e left deep) refused;
@@ -245,8 +246,8 @@ class_turns spot before after part begins f =
 
 pub except_name_refused : (c : Context) (before after : List Token) (part : Part) (stop : Stop) → begins_expr before ≡ true → Found expr_part expr_tree 7 100 before part after → Refused naming_part 100 after stop → OpeningRefused c 15 before stop
 except_name_refused c before after part stop begins f refused = record {
-  there = λ given limited spot.
-      refused_part_head c given limited naming_part 100 (token (Keyword 15) spot ∷ expr_tokens f.written) after (token (Keyword 15) spot ∷ before) stop (λ n. class_turn spot f.written (n + (expr_is_read f).steps))
+  there = λ given limit spot.
+      refused_part_head c given limit naming_part 100 (token (Keyword 15) spot ∷ expr_tokens f.written) after (token (Keyword 15) spot ∷ before) stop (λ n. class_turn spot f.written (n + (expr_is_read f).steps))
       (ap (λ ts. token (Keyword 15) spot ∷ ts) f.before_is)
       (begins_part_head naming_part (token (Keyword 15) spot ∷ expr_tokens f.written) (λ called. except_head spot (one_kind f.written called) some_spot None) (λ called. colon_tokens some_spot None)
       (λ called. ap (λ ts. token (Keyword 15) spot ∷ ts) (append_assoc (expr_tokens f.written) (naming_tokens called) (colon_tokens some_spot None))))

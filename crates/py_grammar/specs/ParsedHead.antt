@@ -10,6 +10,8 @@ use Rattle.py_tree.specs.declared.stmt.Globals.{Globals}
 use Rattle.py_tree.specs.Erasure.{expr_of, target_of, form_of}
 use Rattle.py_grammar.specs.declared.context.Context.{Context as Standing}
 use Rattle.py_grammar.specs.declared.context.Last.{Last}
+use Rattle.py_grammar.specs.declared.context.Limit.{Limit}
+use Rattle.py_grammar.specs.declared.context.Limit.TheVariants.{Number, Depth}
 use Rattle.py_grammar.specs.declared.context.Last.TheVariants.{If as AfterIf, Try as AfterTry, Handler}
 use Rattle.py_grammar.specs.declared.fault.ParseFault.{ParseFault}
 use Rattle.py_grammar.specs.declared.fault.ParseFault.TheVariants.{Unexpected, Unsupported, TooDeep, TooMany, Memory}
@@ -200,23 +202,23 @@ pub record PlacedFound (around : Around) (before : List Token) (form : Form) : T
   pub stands : simple_stands around written ≡ true
 
 -- what stands behind a `:`, where none may stand if it would be one too many or lie too deep
-pub record BehindFound (around : Around) (limited : Bool) (before : List Token) (behind : Option Behind) : Type 0 where
+pub record BehindFound (around : Around) (limit : Option Limit) (before : List Token) (behind : Option Behind) : Type 0 where
   pub written : Option Simple
   pub before_is : before ≡ behind_tokens written
   pub what_is : IsBehind behind written
   pub fits : behind_depth written ≤ 100
   pub stands : behind_stands around written ≡ true
-  pub within : limited ≡ true → written ≡ None
+  pub within : is_some limit ≡ true → written ≡ None
 
 -- a line that may stand there
-pub record HeadFound (c : Context) (given : List (List ℕ)) (limited : Bool) (before : List Token) (line : LineHead) : Type 0 where
+pub record HeadFound (c : Context) (given : List (List ℕ)) (limit : Option Limit) (before : List Token) (line : LineHead) : Type 0 where
   pub written : Head
   pub before_is : before ≡ head_tokens written
   pub what_is : IsWhat line.what written
   pub behind_is : IsBehind line.behind (behind_in written)
   pub fits : head_depth written ≤ 100
   pub stands : head_stands c given written ≡ true
-  pub within : limited ≡ true → behind_in written ≡ None
+  pub within : is_some limit ≡ true → behind_in written ≡ None
 
 -- What begins a line up to its `:` was read: every line with these tokens is this one. `word` is its keyword.
 pub record Opening (c : Context) (word : ℕ) (before : List Token) (what : What) (after : List Token) : Type 0 where
@@ -236,23 +238,24 @@ pub record Opening (c : Context) (word : ℕ) (before : List Token) (what : What
 
 -- ---- what is refused
 
--- What has these tokens all the same: with TooDeep and TooMany what passes a limit, else what does not stand there.
-abbrev pub IsAmissPlaced : Around → (limited : Bool) → Stop → Simple → Type 0
-IsAmissPlaced around limited (Here (TooDeep at)) s = (100 < simple_depth s) ⊎ (limited ≡ true)
-IsAmissPlaced around limited (Here (TooMany at)) s = limited ≡ true
-IsAmissPlaced around limited (Here (Unexpected at)) s = simple_stands around s ≡ false
-IsAmissPlaced around limited (Here (Unsupported at)) s = simple_stands around s ≡ false
-IsAmissPlaced around limited stop s = ⊥
+-- What has these tokens all the same: with TooDeep and TooMany what passes that limit, else what does not stand there.
+abbrev pub IsAmissPlaced : Around → (limit : Option Limit) → Stop → Simple → Type 0
+IsAmissPlaced around limit (Here (TooDeep at)) s = (100 < simple_depth s) ⊎ (limit ≡ Some Depth)
+IsAmissPlaced around limit (Here (TooMany at)) s = limit ≡ Some Number
+IsAmissPlaced around limit (Here (Unexpected at)) s = simple_stands around s ≡ false
+IsAmissPlaced around limit (Here (Unsupported at)) s = simple_stands around s ≡ false
+IsAmissPlaced around limit stop s = ⊥
 
-abbrev pub passes : (limited : Bool) → Head → Type 0
-passes limited h = (limited ≡ true) × (is_some (behind_in h) ≡ true)
+-- this limit is passed
+abbrev pub passes : Limit → (limit : Option Limit) → Head → Type 0
+passes one limit h = (limit ≡ Some one) × (is_some (behind_in h) ≡ true)
 
-abbrev pub IsAmissHead : Context → List (List ℕ) → (limited : Bool) → Stop → Head → Type 0
-IsAmissHead c given limited (Here (TooDeep at)) h = (100 < head_depth h) ⊎ passes limited h
-IsAmissHead c given limited (Here (TooMany at)) h = passes limited h
-IsAmissHead c given limited (Here (Unexpected at)) h = head_stands c given h ≡ false
-IsAmissHead c given limited (Here (Unsupported at)) h = head_stands c given h ≡ false
-IsAmissHead c given limited stop h = ⊥
+abbrev pub IsAmissHead : Context → List (List ℕ) → (limit : Option Limit) → Stop → Head → Type 0
+IsAmissHead c given limit (Here (TooDeep at)) h = (100 < head_depth h) ⊎ passes Depth limit h
+IsAmissHead c given limit (Here (TooMany at)) h = passes Number limit h
+IsAmissHead c given limit (Here (Unexpected at)) h = head_stands c given h ≡ false
+IsAmissHead c given limit (Here (Unsupported at)) h = head_stands c given h ≡ false
+IsAmissHead c given limit stop h = ⊥
 
 -- Unexpected and TooMany name this place; Unsupported and TooDeep may name an earlier one.
 abbrev pub MayNameLine : Pos → ParseFault → Type 0
@@ -296,23 +299,23 @@ LineRefused begins tokens amiss before (Here (Unsupported at)) =
 LineRefused begins tokens amiss before (Here fault) = ShownBy begins tokens (λ fault a. amiss (Here fault) a) before fault
 LineRefused begins tokens amiss before End = EndedBy begins tokens (amiss End) before
 
-abbrev pub PlacedRefused : Around → (limited : Bool) → List Token → Stop → Type 0
-PlacedRefused around limited before stop = LineRefused BeginsSimple simple_tokens (IsAmissPlaced around limited) before stop
+abbrev pub PlacedRefused : Around → (limit : Option Limit) → List Token → Stop → Type 0
+PlacedRefused around limit before stop = LineRefused BeginsSimple simple_tokens (IsAmissPlaced around limit) before stop
 
 -- what stands behind a `:` is refused: something does stand there
-pub record BehindRefused (around : Around) (limited : Bool) (before : List Token) (stop : Stop) : Type 0 where
-  pub placed : PlacedRefused around limited before stop
+pub record BehindRefused (around : Around) (limit : Option Limit) (before : List Token) (stop : Stop) : Type 0 where
+  pub placed : PlacedRefused around limit before stop
   pub some : before ≡ [] → ⊥
 
-abbrev pub HeadRefused : Context → List (List ℕ) → (limited : Bool) → List Token → Stop → Type 0
-HeadRefused c given limited before stop = LineRefused BeginsHead head_tokens (IsAmissHead c given limited) before stop
+abbrev pub HeadRefused : Context → List (List ℕ) → (limit : Option Limit) → List Token → Stop → Type 0
+HeadRefused c given limit before stop = LineRefused BeginsHead head_tokens (IsAmissHead c given limit) before stop
 
 -- behind this keyword
 abbrev pub OpeningFound : Context → ℕ → List Token → What → List Token → Type 0
 OpeningFound c word before what after = (spot : Spot) → Opening c word (token (Keyword word) spot ∷ before) what after
 
 pub record OpeningRefused (c : Context) (word : ℕ) (before : List Token) (stop : Stop) : Type 0 where
-  pub there : (given : List (List ℕ)) (limited : Bool) (spot : Spot) → HeadRefused c given limited (token (Keyword word) spot ∷ before) stop
+  pub there : (given : List (List ℕ)) (limit : Option Limit) (spot : Spot) → HeadRefused c given limit (token (Keyword word) spot ∷ before) stop
 
 -- such a token may be all that stands in a class: a text with nothing behind it, or `pass`
 abbrev pub may_be_alone : TokenKind → List Token → Bool
@@ -325,11 +328,10 @@ abbrev pub is_refused_kind : TokenKind → Bool
 is_refused_kind (Keyword n) = (n == 11) || (n == 9) || (n == 19)
 is_refused_kind kind = false
 
--- a limit is named at this place
-abbrev pub IsLimit : Pos → ParseFault → Type 0
-IsLimit at (TooMany place) = place ≡ at
-IsLimit at (TooDeep place) = place ≡ at
-IsLimit at fault = ⊥
+-- the fault that names this limit at this place
+abbrev pub limit_fault : Limit → Pos → ParseFault
+limit_fault Number at = TooMany at
+limit_fault Depth at = TooDeep at
 
 abbrev pub is_text_kind : TokenKind → Bool
 is_text_kind (Text bytes) = true
@@ -344,7 +346,7 @@ IsRefusedInClass (t ∷ ts) stop = ⊥
 
 -- no line may stand there that begins with the next token
 pub record Misplaced (c : Context) (before : List Token) (stop : Stop) : Type 0 where
-  pub there : (given : List (List ℕ)) (limited : Bool) → HeadRefused c given limited before stop
+  pub there : (given : List (List ℕ)) (limit : Option Limit) → HeadRefused c given limit before stop
 
 -- the names behind the keyword of a `global` line, of which none is given
 pub record GlobalFound (given : List (List ℕ)) (before : List Token) (names : Globals) : Type 0 where
@@ -354,7 +356,7 @@ pub record GlobalFound (given : List (List ℕ)) (before : List Token) (names : 
   pub none : none_given given (names_list written) ≡ true
 
 pub record GlobalRefused (given : List (List ℕ)) (before : List Token) (stop : Stop) : Type 0 where
-  pub there : (c : Context) (limited : Bool) (spot : Spot) → HeadRefused c given limited (token (Keyword 19) spot ∷ before) stop
+  pub there : (c : Context) (limit : Option Limit) (spot : Spot) → HeadRefused c given limit (token (Keyword 19) spot ∷ before) stop
 
 -- a keyword with which a compound statement, a part of one or a `global` line begins
 abbrev pub is_compound : ℕ → Bool

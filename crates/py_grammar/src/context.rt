@@ -1,5 +1,6 @@
 // Where a line stands, as far as it is asked of it, and the limit that a statement on it would pass.
-ghost use Rattle.py_grammar.specs.ParsedHead.{IsLimit};
+ghost use Rattle.std.specs.Prelude.{◌≡◌};
+ghost use Rattle.py_grammar.specs.ParsedHead.{limit_fault};
 
 use crate::around::Around;
 use crate::fault::ParseFault;
@@ -10,7 +11,7 @@ use prov_base::Pos;
 pub enum Last {
     /// None, or one that has no parts.
     Nothing,
-    /// A loop, or a `try` with its handlers and more: an `else` here is of a refused form.
+    /// A loop: an `else` here is of a refused form.
     Loop,
     /// An `if` or `elif`: `elif` and `else` may follow.
     If,
@@ -43,7 +44,7 @@ pub enum Limit {
 impl Limit {
     /// The fault that is named at this place.
     pub fn fault(self, at: Pos) -> ParseFault
-        ensures { IsLimit at result }
+        ensures { result ≡ limit_fault self at }
     {
         match self {
             Limit::Number => ParseFault::TooMany(at),

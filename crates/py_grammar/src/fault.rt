@@ -26,7 +26,7 @@ pub enum ParseFault {
 
 /// Why the tokens of a line were not read: a fault, or that the line ends too early.
 #[derive(Clone, Copy, Debug, PartialEq, Eq)]
-pub(crate) enum Stop {
+pub enum Stop {
     Here(ParseFault),
     End,
 }

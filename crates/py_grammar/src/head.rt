@@ -7,7 +7,7 @@ ghost use Rattle.py_grammar.specs.ParsedHead.{Context as Standing, context_of, i
 
 use crate::around::Around;
 use crate::context::{Context, Last, Limit};
-use crate::cursor::Cursor;
+use crate::cursor::{Cursor, Inside};
 use crate::fault::{ParseFault, Stop};
 use crate::simple::begins_simple;
 use crate::words::{
@@ -62,17 +62,36 @@ pub struct LineHead {
     pub behind: Option<Behind>,
 }
 
+/// The line that these tokens are, where one of them may stand. `given` are the parameters of the function in whose suite a
+/// `global` line may stand; a statement behind the `:` that would pass the limit is refused.
+pub fn read_head(
+    alloc: Global,
+    tokens: &[Token],
+    context: Context,
+    given: &[Name],
+    limit: Option<Limit>,
+) -> Result<LineHead, Stop>
+    ensures found { IfOk result (HeadFound (context_of context) given.now limit tokens.now) }
+    ensures refused { IfErr result (HeadRefused (context_of context) given.now limit tokens.now) }
+{
+    let mut cursor = Cursor {
+        rest: tokens,
+        inside: Inside::Line,
+    };
+    cursor.head(alloc, context, given, limit)
+}
+
 impl<'a> Cursor<'a> {
     /// The line that all the tokens are. `given` are the parameters of the function in whose suite a `global` line may stand.
-    pub fn head(
+    fn head(
         &mut self,
         alloc: Global,
         context: Context,
         given: &[Name],
         limit: Option<Limit>,
     ) -> Result<LineHead, Stop>
-        ensures found { IfOk result (HeadFound (context_of context) given.now (is_some limit) self.old.rest.now) }
-        ensures refused { IfErr result (HeadRefused (context_of context) given.now (is_some limit) self.old.rest.now) }
+        ensures found { IfOk result (HeadFound (context_of context) given.now limit self.old.rest.now) }
+        ensures refused { IfErr result (HeadRefused (context_of context) given.now limit self.old.rest.now) }
     {
         if let Some(stop) = self.misplaced(context) {
             return Err(stop);
@@ -171,8 +190,8 @@ impl<'a> Cursor<'a> {
         around: Around,
         limit: Option<Limit>,
     ) -> Result<Option<Behind>, Stop>
-        ensures found { IfOk result (BehindFound (around_of around) (is_some limit) self.old.rest.now) }
-        ensures refused { IfErr result (BehindRefused (around_of around) (is_some limit) self.old.rest.now) }
+        ensures found { IfOk result (BehindFound (around_of around) limit self.old.rest.now) }
+        ensures refused { IfErr result (BehindRefused (around_of around) limit self.old.rest.now) }
     {
         let Some((token, _)) = self.rest.split_first() else {
             return Ok(None);
@@ -187,7 +206,7 @@ impl<'a> Cursor<'a> {
     fn placed(&mut self, alloc: Global, around: Around, limit: Option<Limit>) -> Result<Form, Stop>
         ensures found { IfOk result (PlacedFound (around_of around) self.old.rest.now) }
         ensures within { IfOk result (λ _. is_some limit ≡ false) }
-        ensures refused { IfErr result (PlacedRefused (around_of around) (is_some limit) self.old.rest.now) }
+        ensures refused { IfErr result (PlacedRefused (around_of around) limit self.old.rest.now) }
     {
         let Some((token, behind)) = self.rest.split_first() else {
             return Err(Stop::End);

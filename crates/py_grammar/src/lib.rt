@@ -25,5 +25,9 @@ mod tests_heads;
 mod tests_rows;
 mod words;
 
-pub use fault::ParseFault;
+pub use around::Around;
+pub use context::{Context, Last, Limit};
+pub use fault::{ParseFault, Stop};
+pub use head::{read_head, Behind, LineHead, What};
 pub use laws::{one_expression, one_script, one_simple_statement};
+pub use words::{ELIF, ELSE, EXCEPT, GLOBAL, PASS};

@@ -2,7 +2,6 @@
 // stands behind a `:` is shown behind ` : `.
 use crate::around::Around;
 use crate::context::{Context, Last, Limit};
-use crate::cursor::{Cursor, Inside};
 use crate::fault::{ParseFault, Stop};
 use crate::head::{LineHead, What};
 use crate::tests::{place, show_fault, show_part, show_simple, show_target, show_value};
@@ -110,11 +109,7 @@ fn show_line(
 ) -> Result<String, Fail> {
     let mut given = Vec::new(alloc);
     given.push(Name::of(String::from_str(alloc, "given")?))?;
-    let mut cursor = Cursor {
-        rest: line.tokens.as_slice(),
-        inside: Inside::Line,
-    };
-    match cursor.head(alloc, context, given.as_slice(), limit) {
+    match read_head(alloc, line.tokens.as_slice(), context, given.as_slice(), limit) {
         Ok(head) => show_head(alloc, &head),
         Err(Stop::Here(fault)) => show_fault(alloc, fault),
         Err(Stop::End) => match line.tokens.as_slice().last() {

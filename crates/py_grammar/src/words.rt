@@ -25,11 +25,11 @@ pub(crate) const DEF: u8 = 11;
 
 pub(crate) const DEL: u8 = 12;
 
-pub(crate) const ELIF: u8 = 13;
+pub const ELIF: u8 = 13;
 
-pub(crate) const ELSE: u8 = 14;
+pub const ELSE: u8 = 14;
 
-pub(crate) const EXCEPT: u8 = 15;
+pub const EXCEPT: u8 = 15;
 
 pub(crate) const FINALLY: u8 = 16;
 
@@ -37,7 +37,7 @@ pub(crate) const FOR: u8 = 17;
 
 pub(crate) const FROM: u8 = 18;
 
-pub(crate) const GLOBAL: u8 = 19;
+pub const GLOBAL: u8 = 19;
 
 pub(crate) const IF: u8 = 20;
 
@@ -55,7 +55,7 @@ pub(crate) const NOT: u8 = 26;
 
 pub(crate) const OR: u8 = 27;
 
-pub(crate) const PASS: u8 = 28;
+pub const PASS: u8 = 28;
 
 pub(crate) const RAISE: u8 = 29;
 

@@ -1,4 +1,4 @@
-use Rattle.std.proofs.Common.{rules, is_some, sym, ◌∙◌}
+use Rattle.std.proofs.Common.{rules, sym, ◌∙◌}
 use Rattle.py_grammar.specs.ParsedSimple.{around_of}
 use Rattle.py_grammar.proofs.PlacedParts.{placed_end, limit_there, word_there, class_there, found_there, placed_refused, outside, none_there}
 use Rattle.py_grammar.proofs.cursor.Cursor.placed.Goals.{else-around-via-then-around+else-not-is_alone, else-around-via-else-around}
@@ -6,7 +6,7 @@ use Rattle.py_grammar.proofs.cursor.Cursor.placed.Goals as goal
 
 -- src/head.rt
 pub returns-in_default-clause-refused : goal.returns-in_default-clause-refused
-returns-in_default-clause-refused c = placed_end (around_of c.args.around) (is_some c.args.limit) c.args.self.now.rest.now (none_there _ c.in_default.ensures.cases)
+returns-in_default-clause-refused c = placed_end (around_of c.args.around) c.args.limit c.args.self.now.rest.now (none_there _ c.in_default.ensures.cases)
 
 -- src/head.rt
 pub returns-in-Some-limit-clause-refused : goal.returns-in-Some-limit-clause-refused
@@ -16,16 +16,16 @@ returns-in-Some-limit-clause-refused c =
 -- src/head.rt
 pub returns-then-not-is_alone-clause-refused : goal.returns-then-not-is_alone-clause-refused
 returns-then-not-is_alone-clause-refused c =
-    class_there (around_of c.args.around) (is_some c.args.limit) c.args.self.now.rest.now c.in-Some.token.now _ _ c.in-Some.ensures.cases.0 c.if-around.true (sym c.is_alone.ensures ∙ c.if-not-is_alone.true) c.refuse_in_class.ensures
+    class_there (around_of c.args.around) c.args.limit c.args.self.now.rest.now c.in-Some.token.now _ _ c.in-Some.ensures.cases.0 c.if-around.true (sym c.is_alone.ensures ∙ c.if-not-is_alone.true) c.refuse_in_class.ensures
 
 -- src/head.rt
 pub returns-then-is_refused_word-clause-refused : goal.returns-then-is_refused_word-clause-refused
 returns-then-is_refused_word-clause-refused c =
-    word_there (around_of c.args.around) (is_some c.args.limit) c.args.self.now.rest.now c.in-Some.token.now _ c.in-Some.ensures.cases.0 (sym c.is_refused_word.ensures ∙ c.if-is_refused_word.true)
+    word_there (around_of c.args.around) c.args.limit c.args.self.now.rest.now c.in-Some.token.now _ c.in-Some.ensures.cases.0 (sym c.is_refused_word.ensures ∙ c.if-is_refused_word.true)
 
 -- src/head.rt
 pub returns-in_err-form-clause-refused : goal.returns-in_err-form-clause-refused
-returns-in_err-form-clause-refused c = let is = placed_refused (around_of c.args.around) (is_some c.args.limit) c.args.self.now.rest.now _ c.in_err-form.ensures.refused in search (rules, is)
+returns-in_err-form-clause-refused c = let is = placed_refused (around_of c.args.around) c.args.limit c.args.self.now.rest.now _ c.in_err-form.ensures.refused in search (rules, is)
 
 -- src/head.rt
 pub returns-clause-found : goal.returns-clause-found
