@@ -1,0 +1,328 @@
+-- What is read of a line of a suite: what the first token tells, the limits, and what is refused.
+use Rattle.std.proofs.Common.{◌≡◌, inl, inr, ℕ, ◌+◌, ◌<◌, ◌≤◌, suc, nat_le, Bool, true, false, not, ◌&&◌, ◌||◌, ◌==◌, List, [], ◌∷◌, ◌++◌, Option, Some, None, is_some, is_none, if◌then◌else◌, refl, ap, sym, ◌∙◌, arith, subst}
+use Rattle.std.specs.Prelude.{slice_get}
+use Rattle.std.specs.Int.{from_bool}
+use Rattle.std.proofs.lemmas.Bool.{eqb-true, leb-true, leb-false, le-leb, false≢true}
+use Rattle.std.proofs.lemmas.Option.{same_Some}
+use Rattle.prov_base.specs.declared.place.Pos.{Pos}
+use Rattle.py_lines.specs.declared.parts.Line.{Line}
+use Rattle.py_lines.specs.declared.parts.Token.{Token}
+use Rattle.py_lines.specs.declared.parts.TokenKind.{TokenKind}
+use Rattle.py_lines.specs.declared.parts.TokenKind.TheVariants.{Keyword}
+use Rattle.py_grammar.specs.declared.context.Limit.{Limit}
+use Rattle.py_grammar.specs.declared.context.Limit.TheVariants.{Number, Depth}
+use Rattle.py_grammar.specs.declared.fault.ParseFault.{ParseFault}
+use Rattle.py_grammar.specs.declared.fault.ParseFault.TheVariants.{Unexpected, Unsupported, BadIndent, TooDeep, TooMany, Memory}
+use Rattle.py_grammar.specs.declared.fault.Stop.{Stop}
+use Rattle.py_grammar.specs.declared.fault.Stop.TheVariants.{Here, End}
+use Rattle.py_grammar.specs.declared.head.LineHead.{LineHead}
+use Rattle.py_grammar.specs.Concrete.{Spot}
+use Rattle.py_grammar.specs.Tokens.{token}
+use Rattle.py_grammar.specs.Written.{Simple}
+use Rattle.py_grammar.specs.LineReader.{Head, simple_head, if_head, elif_head, else_head, while_head, for_head, try_head, except_head, with_head, def_head, class_head, global_head, head_tokens}
+use Rattle.py_grammar.specs.ParsedHead.{Context, lacks_handler, takes_handler, word_may, is_compound, is_compound_kind, head_stands, head_depth, behind_in, HeadFound, HeadRefused, IsAmissHead, ShownBy, EndedBy, BeginsHead, MayNameLine}
+use Rattle.py_parser.specs.Limits.{Limits, profile}
+use Rattle.py_parser.specs.Rows.{Level, Begun, is_stmt, is_every, counted, follows, may}
+use Rattle.py_parser.specs.RowForms.{inner_number}
+use Rattle.py_parser.specs.Faults.{Asks, last_place, Point, at_token, at_end, shows, GoesOn, names}
+use Rattle.py_parser.specs.ParsedBlocks.{limit_by, limit_at, is_stmt_kind, LineRead, RefusedLine, LineStopped}
+use Rattle.py_grammar.proofs.LineFirsts.{same_first, head_some, simple_not_compound}
+
+-- ---- truth values
+
+left_of : (a b : Bool) → (a && b) ≡ true → a ≡ true
+left_of true b is = refl
+left_of false b is = is
+
+right_of : (a b : Bool) → (a && b) ≡ true → b ≡ true
+right_of true b is = is
+right_of false b is = absurd (false≢true is)
+
+or_left : (a b : Bool) → a ≡ true → (a || b) ≡ true
+or_left true b is = refl
+or_left false b is = absurd (false≢true is)
+
+all_true : (a b c d : Bool) → a ≡ true → b ≡ true → c ≡ true → d ≡ true → (a && b && c && d) ≡ true
+all_true true true true true one two three four = refl
+all_true false b c d one two three four = absurd (false≢true one)
+all_true true false c d one two three four = absurd (false≢true two)
+all_true true true false d one two three four = absurd (false≢true three)
+all_true true true true false one two three four = absurd (false≢true four)
+
+each_true : (a b c d : Bool) → (a && b && c && d) ≡ true → (a ≡ true) × (b ≡ true) × (c ≡ true) × (d ≡ true)
+each_true true true true true is = (refl, refl, refl, refl)
+each_true false b c d is = absurd (false≢true is)
+each_true true false c d is = absurd (false≢true is)
+each_true true true false d is = absurd (false≢true is)
+each_true true true true false is = absurd (false≢true is)
+
+-- ---- the first token
+
+pub first_there : (ts : List Token) (t : Token) → Some t ≡ slice_get ts 0 → (rest : List Token) × (ts ≡ t ∷ rest)
+first_there [] t is = cc
+first_there (u ∷ us) t is = (us, ap (λ v. v ∷ us) (sym (same_Some t u is)))
+
+pub none_there : (ts : List Token) → None ≡ slice_get ts 0 → ts ≡ []
+none_there [] is = refl
+none_there (u ∷ us) is = cc
+
+no_part : (p q r s : Bool) → p ≡ false → q ≡ false → r ≡ false → s ≡ false → not (p || q || r || s) ≡ true
+no_part false false false false one two three four = refl
+no_part true q r s one two three four = absurd (false≢true (sym one))
+no_part false true r s one two three four = absurd (false≢true (sym two))
+no_part false false true s one two three four = absurd (false≢true (sym three))
+no_part false false false true one two three four = absurd (false≢true (sym four))
+
+-- what is no keyword of a line that is more than a simple statement begins a statement
+begins_simple : (kind : TokenKind) → is_compound_kind kind ≡ false → is_stmt_kind kind ≡ true
+begins_simple (Keyword n) other = no_part (n == 13) (n == 14) (n == 15) (n == 19) (differs 13 refl) (differs 14 refl) (differs 15 refl) (differs 19 refl)
+  where
+    by : (k : ℕ) (b : Bool) → (n == k) ≡ b → is_compound k ≡ true → b ≡ false
+    by k false is compound = refl
+    by k true is compound = absurd (false≢true (sym other ∙ (ap is_compound (eqb-true n k is) ∙ compound)))
+
+    differs : (k : ℕ) → is_compound k ≡ true → (n == k) ≡ false
+    differs k compound = by k (n == k) refl compound
+begins_simple kind other = refl
+
+by_word : (k : ℕ) (spot : Spot) (rest : List Token) (t : Token) (ts : List Token) → token (Keyword k) spot ∷ rest ≡ t ∷ ts → is_stmt_kind t.kind ≡ is_stmt_kind (Keyword k)
+by_word k spot rest t ts is = ap (λ (u : Token). is_stmt_kind u.kind) (sym (same_first (token (Keyword k) spot) t rest ts is))
+
+-- the first token tells whether a statement begins on the line
+kind_tells : (h : Head) (t : Token) (ts : List Token) → head_tokens h ≡ t ∷ ts → is_stmt_kind t.kind ≡ is_stmt h
+kind_tells (simple_head s) t ts is = begins_simple t.kind (simple_not_compound s t ts is)
+kind_tells (if_head at test colon b) t ts is = by_word 20 at _ t ts is
+kind_tells (elif_head at test colon b) t ts is = by_word 13 at _ t ts is
+kind_tells (else_head at colon b) t ts is = by_word 14 at _ t ts is
+kind_tells (while_head at test colon b) t ts is = by_word 32 at _ t ts is
+kind_tells (for_head at target in_word e colon b) t ts is = by_word 17 at _ t ts is
+kind_tells (try_head at colon b) t ts is = by_word 31 at _ t ts is
+kind_tells (except_head at kind colon b) t ts is = by_word 15 at _ t ts is
+kind_tells (with_head at e called colon b) t ts is = by_word 33 at _ t ts is
+kind_tells (def_head at name_at bytes opening given closing colon b) t ts is = by_word 11 at _ t ts is
+kind_tells (class_head at name_at bytes of colon b) t ts is = by_word 9 at _ t ts is
+kind_tells (global_head at names) t ts is = by_word 19 at _ t ts is
+
+-- ---- what may stand there follows
+
+follows_there : (m : Level) (h : Head) → (m.context.may_declare ≡ true → m.of_def ≡ true) → head_stands m.context m.given h ≡ true → follows m h ≡ true
+follows_there m (simple_head s) declares stands = left_of _ _ stands
+follows_there m (if_head at test colon b) declares stands = left_of _ _ (left_of _ _ stands)
+follows_there m (elif_head at test colon b) declares stands = left_of _ _ stands
+follows_there m (else_head at colon b) declares stands = left_of _ _ stands
+follows_there m (while_head at test colon b) declares stands = left_of _ _ (left_of _ _ stands)
+follows_there m (for_head at target in_word e colon b) declares stands = left_of _ _ (left_of _ _ stands)
+follows_there m (try_head at colon b) declares stands = left_of _ _ (left_of _ _ stands)
+follows_there m (except_head at kind colon b) declares stands = or_left (word_may m.context 15) (is_every m.context.last) (left_of (word_may m.context 15) _ stands)
+follows_there m (with_head at e called colon b) declares stands = left_of _ _ (left_of _ _ stands)
+follows_there m (def_head at name_at bytes opening given closing colon b) declares stands = left_of _ _ (left_of (word_may m.context 11) _ (left_of _ _ stands))
+follows_there m (class_head at name_at bytes of colon b) declares stands = left_of _ _ (left_of _ _ stands)
+follows_there m (global_head at names) declares stands =
+    let word : word_may m.context 19 ≡ true = left_of _ _ stands in
+    ap (λ b. b && not (lacks_handler m.context.last)) (declares (right_of (not (lacks_handler m.context.last)) m.context.may_declare word)) ∙ left_of (not (lacks_handler m.context.last)) m.context.may_declare word
+
+-- ---- the limits
+
+or_false : (a b : Bool) → (a || b) ≡ false → (a ≡ false) × (b ≡ false)
+or_false false b is = (refl, is)
+or_false true b is = absurd (false≢true (sym is))
+
+as_number : (b : Bool) → from_bool b ≡ (if b then 1 else 0)
+as_number true = refl
+as_number false = refl
+
+not_limited : (s : Simple) (limit : Option Limit) → (is_some limit ≡ true → Some s ≡ None) → limit ≡ None
+not_limited s None within = refl
+not_limited s (Some l) within = let none = within refl in cc
+
+none_by : (a b : Bool) → limit_by a b ≡ None → (a ≡ false) × (b ≡ false)
+none_by false false is = (refl, refl)
+none_by false true is = cc
+none_by true b is = cc
+
+number_by : (a b : Bool) → limit_by a b ≡ Some Number → a ≡ true
+number_by true b is = refl
+number_by false true is = cc
+number_by false false is = cc
+
+depth_by : (a b : Bool) → limit_by a b ≡ Some Depth → b ≡ true
+depth_by true b is = cc
+depth_by false true is = refl
+depth_by false false is = cc
+
+abbrev number_fits : Limits → ℕ → Bool → Option Simple → Bool
+number_fits q n begins behind = nat_le (n + ((if begins then 1 else 0) + (if is_none behind then 0 else 1))) q.number
+
+within_limits : (n depth : ℕ) (begins : Bool) (behind : Option Simple) (limit : Option Limit) → n ≤ 20000 → (begins ≡ true → n < 20000) → limit ≡ limit_at (n + from_bool begins) depth → (is_some limit ≡ true → behind ≡ None)
+    → (number_fits profile n begins behind ≡ true) × ((is_none behind || nat_le (suc depth) 50) ≡ true)
+within_limits n depth true None limit few fewer is within = (le-leb _ _ (omega (arith, fewer refl)), refl)
+within_limits n depth false None limit few fewer is within = (le-leb _ _ (omega (arith, few)), refl)
+within_limits n depth true (Some s) limit few fewer is within =
+    let free = none_by (nat_le 20000 (n + 1)) (nat_le 50 depth) (sym is ∙ not_limited s limit within) in
+    (le-leb _ _ (omega (arith, leb-false 20000 (n + 1) free.0)), le-leb _ _ (omega (arith, leb-false 50 depth free.1)))
+within_limits n depth false (Some s) limit few fewer is within =
+    let free = none_by (nat_le 20000 (n + 0)) (nat_le 50 depth) (sym is ∙ not_limited s limit within) in
+    (le-leb _ _ (omega (arith, leb-false 20000 (n + 0) free.0)), le-leb _ _ (omega (arith, leb-false 50 depth free.1)))
+
+number_passed : (q : Limits) (n depth : ℕ) (begins : Bool) (behind : Option Simple) → q.number ≤ 20000 → limit_at (n + from_bool begins) depth ≡ Some Number → is_some behind ≡ true → number_fits q n begins behind ≡ true → ⊥
+number_passed q n depth begins None most is some low = false≢true some
+number_passed q n depth true (Some s) most is some low = omega (arith, most, leb-true 20000 (n + 1) (number_by _ _ is), leb-true (n + (1 + 1)) q.number low)
+number_passed q n depth false (Some s) most is some low = omega (arith, most, leb-true 20000 (n + 0) (number_by _ _ is), leb-true (n + (0 + 1)) q.number low)
+
+depth_passed : (q : Limits) (n depth : ℕ) (behind : Option Simple) → q.suites ≤ 50 → limit_at n depth ≡ Some Depth → is_some behind ≡ true → (is_none behind || nat_le (suc depth) q.suites) ≡ true → ⊥
+depth_passed q n depth None most is some deep = false≢true some
+depth_passed q n depth (Some s) most is some deep = omega (arith, most, leb-true 50 depth (depth_by _ _ is), leb-true (suc depth) q.suites deep)
+
+-- ---- what was read
+
+-- what the code knows of a line with this first token
+pub record Opened (m : Level) (n : ℕ) (line : Line) (t : Token) (begins : Bool) (limit : Option Limit) : Type 0 where
+  pub rest : List Token
+  pub tokens_are : line.tokens ≡ t ∷ rest
+  pub begins_is : begins ≡ is_stmt_kind t.kind
+  pub limit_is : limit ≡ limit_at (n + from_bool begins) m.depth
+
+begins_as : (m : Level) (n : ℕ) (line : Line) (t : Token) (begins : Bool) (limit : Option Limit) (o : Opened m n line t begins limit) (h : Head) (more : List Token) → head_tokens h ≡ t ∷ more → begins ≡ is_stmt h
+begins_as m n line t begins limit o h more is = o.begins_is ∙ kind_tells h t more is
+
+few_now : (n : ℕ) (begins : Bool) → n ≤ 20000 → (begins ≡ true → n < 20000) → n + from_bool begins ≤ 20000
+few_now n true few fewer = let less = fewer refl in omega (arith, less)
+few_now n false few fewer = omega (arith, few)
+
+line_found : (m : Level) (n : ℕ) (line : Line) (head : LineHead) (t : Token) (begins : Bool) (limit : Option Limit) → Opened m n line t begins limit → (m.context.may_declare ≡ true → m.of_def ≡ true) → n ≤ 20000 → (begins ≡ true → n < 20000)
+    → HeadFound m.context m.given limit line.tokens head → LineRead m n line head (n + from_bool begins)
+line_found m n line head t begins limit o declares few fewer found =
+    let same : begins ≡ is_stmt found.written = begins_as m n line t begins limit o found.written o.rest (sym found.before_is ∙ o.tokens_are) in
+    let fits = within_limits n m.depth (is_stmt found.written) (behind_in found.written) limit few (λ is. fewer (same ∙ is)) (o.limit_is ∙ ap (λ b. limit_at (n + from_bool b) m.depth) same) found.within in
+    record {
+      written = found.written;
+      tokens_are = found.before_is;
+      what_is = found.what_is;
+      behind_is = found.behind_is;
+      follows_is = follows_there m found.written declares found.stands;
+      may_be = all_true (head_stands m.context m.given found.written) (nat_le (head_depth found.written) 100) (nat_le (n + counted found.written) 20000) _ found.stands (le-leb _ _ found.fits) fits.0 fits.1;
+      count_is = ap (λ b. n + from_bool b) same ∙ ap (λ k. n + k) (as_number (is_stmt found.written));
+      few = few_now n begins few fewer;
+    }
+
+pub opened : (m : Level) (n : ℕ) (line : Line) (tokens : List Token) (t : Token) (begins : Bool) (limit : Option Limit) (k : ℕ) → tokens ≡ line.tokens → Some t ≡ slice_get tokens 0 → begins ≡ is_stmt_kind t.kind → k ≡ from_bool begins
+    → limit ≡ limit_at (n + k) m.depth → Opened m n line t begins limit
+opened m n line tokens t begins limit k same first begins_is one is =
+    let there = first_there tokens t first in
+    record { rest = there.0; tokens_are = sym same ∙ there.1; begins_is = begins_is; limit_is = is ∙ ap (λ k. limit_at (n + k) m.depth) one }
+
+pub found_there : (m : Level) (n : ℕ) (line : Line) (head : LineHead) (tokens : List Token) (t : Token) (begins : Bool) (limit : Option Limit) (k : ℕ) → Opened m n line t begins limit → (m.context.may_declare ≡ true → m.of_def ≡ true) → n ≤ 20000 → (begins ≡ true → n < 20000)
+    → k ≡ from_bool begins → tokens ≡ line.tokens → HeadFound m.context m.given limit tokens head → LineRead m n line head (n + k)
+found_there m n line head tokens t begins limit k o declares few fewer one same found =
+    subst (λ k. LineRead m n line head (n + k)) (sym one) (line_found m n line head t begins limit o declares few fewer (subst (λ (ts : List Token). HeadFound m.context m.given limit ts head) same found))
+
+-- ---- what is refused
+
+begun_token : (indent : ℕ) (front : List Token) (t : Token) (rest : List Line) → shows (at_token indent front t) rest → Begun indent rest
+begun_token indent front t [] there = absurd there
+begun_token indent front t (line ∷ lines) there = there.0
+
+begun_end : (indent : ℕ) (tokens : List Token) (rest : List Line) → shows (at_end indent tokens) rest → Begun indent rest
+begun_end indent tokens [] there = absurd there
+begun_end indent tokens (line ∷ lines) there = there.0
+
+-- lines with the same tokens up to one have the same first token
+front_first : (front : List Token) (shown : Token) (behind more : List Token) (t : Token) (rest : List Token) → front ++ shown ∷ behind ≡ t ∷ rest → (r : List Token) × (front ++ shown ∷ more ≡ t ∷ r)
+front_first [] shown behind more t rest is = (more, ap (λ (u : Token). u ∷ more) (same_first shown t behind rest is))
+front_first (f ∷ fs) shown behind more t rest is = (fs ++ shown ∷ more, ap (λ (u : Token). u ∷ (fs ++ shown ∷ more)) (same_first f t (fs ++ shown ∷ behind) rest is))
+
+-- what is amiss of a line is no line that may stand there
+amiss : (q : Limits) (m : Level) (n : ℕ) (begins : Bool) (limit : Option Limit) (h : Head) (fault : ParseFault) → Asks fault q → begins ≡ is_stmt h → limit ≡ limit_at (n + from_bool begins) m.depth → may q m n h ≡ true
+    → IsAmissHead m.context m.given limit (Here fault) h → ⊥
+amiss q m n begins limit h fault asks same is fine bad = by fault asks bad
+  where
+    parts : (head_stands m.context m.given h ≡ true) × (nat_le (head_depth h) q.height ≡ true) × (nat_le (n + counted h) q.number ≡ true) × ((is_none (behind_in h) || nat_le (suc m.depth) q.suites) ≡ true)
+    parts = each_true (head_stands m.context m.given h) (nat_le (head_depth h) q.height) (nat_le (n + counted h) q.number) (is_none (behind_in h) || nat_le (suc m.depth) q.suites) fine
+
+    limit_now : limit ≡ limit_at (n + from_bool (is_stmt h)) m.depth
+    limit_now = is ∙ ap (λ b. limit_at (n + from_bool b) m.depth) same
+
+    by : (fault : ParseFault) → Asks fault q → IsAmissHead m.context m.given limit (Here fault) h → ⊥
+    by (TooDeep at) asks (inl deep) = let most = asks.0 in omega (arith, most, deep, leb-true (head_depth h) q.height parts.1)
+    by (TooDeep at) asks (inr over) = depth_passed q (n + from_bool (is_stmt h)) m.depth (behind_in h) asks.1 (sym limit_now ∙ over.0) over.1 parts.3
+    by (TooMany at) asks over = number_passed q n m.depth (is_stmt h) (behind_in h) asks (sym limit_now ∙ over.0) over.1 parts.2
+    by (Unexpected at) asks no_place = false≢true (sym no_place ∙ parts.0)
+    by (Unsupported at) asks no_place = false≢true (sym no_place ∙ parts.0)
+    by (BadIndent at) asks bad = bad
+    by Memory asks bad = bad
+
+shown_line : (m : Level) (n : ℕ) (at : Pos) (line : Line) (t : Token) (begins : Bool) (limit : Option Limit) (fault : ParseFault) → Opened m n line t begins limit
+    → (s : ShownBy BeginsHead head_tokens (λ fault h. IsAmissHead m.context m.given limit (Here fault) h) line.tokens fault) → names at (at_token line.indent s.front s.shown_by) fault → RefusedLine m n at line fault
+shown_line m n at line t begins limit fault o s named = record {
+  point = at_token line.indent s.front s.shown_by;
+  shown = (refl, record { more = s.behind; tokens_are = s.before_is });
+  named = named;
+  begun = begun_token line.indent s.front s.shown_by;
+  none = λ q asks other more h there tokens_are goes_on fine.
+    let is = sym tokens_are ∙ there.1.tokens_are in
+    let opens = front_first s.front s.shown_by s.behind there.1.more t o.rest (sym s.before_is ∙ o.tokens_are) in
+    amiss q m n begins limit h fault asks (begins_as m n line t begins limit o h opens.0 (is ∙ opens.1)) o.limit_is fine (s.none h there.1.more is);
+}
+
+ended_line : (m : Level) (n : ℕ) (at : Pos) (line : Line) (t : Token) (begins : Bool) (limit : Option Limit) (fault : ParseFault) → Opened m n line t begins limit
+    → EndedBy BeginsHead head_tokens (IsAmissHead m.context m.given limit (Here fault)) line.tokens → names at (at_end line.indent line.tokens) fault → RefusedLine m n at line fault
+ended_line m n at line t begins limit fault o e named = record {
+  point = at_end line.indent line.tokens;
+  shown = (refl, refl);
+  named = named;
+  begun = begun_end line.indent line.tokens;
+  none = λ q asks other more h there tokens_are goes_on fine.
+    let is = sym tokens_are ∙ there.1 in
+    amiss q m n begins limit h fault asks (begins_as m n line t begins limit o h o.rest (is ∙ o.tokens_are)) o.limit_is fine (e.none h is);
+}
+
+pub line_refused : (m : Level) (n : ℕ) (at : Pos) (line : Line) (t : Token) (begins : Bool) (limit : Option Limit) (fault : ParseFault) → Opened m n line t begins limit → HeadRefused m.context m.given limit line.tokens (Here fault) → LineStopped m n at line fault
+line_refused m n at line t begins limit (Unexpected place) o is = shown_line m n at line t begins limit (Unexpected place) o is is.place_is
+line_refused m n at line t begins limit (TooMany place) o is = shown_line m n at line t begins limit (TooMany place) o is is.place_is
+line_refused m n at line t begins limit (TooDeep place) o is = shown_line m n at line t begins limit (TooDeep place) o is tt
+line_refused m n at line t begins limit (Unsupported place) o (inl is) = shown_line m n at line t begins limit (Unsupported place) o is tt
+line_refused m n at line t begins limit (Unsupported place) o (inr is) = ended_line m n at line t begins limit (Unsupported place) o is tt
+line_refused m n at line t begins limit (BadIndent place) o is = absurd is.place_is
+line_refused m n at line t begins limit Memory o is = tt
+
+pub line_ends : (m : Level) (n : ℕ) (at place : Pos) (line : Line) (limit : Option Limit) → place ≡ last_place at line.tokens → HeadRefused m.context m.given limit line.tokens End → RefusedLine m n at line (Unexpected place)
+line_ends m n at place line limit named e = record {
+  point = at_end line.indent line.tokens;
+  shown = (refl, refl);
+  named = named;
+  begun = begun_end line.indent line.tokens;
+  none = λ q asks other more h there tokens_are goes_on fine. e.none h (sym tokens_are ∙ there.1);
+}
+
+pub refused_at : (m : Level) (limit : Option Limit) (ts us : List Token) (s r : Stop) → ts ≡ us → s ≡ r → HeadRefused m.context m.given limit ts s → HeadRefused m.context m.given limit us r
+refused_at m limit ts us s r same stop is = subst (λ (l : List Token). HeadRefused m.context m.given limit l r) same (subst (λ (x : Stop). HeadRefused m.context m.given limit ts x) stop is)
+
+-- no line is without tokens
+pub line_is_empty : (m : Level) (n : ℕ) (at : Pos) (line : Line) → line.tokens ≡ [] → RefusedLine m n at line (Unexpected at)
+line_is_empty m n at line empty = record {
+  point = at_end line.indent [];
+  shown = (refl, empty);
+  named = refl;
+  begun = begun_end line.indent [];
+  none = λ q asks other more h there tokens_are goes_on fine. head_some h (sym tokens_are ∙ there.1);
+}
+
+-- a statement more than there may be
+pub one_too_many : (m : Level) (n : ℕ) (at : Pos) (line : Line) (t : Token) (rest : List Token) → line.tokens ≡ t ∷ rest → true ≡ is_stmt_kind t.kind → 20000 ≤ n → RefusedLine m n at line (TooMany t.at)
+one_too_many m n at line t rest tokens begins many = record {
+  point = at_token line.indent [] t;
+  shown = (refl, record { more = rest; tokens_are = tokens });
+  named = refl;
+  begun = begun_token line.indent [] t;
+  none = λ q asks other more h there tokens_are goes_on fine. no_more q asks h there.1.more (sym tokens_are ∙ there.1.tokens_are) fine;
+}
+  where
+    over : (q : Limits) → q.number ≤ 20000 → (s : Bool) (b : Option Simple) → true ≡ s → number_fits q n s b ≡ true → ⊥
+    over q most false b is low = false≢true (sym is)
+    over q most true None is low = omega (arith, most, many, leb-true (n + (1 + 0)) q.number low)
+    over q most true (Some s) is low = omega (arith, most, many, leb-true (n + (1 + 1)) q.number low)
+
+    no_more : (q : Limits) → q.number ≤ 20000 → (h : Head) (more : List Token) → head_tokens h ≡ t ∷ more → may q m n h ≡ true → ⊥
+    no_more q most h more is fine =
+      let parts = each_true (head_stands m.context m.given h) (nat_le (head_depth h) q.height) (nat_le (n + counted h) q.number) (is_none (behind_in h) || nat_le (suc m.depth) q.suites) fine in
+      over q most (is_stmt h) (behind_in h) (begins ∙ kind_tells h t more is) parts.2

@@ -1,0 +1,17 @@
+pub mod BlockForms
+pub mod BlockHeads
+pub mod BlockLines
+pub mod BlockPlaces
+pub mod CloseParts
+pub mod CycleParts
+pub mod Grown
+pub mod Parsing
+pub mod Peeled
+pub mod RowFits
+pub mod RowKept
+pub mod RowLimits
+pub mod RowLines
+pub mod RowRefusals
+pub mod RowStatements
+pub mod RowsStanding
+pub mod UnderParts

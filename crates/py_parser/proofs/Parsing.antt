@@ -1,0 +1,188 @@
+-- A whole script: what is read of all its lines, and what is refused.
+use Rattle.std.proofs.Common.{◌≡◌, ℕ, ◌+◌, ◌<◌, ◌≤◌, Bool, true, false, List, [], ◌∷◌, ◌++◌, refl, ap, sym, ◌∙◌, subst, arith, append-nil, map, Vec, Global}
+use Rattle.std.proofs.lemmas.Bool.{false≢true}
+use Rattle.prov_base.specs.declared.place.Pos.{Pos}
+use Rattle.py_lines.specs.declared.parts.Line.{Line}
+use Rattle.py_lines.specs.declared.parts.Token.{Token}
+use Rattle.py_tree.specs.declared.stmt.Stmt.{Stmt}
+use Rattle.py_tree.specs.declared.stmt.Suite.{roll-Suite}
+use Rattle.py_tree.specs.Erasure.{stmt_of, suite_of}
+use Rattle.py_tree.specs.Tree.{StmtTree, SuiteTree, ScriptTree}
+use Rattle.py_tree.specs.Numbering.{numbered_suite, size_suite}
+use Rattle.py_grammar.specs.declared.fault.ParseFault.{ParseFault}
+use Rattle.py_grammar.specs.declared.fault.ParseFault.TheVariants.{Unexpected, Unsupported, BadIndent, TooDeep, TooMany, Memory}
+use Rattle.py_grammar.specs.Written.{Script, empty_script, script}
+use Rattle.py_grammar.specs.Grammar.{script_lines, FitsScript}
+use Rattle.py_grammar.specs.StatementTrees.{script_body, script_tree}
+use Rattle.py_grammar.specs.Follows.{Below}
+use Rattle.py_parser.specs.declared.blocks.Built.{Built}
+use Rattle.py_parser.specs.Limits.{profile}
+use Rattle.py_parser.specs.Script.{IsScript}
+use Rattle.py_parser.specs.Faults.{Point, at_token, at_end, shows, first_place, Asks, origin, FirstFault, IsFault}
+use Rattle.py_parser.specs.Rows.{Rows, end_rows, row, rows_lines, rows_size, rows_may, start, Level, FitsRows, FitsStart, Begun}
+use Rattle.py_parser.specs.Grouped.{script_rows, script_of}
+use Rattle.py_parser.specs.RowForms.{suite_list, grow}
+use Rattle.py_parser.specs.ParsedBlocks.{trees_of, Refused, RowsStopped, RowsRead}
+use Rattle.py_parser.proofs.RowLines.{script_same}
+use Rattle.py_parser.proofs.RowFits.{script_fits}
+use Rattle.py_parser.proofs.RowStatements.{script_is}
+use Rattle.py_parser.proofs.Grown.{script_grown, script_size}
+use Rattle.py_parser.proofs.RowLimits.{script_may}
+use Rattle.py_parser.proofs.RowKept.{script_fine}
+use Rattle.py_parser.proofs.BlockForms.{rolled}
+use Rattle.py_parser.proofs.Peeled.{one_indent}
+
+abbrev pub tree_of : SuiteTree → ℕ → ScriptTree
+tree_of body count = record { body = body; count = count }
+
+abbrev pub tree_by : List StmtTree → ℕ → ScriptTree
+tree_by trees count = tree_of (suite_list trees) count
+
+-- ---- what is read
+
+starts : (rows : Rows) → FitsRows start rows → FitsStart rows
+starts end_rows fits = tt
+starts (row line h under rest) fits = fits
+
+nothing_left : (x : List Line) → Below 0 x → x ≡ []
+nothing_left [] low = refl
+nothing_left (line ∷ x) low = absurd (omega (arith, low))
+
+pub whole_script : (lines left : List Line) (rows : Rows) (trees : List StmtTree) (count : ℕ) → lines ≡ rows_lines rows ++ left → FitsRows start rows → rows_may profile start 0 rows ≡ true → trees ≡ grow 0 [] rows → count ≡ 0 + rows_size rows → Below 0 left
+    → IsScript lines (tree_by trees count)
+whole_script lines left rows trees count lines_are fits may_be trees_are count_is low =
+    let s = script_is rows (starts rows fits) in
+    record {
+      written = script_of rows;
+      lines_are = lines_are ∙ ap (λ x. rows_lines rows ++ x) (nothing_left left low) ∙ append-nil (rows_lines rows) ∙ sym (ap rows_lines s.rows_are) ∙ script_same (script_of rows);
+      fits = s.fits;
+      tree_is = ap (λ (ss : List StmtTree). tree_by ss count) (trees_are ∙ sym (ap (grow 0 []) s.rows_are)) ∙ trees_same (suite_list (grow 0 [] (script_rows (script_of rows)))) (numbered_suite 0 (script_body (script_of rows))) count (size_suite (script_body (script_of rows)))
+          (script_grown (script_of rows)) (count_same (ap rows_size s.rows_are ∙ refl) (script_size (script_of rows)));
+      fine = script_fine profile (script_of rows) (ap (rows_may profile start 0) s.rows_are ∙ may_be);
+    }
+  where
+    count_same : rows_size (script_rows (script_of rows)) ≡ rows_size rows → rows_size (script_rows (script_of rows)) ≡ size_suite (script_body (script_of rows)) → count ≡ size_suite (script_body (script_of rows))
+    count_same one two = let three = count_is in omega (arith, one, two, three)
+
+    trees_same : (a b : SuiteTree) (m n : ℕ) → a ≡ b → m ≡ n → tree_of a m ≡ tree_of b n
+    trees_same a b m n one two = ap (λ x. tree_of x m) one ∙ ap (tree_of b) two
+
+read_script : (lines left : List Line) (l : Level) (built : Built) (count : ℕ) (at now : Pos) → l ≡ start → RowsRead l 0 at lines built count now left → IsScript lines (tree_by (trees_of built) count)
+read_script lines left l built count at now is r = whole_script lines left r.rows (trees_of built) count r.lines_are (subst (λ (k : Level). FitsRows k r.rows) is r.fits) (subst (λ (k : Level). rows_may profile k 0 r.rows ≡ true) is r.may_be) r.trees_are r.count_is
+    (subst (λ (k : Level). Below k.indent left) is r.low)
+
+-- the tree of a script with these statements
+as_script : (lines : List Line) (v : Vec Stmt Global) (count : ℕ) → IsScript lines (tree_by (map stmt_of v.items) count) → IsScript lines (tree_of (suite_of (roll-Suite (record { list = v }))) count)
+as_script lines v count is = subst (λ b. IsScript lines (tree_of b count)) (sym (rolled v)) is
+
+pub read_script_there : (lines read left : List Line) (l : Level) (built : Built) (count : ℕ) (at now : Pos) → read ≡ lines → l ≡ start → RowsRead l 0 at read built count now left → IsScript lines (tree_of (suite_of (roll-Suite (record { list = built.list }))) count)
+read_script_there lines read left l built count at now same is r = as_script lines built.list count (subst (λ (ls : List Line). IsScript ls (tree_by (trees_of built) count)) same (read_script read left l built count at now is r))
+
+no_statements : (lines : List Line) → lines ≡ [] → IsScript lines (tree_by [] 0)
+no_statements lines none = record { written = empty_script; lines_are = none; fits = tt; tree_is = refl; fine = record { stands = refl; low = omega arith; deep = omega arith; few = omega arith } }
+
+pub empty_script_is : (lines read : List Line) (v : Vec Stmt Global) → read ≡ lines → read ≡ [] → v.items ≡ [] → IsScript lines (tree_of (suite_of (roll-Suite (record { list = v }))) 0)
+empty_script_is lines read v same none items = as_script lines v 0 (subst (λ (ss : List Stmt). IsScript lines (tree_by (map stmt_of ss) 0)) (sym items) (no_statements lines (sym same ∙ none)))
+
+-- ---- what is refused
+
+-- the rows of a script with lines fit
+fits_start : (s : Script) (x : List Line) → FitsScript s → script_lines s ≡ x → (x ≡ [] → ⊥) → FitsRows start (script_rows s)
+fits_start empty_script x fits same some = absurd (some (sym same))
+fits_start (script body) x fits same some = by (script_rows (script body)) (script_fits (script body) fits) refl
+  where
+    by : (rows : Rows) → FitsStart rows → script_rows (script body) ≡ rows → FitsRows start (script_rows (script body))
+    by end_rows all is = absurd (some (sym same ∙ sym (script_same (script body)) ∙ ap rows_lines is))
+    by (row line h under rest) all is = subst (FitsRows start) (sym is) all
+
+some_lines : (d : ℕ) (x : List Line) → Begun d x → x ≡ [] → ⊥
+some_lines d [] begun none = begun
+some_lines d (line ∷ x) begun none = cc
+
+first_fault : (lines : List Line) (fault : ParseFault) → Refused start 0 origin lines fault → FirstFault lines fault
+first_fault lines fault r = record {
+  front = r.front;
+  behind = r.behind;
+  point = r.point;
+  lines_are = r.lines_are;
+  shown = r.shown;
+  named = r.named;
+  none = λ limits asks s fits fine rest shown_it same.
+      r.none limits asks rest (script_rows s) [] shown_it (fits_start s (r.front ++ rest) fits same (some_lines 0 (r.front ++ rest) (r.begun rest shown_it))) (script_may limits s fine) tt
+      (append-nil (rows_lines (script_rows s)) ∙ script_same s ∙ same);
+}
+
+stopped_script : (lines : List Line) (l : Level) (fault : ParseFault) → l ≡ start → RowsStopped l 0 origin lines fault → IsFault lines fault
+stopped_script lines l fault is r = by fault (subst (λ (k : Level). RowsStopped k 0 origin lines fault) is r)
+  where
+    by : (fault : ParseFault) → RowsStopped start 0 origin lines fault → IsFault lines fault
+    by Memory r = tt
+    by (Unexpected place) r = first_fault lines (Unexpected place) r
+    by (Unsupported place) r = first_fault lines (Unsupported place) r
+    by (BadIndent place) r = first_fault lines (BadIndent place) r
+    by (TooDeep place) r = first_fault lines (TooDeep place) r
+    by (TooMany place) r = first_fault lines (TooMany place) r
+
+pub stopped_there : (lines read : List Line) (l : Level) (fault : ParseFault) → read ≡ lines → l ≡ start → RowsStopped l 0 origin read fault → IsFault lines fault
+stopped_there lines read l fault same is r = subst (λ (ls : List Line). IsFault ls fault) same (stopped_script read l fault is r)
+
+-- the first line of a script is not indented
+zero_first : (rows : Rows) (rest : List Line) → FitsRows start rows → rows_lines rows ≡ rest → Begun 0 rest
+zero_first end_rows rest fits same = absurd (false≢true fits)
+zero_first (row line h under more) rest fits same = subst (Begun 0) same fits.0.indent_is
+
+pub indented_first : (line : Line) (lines all : List Line) → all ≡ line ∷ lines → (line.indent ≡ 0 → ⊥) → FirstFault all (BadIndent (first_place origin line.tokens))
+indented_first line lines all is other = by line.tokens refl
+  where
+    never : (s : Script) (rest : List Line) → FitsScript s → script_lines s ≡ rest → Begun line.indent rest → ⊥
+    never s rest fits same begun =
+        other (one_indent line.indent 0 rest rest begun (zero_first (script_rows s) rest (fits_start s rest fits same (some_lines line.indent rest begun)) (script_same s ∙ same)) refl)
+
+    begun_end : (rest : List Line) → shows (at_end line.indent []) rest → Begun line.indent rest
+    begun_end [] shown_it = absurd shown_it
+    begun_end (first ∷ more) shown_it = shown_it.0
+
+    begun_token : (t : Token) (rest : List Line) → shows (at_token line.indent [] t) rest → Begun line.indent rest
+    begun_token t [] shown_it = absurd shown_it
+    begun_token t (first ∷ more) shown_it = shown_it.0
+
+    by : (ts : List Token) → line.tokens ≡ ts → FirstFault all (BadIndent (first_place origin ts))
+    by [] tokens = record {
+      front = [];
+      behind = all;
+      point = at_end line.indent [];
+      lines_are = refl;
+      shown = subst (shows (at_end line.indent [])) (sym is) (refl, tokens);
+      named = refl;
+      none = λ limits asks s fits fine rest shown_it same. never s rest fits same (begun_end rest shown_it);
+    }
+    by (t ∷ ts) tokens = record {
+      front = [];
+      behind = all;
+      point = at_token line.indent [] t;
+      lines_are = refl;
+      shown = subst (shows (at_token line.indent [] t)) (sym is) (refl, record { more = ts; tokens_are = tokens });
+      named = (refl, refl);
+      none = λ limits asks s fits fine rest shown_it same. never s rest fits same (begun_token t rest shown_it);
+    }
+
+-- ---- where the lines are a script
+
+profile_asked : (fault : ParseFault) → Asks fault profile
+profile_asked (Unexpected place) = tt
+profile_asked (Unsupported place) = tt
+profile_asked (BadIndent place) = tt
+profile_asked (TooDeep place) = (omega arith, omega arith)
+profile_asked (TooMany place) = omega arith
+profile_asked Memory = tt
+
+never_both : (lines : List Line) (fault : ParseFault) (tree : ScriptTree) → FirstFault lines fault → IsScript lines tree → ⊥
+never_both lines fault tree f s = f.none profile (profile_asked fault) s.written s.fits s.fine f.behind f.shown (sym s.lines_are ∙ f.lines_are)
+
+pub only_memory : (lines : List Line) (fault : ParseFault) (tree : ScriptTree) → IsFault lines fault → IsScript lines tree → fault ≡ Memory
+only_memory lines Memory tree f s = refl
+only_memory lines (Unexpected place) tree f s = absurd (never_both lines (Unexpected place) tree f s)
+only_memory lines (Unsupported place) tree f s = absurd (never_both lines (Unsupported place) tree f s)
+only_memory lines (BadIndent place) tree f s = absurd (never_both lines (BadIndent place) tree f s)
+only_memory lines (TooDeep place) tree f s = absurd (never_both lines (TooDeep place) tree f s)
+only_memory lines (TooMany place) tree f s = absurd (never_both lines (TooMany place) tree f s)

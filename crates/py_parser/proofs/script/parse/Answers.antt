@@ -1,0 +1,34 @@
+use Rattle.std.proofs.Common.{rules, ap, sym, ◌∙◌, subst}
+use Rattle.py_grammar.specs.declared.fault.ParseFault.TheVariants.{BadIndent}
+use Rattle.py_parser.specs.Faults.{origin, first_place, FirstFault}
+use Rattle.py_parser.proofs.CycleParts.{no_first, some_first}
+use Rattle.py_parser.proofs.Parsing.{read_script_there, empty_script_is, stopped_there, indented_first, only_memory}
+use Rattle.py_parser.proofs.script.parse.Goals as goal
+
+-- src/script.rt
+pub returns-in_default-clause-found : goal.returns-in_default-clause-found
+returns-in_default-clause-found c = empty_script_is c.args.lines.now c.as_slice-lines.result.now c.new.result c.as_slice-lines.ensures (no_first _ c.in_default.ensures.value) c.new.ensures.items
+
+-- src/script.rt
+pub returns-then-first-ne0-clause-refused : goal.returns-then-first-ne0-clause-refused
+returns-then-first-ne0-clause-refused c =
+    let there = some_first c.as_slice-lines.result.now c.in-Some.first.now c.in-Some.ensures.value in
+    subst (λ at. FirstFault c.args.lines.now (BadIndent at)) (sym (c.first_of-at.ensures ∙ ap (first_place origin) c.as_slice.ensures))
+    (indented_first c.in-Some.first.now there.0 c.args.lines.now (sym c.as_slice-lines.ensures ∙ there.1) c.if-first-ne0.true)
+
+-- src/script.rt
+pub returns-in_err-built-clause-complete : goal.returns-in_err-built-clause-complete
+returns-in_err-built-clause-complete c tree s =
+    let is = only_memory c.args.lines.now _ tree (stopped_there c.args.lines.now c.as_slice-lines.result.now _ _ c.as_slice-lines.ensures c.module.ensures c.in_err-built.ensures.refused) s in
+    search (rules, is)
+
+-- src/script.rt
+pub returns-in_err-built-clause-refused : goal.returns-in_err-built-clause-refused
+returns-in_err-built-clause-refused c =
+    let is = stopped_there c.args.lines.now c.as_slice-lines.result.now _ _ c.as_slice-lines.ensures c.module.ensures c.in_err-built.ensures.refused in
+    search (rules, is)
+
+-- src/script.rt
+pub returns-clause-found : goal.returns-clause-found
+returns-clause-found c =
+    read_script_there c.args.lines.now c.as_slice-lines.result.now _ _ c.in_ok-built.built c.rows.new.self.count origin _ c.as_slice-lines.ensures c.module.ensures c.in_ok-built.ensures.found

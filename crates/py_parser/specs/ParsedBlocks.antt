@@ -1,0 +1,222 @@
+-- What the parser answers of the lines of a script. No public clause speaks of it.
+use Rattle.std.specs.Prelude.{◌≡◌, ⊤, ℕ, ◌+◌, ◌<◌, ◌≤◌, nat_le, suc, Bool, true, false, ◌==◌, ◌||◌, not, List, [], ◌∷◌, ◌++◌, map, Option, Some, None}
+use Rattle.prov_base.specs.declared.place.Pos.{Pos}
+use Rattle.py_lines.specs.declared.parts.Line.{Line}
+use Rattle.py_lines.specs.declared.parts.Token.{Token}
+use Rattle.py_lines.specs.declared.parts.TokenKind.{TokenKind}
+use Rattle.py_lines.specs.declared.parts.TokenKind.TheVariants.{Keyword}
+use Rattle.py_tree.specs.Erasure.{stmt_of}
+use Rattle.py_tree.specs.Tree.{StmtTree}
+use Rattle.py_grammar.specs.declared.context.Last.TheVariants.{Nothing}
+use Rattle.py_grammar.specs.declared.context.Limit.{Limit}
+use Rattle.py_grammar.specs.declared.context.Limit.TheVariants.{Number, Depth}
+use Rattle.py_parser.specs.declared.blocks.Place.{Place}
+use Rattle.py_parser.specs.declared.blocks.Built.{Built}
+use Rattle.py_grammar.specs.declared.fault.ParseFault.{ParseFault}
+use Rattle.py_grammar.specs.declared.fault.ParseFault.TheVariants.{Unexpected, Unsupported, BadIndent, TooDeep, TooMany, Memory}
+use Rattle.py_grammar.specs.declared.head.LineHead.{LineHead}
+use Rattle.py_grammar.specs.declared.head.What.{What}
+use Rattle.py_grammar.specs.LineReader.{Head, head_tokens}
+use Rattle.py_grammar.specs.Layout.{IsLine}
+use Rattle.py_grammar.specs.Follows.{Below}
+use Rattle.py_grammar.specs.StatementTrees.{end_of}
+use Rattle.py_grammar.specs.ParsedSimple.{around_of}
+use Rattle.py_grammar.specs.ParsedHead.{IsWhat, IsBehind, behind_in}
+use Rattle.py_parser.specs.Limits.{Limits, profile}
+use Rattle.py_parser.specs.Faults.{last_place, last_token, Point, shows, names, Asks}
+use Rattle.py_parser.specs.Rows.{Begun, Rows, end_rows, row, Under, nothing, block, rows_lines, under_lines, Level, is_stmt, counted, opens, after, inside, is_done, follows, Leads, FitsUnder, FitsRows, may, rows_may, under_may, rows_size, under_size, Edge, LastEdge}
+use Rattle.py_parser.specs.RowForms.{suite_list, grown, inner_number, declared, row_globals, under_globals, grow, below_tree}
+
+-- ---- where the code is
+
+-- the level at which the lines of a suite begin
+abbrev pub level_of : Place → List (List ℕ) → Level
+level_of p given = record { indent = p.indent; depth = p.depth; context = record { around = around_of p.around; last = Nothing; may_declare = p.of_def }; of_def = p.of_def; given = given; has_stmt = false }
+
+-- the level behind the lines that are read so far
+abbrev pub level_at : Place → List (List ℕ) → Built → Level
+level_at p given b = record {
+  indent = p.indent;
+  depth = p.depth;
+  context = record { around = around_of p.around; last = b.last; may_declare = b.may_declare };
+  of_def = p.of_def;
+  given = given;
+  has_stmt = b.has_stmt;
+}
+
+-- the next line has this indentation
+abbrev pub is_here : ℕ → List Line → Bool
+is_here indent [] = false
+is_here indent (line ∷ lines) = line.indent == indent
+
+abbrev pub trees_of : Built → List StmtTree
+trees_of b = map stmt_of b.list.items
+
+-- a statement begins with such a token, and no part of one or `global` line
+abbrev pub is_stmt_kind : TokenKind → Bool
+is_stmt_kind (Keyword n) = not ((n == 13) || (n == 14) || (n == 15) || (n == 19))
+is_stmt_kind kind = true
+
+-- the limit that a statement behind the `:` would pass
+abbrev pub limit_by : Bool → Bool → Option Limit
+limit_by true deep = Some Number
+limit_by false true = Some Depth
+limit_by false false = None
+
+-- behind so many statements and in so many suites
+abbrev pub limit_at : ℕ → ℕ → Option Limit
+limit_at count depth = limit_by (nat_le 20000 count) (nat_le 50 depth)
+
+-- a line that begins this was read at this level behind so many statements, and its suite is what comes
+pub record IsUnderOf (p : Place) (count : ℕ) (m : Level) (n : ℕ) (h : Head) : Type 0 where
+  pub indent_is : m.indent ≡ p.indent
+  pub depth_is : m.depth ≡ p.depth
+  pub around_is : m.context.around ≡ around_of p.around
+  pub count_is : count ≡ inner_number n h
+  pub may_be : may profile m n h ≡ true
+
+-- ---- what is read
+
+-- These rows were read of a suite, and the suite goes on at this level.
+pub record Standing (l : Level) (n : ℕ) (at : Pos) (before : List Line) (m : Level) (built : Built) (count : ℕ) (now : Pos) (left : List Line) : Type 0 where
+  pub rows : Rows
+  pub lines_are : before ≡ rows_lines rows ++ left
+  pub leads : Leads l rows m
+  pub may_be : rows_may profile l n rows ≡ true
+  pub trees_are : trees_of built ≡ grow n [] rows
+  pub globals_are : built.globals.items ≡ row_globals rows
+  pub to_is : built.to ≡ end_of 0 (rows_lines rows)
+  pub count_is : count ≡ n + rows_size rows
+  pub few : count ≤ 20000
+  pub now_is : now ≡ last_token at (rows_lines rows)
+  pub edge : LastEdge rows left
+
+-- the lines of a whole suite were read
+pub record RowsRead (l : Level) (n : ℕ) (at : Pos) (before : List Line) (built : Built) (count : ℕ) (now : Pos) (left : List Line) : Type 0 where
+  pub rows : Rows
+  pub lines_are : before ≡ rows_lines rows ++ left
+  pub fits : FitsRows l rows
+  pub may_be : rows_may profile l n rows ≡ true
+  pub trees_are : trees_of built ≡ grow n [] rows
+  pub globals_are : built.globals.items ≡ row_globals rows
+  pub to_is : built.to ≡ end_of 0 (rows_lines rows)
+  pub count_is : count ≡ n + rows_size rows
+  pub few : count ≤ 20000
+  pub now_is : now ≡ last_token at (rows_lines rows)
+  pub low : Below l.indent left
+
+-- a line was read, which begins this
+pub record LineRead (m : Level) (n : ℕ) (line : Line) (head : LineHead) (count : ℕ) : Type 0 where
+  pub written : Head
+  pub tokens_are : line.tokens ≡ head_tokens written
+  pub what_is : IsWhat head.what written
+  pub behind_is : IsBehind head.behind (behind_in written)
+  pub follows_is : follows m written ≡ true
+  pub may_be : may profile m n written ≡ true
+  pub count_is : count ≡ inner_number n written
+  pub few : count ≤ 20000
+
+-- what stands under a line that begins this was read
+pub record UnderRead (m : Level) (n : ℕ) (h : Head) (to : ℕ) (at : Pos) (before : List Line) (built : Built) (count : ℕ) (now : Pos) (left : List Line) : Type 0 where
+  pub under : Under
+  pub lines_are : before ≡ under_lines under ++ left
+  pub fits : FitsUnder m h under
+  pub may_be : under_may profile m (n + counted h) h under ≡ true
+  pub tree_is : suite_list (trees_of built) ≡ below_tree (inner_number n h) to (behind_in h) under
+  pub globals_are : built.globals.items ≡ under_globals under
+  pub to_is : built.to ≡ end_of to (under_lines under)
+  pub count_is : count ≡ n + counted h + under_size under
+  pub few : count ≤ 20000
+  pub now_is : now ≡ last_token at (under_lines under)
+  pub edge : Edge under left
+
+-- a line was read, with what stands under it
+pub record RowRead (m : Level) (n : ℕ) (at : Pos) (before : List Line) (old built : Built) (k : Level) (count : ℕ) (now : Pos) (left : List Line) : Type 0 where
+  pub line : Line
+  pub head : Head
+  pub under : Under
+  pub lines_are : before ≡ line ∷ under_lines under ++ left
+  pub is_line : IsLine line m.indent (head_tokens head)
+  pub follows_is : follows m head ≡ true
+  pub may_be : may profile m n head ≡ true
+  pub fits : FitsUnder m head under
+  pub under_may_be : under_may profile m (n + counted head) head under ≡ true
+  pub trees_are : trees_of built ≡ grown n head (below_tree (inner_number n head) line.span.to (behind_in head) under) (under_globals under) (end_of line.span.to (under_lines under)) (trees_of old)
+  pub globals_are : built.globals.items ≡ old.globals.items ++ declared head
+  pub to_is : built.to ≡ end_of line.span.to (under_lines under)
+  pub count_is : count ≡ n + counted head + under_size under
+  pub few : count ≤ 20000
+  pub level_is : k ≡ after m head
+  pub now_is : now ≡ last_token at (line ∷ under_lines under)
+  pub edge : Edge under left
+
+-- ---- what is refused
+
+-- No suite at this level has these first lines up to and with what is shown.
+pub record Refused (l : Level) (n : ℕ) (at : Pos) (lines : List Line) (fault : ParseFault) : Type 0 where
+  pub front : List Line
+  pub behind : List Line
+  pub point : Point
+  pub lines_are : lines ≡ front ++ behind
+  pub shown : shows point behind
+  pub named : names (last_token at front) point fault
+  pub begun : (rest : List Line) → shows point rest → Begun l.indent (front ++ rest)
+  pub none : (q : Limits) → Asks fault q → (rest : List Line) (rows : Rows) (r : List Line) → shows point rest → FitsRows l rows → rows_may q l n rows ≡ true → Below l.indent r → rows_lines rows ++ r ≡ front ++ rest → ⊥
+
+abbrev pub RowsStopped : Level → ℕ → Pos → List Line → ParseFault → Type 0
+RowsStopped l n at lines Memory = ⊤
+RowsStopped l n at lines fault = Refused l n at lines fault
+
+-- No suite goes on from this level so that it shows this at once.
+pub record RefusedHere (m : Level) (n : ℕ) (at : Pos) (lines : List Line) (fault : ParseFault) : Type 0 where
+  pub point : Point
+  pub shown : shows point lines
+  pub named : names at point fault
+  pub edge : (rows : Rows) (rest : List Line) → shows point rest → (l : Level) → l.indent ≡ m.indent → Leads l rows m → LastEdge rows lines → LastEdge rows rest
+  pub none : (q : Limits) → Asks fault q → (rest : List Line) (rows : Rows) (r : List Line) → shows point rest → FitsRows m rows → rows_may q m n rows ≡ true → Below m.indent r → rows_lines rows ++ r ≡ rest → ⊥
+
+-- Nothing that may stand under a line that begins this has these first lines up to and with what is shown.
+pub record RefusedUnder (m : Level) (n : ℕ) (h : Head) (at : Pos) (lines : List Line) (fault : ParseFault) : Type 0 where
+  pub front : List Line
+  pub behind : List Line
+  pub point : Point
+  pub lines_are : lines ≡ front ++ behind
+  pub shown : shows point behind
+  pub named : names (last_token at front) point fault
+  pub none : (q : Limits) → Asks fault q → (rest : List Line) (under : Under) (r : List Line) → shows point rest → FitsUnder m h under → under_may q m n h under ≡ true → Edge under r → under_lines under ++ r ≡ front ++ rest → ⊥
+
+abbrev pub UnderStopped : Level → ℕ → Head → Pos → List Line → ParseFault → Type 0
+UnderStopped m n h at lines Memory = ⊤
+UnderStopped m n h at lines fault = RefusedUnder m n h at lines fault
+
+-- No line that may stand there has these tokens up to and with what is shown.
+pub record RefusedLine (m : Level) (n : ℕ) (at : Pos) (line : Line) (fault : ParseFault) : Type 0 where
+  pub point : Point
+  pub shown : shows point (line ∷ [])
+  pub named : names at point fault
+  pub begun : (rest : List Line) → shows point rest → Begun line.indent rest
+  pub none : (q : Limits) → Asks fault q → (other : Line) (more : List Line) (h : Head) → shows point (other ∷ more) → other.tokens ≡ head_tokens h → follows m h ≡ true → may q m n h ≡ true → ⊥
+
+abbrev pub LineStopped : Level → ℕ → Pos → Line → ParseFault → Type 0
+LineStopped m n at line Memory = ⊤
+LineStopped m n at line fault = RefusedLine m n at line fault
+
+-- what was read of a line is what it begins
+abbrev pub IsHead : What → Line → Head → Type 0
+IsHead what line h = IsWhat what h × (line.tokens ≡ head_tokens h)
+
+-- ---- at the end of a suite
+
+-- the lines of a suite end here
+pub record IsClosed (p : Place) (b : Built) (lines : List Line) : Type 0 where
+  pub low : Below p.indent lines
+  pub done : (given : List (List ℕ)) → is_done (level_at p given b) ≡ true
+
+pub record NotClosed (p : Place) (b : Built) (at : Pos) (lines : List Line) (fault : ParseFault) : Type 0 where
+  pub there : (given : List (List ℕ)) (n : ℕ) → RefusedHere (level_at p given b) n at lines fault
+  pub other : fault ≡ Memory → ⊥
+
+abbrev pub IsNoHandler : Pos → ParseFault → Type 0
+IsNoHandler at (Unexpected place) = place ≡ at
+IsNoHandler at (BadIndent place) = place ≡ at
+IsNoHandler at fault = ⊥

@@ -1,0 +1,20 @@
+//! The parser of scripts: the script that logical lines are, or the first fault in them.
+//!
+//! Lines are read one indentation at a time, each by `py_grammar`, and put together to statements as they come. What is accepted
+//! is `specs/Script.antt`, and what a fault is `specs/Faults.antt`; the other definitions are the parser's own, and no public
+//! clause speaks of them.
+#![tactic(auto)]
+
+mod blocks;
+mod script;
+#[cfg(test)]
+mod tests;
+#[cfg(test)]
+mod tests_layouts;
+#[cfg(test)]
+mod tests_scripts;
+#[cfg(test)]
+mod tests_trees;
+
+pub use py_grammar::ParseFault;
+pub use script::parse;

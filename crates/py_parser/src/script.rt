@@ -1,0 +1,49 @@
+// A script from its logical lines.
+ghost use Rattle.std.specs.Prelude.{◌≡◌, IfOk, IfErr};
+ghost use Rattle.py_tree.specs.Erasure.{script_of};
+ghost use Rattle.py_tree.specs.Tree.{ScriptTree};
+ghost use Rattle.py_grammar.specs.declared.fault.ParseFault.TheVariants.{Memory};
+ghost use Rattle.py_parser.specs.Script.{IsScript};
+ghost use Rattle.py_parser.specs.Faults.{IsFault};
+
+use crate::blocks::{Blocks, Place, first_of};
+use prov_base::Pos;
+use py_grammar::ParseFault;
+use py_lines::Lines;
+use py_tree::{Script, Suite};
+use std::alloc::Global;
+
+/// The script that logical lines are: a script of the grammar (`InGrammar` of `py_grammar`) whose statements stand where they
+/// may, with at most 20,000 statements, each in at most 50 suites and with expressions at most 100 deep.
+///
+/// A fault names the first token, in the order of the text, that no such script has there, or an earlier one where
+/// `ParseFault` says so.
+pub fn parse(alloc: Global, lines: &Lines) -> Result<Script, ParseFault>
+    ensures found { IfOk result (λ script. IsScript lines.now (script_of script)) }
+    // Where the lines are a script, no other answer is given but want of memory.
+    ensures complete { (tree : ScriptTree) → IsScript lines.now tree → IfErr result (λ fault. fault ≡ Memory) }
+    ensures refused { IfErr result (IsFault lines.now) }
+{
+    let lines = lines.as_slice();
+    let before = Pos { line: 1, col: 1 };
+    let Some(first) = lines.first() else {
+        let body = Suite { list: Vec::new(alloc) };
+        return Ok(Script { body, count: 0 });
+    };
+    if first.indent != 0 {
+        let at = first_of(first.tokens.as_slice(), before);
+        return Err(ParseFault::BadIndent(at));
+    }
+    let mut blocks = Blocks {
+        rest: lines,
+        before,
+        count: 0,
+        columns: Vec::new(alloc),
+    };
+    let built = blocks.rows(alloc, Place::module(), &[])?;
+    let body = Suite { list: built.list };
+    Ok(Script {
+        body,
+        count: blocks.count,
+    })
+}
