@@ -21,7 +21,7 @@ use Rattle.py_grammar.specs.WellPlaced.{Around, simple_stands}
 use Rattle.py_grammar.specs.LineReader.{Head, simple_head, else_head, try_head, global_head, head_tokens}
 use Rattle.py_grammar.specs.Parsed.{IsAtFirst, Taken, Refused, one_sign}
 use Rattle.py_grammar.specs.ParsedSimple.{BeginsSimple}
-use Rattle.py_grammar.specs.ParsedHead.{Context, lacks_handler, kind_may, may_begin, is_compound_kind, begins_compound, PlacedFound, HeadFound, OpeningFound, OpeningRefused, BehindFound, BehindRefused, inner_around, is_compound, IsAmissPlaced, IsAmissHead, MayNameLine, BeginsHead, ShownBy, EndedBy, PlacedRefused, HeadRefused, GlobalFound, GlobalRefused, word_may, Misplaced}
+use Rattle.py_grammar.specs.ParsedHead.{Context, lacks_handler, kind_may, may_begin, is_compound_kind, begins_compound, PlacedFound, HeadFound, OpeningFound, OpeningRefused, BehindFound, BehindRefused, inner_around, is_compound, IsAmissPlaced, IsAmissHead, MayNameLine, BeginsHead, ShownBy, EndedBy, PlacedRefused, HeadRefused, IsFirstRefused, GlobalFound, GlobalRefused, word_may, Misplaced}
 use Rattle.py_grammar.proofs.Stops.{some_spot}
 use Rattle.py_grammar.proofs.HeadParts.{spelled_head}
 use Rattle.py_grammar.proofs.ColonParts.{colon_refused, behind_refused, line_found}
@@ -232,6 +232,9 @@ simple_refused_there c given limit before kept stop is other refused = simple_li
 
 pub misplaced_there : (c : Context) (before : List Token) (t : Token) (ts : List Token) (may : Bool) (stop : Stop) → before ≡ t ∷ ts → may ≡ kind_may c t.kind → may ≡ false → IsAtFirst (t ∷ ts) stop → Misplaced c before stop
 misplaced_there c before t ts may stop is may_is other at = subst (λ (us : List Token). Misplaced c us stop) (sym is) (misplaced_refused c t ts stop (sym may_is ∙ other) at)
+
+pub first_refused_there : (c : Context) (before : List Token) (t : Token) (ts : List Token) (may : Bool) (stop : Stop) → before ≡ t ∷ ts → may ≡ kind_may c t.kind → may ≡ false → IsAtFirst (t ∷ ts) stop → IsFirstRefused c before stop
+first_refused_there c before t ts may stop is may_is other at = subst (λ (us : List Token). IsFirstRefused c us stop) (sym is) (sym may_is ∙ other, at)
 
 pub may_begin_there : (c : Context) (before : List Token) (t : Token) (ts : List Token) (may : Bool) → before ≡ t ∷ ts → may ≡ kind_may c t.kind → may ≡ true → may_begin c before ≡ true
 may_begin_there c before t ts may is may_is so = ap (may_begin c) is ∙ sym may_is ∙ so

@@ -1,5 +1,4 @@
--- What the parser answers of the tokens of a line: a simple statement, or what begins a compound one or a part of it. No
--- public clause speaks of it.
+-- What is answered of the tokens of a line (`read_head`): a simple statement, or what begins a compound one or a part of it.
 use Rattle.std.specs.Prelude.{◌≡◌, ⊤, ◌⊎◌, ℕ, ◌+◌, ◌<◌, ◌≤◌, max, Bool, true, false, ◌&&◌, ◌||◌, not, ◌==◌, List, [], ◌∷◌, ◌++◌, length, Option, Some, None, option_map, is_some, if◌then◌else◌}
 use Rattle.prov_base.specs.declared.place.Pos.{Pos}
 use Rattle.py_lines.specs.declared.parts.Token.{Token}
@@ -30,7 +29,7 @@ use Rattle.py_grammar.specs.StatementTrees.{simple_form, target_tree, names_list
 use Rattle.py_grammar.specs.Depth.{expr_depth, exprs_depth, simple_depth, target_depth, kind_depth}
 use Rattle.py_grammar.specs.WellPlaced.{Around, in_suite, in_loop_suite, in_handler_suite, in_def_suite, in_class_suite, simple_stands, def_stands, none_given}
 use Rattle.py_grammar.specs.LineReader.{Head, simple_head, if_head, elif_head, else_head, while_head, for_head, try_head, except_head, with_head, def_head, class_head, global_head, behind_tokens, colon_tokens, head_tokens, read_colon, read_head, read_target, read_names, read_params, read_naming, read_kind, read_base}
-use Rattle.py_grammar.specs.Parsed.{Production, Begins}
+use Rattle.py_grammar.specs.Parsed.{Production, Begins, IsAtFirst}
 use Rattle.py_grammar.specs.ParsedRows.{first_token, IsRead}
 use Rattle.py_grammar.specs.ParsedSimple.{around_of, leaving_none, BeginsSimple}
 
@@ -378,3 +377,10 @@ kind_may c kind = not (lacks_handler c.last)
 abbrev pub may_begin : Context → List Token → Bool
 may_begin c [] = true
 may_begin c (t ∷ ts) = kind_may c t.kind
+
+-- with the first token no line may begin there, and it is the one that is refused
+abbrev pub IsFirstRefused : Context → List Token → Stop → Type 0
+IsFirstRefused c tokens stop = (may_begin c tokens ≡ false) × IsAtFirst tokens stop
+
+abbrev pub FirstMay : Context → List Token → Stop → Type 0
+FirstMay c tokens stop = (may_begin c tokens ≡ true) ⊎ IsFirstRefused c tokens stop

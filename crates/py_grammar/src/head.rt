@@ -3,7 +3,7 @@ ghost use Rattle.std.specs.Prelude.{◌≡◌, ◌==◌, ℕ, List, Bool, true, 
 ghost use Rattle.py_lines.specs.declared.parts.TokenKind.TheVariants.{Keyword};
 ghost use Rattle.py_grammar.specs.Parsed.{Taken};
 ghost use Rattle.py_grammar.specs.ParsedSimple.{around_of};
-ghost use Rattle.py_grammar.specs.ParsedHead.{Context as Standing, context_of, inner_around, is_compound, begins_compound, may_begin, kind_may, may_be_alone, is_refused_kind, is_text_kind, IsRefusedInClass, Misplaced, BehindFound, BehindRefused, HeadFound, HeadRefused, OpeningFound, OpeningRefused, PlacedFound, PlacedRefused};
+ghost use Rattle.py_grammar.specs.ParsedHead.{Context as Standing, context_of, inner_around, is_compound, begins_compound, may_begin, kind_may, may_be_alone, is_refused_kind, is_text_kind, IsRefusedInClass, IsFirstRefused, FirstMay, Misplaced, BehindFound, BehindRefused, HeadFound, HeadRefused, OpeningFound, OpeningRefused, PlacedFound, PlacedRefused};
 
 use crate::around::Around;
 use crate::context::{Context, Last, Limit};
@@ -73,16 +73,21 @@ pub fn read_head(
 ) -> Result<LineHead, Stop>
     ensures found { IfOk result (HeadFound (context_of context) given.now limit tokens.now) }
     ensures refused { IfErr result (HeadRefused (context_of context) given.now limit tokens.now) }
+    // Either the first token may stand there, or it is the one that is refused.
+    ensures first { IfErr result (FirstMay (context_of context) tokens.now) }
 {
     let mut cursor = Cursor {
         rest: tokens,
         inside: Inside::Line,
     };
+    if let Some(stop) = cursor.misplaced(context) {
+        return Err(stop);
+    }
     cursor.head(alloc, context, given, limit)
 }
 
 impl<'a> Cursor<'a> {
-    /// The line that all the tokens are. `given` are the parameters of the function in whose suite a `global` line may stand.
+    /// The line that all the tokens are, with the first of which a line may begin there.
     fn head(
         &mut self,
         alloc: Global,
@@ -90,12 +95,10 @@ impl<'a> Cursor<'a> {
         given: &[Name],
         limit: Option<Limit>,
     ) -> Result<LineHead, Stop>
+        requires fine { may_begin (context_of context) self.old.rest.now ≡ true }
         ensures found { IfOk result (HeadFound (context_of context) given.now limit self.old.rest.now) }
         ensures refused { IfErr result (HeadRefused (context_of context) given.now limit self.old.rest.now) }
     {
-        if let Some(stop) = self.misplaced(context) {
-            return Err(stop);
-        }
         let Some((word, _)) = self.take_compound() else {
             let form = self.placed(alloc, context.around, None)?;
             return Ok(LineHead {
@@ -119,6 +122,7 @@ impl<'a> Cursor<'a> {
     /// That no statement or part of one may begin with the next token here.
     fn misplaced(&self, context: Context) -> Option<Stop>
         ensures refused { IfSome result (Misplaced (context_of context) self.now.rest.now) }
+        ensures first { IfSome result (IsFirstRefused (context_of context) self.now.rest.now) }
         ensures fine { IfNone result (may_begin (context_of context) self.now.rest.now ≡ true) }
     {
         let (token, _) = self.rest.split_first()?;

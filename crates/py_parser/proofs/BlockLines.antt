@@ -20,13 +20,15 @@ use Rattle.py_grammar.specs.Concrete.{Spot}
 use Rattle.py_grammar.specs.Tokens.{token}
 use Rattle.py_grammar.specs.Written.{Simple}
 use Rattle.py_grammar.specs.LineReader.{Head, simple_head, if_head, elif_head, else_head, while_head, for_head, try_head, except_head, with_head, def_head, class_head, global_head, head_tokens}
-use Rattle.py_grammar.specs.ParsedHead.{Context, lacks_handler, takes_handler, word_may, is_compound, is_compound_kind, head_stands, head_depth, behind_in, HeadFound, HeadRefused, IsAmissHead, ShownBy, EndedBy, BeginsHead, MayNameLine}
+use Rattle.py_grammar.specs.ParsedHead.{Context, lacks_handler, takes_handler, word_may, is_compound, is_compound_kind, head_stands, head_depth, behind_in, HeadFound, HeadRefused, IsAmissHead, ShownBy, EndedBy, BeginsHead, kind_may, may_begin, FirstMay}
+use Rattle.py_grammar.specs.Parsed.{IsAtFirst}
 use Rattle.py_parser.specs.Limits.{Limits, profile}
 use Rattle.py_parser.specs.Rows.{Level, Begun, is_stmt, is_every, counted, follows, may}
 use Rattle.py_parser.specs.RowForms.{inner_number}
-use Rattle.py_parser.specs.Faults.{Asks, last_place, Point, at_token, at_end, shows, GoesOn, names}
-use Rattle.py_parser.specs.ParsedBlocks.{limit_by, limit_at, is_stmt_kind, LineRead, RefusedLine, LineStopped}
-use Rattle.py_grammar.proofs.LineFirsts.{same_first, head_some, simple_not_compound}
+use Rattle.py_parser.specs.Faults.{Asks, last_place, Point, at_token, at_end, shows, GoesOn, Opens, names}
+use Rattle.py_parser.specs.ParsedBlocks.{limit_by, limit_at, is_stmt_kind, RowsBegin, LineRead, RefusedLine, LineStopped}
+use Rattle.py_grammar.proofs.LineFirsts.{same_first, head_some, simple_not_compound, may_as_word, may_as_simple, misplaced_head}
+use Rattle.py_parser.proofs.Endings.{begins_here, begins_with, begins_line}
 
 -- ---- truth values
 
@@ -119,6 +121,26 @@ follows_there m (def_head at name_at bytes opening given closing colon b) declar
 follows_there m (class_head at name_at bytes of colon b) declares stands = left_of _ _ (left_of _ _ stands)
 follows_there m (global_head at names) declares stands =
     let word : word_may m.context 19 ≡ true = left_of _ _ stands in
+    ap (λ b. b && not (lacks_handler m.context.last)) (declares (right_of (not (lacks_handler m.context.last)) m.context.may_declare word)) ∙ left_of (not (lacks_handler m.context.last)) m.context.may_declare word
+
+-- what the first token may begin follows, too
+word_of : (c : Context) (k : ℕ) (spot : Spot) (rest : List Token) (t : Token) (ts : List Token) → token (Keyword k) spot ∷ rest ≡ t ∷ ts → is_compound k ≡ true → kind_may c t.kind ≡ true → word_may c k ≡ true
+word_of c k spot rest t ts is present may = sym (may_as_word c k present) ∙ ap (λ (u : Token). kind_may c u.kind) (same_first (token (Keyword k) spot) t rest ts is) ∙ may
+
+kind_follows : (m : Level) (h : Head) (t : Token) (ts : List Token) → head_tokens h ≡ t ∷ ts → (m.context.may_declare ≡ true → m.of_def ≡ true) → kind_may m.context t.kind ≡ true → follows m h ≡ true
+kind_follows m (simple_head s) t ts is declares may = sym (may_as_simple m.context t.kind (simple_not_compound s t ts is)) ∙ may
+kind_follows m (if_head at test colon b) t ts is declares may = left_of _ _ (word_of m.context 20 at _ t ts is refl may)
+kind_follows m (elif_head at test colon b) t ts is declares may = word_of m.context 13 at _ t ts is refl may
+kind_follows m (else_head at colon b) t ts is declares may = word_of m.context 14 at _ t ts is refl may
+kind_follows m (while_head at test colon b) t ts is declares may = left_of _ _ (word_of m.context 32 at _ t ts is refl may)
+kind_follows m (for_head at target in_word e colon b) t ts is declares may = left_of _ _ (word_of m.context 17 at _ t ts is refl may)
+kind_follows m (try_head at colon b) t ts is declares may = left_of _ _ (word_of m.context 31 at _ t ts is refl may)
+kind_follows m (except_head at kind colon b) t ts is declares may = or_left (word_may m.context 15) (is_every m.context.last) (word_of m.context 15 at _ t ts is refl may)
+kind_follows m (with_head at e called colon b) t ts is declares may = left_of _ _ (word_of m.context 33 at _ t ts is refl may)
+kind_follows m (def_head at name_at bytes opening given closing colon b) t ts is declares may = left_of _ _ (word_of m.context 11 at _ t ts is refl may)
+kind_follows m (class_head at name_at bytes of colon b) t ts is declares may = left_of _ _ (word_of m.context 9 at _ t ts is refl may)
+kind_follows m (global_head at names) t ts is declares may =
+    let word : word_may m.context 19 ≡ true = word_of m.context 19 at _ t ts is refl may in
     ap (λ b. b && not (lacks_handler m.context.last)) (declares (right_of (not (lacks_handler m.context.last)) m.context.may_declare word)) ∙ left_of (not (lacks_handler m.context.last)) m.context.may_declare word
 
 -- ---- the limits
@@ -251,51 +273,113 @@ amiss q m n begins limit h fault asks same is fine bad = by fault asks bad
     by (BadIndent at) asks bad = bad
     by Memory asks bad = bad
 
-shown_line : (m : Level) (n : ℕ) (at : Pos) (line : Line) (t : Token) (begins : Bool) (limit : Option Limit) (fault : ParseFault) → Opened m n line t begins limit
+-- the tokens before the faulty one begin a line
+begins_token : (m : Level) (line : Line) (t : Token) (rest front : List Token) (shown : Token) (behind : List Token) → (m.context.may_declare ≡ true → m.of_def ≡ true) → kind_may m.context t.kind ≡ true → line.tokens ≡ t ∷ rest → line.tokens ≡ front ++ shown ∷ behind
+    → BeginsHead front → line.indent ≡ m.indent → RowsBegin m [] (at_token line.indent front shown)
+begins_token m line t rest [] shown behind declares may tokens before begun same = begins_here m (at_token line.indent [] shown) refl
+begins_token m line t rest (f ∷ fs) shown behind declares may tokens before (inl b) same =
+    let one : f ≡ t = same_first f t (fs ++ shown ∷ behind) rest (sym before ∙ tokens) in
+    begins_line m b.some (f ∷ fs) b.more (at_token line.indent (f ∷ fs) shown) b.tokens_are (kind_follows m b.some f (fs ++ b.more) b.tokens_are declares (ap (λ (u : Token). kind_may m.context u.kind) one ∙ may))
+    (λ x opens. inl (subst (λ d. Opens d (f ∷ fs) x) (sym same) opens))
+begins_token m line t rest (f ∷ fs) shown behind declares may tokens before (inr reading) same = begins_with m (at_token line.indent (f ∷ fs) shown) (λ x. inr reading)
+
+begins_ended : (m : Level) (indent : ℕ) (t : Token) (rest ts : List Token) → (m.context.may_declare ≡ true → m.of_def ≡ true) → kind_may m.context t.kind ≡ true → ts ≡ t ∷ rest → BeginsHead ts → indent ≡ m.indent → RowsBegin m [] (at_end indent ts)
+begins_ended m indent t rest [] declares may tokens begun same = begins_here m (at_end indent []) refl
+begins_ended m indent t rest (f ∷ fs) declares may tokens (inl b) same =
+    let one : f ≡ t = same_first f t fs rest tokens in
+    begins_line m b.some (f ∷ fs) b.more (at_end indent (f ∷ fs)) b.tokens_are (kind_follows m b.some f (fs ++ b.more) b.tokens_are declares (ap (λ (u : Token). kind_may m.context u.kind) one ∙ may))
+    (λ x opens. inl (subst (λ d. Opens d (f ∷ fs) x) (sym same) opens))
+begins_ended m indent t rest (f ∷ fs) declares may tokens (inr reading) same = begins_with m (at_end indent (f ∷ fs)) (λ x. inr reading)
+
+shown_line : (m : Level) (n : ℕ) (at : Pos) (line : Line) (t : Token) (begins : Bool) (limit : Option Limit) (fault : ParseFault) → Opened m n line t begins limit → (m.context.may_declare ≡ true → m.of_def ≡ true) → kind_may m.context t.kind ≡ true
     → (s : ShownBy BeginsHead head_tokens (λ fault h. IsAmissHead m.context m.given limit (Here fault) h) line.tokens fault) → names at (at_token line.indent s.front s.shown_by) fault → RefusedLine m n at line fault
-shown_line m n at line t begins limit fault o s named = record {
+shown_line m n at line t begins limit fault o declares may s named = record {
   point = at_token line.indent s.front s.shown_by;
   shown = (refl, record { more = s.behind; tokens_are = s.before_is });
   named = named;
   begun = begun_token line.indent s.front s.shown_by;
+  begins = begins_token m line t o.rest s.front s.shown_by s.behind declares may o.tokens_are s.before_is s.begun;
   none = λ q asks other more h there tokens_are goes_on fine.
     let is = sym tokens_are ∙ there.1.tokens_are in
     let opens = front_first s.front s.shown_by s.behind there.1.more t o.rest (sym s.before_is ∙ o.tokens_are) in
     amiss q m n begins limit h fault asks (begins_as m n line t begins limit o h opens.0 (is ∙ opens.1)) o.limit_is fine (s.none h there.1.more is);
 }
 
-ended_line : (m : Level) (n : ℕ) (at : Pos) (line : Line) (t : Token) (begins : Bool) (limit : Option Limit) (fault : ParseFault) → Opened m n line t begins limit
+ended_line : (m : Level) (n : ℕ) (at : Pos) (line : Line) (t : Token) (begins : Bool) (limit : Option Limit) (fault : ParseFault) → Opened m n line t begins limit → (m.context.may_declare ≡ true → m.of_def ≡ true) → kind_may m.context t.kind ≡ true
     → EndedBy BeginsHead head_tokens (IsAmissHead m.context m.given limit (Here fault)) line.tokens → names at (at_end line.indent line.tokens) fault → RefusedLine m n at line fault
-ended_line m n at line t begins limit fault o e named = record {
+ended_line m n at line t begins limit fault o declares may e named = record {
   point = at_end line.indent line.tokens;
   shown = (refl, refl);
   named = named;
   begun = begun_end line.indent line.tokens;
+  begins = begins_ended m line.indent t o.rest line.tokens declares may o.tokens_are e.begun;
   none = λ q asks other more h there tokens_are goes_on fine.
     let is = sym tokens_are ∙ there.1 in
     amiss q m n begins limit h fault asks (begins_as m n line t begins limit o h o.rest (is ∙ o.tokens_are)) o.limit_is fine (e.none h is);
 }
 
-pub line_refused : (m : Level) (n : ℕ) (at : Pos) (line : Line) (t : Token) (begins : Bool) (limit : Option Limit) (fault : ParseFault) → Opened m n line t begins limit → HeadRefused m.context m.given limit line.tokens (Here fault) → LineStopped m n at line fault
-line_refused m n at line t begins limit (Unexpected place) o is = shown_line m n at line t begins limit (Unexpected place) o is is.place_is
-line_refused m n at line t begins limit (TooMany place) o is = shown_line m n at line t begins limit (TooMany place) o is is.place_is
-line_refused m n at line t begins limit (TooDeep place) o is = shown_line m n at line t begins limit (TooDeep place) o is tt
-line_refused m n at line t begins limit (Unsupported place) o (inl is) = shown_line m n at line t begins limit (Unsupported place) o is tt
-line_refused m n at line t begins limit (Unsupported place) o (inr is) = ended_line m n at line t begins limit (Unsupported place) o is tt
-line_refused m n at line t begins limit (BadIndent place) o is = absurd is.place_is
-line_refused m n at line t begins limit Memory o is = tt
+-- the first token may stand there
+line_goes_on : (m : Level) (n : ℕ) (at : Pos) (line : Line) (t : Token) (begins : Bool) (limit : Option Limit) (fault : ParseFault) → Opened m n line t begins limit → (m.context.may_declare ≡ true → m.of_def ≡ true) → kind_may m.context t.kind ≡ true
+    → HeadRefused m.context m.given limit line.tokens (Here fault) → LineStopped m n at line fault
+line_goes_on m n at line t begins limit (Unexpected place) o declares may is = shown_line m n at line t begins limit (Unexpected place) o declares may is is.place_is
+line_goes_on m n at line t begins limit (TooMany place) o declares may is = shown_line m n at line t begins limit (TooMany place) o declares may is is.place_is
+line_goes_on m n at line t begins limit (TooDeep place) o declares may is = shown_line m n at line t begins limit (TooDeep place) o declares may is tt
+line_goes_on m n at line t begins limit (Unsupported place) o declares may (inl is) = shown_line m n at line t begins limit (Unsupported place) o declares may is tt
+line_goes_on m n at line t begins limit (Unsupported place) o declares may (inr is) = ended_line m n at line t begins limit (Unsupported place) o declares may is tt
+line_goes_on m n at line t begins limit (BadIndent place) o declares may is = absurd is.place_is
+line_goes_on m n at line t begins limit Memory o declares may is = tt
 
-pub line_ends : (m : Level) (n : ℕ) (at place : Pos) (line : Line) (limit : Option Limit) → place ≡ last_place at line.tokens → HeadRefused m.context m.given limit line.tokens End → RefusedLine m n at line (Unexpected place)
-line_ends m n at place line limit named e = record {
+-- the first token may not stand there
+line_never : (m : Level) (n : ℕ) (at : Pos) (line : Line) (t : Token) (rest : List Token) (fault : ParseFault) → line.tokens ≡ t ∷ rest → kind_may m.context t.kind ≡ false → IsAtFirst (t ∷ rest) (Here fault) → LineStopped m n at line fault
+line_never m n at line t rest fault tokens absent first = by fault first
+  where
+    refused : (fault : ParseFault) → names at (at_token line.indent [] t) fault → RefusedLine m n at line fault
+    refused fault named = record {
+      point = at_token line.indent [] t;
+      shown = (refl, record { more = rest; tokens_are = tokens });
+      named = named;
+      begun = begun_token line.indent [] t;
+      begins = λ same. begins_here m (at_token line.indent [] t) refl;
+      none = λ q asks other more h there tokens_are goes_on fine.
+        false≢true (sym (misplaced_head m.context m.given h t there.1.more (sym tokens_are ∙ there.1.tokens_are) absent)
+        ∙ (each_true (head_stands m.context m.given h) (nat_le (head_depth h) q.height) (nat_le (n + counted h) q.number) (is_none (behind_in h) || nat_le (suc m.depth) q.suites) fine).0);
+    }
+
+    by : (fault : ParseFault) → IsAtFirst (t ∷ rest) (Here fault) → LineStopped m n at line fault
+    by (Unexpected place) first = refused (Unexpected place) first
+    by (Unsupported place) first = refused (Unsupported place) tt
+    by (TooDeep place) first = absurd first
+    by (TooMany place) first = absurd first
+    by (BadIndent place) first = absurd first
+    by Memory first = absurd first
+
+pub line_refused : (m : Level) (n : ℕ) (at : Pos) (line : Line) (t : Token) (begins : Bool) (limit : Option Limit) (fault : ParseFault) → Opened m n line t begins limit → (m.context.may_declare ≡ true → m.of_def ≡ true)
+    → FirstMay m.context line.tokens (Here fault) → HeadRefused m.context m.given limit line.tokens (Here fault) → LineStopped m n at line fault
+line_refused m n at line t begins limit fault o declares (inl may) is = line_goes_on m n at line t begins limit fault o declares (sym (ap (may_begin m.context) o.tokens_are) ∙ may) is
+line_refused m n at line t begins limit fault o declares (inr first) is =
+    line_never m n at line t o.rest fault o.tokens_are (sym (ap (may_begin m.context) o.tokens_are) ∙ first.0) (subst (λ (ts : List Token). IsAtFirst ts (Here fault)) o.tokens_are first.1)
+
+-- a line that ends too early
+ends_may : (c : Context) (t : Token) (rest tokens : List Token) → tokens ≡ t ∷ rest → FirstMay c tokens End → kind_may c t.kind ≡ true
+ends_may c t rest tokens is (inl may) = sym (ap (may_begin c) is) ∙ may
+ends_may c t rest tokens is (inr first) = absurd (subst (λ (ts : List Token). IsAtFirst ts End) is first.1)
+
+pub line_ends : (m : Level) (n : ℕ) (at place : Pos) (line : Line) (t : Token) (begins : Bool) (limit : Option Limit) → Opened m n line t begins limit → (m.context.may_declare ≡ true → m.of_def ≡ true) → place ≡ last_place at line.tokens
+    → FirstMay m.context line.tokens End → HeadRefused m.context m.given limit line.tokens End → RefusedLine m n at line (Unexpected place)
+line_ends m n at place line t begins limit o declares named first e = record {
   point = at_end line.indent line.tokens;
   shown = (refl, refl);
   named = named;
   begun = begun_end line.indent line.tokens;
+  begins = begins_ended m line.indent t o.rest line.tokens declares (ends_may m.context t o.rest line.tokens o.tokens_are first) o.tokens_are e.begun;
   none = λ q asks other more h there tokens_are goes_on fine. e.none h (sym tokens_are ∙ there.1);
 }
 
 pub refused_at : (m : Level) (limit : Option Limit) (ts us : List Token) (s r : Stop) → ts ≡ us → s ≡ r → HeadRefused m.context m.given limit ts s → HeadRefused m.context m.given limit us r
 refused_at m limit ts us s r same stop is = subst (λ (l : List Token). HeadRefused m.context m.given limit l r) same (subst (λ (x : Stop). HeadRefused m.context m.given limit ts x) stop is)
+
+pub first_at : (m : Level) (ts us : List Token) (s r : Stop) → ts ≡ us → s ≡ r → FirstMay m.context ts s → FirstMay m.context us r
+first_at m ts us s r same stop is = subst (λ (l : List Token). FirstMay m.context l r) same (subst (λ (x : Stop). FirstMay m.context ts x) stop is)
 
 -- no line is without tokens
 pub line_is_empty : (m : Level) (n : ℕ) (at : Pos) (line : Line) → line.tokens ≡ [] → RefusedLine m n at line (Unexpected at)
@@ -304,6 +388,7 @@ line_is_empty m n at line empty = record {
   shown = (refl, empty);
   named = refl;
   begun = begun_end line.indent [];
+  begins = λ same. begins_here m (at_end line.indent []) refl;
   none = λ q asks other more h there tokens_are goes_on fine. head_some h (sym tokens_are ∙ there.1);
 }
 
@@ -314,6 +399,7 @@ one_too_many m n at line t rest tokens begins many = record {
   shown = (refl, record { more = rest; tokens_are = tokens });
   named = refl;
   begun = begun_token line.indent [] t;
+  begins = λ same. begins_here m (at_token line.indent [] t) refl;
   none = λ q asks other more h there tokens_are goes_on fine. no_more q asks h there.1.more (sym tokens_are ∙ there.1.tokens_are) fine;
 }
   where

@@ -44,7 +44,7 @@ pub under_stopped_there : (p : Place) (given : List (List ℕ)) (n middle : ℕ)
     → RowsStopped (level_at p given built) n at before fault
 under_stopped_there p given n middle at there before line lines built head fault is here there_is l stopped =
     subst (λ (ls : List Line). RowsStopped (level_at p given built) n at ls fault) (sym is)
-    (row_stopped (level_at p given built) n l.written at line lines fault (record { indent_is = here_is p.indent before line lines is here; tokens_are = l.tokens_are })
+    (row_stopped (level_at p given built) n l.written at line lines fault (record { indent_is = here_is p.indent before line lines is here; tokens_are = l.tokens_are }) l.follows_is
     (subst (λ (q : Pos). UnderStopped (level_at p given built) (n + counted l.written) l.written q lines fault) there_is
     (stopped (level_at p given built) n l.written (under_of p given n middle line built head l) (l.what_is, l.tokens_are) l.behind_is)))
 
@@ -136,9 +136,10 @@ abbrev pub inner_place : ℕ → ℕ → Around → Bool → Place
 inner_place indent depth around def = record { indent = indent; depth = depth; around = around; of_def = def }
 
 pub suite_stopped_there : (p q : Place) (given : List (List ℕ)) (count : ℕ) (m : Level) (n : ℕ) (h : Head) (at : Pos) (lines : List Line) (fault : ParseFault) → IsUnderOf p count m n h → opens h ≡ true → q.depth ≡ p.depth + 1
-    → around_of q.around ≡ head_around (around_of p.around) h → q.of_def ≡ is_def h → given ≡ head_given h → RowsStopped (level_of q given) count at lines fault → UnderStopped m (n + counted h) h at lines fault
-suite_stopped_there p q given count m n h at lines fault u open_is depth around def params stopped =
-    suite_stopped p q.indent n count m h at lines fault u (none_behind h open_is) open_is
+    → around_of q.around ≡ head_around (around_of p.around) h → q.of_def ≡ is_def h → given ≡ head_given h → p.indent < q.indent → RowsStopped (level_of q given) count at lines fault
+    → UnderStopped m (n + counted h) h at lines fault
+suite_stopped_there p q given count m n h at lines fault u open_is depth around def params deeper stopped =
+    suite_stopped p q.indent n count m h at lines fault u (none_behind h open_is) open_is (let same = u.indent_is in omega (arith, deeper, same))
     (subst (λ (l : Level). RowsStopped l count at lines fault) (inner_level p q given m n count h u depth around def params) stopped)
 
 pub suite_read_there : (p q : Place) (given : List (List ℕ)) (count next to : ℕ) (m : Level) (n : ℕ) (h : Head) (at now : Pos) (lines left : List Line) (built : Built) → IsUnderOf p count m n h → opens h ≡ true → q.depth ≡ p.depth + 1

@@ -18,11 +18,11 @@ use Rattle.py_grammar.specs.Follows.{Below}
 use Rattle.py_parser.specs.declared.blocks.Built.{Built}
 use Rattle.py_parser.specs.Limits.{profile}
 use Rattle.py_parser.specs.Script.{IsScript}
-use Rattle.py_parser.specs.Faults.{Point, at_token, at_end, shows, first_place, Asks, origin, FirstFault, IsFault}
+use Rattle.py_parser.specs.Faults.{Point, at_token, at_end, shows, first_place, Asks, origin, BeginsScript, FirstFault, IsFault}
 use Rattle.py_parser.specs.Rows.{Rows, end_rows, row, rows_lines, rows_size, rows_may, start, Level, FitsRows, FitsStart, Begun}
 use Rattle.py_parser.specs.Grouped.{script_rows, script_of}
 use Rattle.py_parser.specs.RowForms.{suite_list, grow}
-use Rattle.py_parser.specs.ParsedBlocks.{trees_of, Refused, RowsStopped, RowsRead}
+use Rattle.py_parser.specs.ParsedBlocks.{trees_of, RowsBegin, Refused, RowsStopped, RowsRead}
 use Rattle.py_parser.proofs.RowLines.{script_same}
 use Rattle.py_parser.proofs.RowFits.{script_fits}
 use Rattle.py_parser.proofs.RowStatements.{script_is}
@@ -99,6 +99,12 @@ some_lines : (d : ℕ) (x : List Line) → Begun d x → x ≡ [] → ⊥
 some_lines d [] begun none = begun
 some_lines d (line ∷ x) begun none = cc
 
+-- rows that begin so are those of a script
+script_begins : (front : List Line) (p : Point) → RowsBegin start front p → BeginsScript front p
+script_begins front p b =
+    let s = script_is b.rows (starts b.rows b.fits) in
+    record { some = script_of b.rows; fits = s.fits; more = b.more; lines_are = sym (script_same (script_of b.rows)) ∙ ap rows_lines s.rows_are ∙ b.lines_are; next = b.next }
+
 first_fault : (lines : List Line) (fault : ParseFault) → Refused start 0 origin lines fault → FirstFault lines fault
 first_fault lines fault r = record {
   front = r.front;
@@ -107,6 +113,7 @@ first_fault lines fault r = record {
   lines_are = r.lines_are;
   shown = r.shown;
   named = r.named;
+  begins = script_begins r.front r.point r.begins;
   none = λ limits asks s fits fine rest shown_it same.
       r.none limits asks rest (script_rows s) [] shown_it (fits_start s (r.front ++ rest) fits same (some_lines 0 (r.front ++ rest) (r.begun rest shown_it))) (script_may limits s fine) tt
       (append-nil (rows_lines (script_rows s)) ∙ script_same s ∙ same);
@@ -154,6 +161,7 @@ indented_first line lines all is other = by line.tokens refl
       lines_are = refl;
       shown = subst (shows (at_end line.indent [])) (sym is) (refl, tokens);
       named = refl;
+      begins = record { some = empty_script; fits = tt; more = []; lines_are = refl; next = tt };
       none = λ limits asks s fits fine rest shown_it same. never s rest fits same (begun_end rest shown_it);
     }
     by (t ∷ ts) tokens = record {
@@ -163,6 +171,7 @@ indented_first line lines all is other = by line.tokens refl
       lines_are = refl;
       shown = subst (shows (at_token line.indent [] t)) (sym is) (refl, record { more = ts; tokens_are = tokens });
       named = (refl, refl);
+      begins = record { some = empty_script; fits = tt; more = []; lines_are = refl; next = tt };
       none = λ limits asks s fits fine rest shown_it same. never s rest fits same (begun_token t rest shown_it);
     }
 

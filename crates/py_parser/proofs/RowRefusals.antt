@@ -14,6 +14,7 @@ use Rattle.py_parser.specs.Limits.{Limits}
 use Rattle.py_parser.specs.Rows.{Rows, end_rows, row, Under, nothing, block, rows_lines, under_lines, Level, counted, opens, after, inside, is_done, follows, Leads, FitsUnder, FitsRows, may, rows_may, under_may, rows_size, under_size, Edge, LastEdge, Begun}
 use Rattle.py_parser.specs.Faults.{Asks, Point, at_token, at_end, below, no_line, GoesOn, shows, first_place, last_place, last_token, names}
 use Rattle.py_parser.specs.ParsedBlocks.{Refused, RowsStopped, RefusedHere, RefusedUnder, UnderStopped, RefusedLine, LineStopped}
+use Rattle.py_parser.proofs.Endings.{begins_here, begins_behind, begins_end, begins_under, begins_inside, begins_suite}
 use Rattle.py_parser.proofs.Peeled.{begun_rows, one_indent, edge_under, head_is, peeled}
 
 first_line : (a b : Line) (x y : List Line) → a ∷ x ≡ b ∷ y → a ≡ b
@@ -65,6 +66,7 @@ refused_behind l m n k at now before left rows fault is leads count_is now_is r 
   shown = r.shown;
   named = subst (λ p. names p r.point fault) (ap (λ p. last_token p r.front) now_is ∙ sym (tokens_append at (rows_lines rows) r.front)) r.named;
   begun = λ rest shows_it. subst (Begun l.indent) (sym (append_assoc (rows_lines rows) r.front rest)) (begun_first l m rows (r.front ++ rest) leads (r.begun rest shows_it));
+  begins = begins_behind l m rows r.front r.point leads r.begins;
   none = λ q asks rest others s shows_it fits may_be low same.
       let indent = indent_stays l m rows leads in
       let p = peeled q l m n rows others (r.front ++ rest) s leads fits may_be low (last_edge l m rows (r.front ++ rest) leads (subst (λ d. Begun d (r.front ++ rest)) indent (r.begun rest shows_it))) (same ∙ append_assoc (rows_lines rows) r.front rest) in
@@ -82,6 +84,7 @@ refused_end l m n k at now before left rows fault is leads count_is now_is edge 
   shown = r.shown;
   named = subst (λ p. names p r.point fault) now_is r.named;
   begun = λ rest shows_it. begun rest;
+  begins = begins_end l m rows r.point leads (begins_here m r.point r.before);
   none = λ q asks rest others s shows_it fits may_be low same.
       let indent = indent_stays l m rows leads in
       let p = peeled q l m n rows others rest s leads fits may_be low (r.edge rows rest shows_it l (sym indent) leads edge) same in
@@ -110,9 +113,9 @@ first_of_three false b c is = absurd (false≢true is)
 shifted : (line other : Line) (a b x c : List Line) → (line ∷ a ++ b) ++ x ≡ other ∷ c → a ++ (b ++ x) ≡ c
 shifted line other a b x c is = sym (append_assoc a b x) ∙ other_lines line other _ _ is
 
-pub refused_under : (m : Level) (n : ℕ) (h : Head) (at : Pos) (line : Line) (lines : List Line) (fault : ParseFault) → IsLine line m.indent (head_tokens h) → RefusedUnder m (n + counted h) h (last_place at line.tokens) lines fault
-    → Refused m n at (line ∷ lines) fault
-refused_under m n h at line lines fault is r = record {
+pub refused_under : (m : Level) (n : ℕ) (h : Head) (at : Pos) (line : Line) (lines : List Line) (fault : ParseFault) → IsLine line m.indent (head_tokens h) → follows m h ≡ true
+    → RefusedUnder m (n + counted h) h (last_place at line.tokens) lines fault → Refused m n at (line ∷ lines) fault
+refused_under m n h at line lines fault is may_follow r = record {
   front = line ∷ r.front;
   behind = r.behind;
   point = r.point;
@@ -120,6 +123,7 @@ refused_under m n h at line lines fault is r = record {
   shown = r.shown;
   named = r.named;
   begun = λ rest shows_it. is.indent_is;
+  begins = begins_under m h line r.front r.point is may_follow r.begins;
   none = none;
 }
   where
@@ -150,6 +154,7 @@ refused_line m n at line lines fault is r = record {
   shown = more_lines r.point line lines r.shown;
   named = r.named;
   begun = λ rest shows_it. subst (λ d. Begun d rest) is (r.begun rest shows_it);
+  begins = r.begins is;
   none = none;
 }
   where
@@ -160,14 +165,16 @@ refused_line m n at line lines fault is r = record {
 
 -- ---- the suite under a line
 
-pub refused_inside : (m : Level) (n k : ℕ) (h : Head) (at : Pos) (lines : List Line) (fault : ParseFault) → opens h ≡ true → Refused (inside m h k) n at lines fault → RefusedUnder m n h at lines fault
-refused_inside m n k h at lines fault open_is r = record {
+pub refused_inside : (m : Level) (n k : ℕ) (h : Head) (at : Pos) (lines : List Line) (fault : ParseFault) → opens h ≡ true → m.indent < k → Refused (inside m h k) n at lines fault
+    → RefusedUnder m n h at lines fault
+refused_inside m n k h at lines fault open_is deeper r = record {
   front = r.front;
   behind = r.behind;
   point = r.point;
   lines_are = r.lines_are;
   shown = r.shown;
   named = r.named;
+  begins = begins_inside m h k r.front r.point open_is deeper r.begins;
   none = none;
 }
   where
@@ -190,6 +197,7 @@ no_suite m n h at lines open_is low = record {
   lines_are = refl;
   shown = low;
   named = refl;
+  begins = begins_suite m h (below (suc m.indent)) open_is refl;
   none = none;
 }
   where
@@ -213,6 +221,7 @@ too_deep_at m n h at place line lines open_is deep = by line.tokens refl
       lines_are = refl;
       shown = (refl, is);
       named = tt;
+      begins = begins_suite m h (at_end line.indent []) open_is refl;
       none = λ q asks rest under s shows_it fits may_be edge same. none_deeper q m n h under asks.1 open_is deep fits may_be;
     }
     by (t ∷ ts) is = record {
@@ -222,6 +231,7 @@ too_deep_at m n h at place line lines open_is deep = by line.tokens refl
       lines_are = refl;
       shown = (refl, record { more = ts; tokens_are = is });
       named = tt;
+      begins = begins_suite m h (at_token line.indent [] t) open_is refl;
       none = λ q asks rest under s shows_it fits may_be edge same. none_deeper q m n h under asks.1 open_is deep fits may_be;
     }
 
@@ -283,6 +293,7 @@ refused_first m n at line lines fault named ended other ends = by line.tokens re
       point = at_end line.indent [];
       shown = (refl, is);
       named = ended;
+      before = refl;
       edge = λ rows rest shows_it l indent leads edge. edge_1 rows rest shows_it edge;
       none = λ q asks rest rows r shows_it fits may_be low same. none_1 rest rows r shows_it fits low same;
     }
@@ -298,6 +309,7 @@ refused_first m n at line lines fault named ended other ends = by line.tokens re
       point = at_token line.indent [] t;
       shown = (refl, record { more = ts; tokens_are = is });
       named = named t;
+      before = refl;
       edge = λ rows rest shows_it l indent leads edge. edge_1 rows rest shows_it edge;
       none = λ q asks rest rows r shows_it fits may_be low same. none_1 rest rows r shows_it fits low same;
     }
@@ -316,6 +328,7 @@ refused_nothing m n at ends = record {
   point = no_line;
   shown = tt;
   named = refl;
+  before = refl;
   edge = λ rows rest shows_it l indent leads edge. edge_1 rows rest shows_it;
   none = λ q asks rest rows r shows_it fits may_be low same. none_1 rest rows r shows_it fits same;
 }
@@ -334,6 +347,7 @@ refused_empty m n at lines low ends = record {
   point = below m.indent;
   shown = low;
   named = refl;
+  before = refl;
   edge = λ rows rest shows_it l indent leads edge. edge_below l m rows rest leads (subst (λ d. Below d rest) (sym indent) shows_it);
   none = λ q asks rest rows r shows_it fits may_be lower same. none_goes_on m rest rows r fits same (λ begun. not_below m.indent rest begun shows_it) (λ done all. ends done);
 }

@@ -23,7 +23,7 @@ use Rattle.py_grammar.specs.StatementTrees.{end_of}
 use Rattle.py_grammar.specs.ParsedSimple.{around_of}
 use Rattle.py_grammar.specs.ParsedHead.{IsWhat, IsBehind, behind_in}
 use Rattle.py_parser.specs.Limits.{Limits, profile}
-use Rattle.py_parser.specs.Faults.{last_place, last_token, Point, shows, names, Asks}
+use Rattle.py_parser.specs.Faults.{last_token, Point, shows, names, Asks, tokens_before, Next}
 use Rattle.py_parser.specs.Rows.{Begun, Rows, end_rows, row, Under, nothing, block, rows_lines, under_lines, Level, is_stmt, counted, opens, after, inside, is_done, follows, Leads, FitsUnder, FitsRows, may, rows_may, under_may, rows_size, under_size, Edge, LastEdge}
 use Rattle.py_parser.specs.RowForms.{suite_list, grown, inner_number, declared, row_globals, under_globals, grow, below_tree}
 
@@ -152,6 +152,21 @@ pub record RowRead (m : Level) (n : ℕ) (at : Pos) (before : List Line) (old bu
 
 -- ---- what is refused
 
+-- Some rows at this level begin with these lines, and go on with what stands before the fault.
+pub record RowsBegin (l : Level) (front : List Line) (point : Point) : Type 0 where
+  pub rows : Rows
+  pub fits : FitsRows l rows
+  pub more : List Line
+  pub lines_are : rows_lines rows ≡ front ++ more
+  pub next : Next point more
+
+pub record UnderBegins (m : Level) (h : Head) (front : List Line) (point : Point) : Type 0 where
+  pub under : Under
+  pub fits : FitsUnder m h under
+  pub more : List Line
+  pub lines_are : under_lines under ≡ front ++ more
+  pub next : Next point more
+
 -- No suite at this level has these first lines up to and with what is shown.
 pub record Refused (l : Level) (n : ℕ) (at : Pos) (lines : List Line) (fault : ParseFault) : Type 0 where
   pub front : List Line
@@ -161,6 +176,7 @@ pub record Refused (l : Level) (n : ℕ) (at : Pos) (lines : List Line) (fault :
   pub shown : shows point behind
   pub named : names (last_token at front) point fault
   pub begun : (rest : List Line) → shows point rest → Begun l.indent (front ++ rest)
+  pub begins : RowsBegin l front point
   pub none : (q : Limits) → Asks fault q → (rest : List Line) (rows : Rows) (r : List Line) → shows point rest → FitsRows l rows → rows_may q l n rows ≡ true → Below l.indent r → rows_lines rows ++ r ≡ front ++ rest → ⊥
 
 abbrev pub RowsStopped : Level → ℕ → Pos → List Line → ParseFault → Type 0
@@ -172,6 +188,7 @@ pub record RefusedHere (m : Level) (n : ℕ) (at : Pos) (lines : List Line) (fau
   pub point : Point
   pub shown : shows point lines
   pub named : names at point fault
+  pub before : tokens_before point ≡ []
   pub edge : (rows : Rows) (rest : List Line) → shows point rest → (l : Level) → l.indent ≡ m.indent → Leads l rows m → LastEdge rows lines → LastEdge rows rest
   pub none : (q : Limits) → Asks fault q → (rest : List Line) (rows : Rows) (r : List Line) → shows point rest → FitsRows m rows → rows_may q m n rows ≡ true → Below m.indent r → rows_lines rows ++ r ≡ rest → ⊥
 
@@ -183,6 +200,7 @@ pub record RefusedUnder (m : Level) (n : ℕ) (h : Head) (at : Pos) (lines : Lis
   pub lines_are : lines ≡ front ++ behind
   pub shown : shows point behind
   pub named : names (last_token at front) point fault
+  pub begins : UnderBegins m h front point
   pub none : (q : Limits) → Asks fault q → (rest : List Line) (under : Under) (r : List Line) → shows point rest → FitsUnder m h under → under_may q m n h under ≡ true → Edge under r → under_lines under ++ r ≡ front ++ rest → ⊥
 
 abbrev pub UnderStopped : Level → ℕ → Head → Pos → List Line → ParseFault → Type 0
@@ -195,6 +213,7 @@ pub record RefusedLine (m : Level) (n : ℕ) (at : Pos) (line : Line) (fault : P
   pub shown : shows point (line ∷ [])
   pub named : names at point fault
   pub begun : (rest : List Line) → shows point rest → Begun line.indent rest
+  pub begins : line.indent ≡ m.indent → RowsBegin m [] point
   pub none : (q : Limits) → Asks fault q → (other : Line) (more : List Line) (h : Head) → shows point (other ∷ more) → other.tokens ≡ head_tokens h → follows m h ≡ true → may q m n h ≡ true → ⊥
 
 abbrev pub LineStopped : Level → ℕ → Pos → Line → ParseFault → Type 0

@@ -436,6 +436,23 @@ fn depth_of_suites(rt: HostRuntime) -> Result<(), Fail> {
     check_nested(&rt, alloc, 51, "x = = 1", "TooDeep 52:52")
 }
 
+// The deepest script that is read: its innermost statement is an expression of the greatest depth.
+#[test]
+fn deepest_script(rt: HostRuntime) -> Result<(), Fail> {
+    let alloc = rt.alloc();
+    let mut inside = String::new(alloc);
+    repeated(&mut inside, "(", 99)?;
+    inside.push_str("a")?;
+    repeated(&mut inside, ")", 99)?;
+    check_nested(&rt, alloc, 50, inside.as_str(), "51 statements")
+}
+
+// 262,136 bytes, which is as long as a text of such lines may be.
+#[test]
+fn greatest_length(rt: HostRuntime) -> Result<(), Fail> {
+    check_repeated(&rt, rt.alloc(), ("total = a + b\n", 18724, ""), "18724 statements")
+}
+
 #[test]
 fn number_of_statements(rt: HostRuntime) -> Result<(), Fail> {
     let alloc = rt.alloc();

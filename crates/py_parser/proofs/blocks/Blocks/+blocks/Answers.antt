@@ -87,7 +87,7 @@ suite-returns-then-place-ge-SUITES-clause-refused t c m n h u what open_is =
 pub suite-returns-in_err-built-clause-refused : goal.suite-returns-in_err-built-clause-refused
 suite-returns-in_err-built-clause-refused t c m n h u what open_is =
     let is = suite_stopped_there c.args.place (inner_place c.in-Some.next.now.indent (c.args.place.depth + 1) c.inner_around.result c.is_def.result) c.given_of.result.now c.args.self.now.count m n h c.args.self.now.before c.args.self.now.rest.now _ u open_is refl
-      (c.inner_around.ensures h what) (c.is_def.ensures h what) (c.given_of.ensures h what) c.in_err-built.ensures.refused in
+      (c.inner_around.ensures h what) (c.is_def.ensures h what) (c.given_of.ensures h what) c.if-next-place.false c.in_err-built.ensures.refused in
     search (rules, is)
 
 -- src/blocks.rt

@@ -1,0 +1,157 @@
+-- How rows that have begun may go on to their end, so that the lines before a fault are those of some script.
+use Rattle.std.proofs.Common.{◌≡◌, ◌⊎◌, inl, inr, ℕ, ◌<◌, suc, Bool, true, false, ◌&&◌, ◌||◌, not, List, [], ◌∷◌, ◌++◌, Option, Some, None, is_none, refl, ap, sym, ◌∙◌, subst, arith, append_assoc, append-nil}
+use Rattle.std.proofs.lemmas.Bool.{false≢true}
+use Rattle.py_lines.specs.declared.parts.Line.{Line}
+use Rattle.py_lines.specs.declared.parts.Token.{Token}
+use Rattle.py_grammar.specs.declared.context.Last.{Last}
+use Rattle.py_grammar.specs.declared.context.Last.TheVariants.{Nothing, Loop, If, Try, Handler, Every}
+use Rattle.py_grammar.specs.Written.{pass, every_kind}
+use Rattle.py_grammar.specs.LineReader.{Head, simple_head, except_head, head_tokens}
+use Rattle.py_grammar.specs.Layout.{IsLine}
+use Rattle.py_grammar.specs.ParsedHead.{takes_handler, lacks_handler}
+use Rattle.py_parser.specs.Faults.{Prefix, Opens, Point, at_token, at_end, below, no_line, tokens_before, Next}
+use Rattle.py_parser.specs.Rows.{Rows, end_rows, row, Under, nothing, block, rows_lines, under_lines, Level, is_every, opens, after, inside, is_done, follows, Leads, FitsUnder, FitsRows}
+use Rattle.py_parser.specs.Grouped.{no_spot}
+use Rattle.py_parser.specs.ParsedBlocks.{RowsBegin, UnderBegins}
+
+-- ---- the shortest end of a suite
+
+abbrev pass_head : Head
+pass_head = simple_head (pass no_spot)
+
+abbrev handler : Head
+handler = except_head no_spot every_kind no_spot (Some (pass no_spot))
+
+abbrev line_of : ℕ → Head → Line
+line_of indent h = record { indent = indent; span = record { from = 0; to = 0 }; tokens = head_tokens h }
+
+abbrev ending_by : (lacks has_stmt : Bool) → ℕ → Rows
+ending_by true has_stmt indent = row (line_of indent handler) handler nothing end_rows
+ending_by false true indent = end_rows
+ending_by false false indent = row (line_of indent pass_head) pass_head nothing end_rows
+
+abbrev ending : Level → Rows
+ending l = ending_by (lacks_handler l.context.last) l.has_stmt l.indent
+
+takes_there : (last : Last) → lacks_handler last ≡ true → (takes_handler last || is_every last) ≡ true
+takes_there Nothing is = absurd (false≢true is)
+takes_there Loop is = absurd (false≢true is)
+takes_there If is = absurd (false≢true is)
+takes_there Try is = refl
+takes_there Handler is = absurd (false≢true is)
+takes_there Every is = absurd (false≢true is)
+
+or_true : (b : Bool) → ((b || true) && true) ≡ true
+or_true true = refl
+or_true false = refl
+
+fine : (b : Bool) → b ≡ false → not b ≡ true
+fine true is = absurd (false≢true (sym is))
+fine false is = refl
+
+ending_fits : (l : Level) → FitsRows l (ending l)
+ending_fits l = by (lacks_handler l.context.last) refl l.has_stmt refl
+  where
+    done : (a b : Bool) → a ≡ true → b ≡ false → (a && not b) ≡ true
+    done true false one other = refl
+    done true true one other = absurd (false≢true (sym other))
+    done false b one other = absurd (false≢true one)
+
+    by : (lacks : Bool) → lacks_handler l.context.last ≡ lacks → (has : Bool) → l.has_stmt ≡ has → FitsRows l (ending_by lacks has l.indent)
+    by true lacks has is = (record { indent_is = refl; tokens_are = refl }, takes_there l.context.last lacks, refl, or_true l.has_stmt)
+    by false lacks true is = done l.has_stmt (lacks_handler l.context.last) is lacks
+    by false lacks false is = (record { indent_is = refl; tokens_are = refl }, fine (lacks_handler l.context.last) lacks, refl, or_true l.has_stmt)
+
+-- ---- rows behind rows
+
+abbrev join : Rows → Rows → Rows
+join end_rows b = b
+join (row line h under rest) b = row line h under (join rest b)
+
+join_lines : (a b : Rows) → rows_lines (join a b) ≡ rows_lines a ++ rows_lines b
+join_lines end_rows b = refl
+join_lines (row line h under rest) b = ap (λ ls. line ∷ under_lines under ++ ls) (join_lines rest b) ∙ ap (λ ls. line ∷ ls) (sym (append_assoc (under_lines under) (rows_lines rest) (rows_lines b)))
+
+join_fits : (l m : Level) (a b : Rows) → Leads l a m → FitsRows m b → FitsRows l (join a b)
+join_fits l m end_rows b leads fits = subst (λ (k : Level). FitsRows k b) leads fits
+join_fits l m (row line h under rest) b leads fits = (leads.0, leads.1, leads.2, join_fits (after l h) m rest b leads.3 fits)
+
+-- ---- what stands next
+
+opens_more : (indent : ℕ) (tokens : List Token) (x y : List Line) → Opens indent tokens x → Opens indent tokens (x ++ y)
+opens_more indent tokens [] y is = absurd is
+opens_more indent tokens (line ∷ x) y is = is
+
+next_more : (p : Point) (x y : List Line) → Next p x → Next p (x ++ y)
+next_more (at_token indent [] t) x y is = tt
+next_more (at_token indent (f ∷ fs) t) x y (inl is) = inl (opens_more indent (f ∷ fs) x y is)
+next_more (at_token indent (f ∷ fs) t) x y (inr is) = inr is
+next_more (at_end indent []) x y is = tt
+next_more (at_end indent (f ∷ fs)) x y (inl is) = inl (opens_more indent (f ∷ fs) x y is)
+next_more (at_end indent (f ∷ fs)) x y (inr is) = inr is
+next_more (below indent) x y is = tt
+next_more no_line x y is = tt
+
+pub next_here : (p : Point) (x : List Line) → tokens_before p ≡ [] → Next p x
+next_here (at_token indent [] t) x is = tt
+next_here (at_token indent (f ∷ fs) t) x is = cc
+next_here (at_end indent []) x is = tt
+next_here (at_end indent (f ∷ fs)) x is = cc
+next_here (below indent) x is = tt
+next_here no_line x is = tt
+
+-- ---- where rows begin so
+
+pub begins_here : (m : Level) (p : Point) → tokens_before p ≡ [] → RowsBegin m [] p
+begins_here m p is = record { rows = ending m; fits = ending_fits m; more = rows_lines (ending m); lines_are = refl; next = next_here p (rows_lines (ending m)) is }
+
+abbrev under_by : Bool → Level → Head → Under
+under_by true m h = block (suc m.indent) (ending (inside m h (suc m.indent)))
+under_by false m h = nothing
+
+under_fits : (m : Level) (h : Head) → FitsUnder m h (under_by (opens h) m h)
+under_fits m h = by (opens h) refl
+  where
+    by : (b : Bool) → opens h ≡ b → FitsUnder m h (under_by b m h)
+    by true is = (is, omega arith, ending_fits (inside m h (suc m.indent)))
+    by false is = is
+
+pub begins_with : (m : Level) (p : Point) → ((x : List Line) → Next p x) → RowsBegin m [] p
+begins_with m p next = record { rows = ending m; fits = ending_fits m; more = rows_lines (ending m); lines_are = refl; next = next (rows_lines (ending m)) }
+
+-- a line that begins with these tokens
+pub begins_line : (m : Level) (h : Head) (tokens rest : List Token) (p : Point) → head_tokens h ≡ tokens ++ rest → follows m h ≡ true → ((x : List Line) → Opens m.indent tokens x → Next p x) → RowsBegin m [] p
+begins_line m h tokens rest p is may_follow next = record {
+  rows = row (line_of m.indent h) h (under_by (opens h) m h) (ending (after m h));
+  fits = (record { indent_is = refl; tokens_are = refl }, may_follow, under_fits m h, ending_fits (after m h));
+  more = line_of m.indent h ∷ under_lines (under_by (opens h) m h) ++ rows_lines (ending (after m h));
+  lines_are = refl;
+  next = next (line_of m.indent h ∷ under_lines (under_by (opens h) m h) ++ rows_lines (ending (after m h))) (refl, record { rest = rest; tokens_are = is });
+}
+
+pub begins_behind : (l m : Level) (rows : Rows) (front : List Line) (p : Point) → Leads l rows m → RowsBegin m front p → RowsBegin l (rows_lines rows ++ front) p
+begins_behind l m rows front p leads b = record {
+  rows = join rows b.rows;
+  fits = join_fits l m rows b.rows leads b.fits;
+  more = b.more;
+  lines_are = join_lines rows b.rows ∙ ap (λ ls. rows_lines rows ++ ls) b.lines_are ∙ sym (append_assoc (rows_lines rows) front b.more);
+  next = b.next;
+}
+
+pub begins_end : (l m : Level) (rows : Rows) (p : Point) → Leads l rows m → RowsBegin m [] p → RowsBegin l (rows_lines rows) p
+begins_end l m rows p leads b = subst (λ ls. RowsBegin l ls p) (append-nil (rows_lines rows)) (begins_behind l m rows [] p leads b)
+
+pub begins_under : (m : Level) (h : Head) (line : Line) (front : List Line) (p : Point) → IsLine line m.indent (head_tokens h) → follows m h ≡ true → UnderBegins m h front p → RowsBegin m (line ∷ front) p
+begins_under m h line front p is may_follow b = record {
+  rows = row line h b.under (ending (after m h));
+  fits = (is, may_follow, b.fits, ending_fits (after m h));
+  more = b.more ++ rows_lines (ending (after m h));
+  lines_are = ap (λ ls. line ∷ ls ++ rows_lines (ending (after m h))) b.lines_are ∙ ap (λ ls. line ∷ ls) (append_assoc front b.more (rows_lines (ending (after m h))));
+  next = next_more p b.more (rows_lines (ending (after m h))) b.next;
+}
+
+pub begins_inside : (m : Level) (h : Head) (k : ℕ) (front : List Line) (p : Point) → opens h ≡ true → m.indent < k → RowsBegin (inside m h k) front p → UnderBegins m h front p
+begins_inside m h k front p open_is deeper b = record { under = block k b.rows; fits = (open_is, deeper, b.fits); more = b.more; lines_are = b.lines_are; next = b.next }
+
+pub begins_suite : (m : Level) (h : Head) (p : Point) → opens h ≡ true → tokens_before p ≡ [] → UnderBegins m h [] p
+begins_suite m h p open_is is = begins_inside m h (suc m.indent) [] p open_is (omega arith) (begins_here (inside m h (suc m.indent)) p is)
