@@ -28,6 +28,6 @@ mod words;
 pub use around::Around;
 pub use context::{Context, Last, Limit};
 pub use fault::{ParseFault, Stop};
-pub use head::{read_head, Behind, LineHead, What};
+pub use head::{Behind, LineHead, What, read_head};
 pub use laws::{one_expression, one_script, one_simple_statement};
 pub use words::{ELIF, ELSE, EXCEPT, GLOBAL, PASS};

@@ -3,7 +3,7 @@
 use crate::around::Around;
 use crate::context::{Context, Last, Limit};
 use crate::fault::{ParseFault, Stop};
-use crate::head::{LineHead, What};
+use crate::head::{LineHead, What, read_head};
 use crate::tests::{place, show_fault, show_part, show_simple, show_target, show_value};
 use prov_base::Name;
 use py_lines::{Line, lines};
@@ -109,7 +109,13 @@ fn show_line(
 ) -> Result<String, Fail> {
     let mut given = Vec::new(alloc);
     given.push(Name::of(String::from_str(alloc, "given")?))?;
-    match read_head(alloc, line.tokens.as_slice(), context, given.as_slice(), limit) {
+    match read_head(
+        alloc,
+        line.tokens.as_slice(),
+        context,
+        given.as_slice(),
+        limit,
+    ) {
         Ok(head) => show_head(alloc, &head),
         Err(Stop::Here(fault)) => show_fault(alloc, fault),
         Err(Stop::End) => match line.tokens.as_slice().last() {
