@@ -1,5 +1,5 @@
 -- The pure tree of a statement, as it is put together: its parts, and what stands in it.
-use Rattle.std.proofs.Common.{◌≡◌, ℕ, Bool, true, false, List, [], ◌∷◌, ◌++◌, map, Option, Some, None, option_map, Vec, Global, refl, ap, sym, ◌∙◌, subst}
+use Rattle.std.proofs.Common.{◌≡◌, Bool, true, false, List, [], ◌∷◌, ◌++◌, map, Option, Some, None, option_map, Vec, Global, refl, ap, sym, ◌∙◌, subst}
 use Rattle.py_tree.specs.declared.expr.Expr.{Expr}
 use Rattle.py_tree.specs.declared.stmt.Bound.{Bound}
 use Rattle.py_tree.specs.declared.stmt.Branches.{Branches}
@@ -9,7 +9,7 @@ use Rattle.py_tree.specs.declared.stmt.Stmt.{Stmt}
 use Rattle.py_tree.specs.declared.stmt.Suite.{Suite}
 use Rattle.py_tree.specs.declared.stmt.Form.TheOpen.{Form-F, Suite-F, Branches-F, Handlers-F, Do as Do-F, Assign as Assign-F, Aug as Aug-F, Del as Del-F, Pass as Pass-F, Break as Break-F, Continue as Continue-F, Return as Return-F, Raise as Raise-F, Assert as Assert-F, Import as Import-F, While as While-F, For as For-F, Try as Try-F, With as With-F, Def as Def-F, Class as Class-F, If as If-F}
 use Rattle.py_tree.specs.declared.stmt.Form.TheVariants.{Try, rolls-Do, rolls-Assign, rolls-Aug, rolls-Del, rolls-Pass, rolls-Break, rolls-Continue, rolls-Return, rolls-Raise, rolls-Assert, rolls-Import, rolls-While, rolls-For, rolls-Try, rolls-With, rolls-Def, rolls-Class, rolls-If}
-use Rattle.py_tree.specs.declared.stmt.Form.TheViews.{If, out-Form, roll-Form, roll-out-Form, out-Suite, out-Branches, out-Handlers, roll-Suite, roll-Branches, roll-Handlers, out-roll-Suite, out-roll-Branches, out-roll-Handlers}
+use Rattle.py_tree.specs.declared.stmt.Form.TheViews.{If, out-Form, roll-Form, roll-out-Form, out-Branches, out-Handlers, roll-Suite, roll-Branches, roll-Handlers, out-roll-Suite, out-roll-Branches, out-roll-Handlers}
 use Rattle.py_tree.specs.Tree.{ExprTree, StmtTree, FormTree, SuiteTree, BranchesTree, HandlersTree, no_else, if_form, try_form, more_suite, end_branches, more_branches, end_handlers, more_handlers}
 use Rattle.py_tree.specs.Erasure.{expr_of, form_of, branches_of, handlers_of, stmt_of, suite_of, suite_list as tree_list, branches_list, handlers_list, else_tree}
 use Rattle.py_tree.proofs.StmtTrees.{do_tree, assign_tree, aug_tree, del_tree, pass_tree, break_tree, continue_tree, return_tree, raise_tree, assert_tree, import_tree, if_tree, while_tree, for_tree, try_tree, with_tree, def_tree, class_tree, suite_tree, branches_tree, handlers_tree}
@@ -129,7 +129,7 @@ pub elif_added : (f : Form) (bs : Branches) (orelse : Option Suite) (test : Expr
     → form_of (If (roll-Branches (record { list = v })) orelse) ≡ with_elif (expr_of test) (suite_of suite) (form_of f)
 elif_added f bs orelse test suite v is items =
     let longer : branches_of (roll-Branches (record { list = v })) ≡ branch_last (branches_of bs) (expr_of test) (suite_of suite) =
-      branches_are v ∙ ap branch_trees items ∙ one_branch_more (out-Branches bs).list.items test suite ∙ ap (λ b. branch_last b (expr_of test) (suite_of suite)) (sym (branches_tree bs)) in
+    branches_are v ∙ ap branch_trees items ∙ one_branch_more (out-Branches bs).list.items test suite ∙ ap (λ b. branch_last b (expr_of test) (suite_of suite)) (sym (branches_tree bs)) in
     if_tree _ orelse ∙ ap (λ b. if_form b (else_tree (option_map suite_of orelse))) longer
     ∙ ap (with_elif (expr_of test) (suite_of suite)) (sym (if_tree bs orelse)) ∙ ap (λ g. with_elif (expr_of test) (suite_of suite) (form_of g)) (sym is)
 
@@ -142,8 +142,8 @@ pub handler_added : (f : Form) (body : Suite) (hs : Handlers) (class : Option Ex
     → form_of (Try body (roll-Handlers (record { list = v }))) ≡ with_handler (option_map expr_of class) bound (suite_of suite) (form_of f)
 handler_added f body hs class bound suite v is items =
     let longer : handlers_of (roll-Handlers (record { list = v })) ≡ handler_last (handlers_of hs) (option_map expr_of class) bound (suite_of suite) =
-      handlers_are v ∙ ap handler_trees items ∙ one_handler_more (out-Handlers hs).list.items class bound suite
-      ∙ ap (λ h. handler_last h (option_map expr_of class) bound (suite_of suite)) (sym (handlers_tree hs)) in
+    handlers_are v ∙ ap handler_trees items ∙ one_handler_more (out-Handlers hs).list.items class bound suite
+    ∙ ap (λ h. handler_last h (option_map expr_of class) bound (suite_of suite)) (sym (handlers_tree hs)) in
     try_tree body _ ∙ ap (try_form (suite_of body)) longer
     ∙ ap (with_handler (option_map expr_of class) bound (suite_of suite)) (sym (try_tree body hs))
     ∙ ap (λ g. with_handler (option_map expr_of class) bound (suite_of suite) (form_of g)) (sym is)

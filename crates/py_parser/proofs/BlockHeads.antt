@@ -1,10 +1,9 @@
 -- The statements of a suite grow by what a line begins.
-use Rattle.std.proofs.Common.{◌≡◌, ℕ, Bool, true, false, not, ◌&&◌, List, [], ◌∷◌, ◌++◌, map, Option, Some, None, option_map, Vec, Global, refl, ap, sym, ◌∙◌}
+use Rattle.std.proofs.Common.{◌≡◌, ℕ, true, false, not, ◌&&◌, List, [], ◌∷◌, ◌++◌, map, Option, Some, None, option_map, refl, ap, sym, ◌∙◌}
 use Rattle.std.specs.Prelude.{slice_get}
 use Rattle.std.proofs.lemmas.Bool.{false≢true}
 use Rattle.std.proofs.lemmas.Option.{same_Some}
 use Rattle.prov_base.specs.declared.place.Pos.{Pos}
-use Rattle.prov_base.specs.declared.place.Span.{Span}
 use Rattle.py_lines.specs.declared.parts.Token.{Token}
 use Rattle.py_tree.specs.declared.expr.Expr.{Expr}
 use Rattle.py_tree.specs.declared.expr.Target.{Target}
@@ -13,7 +12,7 @@ use Rattle.py_tree.specs.declared.stmt.Form.{Form}
 use Rattle.py_tree.specs.declared.stmt.Params.{Params}
 use Rattle.py_tree.specs.declared.stmt.Stmt.{Stmt}
 use Rattle.py_tree.specs.declared.stmt.Form.TheViews.{roll-Stmt}
-use Rattle.py_tree.specs.Tree.{ExprTree, StmtTree, FormTree, SuiteTree, one_stmt, if_form, while_form, for_form, try_form, with_form, def_form, class_form, end_suite, more_suite, end_branches, more_branches, no_else, end_handlers}
+use Rattle.py_tree.specs.Tree.{StmtTree, FormTree, SuiteTree, one_stmt, if_form, while_form, for_form, try_form, with_form, def_form, class_form, end_suite, more_suite, end_branches, more_branches, no_else, end_handlers}
 use Rattle.py_tree.specs.Erasure.{expr_of, target_of, form_of, stmt_of}
 use Rattle.py_tree.proofs.StmtTrees.{stmt_tree}
 use Rattle.py_grammar.specs.declared.head.What.{What}
@@ -23,7 +22,7 @@ use Rattle.py_grammar.specs.Trees.{expr_tree}
 use Rattle.py_grammar.specs.Written.{Simple}
 use Rattle.py_grammar.specs.StatementTokens.{simple_tokens}
 use Rattle.py_grammar.specs.StatementTrees.{target_tree, simple_form}
-use Rattle.py_grammar.specs.LineReader.{Head, simple_head, if_head, elif_head, else_head, while_head, for_head, try_head, except_head, with_head, def_head, class_head, global_head}
+use Rattle.py_grammar.specs.LineReader.{Head, if_head, elif_head, else_head, while_head, for_head, try_head, except_head, with_head, def_head, class_head, global_head}
 use Rattle.py_grammar.specs.ParsedHead.{IsWhat, IsThere, begins_at}
 use Rattle.py_parser.specs.Rows.{is_stmt, is_global}
 use Rattle.py_parser.specs.RowForms.{suite_list, begun, form_begun, grown, last_changed, longer, with_part}
@@ -60,7 +59,7 @@ pub suite_of_one : (n to : ℕ) (b : Behind) (s : Simple) (old new : List Stmt) 
     → suite_list (map stmt_of new) ≡ more_suite (begun n (simple_tokens s) to (simple_form s)) end_suite
 suite_of_one n to b s old new empty new_is is =
     let one : stmt_of (roll-Stmt (record { no = n; pos = b.at; span = record { from = b.from; to = to }; form = b.form })) ≡ begun n (simple_tokens s) to (simple_form s) =
-      stmt_tree _ ∙ ap (one_stmt n b.at (record { from = b.from; to = to })) is.form_is ∙ begun_there (simple_tokens s) b.at b.from n to (simple_form s) is.begins in
+    stmt_tree _ ∙ ap (one_stmt n b.at (record { from = b.from; to = to })) is.form_is ∙ begun_there (simple_tokens s) b.at b.from n to (simple_form s) is.begins in
     ap (λ l. suite_list (map stmt_of l)) (new_is ∙ ap (λ l. l ++ roll-Stmt (record { no = n; pos = b.at; span = record { from = b.from; to = to }; form = b.form }) ∷ []) empty) ∙ ap (λ s. more_suite s end_suite) one
 
 pub stmt_longer : (s : Stmt) (f : Form) (g : FormTree → FormTree) (to : ℕ) → form_of f ≡ g (form_of s.form)

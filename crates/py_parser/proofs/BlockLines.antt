@@ -20,12 +20,11 @@ use Rattle.py_grammar.specs.Concrete.{Spot}
 use Rattle.py_grammar.specs.Tokens.{token}
 use Rattle.py_grammar.specs.Written.{Simple}
 use Rattle.py_grammar.specs.LineReader.{Head, simple_head, if_head, elif_head, else_head, while_head, for_head, try_head, except_head, with_head, def_head, class_head, global_head, head_tokens}
-use Rattle.py_grammar.specs.ParsedHead.{Context, lacks_handler, takes_handler, word_may, is_compound, is_compound_kind, head_stands, head_depth, behind_in, HeadFound, HeadRefused, IsAmissHead, ShownBy, EndedBy, BeginsHead, kind_may, may_begin, FirstMay}
+use Rattle.py_grammar.specs.ParsedHead.{Context, lacks_handler, word_may, is_compound, is_compound_kind, head_stands, head_depth, behind_in, HeadFound, HeadRefused, IsAmissHead, ShownBy, EndedBy, BeginsHead, kind_may, may_begin, FirstMay}
 use Rattle.py_grammar.specs.Parsed.{IsAtFirst}
 use Rattle.py_parser.specs.Limits.{Limits, profile}
 use Rattle.py_parser.specs.Rows.{Level, Begun, is_stmt, is_every, counted, follows, may}
-use Rattle.py_parser.specs.RowForms.{inner_number}
-use Rattle.py_parser.specs.Faults.{Asks, last_place, Point, at_token, at_end, shows, GoesOn, Opens, names}
+use Rattle.py_parser.specs.Faults.{Asks, last_place, at_token, at_end, shows, Opens, names}
 use Rattle.py_parser.specs.ParsedBlocks.{limit_by, limit_at, is_stmt_kind, RowsBegin, LineRead, RefusedLine, LineStopped}
 use Rattle.py_grammar.proofs.LineFirsts.{same_first, head_some, simple_not_compound, may_as_word, may_as_simple, misplaced_head}
 use Rattle.py_parser.proofs.Endings.{begins_here, begins_with, begins_line}
@@ -300,9 +299,9 @@ shown_line m n at line t begins limit fault o declares may s named = record {
   begun = begun_token line.indent s.front s.shown_by;
   begins = begins_token m line t o.rest s.front s.shown_by s.behind declares may o.tokens_are s.before_is s.begun;
   none = λ q asks other more h there tokens_are goes_on fine.
-    let is = sym tokens_are ∙ there.1.tokens_are in
-    let opens = front_first s.front s.shown_by s.behind there.1.more t o.rest (sym s.before_is ∙ o.tokens_are) in
-    amiss q m n begins limit h fault asks (begins_as m n line t begins limit o h opens.0 (is ∙ opens.1)) o.limit_is fine (s.none h there.1.more is);
+      let is = sym tokens_are ∙ there.1.tokens_are in
+      let opens = front_first s.front s.shown_by s.behind there.1.more t o.rest (sym s.before_is ∙ o.tokens_are) in
+      amiss q m n begins limit h fault asks (begins_as m n line t begins limit o h opens.0 (is ∙ opens.1)) o.limit_is fine (s.none h there.1.more is);
 }
 
 ended_line : (m : Level) (n : ℕ) (at : Pos) (line : Line) (t : Token) (begins : Bool) (limit : Option Limit) (fault : ParseFault) → Opened m n line t begins limit → (m.context.may_declare ≡ true → m.of_def ≡ true) → kind_may m.context t.kind ≡ true
@@ -314,8 +313,8 @@ ended_line m n at line t begins limit fault o declares may e named = record {
   begun = begun_end line.indent line.tokens;
   begins = begins_ended m line.indent t o.rest line.tokens declares may o.tokens_are e.begun;
   none = λ q asks other more h there tokens_are goes_on fine.
-    let is = sym tokens_are ∙ there.1 in
-    amiss q m n begins limit h fault asks (begins_as m n line t begins limit o h o.rest (is ∙ o.tokens_are)) o.limit_is fine (e.none h is);
+      let is = sym tokens_are ∙ there.1 in
+      amiss q m n begins limit h fault asks (begins_as m n line t begins limit o h o.rest (is ∙ o.tokens_are)) o.limit_is fine (e.none h is);
 }
 
 -- the first token may stand there
@@ -341,8 +340,8 @@ line_never m n at line t rest fault tokens absent first = by fault first
       begun = begun_token line.indent [] t;
       begins = λ same. begins_here m (at_token line.indent [] t) refl;
       none = λ q asks other more h there tokens_are goes_on fine.
-        false≢true (sym (misplaced_head m.context m.given h t there.1.more (sym tokens_are ∙ there.1.tokens_are) absent)
-        ∙ (each_true (head_stands m.context m.given h) (nat_le (head_depth h) q.height) (nat_le (n + counted h) q.number) (is_none (behind_in h) || nat_le (suc m.depth) q.suites) fine).0);
+          false≢true (sym (misplaced_head m.context m.given h t there.1.more (sym tokens_are ∙ there.1.tokens_are) absent)
+          ∙ (each_true (head_stands m.context m.given h) (nat_le (head_depth h) q.height) (nat_le (n + counted h) q.number) (is_none (behind_in h) || nat_le (suc m.depth) q.suites) fine).0);
     }
 
     by : (fault : ParseFault) → IsAtFirst (t ∷ rest) (Here fault) → LineStopped m n at line fault
@@ -410,5 +409,5 @@ one_too_many m n at line t rest tokens begins many = record {
 
     no_more : (q : Limits) → q.number ≤ 20000 → (h : Head) (more : List Token) → head_tokens h ≡ t ∷ more → may q m n h ≡ true → ⊥
     no_more q most h more is fine =
-      let parts = each_true (head_stands m.context m.given h) (nat_le (head_depth h) q.height) (nat_le (n + counted h) q.number) (is_none (behind_in h) || nat_le (suc m.depth) q.suites) fine in
-      over q most (is_stmt h) (behind_in h) (begins ∙ kind_tells h t more is) parts.2
+        let parts = each_true (head_stands m.context m.given h) (nat_le (head_depth h) q.height) (nat_le (n + counted h) q.number) (is_none (behind_in h) || nat_le (suc m.depth) q.suites) fine in
+        over q most (is_stmt h) (behind_in h) (begins ∙ kind_tells h t more is) parts.2

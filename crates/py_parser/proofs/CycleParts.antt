@@ -1,5 +1,5 @@
 -- The parts of the cycle that reads lines: what is known of a line, and what follows of what stands under it.
-use Rattle.std.proofs.Common.{◌≡◌, ℕ, ◌+◌, ◌<◌, ◌≤◌, ◌==◌, suc, Bool, true, false, ◌&&◌, ◌||◌, not, List, [], ◌∷◌, ◌++◌, length, Option, Some, None, Result, Ok, Err, IfOk, is_none, refl, ap, sym, ◌∙◌, subst, arith}
+use Rattle.std.proofs.Common.{◌≡◌, ℕ, ◌+◌, ◌<◌, ◌≤◌, suc, Bool, true, ◌&&◌, ◌||◌, not, List, [], ◌∷◌, ◌++◌, length, Option, Some, None, Result, Ok, Err, IfOk, is_none, refl, ap, sym, ◌∙◌, subst, arith}
 use Rattle.std.specs.Prelude.{slice_get}
 use Rattle.std.proofs.lemmas.Bool.{false≢true, eqb-true}
 use Rattle.std.proofs.lemmas.Option.{same_Some}
@@ -11,16 +11,15 @@ use Rattle.py_grammar.specs.declared.fault.ParseFault.{ParseFault}
 use Rattle.py_grammar.specs.declared.fault.ParseFault.TheVariants.{BadIndent, TooDeep}
 use Rattle.py_grammar.specs.declared.head.Behind.{Behind}
 use Rattle.py_grammar.specs.declared.head.LineHead.{LineHead}
-use Rattle.py_grammar.specs.declared.head.What.{What}
 use Rattle.py_grammar.specs.Written.{Simple}
 use Rattle.py_grammar.specs.LineReader.{Head, simple_head, if_head, elif_head, else_head, while_head, for_head, try_head, except_head, with_head, def_head, class_head, global_head}
 use Rattle.py_grammar.specs.Follows.{Below}
 use Rattle.py_grammar.specs.ParsedSimple.{around_of}
-use Rattle.py_grammar.specs.ParsedHead.{IsWhat, IsBehind, behind_in}
+use Rattle.py_grammar.specs.ParsedHead.{IsBehind, behind_in}
 use Rattle.py_parser.specs.declared.blocks.Place.{Place}
 use Rattle.py_parser.specs.declared.blocks.Built.{Built}
 use Rattle.py_parser.specs.Faults.{last_place}
-use Rattle.py_parser.specs.Rows.{Level, counted, is_global, is_def, head_around, head_given, opens, after, inside, last_after, lets_declare, rows_lines}
+use Rattle.py_parser.specs.Rows.{Level, counted, is_global, is_def, head_around, head_given, opens, last_after, lets_declare, rows_lines}
 use Rattle.py_parser.specs.RowForms.{suite_list, grown, declared}
 use Rattle.py_parser.specs.ParsedBlocks.{level_of, level_at, is_here, trees_of, IsUnderOf, Standing, RowsRead, LineRead, UnderRead, RowRead, RowsStopped, RefusedUnder, UnderStopped, LineStopped, IsHead}
 use Rattle.py_parser.proofs.RowRefusals.{no_suite, too_deep_at}

@@ -1,5 +1,5 @@
 -- How rows that have begun may go on to their end, so that the lines before a fault are those of some script.
-use Rattle.std.proofs.Common.{◌≡◌, ◌⊎◌, inl, inr, ℕ, ◌<◌, suc, Bool, true, false, ◌&&◌, ◌||◌, not, List, [], ◌∷◌, ◌++◌, Option, Some, None, is_none, refl, ap, sym, ◌∙◌, subst, arith, append_assoc, append-nil}
+use Rattle.std.proofs.Common.{◌≡◌, inl, inr, ℕ, ◌<◌, suc, Bool, true, false, ◌&&◌, ◌||◌, not, List, [], ◌∷◌, ◌++◌, Some, refl, ap, sym, ◌∙◌, subst, arith, append_assoc, append-nil}
 use Rattle.std.proofs.lemmas.Bool.{false≢true}
 use Rattle.py_lines.specs.declared.parts.Line.{Line}
 use Rattle.py_lines.specs.declared.parts.Token.{Token}
@@ -9,8 +9,8 @@ use Rattle.py_grammar.specs.Written.{pass, every_kind}
 use Rattle.py_grammar.specs.LineReader.{Head, simple_head, except_head, head_tokens}
 use Rattle.py_grammar.specs.Layout.{IsLine}
 use Rattle.py_grammar.specs.ParsedHead.{takes_handler, lacks_handler}
-use Rattle.py_parser.specs.Faults.{Prefix, Opens, Point, at_token, at_end, below, no_line, tokens_before, Next}
-use Rattle.py_parser.specs.Rows.{Rows, end_rows, row, Under, nothing, block, rows_lines, under_lines, Level, is_every, opens, after, inside, is_done, follows, Leads, FitsUnder, FitsRows}
+use Rattle.py_parser.specs.Faults.{Opens, Point, at_token, at_end, below, no_line, tokens_before, Next}
+use Rattle.py_parser.specs.Rows.{Rows, end_rows, row, Under, nothing, block, rows_lines, under_lines, Level, is_every, opens, after, inside, follows, Leads, FitsUnder, FitsRows}
 use Rattle.py_parser.specs.Grouped.{no_spot}
 use Rattle.py_parser.specs.ParsedBlocks.{RowsBegin, UnderBegins}
 

@@ -1,5 +1,5 @@
 -- Rows that have the same lines are the same, as far as these lines go.
-use Rattle.std.proofs.Common.{◌≡◌, not, ℕ, ◌+◌, ◌<◌, ◌≤◌, Bool, true, false, ◌&&◌, List, [], ◌∷◌, ◌++◌, Option, Some, None, refl, ap, sym, ◌∙◌, subst, arith, append_assoc}
+use Rattle.std.proofs.Common.{◌≡◌, not, ℕ, ◌+◌, ◌<◌, Bool, true, false, ◌&&◌, List, [], ◌∷◌, ◌++◌, refl, ap, sym, ◌∙◌, subst, arith, append_assoc}
 use Rattle.std.proofs.lemmas.Bool.{false≢true}
 use Rattle.py_lines.specs.declared.parts.Line.{Line}
 use Rattle.py_grammar.specs.LineReader.{Head, head_tokens}
@@ -7,7 +7,7 @@ use Rattle.py_grammar.specs.Layout.{IsLine}
 use Rattle.py_grammar.specs.Follows.{Below}
 use Rattle.py_grammar.specs.ParsedHead.{lacks_handler}
 use Rattle.py_parser.specs.Limits.{Limits}
-use Rattle.py_parser.specs.Rows.{Edge, LastEdge, Begun, Left, Rows, end_rows, row, Under, nothing, block, rows_lines, under_lines, Level, counted, opens, after, inside, is_done, follows, Leads, FitsUnder, FitsRows, may, rows_may, under_may, rows_size, under_size}
+use Rattle.py_parser.specs.Rows.{Edge, LastEdge, Begun, Left, Rows, end_rows, row, Under, nothing, block, rows_lines, under_lines, Level, counted, after, inside, Leads, FitsUnder, FitsRows, may, rows_may, under_may, rows_size, under_size}
 use Rattle.py_grammar.proofs.HeadReading.{same_head}
 
 first_line : (a b : Line) (x y : List Line) → a ∷ x ≡ b ∷ y → a ≡ b
@@ -80,7 +80,7 @@ mutual
       let below_2 : FitsUnder l h under_2 = subst (λ g. FitsUnder l g under_2) (sym head) other.2 in
       let rest_fits : FitsRows (after l h) rest_2 = subst (λ g. FitsRows (after l g) rest_2) (sym head) other.3 in
       let u = same_under l h under under_2 (rows_lines rest ++ x) (rows_lines rest_2 ++ y) fits.2 below_2 (edge_under l h h under rest x fits.2 fits.3 low) (edge_under l h h under_2 rest_2 y below_2 rest_fits lower)
-          (shifted line line_2 (under_lines under) (rows_lines rest) x (under_lines under_2) (rows_lines rest_2) y is) in
+      (shifted line line_2 (under_lines under) (rows_lines rest) x (under_lines under_2) (rows_lines rest_2) y is) in
       let r = same_rows (after l h) rest rest_2 x y fits.3 rest_fits low lower u.rest_is in
       record { rows_are = same_row line line_2 h h_2 under under_2 rest rest_2 first head u.under_is r.rows_are; rest_is = r.rest_is }
 
@@ -123,9 +123,9 @@ peeled q l m n (row line h under rest) (row line_2 h_2 under_2 rest_2) x r leads
     let below_2 : FitsUnder l h under_2 = subst (λ g. FitsUnder l g under_2) (sym head) fits.2 in
     let rest_fits : FitsRows (after l h) rest_2 = subst (λ g. FitsRows (after l g) rest_2) (sym head) fits.3 in
     let u = same_under l h under under_2 (rows_lines rest ++ x) (rows_lines rest_2 ++ r) leads.2 below_2 (first_edge l h line under rest m x leads.2 leads.3 edge) (edge_under l h h under_2 rest_2 r below_2 rest_fits low)
-        (shifted line line_2 (under_lines under) (rows_lines rest) x (under_lines under_2) (rows_lines rest_2) r (sym is)) in
+    (shifted line line_2 (under_lines under) (rows_lines rest) x (under_lines under_2) (rows_lines rest_2) r (sym is)) in
     let all : (may q l n h_2 && under_may q l (n + counted h_2) h_2 under_2 && rows_may q (after l h_2) (n + counted h_2 + under_size under_2) rest_2) ≡ true = may_be in
     let more : rows_may q (after l h) (n + counted h + under_size under) rest_2 ≡ true =
-        ap (λ g. rows_may q (after l g) (n + counted g + under_size under) rest_2) head ∙ ap (λ (v : Under). rows_may q (after l h_2) (n + counted h_2 + under_size v) rest_2) u.under_is ∙ second _ _ all in
+    ap (λ g. rows_may q (after l g) (n + counted g + under_size under) rest_2) head ∙ ap (λ (v : Under). rows_may q (after l h_2) (n + counted h_2 + under_size v) rest_2) u.under_is ∙ second _ _ all in
     let p = peeled q (after l h) m (n + counted h + under_size under) rest rest_2 x r leads.3 rest_fits more low (rest_edge line h under rest x edge) (sym u.rest_is) in
     record { left = p.left; fits = p.fits; may_be = subst (λ k. rows_may q m k p.left ≡ true) (omega arith) p.may_be; lines_are = p.lines_are }

@@ -11,9 +11,9 @@ use Rattle.py_grammar.specs.Tokens.{keyword, sign, word, expr_tokens, exprs_toke
 use Rattle.py_grammar.specs.StatementTokens.{suite_tokens, def_suite_tokens, target_tokens, naming_tokens, kind_tokens, params_tokens, base_tokens}
 use Rattle.py_grammar.specs.Layout.{IsLine, FitsStmt, FitsSuite, FitsBody, FitsElifs, FitsElse, FitsHandlers, FitsDef, FitsDefBody, has_stmt}
 use Rattle.py_grammar.specs.Grammar.{FitsScript}
-use Rattle.py_grammar.specs.LineReader.{Head, simple_head, if_head, elif_head, else_head, while_head, for_head, try_head, except_head, with_head, def_head, class_head, global_head, behind_tokens, head_tokens}
-use Rattle.py_grammar.specs.ParsedHead.{takes_branch, takes_handler, lacks_handler, behind_in}
-use Rattle.py_parser.specs.Rows.{Rows, end_rows, row, Under, nothing, block as under, Level, start, is_global, opens, last_after, after, inside, is_done, is_every, follows, FitsUnder, FitsRows, FitsStart}
+use Rattle.py_grammar.specs.LineReader.{Head, simple_head, if_head, elif_head, else_head, while_head, for_head, try_head, except_head, with_head, def_head, class_head, global_head, behind_tokens}
+use Rattle.py_grammar.specs.ParsedHead.{takes_branch, takes_handler, lacks_handler}
+use Rattle.py_parser.specs.Rows.{Rows, end_rows, Level, start, opens, last_after, after, inside, is_every, FitsUnder, FitsRows, FitsStart}
 use Rattle.py_parser.specs.Grouped.{no_spot, behind, behind_def, stmt_rows, suite_rows, body_rows, elif_rows, else_rows, handler_rows, def_suite_rows, def_rows, script_rows}
 
 pub tokens_behind : (s : Suite) → suite_tokens s ≡ behind_tokens (behind s)
@@ -83,30 +83,49 @@ moved l m rest indent def b = record { fits = λ k i d has lacks. b.fits k (i �
 mutual
   pub stmt_fits : (l : Level) (s : Stmt) (rest : Rows) → FitsStmt l.indent s → lacks_handler l.context.last ≡ false → Behind l rest → FitsRows l (stmt_rows s rest)
   stmt_fits l (simple line s) rest fits lacks b = (fits, fine _ lacks, refl, b.fits (after l (simple_head s)) refl refl (either l.has_stmt) refl)
-  stmt_fits l (if_stmt line at test colon suite elifs orelse) rest fits lacks b =
-      (other_tokens line l.indent _ _ (ap (λ ts. keyword (codes "if") at ++ (expr_tokens test ++ (sign (codes ":") colon ++ ts))) (tokens_behind suite)) fits.0,
-      fine _ lacks, suite_fits l (if_head at test colon) suite fits.1 (λ s. refl),
-      elifs_fit (after l (if_head at test colon (behind suite))) elifs (else_rows orelse rest) fits.2 refl (either l.has_stmt)
-      (record { fits = λ m indent def has takes. else_fits m orelse rest (subst (λ d. FitsElse d orelse) (sym indent) fits.3) takes has (moved l m rest indent def b) }))
-  stmt_fits l (while_stmt line at test colon suite) rest fits lacks b =
-      (other_tokens line l.indent _ _ (ap (λ ts. keyword (codes "while") at ++ (expr_tokens test ++ (sign (codes ":") colon ++ ts))) (tokens_behind suite)) fits.0,
-      fine _ lacks, suite_fits l (while_head at test colon) suite fits.1 (λ s. refl), b.fits (after l (while_head at test colon (behind suite))) refl refl (either l.has_stmt) refl)
-  stmt_fits l (for_stmt line at t in_word e colon suite) rest fits lacks b =
-      (other_tokens line l.indent _ _ (ap (λ ts. keyword (codes "for") at ++ (target_tokens t ++ (keyword (codes "in") in_word ++ (exprs_tokens e ++ (sign (codes ":") colon ++ ts))))) (tokens_behind suite)) fits.0,
-      fine _ lacks, suite_fits l (for_head at t in_word e colon) suite fits.1 (λ s. refl), b.fits (after l (for_head at t in_word e colon (behind suite))) refl refl (either l.has_stmt) refl)
-  stmt_fits l (try_stmt line at colon suite handlers) rest fits lacks b =
-      (other_tokens line l.indent _ _ (ap (λ ts. keyword (codes "try") at ++ (sign (codes ":") colon ++ ts)) (tokens_behind suite)) fits.0,
-      fine _ lacks, suite_fits l (try_head at colon) suite fits.1 (λ s. refl),
-      handlers_fit (after l (try_head at colon (behind suite))) handlers rest fits.2 refl (moved l (after l (try_head at colon (behind suite))) rest refl refl b))
-  stmt_fits l (with_stmt line at e called colon suite) rest fits lacks b =
-      (other_tokens line l.indent _ _ (ap (λ ts. keyword (codes "with") at ++ (expr_tokens e ++ (naming_tokens called ++ (sign (codes ":") colon ++ ts)))) (tokens_behind suite)) fits.0,
-      fine _ lacks, suite_fits l (with_head at e called colon) suite fits.1 (λ s. refl), b.fits (after l (with_head at e called colon (behind suite))) refl refl (either l.has_stmt) refl)
-  stmt_fits l (def_stmt line at name_at bytes opening names closing colon suite) rest fits lacks b =
-      (other_tokens line l.indent _ _ (ap (λ ts. keyword (codes "def") at ++ (word bytes name_at ++ (sign (codes "(") opening ++ (params_tokens names ++ (sign (codes ")") closing ++ (sign (codes ":") colon ++ ts)))))) (def_tokens_behind suite)) fits.0,
-      fine _ lacks, def_fits l at name_at bytes opening names closing colon suite fits.1, b.fits (after l (def_head at name_at bytes opening names closing colon (behind_def suite))) refl refl (either l.has_stmt) refl)
-  stmt_fits l (class_stmt line at name_at bytes of colon suite) rest fits lacks b =
-      (other_tokens line l.indent _ _ (ap (λ ts. keyword (codes "class") at ++ (word bytes name_at ++ (base_tokens of ++ (sign (codes ":") colon ++ ts)))) (tokens_behind suite)) fits.0,
-      fine _ lacks, suite_fits l (class_head at name_at bytes of colon) suite fits.1 (λ s. refl), b.fits (after l (class_head at name_at bytes of colon (behind suite))) refl refl (either l.has_stmt) refl)
+  stmt_fits l (if_stmt line at test colon suite elifs orelse) rest fits lacks b = (
+    other_tokens line l.indent _ _ (ap (λ ts. keyword (codes "if") at ++ (expr_tokens test ++ (sign (codes ":") colon ++ ts))) (tokens_behind suite)) fits.0,
+    fine _ lacks,
+    suite_fits l (if_head at test colon) suite fits.1 (λ s. refl),
+    elifs_fit (after l (if_head at test colon (behind suite))) elifs (else_rows orelse rest) fits.2 refl (either l.has_stmt)
+        (record { fits = λ m indent def has takes. else_fits m orelse rest (subst (λ d. FitsElse d orelse) (sym indent) fits.3) takes has (moved l m rest indent def b) }),
+  )
+  stmt_fits l (while_stmt line at test colon suite) rest fits lacks b = (
+    other_tokens line l.indent _ _ (ap (λ ts. keyword (codes "while") at ++ (expr_tokens test ++ (sign (codes ":") colon ++ ts))) (tokens_behind suite)) fits.0,
+    fine _ lacks,
+    suite_fits l (while_head at test colon) suite fits.1 (λ s. refl),
+    b.fits (after l (while_head at test colon (behind suite))) refl refl (either l.has_stmt) refl,
+  )
+  stmt_fits l (for_stmt line at t in_word e colon suite) rest fits lacks b = (
+    other_tokens line l.indent _ _ (ap (λ ts. keyword (codes "for") at ++ (target_tokens t ++ (keyword (codes "in") in_word ++ (exprs_tokens e ++ (sign (codes ":") colon ++ ts))))) (tokens_behind suite)) fits.0,
+    fine _ lacks,
+    suite_fits l (for_head at t in_word e colon) suite fits.1 (λ s. refl),
+    b.fits (after l (for_head at t in_word e colon (behind suite))) refl refl (either l.has_stmt) refl,
+  )
+  stmt_fits l (try_stmt line at colon suite handlers) rest fits lacks b = (
+    other_tokens line l.indent _ _ (ap (λ ts. keyword (codes "try") at ++ (sign (codes ":") colon ++ ts)) (tokens_behind suite)) fits.0,
+    fine _ lacks,
+    suite_fits l (try_head at colon) suite fits.1 (λ s. refl),
+    handlers_fit (after l (try_head at colon (behind suite))) handlers rest fits.2 refl (moved l (after l (try_head at colon (behind suite))) rest refl refl b),
+  )
+  stmt_fits l (with_stmt line at e called colon suite) rest fits lacks b = (
+    other_tokens line l.indent _ _ (ap (λ ts. keyword (codes "with") at ++ (expr_tokens e ++ (naming_tokens called ++ (sign (codes ":") colon ++ ts)))) (tokens_behind suite)) fits.0,
+    fine _ lacks,
+    suite_fits l (with_head at e called colon) suite fits.1 (λ s. refl),
+    b.fits (after l (with_head at e called colon (behind suite))) refl refl (either l.has_stmt) refl,
+  )
+  stmt_fits l (def_stmt line at name_at bytes opening names closing colon suite) rest fits lacks b = (
+    other_tokens line l.indent _ _ (ap (λ ts. keyword (codes "def") at ++ (word bytes name_at ++ (sign (codes "(") opening ++ (params_tokens names ++ (sign (codes ")") closing ++ (sign (codes ":") colon ++ ts)))))) (def_tokens_behind suite)) fits.0,
+    fine _ lacks,
+    def_fits l at name_at bytes opening names closing colon suite fits.1,
+    b.fits (after l (def_head at name_at bytes opening names closing colon (behind_def suite))) refl refl (either l.has_stmt) refl,
+  )
+  stmt_fits l (class_stmt line at name_at bytes of colon suite) rest fits lacks b = (
+    other_tokens line l.indent _ _ (ap (λ ts. keyword (codes "class") at ++ (word bytes name_at ++ (base_tokens of ++ (sign (codes ":") colon ++ ts)))) (tokens_behind suite)) fits.0,
+    fine _ lacks,
+    suite_fits l (class_head at name_at bytes of colon) suite fits.1 (λ s. refl),
+    b.fits (after l (class_head at name_at bytes of colon (behind suite))) refl refl (either l.has_stmt) refl,
+  )
 
   suite_fits : (l : Level) (h : Option Simple → Head) (s : Suite) → FitsSuite l.indent s → ((b : Option Simple) → opens (h b) ≡ is_none b) → FitsUnder l (h (behind s)) (suite_rows s)
   suite_fits l h (on_line s) fits open_is = open_is (Some s)
@@ -119,25 +138,35 @@ mutual
 
   elifs_fit : (l : Level) (e : Elifs) (rest : Rows) → FitsElifs l.indent e → takes_branch l.context.last ≡ true → l.has_stmt ≡ true → BehindParts l rest → FitsRows l (elif_rows e rest)
   elifs_fit l no_elif rest fits takes has p = p.fits l refl refl has takes
-  elifs_fit l (elif line at test colon suite more) rest fits takes has p =
-      (other_tokens line l.indent _ _ (ap (λ ts. keyword (codes "elif") at ++ (expr_tokens test ++ (sign (codes ":") colon ++ ts))) (tokens_behind suite)) fits.0,
-      takes, suite_fits l (elif_head at test colon) suite fits.1 (λ s. refl),
-      elifs_fit (after l (elif_head at test colon (behind suite))) more rest fits.2 refl (either l.has_stmt) (record { fits = p.fits }))
+  elifs_fit l (elif line at test colon suite more) rest fits takes has p = (
+    other_tokens line l.indent _ _ (ap (λ ts. keyword (codes "elif") at ++ (expr_tokens test ++ (sign (codes ":") colon ++ ts))) (tokens_behind suite)) fits.0,
+    takes,
+    suite_fits l (elif_head at test colon) suite fits.1 (λ s. refl),
+    elifs_fit (after l (elif_head at test colon (behind suite))) more rest fits.2 refl (either l.has_stmt) (record { fits = p.fits }),
+  )
 
   else_fits : (l : Level) (e : Else) (rest : Rows) → FitsElse l.indent e → takes_branch l.context.last ≡ true → l.has_stmt ≡ true → Behind l rest → FitsRows l (else_rows e rest)
   else_fits l no_else_part rest fits takes has b = b.fits l refl refl has (branch_is_none l.context.last takes)
-  else_fits l (else_part line at colon suite) rest fits takes has b =
-      (other_tokens line l.indent _ _ (ap (λ ts. keyword (codes "else") at ++ (sign (codes ":") colon ++ ts)) (tokens_behind suite)) fits.0,
-      takes, suite_fits l (else_head at colon) suite fits.1 (λ s. refl), b.fits (after l (else_head at colon (behind suite))) refl refl (either l.has_stmt) refl)
+  else_fits l (else_part line at colon suite) rest fits takes has b = (
+    other_tokens line l.indent _ _ (ap (λ ts. keyword (codes "else") at ++ (sign (codes ":") colon ++ ts)) (tokens_behind suite)) fits.0,
+    takes,
+    suite_fits l (else_head at colon) suite fits.1 (λ s. refl),
+    b.fits (after l (else_head at colon (behind suite))) refl refl (either l.has_stmt) refl,
+  )
 
   handlers_fit : (l : Level) (h : Handlers) (rest : Rows) → FitsHandlers l.indent h → (takes_handler l.context.last || is_every l.context.last) ≡ true → Behind l rest → FitsRows l (handler_rows h rest)
-  handlers_fit l (last_handler line at kind colon suite) rest fits takes b =
-      (other_tokens line l.indent _ _ (ap (λ ts. keyword (codes "except") at ++ (kind_tokens kind ++ (sign (codes ":") colon ++ ts))) (tokens_behind suite)) fits.0,
-      takes, suite_fits l (except_head at kind colon) suite fits.1 (λ s. refl), b.fits (after l (except_head at kind colon (behind suite))) refl refl (either l.has_stmt) (after_handler kind))
-  handlers_fit l (more_handler line at kind colon suite more) rest fits takes b =
-      (other_tokens line l.indent _ _ (ap (λ ts. keyword (codes "except") at ++ (kind_tokens kind ++ (sign (codes ":") colon ++ ts))) (tokens_behind suite)) fits.0,
-      takes, suite_fits l (except_head at kind colon) suite fits.1 (λ s. refl),
-      handlers_fit (after l (except_head at kind colon (behind suite))) more rest fits.2 (more_handlers kind) (moved l (after l (except_head at kind colon (behind suite))) rest refl refl b))
+  handlers_fit l (last_handler line at kind colon suite) rest fits takes b = (
+    other_tokens line l.indent _ _ (ap (λ ts. keyword (codes "except") at ++ (kind_tokens kind ++ (sign (codes ":") colon ++ ts))) (tokens_behind suite)) fits.0,
+    takes,
+    suite_fits l (except_head at kind colon) suite fits.1 (λ s. refl),
+    b.fits (after l (except_head at kind colon (behind suite))) refl refl (either l.has_stmt) (after_handler kind),
+  )
+  handlers_fit l (more_handler line at kind colon suite more) rest fits takes b = (
+    other_tokens line l.indent _ _ (ap (λ ts. keyword (codes "except") at ++ (kind_tokens kind ++ (sign (codes ":") colon ++ ts))) (tokens_behind suite)) fits.0,
+    takes,
+    suite_fits l (except_head at kind colon) suite fits.1 (λ s. refl),
+    handlers_fit (after l (except_head at kind colon (behind suite))) more rest fits.2 (more_handlers kind) (moved l (after l (except_head at kind colon (behind suite))) rest refl refl b),
+  )
 
   def_fits : (l : Level) (at name_at : Spot) (bytes : List ℕ) (opening : Spot) (names : Params) (closing colon : Spot) (s : DefSuite) → FitsDef l.indent s
       → FitsUnder l (def_head at name_at bytes opening names closing colon (behind_def s)) (def_suite_rows s)

@@ -1,5 +1,5 @@
 -- What stands where it may and keeps the limits is so line by line.
-use Rattle.std.proofs.Common.{◌≡◌, ℕ, ◌+◌, ◌≤◌, suc, max, nat_le, Bool, true, false, ◌&&◌, ◌||◌, not, List, Option, Some, None, is_none, if◌then◌else◌, refl, ap, sym, ◌∙◌, subst, arith, le-leb, leb-true}
+use Rattle.std.proofs.Common.{◌≡◌, ℕ, ◌+◌, ◌≤◌, suc, max, nat_le, Bool, true, false, ◌&&◌, ◌||◌, not, List, Option, None, is_none, if◌then◌else◌, refl, ap, sym, ◌∙◌, subst, arith, le-leb}
 use Rattle.std.proofs.Math.Nat.{le-max_left, le-max_right}
 use Rattle.std.proofs.lemmas.Bool.{false≢true}
 use Rattle.py_lines.specs.declared.parts.Line.{Line}
@@ -9,14 +9,14 @@ use Rattle.py_grammar.specs.declared.context.Last.TheVariants.{Nothing, Loop, If
 use Rattle.py_grammar.specs.Concrete.{Spot}
 use Rattle.py_parser.specs.Limits.{Limits, IsFine}
 use Rattle.py_grammar.specs.Written.{Simple, Params, Kind, every_kind, one_kind, Stmt, simple, if_stmt, while_stmt, for_stmt, try_stmt, with_stmt, def_stmt, class_stmt, Suite, on_line, block, Body, last_stmt, more_stmt, Elifs, no_elif, elif, Else, no_else_part, else_part, Handlers, last_handler, more_handler, DefSuite, def_line, def_block, DefBody, end_def, stmt_in_def, global_in_def, Script, empty_script, script}
-use Rattle.py_grammar.specs.StatementTrees.{params_list, names_list, stmt_tree, suite_tree, body_tree, elif_trees, else_tree, handler_trees, def_tree, def_body_tree, script_body}
-use Rattle.py_grammar.specs.Depth.{expr_depth, exprs_depth, target_depth, kind_depth, simple_depth, stmt_expr_depth, suite_expr_depth, body_expr_depth, elif_expr_depth, else_expr_depth, handler_expr_depth, def_expr_depth, suites_in, suite_depth, body_depth, elif_depth, else_depth, handler_depth, def_depth}
-use Rattle.py_grammar.specs.WellPlaced.{Around, in_suite, in_loop_suite, in_handler_suite, in_def_suite, in_class_suite, def_stands, none_given, has_class, is_alone, simple_stands, stmt_stands, suite_stands, body_stands, elifs_stand, else_stands, handlers_stand, def_suite_stands, def_body_stands}
+use Rattle.py_grammar.specs.StatementTrees.{params_list, stmt_tree, suite_tree, body_tree, elif_trees, else_tree, handler_trees, def_body_tree}
+use Rattle.py_grammar.specs.Depth.{expr_depth, exprs_depth, target_depth, kind_depth, stmt_expr_depth, suite_expr_depth, body_expr_depth, elif_expr_depth, else_expr_depth, handler_expr_depth, def_expr_depth, suites_in, suite_depth, body_depth, elif_depth, else_depth, handler_depth, def_depth}
+use Rattle.py_grammar.specs.WellPlaced.{Around, in_suite, in_loop_suite, in_handler_suite, in_def_suite, in_class_suite, def_stands, has_class, is_alone, stmt_stands, suite_stands, body_stands, elifs_stand, else_stands, handlers_stand, def_suite_stands, def_body_stands}
 use Rattle.py_grammar.specs.LineReader.{Head, simple_head, if_head, elif_head, else_head, while_head, for_head, try_head, except_head, with_head, def_head, class_head, global_head}
 use Rattle.py_grammar.specs.ParsedHead.{takes_branch, takes_handler, lacks_handler, behind_in, behind_stands, behind_depth, head_stands, head_depth}
-use Rattle.py_parser.specs.Rows.{Rows, end_rows, row, Under, nothing, block as under, Level, start, counted, lets_declare, last_after, head_around, after, inside, may, rows_may, under_may, under_size}
+use Rattle.py_parser.specs.Rows.{Rows, end_rows, row, Level, start, counted, lets_declare, last_after, head_around, after, inside, may, rows_may, under_may, under_size}
 use Rattle.py_parser.specs.Grouped.{no_spot, behind, behind_def, stmt_rows, suite_rows, body_rows, elif_rows, else_rows, handler_rows, def_suite_rows, def_rows, script_rows}
-use Rattle.py_parser.proofs.Grown.{one_size, stmt_size, suite_size, body_size, elif_size, else_part_size, handler_size, def_size, def_body_size}
+use Rattle.py_parser.proofs.Grown.{one_size, suite_size, body_size, def_size, def_body_size}
 
 pub both : (a b : Bool) → a ≡ true → b ≡ true → (a && b) ≡ true
 both true true one other = refl
@@ -206,10 +206,12 @@ module _ (q : Limits) where
         (clause_may l n 1 (expr_depth test) line (if_head at test colon) suite (λ b. refl) (λ b. refl) (λ b. refl) (both _ _ (both _ _ (fine _ lacks) p.one) (behind_is_fine (in_suite l.context.around) suite p.two)) low_test low_suite deep_suite (omega (arith, few)))
         (suite_may l _ (if_head at test colon) line suite p.two low_suite deep_suite (omega (arith, sizes, few)))
         (elifs_may (after l h) _ l.context.may_declare elifs (else_rows orelse rest) p.three (left_of (elif_expr_depth elifs) _ q.height low_parts) (omega_left l.depth (elif_depth elifs) _ deep_parts) (omega (arith, sizes, few)) refl refl
-        (record { may_be = λ m k around depth given takes declares same.
-            else_may m k l.context.may_declare orelse rest (subst (λ a. else_stands (in_suite a) orelse ≡ true) (sym around) p.four) (right_of (elif_expr_depth elifs) _ q.height low_parts)
-            (subst (λ d. d + else_depth orelse ≤ q.suites) (sym depth) (omega_right l.depth (elif_depth elifs) _ deep_parts)) (omega (arith, sizes, few, same)) takes declares
-            (record { may_be = λ m_2 j around_2 depth_2 given_2 lacking declares_2 same_2. r.may_be m_2 j (around_2 ∙ around) (depth_2 ∙ depth) (given_2 ∙ given) lacking declares_2 (omega (arith, sizes, same, same_2)) }) }))
+        (record {
+          may_be = λ m k around depth given takes declares same.
+              else_may m k l.context.may_declare orelse rest (subst (λ a. else_stands (in_suite a) orelse ≡ true) (sym around) p.four) (right_of (elif_expr_depth elifs) _ q.height low_parts)
+              (subst (λ d. d + else_depth orelse ≤ q.suites) (sym depth) (omega_right l.depth (elif_depth elifs) _ deep_parts)) (omega (arith, sizes, few, same)) takes declares
+              (record { may_be = λ m_2 j around_2 depth_2 given_2 lacking declares_2 same_2. r.may_be m_2 j (around_2 ∙ around) (depth_2 ∙ depth) (given_2 ∙ given) lacking declares_2 (omega (arith, sizes, same, same_2)) });
+        }))
     stmt_may l n (while_stmt line at test colon suite) rest f lacks r =
         let p = f.stands in
         let few = f.few in
@@ -287,9 +289,11 @@ module _ (q : Limits) where
     body_may l n (more_stmt s rest) stands low deep few lacks =
         stmt_may l n s (body_rows rest)
         (record { stands = first (stmt_stands l.context.around s) _ stands; low = left_of (stmt_expr_depth s) _ q.height low; deep = omega_left l.depth (suites_in s) _ deep; few = omega (arith, few) }) lacks
-        (record { may_be = λ m k around depth given lacking declares same.
-            body_may m k rest (subst (λ a. body_stands a rest ≡ true) (sym around) (second (stmt_stands l.context.around s) _ stands)) (right_of (stmt_expr_depth s) _ q.height low)
-            (subst (λ d. d + body_depth rest ≤ q.suites) (sym depth) (omega_right l.depth (suites_in s) _ deep)) (omega (arith, few, same)) lacking })
+        (record {
+          may_be = λ m k around depth given lacking declares same.
+              body_may m k rest (subst (λ a. body_stands a rest ≡ true) (sym around) (second (stmt_stands l.context.around s) _ stands)) (right_of (stmt_expr_depth s) _ q.height low)
+              (subst (λ d. d + body_depth rest ≤ q.suites) (sym depth) (omega_right l.depth (suites_in s) _ deep)) (omega (arith, few, same)) lacking;
+        })
 
     elifs_may : (l : Level) (n : ℕ) (a : Bool) (e : Elifs) (rest : Rows) → elifs_stand (in_suite l.context.around) e ≡ true → elif_expr_depth e ≤ q.height → l.depth + elif_depth e ≤ q.suites → n + size_branches (elif_trees e) ≤ q.number
         → takes_branch l.context.last ≡ true → l.context.may_declare ≡ (a && false) → PartsMay l (n + size_branches (elif_trees e)) (a && false) rest → rows_may q l n (elif_rows e rest) ≡ true
@@ -357,9 +361,11 @@ module _ (q : Limits) where
     def_body_may l n may_declare (stmt_in_def s rest) stands low deep few lacks around declares =
         stmt_may l n s (def_rows rest)
         (record { stands = subst (λ a. stmt_stands a s ≡ true) (sym around) (first (stmt_stands in_def_suite s) _ stands); low = left_of (stmt_expr_depth s) _ q.height low; deep = omega_left l.depth (suites_in s) _ deep; few = omega (arith, few) }) lacks
-        (record { may_be = λ m k around_2 depth given lacking declares_2 same.
-            def_body_may m k (may_declare && is_alone s) rest (subst (λ g. def_body_stands g (may_declare && is_alone s) rest ≡ true) (sym given) (second (stmt_stands in_def_suite s) _ stands)) (right_of (stmt_expr_depth s) _ q.height low)
-            (subst (λ d. d + def_depth rest ≤ q.suites) (sym depth) (omega_right l.depth (suites_in s) _ deep)) (omega (arith, few, same)) lacking (around_2 ∙ around) (declares_2 ∙ ap (λ b. b && is_alone s) declares) })
+        (record {
+          may_be = λ m k around_2 depth given lacking declares_2 same.
+              def_body_may m k (may_declare && is_alone s) rest (subst (λ g. def_body_stands g (may_declare && is_alone s) rest ≡ true) (sym given) (second (stmt_stands in_def_suite s) _ stands)) (right_of (stmt_expr_depth s) _ q.height low)
+              (subst (λ d. d + def_depth rest ≤ q.suites) (sym depth) (omega_right l.depth (suites_in s) _ deep)) (omega (arith, few, same)) lacking (around_2 ∙ around) (declares_2 ∙ ap (λ b. b && is_alone s) declares);
+        })
     def_body_may l n may_declare (global_in_def line at names rest) stands low deep few lacks around declares =
         let p = three_of may_declare _ _ stands in
         all_three _ _ _

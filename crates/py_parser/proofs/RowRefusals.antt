@@ -1,19 +1,18 @@
 -- Where the lines of a script stop being rows: how a refusal further on is one of what stands before it.
-use Rattle.std.proofs.Common.{◌≡◌, ℕ, ◌+◌, ◌<◌, ◌≤◌, suc, nat_le, Bool, true, false, ◌&&◌, ◌||◌, not, List, [], ◌∷◌, ◌++◌, Option, Some, None, refl, ap, sym, ◌∙◌, subst, arith, append_assoc, leb-true}
+use Rattle.std.proofs.Common.{◌≡◌, ℕ, ◌+◌, ◌<◌, ◌≤◌, suc, nat_le, Bool, true, false, ◌&&◌, List, [], ◌∷◌, ◌++◌, refl, ap, sym, ◌∙◌, subst, arith, append_assoc, leb-true}
 use Rattle.std.proofs.lemmas.Bool.{false≢true}
 use Rattle.prov_base.specs.declared.place.Pos.{Pos}
 use Rattle.py_lines.specs.declared.parts.Line.{Line}
 use Rattle.py_lines.specs.declared.parts.Token.{Token}
 use Rattle.py_grammar.specs.declared.fault.ParseFault.{ParseFault}
-use Rattle.py_grammar.specs.declared.fault.ParseFault.TheVariants.{Unexpected, Unsupported, BadIndent, TooDeep, TooMany, Memory}
+use Rattle.py_grammar.specs.declared.fault.ParseFault.TheVariants.{Unexpected, BadIndent, TooDeep}
 use Rattle.py_grammar.specs.LineReader.{Head, head_tokens}
 use Rattle.py_grammar.specs.Layout.{IsLine}
 use Rattle.py_grammar.specs.Follows.{Below}
-use Rattle.py_grammar.specs.ParsedHead.{lacks_handler}
 use Rattle.py_parser.specs.Limits.{Limits}
-use Rattle.py_parser.specs.Rows.{Rows, end_rows, row, Under, nothing, block, rows_lines, under_lines, Level, counted, opens, after, inside, is_done, follows, Leads, FitsUnder, FitsRows, may, rows_may, under_may, rows_size, under_size, Edge, LastEdge, Begun}
-use Rattle.py_parser.specs.Faults.{Asks, Point, at_token, at_end, below, no_line, GoesOn, shows, first_place, last_place, last_token, names}
-use Rattle.py_parser.specs.ParsedBlocks.{Refused, RowsStopped, RefusedHere, RefusedUnder, UnderStopped, RefusedLine, LineStopped}
+use Rattle.py_parser.specs.Rows.{Rows, end_rows, row, Under, nothing, block, rows_lines, under_lines, Level, counted, opens, after, inside, is_done, follows, Leads, FitsUnder, FitsRows, may, rows_may, under_may, rows_size, Edge, LastEdge, Begun}
+use Rattle.py_parser.specs.Faults.{Asks, Point, at_token, at_end, below, no_line, shows, first_place, last_place, last_token, names}
+use Rattle.py_parser.specs.ParsedBlocks.{Refused, RefusedHere, RefusedUnder, RefusedLine}
 use Rattle.py_parser.proofs.Endings.{begins_here, begins_behind, begins_end, begins_under, begins_inside, begins_suite}
 use Rattle.py_parser.proofs.Peeled.{begun_rows, one_indent, edge_under, head_is, peeled}
 

@@ -1,5 +1,5 @@
 -- Rows that fit are those of statements of the grammar.
-use Rattle.std.proofs.Common.{◌≡◌, ℕ, ◌<◌, Bool, true, false, ◌&&◌, ◌||◌, not, List, ◌++◌, codes, Option, Some, None, is_none, refl, ap, sym, ◌∙◌, subst}
+use Rattle.std.proofs.Common.{◌≡◌, ℕ, Bool, true, false, ◌&&◌, ◌||◌, not, List, ◌++◌, codes, Option, Some, None, is_none, refl, ap, sym, ◌∙◌}
 use Rattle.std.proofs.lemmas.Bool.{false≢true}
 use Rattle.py_lines.specs.declared.parts.Line.{Line}
 use Rattle.py_lines.specs.declared.parts.Token.{Token}
@@ -7,13 +7,13 @@ use Rattle.py_grammar.specs.declared.context.Last.{Last}
 use Rattle.py_grammar.specs.declared.context.Last.TheVariants.{Nothing, Loop, If, Try, Handler, Every}
 use Rattle.py_grammar.specs.Concrete.{Spot}
 use Rattle.py_grammar.specs.Tokens.{keyword, sign, word, expr_tokens, exprs_tokens}
-use Rattle.py_grammar.specs.Written.{Simple, Params, Kind, every_kind, one_kind, Stmt, simple, if_stmt, while_stmt, for_stmt, try_stmt, with_stmt, def_stmt, class_stmt, Suite, on_line, block, Body, last_stmt, more_stmt, Elifs, no_elif, elif, Else, no_else_part, else_part, Handlers, last_handler, more_handler, DefSuite, def_line, def_block, DefBody, end_def, stmt_in_def, global_in_def, Script, empty_script, script}
-use Rattle.py_grammar.specs.StatementTokens.{suite_tokens, def_suite_tokens, target_tokens, naming_tokens, kind_tokens, params_tokens, base_tokens}
+use Rattle.py_grammar.specs.Written.{Simple, Kind, every_kind, one_kind, Stmt, simple, if_stmt, while_stmt, for_stmt, try_stmt, with_stmt, def_stmt, class_stmt, Suite, no_elif, no_else_part, Handlers, DefSuite, DefBody, end_def, stmt_in_def, global_in_def, Script}
+use Rattle.py_grammar.specs.StatementTokens.{suite_tokens, target_tokens, naming_tokens, kind_tokens, params_tokens, base_tokens}
 use Rattle.py_grammar.specs.Layout.{IsLine, FitsStmt, FitsSuite, FitsBody, FitsElifs, FitsElse, FitsHandlers, FitsDef, FitsDefBody, has_stmt}
 use Rattle.py_grammar.specs.Grammar.{FitsScript}
-use Rattle.py_grammar.specs.LineReader.{Head, simple_head, if_head, elif_head, else_head, while_head, for_head, try_head, except_head, with_head, def_head, class_head, global_head, behind_tokens, head_tokens}
-use Rattle.py_grammar.specs.ParsedHead.{takes_branch, takes_handler, lacks_handler, behind_in}
-use Rattle.py_parser.specs.Rows.{Rows, end_rows, row, Under, nothing, block as under, Level, start, is_def, is_global, opens, last_after, after, inside, is_done, is_every, follows, FitsUnder, FitsRows, FitsStart}
+use Rattle.py_grammar.specs.LineReader.{Head, simple_head, if_head, elif_head, else_head, while_head, for_head, try_head, except_head, with_head, def_head, class_head, global_head, behind_tokens}
+use Rattle.py_grammar.specs.ParsedHead.{takes_branch, takes_handler, lacks_handler}
+use Rattle.py_parser.specs.Rows.{Rows, end_rows, row, Under, nothing, block as under, Level, start, is_def, opens, last_after, after, inside, is_every, FitsUnder, FitsRows, FitsStart}
 use Rattle.py_parser.specs.Grouped.{Grouped, grouped, statements, handlers_of, one_handler, body_of, suite_of, def_suite_of, script_of, no_spot, behind, behind_def, stmt_rows, suite_rows, body_rows, elif_rows, else_rows, handler_rows, def_suite_rows, def_rows, script_rows}
 use Rattle.py_parser.proofs.RowFits.{tokens_behind, def_tokens_behind, other_tokens}
 
@@ -313,9 +313,11 @@ mutual
   grouped_is l (row line (def_head at name_at bytes opening names closing colon b) below rest) sane fits =
       let s = def_suite_is l (def_head at name_at bytes opening names closing colon) b below fits.2 (λ _. refl) in
       let g = grouped_is (after l (def_head at name_at bytes opening names closing colon b)) rest (λ _. yes l.has_stmt) fits.3 in
-      starts_with l _ (def_stmt line at name_at bytes opening names closing colon (def_suite_of b below)) (grouped rest).rest (not_lacking _ fits.1)
-      (other_tokens line l.indent _ _ (sym (ap (λ ts. keyword (codes "def") at ++ (word bytes name_at ++ (sign (codes "(") opening ++ (params_tokens names ++ (sign (codes ")") closing ++ (sign (codes ":") colon ++ ts))))))
-      (def_tokens_behind (def_suite_of b below) ∙ ap behind_tokens s.behind_is))) fits.0, s.fits) g.rest_fits g.globals
+      starts_with l _ (def_stmt line at name_at bytes opening names closing colon (def_suite_of b below)) (grouped rest).rest (not_lacking _ fits.1) (
+        other_tokens line l.indent _ _ (sym (ap (λ ts. keyword (codes "def") at ++ (word bytes name_at ++ (sign (codes "(") opening ++ (params_tokens names ++ (sign (codes ")") closing ++ (sign (codes ":") colon ++ ts))))))
+            (def_tokens_behind (def_suite_of b below) ∙ ap behind_tokens s.behind_is))) fits.0,
+        s.fits,
+      ) g.rest_fits g.globals
       (row_is line (def_head at name_at bytes opening names closing colon) _ _ _ _ _ _ s.behind_is s.rows_are (plain (after l (def_head at name_at bytes opening names closing colon b)) rest (grouped rest) refl refl g))
   grouped_is l (row line (class_head at name_at bytes of colon b) below rest) sane fits =
       let s = suite_is l (class_head at name_at bytes of colon) b below fits.2 (λ _. refl) (λ _. refl) in

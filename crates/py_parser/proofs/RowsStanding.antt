@@ -1,9 +1,9 @@
 -- The lines of a suite that are read so far, and one line more.
-use Rattle.std.proofs.Common.{◌≡◌, ℕ, ◌+◌, ◌<◌, ◌≤◌, suc, nat_le, Bool, true, false, ◌&&◌, not, List, [], ◌∷◌, ◌++◌, length, Option, Some, None, is_none, if◌then◌else◌, refl, ap, sym, ◌∙◌, subst, arith, append_assoc, append-nil}
-use Rattle.std.proofs.lemmas.Bool.{false≢true, eqb-true}
+use Rattle.std.proofs.Common.{◌≡◌, ℕ, ◌+◌, ◌<◌, ◌≤◌, Bool, true, false, ◌&&◌, List, [], ◌∷◌, ◌++◌, length, refl, ap, sym, ◌∙◌, subst, arith, append_assoc, append-nil}
+use Rattle.std.proofs.lemmas.Bool.{false≢true}
 use Rattle.prov_base.specs.declared.place.Pos.{Pos}
 use Rattle.py_lines.specs.declared.parts.Line.{Line}
-use Rattle.py_tree.specs.Tree.{StmtTree, SuiteTree}
+use Rattle.py_tree.specs.Tree.{StmtTree}
 use Rattle.py_parser.specs.declared.blocks.Place.{Place}
 use Rattle.py_parser.specs.declared.blocks.Built.{Built}
 use Rattle.py_grammar.specs.declared.fault.ParseFault.{ParseFault}
@@ -11,15 +11,14 @@ use Rattle.py_grammar.specs.declared.fault.ParseFault.TheVariants.{Unexpected, U
 use Rattle.py_grammar.specs.LineReader.{Head, head_tokens}
 use Rattle.py_grammar.specs.StatementTrees.{end_of}
 use Rattle.py_grammar.specs.Layout.{IsLine}
-use Rattle.py_grammar.specs.Follows.{Below}
 use Rattle.py_grammar.specs.ParsedHead.{behind_in}
-use Rattle.py_parser.specs.Limits.{Limits, profile}
-use Rattle.py_parser.specs.Rows.{Rows, end_rows, row, Under, nothing, block, rows_lines, under_lines, Level, counted, after, is_done, follows, Leads, FitsUnder, FitsRows, may, rows_may, under_may, rows_size, under_size, Edge, LastEdge, Begun}
+use Rattle.py_parser.specs.Limits.{profile}
+use Rattle.py_parser.specs.Rows.{Rows, end_rows, row, Under, rows_lines, under_lines, Level, counted, after, follows, Leads, FitsUnder, may, rows_may, under_may, rows_size, under_size, Edge, LastEdge, Begun}
 use Rattle.py_parser.specs.RowForms.{grown, inner_number, declared, row_globals, under_globals, grow, below_tree}
 use Rattle.py_parser.specs.Faults.{last_token}
 use Rattle.py_parser.specs.ParsedBlocks.{level_at, level_of, is_here, trees_of, Standing, RowsRead, RowRead, Refused, RowsStopped, NotClosed, IsClosed}
 use Rattle.py_parser.proofs.Grown.{end_append}
-use Rattle.py_parser.proofs.RowRefusals.{refused_behind, refused_end, suite_fits, tokens_append, indent_stays}
+use Rattle.py_parser.proofs.RowRefusals.{refused_behind, refused_end, suite_fits, tokens_append}
 
 -- ---- one row more
 

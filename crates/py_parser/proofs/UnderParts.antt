@@ -1,9 +1,9 @@
 -- What stands under a line, and the line with it.
-use Rattle.std.proofs.Common.{◌≡◌, ℕ, ◌+◌, ◌<◌, ◌≤◌, suc, nat_le, Bool, true, false, ◌&&◌, ◌||◌, not, List, [], ◌∷◌, ◌++◌, Option, Some, None, is_none, if◌then◌else◌, ◌==◌, refl, ap, sym, ◌∙◌, subst, arith, append_assoc, le-leb, leb-true}
-use Rattle.std.proofs.lemmas.Bool.{false≢true, eqb-true}
+use Rattle.std.proofs.Common.{◌≡◌, ℕ, ◌+◌, ◌<◌, ◌≤◌, suc, nat_le, Bool, true, false, ◌&&◌, not, List, [], ◌∷◌, ◌++◌, Option, Some, None, is_none, if◌then◌else◌, refl, ap, sym, ◌∙◌, subst, arith, le-leb, leb-true}
+use Rattle.std.proofs.lemmas.Bool.{false≢true}
 use Rattle.prov_base.specs.declared.place.Pos.{Pos}
 use Rattle.py_lines.specs.declared.parts.Line.{Line}
-use Rattle.py_tree.specs.Tree.{StmtTree, SuiteTree, end_suite, more_suite}
+use Rattle.py_tree.specs.Tree.{end_suite, more_suite}
 use Rattle.py_parser.specs.declared.blocks.Place.{Place}
 use Rattle.py_parser.specs.declared.blocks.Built.{Built}
 use Rattle.py_grammar.specs.declared.head.Behind.{Behind}
@@ -17,16 +17,15 @@ use Rattle.py_grammar.specs.StatementTrees.{simple_form, end_of}
 use Rattle.py_grammar.specs.WellPlaced.{Around}
 use Rattle.py_grammar.specs.LineReader.{Head, simple_head, if_head, elif_head, else_head, while_head, for_head, try_head, except_head, with_head, def_head, class_head, global_head, head_tokens}
 use Rattle.py_grammar.specs.Layout.{IsLine}
-use Rattle.py_grammar.specs.Follows.{Below}
 use Rattle.py_grammar.specs.ParsedSimple.{around_of}
 use Rattle.py_grammar.specs.ParsedHead.{IsThere, IsBehind, behind_in, lacks_handler, head_stands, head_depth}
-use Rattle.py_parser.specs.Limits.{Limits, profile}
-use Rattle.py_parser.specs.Rows.{Rows, end_rows, row, Under, nothing, block, rows_lines, under_lines, Level, is_def, is_stmt, counted, opens, head_around, head_given, after, inside, is_done, follows, FitsUnder, FitsRows, may, rows_may, under_may, rows_size, under_size, Edge, Begun}
-use Rattle.py_parser.specs.RowForms.{suite_list, begun, grown, inner_number, declared, row_globals, under_globals, grow, below_tree}
-use Rattle.py_parser.specs.Faults.{last_place, last_token}
-use Rattle.py_parser.specs.ParsedBlocks.{level_of, level_at, is_here, trees_of, IsUnderOf, LineRead, UnderRead, RowRead, RowsRead, Refused, RowsStopped, RefusedUnder, UnderStopped, RefusedLine, LineStopped}
+use Rattle.py_parser.specs.Limits.{profile}
+use Rattle.py_parser.specs.Rows.{Rows, end_rows, row, nothing, block, rows_lines, Level, is_def, is_stmt, counted, opens, head_around, head_given, after, inside, follows, FitsRows, may, rows_may}
+use Rattle.py_parser.specs.RowForms.{suite_list, begun, grown, inner_number, declared, under_globals, grow, below_tree}
+use Rattle.py_parser.specs.Faults.{last_place}
+use Rattle.py_parser.specs.ParsedBlocks.{level_of, level_at, trees_of, IsUnderOf, LineRead, UnderRead, RowRead, RowsRead, RowsStopped, UnderStopped, LineStopped}
 use Rattle.py_parser.proofs.RowLimits.{four_of}
-use Rattle.py_parser.proofs.RowRefusals.{refused_under, refused_line, refused_inside, no_suite, too_deep_at}
+use Rattle.py_parser.proofs.RowRefusals.{refused_under, refused_line, refused_inside}
 
 -- ---- the statement behind a `:`
 

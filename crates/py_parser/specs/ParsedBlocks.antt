@@ -1,8 +1,7 @@
 -- What the parser answers of the lines of a script. No public clause speaks of it.
-use Rattle.std.specs.Prelude.{◌≡◌, ⊤, ℕ, ◌+◌, ◌<◌, ◌≤◌, nat_le, suc, Bool, true, false, ◌==◌, ◌||◌, not, List, [], ◌∷◌, ◌++◌, map, Option, Some, None}
+use Rattle.std.specs.Prelude.{◌≡◌, ⊤, ℕ, ◌+◌, ◌≤◌, nat_le, Bool, true, false, ◌==◌, ◌||◌, not, List, [], ◌∷◌, ◌++◌, map, Option, Some, None}
 use Rattle.prov_base.specs.declared.place.Pos.{Pos}
 use Rattle.py_lines.specs.declared.parts.Line.{Line}
-use Rattle.py_lines.specs.declared.parts.Token.{Token}
 use Rattle.py_lines.specs.declared.parts.TokenKind.{TokenKind}
 use Rattle.py_lines.specs.declared.parts.TokenKind.TheVariants.{Keyword}
 use Rattle.py_tree.specs.Erasure.{stmt_of}
@@ -13,7 +12,7 @@ use Rattle.py_grammar.specs.declared.context.Limit.TheVariants.{Number, Depth}
 use Rattle.py_parser.specs.declared.blocks.Place.{Place}
 use Rattle.py_parser.specs.declared.blocks.Built.{Built}
 use Rattle.py_grammar.specs.declared.fault.ParseFault.{ParseFault}
-use Rattle.py_grammar.specs.declared.fault.ParseFault.TheVariants.{Unexpected, Unsupported, BadIndent, TooDeep, TooMany, Memory}
+use Rattle.py_grammar.specs.declared.fault.ParseFault.TheVariants.{Unexpected, BadIndent, Memory}
 use Rattle.py_grammar.specs.declared.head.LineHead.{LineHead}
 use Rattle.py_grammar.specs.declared.head.What.{What}
 use Rattle.py_grammar.specs.LineReader.{Head, head_tokens}
@@ -24,7 +23,7 @@ use Rattle.py_grammar.specs.ParsedSimple.{around_of}
 use Rattle.py_grammar.specs.ParsedHead.{IsWhat, IsBehind, behind_in}
 use Rattle.py_parser.specs.Limits.{Limits, profile}
 use Rattle.py_parser.specs.Faults.{last_token, Point, shows, names, Asks, tokens_before, Next}
-use Rattle.py_parser.specs.Rows.{Begun, Rows, end_rows, row, Under, nothing, block, rows_lines, under_lines, Level, is_stmt, counted, opens, after, inside, is_done, follows, Leads, FitsUnder, FitsRows, may, rows_may, under_may, rows_size, under_size, Edge, LastEdge}
+use Rattle.py_parser.specs.Rows.{Begun, Rows, Under, rows_lines, under_lines, Level, counted, after, is_done, follows, Leads, FitsUnder, FitsRows, may, rows_may, under_may, rows_size, under_size, Edge, LastEdge}
 use Rattle.py_parser.specs.RowForms.{suite_list, grown, inner_number, declared, row_globals, under_globals, grow, below_tree}
 
 -- ---- where the code is

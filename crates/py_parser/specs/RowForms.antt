@@ -1,11 +1,8 @@
 -- The syntax tree of rows, as it grows line by line. No public clause speaks of it.
-use Rattle.std.specs.Prelude.{ℕ, ◌+◌, Bool, true, false, List, [], ◌∷◌, ◌++◌, Option, Some, None, if◌then◌else◌}
-use Rattle.prov_base.specs.declared.place.Pos.{Pos}
-use Rattle.prov_base.specs.declared.place.Span.{Span}
-use Rattle.py_lines.specs.declared.parts.Line.{Line}
+use Rattle.std.specs.Prelude.{ℕ, ◌+◌, List, [], ◌∷◌, ◌++◌, Option, Some, None, if◌then◌else◌}
 use Rattle.py_lines.specs.declared.parts.Token.{Token}
 use Rattle.py_tree.specs.declared.stmt.Bound.{Bound}
-use Rattle.py_tree.specs.Tree.{ExprTree, StmtTree, FormTree, SuiteTree, BranchesTree, ElseTree, HandlersTree, one_stmt, pass_form, if_form, while_form, for_form, try_form, with_form, def_form, class_form, end_suite, more_suite, end_branches, more_branches, no_else, else_suite, end_handlers, more_handlers}
+use Rattle.py_tree.specs.Tree.{ExprTree, StmtTree, FormTree, SuiteTree, BranchesTree, HandlersTree, one_stmt, pass_form, if_form, while_form, for_form, try_form, with_form, def_form, class_form, end_suite, more_suite, end_branches, more_branches, no_else, else_suite, end_handlers, more_handlers}
 use Rattle.py_grammar.specs.Trees.{expr_tree, exprs_tree}
 use Rattle.py_grammar.specs.Written.{Simple}
 use Rattle.py_grammar.specs.StatementTokens.{simple_tokens}

@@ -1,13 +1,13 @@
 -- A script as rows: each line with what it begins, and under it the lines of its suite. No public clause speaks of it.
-use Rattle.std.specs.Prelude.{◌≡◌, ⊤, ℕ, ◌+◌, ◌<◌, suc, Bool, true, false, ◌&&◌, ◌||◌, not, nat_le, List, [], ◌∷◌, ◌++◌, Option, Some, None, is_none, if◌then◌else◌}
+use Rattle.std.specs.Prelude.{◌≡◌, ⊤, ℕ, ◌+◌, ◌<◌, suc, Bool, true, false, ◌&&◌, ◌||◌, not, nat_le, List, [], ◌∷◌, ◌++◌, is_none, if◌then◌else◌}
 use Rattle.py_lines.specs.declared.parts.Line.{Line}
 use Rattle.py_grammar.specs.declared.context.Last.{Last}
 use Rattle.py_grammar.specs.declared.context.Last.TheVariants.{Nothing, Loop, If, Try, Handler, Every}
-use Rattle.py_grammar.specs.Written.{Simple, Kind, every_kind, one_kind}
+use Rattle.py_grammar.specs.Written.{Kind, every_kind, one_kind}
 use Rattle.py_grammar.specs.StatementTokens.{simple_tokens}
 use Rattle.py_grammar.specs.StatementTrees.{params_list}
 use Rattle.py_grammar.specs.WellPlaced.{Around, module_level, in_suite, in_loop_suite, in_handler_suite, in_def_suite, in_class_suite, are_alone}
-use Rattle.py_grammar.specs.LineReader.{Head, simple_head, if_head, elif_head, else_head, while_head, for_head, try_head, except_head, with_head, def_head, class_head, global_head, head_tokens}
+use Rattle.py_grammar.specs.LineReader.{Head, simple_head, if_head, elif_head, else_head, while_head, for_head, try_head, except_head, def_head, class_head, global_head, head_tokens}
 use Rattle.py_grammar.specs.Layout.{IsLine}
 use Rattle.py_grammar.specs.Follows.{Below}
 use Rattle.py_parser.specs.Limits.{Limits}

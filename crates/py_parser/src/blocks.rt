@@ -17,8 +17,10 @@ ghost use Rattle.py_parser.specs.Faults.{first_place, last_place};
 ghost use Rattle.py_parser.specs.ParsedBlocks.{limit_at, level_of, level_at, is_here, is_stmt_kind, IsUnderOf, IsClosed, NotClosed, IsNoHandler, trees_of, IsHead, LineRead, LineStopped, RowsRead, RowRead, RowsStopped, UnderRead, UnderStopped};
 
 use prov_base::{Name, Pos, Span};
-use py_grammar::{read_head, Around, Behind, Context, Last, Limit, LineHead, ParseFault, Stop, What};
-use py_grammar::{ELIF, ELSE, EXCEPT, GLOBAL, PASS};
+use py_grammar::{
+    Around, Behind, Context, ELIF, ELSE, EXCEPT, GLOBAL, Last, Limit, LineHead, PASS, ParseFault,
+    Stop, What, read_head,
+};
 use py_lines::{Line, Token, TokenKind};
 use py_tree::{Bound, Branches, Expr, Form, Globals, Handlers, Stmt, Suite};
 use std::alloc::{AllocError, Global};
@@ -153,7 +155,10 @@ impl<'a> Blocks<'a> {
                 Ok(head)
             }
             Err(Stop::Here(fault)) => Err(fault),
-            Err(Stop::End) => Err(ParseFault::Unexpected(last_of(line.tokens.as_slice(), self.before))),
+            Err(Stop::End) => Err(ParseFault::Unexpected(last_of(
+                line.tokens.as_slice(),
+                self.before,
+            ))),
         }
     }
 
@@ -424,18 +429,36 @@ fn statement(line: &Line, no: u32, to: u32, form: Form) -> Stmt
         None => (Pos { line: 0, col: 0 }, 0),
     };
     let span = Span { from, to };
-    Stmt { no, pos, span, form }
+    Stmt {
+        no,
+        pos,
+        span,
+        form,
+    }
 }
 
 /// A statement with one part more: an `elif`, an `else` or a handler.
 fn with_part(stmt: Stmt, what: What, under: Built) -> Result<Stmt, AllocError>
     ensures { (h : Head) → IsWhat what h → IfOk result (λ more. stmt_of more ≡ longer (with_part_tree h (suite_list (trees_of under))) under.to (stmt_of stmt)) }
 {
-    let Stmt { no, pos, span, form } = stmt;
+    let Stmt {
+        no,
+        pos,
+        span,
+        form,
+    } = stmt;
     let Built { list, to, .. } = under;
-    let span = Span { from: span.from, to };
+    let span = Span {
+        from: span.from,
+        to,
+    };
     let form = form_with_part(form, what, Suite { list })?;
-    Ok(Stmt { no, pos, span, form })
+    Ok(Stmt {
+        no,
+        pos,
+        span,
+        form,
+    })
 }
 
 /// A form with one part more: an `elif`, an `else` or a handler.
@@ -511,10 +534,17 @@ fn form_of(alloc: Global, what: What, under: Built) -> Result<Form, AllocError>
         }
         What::While(test) => Ok(Form::While(test, suite)),
         What::For(target, items) => Ok(Form::For(target, items, suite)),
-        What::Try => Ok(Form::Try(suite, Handlers { list: Vec::new(alloc) })),
+        What::Try => Ok(Form::Try(
+            suite,
+            Handlers {
+                list: Vec::new(alloc),
+            },
+        )),
         What::With(value, bound) => Ok(Form::With(value, bound, suite)),
         What::Def(name, params) => {
-            let globals = Globals { list: under.globals };
+            let globals = Globals {
+                list: under.globals,
+            };
             Ok(Form::Def(name, params, globals, suite))
         }
         What::Class(name, base) => Ok(Form::Class(name, base, suite)),
@@ -528,9 +558,17 @@ fn one_line(alloc: Global, no: u32, behind: Behind, to: u32) -> Result<Built, Al
     ensures globals { IfOk result (λ built. built.globals.items ≡ []) }
     ensures to { IfOk result (λ built. built.to ≡ to) }
 {
-    let span = Span { from: behind.from, to };
+    let span = Span {
+        from: behind.from,
+        to,
+    };
     let mut list = Vec::new(alloc);
-    list.push(Stmt { no, pos: behind.at, span, form: behind.form })?;
+    list.push(Stmt {
+        no,
+        pos: behind.at,
+        span,
+        form: behind.form,
+    })?;
     Ok(Built {
         list,
         globals: Vec::new(alloc),

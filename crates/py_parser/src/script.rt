@@ -27,7 +27,9 @@ pub fn parse(alloc: Global, lines: &Lines) -> Result<Script, ParseFault>
     let lines = lines.as_slice();
     let before = Pos { line: 1, col: 1 };
     let Some(first) = lines.first() else {
-        let body = Suite { list: Vec::new(alloc) };
+        let body = Suite {
+            list: Vec::new(alloc),
+        };
         return Ok(Script { body, count: 0 });
     };
     if first.indent != 0 {

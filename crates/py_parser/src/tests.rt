@@ -450,7 +450,12 @@ fn deepest_script(rt: HostRuntime) -> Result<(), Fail> {
 // 262,136 bytes, which is as long as a text of such lines may be.
 #[test]
 fn greatest_length(rt: HostRuntime) -> Result<(), Fail> {
-    check_repeated(&rt, rt.alloc(), ("total = a + b\n", 18724, ""), "18724 statements")
+    check_repeated(
+        &rt,
+        rt.alloc(),
+        ("total = a + b\n", 18724, ""),
+        "18724 statements",
+    )
 }
 
 #[test]

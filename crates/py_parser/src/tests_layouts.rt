@@ -9,7 +9,7 @@ fn with_loops_and_faults(rt: HostRuntime) -> Result<(), Fail> {
         rt.alloc(),
         &[
             (
-r#"def gcd(a, b):
+                r#"def gcd(a, b):
     while b: a, b = b, a % b
     return a
 
@@ -32,7 +32,7 @@ for row in table:
 assert total >= 0, 'negative'
 print(total if total else None, -total, +total)
 "#,
-r#"19 statements
+                r#"19 statements
 0 1:1 0-56 def gcd a b
   1 2:5 19-43 while b
     2 2:14 28-43 = (many a b) (tuple b (% a b))
@@ -54,7 +54,7 @@ r#"19 statements
 18 22:1 407-454 do (call print (if total total None) (- total) (+ total))"#,
             ),
             (
-r#"import time
+                r#"import time
 import random
 
 seen = 0
@@ -88,7 +88,7 @@ while count < 10:
 del seen
 print(last)
 "#,
-r#"25 statements
+                r#"25 statements
 0 1:1 0-11 import time
 1 2:1 12-25 import random
 2 4:1 27-35 = seen 0
@@ -119,7 +119,7 @@ r#"25 statements
 24 33:1 506-517 do (call print last)"#,
             ),
             (
-r#"if __name__ == '__main__':
+                r#"if __name__ == '__main__':
     a = 1
     if a:
         b = 2
@@ -145,7 +145,7 @@ z = (
 del x['a']
 for k, in [(1,), (2,)]: print(k)
 "#,
-r#"18 statements
+                r#"18 statements
 0 1:1 0-230 if (== __name__ '__main__')
   1 2:5 31-36 = a 1
   2 3:5 41-230 if a
@@ -171,7 +171,7 @@ r#"18 statements
   17 25:25 386-394 do (call print k)"#,
             ),
             (
-r#"class Shape:
+                r#"class Shape:
     pass
 
 class Square(Shape):
@@ -197,7 +197,7 @@ shapes = [Square(2), Box(3), Tall(4), Shape()]
 for s in shapes:
     print(s.area() if not isinstance(s, Shape) or s.side is not None else 0)
 "#,
-r#"19 statements
+                r#"19 statements
 0 1:1 0-21 class Shape
   1 2:5 17-21 pass
 2 4:1 23-219 class Square Shape
@@ -229,7 +229,7 @@ fn with_odd_layout(rt: HostRuntime) -> Result<(), Fail> {
         rt.alloc(),
         &[
             (
-r#"def search(xs, wanted):
+                r#"def search(xs, wanted):
     low = 0
     high = len(xs)
     while low < high:
@@ -249,7 +249,7 @@ for n in (0, 49, 50, 98, -1):
     else: print(n, 'at', where)
 print(search([], 1) is None and not search([1], 2) or 'found')
 "#,
-r#"18 statements
+                r#"18 statements
 0 1:1 0-287 def search xs wanted
   1 2:5 28-35 = low 0
   2 3:5 40-54 = high (call len xs)
@@ -272,7 +272,7 @@ r#"18 statements
 17 19:1 453-515 do (call print (or (and (is (call search (list) 1) None) (not (call search (list 1) 2))) 'found'))"#,
             ),
             (
-r#"with open('a.txt') as a:
+                r#"with open('a.txt') as a:
     with open('b.txt', 'w') as b:
         n = 0
         for line in a:
@@ -295,7 +295,7 @@ a, b = (2, 3) if False else (0, 0)
 print("done", '''all
 of it''', a in b, a not in [b], a is b)
 "#,
-r#"22 statements
+                r#"22 statements
 0 1:1 0-376 with (call open 'a.txt') as a
   1 2:5 29-376 with (call open 'b.txt' 'w') as b
     2 3:9 67-72 = n 0
@@ -323,8 +323,8 @@ except ZeroDivisionError as e
 21 21:1 539-599 do (call print 'done' 'all~of it' (in a b) (not in a (list b)) (is a b))"#,
             ),
             (
-"x = 1\r\nif x:\r\n    y = \"\"\"a\r\nb\"\"\"   # two lines\r\n\r\n    z = y\r\n# c\r\nelse:\r\n    z = None\r\nprint(z)\r\nfor c in z:\r\n    print(c)\r\nwhile False: pass\r\nz = [\r\n  1,\r\n]\r\nprint(z)\r\n",
-r#"12 statements
+                "x = 1\r\nif x:\r\n    y = \"\"\"a\r\nb\"\"\"   # two lines\r\n\r\n    z = y\r\n# c\r\nelse:\r\n    z = None\r\nprint(z)\r\nfor c in z:\r\n    print(c)\r\nwhile False: pass\r\nz = [\r\n  1,\r\n]\r\nprint(z)\r\n",
+                r#"12 statements
 0 1:1 0-5 = x 1
 1 2:1 7-85 if x
   2 3:5 18-46 = y 'a~b'
@@ -340,7 +340,7 @@ else
 11 17:1 159-167 do (call print z)"#,
             ),
             (
-r#"# café
+                r#"# café
 name = 'café'
 print(name, 'x')  # é
 if 'café' == name: print(1)
@@ -359,7 +359,7 @@ r = f(1,
 print(r['a'] + r['b'] * -1 - (r['a'] - r['b']), r
       )
 "#,
-r#"9 statements
+                r#"9 statements
 0 2:1 8-22 = name 'café'
 1 3:1 23-45 do (call print name 'x')
 2 4:1 46-96 if (== 'café' name)

@@ -9,7 +9,7 @@ fn with_functions_and_files(rt: HostRuntime) -> Result<(), Fail> {
         rt.alloc(),
         &[
             (
-r#"def check(n):
+                r#"def check(n):
     if n > 2:
         raise ValueError('big')
     return n
@@ -22,7 +22,7 @@ except ValueError as e:
     x = str(e)
 print(x)
 "#,
-r#"11 statements
+                r#"11 statements
 0 1:1 0-72 def check n
   1 2:5 18-59 if (> n 2)
     2 3:9 36-59 raise (call ValueError 'big')
@@ -37,7 +37,7 @@ except ValueError as e
 10 12:1 152-160 do (call print x)"#,
             ),
             (
-r#"x = 'global'
+                r#"x = 'global'
 def f():
     try:
         y = x
@@ -48,7 +48,7 @@ def f():
 r = f()
 print(r)
 "#,
-r#"9 statements
+                r#"9 statements
 0 1:1 0-12 = x 'global'
 1 2:1 13-117 def f
   2 3:5 26-94 try
@@ -61,7 +61,7 @@ r#"9 statements
 8 10:1 126-134 do (call print r)"#,
             ),
             (
-r#"f = open('out.txt', 'w')
+                r#"f = open('out.txt', 'w')
 f.write('one\n')
 f.close()
 g = open('log.txt', 'w')
@@ -74,7 +74,7 @@ h = open('out.txt')
 t = h.read()
 print(t)
 "#,
-r#"12 statements
+                r#"12 statements
 0 1:1 0-24 = f (call open 'out.txt' 'w')
 1 2:1 25-41 do (call (.write f) 'one~')
 2 3:1 42-51 do (call (.close f))
@@ -89,7 +89,7 @@ r#"12 statements
 11 12:1 187-195 do (call print t)"#,
             ),
             (
-r#""""Totals of sales per region."""
+                r#""""Totals of sales per region."""
 import sys
 
 class Sale:
@@ -147,7 +147,7 @@ def main():
 if __name__ == '__main__':
     main()
 "#,
-r#"48 statements
+                r#"48 statements
 0 1:1 0-33 do 'Totals of sales per region.'
 1 2:1 34-44 import sys
 2 4:1 46-155 class Sale
@@ -209,7 +209,7 @@ fn with_operators_and_classes(rt: HostRuntime) -> Result<(), Fail> {
         rt.alloc(),
         &[
             (
-r#"a = 7
+                r#"a = 7
 b = -2
 print(a // b, a % b, a * b, a - b, a + b, -a, +True)
 print(abs(b), int('  -12\n'), int(True), bool(a), bool(0))
@@ -230,7 +230,7 @@ x %= 1000
 x *= 2
 print(x, max(3, a, b), min(a, b, True), sum([1, True, -3]))
 "#,
-r#"18 statements
+                r#"18 statements
 0 1:1 0-5 = a 7
 1 2:1 6-12 = b (- 2)
 2 3:1 13-65 do (call print (// a b) (% a b) (* a b) (- a b) (+ a b) (- a) (+ True))
@@ -253,7 +253,7 @@ except ZeroDivisionError as e
 17 20:1 420-479 do (call print x (call max 3 a b) (call min a b True) (call sum (list 1 True (- 3))))"#,
             ),
             (
-r#"a = [3, 1, 2]
+                r#"a = [3, 1, 2]
 b = a
 a += [5]
 a.append(4)
@@ -285,7 +285,7 @@ try:
 except ValueError as e:
     print(e)
 "#,
-r#"29 statements
+                r#"29 statements
 0 1:1 0-13 = a (list 3 1 2)
 1 2:1 14-19 = b a
 2 3:1 20-28 += a (list 5)
@@ -319,7 +319,7 @@ except ValueError as e
   28 31:5 723-731 do (call print e)"#,
             ),
             (
-r#"t = (1, 'b', (2, 3))
+                r#"t = (1, 'b', (2, 3))
 a, b, c = t
 x, = [9]
 p, q = 1, 2
@@ -340,7 +340,7 @@ except TypeError as e:
     print(e)
 print(sorted(t[2]), tuple('ab'), len(t), bool(()))
 "#,
-r#"18 statements
+                r#"18 statements
 0 1:1 0-20 = t (tuple 1 'b' (tuple 2 3))
 1 2:1 21-32 = (many a b c) t
 2 3:1 33-41 = (many x) (list 9)
@@ -363,7 +363,7 @@ except TypeError as e
 17 20:1 388-438 do (call print (call sorted (part t 2)) (call tuple 'ab') (call len t) (call bool (tuple)))"#,
             ),
             (
-r#"class Base:
+                r#"class Base:
     'a base'
     def __init__(self, x):
         self.x = x
@@ -405,7 +405,7 @@ try:
 except NotImplementedError as e:
     print(e)
 "#,
-r#"34 statements
+                r#"34 statements
 0 1:1 0-162 class Base
   1 2:5 16-24 do 'a base'
   2 3:5 29-70 def __init__ self x
@@ -456,7 +456,7 @@ fn with_files_and_words(rt: HostRuntime) -> Result<(), Fail> {
         rt.alloc(),
         &[
             (
-r#"w = open('new.txt', 'w')
+                r#"w = open('new.txt', 'w')
 print(w.write('one\ntwo\n'), w)
 w.close()
 with open('new.txt', 'a') as h:
@@ -492,7 +492,7 @@ a = open('big.txt', 'w')
 a.write('small now')
 print(open('big.txt', 'r').read())
 "#,
-r#"31 statements
+                r#"31 statements
 0 1:1 0-24 = w (call open 'new.txt' 'w')
 1 2:1 25-56 do (call print (call (.write w) 'one~two~') w)
 2 3:1 57-66 do (call (.close w))
@@ -531,7 +531,7 @@ except OSError as e
 30 35:1 759-793 do (call print (call (.read (call open 'big.txt' 'r'))))"#,
             ),
             (
-r#"def sign(n): return 1 if n > 0 else 0 if n == 0 else -1
+                r#"def sign(n): return 1 if n > 0 else 0 if n == 0 else -1
 words = ['', 'a', 'bb']
 for w in words:
     if not w: print('empty')
@@ -545,7 +545,7 @@ assert x, 'never'
 assert not None
 print(y, x != 5, x is None, (x) + (1), {'k': x}['k'])
 "#,
-r#"16 statements
+                r#"16 statements
 0 1:1 0-55 def sign n
   1 1:14 13-55 return (if (> n 0) 1 (if (== n 0) 0 (- 1)))
 2 2:1 56-79 = words (list '' 'a' 'bb')
@@ -566,7 +566,7 @@ r#"16 statements
 15 13:1 393-446 do (call print y (!= x 5) (is x None) (+ x 1) (part (dict 'k' x) 'k'))"#,
             ),
             (
-r#"def f():
+                r#"def f():
     e = 1
     try:
         raise ValueError('v')
@@ -586,7 +586,7 @@ try:
 except NameError as x:
     print(x)
 "#,
-r#"15 statements
+                r#"15 statements
 0 1:1 0-181 def f
   1 2:5 13-18 = e 1
   2 3:5 23-98 try
@@ -608,7 +608,7 @@ except NameError as x
   14 19:5 288-296 do (call print x)"#,
             ),
             (
-r#"# Counts the words of a file.
+                r#"# Counts the words of a file.
 import sys
 
 def words(text):
@@ -637,7 +637,7 @@ with open(sys.argv[1]) as source:
 for w in sorted(counts):
     print(w, counts[w])
 "#,
-r#"22 statements
+                r#"22 statements
 0 2:1 30-40 import sys
 1 4:1 42-317 def words text
   2 5:5 63-73 = found (list)
@@ -664,7 +664,7 @@ r#"22 statements
   21 28:5 556-575 do (call print w (part counts w))"#,
             ),
             (
-r#""""A stack machine.
+                r#""""A stack machine.
 
 It reads words, and keeps
 numbers."""
@@ -699,7 +699,7 @@ m = Machine()
 for word in '2 dup mul 3 add'.split(' '): m.step(word)
 print(m.stack)
 "#,
-r#"25 statements
+                r#"25 statements
 0 1:1 0-58 do 'A stack machine.~~It reads words, and keeps~numbers.'
 1 5:1 59-717 class Machine
   2 6:5 78-113 do 'Numbers, the last one on top.'
@@ -732,4 +732,3 @@ r#"25 statements
         ],
     )
 }
-

@@ -1,9 +1,12 @@
 // The statements of whole scripts as texts: each with its number, its place, its bytes and its form, and the statements of its
 // suites two columns further in. Line ends in texts are shown as `~`. The places in expressions are tested in `py_grammar`.
 use crate::parse;
-use py_lines::lines;
-use py_tree::{Atom, BinOp, Bound, CmpOp, Expr, Exprs, Form, LogicOp, Pairs, Stmt, Suite, Target, Targets, UnOp};
 use prov_base::Name;
+use py_lines::lines;
+use py_tree::{
+    Atom, BinOp, Bound, CmpOp, Expr, Exprs, Form, LogicOp, Pairs, Stmt, Suite, Target, Targets,
+    UnOp,
+};
 use std::alloc::Global;
 use std::process::Abort;
 use std::test::Fail;
@@ -327,7 +330,10 @@ fn show_suite(alloc: Global, out: &mut String, depth: u32, suite: &Suite) -> Res
 
 #[cycle(show_suite)]
 fn show_stmt(alloc: Global, out: &mut String, depth: u32, stmt: &Stmt) -> Result<(), Fail> {
-    let head = format!(in alloc; "{} {}:{} {}-{} ", stmt.no, stmt.pos.line, stmt.pos.col, stmt.span.from, stmt.span.to)?;
+    let head = format!(in alloc;
+        "{} {}:{} {}-{} ",
+        stmt.no, stmt.pos.line, stmt.pos.col, stmt.span.from, stmt.span.to
+    )?;
     show_line(out, depth, head.as_str())?;
     show_form(alloc, out, depth, &stmt.form)
 }
@@ -397,7 +403,12 @@ fn show_parts(alloc: Global, out: &mut String, depth: u32, form: &Form) -> Resul
 }
 
 #[cycle(show_suite)]
-fn show_else(alloc: Global, out: &mut String, depth: u32, orelse: &Option<Suite>) -> Result<(), Fail> {
+fn show_else(
+    alloc: Global,
+    out: &mut String,
+    depth: u32,
+    orelse: &Option<Suite>,
+) -> Result<(), Fail> {
     match orelse {
         None => Ok(()),
         Some(suite) => {
@@ -442,7 +453,11 @@ fn show_script(alloc: Global, text: &str) -> Result<String, Fail> {
 }
 
 /// Compares what each text is as a script with what stands beside it.
-pub(crate) fn check_scripts(rt: &impl Abort, alloc: Global, table: &[(&str, &str)]) -> Result<(), Fail> {
+pub(crate) fn check_scripts(
+    rt: &impl Abort,
+    alloc: Global,
+    table: &[(&str, &str)],
+) -> Result<(), Fail> {
     for (text, expected) in table {
         let shown = show_script(alloc, text)?;
         assert_eq!(rt; shown.as_str(), *expected);

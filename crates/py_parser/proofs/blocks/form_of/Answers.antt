@@ -1,11 +1,10 @@
-use Rattle.std.proofs.Common.{◌≡◌, true, false, List, map, option_map, ap, sym, ◌∙◌, subst}
+use Rattle.std.proofs.Common.{option_map, ap, sym, ◌∙◌, subst}
 use Rattle.std.proofs.lemmas.Bool.{false≢true}
-use Rattle.py_tree.specs.Erasure.{stmt_of, expr_of, target_of}
-use Rattle.py_tree.specs.Tree.{while_form, for_form, try_form, with_form, def_form, class_form}
-use Rattle.py_tree.proofs.StmtTrees.{pass_tree, while_tree, for_tree, try_tree, with_tree, def_tree, class_tree}
+use Rattle.py_tree.specs.Erasure.{expr_of, target_of}
+use Rattle.py_tree.specs.Tree.{while_form, for_form, with_form, def_form, class_form}
+use Rattle.py_tree.proofs.StmtTrees.{while_tree, for_tree, with_tree, def_tree, class_tree}
 use Rattle.py_grammar.specs.declared.head.What.{What}
 use Rattle.py_grammar.specs.ParsedHead.{IsWhat}
-use Rattle.py_parser.specs.RowForms.{suite_list}
 use Rattle.py_parser.proofs.BlockForms.{rolled, first_branch, no_handlers}
 use Rattle.py_parser.proofs.BlockHeads.{if_begun, while_begun, for_begun, try_begun, with_begun, def_begun, class_begun, no_stmt}
 use Rattle.py_parser.proofs.blocks.form_of.Goals as goal

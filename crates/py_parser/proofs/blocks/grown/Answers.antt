@@ -1,4 +1,3 @@
-use Rattle.std.proofs.Common.{sym}
 use Rattle.py_parser.proofs.BlockHeads.{part_grown}
 use Rattle.py_parser.proofs.blocks.grown.Goals as goal
 

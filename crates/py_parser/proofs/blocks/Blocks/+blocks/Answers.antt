@@ -17,7 +17,7 @@ row-returns-in_err-what-clause-refused t c =
 pub row-returns-in_err-under-clause-refused : goal.row-returns-in_err-under-clause-refused
 row-returns-in_err-under-clause-refused t c =
     let is = under_stopped_there c.args.place c.args.given.now c.args.self.now.count c.line.new.self.count c.args.self.now.before c.last_of-self.result c.args.self.now.rest.now c.in-Some.line.now _ c.args.built _ _ c.in-Some.ensures.cases.0 c.requires.here
-      (c.last_of-self.ensures ∙ ap (λ at. last_place at c.as_slice.result.now) c.in_ok-what.ensures.before ∙ ap (last_place c.args.self.now.before) c.as_slice.ensures) c.in_ok-what.ensures.found c.in_err-under.ensures.refused in
+    (c.last_of-self.ensures ∙ ap (λ at. last_place at c.as_slice.result.now) c.in_ok-what.ensures.before ∙ ap (last_place c.args.self.now.before) c.as_slice.ensures) c.in_ok-what.ensures.found c.in_err-under.ensures.refused in
     search (rules, is)
 
 -- src/blocks.rt
@@ -45,7 +45,7 @@ rows-row-requires t c =
 pub rows-returns-in_err-built-clause-refused : goal.rows-returns-in_err-built-clause-refused
 rows-returns-in_err-built-clause-refused t c =
     let is = stopped_behind (level_of c.args.place c.args.given.now) (level_at c.args.place c.args.given.now c.loop-alloc.built) c.args.self.now.count c.loop-alloc.self.count c.args.self.now.before c.loop-alloc.self.before c.args.self.now.rest.now c.loop-alloc.self.rest.now
-      c.loop-alloc.built _ c.loop-alloc.invariant c.in_err-built.ensures.refused in
+    c.loop-alloc.built _ c.loop-alloc.invariant c.in_err-built.ensures.refused in
     search (rules, is)
 
 -- src/blocks.rt
@@ -58,7 +58,7 @@ rows-loop-alloc-preserved t c =
 pub rows-returns-in_err-close-clause-refused : goal.rows-returns-in_err-close-clause-refused
 rows-returns-in_err-close-clause-refused t c =
     let is = stopped_end c.args.place c.args.given.now c.args.self.now.count c.loop-alloc.self.count c.args.self.now.before c.loop-alloc.self.before c.args.self.now.rest.now c.loop-alloc.self.rest.now c.loop-alloc.built _
-      c.requires.here (sym c.is_here.ensures ∙ c.loop-alloc-test.false) c.loop-alloc.invariant c.in_err-close.ensures.refused in
+    c.requires.here (sym c.is_here.ensures ∙ c.loop-alloc-test.false) c.loop-alloc.invariant c.in_err-close.ensures.refused in
     search (rules, is)
 
 -- src/blocks.rt
@@ -87,7 +87,7 @@ suite-returns-then-place-ge-SUITES-clause-refused t c m n h u what open_is =
 pub suite-returns-in_err-built-clause-refused : goal.suite-returns-in_err-built-clause-refused
 suite-returns-in_err-built-clause-refused t c m n h u what open_is =
     let is = suite_stopped_there c.args.place (inner_place c.in-Some.next.now.indent (c.args.place.depth + 1) c.inner_around.result c.is_def.result) c.given_of.result.now c.args.self.now.count m n h c.args.self.now.before c.args.self.now.rest.now _ u open_is refl
-      (c.inner_around.ensures h what) (c.is_def.ensures h what) (c.given_of.ensures h what) c.if-next-place.false c.in_err-built.ensures.refused in
+    (c.inner_around.ensures h what) (c.is_def.ensures h what) (c.given_of.ensures h what) c.if-next-place.false c.in_err-built.ensures.refused in
     search (rules, is)
 
 -- src/blocks.rt

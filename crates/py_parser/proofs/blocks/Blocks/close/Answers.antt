@@ -1,9 +1,8 @@
-use Rattle.std.proofs.Common.{rules, arith, sym, ap, ◌∙◌, subst, []}
+use Rattle.std.proofs.Common.{rules, arith, sym, ap, ◌∙◌, subst}
 use Rattle.py_grammar.specs.declared.fault.ParseFault.TheVariants.{BadIndent}
 use Rattle.py_grammar.specs.Follows.{Below}
 use Rattle.py_parser.specs.Faults.{first_place}
 use Rattle.py_parser.specs.ParsedBlocks.{IsNoHandler}
-use Rattle.py_grammar.proofs.PlacedParts.{none_there}
 use Rattle.py_parser.proofs.CloseParts.{lacks_end, empty_end, deeper, no_handler_at, closes_lower, other_place, nothing_below}
 use Rattle.py_parser.proofs.blocks.Blocks.close.Goals as goal
 

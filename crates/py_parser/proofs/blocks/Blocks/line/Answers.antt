@@ -22,9 +22,9 @@ returns-then-self-ge-STATEMENTS-clause-refused c =
 pub returns-in-Ok-clause-found : goal.returns-in-Ok-clause-found
 returns-in-Ok-clause-found c =
     let fewer : c.begins_stmt-begins.result ≡ true → c.args.self.now.count < 20000 =
-      elim c.else-begins.branch [ else-begins-via-then-begins+else-self-ge-STATEMENTS w ↦ λ _. w.if-self-ge-STATEMENTS.false | else-begins-via-else-begins w ↦ λ is. absurd (false≢true (sym w.if-begins.false ∙ is)) ] in
+    elim c.else-begins.branch [ else-begins-via-then-begins+else-self-ge-STATEMENTS w ↦ λ _. w.if-self-ge-STATEMENTS.false | else-begins-via-else-begins w ↦ λ is. absurd (false≢true (sym w.if-begins.false ∙ is)) ] in
     let o = opened (level_at c.args.place c.args.given.now c.args.built.now) c.args.self.now.count c.args.line.now c.as_slice.result.now c.in-Some.first.now c.begins_stmt-begins.result c.limit_of-limit.result c.from.result
-      c.as_slice.ensures c.in-Some.ensures.value c.begins_stmt-begins.ensures c.from.ensures c.limit_of-limit.ensures in
+    c.as_slice.ensures c.in-Some.ensures.value c.begins_stmt-begins.ensures c.from.ensures c.limit_of-limit.ensures in
     found_there (level_at c.args.place c.args.given.now c.args.built.now) c.args.self.now.count c.args.line.now c.in-Ok.head c.as_slice-2.result.now c.in-Some.first.now c.begins_stmt-begins.result c.limit_of-limit.result c.from.result
     o c.requires.declares c.requires.few fewer c.from.ensures c.as_slice-2.ensures c.in-Ok.ensures.found
 
@@ -32,7 +32,7 @@ returns-in-Ok-clause-found c =
 pub returns-in-Err-Here-clause-refused : goal.returns-in-Err-Here-clause-refused
 returns-in-Err-Here-clause-refused c =
     let o = opened (level_at c.args.place c.args.given.now c.args.built.now) c.args.self.now.count c.args.line.now c.as_slice.result.now c.in-Some.first.now c.begins_stmt-begins.result c.limit_of-limit.result c.from.result
-      c.as_slice.ensures c.in-Some.ensures.value c.begins_stmt-begins.ensures c.from.ensures c.limit_of-limit.ensures in
+    c.as_slice.ensures c.in-Some.ensures.value c.begins_stmt-begins.ensures c.from.ensures c.limit_of-limit.ensures in
     line_refused (level_at c.args.place c.args.given.now c.args.built.now) c.args.self.now.count _ c.args.line.now c.in-Some.first.now c.begins_stmt-begins.result c.limit_of-limit.result c.in-Err-Here.fault o c.requires.declares
     (first_at (level_at c.args.place c.args.given.now c.args.built.now) c.as_slice-2.result.now _ c.in-Err-Here.field-0 (Here c.in-Err-Here.fault) c.as_slice-2.ensures c.in-Err-Here.field-0-is c.in-Err-Here.ensures.first)
     (refused_at (level_at c.args.place c.args.given.now c.args.built.now) c.limit_of-limit.result c.as_slice-2.result.now _ c.in-Err-Here.field-0 (Here c.in-Err-Here.fault) c.as_slice-2.ensures c.in-Err-Here.field-0-is c.in-Err-Here.ensures.refused)
@@ -41,7 +41,7 @@ returns-in-Err-Here-clause-refused c =
 pub returns-in-Err-End-clause-refused : goal.returns-in-Err-End-clause-refused
 returns-in-Err-End-clause-refused c =
     let o = opened (level_at c.args.place c.args.given.now c.args.built.now) c.args.self.now.count c.args.line.now c.as_slice.result.now c.in-Some.first.now c.begins_stmt-begins.result c.limit_of-limit.result c.from.result
-      c.as_slice.ensures c.in-Some.ensures.value c.begins_stmt-begins.ensures c.from.ensures c.limit_of-limit.ensures in
+    c.as_slice.ensures c.in-Some.ensures.value c.begins_stmt-begins.ensures c.from.ensures c.limit_of-limit.ensures in
     line_ends (level_at c.args.place c.args.given.now c.args.built.now) c.args.self.now.count _ _ c.args.line.now c.in-Some.first.now c.begins_stmt-begins.result c.limit_of-limit.result o c.requires.declares
     (c.last_of.ensures ∙ ap (last_place c.args.self.now.before) c.as_slice-in-Err-End.ensures)
     (first_at (level_at c.args.place c.args.given.now c.args.built.now) c.as_slice-2.result.now _ c.in-Err-End.field-0 End c.as_slice-2.ensures c.in-Err-End.field-0-is c.in-Err-End.ensures.first)
