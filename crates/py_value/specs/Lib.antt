@@ -2,4 +2,5 @@ pub mod Contents
 pub mod Key
 pub mod KeyOf
 pub mod Notes
+pub mod Seen
 pub mod Values

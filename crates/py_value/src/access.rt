@@ -1,5 +1,11 @@
 // The places of a run's store, what stands at them, and what is done to them.
-ghost use Rattle.std.specs.Prelude.{◌≡◌};
+ghost use Rattle.std.specs.Prelude.{◌≡◌, ◌↔◌, Some, true};
+ghost use Rattle.py_value.specs.Seen.{IsNamedLocation, location_seen, location_at};
+ghost use Rattle.py_value.specs.Values.{ValuesView, AreInterned};
+ghost use Rattle.py_value.specs.contracts.access.LocationPartialEq.TheImpl.{ghosts as locations};
+ghost use Rattle.py_value.specs.contracts.value.ValuePartialEq.TheImpl.{ghosts as values_eq};
+ghost use Rattle.py_value.specs.declared.access.Location.{Location as OneLocation};
+ghost use Rattle.py_value.specs.declared.value.Value.{Value as OneValue};
 
 use crate::{Key, Keys, Value};
 use prov_base::Pos;
@@ -131,3 +137,17 @@ impl Accesses {
         self.accesses.as_slice()
     }
 }
+
+/// The law that `==` of values and of locations is equality.
+pub fn equality_is_same()
+    ensures values { (v w : OneValue) → (values_eq.eq v w ≡ true) ↔ (v ≡ w) }
+    ensures locations { (l m : OneLocation) → (locations.eq l m ≡ true) ↔ (l ≡ m) }
+{}
+
+/// The law that locations are told apart by what they are without numbers of texts and tuples: that leads back to the
+/// location.
+pub fn locations_tell()
+    ensures back { (view : ValuesView) (l : OneLocation) → AreInterned view → IsNamedLocation view l → location_at view (location_seen view l) ≡ Some l }
+    ensures tell { (view : ValuesView) (l m : OneLocation) → AreInterned view → IsNamedLocation view l → IsNamedLocation view m
+        → location_seen view l ≡ location_seen view m → l ≡ m }
+{}

@@ -9,7 +9,9 @@ mod key;
 mod value;
 mod values;
 
-pub use access::{Access, Accesses, Change, Content, Kind, Location, Mode};
+pub use access::{
+    Access, Accesses, Change, Content, Kind, Location, Mode, equality_is_same, locations_tell,
+};
 pub use key::{Key, KeyFault};
 pub use value::{Keys, Value};
 pub use values::{Values, contents_stay, contents_tell};
