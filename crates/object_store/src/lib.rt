@@ -4,8 +4,10 @@
 
 mod cell;
 mod file;
+mod laws;
 mod need;
 mod object;
 mod store;
 
+pub use laws::store_over_contents;
 pub use store::Store;
