@@ -1,5 +1,5 @@
 // The store. It stands on a pool of objects, and on maps for what is no part of an object.
-ghost use Rattle.std.specs.Prelude.{◌≡◌, ◌<◌, ◌+◌, ◌≤◌, [], ◌∷◌, ◌++◌, List, Option, length, slice_get, slice_set, if◌then◌else◌, Some, OnOk, OnErr, option_map};
+ghost use Rattle.std.specs.Prelude.{◌≡◌, ◌<◌, ◌+◌, ◌≤◌, [], ◌∷◌, ◌++◌, List, Option, length, slice_get, slice_set, if◌then◌else◌, Some, None, OnOk, OnErr, option_map};
 ghost use Rattle.object_store.specs.Store.{held_at, content_at, item_at, keys_at, kinds, name_at, file_at, whole, bytes as held_bytes, room_of, written, changed, IsOwn, IsOwnChange, IsFresh, IsReadWhole, IsReservedFor, Writes, Notes, Makes};
 ghost use Rattle.std.specs.Option.{option_copied};
 ghost use Rattle.py_value.specs.Values.{ValuesView};
@@ -140,6 +140,9 @@ impl Store {
     /// Notes the name of the function or class at a place, in place of an earlier one.
     pub fn name_place(&mut self, at: Pos, name: u32) -> Result<(), Memory>
         ensures noted { OnOk result (Notes self.old self.new at name) }
+
+        // Where a name is noted already, another in its place needs no memory.
+        ensures unnamed { OnErr result (name_at self.old at ≡ None) }
         ensures err { OnErr result (self.new ≡ self.old) }
         ensures same { self.new ≡ record self.old { names = self.new.names } }
 
