@@ -1,0 +1,4 @@
+pub mod CutBytes
+pub mod FormGaps
+pub mod Walks
+mod Worked

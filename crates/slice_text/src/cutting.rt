@@ -1,0 +1,58 @@
+// The cut of a text: one pass over the statements, and one over the bytes.
+ghost use Rattle.std.specs.Prelude.{◌≡◌, [], IfOk};
+ghost use Rattle.py_lines.specs.Piece.{ends_line};
+ghost use Rattle.py_tree.specs.Erasure.{script_of};
+ghost use Rattle.py_tree.specs.StmtSet.{has};
+ghost use Rattle.slice_text.specs.Cut.{cut_from, cut_text};
+
+use crate::gaps::{Gaps, add_suite};
+use crate::offsets::{Offsets, filled, gone};
+use prov_base::{Bytes, Memory};
+use py_tree::{Script, StmtSet};
+use std::alloc::Global;
+
+/// The text of a script without the statements outside the set, or Memory. Each byte of a statement that goes, from its
+/// first token to the end of its last line, becomes a space, but line ends stay. Where a suite of a statement that stays
+/// loses all its statements, `pass` takes the place of the first, and the line grows if it is too short for it. All else
+/// stays as it was, at its line and column.
+pub fn cut(alloc: Global, text: &[u8], script: &Script, keep: &StmtSet) -> Result<Bytes, Memory>
+    ensures { IfOk result (λ bytes. bytes ≡ cut_text (has keep.now) (script_of script.now) text.now) }
+{
+    let mut gaps = Gaps::new(alloc);
+    add_suite(&script.body, keep, false, &mut gaps)?;
+    let goes = gone(alloc, text.len(), gaps.as_slice())?;
+    let begins = filled(alloc, text.len(), gaps.as_slice())?;
+    let cut = written(alloc, text, &goes, &begins)?;
+    Ok(Bytes::of(cut))
+}
+
+fn is_line_end(byte: u8) -> bool
+    ensures { result ≡ ends_line byte }
+{
+    byte == b'\n' || byte == b'\r'
+}
+
+// The text with spaces for the bytes that go, and with each `pass` that begins.
+fn written(alloc: Global, text: &[u8], goes: &Offsets, begins: &Offsets) -> Result<Vec<u8>, Memory>
+    ensures { IfOk result (λ cut. cut.items ≡ cut_from (has goes.now) (has begins.now) 0 [] text.now) }
+{
+    let mut cut = Vec::with_capacity(alloc, text.len())?;
+    let mut due: &[u8] = b"";
+    for (at, byte) in text.iter().enumerate() {
+        if begins.has(at) {
+            due = b"pass";
+        }
+        if is_line_end(*byte) {
+            cut.extend_from_slice(due)?;
+            cut.push(*byte)?;
+            due = b"";
+        } else if let Some((letter, later)) = due.split_first() {
+            cut.push(*letter)?;
+            due = later;
+        } else {
+            cut.push(if goes.has(at) { b' ' } else { *byte })?;
+        }
+    }
+    cut.extend_from_slice(due)?;
+    Ok(cut)
+}
