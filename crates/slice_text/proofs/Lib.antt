@@ -1,4 +1,6 @@
 pub mod CutBytes
 pub mod FormGaps
+pub mod LineEnds
 pub mod Walks
+pub mod Whole
 mod Worked

@@ -1,7 +1,9 @@
 // The cut of a text: one pass over the statements, and one over the bytes.
-ghost use Rattle.std.specs.Prelude.{◌≡◌, [], IfOk};
+ghost use Rattle.std.specs.Prelude.{◌≡◌, ℕ, ◌<◌, ◌≤◌, length, IsTrue, [], IfOk};
 ghost use Rattle.py_lines.specs.Piece.{ends_line};
+ghost use Rattle.py_lines.specs.Place.{line_feeds};
 ghost use Rattle.py_tree.specs.Erasure.{script_of};
+ghost use Rattle.py_tree.specs.Numbering.{IsNumbered};
 ghost use Rattle.py_tree.specs.StmtSet.{has};
 ghost use Rattle.slice_text.specs.Cut.{cut_from, cut_text};
 
@@ -16,7 +18,10 @@ use std::alloc::Global;
 /// loses all its statements, `pass` takes the place of the first, and the line grows if it is too short for it. All else
 /// stays as it was, at its line and column.
 pub fn cut(alloc: Global, text: &[u8], script: &Script, keep: &StmtSet) -> Result<Bytes, Memory>
-    ensures { IfOk result (λ bytes. bytes ≡ cut_text (has keep.now) (script_of script.now) text.now) }
+    ensures cut { IfOk result (λ bytes. bytes ≡ cut_text (has keep.now) (script_of script.now) text.now) }
+    ensures line_ends { IfOk result (λ bytes. line_feeds bytes ≡ line_feeds text.now) }
+    ensures grows { IfOk result (λ bytes. length text.now ≤ length bytes) }
+    ensures whole { IsNumbered (script_of script.now) → ((i : ℕ) → i < script.now.count → IsTrue (has keep.now i)) → IfOk result (λ bytes. bytes ≡ text.now) }
 {
     let mut gaps = Gaps::new(alloc);
     add_suite(&script.body, keep, false, &mut gaps)?;

@@ -1,7 +1,24 @@
-use Rattle.std.proofs.Common.{◌∙◌}
+use Rattle.std.proofs.Common.{◌≡◌, ℕ, ◌≤◌, List, [], length, refl, ap, sym, subst, ◌∙◌}
+use Rattle.py_lines.specs.Place.{line_feeds}
+use Rattle.py_tree.specs.Erasure.{script_of}
 use Rattle.py_tree.specs.StmtSet.{has}
+use Rattle.slice_text.specs.Cut.{script_gaps, is_in, is_filled, cut_text}
 use Rattle.slice_text.proofs.CutBytes.{cut_by_gaps}
+use Rattle.slice_text.proofs.LineEnds.{kept_feeds, no_shorter}
+use Rattle.slice_text.proofs.Whole.{whole_text}
 use Rattle.slice_text.proofs.cutting.cut.Goals as goal
 
 pub returns : goal.returns
-returns c = c.of.ensures ∙ (c.in_ok-cut.ensures ∙ cut_by_gaps (has c.args.keep.now) _ _ _ _ _ _ _ c.args.text.now c.in_ok-add_suite.ensures c.new-gaps.ensures c.as_slice.ensures c.as_slice-2.ensures c.in_ok-goes.ensures c.in_ok-begins.ensures)
+returns c =
+    let keep = has c.args.keep.now in
+    let script = script_of c.args.script.now in
+    let gaps = script_gaps keep script in
+    let text = c.args.text.now in
+    let is : c.of.result ≡ cut_text keep script text =
+      c.of.ensures ∙ (c.in_ok-cut.ensures ∙ cut_by_gaps keep _ _ _ _ _ _ _ text c.in_ok-add_suite.ensures c.new-gaps.ensures c.as_slice.ensures c.as_slice-2.ensures c.in_ok-goes.ensures c.in_ok-begins.ensures) in
+    record {
+      cut = is;
+      line_ends = ap line_feeds is ∙ kept_feeds (is_in gaps) (is_filled gaps) 0 [] text refl;
+      grows = subst (λ (bytes : List ℕ). length text ≤ length bytes) (sym is) (no_shorter (is_in gaps) (is_filled gaps) 0 [] text);
+      whole = λ numbered all. is ∙ whole_text keep script text numbered all;
+    }
