@@ -8,5 +8,7 @@
 mod cutting;
 mod gaps;
 mod offsets;
+#[cfg(test)]
+mod tests;
 
 pub use cutting::cut;

@@ -15,7 +15,7 @@ returns c =
     let gaps = script_gaps keep script in
     let text = c.args.text.now in
     let is : c.of.result ≡ cut_text keep script text =
-      c.of.ensures ∙ (c.in_ok-cut.ensures ∙ cut_by_gaps keep _ _ _ _ _ _ _ text c.in_ok-add_suite.ensures c.new-gaps.ensures c.as_slice.ensures c.as_slice-2.ensures c.in_ok-goes.ensures c.in_ok-begins.ensures) in
+    c.of.ensures ∙ (c.in_ok-cut.ensures ∙ cut_by_gaps keep _ _ _ _ _ _ _ text c.in_ok-add_suite.ensures c.new-gaps.ensures c.as_slice.ensures c.as_slice-2.ensures c.in_ok-goes.ensures c.in_ok-begins.ensures) in
     record {
       cut = is;
       line_ends = ap line_feeds is ∙ kept_feeds (is_in gaps) (is_filled gaps) 0 [] text refl;
