@@ -1,6 +1,12 @@
 pub mod CutBytes
+pub mod CutFits
+pub mod CutScript
 pub mod FormGaps
 pub mod LineEnds
+pub mod Moved
+pub mod MovedSimples
+pub mod MovedTokens
+pub mod MovedTrees
 pub mod Walks
 pub mod Whole
 mod Worked
