@@ -60,19 +60,19 @@ def_head_fits keep n line indent front (def_line s) is = chosen (keep n)
     chosen false = pass_fits line indent front s is
 
 -- the same, where so many parts stand before the suite
-group_2 : (a b x : List Token) → (a ++ b) ++ x ≡ a ++ (b ++ x)
+pub group_2 : (a b x : List Token) → (a ++ b) ++ x ≡ a ++ (b ++ x)
 group_2 a b x = append_assoc a b x
 
-group_3 : (a b c x : List Token) → (a ++ (b ++ c)) ++ x ≡ a ++ (b ++ (c ++ x))
+pub group_3 : (a b c x : List Token) → (a ++ (b ++ c)) ++ x ≡ a ++ (b ++ (c ++ x))
 group_3 a b c x = append_assoc a (b ++ c) x ∙ ap (λ (ts : List Token). a ++ ts) (group_2 b c x)
 
-group_4 : (a b c d x : List Token) → (a ++ (b ++ (c ++ d))) ++ x ≡ a ++ (b ++ (c ++ (d ++ x)))
+pub group_4 : (a b c d x : List Token) → (a ++ (b ++ (c ++ d))) ++ x ≡ a ++ (b ++ (c ++ (d ++ x)))
 group_4 a b c d x = append_assoc a (b ++ (c ++ d)) x ∙ ap (λ (ts : List Token). a ++ ts) (group_3 b c d x)
 
-group_5 : (a b c d e x : List Token) → (a ++ (b ++ (c ++ (d ++ e)))) ++ x ≡ a ++ (b ++ (c ++ (d ++ (e ++ x))))
+pub group_5 : (a b c d e x : List Token) → (a ++ (b ++ (c ++ (d ++ e)))) ++ x ≡ a ++ (b ++ (c ++ (d ++ (e ++ x))))
 group_5 a b c d e x = append_assoc a (b ++ (c ++ (d ++ e))) x ∙ ap (λ (ts : List Token). a ++ ts) (group_4 b c d e x)
 
-group_6 : (a b c d e f x : List Token) → (a ++ (b ++ (c ++ (d ++ (e ++ f))))) ++ x ≡ a ++ (b ++ (c ++ (d ++ (e ++ (f ++ x)))))
+pub group_6 : (a b c d e f x : List Token) → (a ++ (b ++ (c ++ (d ++ (e ++ f))))) ++ x ≡ a ++ (b ++ (c ++ (d ++ (e ++ (f ++ x)))))
 group_6 a b c d e f x = append_assoc a (b ++ (c ++ (d ++ (e ++ f)))) x ∙ ap (λ (ts : List Token). a ++ ts) (group_5 b c d e f x)
 
 module _ (keep : ℕ → Bool) (n : ℕ) (line : Line) (indent : ℕ) (suite : Suite) where

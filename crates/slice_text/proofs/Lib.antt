@@ -1,6 +1,9 @@
+pub mod Bare
 pub mod CutBytes
 pub mod CutFits
 pub mod CutScript
+pub mod CutTreeLaws
+pub mod CutTrees
 pub mod FormGaps
 pub mod LineEnds
 pub mod Moved
