@@ -18,7 +18,7 @@ use Rattle.py_grammar.specs.StatementTrees.{stmt_tree, suite_tree, body_tree, el
 use Rattle.py_grammar.specs.Layout.{IsLine, has_stmt, FitsStmt, FitsSuite, FitsBody, FitsElifs, FitsElse, FitsHandlers, FitsDef, FitsDefBody}
 use Rattle.py_grammar.specs.Grammar.{FitsScript}
 use Rattle.slice_text.specs.Cut.{loses_all}
-use Rattle.slice_text.proofs.CutScript.{pass_spot, pass_line, before, cut_head, cut_def_head, pass_for, first_line, pass_stmt, with_first, in_place, in_def_place, cut_stmt, cut_suite, cut_body, cut_elifs, cut_else, cut_handlers, cut_def, cut_def_body, script_of_body, cut_script}
+use Rattle.slice_text.specs.CutScript.{pass_spot, pass_line, before, cut_head, cut_def_head, pass_for, first_line, pass_stmt, with_first, in_place, in_def_place, cut_stmt, cut_suite, cut_body, cut_elifs, cut_else, cut_handlers, cut_def, cut_def_body, script_of_body, cut_script}
 
 -- ---- lines
 

@@ -21,7 +21,7 @@ use Rattle.py_grammar.specs.Grammar.{FitsScript}
 use Rattle.slice_text.specs.Cut.{loses_all}
 use Rattle.slice_text.specs.Spanless.{spanless, spanless_suite}
 use Rattle.slice_text.proofs.Bare.{bare_suite, bare_stmt, bare_form, bare_branches, bare_else, bare_handlers, suite_size, suite_anew}
-use Rattle.slice_text.proofs.CutScript.{pass_spot, pass_line, before, cut_head, cut_def_head, pass_for, first_line, pass_stmt, with_first, in_place, in_def_place, cut_stmt, cut_suite, cut_body, cut_elifs, cut_else, cut_handlers, cut_def, cut_def_body, script_of_body, cut_script}
+use Rattle.slice_text.specs.CutScript.{pass_spot, pass_line, before, cut_head, cut_def_head, pass_for, first_line, pass_stmt, with_first, in_place, in_def_place, cut_stmt, cut_suite, cut_body, cut_elifs, cut_else, cut_handlers, cut_def, cut_def_body, script_of_body, cut_script}
 use Rattle.slice_text.proofs.CutFits.{back_is, number_numbered, group_2, group_3, group_4, group_5, group_6}
 use Rattle.slice_text.proofs.CutTrees.{filled_suite, not_filled, or_filled}
 

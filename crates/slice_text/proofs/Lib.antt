@@ -1,7 +1,6 @@
 pub mod Bare
 pub mod CutBytes
 pub mod CutFits
-pub mod CutScript
 pub mod CutTreeLaws
 pub mod CutTrees
 pub mod FormGaps

@@ -7,8 +7,10 @@
 
 mod cutting;
 mod gaps;
+mod laws;
 mod offsets;
 #[cfg(test)]
 mod tests;
 
 pub use cutting::cut;
+pub use laws::cut_script_is_deleted;
