@@ -30,7 +30,7 @@ use Rattle.slice_text.proofs.CutTrees.{filled_suite, not_filled, or_filled}
 abbrev place_of : StmtTree → Pos
 place_of (one_stmt number at span form) = at
 
-bare_first : (tokens : List Token) (to : ℕ) (form : FormTree) → bare_stmt (stmt_of_tokens tokens to form) ≡ one_stmt 0 (pass_spot tokens).at no_bytes (bare_form form)
+pub bare_first : (tokens : List Token) (to : ℕ) (form : FormTree) → bare_stmt (stmt_of_tokens tokens to form) ≡ one_stmt 0 (pass_spot tokens).at no_bytes (bare_form form)
 bare_first [] to form = refl
 bare_first (token ∷ tokens) to form = refl
 

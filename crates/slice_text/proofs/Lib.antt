@@ -9,6 +9,7 @@ pub mod Moved
 pub mod MovedSimples
 pub mod MovedTokens
 pub mod MovedTrees
+pub mod Redone
 pub mod Walks
 pub mod Whole
 mod Worked
