@@ -1,4 +1,6 @@
 pub mod Bare
+pub mod ChunkLines
+pub mod Chunks
 pub mod CutBytes
 pub mod CutFits
 pub mod CutTreeLaws
