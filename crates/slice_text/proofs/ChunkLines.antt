@@ -47,7 +47,7 @@ all_of (with_stmt line at e name colon suite) = refl
 all_of (def_stmt line at name_at bytes opening names closing colon suite) = refl
 all_of (class_stmt line at name_at bytes of colon suite) = refl
 
-no_more : (x : List Line) → x ++ [] ≡ x
+pub no_more : (x : List Line) → x ++ [] ≡ x
 no_more [] = refl
 no_more (line ∷ x) = ap (λ (ls : List Line). line ∷ ls) (no_more x)
 

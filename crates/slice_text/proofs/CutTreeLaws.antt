@@ -164,19 +164,19 @@ module _ (keep : ℕ → Bool) (n indent : ℕ) (s : Stmt) (fits : FitsStmt inde
 
 -- ---- what a line ends with
 
-ends_2 : (line : Line) (indent : ℕ) (a b x : List Token) → IsLine line indent (a ++ (b ++ x)) → EndsWith line x
+pub ends_2 : (line : Line) (indent : ℕ) (a b x : List Token) → IsLine line indent (a ++ (b ++ x)) → EndsWith line x
 ends_2 line indent a b x is = record { front = a ++ b; is = is.tokens_are ∙ sym (group_2 a b x) }
 
-ends_3 : (line : Line) (indent : ℕ) (a b c x : List Token) → IsLine line indent (a ++ (b ++ (c ++ x))) → EndsWith line x
+pub ends_3 : (line : Line) (indent : ℕ) (a b c x : List Token) → IsLine line indent (a ++ (b ++ (c ++ x))) → EndsWith line x
 ends_3 line indent a b c x is = record { front = a ++ (b ++ c); is = is.tokens_are ∙ sym (group_3 a b c x) }
 
-ends_4 : (line : Line) (indent : ℕ) (a b c d x : List Token) → IsLine line indent (a ++ (b ++ (c ++ (d ++ x)))) → EndsWith line x
+pub ends_4 : (line : Line) (indent : ℕ) (a b c d x : List Token) → IsLine line indent (a ++ (b ++ (c ++ (d ++ x)))) → EndsWith line x
 ends_4 line indent a b c d x is = record { front = a ++ (b ++ (c ++ d)); is = is.tokens_are ∙ sym (group_4 a b c d x) }
 
-ends_5 : (line : Line) (indent : ℕ) (a b c d e x : List Token) → IsLine line indent (a ++ (b ++ (c ++ (d ++ (e ++ x))))) → EndsWith line x
+pub ends_5 : (line : Line) (indent : ℕ) (a b c d e x : List Token) → IsLine line indent (a ++ (b ++ (c ++ (d ++ (e ++ x))))) → EndsWith line x
 ends_5 line indent a b c d e x is = record { front = a ++ (b ++ (c ++ (d ++ e))); is = is.tokens_are ∙ sym (group_5 a b c d e x) }
 
-ends_6 : (line : Line) (indent : ℕ) (a b c d e f x : List Token) → IsLine line indent (a ++ (b ++ (c ++ (d ++ (e ++ (f ++ x)))))) → EndsWith line x
+pub ends_6 : (line : Line) (indent : ℕ) (a b c d e f x : List Token) → IsLine line indent (a ++ (b ++ (c ++ (d ++ (e ++ (f ++ x)))))) → EndsWith line x
 ends_6 line indent a b c d e f x is = record { front = a ++ (b ++ (c ++ (d ++ (e ++ f)))); is = is.tokens_are ∙ sym (group_6 a b c d e f x) }
 
 -- ---- `global` lines stay

@@ -1,6 +1,8 @@
 pub mod Bare
+pub mod ChunkGaps
 pub mod ChunkLines
 pub mod Chunks
+pub mod ChunksLeft
 pub mod CutBytes
 pub mod CutFits
 pub mod CutTreeLaws
