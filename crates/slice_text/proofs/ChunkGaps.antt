@@ -1,12 +1,10 @@
 -- The gaps of a script's chunks are the gaps of its cut.
-use Rattle.std.proofs.Common.{◌≡◌, ℕ, ◌+◌, ◌-◌, Bool, true, false, ◌||◌, not, List, [], ◌∷◌, ◌++◌, length, drop, Option, None, Some, unwrap_or, if◌then◌else◌, refl, sym, ap, ◌∙◌}
-use Rattle.std.specs.List.{flat_map, list_any}
-use Rattle.std.proofs.lemmas.Bool.{false≢true}
+use Rattle.std.proofs.Common.{◌≡◌, ℕ, ◌+◌, Bool, true, false, ◌||◌, not, List, [], ◌∷◌, ◌++◌, drop, if◌then◌else◌, refl, sym, ap, ◌∙◌}
+use Rattle.std.specs.List.{flat_map}
 use Rattle.std.proofs.lemmas.Grind.{flat_map-append}
 use Rattle.py_lines.specs.declared.parts.Line.{Line}
 use Rattle.py_tree.specs.Numbering.{size_suite, size_stmt, size_branches, numbered_stmt, numbered_form, numbered_suite, numbered_branches, numbered_else, numbered_handlers}
-use Rattle.py_tree.specs.Tree.{number_of, StmtTree, FormTree, SuiteTree, one_stmt, end_suite, more_suite}
-use Rattle.py_tree.specs.Descent.{row_numbers}
+use Rattle.py_tree.specs.Tree.{number_of, StmtTree, FormTree, one_stmt, end_suite, more_suite}
 use Rattle.std.specs.Prelude.{codes}
 use Rattle.prov_base.specs.declared.place.Span.{Span}
 use Rattle.py_lines.specs.declared.parts.Token.{Token}
@@ -22,7 +20,7 @@ use Rattle.slice_text.specs.Cut.{loses_all, suite_gaps, stmt_gaps, form_gaps, br
 use Rattle.slice_text.specs.CutScript.{before, pass_spot, first_line}
 use Rattle.slice_text.proofs.CutFits.{number_numbered, back_is}
 use Rattle.slice_text.proofs.CutTreeLaws.{EndsWith, ends_2, ends_3, ends_4, ends_5, ends_6}
-use Rattle.slice_text.proofs.Chunks.{Chunk, kept, passed, gone, chunk_gaps, gone_stmt, plan_head, plan_def_head, plan_stmt, plan_suite, plan_body, plan_elifs, plan_else, plan_handlers, plan_def, plan_def_body, plan_script}
+use Rattle.slice_text.proofs.Chunks.{Chunk, kept, passed, chunk_gaps, gone_stmt, plan_head, plan_def_head, plan_stmt, plan_suite, plan_body, plan_elifs, plan_else, plan_handlers, plan_def, plan_def_body, plan_script}
 
 abbrev gaps : List Chunk → List Gap
 gaps cs = flat_map chunk_gaps cs
@@ -133,10 +131,10 @@ mutual
   stmt_gap keep n indent (simple line s) fits = sym (simple_gaps keep n line.span.to s)
   stmt_gap keep n indent (if_stmt line at test colon suite elifs orelse) fits =
       with_more (plan_head keep (n + 1) line suite) (plan_suite keep (n + 1) suite) (plan_elifs keep (n + 1 + size_suite (suite_tree line suite)) elifs ++ plan_else keep (n + 1 + (size_suite (suite_tree line suite) + size_branches (elif_trees elifs))) orelse)
-        (suite_gaps keep (loses_all keep (numbered_suite (n + 1) (suite_tree line suite))) (numbered_suite (n + 1) (suite_tree line suite)))
-        (branches_gaps keep (numbered_branches (n + 1 + size_suite (suite_tree line suite)) (elif_trees elifs)) ++ else_gaps keep (numbered_else (n + 1 + (size_suite (suite_tree line suite) + size_branches (elif_trees elifs))) (else_tree orelse)))
-        (suite_gap keep (n + 1) indent line suite (ends_3 line indent (keyword (codes "if") at) (expr_tokens test) (sign (codes ":") colon) (suite_tokens suite) fits.0) fits.1)
-        (both (plan_elifs keep (n + 1 + size_suite (suite_tree line suite)) elifs) (plan_else keep (n + 1 + (size_suite (suite_tree line suite) + size_branches (elif_trees elifs))) orelse) (branches_gaps keep (numbered_branches (n + 1 + size_suite (suite_tree line suite)) (elif_trees elifs))) (else_gaps keep (numbered_else (n + 1 + (size_suite (suite_tree line suite) + size_branches (elif_trees elifs))) (else_tree orelse))) (elifs_gap keep (n + 1 + size_suite (suite_tree line suite)) indent elifs fits.2) (else_gap keep (n + 1 + (size_suite (suite_tree line suite) + size_branches (elif_trees elifs))) indent orelse fits.3))
+      (suite_gaps keep (loses_all keep (numbered_suite (n + 1) (suite_tree line suite))) (numbered_suite (n + 1) (suite_tree line suite)))
+      (branches_gaps keep (numbered_branches (n + 1 + size_suite (suite_tree line suite)) (elif_trees elifs)) ++ else_gaps keep (numbered_else (n + 1 + (size_suite (suite_tree line suite) + size_branches (elif_trees elifs))) (else_tree orelse)))
+      (suite_gap keep (n + 1) indent line suite (ends_3 line indent (keyword (codes "if") at) (expr_tokens test) (sign (codes ":") colon) (suite_tokens suite) fits.0) fits.1)
+      (both (plan_elifs keep (n + 1 + size_suite (suite_tree line suite)) elifs) (plan_else keep (n + 1 + (size_suite (suite_tree line suite) + size_branches (elif_trees elifs))) orelse) (branches_gaps keep (numbered_branches (n + 1 + size_suite (suite_tree line suite)) (elif_trees elifs))) (else_gaps keep (numbered_else (n + 1 + (size_suite (suite_tree line suite) + size_branches (elif_trees elifs))) (else_tree orelse))) (elifs_gap keep (n + 1 + size_suite (suite_tree line suite)) indent elifs fits.2) (else_gap keep (n + 1 + (size_suite (suite_tree line suite) + size_branches (elif_trees elifs))) indent orelse fits.3))
       ∙ sym (regroup_if (suite_gaps keep (loses_all keep (numbered_suite (n + 1) (suite_tree line suite))) (numbered_suite (n + 1) (suite_tree line suite))) (branches_gaps keep (numbered_branches (n + 1 + size_suite (suite_tree line suite)) (elif_trees elifs))) (else_gaps keep (numbered_else (n + 1 + (size_suite (suite_tree line suite) + size_branches (elif_trees elifs))) (else_tree orelse))))
   stmt_gap keep n indent (while_stmt line at test colon suite) fits = suite_gap keep (n + 1) indent line suite (ends_3 line indent (keyword (codes "while") at) (expr_tokens test) (sign (codes ":") colon) (suite_tokens suite) fits.0) fits.1
   stmt_gap keep n indent (for_stmt line at t in_word e colon suite) fits = suite_gap keep (n + 1) indent line suite (ends_5 line indent (keyword (codes "for") at) (target_tokens t) (keyword (codes "in") in_word) (exprs_tokens e) (sign (codes ":") colon) (suite_tokens suite) fits.0) fits.1

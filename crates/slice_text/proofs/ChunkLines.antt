@@ -1,16 +1,16 @@
 -- The chunks of a script have its lines.
-use Rattle.std.proofs.Common.{◌≡◌, ℕ, ◌+◌, ◌-◌, Bool, true, false, ◌||◌, not, List, [], ◌∷◌, ◌++◌, length, drop, Option, None, Some, unwrap_or, if◌then◌else◌, refl, sym, ap, ◌∙◌}
-use Rattle.std.specs.List.{flat_map, list_any}
+use Rattle.std.proofs.Common.{◌≡◌, ℕ, ◌+◌, Bool, true, false, List, [], ◌∷◌, ◌++◌, drop, if◌then◌else◌, refl, ap, ◌∙◌}
+use Rattle.std.specs.List.{flat_map}
 use Rattle.std.proofs.lemmas.Grind.{flat_map-append}
 use Rattle.py_lines.specs.declared.parts.Line.{Line}
 use Rattle.py_tree.specs.Numbering.{size_suite, size_stmt, size_branches, numbered_suite}
-use Rattle.py_grammar.specs.Written.{Simple, Stmt, simple, if_stmt, while_stmt, for_stmt, try_stmt, with_stmt, def_stmt, class_stmt, Suite, on_line, block, Body, last_stmt, more_stmt, Elifs, no_elif, elif, Else, no_else_part, else_part, Handlers, last_handler, more_handler, DefSuite, def_line, def_block, DefBody, end_def, stmt_in_def, global_in_def, Script, empty_script, script}
+use Rattle.py_grammar.specs.Written.{Stmt, simple, if_stmt, while_stmt, for_stmt, try_stmt, with_stmt, def_stmt, class_stmt, Suite, on_line, block, Body, last_stmt, more_stmt, Elifs, no_elif, elif, Else, no_else_part, else_part, Handlers, last_handler, more_handler, DefSuite, def_line, def_block, DefBody, end_def, stmt_in_def, global_in_def, Script, empty_script, script}
 use Rattle.py_grammar.specs.StatementTrees.{stmt_tree, suite_tree, body_tree, elif_trees, def_body_tree}
 use Rattle.py_grammar.specs.Layout.{stmt_lines, suite_lines, body_lines, elif_lines, else_lines, handler_lines, def_lines, def_body_lines}
 use Rattle.py_grammar.specs.Grammar.{script_lines}
 use Rattle.slice_text.specs.Cut.{loses_all}
 use Rattle.slice_text.specs.CutScript.{before, first_line}
-use Rattle.slice_text.proofs.Chunks.{Chunk, kept, passed, gone, chunk_lines, chunk_left, gone_stmt, plan_head, plan_def_head, plan_stmt, plan_suite, plan_body, plan_elifs, plan_else, plan_handlers, plan_def, plan_def_body, plan_script}
+use Rattle.slice_text.proofs.Chunks.{Chunk, kept, passed, chunk_lines, gone_stmt, plan_head, plan_def_head, plan_stmt, plan_suite, plan_body, plan_elifs, plan_else, plan_handlers, plan_def, plan_def_body, plan_script}
 
 abbrev lines : List Chunk → List Line
 lines cs = flat_map chunk_lines cs
@@ -61,9 +61,9 @@ mutual
   stmt_all keep n (if_stmt line at test colon suite elifs orelse) =
       behind (plan_head keep (n + 1) line suite) _ line _ (head_line keep (n + 1) line suite)
       (both (plan_suite keep (n + 1) suite) (plan_elifs keep (n + 1 + size_suite (suite_tree line suite)) elifs ++ plan_else keep (n + 1 + (size_suite (suite_tree line suite) + size_branches (elif_trees elifs))) orelse)
-        (suite_lines suite) (elif_lines elifs ++ else_lines orelse) (suite_all keep (n + 1) suite)
-        (both (plan_elifs keep (n + 1 + size_suite (suite_tree line suite)) elifs) (plan_else keep (n + 1 + (size_suite (suite_tree line suite) + size_branches (elif_trees elifs))) orelse) (elif_lines elifs) (else_lines orelse)
-          (elifs_all keep (n + 1 + size_suite (suite_tree line suite)) elifs) (else_all keep (n + 1 + (size_suite (suite_tree line suite) + size_branches (elif_trees elifs))) orelse)))
+      (suite_lines suite) (elif_lines elifs ++ else_lines orelse) (suite_all keep (n + 1) suite)
+      (both (plan_elifs keep (n + 1 + size_suite (suite_tree line suite)) elifs) (plan_else keep (n + 1 + (size_suite (suite_tree line suite) + size_branches (elif_trees elifs))) orelse) (elif_lines elifs) (else_lines orelse)
+      (elifs_all keep (n + 1 + size_suite (suite_tree line suite)) elifs) (else_all keep (n + 1 + (size_suite (suite_tree line suite) + size_branches (elif_trees elifs))) orelse)))
   stmt_all keep n (while_stmt line at test colon suite) = behind (plan_head keep (n + 1) line suite) (plan_suite keep (n + 1) suite) line (suite_lines suite) (head_line keep (n + 1) line suite) (suite_all keep (n + 1) suite)
   stmt_all keep n (for_stmt line at t in_word e colon suite) = behind (plan_head keep (n + 1) line suite) (plan_suite keep (n + 1) suite) line (suite_lines suite) (head_line keep (n + 1) line suite) (suite_all keep (n + 1) suite)
   stmt_all keep n (try_stmt line at colon suite handlers) =

@@ -1,5 +1,5 @@
 -- What the chunks of a script leave are the lines of the cut script.
-use Rattle.std.proofs.Common.{◌≡◌, ℕ, ◌+◌, ◌-◌, Bool, true, false, ◌||◌, not, List, [], ◌∷◌, ◌++◌, length, drop, Option, None, Some, unwrap_or, if◌then◌else◌, refl, sym, ap, ◌∙◌}
+use Rattle.std.proofs.Common.{◌≡◌, ℕ, ◌+◌, Bool, true, false, ◌||◌, not, List, [], ◌∷◌, ◌++◌, Option, None, Some, unwrap_or, if◌then◌else◌, refl, sym, ap, ◌∙◌}
 use Rattle.std.specs.List.{flat_map, list_any}
 use Rattle.std.proofs.lemmas.Bool.{false≢true}
 use Rattle.std.proofs.lemmas.Grind.{flat_map-append}
@@ -7,7 +7,7 @@ use Rattle.py_lines.specs.declared.parts.Line.{Line}
 use Rattle.py_tree.specs.Numbering.{size_suite, size_stmt, size_branches, numbered_stmt, numbered_suite}
 use Rattle.py_tree.specs.Tree.{number_of}
 use Rattle.py_tree.specs.Descent.{row_numbers}
-use Rattle.py_grammar.specs.Written.{Simple, Stmt, simple, if_stmt, while_stmt, for_stmt, try_stmt, with_stmt, def_stmt, class_stmt, Suite, on_line, block, Body, last_stmt, more_stmt, Elifs, no_elif, elif, Else, no_else_part, else_part, Handlers, last_handler, more_handler, DefSuite, def_line, def_block, DefBody, end_def, stmt_in_def, global_in_def, Script, empty_script, script}
+use Rattle.py_grammar.specs.Written.{Stmt, simple, if_stmt, while_stmt, for_stmt, try_stmt, with_stmt, def_stmt, class_stmt, Suite, on_line, block, Body, last_stmt, more_stmt, Elifs, no_elif, elif, Else, no_else_part, else_part, Handlers, last_handler, more_handler, DefSuite, def_line, def_block, DefBody, end_def, stmt_in_def, global_in_def, Script, empty_script, script}
 use Rattle.py_grammar.specs.StatementTrees.{stmt_tree, suite_tree, body_tree, elif_trees, def_body_tree}
 use Rattle.py_grammar.specs.Layout.{stmt_lines, suite_lines, body_lines, elif_lines, else_lines, handler_lines, def_lines, def_body_lines}
 use Rattle.py_grammar.specs.Grammar.{script_lines}
@@ -15,7 +15,7 @@ use Rattle.slice_text.specs.Cut.{loses_all}
 use Rattle.slice_text.specs.CutScript.{before, pass_line, first_line, pass_stmt, with_first, in_place, in_def_place, cut_head, cut_def_head, cut_stmt, cut_suite, cut_body, cut_elifs, cut_else, cut_handlers, cut_def, cut_def_body, script_of_body, cut_script}
 use Rattle.slice_text.proofs.CutFits.{number_numbered}
 use Rattle.slice_text.proofs.ChunkLines.{no_more}
-use Rattle.slice_text.proofs.Chunks.{Chunk, kept, passed, gone, chunk_left, gone_stmt, plan_head, plan_def_head, plan_stmt, plan_suite, plan_body, plan_elifs, plan_else, plan_handlers, plan_def, plan_def_body, plan_script}
+use Rattle.slice_text.proofs.Chunks.{Chunk, kept, passed, chunk_left, gone_stmt, plan_head, plan_def_head, plan_stmt, plan_suite, plan_body, plan_elifs, plan_else, plan_handlers, plan_def, plan_def_body, plan_script}
 
 abbrev left : List Chunk → List Line
 left cs = flat_map chunk_left cs
@@ -112,8 +112,8 @@ mutual
   stmt_rest keep n (if_stmt line at test colon suite elifs orelse) =
       behind (plan_head keep (n + 1) line suite) (plan_suite keep (n + 1) suite ++ (plan_elifs keep (n + 1 + size_suite (suite_tree line suite)) elifs ++ plan_else keep (n + 1 + (size_suite (suite_tree line suite) + size_branches (elif_trees elifs))) orelse)) (cut_head keep (n + 1) line suite) (suite_lines (cut_suite keep (n + 1) line suite) ++ (elif_lines (cut_elifs keep (n + 1 + size_suite (suite_tree line suite)) elifs) ++ else_lines (cut_else keep (n + 1 + (size_suite (suite_tree line suite) + size_branches (elif_trees elifs))) orelse))) (head_left keep (n + 1) line suite)
       (both (plan_suite keep (n + 1) suite) (plan_elifs keep (n + 1 + size_suite (suite_tree line suite)) elifs ++ plan_else keep (n + 1 + (size_suite (suite_tree line suite) + size_branches (elif_trees elifs))) orelse)
-        (suite_lines (cut_suite keep (n + 1) line suite)) (elif_lines (cut_elifs keep (n + 1 + size_suite (suite_tree line suite)) elifs) ++ else_lines (cut_else keep (n + 1 + (size_suite (suite_tree line suite) + size_branches (elif_trees elifs))) orelse)) (suite_rest keep (n + 1) line suite)
-        (both (plan_elifs keep (n + 1 + size_suite (suite_tree line suite)) elifs) (plan_else keep (n + 1 + (size_suite (suite_tree line suite) + size_branches (elif_trees elifs))) orelse) (elif_lines (cut_elifs keep (n + 1 + size_suite (suite_tree line suite)) elifs)) (else_lines (cut_else keep (n + 1 + (size_suite (suite_tree line suite) + size_branches (elif_trees elifs))) orelse)) (elifs_rest keep (n + 1 + size_suite (suite_tree line suite)) elifs) (else_rest keep (n + 1 + (size_suite (suite_tree line suite) + size_branches (elif_trees elifs))) orelse)))
+      (suite_lines (cut_suite keep (n + 1) line suite)) (elif_lines (cut_elifs keep (n + 1 + size_suite (suite_tree line suite)) elifs) ++ else_lines (cut_else keep (n + 1 + (size_suite (suite_tree line suite) + size_branches (elif_trees elifs))) orelse)) (suite_rest keep (n + 1) line suite)
+      (both (plan_elifs keep (n + 1 + size_suite (suite_tree line suite)) elifs) (plan_else keep (n + 1 + (size_suite (suite_tree line suite) + size_branches (elif_trees elifs))) orelse) (elif_lines (cut_elifs keep (n + 1 + size_suite (suite_tree line suite)) elifs)) (else_lines (cut_else keep (n + 1 + (size_suite (suite_tree line suite) + size_branches (elif_trees elifs))) orelse)) (elifs_rest keep (n + 1 + size_suite (suite_tree line suite)) elifs) (else_rest keep (n + 1 + (size_suite (suite_tree line suite) + size_branches (elif_trees elifs))) orelse)))
   stmt_rest keep n (while_stmt line at test colon suite) = behind (plan_head keep (n + 1) line suite) (plan_suite keep (n + 1) suite) (cut_head keep (n + 1) line suite) (suite_lines (cut_suite keep (n + 1) line suite)) (head_left keep (n + 1) line suite) (suite_rest keep (n + 1) line suite)
   stmt_rest keep n (for_stmt line at t in_word e colon suite) = behind (plan_head keep (n + 1) line suite) (plan_suite keep (n + 1) suite) (cut_head keep (n + 1) line suite) (suite_lines (cut_suite keep (n + 1) line suite)) (head_left keep (n + 1) line suite) (suite_rest keep (n + 1) line suite)
   stmt_rest keep n (try_stmt line at colon suite handlers) =

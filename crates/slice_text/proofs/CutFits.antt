@@ -1,5 +1,5 @@
 -- What a cut leaves of a script fits its lines: the lines that stay have their tokens, and `pass` stands where it should.
-use Rattle.std.proofs.Common.{◌≡◌, ℕ, ◌+◌, ◌-◌, ◌<◌, Bool, true, false, IsTrue, ◌||◌, not, List, [], ◌∷◌, ◌++◌, length, take, drop, Option, None, Some, unwrap_or, if◌then◌else◌, refl, sym, ap, ◌∙◌, arith}
+use Rattle.std.proofs.Common.{◌≡◌, ℕ, ◌+◌, ◌-◌, Bool, true, false, IsTrue, ◌||◌, not, List, ◌++◌, length, take, drop, Option, None, Some, unwrap_or, if◌then◌else◌, refl, sym, ap, ◌∙◌, arith}
 use Rattle.std.specs.Prelude.{codes, ⊤}
 use Rattle.std.specs.List.{list_any}
 use Rattle.py_tree.specs.Descent.{row_numbers}
@@ -10,9 +10,8 @@ use Rattle.py_lines.specs.declared.parts.Line.{Line}
 use Rattle.py_lines.specs.declared.parts.Token.{Token}
 use Rattle.py_tree.specs.Tree.{number_of, StmtTree, SuiteTree, one_stmt}
 use Rattle.py_tree.specs.Numbering.{size_stmt, size_suite, size_branches, numbered_stmt, numbered_suite}
-use Rattle.py_grammar.specs.Concrete.{Spot}
 use Rattle.py_grammar.specs.Tokens.{keyword, sign, word, expr_tokens, exprs_tokens}
-use Rattle.py_grammar.specs.Written.{Simple, pass, Stmt, simple, if_stmt, while_stmt, for_stmt, try_stmt, with_stmt, def_stmt, class_stmt, Suite, on_line, block, Body, last_stmt, more_stmt, Elifs, no_elif, elif, Else, no_else_part, else_part, Handlers, last_handler, more_handler, DefSuite, def_line, def_block, DefBody, end_def, stmt_in_def, global_in_def, Script, empty_script, script}
+use Rattle.py_grammar.specs.Written.{Simple, Stmt, simple, if_stmt, while_stmt, for_stmt, try_stmt, with_stmt, def_stmt, class_stmt, Suite, on_line, block, Body, last_stmt, more_stmt, Elifs, no_elif, elif, Else, no_else_part, else_part, Handlers, last_handler, more_handler, DefSuite, def_line, def_block, DefBody, end_def, stmt_in_def, global_in_def, Script, empty_script, script}
 use Rattle.py_grammar.specs.StatementTokens.{simple_tokens, target_tokens, params_tokens, naming_tokens, kind_tokens, base_tokens, suite_tokens, def_suite_tokens}
 use Rattle.py_grammar.specs.StatementTrees.{stmt_tree, suite_tree, body_tree, elif_trees, def_body_tree}
 use Rattle.py_grammar.specs.Layout.{IsLine, has_stmt, FitsStmt, FitsSuite, FitsBody, FitsElifs, FitsElse, FitsHandlers, FitsDef, FitsDefBody}
@@ -170,9 +169,12 @@ def_has keep true n (stmt_in_def s rest) is has = chosen (keep n)
 mutual
   pub stmt_fits : (keep : ℕ → Bool) (n indent : ℕ) (s : Stmt) → FitsStmt indent s → FitsStmt indent (cut_stmt keep n s)
   stmt_fits keep n indent (simple line s) fits = fits
-  stmt_fits keep n indent (if_stmt line at test colon suite elifs orelse) fits =
-      (fits_3 keep (n + 1) line indent suite (keyword (codes "if") at) (expr_tokens test) (sign (codes ":") colon) fits.0, suite_fits keep (n + 1) indent line suite fits.1,
-      elifs_fit keep (n + 1 + size_suite (suite_tree line suite)) indent elifs fits.2, else_fits keep (n + 1 + (size_suite (suite_tree line suite) + size_branches (elif_trees elifs))) indent orelse fits.3)
+  stmt_fits keep n indent (if_stmt line at test colon suite elifs orelse) fits = (
+    fits_3 keep (n + 1) line indent suite (keyword (codes "if") at) (expr_tokens test) (sign (codes ":") colon) fits.0,
+    suite_fits keep (n + 1) indent line suite fits.1,
+    elifs_fit keep (n + 1 + size_suite (suite_tree line suite)) indent elifs fits.2,
+    else_fits keep (n + 1 + (size_suite (suite_tree line suite) + size_branches (elif_trees elifs))) indent orelse fits.3,
+  )
   stmt_fits keep n indent (while_stmt line at test colon suite) fits =
       (fits_3 keep (n + 1) line indent suite (keyword (codes "while") at) (expr_tokens test) (sign (codes ":") colon) fits.0, suite_fits keep (n + 1) indent line suite fits.1)
   stmt_fits keep n indent (for_stmt line at t in_word e colon suite) fits =

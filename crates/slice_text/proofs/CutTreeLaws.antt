@@ -1,16 +1,14 @@
 -- The tree of what a cut leaves of a script is the tree of the script with the statements deleted, but for numbers and bytes.
-use Rattle.std.proofs.Common.{◌≡◌, ℕ, ◌+◌, ◌-◌, Bool, true, false, List, [], ◌∷◌, ◌++◌, length, drop, Option, None, Some, unwrap_or, if◌then◌else◌, refl, sym, ap, ◌∙◌}
+use Rattle.std.proofs.Common.{◌≡◌, ℕ, ◌+◌, Bool, true, false, List, [], ◌∷◌, ◌++◌, drop, Option, None, Some, unwrap_or, if◌then◌else◌, refl, sym, ap, ◌∙◌}
 use Rattle.std.specs.Prelude.{codes}
 use Rattle.std.proofs.lemmas.Bool.{false≢true}
-use Rattle.std.proofs.lemmas.List.{append_assoc}
 use Rattle.prov_base.specs.declared.place.Pos.{Pos}
 use Rattle.py_lines.specs.declared.parts.Line.{Line}
 use Rattle.py_lines.specs.declared.parts.Token.{Token}
-use Rattle.py_tree.specs.Tree.{number_of, StmtTree, FormTree, SuiteTree, BranchesTree, ElseTree, HandlersTree, ScriptTree, one_stmt, pass_form, if_form, while_form, for_form, try_form, with_form, def_form, class_form, end_suite, more_suite, end_branches, more_branches, no_else, else_suite, end_handlers, more_handlers}
+use Rattle.py_tree.specs.Tree.{StmtTree, FormTree, SuiteTree, ScriptTree, one_stmt, pass_form, while_form, for_form, with_form, def_form, class_form, end_suite, more_suite, else_suite, end_handlers, more_handlers}
 use Rattle.py_tree.specs.Numbering.{size_stmt, size_suite, size_branches, numbered_stmt, numbered_form, numbered_suite, numbered_branches, numbered_else, numbered_handlers}
 use Rattle.py_tree.specs.Deletion.{pass_at, or_pass, kept_suite, kept_stmt, kept_form, kept_branches, kept_else, kept_handlers, deleted}
 use Rattle.py_tree.specs.Unplaced.{no_bytes}
-use Rattle.py_grammar.specs.Concrete.{Spot}
 use Rattle.py_grammar.specs.Trees.{expr_tree, exprs_tree}
 use Rattle.py_grammar.specs.Tokens.{keyword, sign, word, expr_tokens, exprs_tokens}
 use Rattle.py_grammar.specs.Written.{Simple, expression, assign, augmented, del, pass, break, continue, return, return_value, raise, raise_value, assert, assert_message, import_module, Stmt, simple, if_stmt, while_stmt, for_stmt, try_stmt, with_stmt, def_stmt, class_stmt, Suite, on_line, block, Body, last_stmt, more_stmt, Elifs, no_elif, elif, Else, no_else_part, else_part, Handlers, last_handler, more_handler, DefSuite, def_line, def_block, DefBody, end_def, stmt_in_def, global_in_def, Script, empty_script, script}
@@ -21,7 +19,7 @@ use Rattle.py_grammar.specs.Grammar.{FitsScript}
 use Rattle.slice_text.specs.Cut.{loses_all}
 use Rattle.slice_text.specs.Spanless.{spanless, spanless_suite}
 use Rattle.slice_text.proofs.Bare.{bare_suite, bare_stmt, bare_form, bare_branches, bare_else, bare_handlers, suite_size, suite_anew}
-use Rattle.slice_text.specs.CutScript.{pass_spot, pass_line, before, cut_head, cut_def_head, pass_for, first_line, pass_stmt, with_first, in_place, in_def_place, cut_stmt, cut_suite, cut_body, cut_elifs, cut_else, cut_handlers, cut_def, cut_def_body, script_of_body, cut_script}
+use Rattle.slice_text.specs.CutScript.{pass_spot, before, cut_head, cut_def_head, pass_for, first_line, pass_stmt, with_first, in_place, in_def_place, cut_stmt, cut_suite, cut_body, cut_elifs, cut_else, cut_handlers, cut_def, cut_def_body, script_of_body, cut_script}
 use Rattle.slice_text.proofs.CutFits.{back_is, number_numbered, group_2, group_3, group_4, group_5, group_6}
 use Rattle.slice_text.proofs.CutTrees.{filled_suite, not_filled, or_filled}
 
@@ -201,9 +199,11 @@ mutual
   pub stmt_left : (keep : ℕ → Bool) (n indent : ℕ) (s : Stmt) → FitsStmt indent s → bare_stmt (stmt_tree (cut_stmt keep n s)) ≡ bare_stmt (kept_stmt keep (numbered_stmt n (stmt_tree s)))
   stmt_left keep n indent (simple line s) fits = simple_kept keep n line.span.to line.span.to s
   stmt_left keep n indent (if_stmt line at test colon suite elifs orelse) fits =
-      rw (suite_left keep (n + 1) indent line suite (ends_3 line indent (keyword (codes "if") at) (expr_tokens test) (sign (codes ":") colon) (suite_tokens suite) fits.0) fits.1,
-      elifs_left keep (n + 1 + size_suite (suite_tree line suite)) indent elifs fits.2,
-      else_left keep (n + 1 + (size_suite (suite_tree line suite) + size_branches (elif_trees elifs))) indent orelse fits.3)
+      rw (
+        suite_left keep (n + 1) indent line suite (ends_3 line indent (keyword (codes "if") at) (expr_tokens test) (sign (codes ":") colon) (suite_tokens suite) fits.0) fits.1,
+        elifs_left keep (n + 1 + size_suite (suite_tree line suite)) indent elifs fits.2,
+        else_left keep (n + 1 + (size_suite (suite_tree line suite) + size_branches (elif_trees elifs))) indent orelse fits.3,
+      )
   stmt_left keep n indent (while_stmt line at test colon suite) fits =
       ap (λ b. one_stmt 0 at.at no_bytes (while_form (expr_tree test) b))
       (suite_left keep (n + 1) indent line suite (ends_3 line indent (keyword (codes "while") at) (expr_tokens test) (sign (codes ":") colon) (suite_tokens suite) fits.0) fits.1)
@@ -211,15 +211,17 @@ mutual
       ap (λ b. one_stmt 0 at.at no_bytes (for_form (target_tree t) (exprs_tree e) b))
       (suite_left keep (n + 1) indent line suite (ends_5 line indent (keyword (codes "for") at) (target_tokens t) (keyword (codes "in") in_word) (exprs_tokens e) (sign (codes ":") colon) (suite_tokens suite) fits.0) fits.1)
   stmt_left keep n indent (try_stmt line at colon suite handlers) fits =
-      rw (suite_left keep (n + 1) indent line suite (ends_2 line indent (keyword (codes "try") at) (sign (codes ":") colon) (suite_tokens suite) fits.0) fits.1,
-      handlers_left keep (n + 1 + size_suite (suite_tree line suite)) indent handlers fits.2)
+      rw (
+        suite_left keep (n + 1) indent line suite (ends_2 line indent (keyword (codes "try") at) (sign (codes ":") colon) (suite_tokens suite) fits.0) fits.1,
+        handlers_left keep (n + 1 + size_suite (suite_tree line suite)) indent handlers fits.2,
+      )
   stmt_left keep n indent (with_stmt line at e name colon suite) fits =
       ap (λ b. one_stmt 0 at.at no_bytes (with_form (expr_tree e) (naming_bound name) b))
       (suite_left keep (n + 1) indent line suite (ends_4 line indent (keyword (codes "with") at) (expr_tokens e) (naming_tokens name) (sign (codes ":") colon) (suite_tokens suite) fits.0) fits.1)
   stmt_left keep n indent (def_stmt line at name_at bytes opening names closing colon suite) fits =
       ap (λ g. one_stmt 0 at.at no_bytes (def_form bytes (params_list names) g (bare_suite (def_tree (cut_def_head keep (n + 1) line suite) (cut_def keep (n + 1) line suite))))) (suite_globals keep (n + 1) line suite)
       ∙ ap (λ b. one_stmt 0 at.at no_bytes (def_form bytes (params_list names) (globals_of suite) b))
-        (def_left keep (n + 1) indent line suite (ends_6 line indent (keyword (codes "def") at) (word bytes name_at) (sign (codes "(") opening) (params_tokens names) (sign (codes ")") closing) (sign (codes ":") colon) (def_suite_tokens suite) fits.0) fits.1)
+      (def_left keep (n + 1) indent line suite (ends_6 line indent (keyword (codes "def") at) (word bytes name_at) (sign (codes "(") opening) (params_tokens names) (sign (codes ")") closing) (sign (codes ":") colon) (def_suite_tokens suite) fits.0) fits.1)
   stmt_left keep n indent (class_stmt line at name_at bytes of colon suite) fits =
       ap (λ b. one_stmt 0 at.at no_bytes (class_form bytes (base_tree of) b))
       (suite_left keep (n + 1) indent line suite (ends_4 line indent (keyword (codes "class") at) (word bytes name_at) (base_tokens of) (sign (codes ":") colon) (suite_tokens suite) fits.0) fits.1)
@@ -241,8 +243,10 @@ mutual
   pub elifs_left : (keep : ℕ → Bool) (n indent : ℕ) (elifs : Elifs) → FitsElifs indent elifs → bare_branches (elif_trees (cut_elifs keep n elifs)) ≡ bare_branches (kept_branches keep (numbered_branches n (elif_trees elifs)))
   elifs_left keep n indent no_elif fits = refl
   elifs_left keep n indent (elif line at test colon suite rest) fits =
-      rw (suite_left keep n indent line suite (ends_3 line indent (keyword (codes "elif") at) (expr_tokens test) (sign (codes ":") colon) (suite_tokens suite) fits.0) fits.1,
-      elifs_left keep (n + size_suite (suite_tree line suite)) indent rest fits.2)
+      rw (
+        suite_left keep n indent line suite (ends_3 line indent (keyword (codes "elif") at) (expr_tokens test) (sign (codes ":") colon) (suite_tokens suite) fits.0) fits.1,
+        elifs_left keep (n + size_suite (suite_tree line suite)) indent rest fits.2,
+      )
 
   pub else_left : (keep : ℕ → Bool) (n indent : ℕ) (orelse : Else) → FitsElse indent orelse → bare_else (else_tree (cut_else keep n orelse)) ≡ bare_else (kept_else keep (numbered_else n (else_tree orelse)))
   else_left keep n indent no_else_part fits = refl
@@ -254,8 +258,10 @@ mutual
       ap (λ b. more_handlers (kind_class kind) (kind_bound kind) b end_handlers)
       (suite_left keep n indent line suite (ends_3 line indent (keyword (codes "except") at) (kind_tokens kind) (sign (codes ":") colon) (suite_tokens suite) fits.0) fits.1)
   handlers_left keep n indent (more_handler line at kind colon suite rest) fits =
-      rw (suite_left keep n indent line suite (ends_3 line indent (keyword (codes "except") at) (kind_tokens kind) (sign (codes ":") colon) (suite_tokens suite) fits.0) fits.1,
-      handlers_left keep (n + size_suite (suite_tree line suite)) indent rest fits.2)
+      rw (
+        suite_left keep n indent line suite (ends_3 line indent (keyword (codes "except") at) (kind_tokens kind) (sign (codes ":") colon) (suite_tokens suite) fits.0) fits.1,
+        handlers_left keep (n + size_suite (suite_tree line suite)) indent rest fits.2,
+      )
 
   pub def_left : (keep : ℕ → Bool) (n indent : ℕ) (line : Line) (suite : DefSuite) → EndsWith line (def_suite_tokens suite) → FitsDef indent suite
       → bare_suite (def_tree (cut_def_head keep n line suite) (cut_def keep n line suite)) ≡ bare_suite (or_pass (numbered_suite n (def_tree line suite)) (kept_suite keep (numbered_suite n (def_tree line suite))))
@@ -283,7 +289,7 @@ script_left keep (script body) fits =
 abbrev script_with : SuiteTree → ℕ → ScriptTree
 script_with body count = record { body = body; count = count }
 
-same_script : (a b : SuiteTree) → bare_suite a ≡ bare_suite b → script_with (spanless_suite (numbered_suite 0 a)) (size_suite a) ≡ script_with (spanless_suite (numbered_suite 0 b)) (size_suite b)
+pub same_script : (a b : SuiteTree) → bare_suite a ≡ bare_suite b → script_with (spanless_suite (numbered_suite 0 a)) (size_suite a) ≡ script_with (spanless_suite (numbered_suite 0 b)) (size_suite b)
 same_script a b is =
     let bodies : spanless_suite (numbered_suite 0 a) ≡ spanless_suite (numbered_suite 0 b) = suite_anew 0 a ∙ (ap (numbered_suite 0) is ∙ sym (suite_anew 0 b)) in
     let counts : size_suite a ≡ size_suite b = sym (suite_size a) ∙ (ap size_suite is ∙ suite_size b) in

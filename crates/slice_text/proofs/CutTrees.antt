@@ -1,18 +1,11 @@
 -- The tree of what a cut leaves of a script is the tree of the script with the statements deleted, but for numbers and bytes.
-use Rattle.std.proofs.Common.{◌≡◌, ℕ, ◌+◌, ◌-◌, Bool, true, false, ◌||◌, not, List, [], ◌∷◌, ◌++◌, length, drop, Option, None, Some, unwrap_or, if◌then◌else◌, refl, sym, ap, ◌∙◌}
-use Rattle.std.specs.Prelude.{codes}
+use Rattle.std.proofs.Common.{◌≡◌, ℕ, Bool, true, false, ◌||◌, not, if◌then◌else◌, refl, sym, ap, ◌∙◌}
 use Rattle.std.specs.List.{list_any}
 use Rattle.std.proofs.lemmas.Bool.{false≢true}
-use Rattle.prov_base.specs.declared.place.Pos.{Pos}
-use Rattle.py_lines.specs.declared.parts.Line.{Line}
-use Rattle.py_lines.specs.declared.parts.Token.{Token}
-use Rattle.py_tree.specs.Tree.{number_of, ExprTree, StmtTree, FormTree, SuiteTree, BranchesTree, ElseTree, HandlersTree, one_stmt, pass_form, if_form, while_form, for_form, try_form, with_form, def_form, class_form, end_suite, more_suite, end_branches, more_branches, no_else, else_suite, end_handlers, more_handlers}
-use Rattle.py_tree.specs.Numbering.{size_stmt, size_suite, size_branches, numbered_stmt, numbered_form, numbered_suite, numbered_branches, numbered_else, numbered_handlers}
-use Rattle.py_tree.specs.Deletion.{pass_at, or_pass, kept_suite, kept_stmt, kept_form, kept_branches, kept_else, kept_handlers}
+use Rattle.py_tree.specs.Tree.{number_of, StmtTree, SuiteTree, end_suite, more_suite}
+use Rattle.py_tree.specs.Deletion.{pass_at, or_pass, kept_suite, kept_stmt}
 use Rattle.py_tree.specs.Descent.{row_numbers}
-use Rattle.py_tree.specs.Unplaced.{no_bytes}
 use Rattle.slice_text.specs.Cut.{loses_all}
-use Rattle.slice_text.proofs.Bare.{bare_suite, bare_stmt, bare_form, bare_branches, bare_else, bare_handlers}
 
 -- ---- deletion with the `pass` of an emptied suite put in on the way
 

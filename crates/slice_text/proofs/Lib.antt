@@ -8,6 +8,7 @@ pub mod CutFits
 pub mod CutTreeLaws
 pub mod CutTrees
 pub mod FormGaps
+pub mod LeftLines
 pub mod LineEnds
 pub mod Moved
 pub mod MovedSimples

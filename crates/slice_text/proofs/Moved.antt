@@ -1,6 +1,5 @@
 -- The grammar looks at no byte spans: expressions and simple statements whose tokens have other spans. Their syntax trees are
 -- the same, since these have places alone.
-use Rattle.std.specs.Prelude.{ℕ, List}
 use Rattle.prov_base.specs.declared.place.Pos.{Pos}
 use Rattle.prov_base.specs.declared.place.Span.{Span}
 use Rattle.py_lines.specs.declared.parts.Token.{Token}

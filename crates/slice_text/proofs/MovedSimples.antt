@@ -1,5 +1,5 @@
 -- Moved simple statements, and moved parts of compound ones, have the moved tokens and the same trees.
-use Rattle.std.proofs.Common.{◌≡◌, ℕ, List, [], ◌++◌, map, refl}
+use Rattle.std.proofs.Common.{◌≡◌, ◌++◌, map, refl}
 use Rattle.std.specs.Prelude.{codes}
 use Rattle.py_grammar.specs.Written.{OneTarget, named, item, field, TargetRest, end_rest_target, last_target, more_target, Target, one_target, several_targets, Simple, expression, assign, augmented, del, pass, break, continue, return, return_value, raise, raise_value, assert, assert_message, import_module, Names, last_name, more_names, Params, no_params, params, params_comma, Naming, no_naming, naming, Kind, every_kind, one_kind, Base, no_base, empty_base, base}
 use Rattle.py_grammar.specs.Tokens.{keyword, sign, word, expr_tokens, prim_tokens, exprs_tokens}

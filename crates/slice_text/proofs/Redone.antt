@@ -1,15 +1,15 @@
 -- The grammar looks at no byte spans: lines whose tokens have other spans have a script too, with the same tree but for its
 -- byte spans.
-use Rattle.std.proofs.Common.{◌≡◌, ℕ, ◌<◌, Bool, IsTrue, List, [], ◌∷◌, ◌++◌, map, refl, sym, ap, subst, ◌∙◌}
+use Rattle.std.proofs.Common.{◌≡◌, ℕ, List, [], ◌∷◌, ◌++◌, map, refl, sym, ap, ◌∙◌}
 use Rattle.std.specs.Prelude.{codes, ⊤}
 use Rattle.py_lines.specs.declared.parts.Line.{Line}
 use Rattle.py_lines.specs.declared.parts.Token.{Token}
-use Rattle.py_tree.specs.Tree.{StmtTree, FormTree, SuiteTree, BranchesTree, ElseTree, HandlersTree, one_stmt, if_form, while_form, for_form, try_form, with_form, def_form, class_form, end_suite, more_suite, more_branches, else_suite, end_handlers, more_handlers}
+use Rattle.py_tree.specs.Tree.{one_stmt, end_suite, more_suite, else_suite}
 use Rattle.py_tree.specs.Unplaced.{no_bytes}
 use Rattle.py_grammar.specs.Tokens.{keyword, sign, word, expr_tokens, exprs_tokens}
-use Rattle.py_grammar.specs.Written.{Simple, Stmt, simple, if_stmt, while_stmt, for_stmt, try_stmt, with_stmt, def_stmt, class_stmt, Suite, on_line, block, Body, last_stmt, more_stmt, Elifs, no_elif, elif, Else, no_else_part, else_part, Handlers, last_handler, more_handler, DefSuite, def_line, def_block, DefBody, end_def, stmt_in_def, global_in_def, Script, empty_script, script}
+use Rattle.py_grammar.specs.Written.{Simple, Stmt, simple, if_stmt, while_stmt, for_stmt, try_stmt, with_stmt, def_stmt, class_stmt, Suite, on_line, block, Body, last_stmt, more_stmt, Elifs, no_elif, elif, Else, no_else_part, else_part, Handlers, last_handler, more_handler, DefSuite, def_line, def_block, DefBody, end_def, stmt_in_def, global_in_def}
 use Rattle.py_grammar.specs.StatementTokens.{simple_tokens, target_tokens, names_tokens, params_tokens, naming_tokens, kind_tokens, base_tokens, suite_tokens, def_suite_tokens}
-use Rattle.py_grammar.specs.StatementTrees.{simple_form, names_list, def_globals, globals_of, simple_tree, stmt_tree, suite_tree, body_tree, elif_trees, else_tree, handler_trees, def_tree, def_body_tree, script_body}
+use Rattle.py_grammar.specs.StatementTrees.{simple_form, def_globals, globals_of, simple_tree, stmt_tree, suite_tree, body_tree, elif_trees, else_tree, handler_trees, def_tree, def_body_tree}
 use Rattle.py_grammar.specs.Layout.{IsLine, has_stmt, stmt_lines, suite_lines, body_lines, elif_lines, else_lines, handler_lines, def_lines, def_body_lines, FitsStmt, FitsSuite, FitsBody, FitsElifs, FitsElse, FitsHandlers, FitsDef, FitsDefBody}
 use Rattle.slice_text.specs.CutScript.{pass_spot}
 use Rattle.slice_text.proofs.Bare.{bare_suite, bare_stmt, bare_form, bare_branches, bare_else, bare_handlers}
@@ -55,7 +55,7 @@ line_moved m line other indent tokens tokens' moved is same = record {
 joined : (a b x y all : List Line) → x ≡ a → y ≡ b → all ≡ a ++ b → x ++ y ≡ all
 joined a b x y all one two are = ap (λ (ls : List Line). ls ++ y) one ∙ (ap (λ (ls : List Line). a ++ ls) two ∙ sym are)
 
-none_moved : (m : Move) (others : List Line) → AreMoved m [] others → [] ≡ others
+pub none_moved : (m : Move) (others : List Line) → AreMoved m [] others → [] ≡ others
 none_moved m [] are = refl
 none_moved m (other ∷ others) are = absurd are
 
@@ -75,7 +75,7 @@ simple_moved m to to' s =
 
 -- ---- what is written, over other lines
 
-record NewStmt (m : Move) (indent : ℕ) (s : Stmt) (others : List Line) : Type 0 where
+pub record NewStmt (m : Move) (indent : ℕ) (s : Stmt) (others : List Line) : Type 0 where
   pub new : Stmt
   pub lines_are : stmt_lines new ≡ others
   pub fits : FitsStmt indent new
@@ -88,7 +88,7 @@ record NewSuite (m : Move) (indent : ℕ) (s : Suite) (others : List Line) : Typ
   pub tokens : suite_tokens new ≡ map (moved_token m) (suite_tokens s)
   pub tree : (line line' : Line) → bare_suite (suite_tree line new) ≡ bare_suite (suite_tree line' s)
 
-record NewBody (m : Move) (indent : ℕ) (s : Body) (others : List Line) : Type 0 where
+pub record NewBody (m : Move) (indent : ℕ) (s : Body) (others : List Line) : Type 0 where
   pub new : Body
   pub lines_are : body_lines new ≡ others
   pub fits : FitsBody indent new
@@ -238,7 +238,7 @@ mutual
       let a = body_new m inside body others fits.1 are in
       record { new = block inside a.new; lines_are = a.lines_are; fits = (fits.0, a.fits); tokens = refl; tree = λ line line'. a.tree }
 
-  body_new : (m : Move) (indent : ℕ) (s : Body) (others : List Line) → FitsBody indent s → AreMoved m (body_lines s) others → NewBody m indent s others
+  pub body_new : (m : Move) (indent : ℕ) (s : Body) (others : List Line) → FitsBody indent s → AreMoved m (body_lines s) others → NewBody m indent s others
   body_new m indent (last_stmt s) others fits are =
       let a = stmt_new m indent s others fits are in
       record { new = last_stmt a.new; lines_are = a.lines_are; fits = a.fits; tree = ap (λ t. more_suite t end_suite) a.tree }
@@ -322,8 +322,11 @@ mutual
       record {
         new = global_in_def o (moved_spot m at) (moved_names m names) b.new;
         lines_are = ap (λ (ls : List Line). o ∷ ls) b.lines_are;
-        fits = (line_moved m line o indent (keyword (codes "global") at ++ names_tokens names) (keyword (codes "global") (moved_spot m at) ++ names_tokens (moved_names m names)) are.0 fits.0
-            (both m (keyword (codes "global") at) (names_tokens names) (keyword (codes "global") (moved_spot m at)) (names_tokens (moved_names m names)) refl (names_tokens_moved m names)), b.fits);
+        fits = (
+          line_moved m line o indent (keyword (codes "global") at ++ names_tokens names) (keyword (codes "global") (moved_spot m at) ++ names_tokens (moved_names m names)) are.0 fits.0
+              (both m (keyword (codes "global") at) (names_tokens names) (keyword (codes "global") (moved_spot m at)) (names_tokens (moved_names m names)) refl (names_tokens_moved m names)),
+          b.fits,
+        );
         has = b.has;
         globals = rw (names_list_same m names, b.globals);
         tree = b.tree;

@@ -1,10 +1,10 @@
 -- A set of all statements leaves no gap, and a text without gaps stays.
-use Rattle.std.proofs.Common.{◌≡◌, ℕ, ◌+◌, ◌<◌, ◌≤◌, Bool, true, false, IsTrue, List, [], ◌∷◌, ◌++◌, if◌then◌else◌, refl, ap, sym, ◌∙◌, arith}
+use Rattle.std.proofs.Common.{◌≡◌, ℕ, ◌+◌, ◌<◌, ◌≤◌, Bool, true, false, IsTrue, List, [], ◌∷◌, ◌++◌, if◌then◌else◌, refl, ap, ◌∙◌, arith}
 use Rattle.py_lines.specs.Piece.{ends_line}
-use Rattle.py_tree.specs.Tree.{number_of, StmtTree, FormTree, SuiteTree, BranchesTree, ElseTree, HandlersTree, ScriptTree, one_stmt, if_form, while_form, for_form, try_form, with_form, def_form, class_form, end_suite, more_suite, end_branches, more_branches, no_else, else_suite, end_handlers, more_handlers}
+use Rattle.py_tree.specs.Tree.{StmtTree, FormTree, SuiteTree, BranchesTree, ElseTree, HandlersTree, ScriptTree, one_stmt, if_form, while_form, for_form, try_form, with_form, def_form, class_form, end_suite, more_suite, end_branches, more_branches, no_else, else_suite, end_handlers, more_handlers}
 use Rattle.py_tree.specs.Numbering.{size_stmt, size_form, size_suite, size_branches, size_else, size_handlers, numbered_stmt, numbered_form, numbered_suite, numbered_branches, numbered_else, numbered_handlers, IsNumbered}
 use Rattle.slice_text.specs.declared.gaps.Gap.{Gap}
-use Rattle.slice_text.specs.Cut.{loses_all, suite_gaps, stmt_gaps, form_gaps, branches_gaps, else_gaps, handlers_gaps, script_gaps, is_in, is_filled, letter_or, cut_from, cut_text}
+use Rattle.slice_text.specs.Cut.{loses_all, suite_gaps, stmt_gaps, form_gaps, branches_gaps, else_gaps, handlers_gaps, is_in, is_filled, letter_or, cut_from, cut_text}
 
 -- all numbers from n on, so many, are in the set
 abbrev HasFrom : (ℕ → Bool) → ℕ → ℕ → Type 0

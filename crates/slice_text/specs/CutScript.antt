@@ -1,7 +1,6 @@
 -- A script as it is written, without the statements outside a set: what a cut leaves, with its lines as they were. The byte
 -- spans are those of the uncut text.
-use Rattle.std.specs.Prelude.{ℕ, ◌+◌, ◌-◌, Bool, true, false, not, List, [], ◌∷◌, ◌++◌, length, take, drop, codes, Option, None, Some, unwrap_or, if◌then◌else◌}
-use Rattle.prov_base.specs.declared.place.Span.{Span}
+use Rattle.std.specs.Prelude.{ℕ, ◌+◌, ◌-◌, Bool, true, false, List, [], ◌∷◌, ◌++◌, length, take, drop, codes, Option, None, Some, unwrap_or, if◌then◌else◌}
 use Rattle.py_lines.specs.declared.parts.Line.{Line}
 use Rattle.py_lines.specs.declared.parts.Token.{Token}
 use Rattle.py_tree.specs.Numbering.{size_suite, size_stmt, size_branches, numbered_suite}
@@ -9,8 +8,7 @@ use Rattle.py_grammar.specs.Concrete.{Spot}
 use Rattle.py_grammar.specs.Tokens.{keyword}
 use Rattle.py_grammar.specs.Written.{Simple, pass, Stmt, simple, if_stmt, while_stmt, for_stmt, try_stmt, with_stmt, def_stmt, class_stmt, Suite, on_line, block, Body, last_stmt, more_stmt, Elifs, no_elif, elif, Else, no_else_part, else_part, Handlers, last_handler, more_handler, DefSuite, def_line, def_block, DefBody, end_def, stmt_in_def, global_in_def, Script, empty_script, script}
 use Rattle.py_grammar.specs.StatementTokens.{simple_tokens}
-use Rattle.py_grammar.specs.StatementTrees.{stmt_tree, suite_tree, body_tree, elif_trees, handler_trees, def_body_tree}
-use Rattle.py_grammar.specs.Layout.{stmt_lines}
+use Rattle.py_grammar.specs.StatementTrees.{stmt_tree, suite_tree, body_tree, elif_trees, def_body_tree}
 use Rattle.slice_text.specs.Cut.{loses_all}
 
 -- ---- `pass` in a line
