@@ -1,10 +1,14 @@
+pub mod Balanced
+pub mod BalancedSimples
 pub mod Bare
+pub mod BlankPieces
 pub mod ChunkGaps
 pub mod ChunkLines
 pub mod Chunks
 pub mod ChunksLeft
 pub mod CutBytes
 pub mod CutFits
+pub mod CutRows
 pub mod CutTreeLaws
 pub mod CutTrees
 pub mod FormGaps
