@@ -8,7 +8,7 @@ use Rattle.py_tree.specs.declared.stmt.Stmt.{Stmt}
 use Rattle.py_tree.specs.declared.stmt.Suite.{roll-Suite}
 use Rattle.py_tree.specs.Erasure.{stmt_of, suite_of}
 use Rattle.py_tree.specs.Tree.{StmtTree, SuiteTree, ScriptTree}
-use Rattle.py_tree.specs.Numbering.{numbered_suite, size_suite}
+use Rattle.py_tree.specs.Numbering.{numbered_suite, size_suite, IsNumbered}
 use Rattle.py_grammar.specs.declared.fault.ParseFault.{ParseFault}
 use Rattle.py_grammar.specs.declared.fault.ParseFault.TheVariants.{Unexpected, Unsupported, BadIndent, TooDeep, TooMany, Memory}
 use Rattle.py_grammar.specs.Written.{Script, empty_script, script}
@@ -29,6 +29,7 @@ use Rattle.py_parser.proofs.RowStatements.{script_is}
 use Rattle.py_parser.proofs.Grown.{script_grown, script_size}
 use Rattle.py_parser.proofs.RowLimits.{script_may}
 use Rattle.py_parser.proofs.RowKept.{script_fine}
+use Rattle.py_tree.proofs.DeletionLaws.{suite_again, suite_size}
 use Rattle.py_parser.proofs.BlockForms.{rolled}
 use Rattle.py_parser.proofs.Peeled.{one_indent}
 
@@ -195,3 +196,7 @@ only_memory lines (Unsupported place) tree f s = absurd (never_both lines (Unsup
 only_memory lines (BadIndent place) tree f s = absurd (never_both lines (BadIndent place) tree f s)
 only_memory lines (TooDeep place) tree f s = absurd (never_both lines (TooDeep place) tree f s)
 only_memory lines (TooMany place) tree f s = absurd (never_both lines (TooMany place) tree f s)
+
+-- the statements of a script are numbered
+pub numbered_script : (lines : List Line) (tree : ScriptTree) → IsScript lines tree → IsNumbered tree
+numbered_script lines tree s = subst IsNumbered (sym s.tree_is) (record { in_order = suite_again 0 0 (script_body s.written); counted = suite_size 0 (script_body s.written) })

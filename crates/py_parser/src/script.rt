@@ -1,6 +1,7 @@
 // A script from its logical lines.
 ghost use Rattle.std.specs.Prelude.{◌≡◌, IfOk, IfErr};
 ghost use Rattle.py_tree.specs.Erasure.{script_of};
+ghost use Rattle.py_tree.specs.Numbering.{IsNumbered};
 ghost use Rattle.py_tree.specs.Tree.{ScriptTree};
 ghost use Rattle.py_grammar.specs.declared.fault.ParseFault.TheVariants.{Memory};
 ghost use Rattle.py_parser.specs.Script.{IsScript};
@@ -20,6 +21,7 @@ use std::alloc::Global;
 /// `ParseFault` says so.
 pub fn parse(alloc: Global, lines: &Lines) -> Result<Script, ParseFault>
     ensures found { IfOk result (λ script. IsScript lines.now (script_of script)) }
+    ensures numbered { IfOk result (λ script. IsNumbered (script_of script)) }
     // Where the lines are a script, no other answer is given but want of memory.
     ensures complete { (tree : ScriptTree) → IsScript lines.now tree → IfErr result (λ fault. fault ≡ Memory) }
     ensures refused { IfErr result (IsFault lines.now) }

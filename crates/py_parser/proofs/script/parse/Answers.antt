@@ -2,12 +2,17 @@ use Rattle.std.proofs.Common.{rules, ap, sym, ◌∙◌, subst}
 use Rattle.py_grammar.specs.declared.fault.ParseFault.TheVariants.{BadIndent}
 use Rattle.py_parser.specs.Faults.{origin, first_place, FirstFault}
 use Rattle.py_parser.proofs.CycleParts.{no_first, some_first}
-use Rattle.py_parser.proofs.Parsing.{read_script_there, empty_script_is, stopped_there, indented_first, only_memory}
+use Rattle.py_parser.proofs.Parsing.{read_script_there, empty_script_is, stopped_there, indented_first, only_memory, numbered_script}
 use Rattle.py_parser.proofs.script.parse.Goals as goal
 
 -- src/script.rt
 pub returns-in_default-clause-found : goal.returns-in_default-clause-found
 returns-in_default-clause-found c = empty_script_is c.args.lines.now c.as_slice-lines.result.now c.new.result c.as_slice-lines.ensures (no_first _ c.in_default.ensures.value) c.new.ensures.items
+
+-- src/script.rt
+pub returns-in_default-clause-numbered : goal.returns-in_default-clause-numbered
+returns-in_default-clause-numbered c =
+    numbered_script c.args.lines.now _ (empty_script_is c.args.lines.now c.as_slice-lines.result.now c.new.result c.as_slice-lines.ensures (no_first _ c.in_default.ensures.value) c.new.ensures.items)
 
 -- src/script.rt
 pub returns-then-first-ne0-clause-refused : goal.returns-then-first-ne0-clause-refused
@@ -32,3 +37,9 @@ returns-in_err-built-clause-refused c =
 pub returns-clause-found : goal.returns-clause-found
 returns-clause-found c =
     read_script_there c.args.lines.now c.as_slice-lines.result.now _ _ c.in_ok-built.built c.rows.new.self.count origin _ c.as_slice-lines.ensures c.module.ensures c.in_ok-built.ensures.found
+
+-- src/script.rt
+pub returns-clause-numbered : goal.returns-clause-numbered
+returns-clause-numbered c =
+    numbered_script c.args.lines.now _
+    (read_script_there c.args.lines.now c.as_slice-lines.result.now _ _ c.in_ok-built.built c.rows.new.self.count origin _ c.as_slice-lines.ensures c.module.ensures c.in_ok-built.ensures.found)
