@@ -69,7 +69,7 @@ fn place(
     expect_map(rt, alloc, store, map)
 }
 
-// It is run with each allocation failing in turn: a refused call changes nothing, and can be made again.
+// For runs in which an allocation fails: a refused call changes nothing, and can be made again.
 #[test]
 fn refused_calls_change_nothing(rt: HostRuntime) -> Result<(), Fail> {
     let mut values = Values::new(rt.alloc())?;

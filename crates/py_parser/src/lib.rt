@@ -3,6 +3,9 @@
 //! Lines are read one indentation at a time, each by `py_grammar`, and put together to statements as they come. What is accepted
 //! is `specs/Script.antt`, and what a fault is `specs/Faults.antt`; the other definitions are the parser's own, and no public
 //! clause speaks of them.
+//!
+//! What takes memory may answer Memory at any call: no contract ties that answer to a cause, so a body that always gives it
+//! would be proved too. Tests show that the calls succeed.
 #![tactic(auto)]
 
 mod blocks;
