@@ -48,7 +48,8 @@ shows (below indent) lines = Below indent lines
 shows no_line [] = ⊤
 shows no_line (line ∷ lines) = ⊥
 
--- The fault names this place; Unsupported and TooDeep may name an earlier one. `at` is the last token before it.
+-- The fault names this place. Of Unsupported and TooDeep, which may name an earlier one, nothing is said here. `at` is the last token
+-- before it.
 abbrev pub names : Pos → Point → ParseFault → Type 0
 names at (at_token indent front t) (Unexpected place) = place ≡ t.at
 names at (at_token indent front t) (BadIndent place) = (place ≡ t.at) × (front ≡ [])
