@@ -92,9 +92,9 @@ record StandsSo {B : Type 0} (c : Context) (given : List (List ℕ)) (limit : Op
   each : (why : Stop) (n : ℕ) (b : B) (left : List Token) → inner why b → OnlyHead (IsAmissHead c given limit why) (g n b left)
 
 shown_so : {B : Type 0} (c : Context) (given : List (List ℕ)) (limit : Option Limit) (q : Production B) (inner : Stop → B → Type 0) (front rest before : List Token) (fault : ParseFault) → before ≡ front ++ rest → StandsSo c given limit q inner front rest
-    → ((at : Pos) → Names at fault → MayNameLine at fault) → ShownAmiss q inner rest fault → ShownBy BeginsHead head_tokens (λ fault a. IsAmissHead c given limit (Here fault) a) before fault
+    → ((t : Token) → Names t fault → MayNameLine t fault) → ShownAmiss q inner rest fault → ShownBy BeginsHead head_tokens (λ fault a. IsAmissHead c given limit (Here fault) a) before fault
 shown_so c given limit q inner front rest before fault is part named s = shown_head c given limit (front ++ s.front) s.shown_by s.behind before fault
-    (is ∙ ap (λ ts. front ++ ts) s.before_is ∙ sym (append_assoc front s.front (s.shown_by ∷ s.behind))) (named s.shown_by.at s.place_is) (part.begins s.front s.begins)
+    (is ∙ ap (λ ts. front ++ ts) s.before_is ∙ sym (append_assoc front s.front (s.shown_by ∷ s.behind))) (named s.shown_by s.place_is) (part.begins s.front s.begins)
     (λ more. finds_head_same _ _ _ (append_assoc front s.front (s.shown_by ∷ more))
     (turned_head _ _ q front rest (s.front ++ s.shown_by ∷ more) part.g part.turns (first_shown s.front s.shown_by more s.behind ∙ sym (ap first_token s.before_is)) (part.each (Here fault)) (s.none more)))
 

@@ -148,13 +148,13 @@ begins_sum p front tokens opens b = record {
 
 module _ {A : Type 0} (p : Production A) (room : ℕ) (front rest before : List Token) (before_is : before ≡ front ++ rest) (opens : Begins p front)
     (there : (w : Followed A) (more : List Token) → followed_tokens p w ≡ front ++ more → first_token more ≡ first_token rest → ItemThere (p.depth w.part) more) where
-  shown_item : (fault : ParseFault) → ((at : Pos) → Names at fault → MayNameLine at fault) → Shown sum_part room rest fault → ShownBy (BeginsThen p) (followed_tokens p) (λ fault w. IsDeep (Here fault) room (p.depth w.part)) before fault
+  shown_item : (fault : ParseFault) → ((t : Token) → Names t fault → MayNameLine t fault) → Shown sum_part room rest fault → ShownBy (BeginsThen p) (followed_tokens p) (λ fault w. IsDeep (Here fault) room (p.depth w.part)) before fault
   shown_item fault places s = record {
     front = front ++ s.front;
     shown_by = s.shown_by;
     behind = s.behind;
     before_is = before_is ∙ ap (λ ts. front ++ ts) s.before_is ∙ sym (append_assoc front s.front (s.shown_by ∷ s.behind));
-    place_is = places s.shown_by.at s.place_is;
+    place_is = places s.shown_by s.place_is;
     begun = begins_sum p front s.front opens s.begins;
     none = λ w more is. found_deep (Here fault) room (p.depth w.part) (s.front ++ s.shown_by ∷ more) (s.none more)
         (there w (s.front ++ s.shown_by ∷ more) (is ∙ append_assoc front s.front (s.shown_by ∷ more)) (first_shown s.front s.shown_by more s.behind ∙ sym (ap first_token s.before_is)));

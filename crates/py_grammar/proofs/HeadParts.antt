@@ -222,7 +222,7 @@ amiss_deep c given limit (Here Memory) h deep = absurd deep
 amiss_deep c given limit End h deep = absurd deep
 
 -- the tokens begin a line, and those up to and with the next one none that may stand there
-pub shown_head : (c : Context) (given : List (List ℕ)) (limit : Option Limit) (front : List Token) (t : Token) (behind before : List Token) (fault : ParseFault) → before ≡ front ++ t ∷ behind → MayNameLine t.at fault → BeginsHead front
+pub shown_head : (c : Context) (given : List (List ℕ)) (limit : Option Limit) (front : List Token) (t : Token) (behind before : List Token) (fault : ParseFault) → before ≡ front ++ t ∷ behind → MayNameLine t fault → BeginsHead front
     → ((more : List Token) → FindsHead (IsAmissHead c given limit (Here fault)) (front ++ t ∷ more)) → ShownBy BeginsHead head_tokens (λ fault a. IsAmissHead c given limit (Here fault) a) before fault
 shown_head c given limit front t behind before fault is named begun finds = record {
   front = front;
@@ -245,9 +245,9 @@ record StandsThere {B : Type 0} (q : Production B) (inner : ℕ) (front rest : L
   finds : (why : Stop) (more : List Token) → first_token more ≡ first_token rest → Finds (λ b. IsDeep why inner (q.depth b)) q.read more → FindsHead (λ h. IsDeep why 100 (head_depth h)) (front ++ more)
 
 shown_there : {B : Type 0} (c : Context) (given : List (List ℕ)) (limit : Option Limit) (q : Production B) (inner : ℕ) (front rest before : List Token) (fault : ParseFault) → before ≡ front ++ rest → StandsThere q inner front rest
-    → ((at : Pos) → Names at fault → MayNameLine at fault) → Shown q inner rest fault → ShownBy BeginsHead head_tokens (λ fault a. IsAmissHead c given limit (Here fault) a) before fault
+    → ((t : Token) → Names t fault → MayNameLine t fault) → Shown q inner rest fault → ShownBy BeginsHead head_tokens (λ fault a. IsAmissHead c given limit (Here fault) a) before fault
 shown_there c given limit q inner front rest before fault is part named s = shown_head c given limit (front ++ s.front) s.shown_by s.behind before fault
-    (is ∙ ap (λ ts. front ++ ts) s.before_is ∙ sym (append_assoc front s.front (s.shown_by ∷ s.behind))) (named s.shown_by.at s.place_is) (part.begins s.front s.begins)
+    (is ∙ ap (λ ts. front ++ ts) s.before_is ∙ sym (append_assoc front s.front (s.shown_by ∷ s.behind))) (named s.shown_by s.place_is) (part.begins s.front s.begins)
     (λ more. finds_head_same _ _ _ (append_assoc front s.front (s.shown_by ∷ more))
     (finds_head_weaker _ _ _ (amiss_deep c given limit (Here fault)) (part.finds (Here fault) (s.front ++ s.shown_by ∷ more) (first_shown s.front s.shown_by more s.behind ∙ sym (ap first_token s.before_is)) (s.none more))))
 
@@ -271,7 +271,7 @@ refused_part_head c given limit q inner front rest before stop g is begins turns
     refused
 
 -- the tokens begin a line, and the next one fits nothing: this is how it is refused
-pub at_token_head : (c : Context) (given : List (List ℕ)) (limit : Option Limit) (front : List Token) (t : Token) (ts before : List Token) (fault : ParseFault) → before ≡ front ++ t ∷ ts → BeginsHead front → MayNameLine t.at fault
+pub at_token_head : (c : Context) (given : List (List ℕ)) (limit : Option Limit) (front : List Token) (t : Token) (ts before : List Token) (fault : ParseFault) → before ≡ front ++ t ∷ ts → BeginsHead front → MayNameLine t fault
     → ((more : List Token) → FindsHead (λ h. ⊥) (front ++ t ∷ more)) → ShownBy BeginsHead head_tokens (λ fault a. IsAmissHead c given limit (Here fault) a) before fault
 at_token_head c given limit front t ts before fault is begun named none =
     shown_head c given limit front t ts before fault is named begun (λ more. finds_head_weaker _ _ _ (λ h no. absurd no) (none more))

@@ -30,7 +30,7 @@ use Rattle.py_grammar.proofs.LineFirsts.{and_false, both_true, simple_some, head
 
 -- ---- where no line may begin
 
-at_first_token : (c : Context) (given : List (List ℕ)) (limit : Option Limit) (t : Token) (behind : List Token) (fault : ParseFault) → MayNameLine t.at fault → ((h : Head) (more : List Token) → head_tokens h ≡ t ∷ more → IsAmissHead c given limit (Here fault) h)
+at_first_token : (c : Context) (given : List (List ℕ)) (limit : Option Limit) (t : Token) (behind : List Token) (fault : ParseFault) → MayNameLine t fault → ((h : Head) (more : List Token) → head_tokens h ≡ t ∷ more → IsAmissHead c given limit (Here fault) h)
     → ShownBy BeginsHead head_tokens (λ fault a. IsAmissHead c given limit (Here fault) a) (t ∷ behind) fault
 at_first_token c given limit t behind fault at_it none = record {
   front = [];

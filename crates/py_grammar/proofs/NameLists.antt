@@ -301,7 +301,7 @@ others_given given before after middle list place name g f there = record {
   shown_by = token (Word name) f.spot;
   behind = middle;
   before_is = g.go.before_is ∙ ap (λ ts. g.go.front ++ ts) f.before_is;
-  place_is = sym f.at_is;
+  place_is = (sym f.at_is, refl);
   begins = begins_front before after list g.go f.spot name;
   none = λ more. record {
     steps = 1 + g.go.steps;
@@ -509,7 +509,7 @@ different_repeated before after middle list place name g f there = record {
   shown_by = token (Word name) f.spot;
   behind = middle;
   before_is = g.go.before_is ∙ ap (λ ts. g.go.front ++ ts) f.before_is;
-  place_is = sym f.at_is;
+  place_is = (sym f.at_is, refl);
   begins = record { some = params (g.go.put (last_name f.spot name)); more = word name f.spot; tokens_are = g.go.tokens_are (last_name f.spot name) };
   none = λ more. record {
     steps = 1 + g.go.steps;

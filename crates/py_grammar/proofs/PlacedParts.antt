@@ -46,13 +46,13 @@ amiss_placed around limit (Here (TooMany at)) s amiss = absurd amiss
 amiss_placed around limit (Here Memory) s amiss = absurd amiss
 amiss_placed around limit End s amiss = absurd amiss
 
-placed_shown : (around : Around) (limit : Option Limit) (before : List Token) (fault : ParseFault) → SimpleShown around before fault → ((at : Pos) → MayName at fault → MayNameLine at fault) → ShownBy BeginsSimple simple_tokens (λ fault a. IsAmissPlaced around limit (Here fault) a) before fault
+placed_shown : (around : Around) (limit : Option Limit) (before : List Token) (fault : ParseFault) → SimpleShown around before fault → ((t : Token) → MayName t fault → MayNameLine t fault) → ShownBy BeginsSimple simple_tokens (λ fault a. IsAmissPlaced around limit (Here fault) a) before fault
 placed_shown around limit before fault s named = record {
   front = s.front;
   shown_by = s.shown_by;
   behind = s.behind;
   before_is = s.before_is;
-  place_is = named s.shown_by.at s.place_is;
+  place_is = named s.shown_by s.place_is;
   begun = s.begins;
   none = λ a more same. amiss_placed around limit (Here fault) a (finds_simple _ (s.front ++ s.shown_by ∷ more) a (s.none more) same);
 }
@@ -76,7 +76,7 @@ placed_end around limit before is = subst (λ (ts : List Token). PlacedRefused a
     (record { begun = inl (record { some = pass some_spot; more = simple_tokens (pass some_spot); tokens_are = refl }); none = λ s same. absurd (simple_some s same) })
 
 -- the first token shows it
-at_first_token : (around : Around) (limit : Option Limit) (t : Token) (behind : List Token) (fault : ParseFault) → MayNameLine t.at fault → ((s : Simple) (more : List Token) → simple_tokens s ≡ t ∷ more → IsAmissPlaced around limit (Here fault) s)
+at_first_token : (around : Around) (limit : Option Limit) (t : Token) (behind : List Token) (fault : ParseFault) → MayNameLine t fault → ((s : Simple) (more : List Token) → simple_tokens s ≡ t ∷ more → IsAmissPlaced around limit (Here fault) s)
     → ShownBy BeginsSimple simple_tokens (λ fault a. IsAmissPlaced around limit (Here fault) a) (t ∷ behind) fault
 at_first_token around limit t behind fault named none = record { front = []; shown_by = t; behind = behind; before_is = refl; place_is = named; begun = inl (record { some = pass some_spot; more = simple_tokens (pass some_spot); tokens_are = refl }); none = none }
 

@@ -130,13 +130,13 @@ record Stands {B : Type 0} (q : Production B) (inner : ℕ) (front rest : List T
   finds : (why : Stop) (more : List Token) → first_of more ≡ first_of rest → Finds (λ b. IsDeep why inner (q.depth b)) q.read more → Finds (λ s. IsDeep why 100 (simple_depth s)) simple_part.read (front ++ more)
 
 shown_part : {B : Type 0} (around : Around) (q : Production B) (inner : ℕ) (front rest before : List Token) (fault : ParseFault) → before ≡ front ++ rest → Stands q inner front rest → IsWeaker around (Here fault)
-    → ((at : Pos) → Names at fault → MayName at fault) → Shown q inner rest fault → SimpleShown around before fault
+    → ((t : Token) → Names t fault → MayName t fault) → Shown q inner rest fault → SimpleShown around before fault
 shown_part around q inner front rest before fault is part weaker named s = record {
   front = front ++ s.front;
   shown_by = s.shown_by;
   behind = s.behind;
   before_is = is ∙ ap (λ ts. front ++ ts) s.before_is ∙ sym (append_assoc front s.front (s.shown_by ∷ s.behind));
-  place_is = named s.shown_by.at s.place_is;
+  place_is = named s.shown_by s.place_is;
   begins = part.begins s.front s.begins;
   none = λ more. finds_same _ simple_part.read _ _ (append_assoc front s.front (s.shown_by ∷ more))
       (finds_weaker _ _ simple_part.read _ weaker (part.finds (Here fault) (s.front ++ s.shown_by ∷ more) (first_alike s.front s.shown_by more s.behind ∙ sym (ap first_of s.before_is)) (s.none more)));
@@ -163,7 +163,7 @@ refused_part around q inner front rest before stop g is begins turns deep refuse
     refused
 
 -- the tokens are a statement, and something stands behind them
-pub at_token : (around : Around) (tokens : List Token) (t : Token) (ts before : List Token) (fault : ParseFault) (s : Simple) → before ≡ tokens ++ t ∷ ts → simple_tokens s ≡ tokens → MayName t.at fault
+pub at_token : (around : Around) (tokens : List Token) (t : Token) (ts before : List Token) (fault : ParseFault) (s : Simple) → before ≡ tokens ++ t ∷ ts → simple_tokens s ≡ tokens → MayName t fault
     → ((more : List Token) → ReadsNone (tokens ++ t ∷ more)) → SimpleShown around before fault
 at_token around tokens t ts before fault s is spells named none = record {
   front = tokens;
@@ -187,7 +187,7 @@ ended around tokens (t ∷ ts) before (Here Memory) s is spells more none = absu
 ended around tokens (t ∷ ts) before End s is spells more none = absurd more
 
 -- a word that no statement may begin with there
-pub misplaced : (around : Around) (t : Token) (behind : List Token) (fault : ParseFault) → MayName t.at fault
+pub misplaced : (around : Around) (t : Token) (behind : List Token) (fault : ParseFault) → MayName t fault
     → ((n : ℕ) (more : List Token) → Only (IsAmiss around (Here fault)) (leaving_none (read_simple n (t ∷ more)))) → SimpleShown around (t ∷ behind) fault
 misplaced around t behind fault named amiss = record {
   front = [];

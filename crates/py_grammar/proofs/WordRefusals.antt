@@ -48,7 +48,7 @@ pub break_more : (around : Around) (at : Pos) (behind : List Token) (stop : Stop
 break_more around at behind stop more = none_behind around 8 break at behind stop (λ spot. refl) (λ spot n ts. refl) more
 
 pub break_outside : (around : Around) (at : Pos) (behind : List Token) → around.in_loop ≡ false → RefusedBehind 8 at around behind (Here (Unexpected at))
-break_outside around at behind outside = record { there = λ spot here. misplaced around (token (Keyword 8) spot) behind (Unexpected at) (sym here) (λ n more. only_alone _ (break spot) more outside) }
+break_outside around at behind outside = record { there = λ spot here. misplaced around (token (Keyword 8) spot) behind (Unexpected at) (sym here, refl) (λ n more. only_alone _ (break spot) more outside) }
 
 pub continue_found : (around : Around) (behind : List Token) (form : Form) → around.in_loop ≡ true → behind ≡ [] → form_of form ≡ continue_form → FoundBehind 10 around behind form
 continue_found around behind form inside is tree spot = record { written = continue spot; before_is = ap (λ ts. token (Keyword 10) spot ∷ ts) is; tree_is = tree; fits = omega arith; stands = inside }
@@ -57,7 +57,7 @@ pub continue_more : (around : Around) (at : Pos) (behind : List Token) (stop : S
 continue_more around at behind stop more = none_behind around 10 continue at behind stop (λ spot. refl) (λ spot n ts. refl) more
 
 pub continue_outside : (around : Around) (at : Pos) (behind : List Token) → around.in_loop ≡ false → RefusedBehind 10 at around behind (Here (Unexpected at))
-continue_outside around at behind outside = record { there = λ spot here. misplaced around (token (Keyword 10) spot) behind (Unexpected at) (sym here) (λ n more. only_alone _ (continue spot) more outside) }
+continue_outside around at behind outside = record { there = λ spot here. misplaced around (token (Keyword 10) spot) behind (Unexpected at) (sym here, refl) (λ n more. only_alone _ (continue spot) more outside) }
 
 -- ---- `return`
 
@@ -90,7 +90,7 @@ return_value_found around behind after part form inside f is tree spot = record 
 }
 
 pub return_outside : (around : Around) (at : Pos) (behind : List Token) → around.in_function ≡ false → RefusedBehind 30 at around behind (Here (Unexpected at))
-return_outside around at behind outside = record { there = λ spot here. misplaced around (token (Keyword 30) spot) behind (Unexpected at) (sym here) (amiss spot) }
+return_outside around at behind outside = record { there = λ spot here. misplaced around (token (Keyword 30) spot) behind (Unexpected at) (sym here, refl) (amiss spot) }
   where
     amiss : (spot : Spot) (n : ℕ) (more : List Token) → Only (IsAmiss around (Here (Unexpected at))) (leaving_none (read_simple n (token (Keyword 30) spot ∷ more)))
     amiss spot n [] = outside

@@ -1,5 +1,5 @@
 -- What the parser's functions answer of the tokens before them. No public clause speaks of it.
-use Rattle.std.specs.Prelude.{◌≡◌, ⊤, ℕ, ◌+◌, ◌<◌, ◌≤◌, Bool, true, false, List, [], ◌∷◌, ◌++◌, Option, Some, None, is_some, is_none, ◌==◌, if◌then◌else◌}
+use Rattle.std.specs.Prelude.{◌≡◌, ⊤, ℕ, ◌+◌, ◌<◌, ◌≤◌, Bool, true, false, List, [], ◌∷◌, ◌++◌, Option, Some, None, is_some, is_none, ◌==◌, ◌||◌, nat_le, if◌then◌else◌}
 use Rattle.prov_base.specs.declared.place.Pos.{Pos}
 use Rattle.py_lines.specs.declared.parts.Token.{Token}
 use Rattle.py_lines.specs.declared.parts.TokenKind.{TokenKind}
@@ -102,17 +102,28 @@ pub record Taken (kind : TokenKind) (before : List Token) (at : Pos) (after : Li
 abbrev pub IsMemory : Stop → Type 0
 IsMemory stop = stop ≡ Here Memory
 
--- the fault names this place; TooDeep may name an earlier one
-abbrev pub Names : Pos → ParseFault → Type 0
-Names at (Unexpected place) = place ≡ at
-Names at (Unsupported place) = place ≡ at
-Names at (TooDeep place) = ⊤
-Names at fault = ⊥
+-- Words and signs that stand nowhere: `async`, `await`, `finally`, `from`, `lambda`, `nonlocal` and `yield`, and the signs behind
+-- those of the grammar.
+abbrev pub is_never : TokenKind → Bool
+is_never (Keyword n) = (n == 6) || (n == 7) || (n == 16) || (n == 18) || (n == 24) || (n == 25) || (n == 34)
+is_never (Sign n) = nat_le 26 n
+is_never kind = false
+
+-- this token is Unexpected, so it is none of these
+abbrev pub IsUnexpected : Token → Pos → Type 0
+IsUnexpected t place = (place ≡ t.at) × (is_never t.kind ≡ false)
+
+-- the fault names this token; of TooDeep, which may name an earlier one, nothing is said here
+abbrev pub Names : Token → ParseFault → Type 0
+Names t (Unexpected place) = IsUnexpected t place
+Names t (Unsupported place) = place ≡ t.at
+Names t (TooDeep place) = ⊤
+Names t fault = ⊥
 
 -- reading stops at the first of these tokens, where the grammar has another
 abbrev pub IsAtFirst : List Token → Stop → Type 0
 IsAtFirst [] stop = stop ≡ End
-IsAtFirst (t ∷ ts) (Here (Unexpected place)) = place ≡ t.at
+IsAtFirst (t ∷ ts) (Here (Unexpected place)) = IsUnexpected t place
 IsAtFirst (t ∷ ts) (Here (Unsupported place)) = place ≡ t.at
 IsAtFirst (t ∷ ts) stop = ⊥
 
@@ -143,7 +154,7 @@ pub record Shown {A : Type 0} (p : Production A) (room : ℕ) (before : List Tok
   pub shown_by : Token
   pub behind : List Token
   pub before_is : before ≡ front ++ shown_by ∷ behind
-  pub place_is : Names shown_by.at fault
+  pub place_is : Names shown_by fault
   pub begins : Begins p front
   pub none : (more : List Token) → Finds (λ a. IsDeep (Here fault) room (p.depth a)) p.read (front ++ shown_by ∷ more)
 

@@ -29,7 +29,7 @@ use Rattle.py_grammar.specs.StatementTrees.{simple_form, target_tree, names_list
 use Rattle.py_grammar.specs.Depth.{expr_depth, exprs_depth, simple_depth, target_depth, kind_depth}
 use Rattle.py_grammar.specs.WellPlaced.{Around, in_suite, in_loop_suite, in_handler_suite, in_def_suite, in_class_suite, simple_stands, def_stands, none_given}
 use Rattle.py_grammar.specs.LineReader.{Head, simple_head, if_head, elif_head, else_head, while_head, for_head, try_head, except_head, with_head, def_head, class_head, global_head, behind_tokens, colon_tokens, head_tokens, read_colon, read_head, read_target, read_names, read_params, read_naming, read_kind, read_base}
-use Rattle.py_grammar.specs.Parsed.{Production, Begins, IsAtFirst}
+use Rattle.py_grammar.specs.Parsed.{Production, Begins, IsAtFirst, IsUnexpected}
 use Rattle.py_grammar.specs.ParsedRows.{first_token, IsRead}
 use Rattle.py_grammar.specs.ParsedSimple.{around_of, leaving_none, BeginsSimple}
 
@@ -256,13 +256,13 @@ IsAmissHead c given limit (Here (Unexpected at)) h = head_stands c given h ≡ f
 IsAmissHead c given limit (Here (Unsupported at)) h = head_stands c given h ≡ false
 IsAmissHead c given limit stop h = ⊥
 
--- Unexpected and TooMany name this place; Unsupported and TooDeep may name an earlier one.
-abbrev pub MayNameLine : Pos → ParseFault → Type 0
-MayNameLine at (Unexpected place) = place ≡ at
-MayNameLine at (TooMany place) = place ≡ at
-MayNameLine at (Unsupported place) = ⊤
-MayNameLine at (TooDeep place) = ⊤
-MayNameLine at fault = ⊥
+-- Unexpected and TooMany name this token. Of Unsupported and TooDeep, which may name an earlier one, nothing is said here.
+abbrev pub MayNameLine : Token → ParseFault → Type 0
+MayNameLine t (Unexpected place) = IsUnexpected t place
+MayNameLine t (TooMany place) = place ≡ t.at
+MayNameLine t (Unsupported place) = ⊤
+MayNameLine t (TooDeep place) = ⊤
+MayNameLine t fault = ⊥
 
 -- tokens that begin a line, and then the first tokens of an expression, which is read before it is asked whether it is a target
 pub record BeginsReading (front : List Token) : Type 0 where
@@ -281,7 +281,7 @@ pub record ShownBy {A : Type 0} (begins : List Token → Type 0) (tokens : A →
   pub shown_by : Token
   pub behind : List Token
   pub before_is : before ≡ front ++ shown_by ∷ behind
-  pub place_is : MayNameLine shown_by.at fault
+  pub place_is : MayNameLine shown_by fault
   pub begun : begins front
   pub none : (a : A) (more : List Token) → tokens a ≡ front ++ shown_by ∷ more → amiss fault a
 
@@ -339,7 +339,7 @@ is_text_kind kind = false
 -- what may not stand in a class is refused at its first token; a text always as a refused form
 abbrev pub IsRefusedInClass : List Token → Stop → Type 0
 IsRefusedInClass [] stop = stop ≡ End
-IsRefusedInClass (t ∷ ts) (Here (Unexpected place)) = (place ≡ t.at) × (is_text_kind t.kind ≡ false)
+IsRefusedInClass (t ∷ ts) (Here (Unexpected place)) = IsUnexpected t place × (is_text_kind t.kind ≡ false)
 IsRefusedInClass (t ∷ ts) (Here (Unsupported place)) = place ≡ t.at
 IsRefusedInClass (t ∷ ts) stop = ⊥
 

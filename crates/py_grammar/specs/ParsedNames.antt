@@ -35,7 +35,7 @@ pub record ShownAmiss {A : Type 0} (p : Production A) (amiss : Stop → A → Ty
   pub shown_by : Token
   pub behind : List Token
   pub before_is : before ≡ front ++ shown_by ∷ behind
-  pub place_is : NamesPlace shown_by.at fault
+  pub place_is : NamesPlace shown_by fault
   pub begins : Begins p front
   pub none : (more : List Token) → Finds (amiss (Here fault)) p.read (front ++ shown_by ∷ more)
 

@@ -24,7 +24,7 @@ use Rattle.py_grammar.specs.Depth.{simple_depth}
 use Rattle.py_grammar.specs.WellPlaced.{Around, form_stands}
 use Rattle.py_grammar.specs.Reader.{Read}
 use Rattle.py_grammar.specs.StatementReader.{aug_sign_of, exprs_target, read_simple}
-use Rattle.py_grammar.specs.Parsed.{Production, Finds, Begins, Taken, FoundRow}
+use Rattle.py_grammar.specs.Parsed.{IsUnexpected, Production, Finds, Begins, Taken, FoundRow}
 
 -- where the code is, in the words of the grammar
 abbrev pub around_of : Standing → Around
@@ -57,12 +57,12 @@ IsAmiss around (Here (Unexpected at)) s = form_stands around (simple_form s) ≡
 IsAmiss around (Here (Unsupported at)) s = form_stands around (simple_form s) ≡ false
 IsAmiss around stop s = ⊥
 
--- Unexpected names this place; Unsupported and TooDeep may name an earlier one
-abbrev pub MayName : Pos → ParseFault → Type 0
-MayName at (Unexpected place) = place ≡ at
-MayName at (Unsupported place) = ⊤
-MayName at (TooDeep place) = ⊤
-MayName at fault = ⊥
+-- Unexpected names this token. Of Unsupported and TooDeep, which may name an earlier one, nothing is said here.
+abbrev pub MayName : Token → ParseFault → Type 0
+MayName t (Unexpected place) = IsUnexpected t place
+MayName t (Unsupported place) = ⊤
+MayName t (TooDeep place) = ⊤
+MayName t fault = ⊥
 
 -- `del` and the first tokens of an expression, which is read before it is asked whether it is a target
 pub record BeginsDel (front : List Token) : Type 0 where
@@ -80,7 +80,7 @@ pub record SimpleShown (around : Around) (before : List Token) (fault : ParseFau
   pub shown_by : Token
   pub behind : List Token
   pub before_is : before ≡ front ++ shown_by ∷ behind
-  pub place_is : MayName shown_by.at fault
+  pub place_is : MayName shown_by fault
   pub begins : BeginsSimple front
   pub none : (more : List Token) → Finds (IsAmiss around (Here fault)) simple_part.read (front ++ shown_by ∷ more)
 
@@ -132,7 +132,7 @@ begins_word (t ∷ ts) = is_word_kind t.kind
 -- something stands there, and this refuses it
 abbrev pub IsMore : List Token → Stop → Type 0
 IsMore [] stop = ⊥
-IsMore (t ∷ ts) (Here (Unexpected place)) = place ≡ t.at
+IsMore (t ∷ ts) (Here (Unexpected place)) = IsUnexpected t place
 IsMore (t ∷ ts) (Here (Unsupported place)) = place ≡ t.at
 IsMore (t ∷ ts) stop = ⊥
 

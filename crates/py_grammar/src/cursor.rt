@@ -1,7 +1,8 @@
 // The tokens of a line that are not read yet.
-ghost use Rattle.std.specs.Prelude.{◌≡◌, false, IfSome, IfNone, IfOk, IfErr};
+ghost use Rattle.std.specs.Prelude.{◌≡◌, true, false, IfSome, IfNone, IfOk, IfErr};
 ghost use Rattle.py_lines.specs.declared.parts.TokenKind.TheVariants.{Keyword, Sign};
-ghost use Rattle.py_grammar.specs.Parsed.{Taken, is_keyword_next, is_sign_next, IsAtFirst, Refused, one_keyword, one_sign, one_name, TakenName};
+ghost use Rattle.py_grammar.specs.Parsed.{is_never, Taken, is_keyword_next, is_sign_next, IsAtFirst, Refused, one_keyword, one_sign, one_name, TakenName};
+ghost use Rattle.py_grammar.specs.Reader.{is_keyword as is_this_keyword};
 ghost use Rattle.py_grammar.specs.LineReader.{begins_name};
 
 use crate::fault::{ParseFault, Stop};
@@ -136,13 +137,13 @@ impl<'a> Cursor<'a> {
     }
 
     /// A token of this kind is of a refused form where the grammar has another.
-    pub(crate) fn is_refused(&self, kind: &TokenKind) -> bool {
+    pub(crate) fn is_refused(&self, kind: &TokenKind) -> bool
+        ensures { is_never kind.now ≡ true → result ≡ true }
+    {
         match kind {
             TokenKind::Keyword(FOR) => self.inside != Inside::Line,
-            TokenKind::Keyword(number) => is_never_word(*number),
             TokenKind::Sign(ASSIGN | STAR) => self.inside == Inside::Call,
-            TokenKind::Sign(number) => is_never_sign(*number),
-            _ => false,
+            _ => is_never(kind),
         }
     }
 
@@ -166,12 +167,27 @@ impl<'a> Cursor<'a> {
 }
 
 /// The token is this keyword.
-fn is_keyword(token: &Token, number: u8) -> bool {
+fn is_keyword(token: &Token, number: u8) -> bool
+    ensures { result ≡ is_this_keyword number token.now.kind }
+{
     matches!(&token.kind, TokenKind::Keyword(found) if *found == number)
 }
 
+/// A word or sign of this kind stands nowhere.
+pub fn is_never(kind: &TokenKind) -> bool
+    ensures { result ≡ is_never kind.now }
+{
+    match kind {
+        TokenKind::Keyword(number) => is_never_word(*number),
+        TokenKind::Sign(number) => is_never_sign(*number),
+        _ => false,
+    }
+}
+
 /// A keyword that stands nowhere: `async`, `await`, `finally`, `from`, `lambda`, `nonlocal`, `yield`.
-fn is_never_word(number: u8) -> bool {
+fn is_never_word(number: u8) -> bool
+    ensures { result ≡ is_never (Keyword number) }
+{
     matches!(
         number,
         ASYNC | AWAIT | FINALLY | FROM | LAMBDA | NONLOCAL | YIELD
@@ -179,6 +195,8 @@ fn is_never_word(number: u8) -> bool {
 }
 
 /// A sign that stands nowhere: `;`, `@`, `/`, `**` and those behind them in the table.
-fn is_never_sign(number: u8) -> bool {
+fn is_never_sign(number: u8) -> bool
+    ensures { result ≡ is_never (Sign number) }
+{
     SEMICOLON <= number
 }

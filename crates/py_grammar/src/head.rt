@@ -1,7 +1,7 @@
 // The lines of a script: a simple statement, or what begins a compound one or a part of it, up to what stands behind its `:`.
 ghost use Rattle.std.specs.Prelude.{◌≡◌, ◌==◌, ℕ, List, Bool, true, false, is_some, IfSome, IfNone, IfOk, IfErr};
 ghost use Rattle.py_lines.specs.declared.parts.TokenKind.TheVariants.{Keyword};
-ghost use Rattle.py_grammar.specs.Parsed.{Taken};
+ghost use Rattle.py_grammar.specs.Parsed.{is_never, Taken};
 ghost use Rattle.py_grammar.specs.ParsedSimple.{around_of};
 ghost use Rattle.py_grammar.specs.ParsedHead.{Context as Standing, context_of, inner_around, is_compound, begins_compound, may_begin, kind_may, may_be_alone, is_refused_kind, is_text_kind, IsRefusedInClass, IsFirstRefused, FirstMay, Misplaced, BehindFound, BehindRefused, HeadFound, HeadRefused, OpeningFound, OpeningRefused, PlacedFound, PlacedRefused};
 
@@ -137,7 +137,9 @@ impl<'a> Cursor<'a> {
     }
 
     /// A token of this kind that may not stand here is of a refused form.
-    fn is_refused_there(&self, context: Context, kind: &TokenKind) -> bool {
+    fn is_refused_there(&self, context: Context, kind: &TokenKind) -> bool
+        ensures { is_never kind.now ≡ true → result ≡ true }
+    {
         match kind {
             TokenKind::Keyword(ELIF | EXCEPT) => false,
             TokenKind::Keyword(ELSE) => context.last != Last::Nothing,

@@ -27,6 +27,7 @@ mod words;
 
 pub use around::Around;
 pub use context::{Context, Last, Limit};
+pub use cursor::is_never;
 pub use fault::{ParseFault, Stop};
 pub use head::{Behind, LineHead, What, read_head};
 pub use laws::{one_expression, one_script, one_simple_statement};

@@ -12,7 +12,7 @@ use Rattle.py_grammar.specs.Follows.{Below}
 use Rattle.py_grammar.specs.ParsedHead.{lacks_handler}
 use Rattle.py_parser.specs.Rows.{is_done}
 use Rattle.py_parser.specs.Faults.{first_place}
-use Rattle.py_parser.specs.ParsedBlocks.{level_at, is_here, RefusedHere, NotClosed, IsNoHandler}
+use Rattle.py_parser.specs.ParsedBlocks.{level_at, is_here, RefusedHere, NotClosed, IsNoHandler, begins_never}
 use Rattle.py_parser.proofs.RowRefusals.{refused_first, refused_nothing, refused_empty}
 
 lacks_done : (p : Place) (b : Built) (given : List (List ℕ)) → b.last ≡ Try → is_done (level_at p given b) ≡ true → ⊥
@@ -40,7 +40,7 @@ empty_end p b at lines low is = record {
 pub deeper : (p : Place) (b : Built) (at : Pos) (line : Line) (lines all : List Line) → all ≡ line ∷ lines → p.indent < line.indent → NotClosed p b at all (BadIndent (first_place at line.tokens))
 deeper p b at line lines all is less = record {
   there = λ given n. subst (λ ls. RefusedHere (level_at p given b) n at ls (BadIndent (first_place at line.tokens))) (sym is)
-      (refused_first (level_at p given b) n at line lines BadIndent (λ t. (refl, refl)) refl (λ same. absurd (omega (arith, less, same))) (λ done lower. absurd (omega (arith, less, lower))));
+      (refused_first (level_at p given b) n at line lines BadIndent (λ t ts tokens. (refl, refl)) refl (λ same. absurd (omega (arith, less, same))) (λ done lower. absurd (omega (arith, less, lower))));
   other = λ same. cc;
 }
 
@@ -52,20 +52,26 @@ elsewhere d line lines all is other same = by (line.indent == d) refl
     by true here = absurd (let no : true ≡ false = sym here ∙ sym (ap (is_here d) is) ∙ other in cc)
     by false there = eqb-false line.indent d there same
 
-pub no_handler_at : (p : Place) (b : Built) (at : Pos) (line : Line) (lines all : List Line) (fault : ParseFault) → all ≡ line ∷ lines → is_here p.indent all ≡ false → b.last ≡ Try → IsNoHandler (first_place at line.tokens) fault → NotClosed p b at all fault
+pub no_handler_at : (p : Place) (b : Built) (at : Pos) (line : Line) (lines all : List Line) (fault : ParseFault) → all ≡ line ∷ lines → is_here p.indent all ≡ false → b.last ≡ Try
+    → IsNoHandler line.tokens (first_place at line.tokens) fault → NotClosed p b at all fault
 no_handler_at p b at line lines all (Unexpected place) is other last named = record {
   there = λ given n. subst (λ ls. RefusedHere (level_at p given b) n at ls (Unexpected place)) (sym is)
-      (subst (λ q. RefusedHere (level_at p given b) n at (line ∷ lines) (Unexpected q)) (sym named)
-      (refused_first (level_at p given b) n at line lines Unexpected (λ t. refl) refl (elsewhere p.indent line lines all is other) (λ done lower. lacks_done p b given last done)));
+      (subst (λ q. RefusedHere (level_at p given b) n at (line ∷ lines) (Unexpected q)) (sym named.0)
+      (refused_first (level_at p given b) n at line lines Unexpected (λ t ts tokens. (refl, sym (ap begins_never tokens) ∙ named.1)) refl (elsewhere p.indent line lines all is other) (λ done lower. lacks_done p b given last done)));
+  other = λ same. cc;
+}
+no_handler_at p b at line lines all (Unsupported place) is other last named = record {
+  there = λ given n. subst (λ ls. RefusedHere (level_at p given b) n at ls (Unsupported place)) (sym is)
+      (subst (λ q. RefusedHere (level_at p given b) n at (line ∷ lines) (Unsupported q)) (sym named)
+      (refused_first (level_at p given b) n at line lines Unsupported (λ t ts tokens. tt) tt (elsewhere p.indent line lines all is other) (λ done lower. lacks_done p b given last done)));
   other = λ same. cc;
 }
 no_handler_at p b at line lines all (BadIndent place) is other last named = record {
   there = λ given n. subst (λ ls. RefusedHere (level_at p given b) n at ls (BadIndent place)) (sym is)
       (subst (λ q. RefusedHere (level_at p given b) n at (line ∷ lines) (BadIndent q)) (sym named)
-      (refused_first (level_at p given b) n at line lines BadIndent (λ t. (refl, refl)) refl (elsewhere p.indent line lines all is other) (λ done lower. lacks_done p b given last done)));
+      (refused_first (level_at p given b) n at line lines BadIndent (λ t ts tokens. (refl, refl)) refl (elsewhere p.indent line lines all is other) (λ done lower. lacks_done p b given last done)));
   other = λ same. cc;
 }
-no_handler_at p b at line lines all (Unsupported place) is other last named = absurd named
 no_handler_at p b at line lines all (TooDeep place) is other last named = absurd named
 no_handler_at p b at line lines all (TooMany place) is other last named = absurd named
 no_handler_at p b at line lines all Memory is other last named = absurd named

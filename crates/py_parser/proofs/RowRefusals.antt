@@ -279,7 +279,7 @@ point_of line = by line.tokens
     by (t ∷ ts) = at_token line.indent [] t
 
 -- A line that stands at another indentation is refused at its first token, where the suite may not end.
-pub refused_first : (m : Level) (n : ℕ) (at : Pos) (line : Line) (lines : List Line) (fault : Pos → ParseFault) → ((t : Token) → names at (at_token line.indent [] t) (fault t.at)) → names at (at_end line.indent []) (fault at)
+pub refused_first : (m : Level) (n : ℕ) (at : Pos) (line : Line) (lines : List Line) (fault : Pos → ParseFault) → ((t : Token) (ts : List Token) → line.tokens ≡ t ∷ ts → names at (at_token line.indent [] t) (fault t.at)) → names at (at_end line.indent []) (fault at)
     → (line.indent ≡ m.indent → ⊥) → (is_done m ≡ true → line.indent < m.indent → ⊥) → RefusedHere m n at (line ∷ lines) (fault (first_place at line.tokens))
 refused_first m n at line lines fault named ended other ends = by line.tokens refl
   where
@@ -307,7 +307,7 @@ refused_first m n at line lines fault named ended other ends = by line.tokens re
     by (t ∷ ts) is = record {
       point = at_token line.indent [] t;
       shown = (refl, record { more = ts; tokens_are = is });
-      named = named t;
+      named = named t ts is;
       before = refl;
       edge = λ rows rest shows_it l indent leads edge. edge_1 rows rest shows_it edge;
       none = λ q asks rest rows r shows_it fits may_be low same. none_1 rest rows r shows_it fits low same;

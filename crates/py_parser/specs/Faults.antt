@@ -6,6 +6,7 @@ use Rattle.py_lines.specs.declared.parts.Token.{Token}
 use Rattle.py_grammar.specs.declared.fault.ParseFault.{ParseFault}
 use Rattle.py_grammar.specs.declared.fault.ParseFault.TheVariants.{Unexpected, Unsupported, BadIndent, TooDeep, TooMany, Memory}
 use Rattle.py_grammar.specs.Follows.{Below}
+use Rattle.py_grammar.specs.Parsed.{IsUnexpected}
 use Rattle.py_grammar.specs.ParsedHead.{BeginsReading}
 use Rattle.py_grammar.specs.Written.{Script}
 use Rattle.py_grammar.specs.Grammar.{script_lines, FitsScript}
@@ -51,7 +52,7 @@ shows no_line (line ∷ lines) = ⊥
 -- The fault names this place. Of Unsupported and TooDeep, which may name an earlier one, nothing is said here. `at` is the last token
 -- before it.
 abbrev pub names : Pos → Point → ParseFault → Type 0
-names at (at_token indent front t) (Unexpected place) = place ≡ t.at
+names at (at_token indent front t) (Unexpected place) = IsUnexpected t place
 names at (at_token indent front t) (BadIndent place) = (place ≡ t.at) × (front ≡ [])
 names at (at_token indent front t) (TooMany place) = place ≡ t.at
 names at (at_token indent front t) (Unsupported place) = ⊤

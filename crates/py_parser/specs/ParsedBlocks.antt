@@ -2,6 +2,7 @@
 use Rattle.std.specs.Prelude.{◌≡◌, ⊤, ℕ, ◌+◌, ◌≤◌, nat_le, Bool, true, false, ◌==◌, ◌||◌, not, List, [], ◌∷◌, ◌++◌, map, Option, Some, None}
 use Rattle.prov_base.specs.declared.place.Pos.{Pos}
 use Rattle.py_lines.specs.declared.parts.Line.{Line}
+use Rattle.py_lines.specs.declared.parts.Token.{Token}
 use Rattle.py_lines.specs.declared.parts.TokenKind.{TokenKind}
 use Rattle.py_lines.specs.declared.parts.TokenKind.TheVariants.{Keyword}
 use Rattle.py_tree.specs.Erasure.{stmt_of}
@@ -12,13 +13,14 @@ use Rattle.py_grammar.specs.declared.context.Limit.TheVariants.{Number, Depth}
 use Rattle.py_parser.specs.declared.blocks.Place.{Place}
 use Rattle.py_parser.specs.declared.blocks.Built.{Built}
 use Rattle.py_grammar.specs.declared.fault.ParseFault.{ParseFault}
-use Rattle.py_grammar.specs.declared.fault.ParseFault.TheVariants.{Unexpected, BadIndent, Memory}
+use Rattle.py_grammar.specs.declared.fault.ParseFault.TheVariants.{Unexpected, Unsupported, BadIndent, Memory}
 use Rattle.py_grammar.specs.declared.head.LineHead.{LineHead}
 use Rattle.py_grammar.specs.declared.head.What.{What}
 use Rattle.py_grammar.specs.LineReader.{Head, head_tokens}
 use Rattle.py_grammar.specs.Layout.{IsLine}
 use Rattle.py_grammar.specs.Follows.{Below}
 use Rattle.py_grammar.specs.StatementTrees.{end_of}
+use Rattle.py_grammar.specs.Parsed.{is_never}
 use Rattle.py_grammar.specs.ParsedSimple.{around_of}
 use Rattle.py_grammar.specs.ParsedHead.{IsWhat, IsBehind, behind_in}
 use Rattle.py_parser.specs.Limits.{Limits, profile}
@@ -234,7 +236,13 @@ pub record NotClosed (p : Place) (b : Built) (at : Pos) (lines : List Line) (fau
   pub there : (given : List (List ℕ)) (n : ℕ) → RefusedHere (level_at p given b) n at lines fault
   pub other : fault ≡ Memory → ⊥
 
-abbrev pub IsNoHandler : Pos → ParseFault → Type 0
-IsNoHandler at (Unexpected place) = place ≡ at
-IsNoHandler at (BadIndent place) = place ≡ at
-IsNoHandler at fault = ⊥
+-- a word or sign that stands nowhere comes first
+abbrev pub begins_never : List Token → Bool
+begins_never [] = false
+begins_never (t ∷ ts) = is_never t.kind
+
+abbrev pub IsNoHandler : List Token → Pos → ParseFault → Type 0
+IsNoHandler tokens at (Unexpected place) = (place ≡ at) × (begins_never tokens ≡ false)
+IsNoHandler tokens at (Unsupported place) = place ≡ at
+IsNoHandler tokens at (BadIndent place) = place ≡ at
+IsNoHandler tokens at fault = ⊥

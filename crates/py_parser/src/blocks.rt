@@ -14,12 +14,12 @@ ghost use Rattle.py_grammar.specs.ParsedHead.{IsWhat, IsBehind, IsThere, behind_
 ghost use Rattle.py_parser.specs.Rows.{start, Level, counted, is_global, is_def as def_begins, is_stmt, opens as head_opens, after, head_around, head_given, last_after, lets_declare};
 ghost use Rattle.py_parser.specs.RowForms.{begun, form_begun, suite_list, grown as grown_trees, below_tree, declared, with_elif as with_elif_tree, with_else as with_else_tree, with_handler as with_handler_tree, with_part as with_part_tree, longer};
 ghost use Rattle.py_parser.specs.Faults.{first_place, last_place};
-ghost use Rattle.py_parser.specs.ParsedBlocks.{limit_at, level_of, level_at, is_here, is_stmt_kind, IsUnderOf, IsClosed, NotClosed, IsNoHandler, trees_of, IsHead, LineRead, LineStopped, RowsRead, RowRead, RowsStopped, UnderRead, UnderStopped};
+ghost use Rattle.py_parser.specs.ParsedBlocks.{limit_at, level_of, level_at, is_here, is_stmt_kind, IsUnderOf, IsClosed, NotClosed, IsNoHandler, begins_never as never_first, trees_of, IsHead, LineRead, LineStopped, RowsRead, RowRead, RowsStopped, UnderRead, UnderStopped};
 
 use prov_base::{Name, Pos, Span};
 use py_grammar::{
     Around, Behind, Context, ELIF, ELSE, EXCEPT, GLOBAL, Last, Limit, LineHead, PASS, ParseFault,
-    Stop, What, read_head,
+    Stop, What, is_never, read_head,
 };
 use py_lines::{Line, Token, TokenKind};
 use py_tree::{Bound, Branches, Expr, Form, Globals, Handlers, Stmt, Suite};
@@ -254,7 +254,7 @@ impl<'a> Blocks<'a> {
             return Err(ParseFault::BadIndent(at));
         }
         if lacks_handler {
-            return Err(self.no_handler(line.indent, at));
+            return Err(self.no_handler(line));
         }
         if !built.has_stmt {
             return Err(ParseFault::BadIndent(self.before));
@@ -262,14 +262,18 @@ impl<'a> Blocks<'a> {
         Ok(())
     }
 
-    /// That a line at this indentation, which begins here, stands where a handler has to.
-    fn no_handler(&self, indent: u32, at: Pos) -> ParseFault
-        ensures { IsNoHandler at result }
+    /// That a line stands where a handler has to.
+    fn no_handler(&self, line: &Line) -> ParseFault
+        ensures { IsNoHandler line.now.tokens (first_place self.now.before line.now.tokens) result }
     {
-        if self.columns.iter().any(|column| *column == indent) {
-            ParseFault::Unexpected(at)
-        } else {
+        let tokens = line.tokens.as_slice();
+        let at = first_of(tokens, self.before);
+        if !self.columns.iter().any(|column| *column == line.indent) {
             ParseFault::BadIndent(at)
+        } else if begins_never(tokens) {
+            ParseFault::Unsupported(at)
+        } else {
+            ParseFault::Unexpected(at)
         }
     }
 }
@@ -702,6 +706,16 @@ fn is_alone(kind: &TokenKind) -> bool
         TokenKind::Text(_) => true,
         TokenKind::Keyword(word) => *word == PASS,
         _ => false,
+    }
+}
+
+/// A word or sign that stands nowhere comes first.
+fn begins_never(tokens: &[Token]) -> bool
+    ensures { result ≡ never_first tokens.now }
+{
+    match tokens.first() {
+        Some(token) => is_never(&token.kind),
+        None => false,
     }
 }
 

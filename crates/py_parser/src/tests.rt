@@ -128,6 +128,9 @@ try:$    pass$elif x:$    pass$ => Unexpected 3:1
 try:$    pass$else:$    pass$ => Unsupported 3:1
 try:$    pass$finally:$    pass$ => Unsupported 3:1
 if x:$    try:$        pass$y = 1$ => Unexpected 4:1
+if x:$    try:$        pass$else:$    y => Unexpected 4:1
+if x:$    try:$        pass$finally:$    y => Unsupported 4:1
+if x:$    try:$        pass$lambda: y => Unsupported 4:1
 def f():$    try:$        pass$ => Unexpected 3:9
 if x:$    try:$        pass$    y$ => Unexpected 4:5
 try:$    pass$    except: pass$ => Unexpected 3:5

@@ -2,7 +2,6 @@ use Rattle.std.proofs.Common.{rules, arith, sym, ap, ◌∙◌, subst}
 use Rattle.py_grammar.specs.declared.fault.ParseFault.TheVariants.{BadIndent}
 use Rattle.py_grammar.specs.Follows.{Below}
 use Rattle.py_parser.specs.Faults.{first_place}
-use Rattle.py_parser.specs.ParsedBlocks.{IsNoHandler}
 use Rattle.py_parser.proofs.CloseParts.{lacks_end, empty_end, deeper, no_handler_at, closes_lower, other_place, nothing_below}
 use Rattle.py_parser.proofs.blocks.Blocks.close.Goals as goal
 
@@ -20,8 +19,7 @@ returns-then-place-line-clause-refused c =
 
 pub returns-then-lacks_handler-2-clause-refused : goal.returns-then-lacks_handler-2-clause-refused
 returns-then-lacks_handler-2-clause-refused c =
-    no_handler_at c.args.place c.args.built.now c.args.self.now.before c.in-Some.line.now _ c.args.self.now.rest.now c.no_handler.result c.in-Some.ensures.cases.0 c.requires (search rules)
-    (subst (λ q. IsNoHandler q c.no_handler.result) (c.first_of-at.ensures ∙ ap (first_place c.args.self.now.before) c.as_slice.ensures) c.no_handler.ensures)
+    no_handler_at c.args.place c.args.built.now c.args.self.now.before c.in-Some.line.now _ c.args.self.now.rest.now c.no_handler.result c.in-Some.ensures.cases.0 c.requires (search rules) c.no_handler.ensures
 
 pub returns-then-not-built-2-clause-refused : goal.returns-then-not-built-2-clause-refused
 returns-then-not-built-2-clause-refused c =
