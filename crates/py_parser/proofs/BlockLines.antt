@@ -291,9 +291,10 @@ begins_ended m indent t rest (f ∷ fs) declares may tokens (inl b) same =
 begins_ended m indent t rest (f ∷ fs) declares may tokens (inr reading) same = begins_with m (at_end indent (f ∷ fs)) (λ x. inr reading)
 
 shown_line : (m : Level) (n : ℕ) (at : Pos) (line : Line) (t : Token) (begins : Bool) (limit : Option Limit) (fault : ParseFault) → Opened m n line t begins limit → (m.context.may_declare ≡ true → m.of_def ≡ true) → kind_may m.context t.kind ≡ true
-    → (s : ShownBy BeginsHead head_tokens (λ fault h. IsAmissHead m.context m.given limit (Here fault) h) line.tokens fault) → names at (at_token line.indent s.front s.shown_by) fault → RefusedLine m n at line fault
+    → (s : ShownBy BeginsHead head_tokens (λ fault h. IsAmissHead m.context m.given limit (Here fault) h) line.tokens fault) → names at (line ∷ []) (at_token line.indent s.front s.shown_by) fault → RefusedLine m n at line fault
 shown_line m n at line t begins limit fault o declares may s named = record {
   point = at_token line.indent s.front s.shown_by;
+  on_line = tt;
   shown = (refl, record { more = s.behind; tokens_are = s.before_is });
   named = named;
   begun = begun_token line.indent s.front s.shown_by;
@@ -305,9 +306,10 @@ shown_line m n at line t begins limit fault o declares may s named = record {
 }
 
 ended_line : (m : Level) (n : ℕ) (at : Pos) (line : Line) (t : Token) (begins : Bool) (limit : Option Limit) (fault : ParseFault) → Opened m n line t begins limit → (m.context.may_declare ≡ true → m.of_def ≡ true) → kind_may m.context t.kind ≡ true
-    → EndedBy BeginsHead head_tokens (IsAmissHead m.context m.given limit (Here fault)) line.tokens → names at (at_end line.indent line.tokens) fault → RefusedLine m n at line fault
+    → EndedBy BeginsHead head_tokens (IsAmissHead m.context m.given limit (Here fault)) line.tokens → names at (line ∷ []) (at_end line.indent line.tokens) fault → RefusedLine m n at line fault
 ended_line m n at line t begins limit fault o declares may e named = record {
   point = at_end line.indent line.tokens;
+  on_line = tt;
   shown = (refl, refl);
   named = named;
   begun = begun_end line.indent line.tokens;
@@ -332,9 +334,10 @@ line_goes_on m n at line t begins limit Memory o declares may is = tt
 line_never : (m : Level) (n : ℕ) (at : Pos) (line : Line) (t : Token) (rest : List Token) (fault : ParseFault) → line.tokens ≡ t ∷ rest → kind_may m.context t.kind ≡ false → IsAtFirst (t ∷ rest) (Here fault) → LineStopped m n at line fault
 line_never m n at line t rest fault tokens absent first = by fault first
   where
-    refused : (fault : ParseFault) → names at (at_token line.indent [] t) fault → RefusedLine m n at line fault
+    refused : (fault : ParseFault) → names at (line ∷ []) (at_token line.indent [] t) fault → RefusedLine m n at line fault
     refused fault named = record {
       point = at_token line.indent [] t;
+      on_line = tt;
       shown = (refl, record { more = rest; tokens_are = tokens });
       named = named;
       begun = begun_token line.indent [] t;
@@ -367,6 +370,7 @@ pub line_ends : (m : Level) (n : ℕ) (at place : Pos) (line : Line) (t : Token)
     → FirstMay m.context line.tokens End → HeadRefused m.context m.given limit line.tokens End → RefusedLine m n at line (Unexpected place)
 line_ends m n at place line t begins limit o declares named first e = record {
   point = at_end line.indent line.tokens;
+  on_line = tt;
   shown = (refl, refl);
   named = named;
   begun = begun_end line.indent line.tokens;
@@ -384,6 +388,7 @@ first_at m ts us s r same stop is = subst (λ (l : List Token). FirstMay m.conte
 pub line_is_empty : (m : Level) (n : ℕ) (at : Pos) (line : Line) → line.tokens ≡ [] → RefusedLine m n at line (Unexpected at)
 line_is_empty m n at line empty = record {
   point = at_end line.indent [];
+  on_line = tt;
   shown = (refl, empty);
   named = refl;
   begun = begun_end line.indent [];
@@ -395,6 +400,7 @@ line_is_empty m n at line empty = record {
 pub one_too_many : (m : Level) (n : ℕ) (at : Pos) (line : Line) (t : Token) (rest : List Token) → line.tokens ≡ t ∷ rest → true ≡ is_stmt_kind t.kind → 20000 ≤ n → RefusedLine m n at line (TooMany t.at)
 one_too_many m n at line t rest tokens begins many = record {
   point = at_token line.indent [] t;
+  on_line = tt;
   shown = (refl, record { more = rest; tokens_are = tokens });
   named = refl;
   begun = begun_token line.indent [] t;

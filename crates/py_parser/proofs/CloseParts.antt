@@ -1,19 +1,21 @@
 -- Where the lines of a suite may not end.
-use Rattle.std.proofs.Common.{◌≡◌, ℕ, ◌<◌, ◌≤◌, ◌==◌, Bool, true, false, ◌&&◌, not, List, [], ◌∷◌, length, suc, refl, ap, sym, ◌∙◌, subst, arith}
+use Rattle.std.proofs.Common.{◌≡◌, inl, inr, ℕ, ◌<◌, ◌≤◌, ◌==◌, Bool, true, false, ◌&&◌, not, List, [], ◌∷◌, length, suc, refl, ap, sym, ◌∙◌, subst, arith}
 use Rattle.std.proofs.lemmas.Bool.{false≢true, eqb-false}
 use Rattle.prov_base.specs.declared.place.Pos.{Pos}
 use Rattle.py_lines.specs.declared.parts.Line.{Line}
 use Rattle.py_parser.specs.declared.blocks.Place.{Place}
 use Rattle.py_parser.specs.declared.blocks.Built.{Built}
-use Rattle.py_grammar.specs.declared.context.Last.TheVariants.{Try}
+use Rattle.py_grammar.specs.declared.context.Last.{Last}
+use Rattle.py_grammar.specs.declared.context.Last.TheVariants.{Nothing, Loop, If, Try, Handler, Every}
 use Rattle.py_grammar.specs.declared.fault.ParseFault.{ParseFault}
 use Rattle.py_grammar.specs.declared.fault.ParseFault.TheVariants.{Unexpected, Unsupported, BadIndent, TooDeep, TooMany, Memory}
 use Rattle.py_grammar.specs.Follows.{Below}
 use Rattle.py_grammar.specs.ParsedHead.{lacks_handler}
 use Rattle.py_parser.specs.Rows.{is_done}
 use Rattle.py_parser.specs.Faults.{first_place}
-use Rattle.py_parser.specs.ParsedBlocks.{level_at, is_here, RefusedHere, NotClosed, IsNoHandler, begins_never}
-use Rattle.py_parser.proofs.RowRefusals.{refused_first, refused_nothing, refused_empty}
+use Rattle.py_parser.specs.ParsedBlocks.{AreBelow, level_at, is_here, RefusedHere, NotClosed, IsNoHandler, begins_never}
+use Rattle.py_parser.proofs.Columns.{not_column}
+use Rattle.py_parser.proofs.RowRefusals.{refused_indent, refused_first, refused_nothing, refused_empty}
 
 lacks_done : (p : Place) (b : Built) (given : List (List ℕ)) → b.last ≡ Try → is_done (level_at p given b) ≡ true → ⊥
 lacks_done p b given is done = by b.has_stmt (sym (ap (λ l. b.has_stmt && not (lacks_handler l)) is) ∙ done)
@@ -25,22 +27,34 @@ lacks_done p b given is done = by b.has_stmt (sym (ap (λ l. b.has_stmt && not (
 empty_done : (p : Place) (b : Built) (given : List (List ℕ)) → b.has_stmt ≡ false → is_done (level_at p given b) ≡ true → ⊥
 empty_done p b given is done = absurd (false≢true (sym (ap (λ a. a && not (lacks_handler b.last)) is) ∙ done))
 
-pub lacks_end : (p : Place) (b : Built) (at : Pos) (lines : List Line) → lines ≡ [] → b.last ≡ Try → NotClosed p b at lines (Unexpected at)
-lacks_end p b at lines is last = record {
-  there = λ given n. subst (λ ls. RefusedHere (level_at p given b) n at ls (Unexpected at)) (sym is) (refused_nothing (level_at p given b) n at (lacks_done p b given last));
+lacks : (p : Place) (b : Built) (given : List (List ℕ)) → b.last ≡ Try → lacks_handler (level_at p given b).context.last ≡ true
+lacks p b given is = ap lacks_handler is
+
+pub lacks_end : (cs : List ℕ) (p : Place) (b : Built) (at : Pos) (lines : List Line) → lines ≡ [] → b.last ≡ Try → NotClosed cs p b at lines (Unexpected at)
+lacks_end cs p b at lines is last = record {
+  there = λ given n. subst (λ ls. RefusedHere cs (level_at p given b) n at ls (Unexpected at)) (sym is) (refused_nothing cs (level_at p given b) n at (lacks p b given last) (lacks_done p b given last));
   other = λ same. cc;
 }
 
-pub empty_end : (p : Place) (b : Built) (at : Pos) (lines : List Line) → Below p.indent lines → b.has_stmt ≡ false → NotClosed p b at lines (BadIndent at)
-empty_end p b at lines low is = record {
-  there = λ given n. refused_empty (level_at p given b) n at lines low (empty_done p b given is);
+-- what is no `try` lacks no handler
+no_try : (last : Last) → (last ≡ Try → ⊥) → lacks_handler last ≡ false
+no_try Nothing other = refl
+no_try Loop other = refl
+no_try If other = refl
+no_try Try other = absurd (other refl)
+no_try Handler other = refl
+no_try Every other = refl
+
+pub empty_end : (cs : List ℕ) (p : Place) (b : Built) (at : Pos) (lines : List Line) → Below p.indent lines → (b.last ≡ Try → ⊥) → b.has_stmt ≡ false → NotClosed cs p b at lines (BadIndent at)
+empty_end cs p b at lines low other is = record {
+  there = λ given n. refused_empty cs (level_at p given b) n at lines low (no_try b.last other) (empty_done p b given is);
   other = λ same. cc;
 }
 
-pub deeper : (p : Place) (b : Built) (at : Pos) (line : Line) (lines all : List Line) → all ≡ line ∷ lines → p.indent < line.indent → NotClosed p b at all (BadIndent (first_place at line.tokens))
-deeper p b at line lines all is less = record {
-  there = λ given n. subst (λ ls. RefusedHere (level_at p given b) n at ls (BadIndent (first_place at line.tokens))) (sym is)
-      (refused_first (level_at p given b) n at line lines BadIndent (λ t ts tokens. (refl, refl)) refl (λ same. absurd (omega (arith, less, same))) (λ done lower. absurd (omega (arith, less, lower))));
+pub deeper : (cs : List ℕ) (p : Place) (b : Built) (at : Pos) (line : Line) (lines all : List Line) → AreBelow p.indent cs → all ≡ line ∷ lines → p.indent < line.indent → NotClosed cs p b at all (BadIndent (first_place at line.tokens))
+deeper cs p b at line lines all columns is less = record {
+  there = λ given n. subst (λ ls. RefusedHere cs (level_at p given b) n at ls (BadIndent (first_place at line.tokens))) (sym is)
+      (refused_indent cs (level_at p given b) n at line lines (not_column p.indent line.indent cs (omega (arith, less)) columns) (inl less) (λ same. absurd (omega (arith, less, same))) (λ done lower. absurd (omega (arith, less, lower))));
   other = λ same. cc;
 }
 
@@ -52,29 +66,29 @@ elsewhere d line lines all is other same = by (line.indent == d) refl
     by true here = absurd (let no : true ≡ false = sym here ∙ sym (ap (is_here d) is) ∙ other in cc)
     by false there = eqb-false line.indent d there same
 
-pub no_handler_at : (p : Place) (b : Built) (at : Pos) (line : Line) (lines all : List Line) (fault : ParseFault) → all ≡ line ∷ lines → is_here p.indent all ≡ false → b.last ≡ Try
-    → IsNoHandler line.tokens (first_place at line.tokens) fault → NotClosed p b at all fault
-no_handler_at p b at line lines all (Unexpected place) is other last named = record {
-  there = λ given n. subst (λ ls. RefusedHere (level_at p given b) n at ls (Unexpected place)) (sym is)
-      (subst (λ q. RefusedHere (level_at p given b) n at (line ∷ lines) (Unexpected q)) (sym named.0)
-      (refused_first (level_at p given b) n at line lines Unexpected (λ t ts tokens. (refl, sym (ap begins_never tokens) ∙ named.1)) refl (elsewhere p.indent line lines all is other) (λ done lower. lacks_done p b given last done)));
+pub no_handler_at : (cs : List ℕ) (p : Place) (b : Built) (at : Pos) (line : Line) (lines all : List Line) (fault : ParseFault) → all ≡ line ∷ lines → is_here p.indent all ≡ false → b.last ≡ Try
+    → IsNoHandler cs line (first_place at line.tokens) fault → NotClosed cs p b at all fault
+no_handler_at cs p b at line lines all (Unexpected place) is other last named = record {
+  there = λ given n. subst (λ ls. RefusedHere cs (level_at p given b) n at ls (Unexpected place)) (sym is)
+      (subst (λ q. RefusedHere cs (level_at p given b) n at (line ∷ lines) (Unexpected q)) (sym named.0)
+      (refused_first cs (level_at p given b) n at line lines Unexpected (λ t ts tokens. (refl, sym (ap begins_never tokens) ∙ named.1)) refl named.2 (lacks p b given last) (elsewhere p.indent line lines all is other) (λ done lower. lacks_done p b given last done)));
   other = λ same. cc;
 }
-no_handler_at p b at line lines all (Unsupported place) is other last named = record {
-  there = λ given n. subst (λ ls. RefusedHere (level_at p given b) n at ls (Unsupported place)) (sym is)
-      (subst (λ q. RefusedHere (level_at p given b) n at (line ∷ lines) (Unsupported q)) (sym named)
-      (refused_first (level_at p given b) n at line lines Unsupported (λ t ts tokens. tt) tt (elsewhere p.indent line lines all is other) (λ done lower. lacks_done p b given last done)));
+no_handler_at cs p b at line lines all (Unsupported place) is other last named = record {
+  there = λ given n. subst (λ ls. RefusedHere cs (level_at p given b) n at ls (Unsupported place)) (sym is)
+      (subst (λ q. RefusedHere cs (level_at p given b) n at (line ∷ lines) (Unsupported q)) (sym named.0)
+      (refused_first cs (level_at p given b) n at line lines Unsupported (λ t ts tokens. tt) tt named.1 (lacks p b given last) (elsewhere p.indent line lines all is other) (λ done lower. lacks_done p b given last done)));
   other = λ same. cc;
 }
-no_handler_at p b at line lines all (BadIndent place) is other last named = record {
-  there = λ given n. subst (λ ls. RefusedHere (level_at p given b) n at ls (BadIndent place)) (sym is)
-      (subst (λ q. RefusedHere (level_at p given b) n at (line ∷ lines) (BadIndent q)) (sym named)
-      (refused_first (level_at p given b) n at line lines BadIndent (λ t ts tokens. (refl, refl)) refl (elsewhere p.indent line lines all is other) (λ done lower. lacks_done p b given last done)));
+no_handler_at cs p b at line lines all (BadIndent place) is other last named = record {
+  there = λ given n. subst (λ ls. RefusedHere cs (level_at p given b) n at ls (BadIndent place)) (sym is)
+      (subst (λ q. RefusedHere cs (level_at p given b) n at (line ∷ lines) (BadIndent q)) (sym named.0)
+      (refused_indent cs (level_at p given b) n at line lines named.1 (inr (lacks p b given last)) (elsewhere p.indent line lines all is other) (λ done lower. lacks_done p b given last done)));
   other = λ same. cc;
 }
-no_handler_at p b at line lines all (TooDeep place) is other last named = absurd named
-no_handler_at p b at line lines all (TooMany place) is other last named = absurd named
-no_handler_at p b at line lines all Memory is other last named = absurd named
+no_handler_at cs p b at line lines all (TooDeep place) is other last named = absurd named
+no_handler_at cs p b at line lines all (TooMany place) is other last named = absurd named
+no_handler_at cs p b at line lines all Memory is other last named = absurd named
 
 pub lower_here : (d : ℕ) (line : Line) (lines all : List Line) → all ≡ line ∷ lines → is_here d all ≡ false → line.indent ≤ d → Below d all
 lower_here d line lines all is other low = subst (Below d) (sym is) (less line.indent d low (elsewhere d line lines all is other))
@@ -82,11 +96,11 @@ lower_here d line lines all is other low = subst (Below d) (sym is) (less line.i
     less : (a b : ℕ) → a ≤ b → (a ≡ b → ⊥) → a < b
     less a b low different = omega (arith, low, different)
 
-pub closes_lower : (p : Place) (b : Built) (at : Pos) (line : Line) (lines all : List Line) → all ≡ line ∷ lines → is_here p.indent all ≡ false → line.indent ≤ p.indent → b.has_stmt ≡ false → NotClosed p b at all (BadIndent at)
-closes_lower p b at line lines all is other low none = empty_end p b at all (lower_here p.indent line lines all is other low) none
+pub closes_lower : (cs : List ℕ) (p : Place) (b : Built) (at : Pos) (line : Line) (lines all : List Line) → all ≡ line ∷ lines → is_here p.indent all ≡ false → line.indent ≤ p.indent → (b.last ≡ Try → ⊥) → b.has_stmt ≡ false → NotClosed cs p b at all (BadIndent at)
+closes_lower cs p b at line lines all is other low finished none = empty_end cs p b at all (lower_here p.indent line lines all is other low) finished none
 
-pub other_place : (p : Place) (b : Built) (at : Pos) (lines : List Line) (fault : Pos → ParseFault) (here there : Pos) → here ≡ there → NotClosed p b at lines (fault there) → NotClosed p b at lines (fault here)
-other_place p b at lines fault here there is r = subst (λ q. NotClosed p b at lines (fault q)) (sym is) r
+pub other_place : (cs : List ℕ) (p : Place) (b : Built) (at : Pos) (lines : List Line) (fault : Pos → ParseFault) (here there : Pos) → here ≡ there → NotClosed cs p b at lines (fault there) → NotClosed cs p b at lines (fault here)
+other_place cs p b at lines fault here there is r = subst (λ q. NotClosed cs p b at lines (fault q)) (sym is) r
 
 pub nothing_below : (lines : List Line) → length lines ≡ 0 → lines ≡ []
 nothing_below [] is = refl

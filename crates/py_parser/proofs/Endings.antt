@@ -1,5 +1,5 @@
 -- How rows that have begun may go on to their end, so that the lines before a fault are those of some script.
-use Rattle.std.proofs.Common.{◌≡◌, inl, inr, ℕ, ◌<◌, suc, Bool, true, false, ◌&&◌, ◌||◌, not, List, [], ◌∷◌, ◌++◌, Some, refl, ap, sym, ◌∙◌, subst, arith, append_assoc, append-nil}
+use Rattle.std.proofs.Common.{◌≡◌, inl, inr, ℕ, ◌<◌, ◌≤◌, suc, Bool, true, false, ◌&&◌, ◌||◌, not, List, [], ◌∷◌, ◌++◌, Some, refl, ap, sym, ◌∙◌, subst, arith, append_assoc, append-nil}
 use Rattle.std.proofs.lemmas.Bool.{false≢true}
 use Rattle.py_lines.specs.declared.parts.Line.{Line}
 use Rattle.py_lines.specs.declared.parts.Token.{Token}
@@ -9,10 +9,11 @@ use Rattle.py_grammar.specs.Written.{pass, every_kind}
 use Rattle.py_grammar.specs.LineReader.{Head, simple_head, except_head, head_tokens}
 use Rattle.py_grammar.specs.Layout.{IsLine}
 use Rattle.py_grammar.specs.ParsedHead.{takes_handler, lacks_handler}
-use Rattle.py_parser.specs.Faults.{Opens, Point, at_token, at_end, below, no_line, tokens_before, Next}
+use Rattle.py_parser.specs.Faults.{Opens, Point, at_token, at_end, at_line, below, no_line, tokens_before, Next, IsAt, IsPass, IsPassBefore, IsHandler}
 use Rattle.py_parser.specs.Rows.{Rows, end_rows, row, Under, nothing, block, rows_lines, under_lines, Level, is_every, opens, after, inside, follows, Leads, FitsUnder, FitsRows}
 use Rattle.py_parser.specs.Grouped.{no_spot}
-use Rattle.py_parser.specs.ParsedBlocks.{RowsBegin, UnderBegins}
+use Rattle.py_parser.specs.ParsedBlocks.{RowsBegin, UnderBegins, RowsGoOn, UnderGoesOn}
+use Rattle.py_parser.proofs.Peeled.{join}
 
 -- ---- the shortest end of a suite
 
@@ -64,10 +65,6 @@ ending_fits l = by (lacks_handler l.context.last) refl l.has_stmt refl
 
 -- ---- rows behind rows
 
-abbrev join : Rows → Rows → Rows
-join end_rows b = b
-join (row line h under rest) b = row line h under (join rest b)
-
 join_lines : (a b : Rows) → rows_lines (join a b) ≡ rows_lines a ++ rows_lines b
 join_lines end_rows b = refl
 join_lines (row line h under rest) b = ap (λ ls. line ∷ under_lines under ++ ls) (join_lines rest b) ∙ ap (λ ls. line ∷ ls) (sym (append_assoc (under_lines under) (rows_lines rest) (rows_lines b)))
@@ -89,6 +86,7 @@ next_more (at_token indent (f ∷ fs) t) x y (inr is) = inr is
 next_more (at_end indent []) x y is = tt
 next_more (at_end indent (f ∷ fs)) x y (inl is) = inl (opens_more indent (f ∷ fs) x y is)
 next_more (at_end indent (f ∷ fs)) x y (inr is) = inr is
+next_more (at_line indent) x y is = tt
 next_more (below indent) x y is = tt
 next_more no_line x y is = tt
 
@@ -97,6 +95,7 @@ next_here (at_token indent [] t) x is = tt
 next_here (at_token indent (f ∷ fs) t) x is = cc
 next_here (at_end indent []) x is = tt
 next_here (at_end indent (f ∷ fs)) x is = cc
+next_here (at_line indent) x is = tt
 next_here (below indent) x is = tt
 next_here no_line x is = tt
 
@@ -155,3 +154,59 @@ begins_inside m h k front p open_is deeper b = record { under = block k b.rows; 
 
 pub begins_suite : (m : Level) (h : Head) (p : Point) → opens h ≡ true → tokens_before p ≡ [] → UnderBegins m h [] p
 begins_suite m h p open_is is = begins_inside m h (suc m.indent) [] p open_is (omega arith) (begins_here (inside m h (suc m.indent)) p is)
+
+-- ---- a line that stands next
+
+abbrev handled : Level → Rows
+handled l = row (line_of l.indent handler) handler nothing end_rows
+
+abbrev passed : Level → Rows
+passed l = row (line_of l.indent pass_head) pass_head nothing end_rows
+
+handled_fits : (l : Level) → lacks_handler l.context.last ≡ true → FitsRows l (handled l)
+handled_fits l lacks = (record { indent_is = refl; tokens_are = refl }, takes_there l.context.last lacks, refl, or_true l.has_stmt)
+
+passed_fits : (l : Level) → lacks_handler l.context.last ≡ false → FitsRows l (passed l)
+passed_fits l lacks = (record { indent_is = refl; tokens_are = refl }, fine (lacks_handler l.context.last) lacks, refl, or_true l.has_stmt)
+
+pub handler_next : (m : Level) → lacks_handler m.context.last ≡ true → RowsGoOn m IsHandler []
+handler_next m lacks = record { rows = handled m; fits = handled_fits m lacks; line = line_of m.indent handler; more = []; lines_are = refl; line_is = record { at = no_spot; more = _; tokens_are = refl } }
+
+pub pass_next : (m : Level) (d : ℕ) → lacks_handler m.context.last ≡ false → d ≤ m.indent → RowsGoOn m (IsPass d) []
+pass_next m d lacks low = record { rows = passed m; fits = passed_fits m lacks; line = line_of m.indent pass_head; more = []; lines_are = refl; line_is = (low, record { at = no_spot; more = []; tokens_are = refl }) }
+
+pub pass_before : (m : Level) (d : ℕ) → lacks_handler m.context.last ≡ false → m.indent < d → RowsGoOn m (IsPassBefore d) []
+pass_before m d lacks less = record { rows = passed m; fits = passed_fits m lacks; line = line_of m.indent pass_head; more = []; lines_are = refl; line_is = (less, record { at = no_spot; more = []; tokens_are = refl }) }
+
+pub line_next : (m : Level) → RowsGoOn m (IsAt m.indent) []
+line_next m = by (lacks_handler m.context.last) refl
+  where
+    by : (b : Bool) → lacks_handler m.context.last ≡ b → RowsGoOn m (IsAt m.indent) []
+    by true lacks = record { rows = handled m; fits = handled_fits m lacks; line = line_of m.indent handler; more = []; lines_are = refl; line_is = refl }
+    by false lacks = record { rows = passed m; fits = passed_fits m lacks; line = line_of m.indent pass_head; more = []; lines_are = refl; line_is = refl }
+
+pub goes_behind : (l m : Level) (rows : Rows) (is : Line → Type 0) (front : List Line) → Leads l rows m → RowsGoOn m is front → RowsGoOn l is (rows_lines rows ++ front)
+goes_behind l m rows is front leads g = record {
+  rows = join rows g.rows;
+  fits = join_fits l m rows g.rows leads g.fits;
+  line = g.line;
+  more = g.more;
+  lines_are = join_lines rows g.rows ∙ ap (λ ls. rows_lines rows ++ ls) g.lines_are ∙ sym (append_assoc (rows_lines rows) front (g.line ∷ g.more));
+  line_is = g.line_is;
+}
+
+pub goes_end : (l m : Level) (rows : Rows) (is : Line → Type 0) → Leads l rows m → RowsGoOn m is [] → RowsGoOn l is (rows_lines rows)
+goes_end l m rows is leads g = subst (RowsGoOn l is) (append-nil (rows_lines rows)) (goes_behind l m rows is [] leads g)
+
+pub goes_under : (m : Level) (h : Head) (line : Line) (is : Line → Type 0) (front : List Line) → IsLine line m.indent (head_tokens h) → follows m h ≡ true → UnderGoesOn m h is front → RowsGoOn m is (line ∷ front)
+goes_under m h line is front this may_follow g = record {
+  rows = row line h g.under (ending (after m h));
+  fits = (this, may_follow, g.fits, ending_fits (after m h));
+  line = g.line;
+  more = g.more ++ rows_lines (ending (after m h));
+  lines_are = ap (λ ls. line ∷ ls ++ rows_lines (ending (after m h))) g.lines_are ∙ ap (λ ls. line ∷ ls) (append_assoc front (g.line ∷ g.more) (rows_lines (ending (after m h))));
+  line_is = g.line_is;
+}
+
+pub goes_inside : (m : Level) (h : Head) (k : ℕ) (is : Line → Type 0) (front : List Line) → opens h ≡ true → m.indent < k → RowsGoOn (inside m h k) is front → UnderGoesOn m h is front
+goes_inside m h k is front open_is deeper g = record { under = block k g.rows; fits = (open_is, deeper, g.fits); line = g.line; more = g.more; lines_are = g.lines_are; line_is = g.line_is }

@@ -3,6 +3,7 @@ pub mod BlockHeads
 pub mod BlockLines
 pub mod BlockPlaces
 pub mod CloseParts
+pub mod Columns
 pub mod CycleParts
 pub mod Endings
 pub mod Grown

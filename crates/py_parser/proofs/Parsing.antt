@@ -1,9 +1,8 @@
 -- A whole script: what is read of all its lines, and what is refused.
-use Rattle.std.proofs.Common.{◌≡◌, ℕ, ◌+◌, true, List, [], ◌∷◌, ◌++◌, refl, ap, sym, ◌∙◌, subst, arith, append-nil, map, Vec, Global}
+use Rattle.std.proofs.Common.{◌≡◌, inl, inr, ◌⊎◌, ℕ, ◌<◌, ◌+◌, true, List, [], ◌∷◌, ◌++◌, refl, ap, sym, ◌∙◌, subst, arith, append-nil, map, Vec, Global}
 use Rattle.std.proofs.lemmas.Bool.{false≢true}
 use Rattle.prov_base.specs.declared.place.Pos.{Pos}
 use Rattle.py_lines.specs.declared.parts.Line.{Line}
-use Rattle.py_lines.specs.declared.parts.Token.{Token}
 use Rattle.py_tree.specs.declared.stmt.Stmt.{Stmt}
 use Rattle.py_tree.specs.declared.stmt.Suite.{roll-Suite}
 use Rattle.py_tree.specs.Erasure.{stmt_of, suite_of}
@@ -18,11 +17,11 @@ use Rattle.py_grammar.specs.Follows.{Below}
 use Rattle.py_parser.specs.declared.blocks.Built.{Built}
 use Rattle.py_parser.specs.Limits.{profile}
 use Rattle.py_parser.specs.Script.{IsScript}
-use Rattle.py_parser.specs.Faults.{Point, at_token, at_end, shows, first_place, Asks, origin, BeginsScript, FirstFault, IsFault}
+use Rattle.py_parser.specs.Faults.{Point, at_token, at_end, at_line, below, no_line, shows, first_place, first_token, Asks, origin, BeginsScript, MayFollow, IsAt, IsPass, IsPassBefore, IsHandler, MayStandAt, InColumn, FirstFault, IsFault}
 use Rattle.py_parser.specs.Rows.{Rows, end_rows, row, rows_lines, rows_size, rows_may, start, Level, FitsRows, FitsStart, Begun}
 use Rattle.py_parser.specs.Grouped.{script_rows, script_of}
 use Rattle.py_parser.specs.RowForms.{suite_list, grow}
-use Rattle.py_parser.specs.ParsedBlocks.{trees_of, RowsBegin, Refused, RowsStopped, RowsRead}
+use Rattle.py_parser.specs.ParsedBlocks.{trees_of, RowsBegin, RowsGoOn, NoRows, MayStand, Placed, Refused, RowsStopped, RowsRead}
 use Rattle.py_parser.proofs.RowLines.{script_same}
 use Rattle.py_parser.proofs.RowFits.{script_fits}
 use Rattle.py_parser.proofs.RowStatements.{script_is}
@@ -32,6 +31,8 @@ use Rattle.py_parser.proofs.RowKept.{script_fine}
 use Rattle.py_tree.proofs.DeletionLaws.{suite_again, suite_size}
 use Rattle.py_parser.proofs.BlockForms.{rolled}
 use Rattle.py_parser.proofs.Peeled.{one_indent}
+use Rattle.py_parser.proofs.Columns.{none_open}
+use Rattle.py_parser.proofs.Endings.{pass_before}
 
 abbrev pub tree_of : SuiteTree → ℕ → ScriptTree
 tree_of body count = record { body = body; count = count }
@@ -106,7 +107,37 @@ script_begins front p b =
     let s = script_is b.rows (starts b.rows b.fits) in
     record { some = script_of b.rows; fits = s.fits; more = b.more; lines_are = sym (script_same (script_of b.rows)) ∙ ap rows_lines s.rows_are ∙ b.lines_are; next = b.next }
 
-first_fault : (lines : List Line) (fault : ParseFault) → Refused start 0 origin lines fault → FirstFault lines fault
+-- rows that go on so are those of a script
+script_goes_on : (is : Line → Type 0) (front : List Line) → RowsGoOn start is front → MayFollow is front
+script_goes_on is front g =
+    let s = script_is g.rows (starts g.rows g.fits) in
+    record { some = script_of g.rows; fits = s.fits; line = g.line; more = g.more; lines_are = sym (script_same (script_of g.rows)) ∙ ap rows_lines s.rows_are ∙ g.lines_are; line_is = g.line_is }
+
+may_stand_at : (d : ℕ) (front : List Line) → MayStand [] start d front → MayStandAt d front
+may_stand_at d front (inl g) = inl (script_goes_on (IsAt d) front g)
+may_stand_at d front (inr (inl c, g)) = absurd (false≢true c)
+may_stand_at d front (inr (inr o, g)) = inr (o, script_goes_on IsHandler front g)
+
+not_empty : (front : List Line) (line : Line) (more : List Line) → front ++ line ∷ more ≡ [] → ⊥
+not_empty [] line more is = cc
+not_empty (first ∷ front) line more is = cc
+
+never_there : (d : ℕ) (front : List Line) → NoRows [] start d front → MayFollow (IsAt d) front → ⊥
+never_there d front absent g = absent.none g.line g.more (script_rows g.some) [] g.line_is (fits_start g.some (front ++ g.line ∷ g.more) g.fits g.lines_are (not_empty front g.line g.more)) tt
+    (append-nil (rows_lines (script_rows g.some)) ∙ script_same g.some ∙ g.lines_are)
+
+complete_at : (d : ℕ) (front : List Line) → RowsGoOn start (IsPassBefore d) front ⊎ RowsGoOn start IsHandler front → MayFollow (IsPassBefore d) front ⊎ MayFollow IsHandler front
+complete_at d front (inl g) = inl (script_goes_on (IsPassBefore d) front g)
+complete_at d front (inr g) = inr (script_goes_on IsHandler front g)
+
+in_column : (front : List Line) (p : Point) → Placed [] start front p → InColumn front p
+in_column front (at_token d tokens t) placed = may_stand_at d front placed
+in_column front (at_end d tokens) placed = may_stand_at d front placed
+in_column front (at_line d) placed = record { none = never_there d front placed; no_suite = placed.inside; complete = complete_at d front placed.complete }
+in_column front (below d) placed = script_goes_on (IsPass d) front placed
+in_column front no_line placed = script_goes_on IsHandler front placed
+
+first_fault : (lines : List Line) (fault : ParseFault) → Refused [] start 0 origin lines fault → FirstFault lines fault
 first_fault lines fault r = record {
   front = r.front;
   behind = r.behind;
@@ -114,16 +145,17 @@ first_fault lines fault r = record {
   lines_are = r.lines_are;
   shown = r.shown;
   named = r.named;
+  column = in_column r.front r.point r.placed;
   begins = script_begins r.front r.point r.begins;
   none = λ limits asks s fits fine rest shown_it same.
       r.none limits asks rest (script_rows s) [] shown_it (fits_start s (r.front ++ rest) fits same (some_lines 0 (r.front ++ rest) (r.begun rest shown_it))) (script_may limits s fine) tt
       (append-nil (rows_lines (script_rows s)) ∙ script_same s ∙ same);
 }
 
-stopped_script : (lines : List Line) (l : Level) (fault : ParseFault) → l ≡ start → RowsStopped l 0 origin lines fault → IsFault lines fault
-stopped_script lines l fault is r = by fault (subst (λ (k : Level). RowsStopped k 0 origin lines fault) is r)
+stopped_script : (lines : List Line) (l : Level) (fault : ParseFault) → l ≡ start → RowsStopped [] l 0 origin lines fault → IsFault lines fault
+stopped_script lines l fault is r = by fault (subst (λ (k : Level). RowsStopped [] k 0 origin lines fault) is r)
   where
-    by : (fault : ParseFault) → RowsStopped start 0 origin lines fault → IsFault lines fault
+    by : (fault : ParseFault) → RowsStopped [] start 0 origin lines fault → IsFault lines fault
     by Memory r = tt
     by (Unexpected place) r = first_fault lines (Unexpected place) r
     by (Unsupported place) r = first_fault lines (Unsupported place) r
@@ -131,8 +163,9 @@ stopped_script lines l fault is r = by fault (subst (λ (k : Level). RowsStopped
     by (TooDeep place) r = first_fault lines (TooDeep place) r
     by (TooMany place) r = first_fault lines (TooMany place) r
 
-pub stopped_there : (lines read : List Line) (l : Level) (fault : ParseFault) → read ≡ lines → l ≡ start → RowsStopped l 0 origin read fault → IsFault lines fault
-stopped_there lines read l fault same is r = subst (λ (ls : List Line). IsFault ls fault) same (stopped_script read l fault is r)
+pub stopped_there : (lines read : List Line) (cs : List ℕ) (l : Level) (fault : ParseFault) → read ≡ lines → cs ≡ [] → l ≡ start → RowsStopped cs l 0 origin read fault → IsFault lines fault
+stopped_there lines read cs l fault same columns is r =
+    subst (λ (ls : List Line). IsFault ls fault) same (stopped_script read l fault is (subst (λ (xs : List ℕ). RowsStopped xs l 0 origin read fault) columns r))
 
 -- the first line of a script is not indented
 zero_first : (rows : Rows) (rest : List Line) → FitsRows start rows → rows_lines rows ≡ rest → Begun 0 rest
@@ -140,41 +173,28 @@ zero_first end_rows rest fits same = absurd (false≢true fits)
 zero_first (row line h under more) rest fits same = subst (Begun 0) same fits.0.indent_is
 
 pub indented_first : (line : Line) (lines all : List Line) → all ≡ line ∷ lines → (line.indent ≡ 0 → ⊥) → FirstFault all (BadIndent (first_place origin line.tokens))
-indented_first line lines all is other = by line.tokens refl
+indented_first line lines all is other = record {
+  front = [];
+  behind = all;
+  point = at_line line.indent;
+  lines_are = refl;
+  shown = subst (shows (at_line line.indent)) (sym is) refl;
+  named = sym (ap (first_token origin) is);
+  column = record { none = λ g. never g.some (g.line ∷ g.more) g.fits g.lines_are g.line_is; no_suite = none_open line.indent; complete = inl (script_goes_on (IsPassBefore line.indent) [] (pass_before start line.indent refl (positive line.indent other))) };
+  begins = record { some = empty_script; fits = tt; more = []; lines_are = refl; next = tt };
+  none = λ limits asks s fits fine rest shown_it same. never s rest fits same (begun rest shown_it);
+}
   where
+    positive : (d : ℕ) → (d ≡ 0 → ⊥) → 0 < d
+    positive d other = omega (arith, other)
+
     never : (s : Script) (rest : List Line) → FitsScript s → script_lines s ≡ rest → Begun line.indent rest → ⊥
     never s rest fits same begun =
         other (one_indent line.indent 0 rest rest begun (zero_first (script_rows s) rest (fits_start s rest fits same (some_lines line.indent rest begun)) (script_same s ∙ same)) refl)
 
-    begun_end : (rest : List Line) → shows (at_end line.indent []) rest → Begun line.indent rest
-    begun_end [] shown_it = absurd shown_it
-    begun_end (first ∷ more) shown_it = shown_it.0
-
-    begun_token : (t : Token) (rest : List Line) → shows (at_token line.indent [] t) rest → Begun line.indent rest
-    begun_token t [] shown_it = absurd shown_it
-    begun_token t (first ∷ more) shown_it = shown_it.0
-
-    by : (ts : List Token) → line.tokens ≡ ts → FirstFault all (BadIndent (first_place origin ts))
-    by [] tokens = record {
-      front = [];
-      behind = all;
-      point = at_end line.indent [];
-      lines_are = refl;
-      shown = subst (shows (at_end line.indent [])) (sym is) (refl, tokens);
-      named = refl;
-      begins = record { some = empty_script; fits = tt; more = []; lines_are = refl; next = tt };
-      none = λ limits asks s fits fine rest shown_it same. never s rest fits same (begun_end rest shown_it);
-    }
-    by (t ∷ ts) tokens = record {
-      front = [];
-      behind = all;
-      point = at_token line.indent [] t;
-      lines_are = refl;
-      shown = subst (shows (at_token line.indent [] t)) (sym is) (refl, record { more = ts; tokens_are = tokens });
-      named = (refl, refl);
-      begins = record { some = empty_script; fits = tt; more = []; lines_are = refl; next = tt };
-      none = λ limits asks s fits fine rest shown_it same. never s rest fits same (begun_token t rest shown_it);
-    }
+    begun : (rest : List Line) → shows (at_line line.indent) rest → Begun line.indent rest
+    begun [] shown_it = absurd shown_it
+    begun (first ∷ more) shown_it = shown_it
 
 -- ---- where the lines are a script
 

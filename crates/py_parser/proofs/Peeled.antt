@@ -108,24 +108,40 @@ rest_edge : (line : Line) (h : Head) (under : Under) (rest : Rows) (x : List Lin
 rest_edge line h under end_rows x edge = tt
 rest_edge line h under (row line_2 h_2 under_2 rest) x edge = edge
 
+-- rows behind rows
+abbrev pub join : Rows → Rows → Rows
+join end_rows b = b
+join (row line h under rest) b = row line h under (join rest b)
+
+-- the rows that are left behind others, with what is asked of them or without
+pub record LeftOver (m : Level) (front rows : Rows) (x r : List Line) : Type 0 where
+  pub left : Rows
+  pub rows_are : rows ≡ join front left
+  pub fits : FitsRows m left
+  pub lines_are : rows_lines left ++ r ≡ x
+
 -- all that fits with these first lines goes on behind them
-pub peeled : (q : Limits) (l m : Level) (n : ℕ) (front rows : Rows) (x r : List Line) → Leads l front m → FitsRows l rows → rows_may q l n rows ≡ true → Below l.indent r → LastEdge front x → rows_lines rows ++ r ≡ rows_lines front ++ x
-    → Left q m (n + rows_size front) rows x r
-peeled q l m n end_rows rows x r leads fits may_be low edge is =
-    record { left = rows; fits = subst (λ k. FitsRows k rows) (sym leads) fits; may_be = no_more n (subst (λ k. rows_may q k n rows ≡ true) (sym leads) may_be); lines_are = is }
-  where
-    no_more : (n : ℕ) → rows_may q m n rows ≡ true → rows_may q m (n + 0) rows ≡ true
-    no_more n may_be = subst (λ k. rows_may q m k rows ≡ true) (omega arith) may_be
-peeled q l m n (row line h under rest) end_rows x r leads fits may_be low edge is = absurd (not_below line ((under_lines under ++ rows_lines rest) ++ x) l.indent _ leads.0 (subst (Below l.indent) is low))
-peeled q l m n (row line h under rest) (row line_2 h_2 under_2 rest_2) x r leads fits may_be low edge is =
+pub left_over : (l m : Level) (front rows : Rows) (x r : List Line) → Leads l front m → FitsRows l rows → Below l.indent r → LastEdge front x → rows_lines rows ++ r ≡ rows_lines front ++ x → LeftOver m front rows x r
+left_over l m end_rows rows x r leads fits low edge is = record { left = rows; rows_are = refl; fits = subst (λ k. FitsRows k rows) (sym leads) fits; lines_are = is }
+left_over l m (row line h under rest) end_rows x r leads fits low edge is = absurd (not_below line ((under_lines under ++ rows_lines rest) ++ x) l.indent _ leads.0 (subst (Below l.indent) is low))
+left_over l m (row line h under rest) (row line_2 h_2 under_2 rest_2) x r leads fits low edge is =
     let first : line ≡ line_2 = first_line line line_2 _ _ (sym is) in
     let head : h ≡ h_2 = head_is l l line line_2 h h_2 first leads.0 fits.0 in
     let below_2 : FitsUnder l h under_2 = subst (λ g. FitsUnder l g under_2) (sym head) fits.2 in
     let rest_fits : FitsRows (after l h) rest_2 = subst (λ g. FitsRows (after l g) rest_2) (sym head) fits.3 in
     let u = same_under l h under under_2 (rows_lines rest ++ x) (rows_lines rest_2 ++ r) leads.2 below_2 (first_edge l h line under rest m x leads.2 leads.3 edge) (edge_under l h h under_2 rest_2 r below_2 rest_fits low)
     (shifted line line_2 (under_lines under) (rows_lines rest) x (under_lines under_2) (rows_lines rest_2) r (sym is)) in
-    let all : (may q l n h_2 && under_may q l (n + counted h_2) h_2 under_2 && rows_may q (after l h_2) (n + counted h_2 + under_size under_2) rest_2) ≡ true = may_be in
-    let more : rows_may q (after l h) (n + counted h + under_size under) rest_2 ≡ true =
-    ap (λ g. rows_may q (after l g) (n + counted g + under_size under) rest_2) head ∙ ap (λ (v : Under). rows_may q (after l h_2) (n + counted h_2 + under_size v) rest_2) u.under_is ∙ second _ _ all in
-    let p = peeled q (after l h) m (n + counted h + under_size under) rest rest_2 x r leads.3 rest_fits more low (rest_edge line h under rest x edge) (sym u.rest_is) in
-    record { left = p.left; fits = p.fits; may_be = subst (λ k. rows_may q m k p.left ≡ true) (omega arith) p.may_be; lines_are = p.lines_are }
+    let p = left_over (after l h) m rest rest_2 x r leads.3 rest_fits low (rest_edge line h under rest x edge) (sym u.rest_is) in
+    record { left = p.left; rows_are = sym (same_row line line_2 h h_2 under under_2 (join rest p.left) rest_2 first head u.under_is (sym p.rows_are)); fits = p.fits; lines_are = p.lines_are }
+
+left_may : (q : Limits) (l m : Level) (n : ℕ) (front left : Rows) → Leads l front m → rows_may q l n (join front left) ≡ true → rows_may q m (n + rows_size front) left ≡ true
+left_may q l m n end_rows left leads may_be = subst (λ k. rows_may q m k left ≡ true) (omega arith) (subst (λ k. rows_may q k n left ≡ true) (sym leads) may_be)
+left_may q l m n (row line h under rest) left leads may_be =
+    let all : (may q l n h && under_may q l (n + counted h) h under && rows_may q (after l h) (n + counted h + under_size under) (join rest left)) ≡ true = may_be in
+    subst (λ k. rows_may q m k left ≡ true) (omega arith) (left_may q (after l h) m (n + counted h + under_size under) rest left leads.3 (second _ _ all))
+
+pub peeled : (q : Limits) (l m : Level) (n : ℕ) (front rows : Rows) (x r : List Line) → Leads l front m → FitsRows l rows → rows_may q l n rows ≡ true → Below l.indent r → LastEdge front x → rows_lines rows ++ r ≡ rows_lines front ++ x
+    → Left q m (n + rows_size front) rows x r
+peeled q l m n front rows x r leads fits may_be low edge is =
+    let p = left_over l m front rows x r leads fits low edge is in
+    record { left = p.left; fits = p.fits; may_be = left_may q l m n front p.left leads (ap (rows_may q l n) (sym p.rows_are) ∙ may_be); lines_are = p.lines_are }

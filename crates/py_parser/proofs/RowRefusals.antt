@@ -1,5 +1,5 @@
 -- Where the lines of a script stop being rows: how a refusal further on is one of what stands before it.
-use Rattle.std.proofs.Common.{◌≡◌, ℕ, ◌+◌, ◌<◌, ◌≤◌, suc, nat_le, Bool, true, false, ◌&&◌, List, [], ◌∷◌, ◌++◌, refl, ap, sym, ◌∙◌, subst, arith, append_assoc, leb-true}
+use Rattle.std.proofs.Common.{◌≡◌, inl, inr, ◌⊎◌, ℕ, ◌+◌, ◌<◌, ◌≤◌, suc, nat_le, Bool, true, false, ◌&&◌, List, [], ◌∷◌, ◌++◌, refl, ap, sym, ◌∙◌, subst, arith, append_assoc, leb-true}
 use Rattle.std.proofs.lemmas.Bool.{false≢true}
 use Rattle.prov_base.specs.declared.place.Pos.{Pos}
 use Rattle.py_lines.specs.declared.parts.Line.{Line}
@@ -11,10 +11,12 @@ use Rattle.py_grammar.specs.Layout.{IsLine}
 use Rattle.py_grammar.specs.Follows.{Below}
 use Rattle.py_parser.specs.Limits.{Limits}
 use Rattle.py_parser.specs.Rows.{Rows, end_rows, row, Under, nothing, block, rows_lines, under_lines, Level, counted, opens, after, inside, is_done, follows, Leads, FitsUnder, FitsRows, may, rows_may, under_may, rows_size, Edge, LastEdge, Begun}
-use Rattle.py_parser.specs.Faults.{Asks, Point, at_token, at_end, below, no_line, shows, first_place, last_place, last_token, names}
-use Rattle.py_parser.specs.ParsedBlocks.{Refused, RefusedHere, RefusedUnder, RefusedLine}
-use Rattle.py_parser.proofs.Endings.{begins_here, begins_behind, begins_end, begins_under, begins_inside, begins_suite}
-use Rattle.py_parser.proofs.Peeled.{begun_rows, one_indent, edge_under, head_is, peeled}
+use Rattle.py_grammar.specs.ParsedHead.{lacks_handler}
+use Rattle.py_parser.specs.Faults.{NoLess, Asks, Point, at_token, at_end, at_line, below, no_line, shows, first_place, last_place, last_token, NamesToken, NamesEnd, names, IsAt, IsPass, IsPassBefore, IsHandler, IsOpenAt}
+use Rattle.py_parser.specs.ParsedBlocks.{is_column, columns_under, RowsGoOn, UnderGoesOn, NoRows, NoUnder, MayStand, MayStandUnder, Placed, PlacedUnder, IsOnLine, UnderBegins, Refused, RefusedHere, RefusedUnder, RefusedLine}
+use Rattle.py_parser.proofs.Columns.{leads_low, under_low, less_in, all_front, open_behind, open_first, none_open, open_split, open_apart, open_low, no_open_rows, column_inside, own_column, column_here}
+use Rattle.py_parser.proofs.Endings.{begins_here, begins_behind, begins_end, begins_under, begins_inside, begins_suite, handler_next, pass_next, pass_before, line_next, goes_behind, goes_end, goes_under, goes_inside}
+use Rattle.py_parser.proofs.Peeled.{begun_rows, one_indent, edge_under, head_is, left_over, peeled}
 
 first_line : (a b : Line) (x y : List Line) → a ∷ x ≡ b ∷ y → a ≡ b
 first_line a b x y is = cc
@@ -55,15 +57,59 @@ begun_first : (l m : Level) (rows : Rows) (x : List Line) → Leads l rows m →
 begun_first l m end_rows x leads begun = subst (λ d. Begun d x) (indent_stays l m end_rows leads) begun
 begun_first l m (row line h under rest) x leads begun = leads.0.indent_is
 
-pub refused_behind : (l m : Level) (n k : ℕ) (at now : Pos) (before left : List Line) (rows : Rows) (fault : ParseFault) → before ≡ rows_lines rows ++ left → Leads l rows m → k ≡ n + rows_size rows → now ≡ last_token at (rows_lines rows)
-    → Refused m k now left fault → Refused l n at before fault
-refused_behind l m n k at now before left rows fault is leads count_is now_is r = record {
+-- the same is known of where a line may stand
+may_behind : (cs : List ℕ) (l m : Level) (rows : Rows) (d : ℕ) (front : List Line) → Leads l rows m → MayStand cs m d front → MayStand cs l d (rows_lines rows ++ front)
+may_behind cs l m rows d front leads (inl g) = inl (goes_behind l m rows (IsAt d) front leads g)
+may_behind cs l m rows d front leads (inr (inl c, g)) = inr (inl c, goes_behind l m rows IsHandler front leads g)
+may_behind cs l m rows d front leads (inr (inr o, g)) = inr (inr (open_behind d (rows_lines rows) front o), goes_behind l m rows IsHandler front leads g)
+
+no_rows_behind : (cs : List ℕ) (l m : Level) (rows : Rows) (d : ℕ) (front behind : List Line) → Leads l rows m → shows (at_line d) behind → ((rest : List Line) → shows (at_line d) rest → Begun m.indent (front ++ rest)) → NoRows cs m d front
+    → NoRows cs l d (rows_lines rows ++ front)
+no_rows_behind cs l m rows d front behind leads shown begun absent = record {
+  around = absent.around;
+  here = λ same. absent.here (same ∙ sym (indent_stays l m rows leads));
+  complete = complete_behind absent.complete;
+  inside = λ o. elim (open_apart d (rows_lines rows) front o) [ inl more ↦ absent.inside more | inr here ↦ open_here front (begun behind shown) here.0 here.1 ];
+  none = λ line more others r at fits low same.
+      let indent = indent_stays l m rows leads in
+      let p = left_over l m rows others (front ++ line ∷ more) r leads fits low (last_edge l m rows (front ++ line ∷ more) leads (subst (λ e. Begun e (front ++ line ∷ more)) indent (begun (line ∷ more) at))) (same ∙ append_assoc (rows_lines rows) front (line ∷ more)) in
+      absent.none line more p.left r at p.fits (subst (λ e. Below e r) (sym indent) low) p.lines_are;
+}
+  where
+    complete_behind : RowsGoOn m (IsPassBefore d) front ⊎ RowsGoOn m IsHandler front → RowsGoOn l (IsPassBefore d) (rows_lines rows ++ front) ⊎ RowsGoOn l IsHandler (rows_lines rows ++ front)
+    complete_behind (inl g) = inl (goes_behind l m rows (IsPassBefore d) front leads g)
+    complete_behind (inr g) = inr (goes_behind l m rows IsHandler front leads g)
+
+    shown_begun : (e : ℕ) (rest : List Line) → shows (at_line d) rest → Begun e rest → d ≡ e
+    shown_begun e [] shown_it begun_it = absurd begun_it
+    shown_begun e (line ∷ rest) shown_it begun_it = sym shown_it ∙ begun_it
+
+    open_here : (f : List Line) → Begun m.indent (f ++ behind) → IsOpenAt d (rows_lines rows) → NoLess d f → ⊥
+    open_here [] begun_it o low = absent.here (shown_begun m.indent behind shown begun_it)
+    open_here (first ∷ f) begun_it o low =
+        let indent = indent_stays l m rows leads in
+        let least = open_low d l.indent (rows_lines rows) (leads_low l m rows leads) o in
+        let most = low.0 in
+        absent.here (omega (arith, indent, least, most, begun_it))
+
+placed_behind : (cs : List ℕ) (l m : Level) (rows : Rows) (front behind : List Line) (p : Point) → Leads l rows m → shows p behind → ((rest : List Line) → shows p rest → Begun m.indent (front ++ rest)) → Placed cs m front p
+    → Placed cs l (rows_lines rows ++ front) p
+placed_behind cs l m rows front behind (at_token d tokens t) leads shown begun is = may_behind cs l m rows d front leads is
+placed_behind cs l m rows front behind (at_end d tokens) leads shown begun is = may_behind cs l m rows d front leads is
+placed_behind cs l m rows front behind (at_line d) leads shown begun is = no_rows_behind cs l m rows d front behind leads shown begun is
+placed_behind cs l m rows front behind (below d) leads shown begun is = goes_behind l m rows (IsPass d) front leads is
+placed_behind cs l m rows front behind no_line leads shown begun is = goes_behind l m rows IsHandler front leads is
+
+pub refused_behind : (cs : List ℕ) (l m : Level) (n k : ℕ) (at now : Pos) (before left : List Line) (rows : Rows) (fault : ParseFault) → before ≡ rows_lines rows ++ left → Leads l rows m → k ≡ n + rows_size rows → now ≡ last_token at (rows_lines rows)
+    → Refused cs m k now left fault → Refused cs l n at before fault
+refused_behind cs l m n k at now before left rows fault is leads count_is now_is r = record {
   front = rows_lines rows ++ r.front;
   behind = r.behind;
   point = r.point;
   lines_are = is ∙ ap (λ ls. rows_lines rows ++ ls) r.lines_are ∙ sym (append_assoc (rows_lines rows) r.front r.behind);
   shown = r.shown;
-  named = subst (λ p. names p r.point fault) (ap (λ p. last_token p r.front) now_is ∙ sym (tokens_append at (rows_lines rows) r.front)) r.named;
+  named = subst (λ p. names p r.behind r.point fault) (ap (λ p. last_token p r.front) now_is ∙ sym (tokens_append at (rows_lines rows) r.front)) r.named;
+  placed = placed_behind cs l m rows r.front r.behind r.point leads r.shown r.begun r.placed;
   begun = λ rest shows_it. subst (Begun l.indent) (sym (append_assoc (rows_lines rows) r.front rest)) (begun_first l m rows (r.front ++ rest) leads (r.begun rest shows_it));
   begins = begins_behind l m rows r.front r.point leads r.begins;
   none = λ q asks rest others s shows_it fits may_be low same.
@@ -72,16 +118,49 @@ refused_behind l m n k at now before left rows fault is leads count_is now_is r 
       r.none q asks rest p.left s shows_it p.fits (subst (λ j. rows_may q m j p.left ≡ true) (sym count_is) p.may_be) (subst (λ d. Below d s) (sym indent) low) p.lines_are;
 }
 
+may_end : (cs : List ℕ) (l m : Level) (rows : Rows) (d : ℕ) → Leads l rows m → MayStand cs m d [] → MayStand cs l d (rows_lines rows)
+may_end cs l m rows d leads (inl g) = inl (goes_end l m rows (IsAt d) leads g)
+may_end cs l m rows d leads (inr (inl c, g)) = inr (inl c, goes_end l m rows IsHandler leads g)
+may_end cs l m rows d leads (inr (inr o, g)) = absurd (none_open d o)
+
+no_rows_end : (cs : List ℕ) (l m : Level) (rows : Rows) (d : ℕ) (left : List Line) → Leads l rows m → shows (at_line d) left → LastEdge rows left → ((rest : List Line) → shows (at_line d) rest → LastEdge rows rest) → NoRows cs m d [] → NoRows cs l d (rows_lines rows)
+no_rows_end cs l m rows d left leads shown edge edges absent = record {
+  around = absent.around;
+  here = λ same. absent.here (same ∙ sym (indent_stays l m rows leads));
+  complete = complete_end absent.complete;
+  inside = by left shown edge;
+  none = λ line more others r at fits low same.
+      let indent = indent_stays l m rows leads in
+      let p = left_over l m rows others (line ∷ more) r leads fits low (edges (line ∷ more) at) same in
+      absent.none line more p.left r at p.fits (subst (λ e. Below e r) (sym indent) low) p.lines_are;
+}
+  where
+    complete_end : RowsGoOn m (IsPassBefore d) [] ⊎ RowsGoOn m IsHandler [] → RowsGoOn l (IsPassBefore d) (rows_lines rows) ⊎ RowsGoOn l IsHandler (rows_lines rows)
+    complete_end (inl g) = inl (goes_end l m rows (IsPassBefore d) leads g)
+    complete_end (inr g) = inr (goes_end l m rows IsHandler leads g)
+
+    by : (left : List Line) → shows (at_line d) left → LastEdge rows left → IsOpenAt d (rows_lines rows) → ⊥
+    by [] shown edge o = shown
+    by (line ∷ more) shown edge o = no_open_rows l m rows d line more leads shown (λ same. absent.here (same ∙ sym (indent_stays l m rows leads))) edge o
+
+placed_end : (cs : List ℕ) (l m : Level) (rows : Rows) (left : List Line) (p : Point) → Leads l rows m → shows p left → LastEdge rows left → ((rest : List Line) → shows p rest → LastEdge rows rest) → Placed cs m [] p → Placed cs l (rows_lines rows) p
+placed_end cs l m rows left (at_token d tokens t) leads shown edge edges is = may_end cs l m rows d leads is
+placed_end cs l m rows left (at_end d tokens) leads shown edge edges is = may_end cs l m rows d leads is
+placed_end cs l m rows left (at_line d) leads shown edge edges is = no_rows_end cs l m rows d left leads shown edge edges is
+placed_end cs l m rows left (below d) leads shown edge edges is = goes_end l m rows (IsPass d) leads is
+placed_end cs l m rows left no_line leads shown edge edges is = goes_end l m rows IsHandler leads is
+
 -- behind at least one row
-pub refused_end : (l m : Level) (n k : ℕ) (at now : Pos) (before left : List Line) (rows : Rows) (fault : ParseFault) → before ≡ rows_lines rows ++ left → Leads l rows m → k ≡ n + rows_size rows → now ≡ last_token at (rows_lines rows)
-    → LastEdge rows left → ((x : List Line) → Begun l.indent (rows_lines rows ++ x)) → RefusedHere m k now left fault → Refused l n at before fault
-refused_end l m n k at now before left rows fault is leads count_is now_is edge begun r = record {
+pub refused_end : (cs : List ℕ) (l m : Level) (n k : ℕ) (at now : Pos) (before left : List Line) (rows : Rows) (fault : ParseFault) → before ≡ rows_lines rows ++ left → Leads l rows m → k ≡ n + rows_size rows → now ≡ last_token at (rows_lines rows)
+    → LastEdge rows left → ((x : List Line) → Begun l.indent (rows_lines rows ++ x)) → RefusedHere cs m k now left fault → Refused cs l n at before fault
+refused_end cs l m n k at now before left rows fault is leads count_is now_is edge begun r = record {
   front = rows_lines rows;
   behind = left;
   point = r.point;
   lines_are = is;
   shown = r.shown;
-  named = subst (λ p. names p r.point fault) now_is r.named;
+  named = subst (λ p. names p left r.point fault) now_is r.named;
+  placed = placed_end cs l m rows left r.point leads r.shown edge (λ rest shows_it. r.edge rows rest shows_it l (sym (indent_stays l m rows leads)) leads edge) r.placed;
   begun = λ rest shows_it. begun rest;
   begins = begins_end l m rows r.point leads (begins_here m r.point r.before);
   none = λ q asks rest others s shows_it fits may_be low same.
@@ -112,15 +191,58 @@ first_of_three false b c is = absurd (false≢true is)
 shifted : (line other : Line) (a b x c : List Line) → (line ∷ a ++ b) ++ x ≡ other ∷ c → a ++ (b ++ x) ≡ c
 shifted line other a b x c is = sym (append_assoc a b x) ∙ other_lines line other _ _ is
 
-pub refused_under : (m : Level) (n : ℕ) (h : Head) (at : Pos) (line : Line) (lines : List Line) (fault : ParseFault) → IsLine line m.indent (head_tokens h) → follows m h ≡ true
-    → RefusedUnder m (n + counted h) h (last_place at line.tokens) lines fault → Refused m n at (line ∷ lines) fault
-refused_under m n h at line lines fault is may_follow r = record {
+-- a suite with these first lines lies further in
+further_in : (m : Level) (h : Head) (front : List Line) (p : Point) → UnderBegins m h front p → NoLess m.indent front
+further_in m h front p b = all_front m.indent front b.more (subst (NoLess m.indent) b.lines_are (less_in m.indent (suc m.indent) (under_lines b.under) (omega arith) (under_low m h b.under b.fits)))
+
+may_under : (cs : List ℕ) (m : Level) (h : Head) (d : ℕ) (line : Line) (front : List Line) → IsLine line m.indent (head_tokens h) → follows m h ≡ true → NoLess m.indent front → MayStandUnder (columns_under cs m) m h d front → MayStand cs m d (line ∷ front)
+may_under cs m h d line front is may_follow low (inl g) = inl (goes_under m h line (IsAt d) front is may_follow g)
+may_under cs m h d line front is may_follow low (inr (inr o, g)) = inr (inr (open_behind d (line ∷ []) front o), goes_under m h line IsHandler front is may_follow g)
+may_under cs m h d line front is may_follow low (inr (inl c, g)) = inr (column (column_here d m.indent cs c), goes_under m h line IsHandler front is may_follow g)
+  where
+    column : (m.indent ≡ d) ⊎ (is_column d cs ≡ true) → (is_column d cs ≡ true) ⊎ IsOpenAt d (line ∷ front)
+    column (inl here) = inr (open_first d line front (is.indent_is ∙ here) (subst (λ e. NoLess e front) here low))
+    column (inr around) = inl around
+
+no_rows_under : (cs : List ℕ) (m : Level) (h : Head) (d : ℕ) (line : Line) (front : List Line) → IsLine line m.indent (head_tokens h) → follows m h ≡ true → NoUnder (columns_under cs m) m h d front → NoRows cs m d (line ∷ front)
+no_rows_under cs m h d line front is may_follow absent = record {
+  around = λ c. absent.around (column_inside d m.indent cs c);
+  here = λ same. absent.around (own_column d m.indent cs same);
+  complete = complete_under absent.complete;
+  inside = λ o. elim (open_split d line front o) [ inl here ↦ absent.around (own_column d m.indent cs (sym here.0 ∙ is.indent_is)) | inr more ↦ absent.inside more ];
+  none = none;
+}
+  where
+    complete_under : UnderGoesOn m h (IsPassBefore d) front ⊎ UnderGoesOn m h IsHandler front → RowsGoOn m (IsPassBefore d) (line ∷ front) ⊎ RowsGoOn m IsHandler (line ∷ front)
+    complete_under (inl g) = inl (goes_under m h line (IsPassBefore d) front is may_follow g)
+    complete_under (inr g) = inr (goes_under m h line IsHandler front is may_follow g)
+
+    none : (other : Line) (more : List Line) (rows : Rows) (s : List Line) → other.indent ≡ d → FitsRows m rows → Below m.indent s → rows_lines rows ++ s ≡ (line ∷ front) ++ other ∷ more → ⊥
+    none other more end_rows s at fits low same = not_below m.indent ((line ∷ front) ++ other ∷ more) is.indent_is (subst (Below m.indent) same low)
+    none other more (row line_2 h_2 under_2 rest_2) s at fits low same =
+        let one : line_2 ≡ line = first_line line_2 line _ _ same in
+        let head : h ≡ h_2 = head_is m m line line_2 h h_2 (sym one) is fits.0 in
+        let below_2 : FitsUnder m h under_2 = subst (λ g. FitsUnder m g under_2) (sym head) fits.2 in
+        let rest_fits : FitsRows (after m h) rest_2 = subst (λ g. FitsRows (after m g) rest_2) (sym head) fits.3 in
+        absent.none other more under_2 (rows_lines rest_2 ++ s) at below_2 (edge_under m h h under_2 rest_2 s below_2 rest_fits low) (shifted line_2 line (under_lines under_2) (rows_lines rest_2) s (front ++ other ∷ more) same)
+
+placed_under : (cs : List ℕ) (m : Level) (h : Head) (line : Line) (front : List Line) (p : Point) → IsLine line m.indent (head_tokens h) → follows m h ≡ true → NoLess m.indent front → PlacedUnder (columns_under cs m) m h front p → Placed cs m (line ∷ front) p
+placed_under cs m h line front (at_token d tokens t) is may_follow low placed = may_under cs m h d line front is may_follow low placed
+placed_under cs m h line front (at_end d tokens) is may_follow low placed = may_under cs m h d line front is may_follow low placed
+placed_under cs m h line front (at_line d) is may_follow low placed = no_rows_under cs m h d line front is may_follow placed
+placed_under cs m h line front (below d) is may_follow low placed = goes_under m h line (IsPass d) front is may_follow placed
+placed_under cs m h line front no_line is may_follow low placed = goes_under m h line IsHandler front is may_follow placed
+
+pub refused_under : (cs : List ℕ) (m : Level) (n : ℕ) (h : Head) (at : Pos) (line : Line) (lines : List Line) (fault : ParseFault) → IsLine line m.indent (head_tokens h) → follows m h ≡ true
+    → RefusedUnder cs m (n + counted h) h (last_place at line.tokens) lines fault → Refused cs m n at (line ∷ lines) fault
+refused_under cs m n h at line lines fault is may_follow r = record {
   front = line ∷ r.front;
   behind = r.behind;
   point = r.point;
   lines_are = ap (λ ls. line ∷ ls) r.lines_are;
   shown = r.shown;
   named = r.named;
+  placed = placed_under cs m h line r.front r.point is may_follow (further_in m h r.front r.point r.begins) r.placed;
   begun = λ rest shows_it. is.indent_is;
   begins = begins_under m h line r.front r.point is may_follow r.begins;
   none = none;
@@ -141,17 +263,33 @@ refused_under m n h at line lines fault is may_follow r = record {
 more_lines : (point : Point) (line : Line) (lines : List Line) → shows point (line ∷ []) → shows point (line ∷ lines)
 more_lines (at_token indent front t) line lines is = is
 more_lines (at_end indent tokens) line lines is = is
+more_lines (at_line indent) line lines is = is
 more_lines (below indent) line lines is = is
 more_lines no_line line lines is = is
 
-pub refused_line : (m : Level) (n : ℕ) (at : Pos) (line : Line) (lines : List Line) (fault : ParseFault) → line.indent ≡ m.indent → RefusedLine m n at line fault → Refused m n at (line ∷ lines) fault
-refused_line m n at line lines fault is r = record {
+named_more : (at : Pos) (point : Point) (line : Line) (lines : List Line) (fault : ParseFault) → names at (line ∷ []) point fault → names at (line ∷ lines) point fault
+named_more at (at_token indent front t) line lines fault is = is
+named_more at (at_end indent tokens) line lines fault is = is
+named_more at (at_line indent) line lines fault is = is
+named_more at (below indent) line lines fault is = is
+named_more at no_line line lines fault is = is
+
+placed_line : (cs : List ℕ) (m : Level) (line : Line) (p : Point) → line.indent ≡ m.indent → IsOnLine p → shows p (line ∷ []) → Placed cs m [] p
+placed_line cs m line (at_token d tokens t) is on_line shown = inl (subst (λ e. RowsGoOn m (IsAt e) []) (sym is ∙ shown.0) (line_next m))
+placed_line cs m line (at_end d tokens) is on_line shown = inl (subst (λ e. RowsGoOn m (IsAt e) []) (sym is ∙ shown.0) (line_next m))
+placed_line cs m line (at_line d) is on_line shown = absurd on_line
+placed_line cs m line (below d) is on_line shown = absurd on_line
+placed_line cs m line no_line is on_line shown = absurd on_line
+
+pub refused_line : (cs : List ℕ) (m : Level) (n : ℕ) (at : Pos) (line : Line) (lines : List Line) (fault : ParseFault) → line.indent ≡ m.indent → RefusedLine m n at line fault → Refused cs m n at (line ∷ lines) fault
+refused_line cs m n at line lines fault is r = record {
   front = [];
   behind = line ∷ lines;
   point = r.point;
   lines_are = refl;
   shown = more_lines r.point line lines r.shown;
-  named = r.named;
+  named = named_more at r.point line lines fault r.named;
+  placed = placed_line cs m line r.point is r.on_line r.shown;
   begun = λ rest shows_it. subst (λ d. Begun d rest) is (r.begun rest shows_it);
   begins = r.begins is;
   none = none;
@@ -164,15 +302,40 @@ refused_line m n at line lines fault is r = record {
 
 -- ---- the suite under a line
 
-pub refused_inside : (m : Level) (n k : ℕ) (h : Head) (at : Pos) (lines : List Line) (fault : ParseFault) → opens h ≡ true → m.indent < k → Refused (inside m h k) n at lines fault
-    → RefusedUnder m n h at lines fault
-refused_inside m n k h at lines fault open_is deeper r = record {
+may_inside : (cs : List ℕ) (m : Level) (h : Head) (k d : ℕ) (front : List Line) → opens h ≡ true → m.indent < k → MayStand cs (inside m h k) d front → MayStandUnder cs m h d front
+may_inside cs m h k d front open_is deeper (inl g) = inl (goes_inside m h k (IsAt d) front open_is deeper g)
+may_inside cs m h k d front open_is deeper (inr (c, g)) = inr (c, goes_inside m h k IsHandler front open_is deeper g)
+
+no_inside : (cs : List ℕ) (m : Level) (h : Head) (k d : ℕ) (front : List Line) → opens h ≡ true → m.indent < k → ((rest : List Line) → shows (at_line d) rest → Begun k (front ++ rest)) → NoRows cs (inside m h k) d front → NoUnder cs m h d front
+no_inside cs m h k d front open_is deeper begun absent = record { around = absent.around; inside = absent.inside; complete = complete_inside absent.complete; none = none }
+  where
+    complete_inside : RowsGoOn (inside m h k) (IsPassBefore d) front ⊎ RowsGoOn (inside m h k) IsHandler front → UnderGoesOn m h (IsPassBefore d) front ⊎ UnderGoesOn m h IsHandler front
+    complete_inside (inl g) = inl (goes_inside m h k (IsPassBefore d) front open_is deeper g)
+    complete_inside (inr g) = inr (goes_inside m h k IsHandler front open_is deeper g)
+
+    none : (line : Line) (more : List Line) (under : Under) (s : List Line) → line.indent ≡ d → FitsUnder m h under → Edge under s → under_lines under ++ s ≡ front ++ line ∷ more → ⊥
+    none line more nothing s at fits edge same = absurd (false≢true (sym fits ∙ open_is))
+    none line more (block j rows) s at fits edge same =
+        let one : j ≡ k = one_indent j k (rows_lines rows ++ s) (front ++ line ∷ more) (begun_rows (inside m h j) rows s refl fits.2) (begun (line ∷ more) at) same in
+        absent.none line more rows s at (subst (λ e. FitsRows (inside m h e) rows) one fits.2) (subst (λ e. Below e s) one edge) same
+
+placed_inside : (cs : List ℕ) (m : Level) (h : Head) (k : ℕ) (front : List Line) (p : Point) → opens h ≡ true → m.indent < k → ((rest : List Line) → shows p rest → Begun k (front ++ rest)) → Placed cs (inside m h k) front p → PlacedUnder cs m h front p
+placed_inside cs m h k front (at_token d tokens t) open_is deeper begun is = may_inside cs m h k d front open_is deeper is
+placed_inside cs m h k front (at_end d tokens) open_is deeper begun is = may_inside cs m h k d front open_is deeper is
+placed_inside cs m h k front (at_line d) open_is deeper begun is = no_inside cs m h k d front open_is deeper begun is
+placed_inside cs m h k front (below d) open_is deeper begun is = goes_inside m h k (IsPass d) front open_is deeper is
+placed_inside cs m h k front no_line open_is deeper begun is = goes_inside m h k IsHandler front open_is deeper is
+
+pub refused_inside : (cs : List ℕ) (m : Level) (n k : ℕ) (h : Head) (at : Pos) (lines : List Line) (fault : ParseFault) → opens h ≡ true → m.indent < k → Refused (columns_under cs m) (inside m h k) n at lines fault
+    → RefusedUnder cs m n h at lines fault
+refused_inside cs m n k h at lines fault open_is deeper r = record {
   front = r.front;
   behind = r.behind;
   point = r.point;
   lines_are = r.lines_are;
   shown = r.shown;
   named = r.named;
+  placed = placed_inside (columns_under cs m) m h k r.front r.point open_is deeper r.begun r.placed;
   begins = begins_inside m h k r.front r.point open_is deeper r.begins;
   none = none;
 }
@@ -188,14 +351,15 @@ not_above d k [] less begun low = begun
 not_above d k (line ∷ x) less begun low = absurd (omega (arith, less, begun, low))
 
 -- the suite is missing
-pub no_suite : (m : Level) (n : ℕ) (h : Head) (at : Pos) (lines : List Line) → opens h ≡ true → Below (suc m.indent) lines → RefusedUnder m n h at lines (BadIndent at)
-no_suite m n h at lines open_is low = record {
+pub no_suite : (cs : List ℕ) (m : Level) (n : ℕ) (h : Head) (at : Pos) (lines : List Line) → opens h ≡ true → Below (suc m.indent) lines → RefusedUnder cs m n h at lines (BadIndent at)
+no_suite cs m n h at lines open_is low = record {
   front = [];
   behind = lines;
   point = below (suc m.indent);
   lines_are = refl;
   shown = low;
   named = refl;
+  placed = goes_inside m h (suc m.indent) (IsPass (suc m.indent)) [] open_is (omega arith) (pass_next (inside m h (suc m.indent)) (suc m.indent) refl (omega arith));
   begins = begins_suite m h (below (suc m.indent)) open_is refl;
   none = none;
 }
@@ -209,10 +373,13 @@ none_deeper : (q : Limits) (m : Level) (n : ℕ) (h : Head) (under : Under) → 
 none_deeper q m n h nothing few open_is deep fits may_be = absurd (false≢true (sym fits ∙ open_is))
 none_deeper q m n h (block j rows) few open_is deep fits may_be = let low = leb-true (suc m.depth) q.suites (first (nat_le (suc m.depth) q.suites) _ may_be) in absurd (omega (arith, few, deep, low))
 
-pub too_deep_at : (m : Level) (n : ℕ) (h : Head) (at place : Pos) (line : Line) (lines : List Line) → opens h ≡ true → 50 ≤ m.depth → RefusedUnder m n h at (line ∷ lines) (TooDeep place)
-too_deep_at m n h at place line lines open_is deep = by line.tokens refl
+pub too_deep_at : (cs : List ℕ) (m : Level) (n : ℕ) (h : Head) (at place : Pos) (line : Line) (lines : List Line) → opens h ≡ true → m.indent < line.indent → 50 ≤ m.depth → RefusedUnder cs m n h at (line ∷ lines) (TooDeep place)
+too_deep_at cs m n h at place line lines open_is deeper deep = by line.tokens refl
   where
-    by : (ts : List Token) → line.tokens ≡ ts → RefusedUnder m n h at (line ∷ lines) (TooDeep place)
+    next : UnderGoesOn m h (IsAt line.indent) []
+    next = goes_inside m h line.indent (IsAt line.indent) [] open_is deeper (line_next (inside m h line.indent))
+
+    by : (ts : List Token) → line.tokens ≡ ts → RefusedUnder cs m n h at (line ∷ lines) (TooDeep place)
     by [] is = record {
       front = [];
       behind = line ∷ lines;
@@ -220,6 +387,7 @@ too_deep_at m n h at place line lines open_is deep = by line.tokens refl
       lines_are = refl;
       shown = (refl, is);
       named = tt;
+      placed = inl next;
       begins = begins_suite m h (at_end line.indent []) open_is refl;
       none = λ q asks rest under s shows_it fits may_be edge same. none_deeper q m n h under asks.1 open_is deep fits may_be;
     }
@@ -230,6 +398,7 @@ too_deep_at m n h at place line lines open_is deep = by line.tokens refl
       lines_are = refl;
       shown = (refl, record { more = ts; tokens_are = is });
       named = tt;
+      placed = inl next;
       begins = begins_suite m h (at_token line.indent [] t) open_is refl;
       none = λ q asks rest under s shows_it fits may_be edge same. none_deeper q m n h under asks.1 open_is deep fits may_be;
     }
@@ -270,28 +439,55 @@ none_goes_on : (m : Level) (rest : List Line) (rows : Rows) (r : List Line) → 
 none_goes_on m rest end_rows r fits same other ends = ends fits same
 none_goes_on m rest (row line h under more) r fits same other ends = other (subst (Begun m.indent) same fits.0.indent_is)
 
--- the first token of a line, or its end where it has none
-point_of : Line → Point
-point_of line = by line.tokens
-  where
-    by : List Token → Point
-    by [] = at_end line.indent []
-    by (t ∷ ts) = at_token line.indent [] t
+-- a line that stands at another indentation, where the suite may not end
+none_there : (m : Level) (line first : Line) (more : List Line) (rows : Rows) (r : List Line) → (line.indent ≡ m.indent → ⊥) → (is_done m ≡ true → line.indent < m.indent → ⊥) → first.indent ≡ line.indent → FitsRows m rows → Below m.indent r
+    → rows_lines rows ++ r ≡ first ∷ more → ⊥
+none_there m line first more rows r other ends is fits low same = none_goes_on m (first ∷ more) rows r fits same (λ begun. other (sym is ∙ begun))
+    (λ done all. ends done (let lower : first.indent < m.indent = subst (Below m.indent) all low in omega (arith, is, lower)))
 
--- A line that stands at another indentation is refused at its first token, where the suite may not end.
-pub refused_first : (m : Level) (n : ℕ) (at : Pos) (line : Line) (lines : List Line) (fault : Pos → ParseFault) → ((t : Token) (ts : List Token) → line.tokens ≡ t ∷ ts → names at (at_token line.indent [] t) (fault t.at)) → names at (at_end line.indent []) (fault at)
-    → (line.indent ≡ m.indent → ⊥) → (is_done m ≡ true → line.indent < m.indent → ⊥) → RefusedHere m n at (line ∷ lines) (fault (first_place at line.tokens))
-refused_first m n at line lines fault named ended other ends = by line.tokens refl
+-- A line that stands at another indentation, which no suite around has, is refused for it where the suite may not end.
+pub refused_indent : (cs : List ℕ) (m : Level) (n : ℕ) (at : Pos) (line : Line) (lines : List Line) → is_column line.indent cs ≡ false → (m.indent < line.indent) ⊎ (lacks_handler m.context.last ≡ true) → (line.indent ≡ m.indent → ⊥)
+    → (is_done m ≡ true → line.indent < m.indent → ⊥) → RefusedHere cs m n at (line ∷ lines) (BadIndent (first_place at line.tokens))
+refused_indent cs m n at line lines column further other ends = record {
+  point = at_line line.indent;
+  shown = refl;
+  named = refl;
+  placed = record {
+    around = λ is. false≢true (sym column ∙ is);
+    here = other;
+    inside = none_open line.indent;
+    complete = complete (lacks_handler m.context.last) refl further;
+    none = λ first more rows r is fits low same. none_there m line first more rows r other ends is fits low same;
+  };
+  before = refl;
+  edge = λ rows rest shows_it l indent leads edge. edge_1 rows rest shows_it edge;
+  none = λ q asks rest rows r shows_it fits may_be low same. none_1 rest rows r shows_it fits low same;
+}
   where
-    none : (first : Line) (more : List Line) (rows : Rows) (r : List Line) → first.indent ≡ line.indent → FitsRows m rows → Below m.indent r → rows_lines rows ++ r ≡ first ∷ more → ⊥
-    none first more rows r is fits low same = none_goes_on m (first ∷ more) rows r fits same (λ begun. other (sym is ∙ begun))
-        (λ done all. ends done (let lower : first.indent < m.indent = subst (Below m.indent) all low in omega (arith, is, lower)))
+    complete : (b : Bool) → lacks_handler m.context.last ≡ b → (m.indent < line.indent) ⊎ (lacks_handler m.context.last ≡ true) → RowsGoOn m (IsPassBefore line.indent) [] ⊎ RowsGoOn m IsHandler []
+    complete true lacks further = inr (handler_next m lacks)
+    complete false lacks (inl deeper) = inl (pass_before m line.indent lacks deeper)
+    complete false lacks (inr lacks_it) = absurd (false≢true (sym lacks ∙ lacks_it))
 
-    by : (ts : List Token) → line.tokens ≡ ts → RefusedHere m n at (line ∷ lines) (fault (first_place at ts))
+    edge_1 : (rows : Rows) (rest : List Line) → shows (at_line line.indent) rest → LastEdge rows (line ∷ lines) → LastEdge rows rest
+    edge_1 rows [] shows_it edge = absurd shows_it
+    edge_1 rows (first ∷ more) shows_it edge = edge_same rows line first lines more shows_it edge
+
+    none_1 : (rest : List Line) (rows : Rows) (r : List Line) → shows (at_line line.indent) rest → FitsRows m rows → Below m.indent r → rows_lines rows ++ r ≡ rest → ⊥
+    none_1 [] rows r shows_it fits low same = absurd shows_it
+    none_1 (first ∷ more) rows r shows_it fits low same = none_there m line first more rows r other ends shows_it fits low same
+
+-- A line at the column of a suite around is refused at its first token, where a handler is missing.
+pub refused_first : (cs : List ℕ) (m : Level) (n : ℕ) (at : Pos) (line : Line) (lines : List Line) (fault : Pos → ParseFault) → ((t : Token) (ts : List Token) → line.tokens ≡ t ∷ ts → NamesToken t (fault t.at)) → NamesEnd at (fault at)
+    → is_column line.indent cs ≡ true → lacks_handler m.context.last ≡ true → (line.indent ≡ m.indent → ⊥) → (is_done m ≡ true → line.indent < m.indent → ⊥) → RefusedHere cs m n at (line ∷ lines) (fault (first_place at line.tokens))
+refused_first cs m n at line lines fault named ended column lacks other ends = by line.tokens refl
+  where
+    by : (ts : List Token) → line.tokens ≡ ts → RefusedHere cs m n at (line ∷ lines) (fault (first_place at ts))
     by [] is = record {
       point = at_end line.indent [];
       shown = (refl, is);
       named = ended;
+      placed = inr (inl column, handler_next m lacks);
       before = refl;
       edge = λ rows rest shows_it l indent leads edge. edge_1 rows rest shows_it edge;
       none = λ q asks rest rows r shows_it fits may_be low same. none_1 rest rows r shows_it fits low same;
@@ -303,11 +499,12 @@ refused_first m n at line lines fault named ended other ends = by line.tokens re
 
         none_1 : (rest : List Line) (rows : Rows) (r : List Line) → shows (at_end line.indent []) rest → FitsRows m rows → Below m.indent r → rows_lines rows ++ r ≡ rest → ⊥
         none_1 [] rows r shows_it fits low same = absurd shows_it
-        none_1 (first ∷ more) rows r shows_it fits low same = none first more rows r shows_it.0 fits low same
+        none_1 (first ∷ more) rows r shows_it fits low same = none_there m line first more rows r other ends shows_it.0 fits low same
     by (t ∷ ts) is = record {
       point = at_token line.indent [] t;
       shown = (refl, record { more = ts; tokens_are = is });
       named = named t ts is;
+      placed = inr (inl column, handler_next m lacks);
       before = refl;
       edge = λ rows rest shows_it l indent leads edge. edge_1 rows rest shows_it edge;
       none = λ q asks rest rows r shows_it fits may_be low same. none_1 rest rows r shows_it fits low same;
@@ -319,14 +516,15 @@ refused_first m n at line lines fault named ended other ends = by line.tokens re
 
         none_1 : (rest : List Line) (rows : Rows) (r : List Line) → shows (at_token line.indent [] t) rest → FitsRows m rows → Below m.indent r → rows_lines rows ++ r ≡ rest → ⊥
         none_1 [] rows r shows_it fits low same = absurd shows_it
-        none_1 (first ∷ more) rows r shows_it fits low same = none first more rows r shows_it.0 fits low same
+        none_1 (first ∷ more) rows r shows_it fits low same = none_there m line first more rows r other ends shows_it.0 fits low same
 
 -- the lines end where the suite may not
-pub refused_nothing : (m : Level) (n : ℕ) (at : Pos) → (is_done m ≡ true → ⊥) → RefusedHere m n at [] (Unexpected at)
-refused_nothing m n at ends = record {
+pub refused_nothing : (cs : List ℕ) (m : Level) (n : ℕ) (at : Pos) → lacks_handler m.context.last ≡ true → (is_done m ≡ true → ⊥) → RefusedHere cs m n at [] (Unexpected at)
+refused_nothing cs m n at lacks ends = record {
   point = no_line;
   shown = tt;
   named = refl;
+  placed = handler_next m lacks;
   before = refl;
   edge = λ rows rest shows_it l indent leads edge. edge_1 rows rest shows_it;
   none = λ q asks rest rows r shows_it fits may_be low same. none_1 rest rows r shows_it fits same;
@@ -341,11 +539,12 @@ refused_nothing m n at ends = record {
     none_1 (first ∷ more) rows r shows_it fits same = absurd shows_it
 
 -- a statement is missing
-pub refused_empty : (m : Level) (n : ℕ) (at : Pos) (lines : List Line) → Below m.indent lines → (is_done m ≡ true → ⊥) → RefusedHere m n at lines (BadIndent at)
-refused_empty m n at lines low ends = record {
+pub refused_empty : (cs : List ℕ) (m : Level) (n : ℕ) (at : Pos) (lines : List Line) → Below m.indent lines → lacks_handler m.context.last ≡ false → (is_done m ≡ true → ⊥) → RefusedHere cs m n at lines (BadIndent at)
+refused_empty cs m n at lines low lacks ends = record {
   point = below m.indent;
   shown = low;
   named = refl;
+  placed = pass_next m m.indent lacks (omega arith);
   before = refl;
   edge = λ rows rest shows_it l indent leads edge. edge_below l m rows rest leads (subst (λ d. Below d rest) (sym indent) shows_it);
   none = λ q asks rest rows r shows_it fits may_be lower same. none_goes_on m rest rows r fits same (λ begun. not_below m.indent rest begun shows_it) (λ done all. ends done);

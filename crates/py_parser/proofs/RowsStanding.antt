@@ -16,7 +16,7 @@ use Rattle.py_parser.specs.Limits.{profile}
 use Rattle.py_parser.specs.Rows.{Rows, end_rows, row, Under, rows_lines, under_lines, Level, counted, after, follows, Leads, FitsUnder, may, rows_may, under_may, rows_size, under_size, Edge, LastEdge, Begun}
 use Rattle.py_parser.specs.RowForms.{grown, inner_number, declared, row_globals, under_globals, grow, below_tree}
 use Rattle.py_parser.specs.Faults.{last_token}
-use Rattle.py_parser.specs.ParsedBlocks.{level_at, level_of, is_here, trees_of, Standing, RowsRead, RowRead, Refused, RowsStopped, NotClosed, IsClosed}
+use Rattle.py_parser.specs.ParsedBlocks.{AreBelow, level_at, level_of, is_here, trees_of, Standing, RowsRead, RowRead, Refused, RowsStopped, NotClosed, IsClosed}
 use Rattle.py_parser.proofs.Grown.{end_append}
 use Rattle.py_parser.proofs.RowRefusals.{refused_behind, refused_end, suite_fits, tokens_append}
 
@@ -136,32 +136,32 @@ fewer_lines m k n next at then_at left rest built more r =
     lengths [] b = omega arith
     lengths (x ∷ a) b = let more = lengths a b in omega (arith, more)
 
-pub stopped_behind : (l m : Level) (n count : ℕ) (at now : Pos) (before left : List Line) (built : Built) (fault : ParseFault) → Standing l n at before m built count now left → RowsStopped m count now left fault → RowsStopped l n at before fault
-stopped_behind l m n count at now before left built Memory s r = tt
-stopped_behind l m n count at now before left built (Unexpected place) s r = refused_behind l m n count at now before left s.rows (Unexpected place) s.lines_are s.leads s.count_is s.now_is r
-stopped_behind l m n count at now before left built (Unsupported place) s r = refused_behind l m n count at now before left s.rows (Unsupported place) s.lines_are s.leads s.count_is s.now_is r
-stopped_behind l m n count at now before left built (BadIndent place) s r = refused_behind l m n count at now before left s.rows (BadIndent place) s.lines_are s.leads s.count_is s.now_is r
-stopped_behind l m n count at now before left built (TooDeep place) s r = refused_behind l m n count at now before left s.rows (TooDeep place) s.lines_are s.leads s.count_is s.now_is r
-stopped_behind l m n count at now before left built (TooMany place) s r = refused_behind l m n count at now before left s.rows (TooMany place) s.lines_are s.leads s.count_is s.now_is r
+stopped_behind : (cs : List ℕ) (l m : Level) (n count : ℕ) (at now : Pos) (before left : List Line) (built : Built) (fault : ParseFault) → Standing l n at before m built count now left → RowsStopped cs m count now left fault → RowsStopped cs l n at before fault
+stopped_behind cs l m n count at now before left built Memory s r = tt
+stopped_behind cs l m n count at now before left built (Unexpected place) s r = refused_behind cs l m n count at now before left s.rows (Unexpected place) s.lines_are s.leads s.count_is s.now_is r
+stopped_behind cs l m n count at now before left built (Unsupported place) s r = refused_behind cs l m n count at now before left s.rows (Unsupported place) s.lines_are s.leads s.count_is s.now_is r
+stopped_behind cs l m n count at now before left built (BadIndent place) s r = refused_behind cs l m n count at now before left s.rows (BadIndent place) s.lines_are s.leads s.count_is s.now_is r
+stopped_behind cs l m n count at now before left built (TooDeep place) s r = refused_behind cs l m n count at now before left s.rows (TooDeep place) s.lines_are s.leads s.count_is s.now_is r
+stopped_behind cs l m n count at now before left built (TooMany place) s r = refused_behind cs l m n count at now before left s.rows (TooMany place) s.lines_are s.leads s.count_is s.now_is r
 
 -- rows were read, since the first line stands here and the next one does not
 begun_behind : (l m : Level) (rows : Rows) (before left : List Line) → before ≡ rows_lines rows ++ left → Leads l rows m → is_here l.indent before ≡ true → is_here l.indent left ≡ false → (x : List Line) → Begun l.indent (rows_lines rows ++ x)
 begun_behind l m end_rows before left is leads here gone x = absurd (false≢true (sym gone ∙ sym (ap (is_here l.indent) is) ∙ here))
 begun_behind l m (row line h under rest) before left is leads here gone x = leads.0.indent_is
 
-as_stopped : (l : Level) (n : ℕ) (at : Pos) (lines : List Line) (fault : ParseFault) → (fault ≡ Memory → ⊥) → Refused l n at lines fault → RowsStopped l n at lines fault
-as_stopped l n at lines Memory other r = tt
-as_stopped l n at lines (Unexpected place) other r = r
-as_stopped l n at lines (Unsupported place) other r = r
-as_stopped l n at lines (BadIndent place) other r = r
-as_stopped l n at lines (TooDeep place) other r = r
-as_stopped l n at lines (TooMany place) other r = r
+as_stopped : (cs : List ℕ) (l : Level) (n : ℕ) (at : Pos) (lines : List Line) (fault : ParseFault) → (fault ≡ Memory → ⊥) → Refused cs l n at lines fault → RowsStopped cs l n at lines fault
+as_stopped cs l n at lines Memory other r = tt
+as_stopped cs l n at lines (Unexpected place) other r = r
+as_stopped cs l n at lines (Unsupported place) other r = r
+as_stopped cs l n at lines (BadIndent place) other r = r
+as_stopped cs l n at lines (TooDeep place) other r = r
+as_stopped cs l n at lines (TooMany place) other r = r
 
-pub stopped_end : (p : Place) (given : List (List ℕ)) (n count : ℕ) (at now : Pos) (before left : List Line) (built : Built) (fault : ParseFault) → is_here p.indent before ≡ true → is_here p.indent left ≡ false
-    → Standing (level_of p given) n at before (level_at p given built) built count now left → NotClosed p built now left fault → RowsStopped (level_of p given) n at before fault
-stopped_end p given n count at now before left built fault here gone s r =
-    as_stopped (level_of p given) n at before fault r.other
-    (refused_end (level_of p given) (level_at p given built) n count at now before left s.rows fault s.lines_are s.leads s.count_is s.now_is s.edge
+stopped_end : (cs : List ℕ) (p : Place) (given : List (List ℕ)) (n count : ℕ) (at now : Pos) (before left : List Line) (built : Built) (fault : ParseFault) → is_here p.indent before ≡ true → is_here p.indent left ≡ false
+    → Standing (level_of p given) n at before (level_at p given built) built count now left → NotClosed cs p built now left fault → RowsStopped cs (level_of p given) n at before fault
+stopped_end cs p given n count at now before left built fault here gone s r =
+    as_stopped cs (level_of p given) n at before fault r.other
+    (refused_end cs (level_of p given) (level_at p given built) n count at now before left s.rows fault s.lines_are s.leads s.count_is s.now_is s.edge
     (begun_behind (level_of p given) (level_at p given built) s.rows before left s.lines_are s.leads here gone) (r.there given count))
 
 pub rows_read : (p : Place) (given : List (List ℕ)) (n count : ℕ) (at now : Pos) (before left : List Line) (built : Built) → Standing (level_of p given) n at before (level_at p given built) built count now left → IsClosed p built left
@@ -188,3 +188,17 @@ declares_kept l m (row line h under rest) leads from is = declares_kept (after l
 pub standing_declares : (p : Place) (given : List (List ℕ)) (n count : ℕ) (at now : Pos) (before left : List Line) (built : Built) → Standing (level_of p given) n at before (level_at p given built) built count now left
     → built.may_declare ≡ true → p.of_def ≡ true
 standing_declares p given n count at now before left built s is = declares_kept (level_of p given) (level_at p given built) s.rows s.leads (λ may. may) is
+
+-- the same, where the columns around are known to be these
+pub stopped_behind_there : (cs ds : List ℕ) (l m : Level) (n count : ℕ) (at now : Pos) (before left : List Line) (built : Built) (fault : ParseFault) → ds ≡ cs → Standing l n at before m built count now left → RowsStopped ds m count now left fault
+    → RowsStopped cs l n at before fault
+stopped_behind_there cs ds l m n count at now before left built fault columns s r =
+    stopped_behind cs l m n count at now before left built fault s (subst (λ (xs : List ℕ). RowsStopped xs m count now left fault) columns r)
+
+pub stopped_end_there : (cs ds : List ℕ) (p : Place) (given : List (List ℕ)) (n count : ℕ) (at now : Pos) (before left : List Line) (built : Built) (fault : ParseFault) → ds ≡ cs → is_here p.indent before ≡ true → is_here p.indent left ≡ false
+    → Standing (level_of p given) n at before (level_at p given built) built count now left → NotClosed ds p built now left fault → RowsStopped cs (level_of p given) n at before fault
+stopped_end_there cs ds p given n count at now before left built fault columns here gone s r =
+    stopped_end cs p given n count at now before left built fault here gone s (subst (λ (xs : List ℕ). NotClosed xs p built now left fault) columns r)
+
+pub still_below : (d : ℕ) (cs ds : List ℕ) → ds ≡ cs → AreBelow d cs → AreBelow d ds
+still_below d cs ds same all = subst (AreBelow d) (sym same) all

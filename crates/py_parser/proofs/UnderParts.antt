@@ -23,7 +23,7 @@ use Rattle.py_parser.specs.Limits.{profile}
 use Rattle.py_parser.specs.Rows.{Rows, end_rows, row, nothing, block, rows_lines, Level, is_def, is_stmt, counted, opens, head_around, head_given, after, inside, follows, FitsRows, may, rows_may}
 use Rattle.py_parser.specs.RowForms.{suite_list, begun, grown, inner_number, declared, under_globals, grow, below_tree}
 use Rattle.py_parser.specs.Faults.{last_place}
-use Rattle.py_parser.specs.ParsedBlocks.{level_of, level_at, trees_of, IsUnderOf, LineRead, UnderRead, RowRead, RowsRead, RowsStopped, UnderStopped, LineStopped}
+use Rattle.py_parser.specs.ParsedBlocks.{columns_under, level_of, level_at, trees_of, IsUnderOf, LineRead, UnderRead, RowRead, RowsRead, RowsStopped, UnderStopped, LineStopped}
 use Rattle.py_parser.proofs.RowLimits.{four_of}
 use Rattle.py_parser.proofs.RowRefusals.{refused_under, refused_line, refused_inside}
 
@@ -172,17 +172,17 @@ suite_read p k n count next to m h at now lines left built u is open_is deeper d
     both true false one other = absurd (false≢true other)
     both false b one other = absurd (false≢true one)
 
-pub suite_stopped : (p : Place) (k n count : ℕ) (m : Level) (h : Head) (at : Pos) (lines : List Line) (fault : ParseFault) → IsUnderOf p count m n h → IsBehind None (behind_in h) → opens h ≡ true → m.indent < k
-    → RowsStopped (inside m h k) count at lines fault → UnderStopped m (n + counted h) h at lines fault
-suite_stopped p k n count m h at lines fault u is open_is deeper r = by fault (subst (λ j. RowsStopped (inside m h k) j at lines fault) (u.count_is ∙ sym (counted_alone n h (none_behind h is))) r)
+pub suite_stopped : (cs : List ℕ) (p : Place) (k n count : ℕ) (m : Level) (h : Head) (at : Pos) (lines : List Line) (fault : ParseFault) → IsUnderOf p count m n h → IsBehind None (behind_in h) → opens h ≡ true → m.indent < k
+    → RowsStopped (columns_under cs m) (inside m h k) count at lines fault → UnderStopped cs m (n + counted h) h at lines fault
+suite_stopped cs p k n count m h at lines fault u is open_is deeper r = by fault (subst (λ j. RowsStopped (columns_under cs m) (inside m h k) j at lines fault) (u.count_is ∙ sym (counted_alone n h (none_behind h is))) r)
   where
-    by : (f : ParseFault) → RowsStopped (inside m h k) (n + counted h) at lines f → UnderStopped m (n + counted h) h at lines f
+    by : (f : ParseFault) → RowsStopped (columns_under cs m) (inside m h k) (n + counted h) at lines f → UnderStopped cs m (n + counted h) h at lines f
     by Memory r = tt
-    by (Unexpected place) r = refused_inside m (n + counted h) k h at lines (Unexpected place) open_is deeper r
-    by (Unsupported place) r = refused_inside m (n + counted h) k h at lines (Unsupported place) open_is deeper r
-    by (BadIndent place) r = refused_inside m (n + counted h) k h at lines (BadIndent place) open_is deeper r
-    by (TooDeep place) r = refused_inside m (n + counted h) k h at lines (TooDeep place) open_is deeper r
-    by (TooMany place) r = refused_inside m (n + counted h) k h at lines (TooMany place) open_is deeper r
+    by (Unexpected place) r = refused_inside cs m (n + counted h) k h at lines (Unexpected place) open_is deeper r
+    by (Unsupported place) r = refused_inside cs m (n + counted h) k h at lines (Unsupported place) open_is deeper r
+    by (BadIndent place) r = refused_inside cs m (n + counted h) k h at lines (BadIndent place) open_is deeper r
+    by (TooDeep place) r = refused_inside cs m (n + counted h) k h at lines (TooDeep place) open_is deeper r
+    by (TooMany place) r = refused_inside cs m (n + counted h) k h at lines (TooMany place) open_is deeper r
 
 -- ---- a whole row
 
@@ -213,19 +213,19 @@ row_read p given n middle next at now line rest left old more built head l inden
   edge = u.edge;
 }
 
-pub row_stopped : (m : Level) (n : ℕ) (h : Head) (at : Pos) (line : Line) (lines : List Line) (fault : ParseFault) → IsLine line m.indent (head_tokens h) → follows m h ≡ true
-    → UnderStopped m (n + counted h) h (last_place at line.tokens) lines fault → RowsStopped m n at (line ∷ lines) fault
-row_stopped m n h at line lines Memory is may_follow r = tt
-row_stopped m n h at line lines (Unexpected place) is may_follow r = refused_under m n h at line lines (Unexpected place) is may_follow r
-row_stopped m n h at line lines (Unsupported place) is may_follow r = refused_under m n h at line lines (Unsupported place) is may_follow r
-row_stopped m n h at line lines (BadIndent place) is may_follow r = refused_under m n h at line lines (BadIndent place) is may_follow r
-row_stopped m n h at line lines (TooDeep place) is may_follow r = refused_under m n h at line lines (TooDeep place) is may_follow r
-row_stopped m n h at line lines (TooMany place) is may_follow r = refused_under m n h at line lines (TooMany place) is may_follow r
+pub row_stopped : (cs : List ℕ) (m : Level) (n : ℕ) (h : Head) (at : Pos) (line : Line) (lines : List Line) (fault : ParseFault) → IsLine line m.indent (head_tokens h) → follows m h ≡ true
+    → UnderStopped cs m (n + counted h) h (last_place at line.tokens) lines fault → RowsStopped cs m n at (line ∷ lines) fault
+row_stopped cs m n h at line lines Memory is may_follow r = tt
+row_stopped cs m n h at line lines (Unexpected place) is may_follow r = refused_under cs m n h at line lines (Unexpected place) is may_follow r
+row_stopped cs m n h at line lines (Unsupported place) is may_follow r = refused_under cs m n h at line lines (Unsupported place) is may_follow r
+row_stopped cs m n h at line lines (BadIndent place) is may_follow r = refused_under cs m n h at line lines (BadIndent place) is may_follow r
+row_stopped cs m n h at line lines (TooDeep place) is may_follow r = refused_under cs m n h at line lines (TooDeep place) is may_follow r
+row_stopped cs m n h at line lines (TooMany place) is may_follow r = refused_under cs m n h at line lines (TooMany place) is may_follow r
 
-pub line_stopped : (m : Level) (n : ℕ) (at : Pos) (line : Line) (lines : List Line) (fault : ParseFault) → line.indent ≡ m.indent → LineStopped m n at line fault → RowsStopped m n at (line ∷ lines) fault
-line_stopped m n at line lines Memory is r = tt
-line_stopped m n at line lines (Unexpected place) is r = refused_line m n at line lines (Unexpected place) is r
-line_stopped m n at line lines (Unsupported place) is r = refused_line m n at line lines (Unsupported place) is r
-line_stopped m n at line lines (BadIndent place) is r = refused_line m n at line lines (BadIndent place) is r
-line_stopped m n at line lines (TooDeep place) is r = refused_line m n at line lines (TooDeep place) is r
-line_stopped m n at line lines (TooMany place) is r = refused_line m n at line lines (TooMany place) is r
+pub line_stopped : (cs : List ℕ) (m : Level) (n : ℕ) (at : Pos) (line : Line) (lines : List Line) (fault : ParseFault) → line.indent ≡ m.indent → LineStopped m n at line fault → RowsStopped cs m n at (line ∷ lines) fault
+line_stopped cs m n at line lines Memory is r = tt
+line_stopped cs m n at line lines (Unexpected place) is r = refused_line cs m n at line lines (Unexpected place) is r
+line_stopped cs m n at line lines (Unsupported place) is r = refused_line cs m n at line lines (Unsupported place) is r
+line_stopped cs m n at line lines (BadIndent place) is r = refused_line cs m n at line lines (BadIndent place) is r
+line_stopped cs m n at line lines (TooDeep place) is r = refused_line cs m n at line lines (TooDeep place) is r
+line_stopped cs m n at line lines (TooMany place) is r = refused_line cs m n at line lines (TooMany place) is r

@@ -1,10 +1,12 @@
 -- The first fault of lines that are no script: where it is shown, and which scripts it rules out.
-use Rattle.std.specs.Prelude.{◌≡◌, ⊤, ◌⊎◌, ℕ, ◌≤◌, List, [], ◌∷◌, ◌++◌}
+use Rattle.std.specs.Prelude.{◌≡◌, ⊤, ◌⊎◌, ℕ, ◌<◌, ◌≤◌, List, [], ◌∷◌, ◌++◌, codes}
 use Rattle.prov_base.specs.declared.place.Pos.{Pos}
 use Rattle.py_lines.specs.declared.parts.Line.{Line}
 use Rattle.py_lines.specs.declared.parts.Token.{Token}
 use Rattle.py_grammar.specs.declared.fault.ParseFault.{ParseFault}
 use Rattle.py_grammar.specs.declared.fault.ParseFault.TheVariants.{Unexpected, Unsupported, BadIndent, TooDeep, TooMany, Memory}
+use Rattle.py_grammar.specs.Concrete.{Spot}
+use Rattle.py_grammar.specs.Tokens.{keyword}
 use Rattle.py_grammar.specs.Follows.{Below}
 use Rattle.py_grammar.specs.Parsed.{IsUnexpected}
 use Rattle.py_grammar.specs.ParsedHead.{BeginsReading}
@@ -27,11 +29,17 @@ abbrev pub last_token : Pos → List Line → Pos
 last_token at [] = at
 last_token at (line ∷ lines) = last_token (last_place at line.tokens) lines
 
--- Where lines stop being those of a script: at a token of a line, whatever follows; at the end of a line; where a line that is
--- indented enough is missing; or at the end of the lines.
+-- the first token of these lines
+abbrev pub first_token : Pos → List Line → Pos
+first_token at [] = at
+first_token at (line ∷ lines) = first_place at line.tokens
+
+-- Where lines stop being those of a script: at a token of a line, whatever follows; at the end of a line; at a line with this
+-- indentation, whatever its tokens; where a line that is indented enough is missing; or at the end of the lines.
 pub data Point : Type 0 where
   at_token : (indent : ℕ) → (front : List Token) → Token → Point
   at_end : (indent : ℕ) → List Token → Point
+  at_line : (indent : ℕ) → Point
   below : (indent : ℕ) → Point
   no_line : Point
 
@@ -45,25 +53,42 @@ shows (at_token indent front t) [] = ⊥
 shows (at_token indent front t) (line ∷ lines) = (line.indent ≡ indent) × GoesOn line.tokens front t
 shows (at_end indent tokens) [] = ⊥
 shows (at_end indent tokens) (line ∷ lines) = (line.indent ≡ indent) × (line.tokens ≡ tokens)
+shows (at_line indent) [] = ⊥
+shows (at_line indent) (line ∷ lines) = line.indent ≡ indent
 shows (below indent) lines = Below indent lines
 shows no_line [] = ⊤
 shows no_line (line ∷ lines) = ⊥
 
+-- a fault at this token, at the end of a line or of the lines, at an indentation
+abbrev pub NamesToken : Token → ParseFault → Type 0
+NamesToken t (Unexpected place) = IsUnexpected t place
+NamesToken t (TooMany place) = place ≡ t.at
+NamesToken t (Unsupported place) = ⊤
+NamesToken t (TooDeep place) = ⊤
+NamesToken t fault = ⊥
+
+abbrev pub NamesEnd : Pos → ParseFault → Type 0
+NamesEnd last (Unexpected place) = place ≡ last
+NamesEnd last (Unsupported place) = ⊤
+NamesEnd last (TooDeep place) = ⊤
+NamesEnd last fault = ⊥
+
+abbrev pub NamesLast : Pos → ParseFault → Type 0
+NamesLast last (Unexpected place) = place ≡ last
+NamesLast last fault = ⊥
+
+abbrev pub NamesIndent : Pos → ParseFault → Type 0
+NamesIndent at (BadIndent place) = place ≡ at
+NamesIndent at fault = ⊥
+
 -- The fault names this place. Of Unsupported and TooDeep, which may name an earlier one, nothing is said here. `at` is the last token
--- before it.
-abbrev pub names : Pos → Point → ParseFault → Type 0
-names at (at_token indent front t) (Unexpected place) = IsUnexpected t place
-names at (at_token indent front t) (BadIndent place) = (place ≡ t.at) × (front ≡ [])
-names at (at_token indent front t) (TooMany place) = place ≡ t.at
-names at (at_token indent front t) (Unsupported place) = ⊤
-names at (at_token indent front t) (TooDeep place) = ⊤
-names at (at_end indent tokens) (Unexpected place) = place ≡ last_place at tokens
-names at (at_end indent tokens) (Unsupported place) = ⊤
-names at (at_end indent tokens) (TooDeep place) = ⊤
-names at (at_end indent tokens) (BadIndent place) = place ≡ at
-names at (below indent) (BadIndent place) = place ≡ at
-names at no_line (Unexpected place) = place ≡ at
-names at point fault = ⊥
+-- before it, and the lines are those where it is shown.
+abbrev pub names : Pos → List Line → Point → ParseFault → Type 0
+names at lines (at_token indent front t) fault = NamesToken t fault
+names at lines (at_end indent tokens) fault = NamesEnd (last_place at tokens) fault
+names at lines (at_line indent) fault = NamesIndent (first_token at lines) fault
+names at lines (below indent) fault = NamesIndent at fault
+names at lines no_line fault = NamesLast at fault
 
 -- The limits that a fault speaks of: TooDeep of depth, TooMany of number, and the others of none.
 abbrev pub Asks : ParseFault → Limits → Type 0
@@ -77,6 +102,7 @@ Asks fault q = ⊤
 abbrev pub tokens_before : Point → List Token
 tokens_before (at_token indent front t) = front
 tokens_before (at_end indent tokens) = tokens
+tokens_before (at_line indent) = []
 tokens_before (below indent) = []
 tokens_before no_line = []
 
@@ -96,6 +122,7 @@ Next (at_token indent [] t) more = ⊤
 Next (at_token indent (f ∷ fs) t) more = Opens indent (f ∷ fs) more ⊎ BeginsReading (f ∷ fs)
 Next (at_end indent []) more = ⊤
 Next (at_end indent (f ∷ fs)) more = Opens indent (f ∷ fs) more ⊎ BeginsReading (f ∷ fs)
+Next (at_line indent) more = ⊤
 Next (below indent) more = ⊤
 Next no_line more = ⊤
 
@@ -107,22 +134,86 @@ pub record BeginsScript (front : List Line) (point : Point) : Type 0 where
   pub lines_are : script_lines some ≡ front ++ more
   pub next : Next point more
 
+-- ---- at which indentation
+
+-- some script of the grammar goes on behind these lines with one that is so
+pub record MayFollow (is : Line → Type 0) (front : List Line) : Type 0 where
+  pub some : Script
+  pub fits : FitsScript some
+  pub line : Line
+  pub more : List Line
+  pub lines_are : script_lines some ≡ front ++ line ∷ more
+  pub line_is : is line
+
+abbrev pub IsAt : ℕ → Line → Type 0
+IsAt indent line = line.indent ≡ indent
+
+pub record BeginsWith (name : List ℕ) (line : Line) : Type 0 where
+  pub at : Spot
+  pub more : List Token
+  pub tokens_are : line.tokens ≡ keyword name at ++ more
+
+abbrev pub IsHandler : Line → Type 0
+IsHandler line = BeginsWith (codes "except") line
+
+-- the statement `pass` at this indentation or further in
+abbrev pub IsPass : ℕ → Line → Type 0
+IsPass indent line = (indent ≤ line.indent) × BeginsWith (codes "pass") line
+
+-- the statement `pass` further out
+abbrev pub IsPassBefore : ℕ → Line → Type 0
+IsPassBefore indent line = (line.indent < indent) × BeginsWith (codes "pass") line
+
+-- none of these lines is indented less
+abbrev pub NoLess : ℕ → List Line → Type 0
+NoLess indent [] = ⊤
+NoLess indent (line ∷ lines) = (indent ≤ line.indent) × NoLess indent lines
+
+-- One of these lines stands at this indentation, and none behind it is indented less: its suite is still open.
+pub record IsOpenAt (indent : ℕ) (front : List Line) : Type 0 where
+  pub before : List Line
+  pub line : Line
+  pub behind : List Line
+  pub front_is : front ≡ before ++ line ∷ behind
+  pub indent_is : line.indent ≡ indent
+  pub none_less : NoLess indent behind
+
+-- A script may go on at this indentation, or a handler is missing before a line there.
+abbrev pub MayStandAt : ℕ → List Line → Type 0
+MayStandAt indent front = MayFollow (IsAt indent) front ⊎ (IsOpenAt indent front × MayFollow IsHandler front)
+
+-- No script goes on at this indentation and no open suite has it, and no statement is missing further in.
+pub record NoneStandsAt (indent : ℕ) (front : List Line) : Type 0 where
+  pub none : MayFollow (IsAt indent) front → ⊥
+  pub no_suite : IsOpenAt indent front → ⊥
+  pub complete : MayFollow (IsPassBefore indent) front ⊎ MayFollow IsHandler front
+
+-- A fault is shown by tokens where a line may stand at their indentation, and by the indentation alone where none may. Where a line
+-- that is indented enough is missing, a statement might stand; where the lines end too early, a handler.
+abbrev pub InColumn : List Line → Point → Type 0
+InColumn front (at_token indent tokens t) = MayStandAt indent front
+InColumn front (at_end indent tokens) = MayStandAt indent front
+InColumn front (at_line indent) = NoneStandsAt indent front
+InColumn front (below indent) = MayFollow (IsPass indent) front
+InColumn front no_line = MayFollow IsHandler front
+
 -- ---- the first fault
 
 -- where a text begins
 abbrev pub origin : Pos
 origin = record { line = 1; col = 1 }
 
--- What stands before the fault begins a script, and these lines up to and with what is shown begin no
--- script whose statements stand where they may: with TooDeep none that keeps the limits of depth, with TooMany none that keeps the
--- limit of number, and else none whatever its depth and number.
+-- What stands before the fault begins a script, and these lines up to and with what is shown begin no script whose statements stand
+-- where they may: with TooDeep none that keeps the limits of depth, with TooMany none that keeps the limit of number, and else none
+-- whatever its depth and number. What shows it is a line's indentation alone where no line may stand at it.
 pub record FirstFault (lines : List Line) (fault : ParseFault) : Type 0 where
   pub front : List Line
   pub behind : List Line
   pub point : Point
   pub lines_are : lines ≡ front ++ behind
   pub shown : shows point behind
-  pub named : names (last_token origin front) point fault
+  pub named : names (last_token origin front) behind point fault
+  pub column : InColumn front point
   pub begins : BeginsScript front point
   pub none : (limits : Limits) → Asks fault limits → (s : Script) → FitsScript s → IsFine limits s → (rest : List Line) → shows point rest → script_lines s ≡ front ++ rest → ⊥
 

@@ -1,5 +1,6 @@
 -- What the parser answers of the lines of a script. No public clause speaks of it.
-use Rattle.std.specs.Prelude.{◌≡◌, ⊤, ℕ, ◌+◌, ◌≤◌, nat_le, Bool, true, false, ◌==◌, ◌||◌, not, List, [], ◌∷◌, ◌++◌, map, Option, Some, None}
+use Rattle.std.specs.Prelude.{◌≡◌, ⊤, ◌⊎◌, ℕ, ◌+◌, ◌<◌, ◌≤◌, nat_le, Bool, true, false, ◌==◌, ◌||◌, not, List, [], ◌∷◌, ◌++◌, map, Option, Some, None}
+use Rattle.std.specs.List.{list_any}
 use Rattle.prov_base.specs.declared.place.Pos.{Pos}
 use Rattle.py_lines.specs.declared.parts.Line.{Line}
 use Rattle.py_lines.specs.declared.parts.Token.{Token}
@@ -24,7 +25,7 @@ use Rattle.py_grammar.specs.Parsed.{is_never}
 use Rattle.py_grammar.specs.ParsedSimple.{around_of}
 use Rattle.py_grammar.specs.ParsedHead.{IsWhat, IsBehind, behind_in}
 use Rattle.py_parser.specs.Limits.{Limits, profile}
-use Rattle.py_parser.specs.Faults.{last_token, Point, shows, names, Asks, tokens_before, Next}
+use Rattle.py_parser.specs.Faults.{last_token, Point, at_token, at_end, at_line, below, no_line, IsAt, IsPass, IsPassBefore, IsHandler, IsOpenAt, shows, names, Asks, tokens_before, Next}
 use Rattle.py_parser.specs.Rows.{Begun, Rows, Under, rows_lines, under_lines, Level, counted, after, is_done, follows, Leads, FitsUnder, FitsRows, may, rows_may, under_may, rows_size, under_size, Edge, LastEdge}
 use Rattle.py_parser.specs.RowForms.{suite_list, grown, inner_number, declared, row_globals, under_globals, grow, below_tree}
 
@@ -151,6 +152,78 @@ pub record RowRead (m : Level) (n : ℕ) (at : Pos) (before : List Line) (old bu
   pub now_is : now ≡ last_token at (line ∷ under_lines under)
   pub edge : Edge under left
 
+-- ---- at which indentation
+
+-- the suites around begin at these columns, one of which this is
+abbrev pub is_column : ℕ → List ℕ → Bool
+is_column d columns = list_any (λ c. c == d) columns
+
+-- a suite at this indentation lies in suites at these columns
+abbrev pub AreBelow : ℕ → List ℕ → Type 0
+AreBelow d [] = ⊤
+AreBelow d (c ∷ columns) = (c < d) × AreBelow d columns
+
+-- Some rows at this level begin with these lines and go on with one that is so.
+pub record RowsGoOn (l : Level) (is : Line → Type 0) (front : List Line) : Type 0 where
+  pub rows : Rows
+  pub fits : FitsRows l rows
+  pub line : Line
+  pub more : List Line
+  pub lines_are : rows_lines rows ≡ front ++ line ∷ more
+  pub line_is : is line
+
+pub record UnderGoesOn (m : Level) (h : Head) (is : Line → Type 0) (front : List Line) : Type 0 where
+  pub under : Under
+  pub fits : FitsUnder m h under
+  pub line : Line
+  pub more : List Line
+  pub lines_are : under_lines under ≡ front ++ line ∷ more
+  pub line_is : is line
+
+-- No suite at this level goes on behind these lines with one at this indentation, and no open one has it.
+pub record NoRows (cs : List ℕ) (l : Level) (d : ℕ) (front : List Line) : Type 0 where
+  pub around : is_column d cs ≡ true → ⊥
+  pub here : d ≡ l.indent → ⊥
+  pub inside : IsOpenAt d front → ⊥
+  pub complete : RowsGoOn l (IsPassBefore d) front ⊎ RowsGoOn l IsHandler front
+  pub none : (line : Line) (more : List Line) (rows : Rows) (r : List Line) → line.indent ≡ d → FitsRows l rows → Below l.indent r → rows_lines rows ++ r ≡ front ++ line ∷ more → ⊥
+
+pub record NoUnder (cs : List ℕ) (m : Level) (h : Head) (d : ℕ) (front : List Line) : Type 0 where
+  pub around : is_column d cs ≡ true → ⊥
+  pub inside : IsOpenAt d front → ⊥
+  pub complete : UnderGoesOn m h (IsPassBefore d) front ⊎ UnderGoesOn m h IsHandler front
+  pub none : (line : Line) (more : List Line) (under : Under) (r : List Line) → line.indent ≡ d → FitsUnder m h under → Edge under r → under_lines under ++ r ≡ front ++ line ∷ more → ⊥
+
+abbrev pub MayStand : List ℕ → Level → ℕ → List Line → Type 0
+MayStand cs l d front = RowsGoOn l (IsAt d) front ⊎ (((is_column d cs ≡ true) ⊎ IsOpenAt d front) × RowsGoOn l IsHandler front)
+
+abbrev pub Placed : List ℕ → Level → List Line → Point → Type 0
+Placed cs l front (at_token d tokens t) = MayStand cs l d front
+Placed cs l front (at_end d tokens) = MayStand cs l d front
+Placed cs l front (at_line d) = NoRows cs l d front
+Placed cs l front (below d) = RowsGoOn l (IsPass d) front
+Placed cs l front no_line = RowsGoOn l IsHandler front
+
+abbrev pub MayStandUnder : List ℕ → Level → Head → ℕ → List Line → Type 0
+MayStandUnder cs m h d front = UnderGoesOn m h (IsAt d) front ⊎ (((is_column d cs ≡ true) ⊎ IsOpenAt d front) × UnderGoesOn m h IsHandler front)
+
+abbrev pub PlacedUnder : List ℕ → Level → Head → List Line → Point → Type 0
+PlacedUnder cs m h front (at_token d tokens t) = MayStandUnder cs m h d front
+PlacedUnder cs m h front (at_end d tokens) = MayStandUnder cs m h d front
+PlacedUnder cs m h front (at_line d) = NoUnder cs m h d front
+PlacedUnder cs m h front (below d) = UnderGoesOn m h (IsPass d) front
+PlacedUnder cs m h front no_line = UnderGoesOn m h IsHandler front
+
+-- the columns around what stands under a line at this level
+abbrev pub columns_under : List ℕ → Level → List ℕ
+columns_under cs m = cs ++ m.indent ∷ []
+
+-- a token or the end of a line
+abbrev pub IsOnLine : Point → Type 0
+IsOnLine (at_token d tokens t) = ⊤
+IsOnLine (at_end d tokens) = ⊤
+IsOnLine p = ⊥
+
 -- ---- what is refused
 
 -- Some rows at this level begin with these lines, and go on with what stands before the fault.
@@ -169,50 +242,54 @@ pub record UnderBegins (m : Level) (h : Head) (front : List Line) (point : Point
   pub next : Next point more
 
 -- No suite at this level has these first lines up to and with what is shown.
-pub record Refused (l : Level) (n : ℕ) (at : Pos) (lines : List Line) (fault : ParseFault) : Type 0 where
+pub record Refused (cs : List ℕ) (l : Level) (n : ℕ) (at : Pos) (lines : List Line) (fault : ParseFault) : Type 0 where
   pub front : List Line
   pub behind : List Line
   pub point : Point
   pub lines_are : lines ≡ front ++ behind
   pub shown : shows point behind
-  pub named : names (last_token at front) point fault
+  pub named : names (last_token at front) behind point fault
+  pub placed : Placed cs l front point
   pub begun : (rest : List Line) → shows point rest → Begun l.indent (front ++ rest)
   pub begins : RowsBegin l front point
   pub none : (q : Limits) → Asks fault q → (rest : List Line) (rows : Rows) (r : List Line) → shows point rest → FitsRows l rows → rows_may q l n rows ≡ true → Below l.indent r → rows_lines rows ++ r ≡ front ++ rest → ⊥
 
-abbrev pub RowsStopped : Level → ℕ → Pos → List Line → ParseFault → Type 0
-RowsStopped l n at lines Memory = ⊤
-RowsStopped l n at lines fault = Refused l n at lines fault
+abbrev pub RowsStopped : List ℕ → Level → ℕ → Pos → List Line → ParseFault → Type 0
+RowsStopped cs l n at lines Memory = ⊤
+RowsStopped cs l n at lines fault = Refused cs l n at lines fault
 
 -- No suite goes on from this level so that it shows this at once.
-pub record RefusedHere (m : Level) (n : ℕ) (at : Pos) (lines : List Line) (fault : ParseFault) : Type 0 where
+pub record RefusedHere (cs : List ℕ) (m : Level) (n : ℕ) (at : Pos) (lines : List Line) (fault : ParseFault) : Type 0 where
   pub point : Point
   pub shown : shows point lines
-  pub named : names at point fault
+  pub named : names at lines point fault
+  pub placed : Placed cs m [] point
   pub before : tokens_before point ≡ []
   pub edge : (rows : Rows) (rest : List Line) → shows point rest → (l : Level) → l.indent ≡ m.indent → Leads l rows m → LastEdge rows lines → LastEdge rows rest
   pub none : (q : Limits) → Asks fault q → (rest : List Line) (rows : Rows) (r : List Line) → shows point rest → FitsRows m rows → rows_may q m n rows ≡ true → Below m.indent r → rows_lines rows ++ r ≡ rest → ⊥
 
 -- Nothing that may stand under a line that begins this has these first lines up to and with what is shown.
-pub record RefusedUnder (m : Level) (n : ℕ) (h : Head) (at : Pos) (lines : List Line) (fault : ParseFault) : Type 0 where
+pub record RefusedUnder (cs : List ℕ) (m : Level) (n : ℕ) (h : Head) (at : Pos) (lines : List Line) (fault : ParseFault) : Type 0 where
   pub front : List Line
   pub behind : List Line
   pub point : Point
   pub lines_are : lines ≡ front ++ behind
   pub shown : shows point behind
-  pub named : names (last_token at front) point fault
+  pub named : names (last_token at front) behind point fault
+  pub placed : PlacedUnder (columns_under cs m) m h front point
   pub begins : UnderBegins m h front point
   pub none : (q : Limits) → Asks fault q → (rest : List Line) (under : Under) (r : List Line) → shows point rest → FitsUnder m h under → under_may q m n h under ≡ true → Edge under r → under_lines under ++ r ≡ front ++ rest → ⊥
 
-abbrev pub UnderStopped : Level → ℕ → Head → Pos → List Line → ParseFault → Type 0
-UnderStopped m n h at lines Memory = ⊤
-UnderStopped m n h at lines fault = RefusedUnder m n h at lines fault
+abbrev pub UnderStopped : List ℕ → Level → ℕ → Head → Pos → List Line → ParseFault → Type 0
+UnderStopped cs m n h at lines Memory = ⊤
+UnderStopped cs m n h at lines fault = RefusedUnder cs m n h at lines fault
 
 -- No line that may stand there has these tokens up to and with what is shown.
 pub record RefusedLine (m : Level) (n : ℕ) (at : Pos) (line : Line) (fault : ParseFault) : Type 0 where
   pub point : Point
+  pub on_line : IsOnLine point
   pub shown : shows point (line ∷ [])
-  pub named : names at point fault
+  pub named : names at (line ∷ []) point fault
   pub begun : (rest : List Line) → shows point rest → Begun line.indent rest
   pub begins : line.indent ≡ m.indent → RowsBegin m [] point
   pub none : (q : Limits) → Asks fault q → (other : Line) (more : List Line) (h : Head) → shows point (other ∷ more) → other.tokens ≡ head_tokens h → follows m h ≡ true → may q m n h ≡ true → ⊥
@@ -232,8 +309,8 @@ pub record IsClosed (p : Place) (b : Built) (lines : List Line) : Type 0 where
   pub low : Below p.indent lines
   pub done : (given : List (List ℕ)) → is_done (level_at p given b) ≡ true
 
-pub record NotClosed (p : Place) (b : Built) (at : Pos) (lines : List Line) (fault : ParseFault) : Type 0 where
-  pub there : (given : List (List ℕ)) (n : ℕ) → RefusedHere (level_at p given b) n at lines fault
+pub record NotClosed (cs : List ℕ) (p : Place) (b : Built) (at : Pos) (lines : List Line) (fault : ParseFault) : Type 0 where
+  pub there : (given : List (List ℕ)) (n : ℕ) → RefusedHere cs (level_at p given b) n at lines fault
   pub other : fault ≡ Memory → ⊥
 
 -- a word or sign that stands nowhere comes first
@@ -241,8 +318,9 @@ abbrev pub begins_never : List Token → Bool
 begins_never [] = false
 begins_never (t ∷ ts) = is_never t.kind
 
-abbrev pub IsNoHandler : List Token → Pos → ParseFault → Type 0
-IsNoHandler tokens at (Unexpected place) = (place ≡ at) × (begins_never tokens ≡ false)
-IsNoHandler tokens at (Unsupported place) = place ≡ at
-IsNoHandler tokens at (BadIndent place) = place ≡ at
-IsNoHandler tokens at fault = ⊥
+-- a line stands where a handler has to, and this is at the column of a suite around or not
+abbrev pub IsNoHandler : List ℕ → Line → Pos → ParseFault → Type 0
+IsNoHandler cs line at (Unexpected place) = (place ≡ at) × (begins_never line.tokens ≡ false) × (is_column line.indent cs ≡ true)
+IsNoHandler cs line at (Unsupported place) = (place ≡ at) × (is_column line.indent cs ≡ true)
+IsNoHandler cs line at (BadIndent place) = (place ≡ at) × (is_column line.indent cs ≡ false)
+IsNoHandler cs line at fault = ⊥

@@ -14,7 +14,7 @@ ghost use Rattle.py_grammar.specs.ParsedHead.{IsWhat, IsBehind, IsThere, behind_
 ghost use Rattle.py_parser.specs.Rows.{start, Level, counted, is_global, is_def as def_begins, is_stmt, opens as head_opens, after, head_around, head_given, last_after, lets_declare};
 ghost use Rattle.py_parser.specs.RowForms.{begun, form_begun, suite_list, grown as grown_trees, below_tree, declared, with_elif as with_elif_tree, with_else as with_else_tree, with_handler as with_handler_tree, with_part as with_part_tree, longer};
 ghost use Rattle.py_parser.specs.Faults.{first_place, last_place};
-ghost use Rattle.py_parser.specs.ParsedBlocks.{limit_at, level_of, level_at, is_here, is_stmt_kind, IsUnderOf, IsClosed, NotClosed, IsNoHandler, begins_never as never_first, trees_of, IsHead, LineRead, LineStopped, RowsRead, RowRead, RowsStopped, UnderRead, UnderStopped};
+ghost use Rattle.py_parser.specs.ParsedBlocks.{limit_at, AreBelow, level_of, level_at, is_here, is_stmt_kind, IsUnderOf, IsClosed, NotClosed, IsNoHandler, begins_never as never_first, trees_of, IsHead, LineRead, LineStopped, RowsRead, RowRead, RowsStopped, UnderRead, UnderStopped};
 
 use prov_base::{Name, Pos, Span};
 use py_grammar::{
@@ -81,8 +81,10 @@ impl<'a> Blocks<'a> {
         requires here { is_here place.indent self.old.rest.now ≡ true }
         requires deep { place.depth ≤ 50 }
         requires few { self.old.count ≤ 20000 }
+        requires columns { AreBelow place.indent self.old.columns.items }
         ensures found { IfOk result (λ built. RowsRead (level_of place given.now) self.old.count self.old.before self.old.rest.now built self.new.count self.new.before self.new.rest.now) }
-        ensures refused { IfErr result (RowsStopped (level_of place given.now) self.old.count self.old.before self.old.rest.now) }
+        ensures refused { IfErr result (RowsStopped self.old.columns.items (level_of place given.now) self.old.count self.old.before self.old.rest.now) }
+        ensures columns { IfOk result (λ _. self.new.columns.items ≡ self.old.columns.items) }
     {
         let mut built = Built::new(alloc, place);
         while self.is_here(place.indent) {
@@ -105,8 +107,10 @@ impl<'a> Blocks<'a> {
         requires deep { place.depth ≤ 50 }
         requires few { self.old.count ≤ 20000 }
         requires declares { built.may_declare ≡ true → place.of_def ≡ true }
+        requires columns { AreBelow place.indent self.old.columns.items }
         ensures found { IfOk result (λ more. RowRead (level_at place given.now built) self.old.count self.old.before self.old.rest.now built more (level_at place given.now more) self.new.count self.new.before self.new.rest.now) }
-        ensures refused { IfErr result (RowsStopped (level_at place given.now built) self.old.count self.old.before self.old.rest.now) }
+        ensures refused { IfErr result (RowsStopped self.old.columns.items (level_at place given.now built) self.old.count self.old.before self.old.rest.now) }
+        ensures columns { IfOk result (λ _. self.new.columns.items ≡ self.old.columns.items) }
     {
         let Some((line, rest)) = self.rest.split_first() else {
             return Err(ParseFault::BadIndent(self.before));
@@ -134,6 +138,7 @@ impl<'a> Blocks<'a> {
         ensures refused { IfErr result (LineStopped (level_at place given.now built.now) self.old.count self.old.before line.now) }
         ensures kept { self.new.rest.now ≡ self.old.rest.now }
         ensures before { self.new.before ≡ self.old.before }
+        ensures columns { self.new.columns ≡ self.old.columns }
     {
         let Some(first) = line.tokens.as_slice().first() else {
             return Err(ParseFault::Unexpected(self.before));
@@ -174,10 +179,12 @@ impl<'a> Blocks<'a> {
     ) -> Result<Built, ParseFault>
         requires deep { place.depth ≤ 50 }
         requires few { self.old.count ≤ 20000 }
+        requires columns { AreBelow place.indent self.old.columns.items }
         ensures found { (m : Level) (n : ℕ) (h : Head) → IsUnderOf place self.old.count m n h → IsHead what.now line.now h → IsBehind behind (behind_in h)
             → IfOk result (λ built. UnderRead m n h line.now.span.to self.old.before self.old.rest.now built self.new.count self.new.before self.new.rest.now) }
         ensures refused { (m : Level) (n : ℕ) (h : Head) → IsUnderOf place self.old.count m n h → IsHead what.now line.now h → IsBehind behind (behind_in h)
-            → IfErr result (UnderStopped m (n + counted h) h self.old.before self.old.rest.now) }
+            → IfErr result (UnderStopped self.old.columns.items m (n + counted h) h self.old.before self.old.rest.now) }
+        ensures columns { IfOk result (λ _. self.new.columns.items ≡ self.old.columns.items) }
     {
         match behind {
             Some(behind) => {
@@ -195,10 +202,12 @@ impl<'a> Blocks<'a> {
     fn suite(&mut self, alloc: Global, what: &What, place: Place) -> Result<Built, ParseFault>
         requires deep { place.depth ≤ 50 }
         requires few { self.old.count ≤ 20000 }
+        requires columns { AreBelow place.indent self.old.columns.items }
         ensures found { (m : Level) (n : ℕ) (h : Head) → IsUnderOf place self.old.count m n h → IsWhat what.now h → head_opens h ≡ true
             → IfOk result (λ built. (to : ℕ) → UnderRead m n h to self.old.before self.old.rest.now built self.new.count self.new.before self.new.rest.now) }
         ensures refused { (m : Level) (n : ℕ) (h : Head) → IsUnderOf place self.old.count m n h → IsWhat what.now h → head_opens h ≡ true
-            → IfErr result (UnderStopped m (n + counted h) h self.old.before self.old.rest.now) }
+            → IfErr result (UnderStopped self.old.columns.items m (n + counted h) h self.old.before self.old.rest.now) }
+        ensures columns { IfOk result (λ _. self.new.columns.items ≡ self.old.columns.items) }
     {
         let Some(next) = self.rest.first() else {
             return Err(ParseFault::BadIndent(self.before));
@@ -235,9 +244,10 @@ impl<'a> Blocks<'a> {
     /// The lines of a suite end here: no line follows that is indented more than the lines around, no handler is missing, and
     /// there is a statement.
     fn close(&self, place: Place, built: &Built) -> Result<(), ParseFault>
-        requires { is_here place.indent self.now.rest.now ≡ false }
+        requires ended { is_here place.indent self.now.rest.now ≡ false }
+        requires columns { AreBelow place.indent self.now.columns.items }
         ensures found { IfOk result (λ _. IsClosed place built.now self.now.rest.now) }
-        ensures refused { IfErr result (NotClosed place built.now self.now.before self.now.rest.now) }
+        ensures refused { IfErr result (NotClosed self.now.columns.items place built.now self.now.before self.now.rest.now) }
     {
         let lacks_handler = built.last == Last::Try;
         let Some((line, _)) = self.rest.split_first() else {
@@ -264,11 +274,11 @@ impl<'a> Blocks<'a> {
 
     /// That a line stands where a handler has to.
     fn no_handler(&self, line: &Line) -> ParseFault
-        ensures { IsNoHandler line.now.tokens (first_place self.now.before line.now.tokens) result }
+        ensures { IsNoHandler self.now.columns.items line.now (first_place self.now.before line.now.tokens) result }
     {
         let tokens = line.tokens.as_slice();
         let at = first_of(tokens, self.before);
-        if !self.columns.iter().any(|column| *column == line.indent) {
+        if !self.columns.contains(&line.indent) {
             ParseFault::BadIndent(at)
         } else if begins_never(tokens) {
             ParseFault::Unsupported(at)

@@ -24,13 +24,13 @@ returns-then-first-ne0-clause-refused c =
 -- src/script.rt
 pub returns-in_err-built-clause-complete : goal.returns-in_err-built-clause-complete
 returns-in_err-built-clause-complete c tree s =
-    let is = only_memory c.args.lines.now _ tree (stopped_there c.args.lines.now c.as_slice-lines.result.now _ _ c.as_slice-lines.ensures c.module.ensures c.in_err-built.ensures.refused) s in
+    let is = only_memory c.args.lines.now _ tree (stopped_there c.args.lines.now c.as_slice-lines.result.now _ _ _ c.as_slice-lines.ensures c.new-2.ensures.items c.module.ensures c.in_err-built.ensures.refused) s in
     search (rules, is)
 
 -- src/script.rt
 pub returns-in_err-built-clause-refused : goal.returns-in_err-built-clause-refused
 returns-in_err-built-clause-refused c =
-    let is = stopped_there c.args.lines.now c.as_slice-lines.result.now _ _ c.as_slice-lines.ensures c.module.ensures c.in_err-built.ensures.refused in
+    let is = stopped_there c.args.lines.now c.as_slice-lines.result.now _ _ _ c.as_slice-lines.ensures c.new-2.ensures.items c.module.ensures c.in_err-built.ensures.refused in
     search (rules, is)
 
 -- src/script.rt

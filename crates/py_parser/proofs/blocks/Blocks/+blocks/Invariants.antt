@@ -1,4 +1,4 @@
-use Rattle.std.proofs.Common.{◌*◌, ◌+◌, length}
+use Rattle.std.proofs.Common.{◌≡◌, ◌*◌, ◌+◌, length}
 use Rattle.py_parser.specs.ParsedBlocks.{level_of, level_at, Standing}
 use Rattle.py_parser.proofs.blocks.Blocks.+blocks.Given as goal
 
@@ -17,6 +17,7 @@ decreases-under l = 4 * length l.self.now.rest.now + 3
 abbrev pub invariant-rows-loop-alloc : goal.invariant-rows-loop-alloc
 invariant-rows-loop-alloc l =
     Standing (level_of l.fn.place l.fn.given) l.fn.self.count l.fn.self.before l.fn.self.rest.now (level_at l.fn.place l.fn.given l.built) l.built l.self.count l.self.before l.self.rest.now
+    × (l.self.columns.items ≡ l.fn.self.columns.items)
 
 abbrev pub decreases-rows-loop-alloc : goal.decreases-rows-loop-alloc
 decreases-rows-loop-alloc l = length l.self.rest.now
