@@ -1,6 +1,6 @@
 -- Where there is the place that each access of a plan needs, with room for all keys and bytes of the plan in it, there is
 -- room for each access in its turn.
-use Rattle.std.proofs.Common.{◌≡◌, ℕ, zero, suc, ◌+◌, ◌-◌, ◌<◌, ◌≤◌, List, [], ◌∷◌, ◌++◌, length, slice_get, slice_index_or, Option, Some, IfSome, refl, ap, sym, subst, ◌∙◌, arith}
+use Rattle.std.proofs.Common.{◌≡◌, ℕ, zero, suc, ◌+◌, ◌-◌, ◌<◌, ◌≤◌, List, [], ◌∷◌, ◌++◌, map, length, slice_get, slice_index_or, Option, Some, refl, ap, sym, subst, ◌∙◌, arith}
 use Rattle.std.specs.Prelude.{None}
 use Rattle.py_value.specs.declared.access.Access.{Access}
 use Rattle.py_value.specs.declared.access.Access.TheVariants.{Read, Set, Update}
@@ -11,7 +11,7 @@ use Rattle.py_value.specs.declared.access.Location.TheVariants.{Item, Order, Fil
 use Rattle.py_value.specs.Values.{ValuesView}
 use Rattle.object_store.specs.Object.{ObjectView, no_object}
 use Rattle.object_store.specs.Room.{Room, Takes, HasPlaceFor, HasRoomFor, IsReserved, IsAccessWithin, AreWithin, cells_of, keys_of, bytes_of, cells_in, keys_in, bytes_in_all}
-use Rattle.object_store.specs.Store.{StoreView, Makes, IsReservedFor, room_of, room_with_next, count_with}
+use Rattle.object_store.specs.Store.{StoreView, Keeps, Makes, HasRoomForAll, IsReservedFor, room_of, room_with_next, count_with}
 use Rattle.object_store.proofs.Reserving.{place_later}
 
 has_room : (values : ValuesView) (room : Room) (keys bytes : ℕ) (access : Access) → HasPlaceFor room keys bytes access → IsAccessWithin (length room.objects) access
@@ -111,18 +111,27 @@ count_same : (made : Option Kind) (old new : StoreView) → length new.objects �
 count_same None old new is = is
 count_same (Some kind) old new is = ap (λ n. n + 1) is
 
-pub reserved_for : (values : ValuesView) (old store : StoreView) (plan : List Access) (made : Option Kind) (keys bytes : ℕ)
-    → ((k : ℕ) (access : Access) → slice_get plan k ≡ Some access → HasPlaceFor (room_with_next store) keys bytes access) → AreWithin (count_with made old) plan → length store.objects ≡ length old.objects
-    → cells_in plan ≤ store.spare_cells → keys_in plan ≤ keys → bytes_in_all values plan ≤ bytes → IfSome made (λ kind. 0 < store.spare_objects) → IsReservedFor values store made plan
-reserved_for values old store plan None keys bytes places within count cells_fit keys_fit bytes_fit spare =
+kinds_counted : (xs : List ObjectView) → length (map (λ (ob : ObjectView). ob.kind) xs) ≡ length xs
+kinds_counted [] = refl
+kinds_counted (x ∷ xs) = ap suc (kinds_counted xs)
+
+-- where all is as before, a plan may name as many objects as before
+pub count_kept : (made : Option Kind) (old new : StoreView) → Keeps old new → count_with made new ≡ count_with made old
+count_kept made old new keeps =
+    count_same made old new (sym (kinds_counted new.objects) ∙ ap (length {A = Kind}) keeps.kinds_stay ∙ kinds_counted old.objects)
+
+pub reserved_for : (values : ValuesView) (old store : StoreView) (plan : List Access) (made : Option Kind) → HasRoomForAll values store made plan
+    → AreWithin (count_with made old) plan → length store.objects ≡ length old.objects → IsReservedFor values store made plan
+reserved_for values old store plan None room within count =
     let here_within = subst (λ n. AreWithin n plan) (sym count) within in
-    reserved values plan (room_of store) keys bytes (λ k access at. here store keys bytes access (here_within k access at) (places k access at)) here_within cells_fit keys_fit bytes_fit
-reserved_for values old store plan (Some kind) keys bytes places within count cells_fit keys_fit bytes_fit spare = (
-  spare,
+    reserved values plan (room_of store) (keys_in plan) (bytes_in_all values plan)
+    (λ k access at. here store (keys_in plan) (bytes_in_all values plan) access (here_within k access at) (room.places k access at)) here_within room.cells (omega arith) (omega arith)
+reserved_for values old store plan (Some kind) room within count = (
+  room.object,
   λ after makes.
       let takes = makes_takes store after kind makes in
       let objects : length after.objects ≡ length old.objects + 1 = takes.objects_stay ∙ count_last store.objects store.next_object ∙ ap (λ n. n + 1) count in
-      reserved values plan (room_of after) keys bytes
-      (λ k access at. place_later (room_with_next store) (room_of after) 0 0 0 takes keys bytes keys bytes (omega arith) (omega arith) access (places k access at))
-      (subst (λ n. AreWithin n plan) (sym objects) within) (omega (arith, makes.cells_stay)) keys_fit bytes_fit,
+      reserved values plan (room_of after) (keys_in plan) (bytes_in_all values plan)
+      (λ k access at. place_later (room_with_next store) (room_of after) 0 0 0 takes (keys_in plan) (bytes_in_all values plan) (keys_in plan) (bytes_in_all values plan) (omega arith) (omega arith) access (room.places k access at))
+      (subst (λ n. AreWithin n plan) (sym objects) within) (omega (arith, makes.cells_stay, room.cells)) (omega arith) (omega arith),
 )

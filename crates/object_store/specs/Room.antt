@@ -1,5 +1,5 @@
 -- Room for a plan of writes (this project's profile): what each write needs, and what it leaves for those after it.
-use Rattle.std.specs.Prelude.{◌≡◌, ℕ, ◌+◌, ◌<◌, ◌≤◌, ⊤, List, [], ◌∷◌, length, slice_get, slice_index_or, unwrap_or, nat_eq, Option, Some, IsSome}
+use Rattle.std.specs.Prelude.{◌≡◌, ℕ, ◌+◌, ◌^◌, ◌<◌, ◌≤◌, ⊤, List, [], ◌∷◌, length, slice_get, slice_index_or, unwrap_or, nat_eq, Option, Some, IsSome}
 use Rattle.std.specs.Option.{option_map}
 use Rattle.std.specs.Map.{lookup}
 use Rattle.py_value.specs.declared.access.Access.{Access}
@@ -101,6 +101,12 @@ abbrev pub bytes_in_all : ValuesView → List Access → ℕ
 bytes_in_all values [] = 0
 bytes_in_all values (access ∷ plan) = bytes_of values access + bytes_in_all values plan
 
+-- the cells, keys and bytes of a plan are counted by a word each
+pub record AreCounted (values : ValuesView) (plan : List Access) : Type 0 where
+  pub cells : cells_in plan < 2 ^ 64
+  pub keys : keys_in plan < 2 ^ 64
+  pub bytes : bytes_in_all values plan < 2 ^ 64
+
 -- the text of an append has a number
 abbrev pub IsNamedChange : ValuesView → Change → Type 0
 IsNamedChange values (Append text) = text < length values.texts
@@ -165,3 +171,7 @@ abbrev pub HasPlaceFor : Room → ℕ → ℕ → Access → Type 0
 HasPlaceFor room count bytes (Read l) = ⊤
 HasPlaceFor room count bytes (Set l content) = HasPlaceToSet room count l
 HasPlaceFor room count bytes (Update l change) = HasPlaceToUpdate room count bytes l
+
+-- there is the place that each access of a plan needs
+abbrev pub HasPlaces : Room → ℕ → ℕ → List Access → Type 0
+HasPlaces room count bytes plan = (k : ℕ) (access : Access) → slice_get plan k ≡ Some access → HasPlaceFor room count bytes access

@@ -1,6 +1,6 @@
 -- The store of a run (this project's profile): a finite map from locations to what stands there, with the kinds of the
 -- objects and the names of functions and classes.
-use Rattle.std.specs.Prelude.{⊤, ◌≡◌, ℕ, ◌+◌, ◌<◌, List, [], ◌∷◌, ◌++◌, map, length, slice_get, unwrap_or, nat_eq, Option, Some, None, if◌then◌else◌}
+use Rattle.std.specs.Prelude.{⊤, ◌≡◌, ℕ, ◌+◌, ◌<◌, ◌≤◌, List, [], ◌∷◌, ◌++◌, map, length, slice_get, unwrap_or, nat_eq, Option, Some, None, IfSome, if◌then◌else◌}
 use Rattle.std.specs.Option.{option_map, option_and_then}
 use Rattle.std.specs.Map.{lookup}
 use Rattle.prov_base.specs.declared.place.Pos.{Pos}
@@ -20,7 +20,7 @@ use Rattle.object_store.specs.Cell.{content_of}
 use Rattle.py_value.specs.Values.{ValuesView}
 use Rattle.object_store.specs.File.{FileView}
 use Rattle.object_store.specs.Object.{ObjectView, item_of, with_keys, with_key, without_key}
-use Rattle.object_store.specs.Room.{Room, object_in, text_in, IsReserved}
+use Rattle.object_store.specs.Room.{Room, object_in, text_in, cells_in, keys_in, bytes_in_all, AreCounted, HasPlaces, IsReserved}
 
 -- What contracts see: the objects in the order in which they were made, what was set that is no item, order or file, the
 -- files by their path's text, the noted names; and the room: the object that is made next, and for how many more objects and cells there is room.
@@ -157,6 +157,14 @@ IsReservedFor values store (Some kind) plan =
 -- what there is room for once the object that is ready is made
 abbrev pub room_with_next : StoreView → Room
 room_with_next store = record { objects = store.objects ++ store.next_object ∷ []; files = store.files; cells = store.spare_cells }
+
+-- There is all the room that a plan may use: for the object that it makes, for its cells, and at each access the place, with
+-- room there for all keys and all bytes of the plan.
+pub record HasRoomForAll (values : ValuesView) (store : StoreView) (made : Option Kind) (plan : List Access) : Type 0 where
+  pub counted : AreCounted values plan
+  pub object : IfSome made (λ kind. 0 < store.spare_objects)
+  pub cells : cells_in plan ≤ store.spare_cells
+  pub places : HasPlaces (room_with_next store) (keys_in plan) (bytes_in_all values plan) plan
 
 -- how many objects a plan may name: those that are there, and the one that it makes
 abbrev pub count_with : Option Kind → StoreView → ℕ

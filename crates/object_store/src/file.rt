@@ -75,6 +75,13 @@ impl File {
         let _ = self.bytes.extend_from_slice(bytes);
     }
 
+    /// For how many more bytes there is room.
+    pub fn room(&self) -> usize
+        ensures { result ≡ self.now.spare }
+    {
+        self.bytes.capacity() - self.bytes.len()
+    }
+
     /// Makes room for so many more bytes.
     pub fn reserve(&mut self, count: usize) -> Result<(), Memory>
         ensures room { OnOk result (count ≤ self.new.spare) }

@@ -1,6 +1,6 @@
 // What the writes of a plan need together: so many cells, keys and bytes at most.
-ghost use Rattle.std.specs.Prelude.{◌≡◌, ◌+◌, IfOk};
-ghost use Rattle.object_store.specs.Room.{cells_of, cells_set, keys_of, keys_set, bytes_of, cells_in, keys_in, bytes_in_all, IsNamedAccess, AreNamedAccesses};
+ghost use Rattle.std.specs.Prelude.{◌≡◌, ◌+◌, ◌^◌, ◌<◌, ◌≤◌, IfOk, IsOk, OnErr};
+ghost use Rattle.object_store.specs.Room.{cells_of, cells_set, keys_of, keys_set, bytes_of, cells_in, keys_in, bytes_in_all, IsNamedAccess, AreNamedAccesses, AreCounted};
 
 use prov_base::Memory;
 use py_value::{Access, Change, Content, Location, Values};
@@ -20,6 +20,7 @@ impl Need {
         ensures cells { IfOk result (λ need. need.cells ≡ cells_in plan.now) }
         ensures keys { IfOk result (λ need. need.keys ≡ keys_in plan.now) }
         ensures bytes { IfOk result (λ need. need.bytes ≡ bytes_in_all values.now plan.now) }
+        ensures counted { AreCounted values.now plan.now → IsOk result }
     {
         let mut need = Need {
             cells: 0,
@@ -38,6 +39,8 @@ impl Need {
         ensures cells { IfOk result (λ need. need.cells ≡ self.cells + cells_of access.now) }
         ensures keys { IfOk result (λ need. need.keys ≡ self.keys + keys_of access.now) }
         ensures bytes { IfOk result (λ need. need.bytes ≡ self.bytes + bytes_of values.now access.now) }
+        ensures counted { self.cells + cells_of access.now < 2 ^ 64 → self.keys + keys_of access.now < 2 ^ 64
+            → self.bytes + bytes_of values.now access.now < 2 ^ 64 → IsOk result }
     {
         match access {
             Access::Read(_) => Ok(self),
@@ -63,7 +66,8 @@ impl Need {
 
 // The sum, where it is in range.
 fn sum(a: usize, b: usize) -> Result<usize, Memory>
-    ensures { IfOk result (λ s. s ≡ a + b) }
+    ensures sum { IfOk result (λ s. s ≡ a + b) }
+    ensures in_range { a + b < 2 ^ 64 → IsOk result }
 {
     match a.checked_add(b) {
         Some(s) => Ok(s),

@@ -1,6 +1,6 @@
 // One object of a run: its kind, its items where it is a list, and its keys in their order where it has keys.
 // It stands on a `Vec` and an `IndexSet`, and says for how many items and keys there is room.
-ghost use Rattle.std.specs.Prelude.{◌≡◌, ℕ, ◌+◌, ◌<◌, ◌≤◌, [], Some, OnOk, slice_get, slice_set, length};
+ghost use Rattle.std.specs.Prelude.{◌≡◌, ℕ, ◌+◌, ◌<◌, ◌≤◌, ◌↔◌, [], Some, IsTrue, OnOk, slice_get, slice_set, length};
 ghost use Rattle.py_value.specs.declared.access.Kind.TheVariants.{List as ListKind};
 ghost use Rattle.object_store.specs.Object.{item_in, item_of, with_key, with_keys, without_key};
 
@@ -8,6 +8,7 @@ use indexmap::IndexSet;
 use prov_base::Memory;
 use py_value::{Kind, Value};
 use std::alloc::Global;
+use std::cmp::min;
 use std::marker::Model;
 
 /// An object. Contracts see its kind, its places for items, its keys in order, and for how many more keys there is room.
@@ -89,6 +90,13 @@ impl Object {
         self.items[i as usize] = Some(item);
     }
 
+    /// There is this place for an item.
+    pub fn has_place(&self, i: u64) -> bool
+        ensures { IsTrue result ↔ (i < length self.now.items) }
+    {
+        i < self.items.len() as u64
+    }
+
     /// Makes this place for an item, and all before it.
     pub fn reserve_item(&mut self, i: u64) -> Result<(), Memory>
         ensures room { OnOk result (i < length self.new.items) }
@@ -148,6 +156,14 @@ impl Object {
         ensures spare { self.old.spare ≤ self.new.spare }
     {
         self.keys.shift_remove(&key);
+    }
+
+    /// For how many more keys there is room.
+    pub fn key_room(&self) -> usize
+        ensures { result ≡ self.now.spare }
+    {
+        let len = self.keys.len();
+        min(self.keys.capacity() - len, u32::MAX as usize - len)
     }
 
     /// Makes room for so many more keys.

@@ -213,4 +213,5 @@ impl Store {
 
 mod opening;
 mod reserve;
+mod room;
 mod writes;

@@ -1,10 +1,10 @@
 // Memory for a plan of writes, taken before the first of them. Whether it is had or refused, all that stands in the
 // store is as before.
-ghost use Rattle.std.specs.Prelude.{◌≡◌, ℕ, ◌+◌, ◌<◌, ◌≤◌, length, slice_set, slice_get, Some, IsSome, IfSome, OnOk};
+ghost use Rattle.std.specs.Prelude.{◌≡◌, ℕ, ◌+◌, ◌<◌, ◌≤◌, length, slice_set, slice_get, Some, IsSome, IsOk, IfSome, OnOk};
 ghost use Rattle.py_value.specs.declared.access.Access.{Access as OneAccess};
 ghost use Rattle.object_store.specs.Object.{Grows};
-ghost use Rattle.object_store.specs.Room.{object_in, slot_in, bytes_in, AreNamedAccesses, AreWithin, IsAccessWithin, Takes, HasPlaceFor};
-ghost use Rattle.object_store.specs.Store.{object_at, room_of, room_with_next, count_with, file_at, Keeps, IsReservedFor};
+ghost use Rattle.object_store.specs.Room.{object_in, slot_in, bytes_in, AreNamedAccesses, AreWithin, IsAccessWithin, Takes, HasPlaceFor, HasPlaces};
+ghost use Rattle.object_store.specs.Store.{object_at, room_of, room_with_next, count_with, file_at, Keeps, HasRoomForAll, IsReservedFor};
 
 use super::Store;
 use crate::file::File;
@@ -28,10 +28,18 @@ impl Store {
         requires objects { AreWithin (count_with made self.old) plan.now }
         ensures reserved { OnOk result (IsReservedFor values.now self.new made plan.now) }
         ensures keeps { Keeps self.old self.new }
+        ensures room { OnOk result (HasRoomForAll values.now self.new made plan.now) }
+
+        // Where all the room is there already, as right after a call with this plan, nothing is taken.
+        ensures had_room { HasRoomForAll values.now self.old made plan.now → IsOk result }
+        ensures no_more { HasRoomForAll values.now self.old made plan.now → self.new ≡ self.old }
     {
         let need = Need::of(plan, values)?;
-        self.make_cell_room(need.cells)?;
         self.make_object_room(alloc, made)?;
+        if need.cells <= self.cell_room() && self.has_places(plan, need) {
+            return Ok(());
+        }
+        self.make_cell_room(need.cells)?;
         self.make_places(alloc, plan, need)?;
         Ok(())
     }
@@ -50,6 +58,8 @@ impl Store {
     fn make_object_room(&mut self, alloc: Global, made: Option<Kind>) -> Result<(), Memory>
         ensures room { OnOk result (IfSome made (λ kind. 0 < self.new.spare_objects)) }
         ensures same { self.new ≡ record self.old { spare_objects = self.new.spare_objects } }
+        ensures had_room { IfSome made (λ kind. 0 < self.old.spare_objects) → IsOk result }
+        ensures no_more { IfSome made (λ kind. 0 < self.old.spare_objects) → self.new ≡ self.old }
     {
         if made.is_none() {
             return Ok(());
@@ -63,8 +73,7 @@ impl Store {
     // Makes the places that the accesses of a plan need, each with room for so many keys or bytes.
     fn make_places(&mut self, alloc: Global, plan: &[Access], need: Need) -> Result<(), Memory>
         requires { AreWithin (length self.old.objects + 1) plan.now }
-        ensures places { OnOk result ((k : ℕ) (access : OneAccess) → slice_get plan.now k ≡ Some access
-            → HasPlaceFor (room_with_next self.new) need.keys need.bytes access) }
+        ensures places { OnOk result (HasPlaces (room_with_next self.new) need.keys need.bytes plan.now) }
         ensures keeps { Keeps self.old self.new }
         ensures left { Takes (room_with_next self.old) (room_with_next self.new) 0 0 0 }
         ensures spare { self.new.spare_objects ≡ self.old.spare_objects }
