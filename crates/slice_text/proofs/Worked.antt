@@ -4,7 +4,7 @@ use Rattle.std.specs.Prelude.{codes, pos}
 use Rattle.py_tree.specs.declared.expr.Atom.TheVariants.{Int}
 use Rattle.py_tree.specs.Tree.{ExprTree, StmtTree, FormTree, SuiteTree, ScriptTree, const_expr, one_stmt, pass_form, if_form, while_form, more_suite, end_suite, more_branches, end_branches, else_suite}
 use Rattle.py_tree.specs.StmtSet.{has}
-use Rattle.slice_text.specs.Cut.{cut_text}
+use Rattle.slice_text.specs.Cut.{cut_text, growths, script_gaps}
 
 -- a cut looks at numbers, bytes and suites alone, so places and expressions stand for any here
 abbrev any_test : ExprTree
@@ -83,3 +83,10 @@ grows_before_a_line = refl
 
 pub grows_before_its_own_line : cut_text (has (true ∷ false ∷ [])) (script 2 (stmt 0 0 10 (while_form any_test (row (stmt 1 6 10 pass_form ∷ []))) ∷ [])) (codes "if x: (\n1)") ≡ codes "if x: pass\n  "
 grows_before_its_own_line = refl
+
+-- by so many letters
+pub letters_at_the_end : growths (codes "if x: y") (script_gaps (has (true ∷ false ∷ [])) short) ≡ 3
+letters_at_the_end = refl
+
+pub no_letters : growths choice_text (script_gaps (has (true ∷ false ∷ true ∷ false ∷ true ∷ true ∷ [])) choice) ≡ 0
+no_letters = refl

@@ -1,6 +1,6 @@
 -- The cut of a text: the text without the statements outside a set (this project's profile). What is left stands where it
 -- stood.
-use Rattle.std.specs.Prelude.{ℕ, ◌+◌, ◌==◌, nat_le, nat_lt, Bool, false, ◌&&◌, not, List, [], ◌∷◌, ◌++◌, drop, codes, if◌then◌else◌}
+use Rattle.std.specs.Prelude.{ℕ, ◌+◌, ◌-◌, ◌==◌, nat_le, nat_lt, Bool, false, ◌&&◌, not, List, [], ◌∷◌, ◌++◌, drop, codes, if◌then◌else◌}
 use Rattle.std.specs.List.{list_any}
 use Rattle.py_lines.specs.Piece.{ends_line}
 use Rattle.py_tree.specs.Tree.{StmtTree, FormTree, SuiteTree, BranchesTree, ElseTree, HandlersTree, ScriptTree, one_stmt, if_form, while_form, for_form, try_form, with_form, def_form, class_form, end_suite, more_suite, end_branches, more_branches, no_else, else_suite, end_handlers, more_handlers}
@@ -78,3 +78,18 @@ cut_from goes begins at due (byte ∷ bytes) =
 -- the text of a script, cut to the statements of the set
 abbrev pub cut_text : (ℕ → Bool) → ScriptTree → List ℕ → List ℕ
 cut_text keep script text = let gaps = script_gaps keep script in cut_from (is_in gaps) (is_filled gaps) 0 [] text
+
+-- ---- how long it is
+
+-- how many bytes stand before the first line end
+abbrev pub to_line_end : List ℕ → ℕ
+to_line_end [] = 0
+to_line_end (byte ∷ bytes) = if ends_line byte then 0 else 1 + to_line_end bytes
+
+-- by how much the `pass` of a gap makes its line longer: by the letters that find no place before the line's end
+abbrev pub growth : List ℕ → Gap → ℕ
+growth text gap = if gap.filled then 4 - to_line_end (drop gap.span.from text) else 0
+
+abbrev pub growths : List ℕ → List Gap → ℕ
+growths text [] = 0
+growths text (gap ∷ gaps) = growth text gap + growths text gaps

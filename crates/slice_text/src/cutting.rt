@@ -1,11 +1,16 @@
 // The cut of a text: one pass over the statements, and one over the bytes.
-ghost use Rattle.std.specs.Prelude.{◌≡◌, ℕ, ◌<◌, ◌≤◌, length, IsTrue, [], IfOk};
+ghost use Rattle.std.specs.Prelude.{◌≡◌, ℕ, ◌+◌, ◌<◌, ◌≤◌, List, length, IsTrue, [], IfOk};
+ghost use Rattle.py_lines.specs.declared.parts.Line.{Line};
+ghost use Rattle.py_lines.specs.Logical.{HasLines};
 ghost use Rattle.py_lines.specs.Piece.{ends_line};
 ghost use Rattle.py_lines.specs.Place.{line_feeds};
+ghost use Rattle.py_tree.specs.Deletion.{deleted};
 ghost use Rattle.py_tree.specs.Erasure.{script_of};
 ghost use Rattle.py_tree.specs.Numbering.{IsNumbered};
 ghost use Rattle.py_tree.specs.StmtSet.{has};
-ghost use Rattle.slice_text.specs.Cut.{cut_from, cut_text};
+ghost use Rattle.py_grammar.specs.Grammar.{InGrammar};
+ghost use Rattle.slice_text.specs.Cut.{cut_from, cut_text, growths, script_gaps};
+ghost use Rattle.slice_text.specs.TextScript.{HasScript};
 
 use crate::gaps::{Gaps, add_suite};
 use crate::offsets::{Offsets, filled, gone};
@@ -21,6 +26,8 @@ pub fn cut(alloc: Global, text: &[u8], script: &Script, keep: &StmtSet) -> Resul
     ensures cut { IfOk result (λ bytes. bytes ≡ cut_text (has keep.now) (script_of script.now) text.now) }
     ensures line_ends { IfOk result (λ bytes. line_feeds bytes ≡ line_feeds text.now) }
     ensures grows { IfOk result (λ bytes. length text.now ≤ length bytes) }
+    ensures script { (lines : List Line) → HasLines text.now lines → InGrammar lines (script_of script.now) → IfOk result (λ bytes. HasScript bytes (deleted (has keep.now) (script_of script.now))) }
+    ensures growth { (lines : List Line) → HasLines text.now lines → InGrammar lines (script_of script.now) → IfOk result (λ bytes. length bytes ≡ length text.now + growths text.now (script_gaps (has keep.now) (script_of script.now))) }
     ensures whole { IsNumbered (script_of script.now) → ((i : ℕ) → i < script.now.count → IsTrue (has keep.now i)) → IfOk result (λ bytes. bytes ≡ text.now) }
 {
     let mut gaps = Gaps::new(alloc);
