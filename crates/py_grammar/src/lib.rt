@@ -17,12 +17,6 @@ mod primaries;
 mod rows;
 mod simple;
 mod targets;
-#[cfg(test)]
-mod tests;
-#[cfg(test)]
-mod tests_heads;
-#[cfg(test)]
-mod tests_rows;
 mod words;
 
 pub use around::Around;

@@ -7,8 +7,8 @@
 //! bad tokens says. A first bad token is one that no shorter front of the text shows.
 //!
 //! A `lines` that always answers `Memory` for a text that is UTF-8 and not too large meets its clauses, since no clause
-//! can say that memory is left: that it succeeds is tested. The numbers of keywords and signs are their positions in
-//! the tables of `tables.rt`.
+//! can say that memory is left: that it succeeds is tested in `language_tests`. The numbers of keywords and signs are their
+//! positions in the tables of `tables.rt`.
 #![tactic(auto)]
 
 mod brackets;
@@ -22,8 +22,6 @@ mod places;
 mod scan;
 mod step;
 mod tables;
-#[cfg(test)]
-mod tests;
 
 pub use fault::LineFault;
 pub use parts::{Line, Lines, Token, TokenKind, Tokens};

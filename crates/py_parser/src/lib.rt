@@ -5,19 +5,11 @@
 //! clause speaks of them.
 //!
 //! What takes memory may answer Memory at any call: no contract ties that answer to a cause, so a body that always gives it
-//! would be proved too. Tests show that the calls succeed.
+//! would be proved too. The tests in `language_tests` show that the calls succeed.
 #![tactic(auto)]
 
 mod blocks;
 mod script;
-#[cfg(test)]
-mod tests;
-#[cfg(test)]
-mod tests_layouts;
-#[cfg(test)]
-mod tests_scripts;
-#[cfg(test)]
-mod tests_trees;
 
 pub use py_grammar::ParseFault;
 pub use script::parse;

@@ -2,7 +2,7 @@
 //! of a script, which is the tree without boxes and buffers (`specs/Tree.antt`).
 //!
 //! What takes memory may answer Memory at any call: no contract ties that answer to a cause, so a body that always gives
-//! it would be proved too. Tests show that the calls succeed.
+//! it would be proved too. The tests in `language_tests` show that the calls succeed.
 #![tactic(auto)]
 
 mod binds;
@@ -11,8 +11,6 @@ mod deletion;
 mod expr;
 mod laws;
 mod owners;
-#[cfg(test)]
-mod owners_tests;
 mod stmt;
 mod stmt_set;
 
@@ -23,6 +21,3 @@ pub use laws::{
 };
 pub use stmt::{Bound, Branches, Form, Globals, Handlers, Params, Script, Stmt, Suite};
 pub use stmt_set::StmtSet;
-
-#[cfg(test)]
-mod tests;

@@ -2,15 +2,13 @@
 //! (`specs/Cut.antt`).
 //!
 //! What takes memory may answer Memory at any call: no contract ties that answer to a cause, so a body that always gives
-//! it would be proved too. Tests show that the calls succeed.
+//! it would be proved too. The tests in `language_tests` show that the calls succeed.
 #![tactic(auto)]
 
 mod cutting;
 mod gaps;
 mod laws;
 mod offsets;
-#[cfg(test)]
-mod tests;
 
 pub use cutting::cut;
 pub use laws::cut_script_is_deleted;

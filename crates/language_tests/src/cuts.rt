@@ -1,8 +1,10 @@
-use crate::cut;
+// Texts, each with what is left of it where some statements stay. The statements of a text are those of a table, so a cut is
+// tested apart from the parser.
 use prov_base::{Name, Pos, Span};
 use py_tree::{
     Atom, Branches, Expr, Form, Globals, Handlers, Params, Script, Stmt, StmtSet, Suite, Target,
 };
+use slice_text::cut;
 use std::alloc::Global;
 use std::process::Abort;
 use std::test::Fail;

@@ -1,23 +1,11 @@
 // Texts that are no script, each with its fault, worked out from the rules alone, and the limits. In the tables `$` stands for
-// a line end. The lines of scripts have more rows in `py_grammar`.
-use crate::parse;
-use py_grammar::ParseFault;
+// a line end. Single lines have more rows in `line_heads` and `simple_statements`.
+use crate::printing::show_fault;
 use py_lines::lines;
+use py_parser::parse;
 use std::alloc::Global;
 use std::process::Abort;
 use std::test::Fail;
-
-fn show_fault(alloc: Global, fault: ParseFault) -> Result<String, Fail> {
-    let (name, at) = match fault {
-        ParseFault::Unexpected(at) => ("Unexpected", at),
-        ParseFault::Unsupported(at) => ("Unsupported", at),
-        ParseFault::BadIndent(at) => ("BadIndent", at),
-        ParseFault::TooDeep(at) => ("TooDeep", at),
-        ParseFault::TooMany(at) => ("TooMany", at),
-        ParseFault::Memory => return Ok(String::from_str(alloc, "Memory")?),
-    };
-    Ok(format!(in alloc; "{name} {}:{}", at.line, at.col)?)
-}
 
 // How many statements a text has, or its fault.
 fn outcome(alloc: Global, text: &str) -> Result<String, Fail> {

@@ -1,7 +1,22 @@
-// Simple statements of one line, each with what it is read as or its fault, worked out apart from this crate, from the rules
+// Simple statements of one line, each with what it is read as or its fault, worked out apart from the program, from the rules
 // alone.
-use crate::tests::check_rows;
+use crate::line_heads::{check_lines, in_script};
+use py_grammar::Last;
+use std::alloc::Global;
+use std::process::Abort;
 use std::test::Fail;
+
+// Compares what each line of the table is read as directly in a script with what stands behind its ` => `.
+fn check_rows(rt: &impl Abort, alloc: Global, table: &str) -> Result<(), Fail> {
+    let mut rows = 0_u64;
+    for line in table.lines() {
+        if line.contains(" => ") {
+            rows = rows.saturating_add(1);
+        }
+    }
+    assert!(rt; rows > 10);
+    check_lines(rt, alloc, in_script(Last::Nothing), None, table)
+}
 
 #[test]
 fn expressions(rt: HostRuntime) -> Result<(), Fail> {

@@ -1,5 +1,5 @@
 // More scripts as people write them, each with its statements, as Python 3.11's own `ast` module has them.
-use crate::tests_trees::check_scripts;
+use crate::script_trees::check_scripts;
 use std::test::Fail;
 
 #[test]

@@ -1,8 +1,7 @@
-// A table of texts, each with its logical lines or its fault. The answers were worked out apart from this crate, from the
+// A table of texts, each with its logical lines or its fault. The answers were worked out apart from the program, from the
 // rules alone. A line is shown as its indentation and, for each token, its place and what it is: a keyword `k` or a sign `s`
 // with its number, a word `w`, a number `n`, a text `t` between quotes.
-use super::*;
-use prov_base::Span;
+use py_lines::{Line, LineFault, Lines, Token, TokenKind, lines};
 use std::alloc::Global;
 use std::test::Fail;
 

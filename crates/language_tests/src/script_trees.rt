@@ -1,6 +1,42 @@
-// Scripts as people write them, each with its statements, as Python 3.11's own `ast` module has them.
-use crate::tests_trees::check_scripts;
+// Scripts as people write them, each with its statements, as Python 3.11's own `ast` module has them: number, place, bytes and
+// form, and the statements of suites two columns further in. Line ends in texts are shown as `~`. The places in expressions are
+// tested in `simple_statements` and `line_heads`.
+use crate::printing::show_suite;
+use py_lines::lines;
+use py_parser::parse;
+use std::alloc::Global;
+use std::process::Abort;
 use std::test::Fail;
+
+/// What a text is as a script.
+fn show_script(alloc: Global, text: &str) -> Result<String, Fail> {
+    let mut out = String::new(alloc);
+    match lines(alloc, text.as_bytes()) {
+        Err(_) => out.push_str("no logical lines")?,
+        Ok(lines) => match parse(alloc, &lines) {
+            Err(_) => out.push_str("no script")?,
+            Ok(script) => {
+                let head = format!(in alloc; "{} statements", script.count)?;
+                out.push_str(head.as_str())?;
+                show_suite(alloc, &mut out, 0, &script.body)?;
+            }
+        },
+    }
+    Ok(out)
+}
+
+/// Compares what each text is as a script with what stands beside it.
+pub(crate) fn check_scripts(
+    rt: &impl Abort,
+    alloc: Global,
+    table: &[(&str, &str)],
+) -> Result<(), Fail> {
+    for (text, expected) in table {
+        let shown = show_script(alloc, text)?;
+        assert_eq!(rt; shown.as_str(), *expected);
+    }
+    Ok(())
+}
 
 #[test]
 fn with_functions_and_files(rt: HostRuntime) -> Result<(), Fail> {

@@ -1,32 +1,14 @@
-// The lines of scripts, each with what it begins or its fault, worked out apart from this crate, from the rules alone. What
+// The lines of scripts, each with what it begins or its fault, worked out apart from the program, from the rules alone. What
 // stands behind a `:` is shown behind ` : `.
-use crate::around::Around;
-use crate::context::{Context, Last, Limit};
-use crate::fault::{ParseFault, Stop};
-use crate::head::{LineHead, What, read_head};
-use crate::tests::{place, show_fault, show_part, show_simple, show_target, show_value};
+use crate::printing::{
+    Style, show_bound, show_fault, show_names, show_part, show_simple, show_target, show_value,
+};
 use prov_base::Name;
+use py_grammar::{Around, Context, Last, Limit, LineHead, ParseFault, Stop, What, read_head};
 use py_lines::{Line, lines};
-use py_tree::Bound;
 use std::alloc::Global;
 use std::process::Abort;
 use std::test::Fail;
-
-fn show_bound(alloc: Global, out: &mut String, bound: &Option<Bound>) -> Result<(), Fail> {
-    if let Some(bound) = bound {
-        out.push_str(" as ")?;
-        out.push_str(place(alloc, bound.name.as_str(), &bound.at)?.as_str())?;
-    }
-    Ok(())
-}
-
-fn show_names(out: &mut String, names: &[Name]) -> Result<(), Fail> {
-    for name in names {
-        out.push_str(" ")?;
-        out.push_str(name.as_str())?;
-    }
-    Ok(())
-}
 
 fn show_named(out: &mut String, word: &str, name: &Name) -> Result<(), Fail> {
     out.push_str(word)?;
@@ -37,23 +19,23 @@ fn show_named(out: &mut String, word: &str, name: &Name) -> Result<(), Fail> {
 
 fn show_what(alloc: Global, out: &mut String, what: &What) -> Result<(), Fail> {
     match what {
-        What::Simple(form) => show_simple(alloc, out, form),
+        What::Simple(form) => show_simple(alloc, out, Style::Placed, form),
         What::If(test) => {
             out.push_str("if")?;
-            show_part(alloc, out, test)
+            show_part(alloc, out, Style::Placed, test)
         }
         What::Elif(test) => {
             out.push_str("elif")?;
-            show_part(alloc, out, test)
+            show_part(alloc, out, Style::Placed, test)
         }
         What::While(test) => {
             out.push_str("while")?;
-            show_part(alloc, out, test)
+            show_part(alloc, out, Style::Placed, test)
         }
         What::For(target, items) => {
             out.push_str("for ")?;
-            show_target(alloc, out, target)?;
-            show_part(alloc, out, items)
+            show_target(alloc, out, Style::Placed, target)?;
+            show_part(alloc, out, Style::Placed, items)
         }
         _ => show_other(alloc, out, what),
     }
@@ -65,13 +47,13 @@ fn show_other(alloc: Global, out: &mut String, what: &What) -> Result<(), Fail> 
         What::Try => out.push_str("try")?,
         What::Except(class, bound) => {
             out.push_str("except")?;
-            show_value(alloc, out, class)?;
-            show_bound(alloc, out, bound)?;
+            show_value(alloc, out, Style::Placed, class)?;
+            show_bound(alloc, out, Style::Placed, bound)?;
         }
         What::With(value, bound) => {
             out.push_str("with")?;
-            show_part(alloc, out, value)?;
-            show_bound(alloc, out, bound)?;
+            show_part(alloc, out, Style::Placed, value)?;
+            show_bound(alloc, out, Style::Placed, bound)?;
         }
         What::Def(name, params) => {
             show_named(out, "def", name)?;
@@ -79,7 +61,7 @@ fn show_other(alloc: Global, out: &mut String, what: &What) -> Result<(), Fail> 
         }
         What::Class(name, base) => {
             show_named(out, "class", name)?;
-            show_value(alloc, out, base)?;
+            show_value(alloc, out, Style::Placed, base)?;
         }
         What::Global(names) => {
             out.push_str("global")?;
@@ -95,7 +77,7 @@ fn show_head(alloc: Global, head: &LineHead) -> Result<String, Fail> {
     show_what(alloc, &mut out, &head.what)?;
     if let Some(behind) = &head.behind {
         out.push_str(" : ")?;
-        show_simple(alloc, &mut out, &behind.form)?;
+        show_simple(alloc, &mut out, Style::Placed, &behind.form)?;
     }
     Ok(out)
 }
@@ -108,7 +90,9 @@ fn show_line(
     limit: Option<Limit>,
 ) -> Result<String, Fail> {
     let mut given = Vec::new(alloc);
-    given.push(Name::of(String::from_str(alloc, "given")?))?;
+    if context.around.in_function {
+        given.push(Name::of(String::from_str(alloc, "given")?))?;
+    }
     match read_head(
         alloc,
         line.tokens.as_slice(),
@@ -135,8 +119,8 @@ fn show(alloc: Global, text: &str, context: Context, limit: Option<Limit>) -> Re
     }
 }
 
-// Compares what each line of the table is read as with what stands behind its ` => `.
-fn check_lines(
+/// Compares what each line of the table is read as with what stands behind its ` => `.
+pub(crate) fn check_lines(
     rt: &impl Abort,
     alloc: Global,
     context: Context,
@@ -160,7 +144,7 @@ fn check_lines(
     Ok(())
 }
 
-fn in_script(last: Last) -> Context {
+pub(crate) fn in_script(last: Last) -> Context {
     Context {
         around: Around::module(),
         last,

@@ -1,6 +1,9 @@
-use super::*;
-use crate::copy::copy_bound;
+// Sets of statements, and what is left of scripts that are built by hand.
 use prov_base::{Name, Pos, Span};
+use py_tree::{
+    Atom, Bound, Branches, Expr, Exprs, Form, Globals, Params, Script, Stmt, StmtSet, Suite,
+    Target, delete,
+};
 use std::alloc::Global;
 use std::test::Fail;
 
@@ -159,16 +162,26 @@ fn deletes_the_worked_row(rt: HostRuntime) -> Result<(), Fail> {
 }
 
 // a[7:]
-#[test]
-fn copies_a_slice(rt: HostRuntime) -> Result<(), Fail> {
-    let alloc = rt.alloc();
+fn slice(alloc: Global) -> Result<Script, Fail> {
     let object = var(alloc, 1, 1, "a")?;
     let object = Box::new(alloc, object)?;
     let low = Expr::Const(Pos { line: 1, col: 3 }, Atom::Int(7));
     let low = Box::new(alloc, low)?;
     let slice = Expr::Range(Pos { line: 1, col: 2 }, object, Some(low), None);
-    let copied = slice.copy(alloc)?;
-    let Expr::Range(at, object, Some(low), None) = &copied else {
+    let body = suite(alloc, stmt(0, (1, 1), (0, 5), Form::Do(slice)))?;
+    Ok(Script { body, count: 1 })
+}
+
+#[test]
+fn copies_a_slice(rt: HostRuntime) -> Result<(), Fail> {
+    let script = slice(rt.alloc())?;
+    let keep = kept(rt.alloc(), &[0])?;
+    let rest = delete(rt.alloc(), &script, &keep)?;
+    assert_eq!(rt; rest.body.list.len(), 1);
+    let Form::Do(copied) = &rest.body.list[0].form else {
+        return Err(Fail::from("no expression"));
+    };
+    let Expr::Range(at, object, Some(low), None) = copied else {
         return Err(Fail::from("no slice with a lower bound alone"));
     };
     assert_eq!(rt; *at, Pos { line: 1, col: 2 });
@@ -181,28 +194,63 @@ fn copies_a_slice(rt: HostRuntime) -> Result<(), Fail> {
     Ok(())
 }
 
+fn pass(alloc: Global, no: u32, at: (u32, u32), bytes: (u32, u32)) -> Result<Suite, Fail> {
+    suite(alloc, stmt(no, at, bytes, Form::Pass))
+}
+
+fn one_name(alloc: Global, text: &str) -> Result<Vec<Name>, Fail> {
+    let mut list = Vec::new(alloc);
+    let name = name(alloc, text)?;
+    list.push(name)?;
+    Ok(list)
+}
+
+// from line 2 on:
+// with data as file: pass
+// def f(width):
+//     global total
+//     pass
+fn with_names(alloc: Global) -> Result<Script, Fail> {
+    let data = var(alloc, 2, 6, "data")?;
+    let file = name(alloc, "file")?;
+    let at = Pos { line: 2, col: 14 };
+    let body = pass(alloc, 1, (2, 20), (20, 24))?;
+    let opened = Form::With(data, Some(Bound { at, name: file }), body);
+    let f = name(alloc, "f")?;
+    let params = Params {
+        list: one_name(alloc, "width")?,
+    };
+    let globals = Globals {
+        list: one_name(alloc, "total")?,
+    };
+    let body = pass(alloc, 3, (5, 5), (60, 64))?;
+    let defined = Form::Def(f, params, globals, body);
+    let mut list = Vec::new(alloc);
+    list.push(stmt(0, (2, 1), (1, 24), opened))?;
+    list.push(stmt(2, (3, 1), (25, 64), defined))?;
+    Ok(Script {
+        body: Suite { list },
+        count: 4,
+    })
+}
+
 // with .. as file, def .. (width), and global total
 #[test]
 fn copies_names(rt: HostRuntime) -> Result<(), Fail> {
-    let alloc = rt.alloc();
-    let file = name(alloc, "file")?;
-    let at = Pos { line: 2, col: 14 };
-    let bound = copy_bound(alloc, &Some(Bound { at, name: file }))?;
-    let Some(bound) = &bound else {
+    let script = with_names(rt.alloc())?;
+    let keep = kept(rt.alloc(), &[0, 1, 2, 3])?;
+    let rest = delete(rt.alloc(), &script, &keep)?;
+    assert_eq!(rt; rest.body.list.len(), 2);
+    let Form::With(_, Some(bound), _) = &rest.body.list[0].form else {
         return Err(Fail::from("no name after `as`"));
     };
     assert_eq!(rt; bound.at, Pos { line: 2, col: 14 });
     assert_eq!(rt; bound.name.as_str(), "file");
-    let mut list = Vec::new(alloc);
-    let width = name(alloc, "width")?;
-    list.push(width)?;
-    let params = Params { list }.copy(alloc)?;
+    let Form::Def(_, params, globals, _) = &rest.body.list[1].form else {
+        return Err(Fail::from("no `def`"));
+    };
     assert_eq!(rt; params.list.len(), 1);
     assert_eq!(rt; params.list[0].as_str(), "width");
-    let mut list = Vec::new(alloc);
-    let total = name(alloc, "total")?;
-    list.push(total)?;
-    let globals = Globals { list }.copy(alloc)?;
     assert_eq!(rt; globals.list.len(), 1);
     assert_eq!(rt; globals.list[0].as_str(), "total");
     Ok(())
