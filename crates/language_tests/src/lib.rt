@@ -1,4 +1,4 @@
-//! The tests of `py_lines`, `py_tree`, `py_grammar`, `py_parser` and `slice_text`, by their public calls alone.
+//! The tests of `py_lines`, `py_tree`, `py_grammar`, `refused_forms`, `py_parser` and `slice_text`, by their public calls alone.
 //!
 //! They stand in a crate of their own, since a crate that has tests is proved twice, with and without them.
 #![tactic(auto)]
@@ -16,6 +16,8 @@ mod owners;
 #[cfg(test)]
 mod printing;
 #[cfg(test)]
+mod refusals;
+#[cfg(test)]
 mod script_layouts;
 #[cfg(test)]
 mod script_trees;
@@ -23,3 +25,5 @@ mod script_trees;
 mod scripts;
 #[cfg(test)]
 mod simple_statements;
+#[cfg(test)]
+mod targets;

@@ -1,14 +1,61 @@
 // The lines of scripts, each with what it begins or its fault, worked out apart from the program, from the rules alone. What
 // stands behind a `:` is shown behind ` : `.
 use crate::printing::{
-    Style, show_bound, show_fault, show_names, show_part, show_simple, show_target, show_value,
+    Style, show_bound, show_fault, show_fault_behind, show_names, show_part, show_simple,
+    show_target, show_value,
 };
 use prov_base::Name;
-use py_grammar::{Around, Context, Last, Limit, LineHead, ParseFault, Stop, What, read_head};
-use py_lines::{Line, lines};
+use py_grammar::{Around, Context, Fault, Last, Limit, LineHead, Stop, What, read_head};
+use py_lines::{Line, Token, lines};
+use py_parser::{ParseFault, parse};
 use std::alloc::Global;
 use std::process::Abort;
 use std::test::Fail;
+
+/// Where the lines of a table stand.
+#[derive(Clone, Copy)]
+pub(crate) enum Standing {
+    /// Directly in a script, behind such a statement.
+    Script(Last),
+    /// First in a class.
+    Class,
+    /// First in a function whose only parameter is `given`.
+    Def,
+    /// In such a function, behind a statement.
+    LaterInDef,
+}
+
+impl Standing {
+    // Where that is, as it is told to `read_head`.
+    fn context(self) -> Context {
+        let (around, last) = match self {
+            Standing::Script(last) => (Around::module(), last),
+            Standing::Class => (Around::in_class_suite(), Last::Nothing),
+            Standing::Def | Standing::LaterInDef => (Around::in_def_suite(), Last::Nothing),
+        };
+        let may_declare = matches!(self, Standing::Def);
+        Context {
+            around,
+            last,
+            may_declare,
+        }
+    }
+
+    // What stands before such a line in a script.
+    fn before(self) -> &'static str {
+        match self {
+            Standing::Script(Last::Nothing) => "",
+            Standing::Script(Last::Loop) => "while a:\n    pass\n",
+            Standing::Script(Last::If) => "if a:\n    pass\n",
+            Standing::Script(Last::Try) => "try:\n    pass\n",
+            Standing::Script(Last::Handler) => "try:\n    pass\nexcept a:\n    pass\n",
+            Standing::Script(Last::Every) => "try:\n    pass\nexcept:\n    pass\n",
+            Standing::Class => "class A:\n    ",
+            Standing::Def => "def f(given):\n    ",
+            Standing::LaterInDef => "def f(given):\n    a\n    ",
+        }
+    }
+}
 
 fn show_named(out: &mut String, word: &str, name: &Name) -> Result<(), Fail> {
     out.push_str(word)?;
@@ -82,37 +129,88 @@ fn show_head(alloc: Global, head: &LineHead) -> Result<String, Fail> {
     Ok(out)
 }
 
-// What the line is read as where it stands, in a function whose only parameter is `given`, if it is in one.
+// The fault of `parse` in the last line of a script, as if that line began at 1:1.
+fn show_parsed(alloc: Global, script: &str) -> Result<String, Fail> {
+    let Ok(lines) = lines(alloc, script.as_bytes()) else {
+        return Ok(String::from_str(alloc, "no logical lines")?);
+    };
+    let first = match lines.as_slice().last() {
+        Some(line) => line.tokens.as_slice().first(),
+        None => None,
+    };
+    let Some(first) = first else {
+        return Ok(String::from_str(alloc, "no token")?);
+    };
+    match parse(alloc, &lines) {
+        Ok(_) => Ok(String::from_str(alloc, "no fault")?),
+        Err(fault) => show_fault_behind(alloc, fault, first.at),
+    }
+}
+
+// The fault of a line that is refused where it stands.
+fn show_refused(alloc: Global, standing: Standing, text: &str) -> Result<String, Fail> {
+    let mut script = String::from_str(alloc, standing.before())?;
+    script.push_str(text)?;
+    show_parsed(alloc, script.as_str())
+}
+
+// Unexpected at the one of these tokens that so many stand behind.
+fn show_unexpected(alloc: Global, tokens: &[Token], behind: usize) -> Result<String, Fail> {
+    let up_to = tokens.len().saturating_sub(behind);
+    let found = match up_to.checked_sub(1) {
+        Some(index) => tokens.get(index),
+        None => None,
+    };
+    match found {
+        Some(token) => show_fault(alloc, ParseFault::Unexpected(token.at)),
+        None => Ok(String::from_str(alloc, "no token")?),
+    }
+}
+
+// Where and why `read_head` stopped in these tokens.
+fn show_stop(alloc: Global, tokens: &[Token], stop: Stop) -> Result<String, Fail> {
+    match stop {
+        Stop::Here(Fault::Unexpected(behind)) => show_unexpected(alloc, tokens, behind),
+        Stop::Here(Fault::TooDeep(at)) => show_fault(alloc, ParseFault::TooDeep(at)),
+        Stop::Here(Fault::TooMany(at)) => show_fault(alloc, ParseFault::TooMany(at)),
+        Stop::Here(Fault::Memory) => show_fault(alloc, ParseFault::Memory),
+        Stop::End => show_unexpected(alloc, tokens, 0),
+    }
+}
+
+// What the line is read as where it stands. Of one that is refused the fault is shown that `parse` finds, but behind a limit,
+// which is told to `read_head` alone, where that stops.
 fn show_line(
     alloc: Global,
+    text: &str,
     line: &Line,
-    context: Context,
+    standing: Standing,
     limit: Option<Limit>,
 ) -> Result<String, Fail> {
+    let tokens = line.tokens.as_slice();
+    let context = standing.context();
     let mut given = Vec::new(alloc);
     if context.around.in_function {
         given.push(Name::of(String::from_str(alloc, "given")?))?;
     }
-    match read_head(
-        alloc,
-        line.tokens.as_slice(),
-        context,
-        given.as_slice(),
-        limit,
-    ) {
+    match read_head(alloc, tokens, context, given.as_slice(), limit) {
         Ok(head) => show_head(alloc, &head),
-        Err(Stop::Here(fault)) => show_fault(alloc, fault),
-        Err(Stop::End) => match line.tokens.as_slice().last() {
-            Some(token) => show_fault(alloc, ParseFault::Unexpected(token.at)),
-            None => Ok(String::from_str(alloc, "no token")?),
+        Err(stop) => match limit {
+            Some(_) => show_stop(alloc, tokens, stop),
+            None => show_refused(alloc, standing, text),
         },
     }
 }
 
-fn show(alloc: Global, text: &str, context: Context, limit: Option<Limit>) -> Result<String, Fail> {
+fn show(
+    alloc: Global,
+    text: &str,
+    standing: Standing,
+    limit: Option<Limit>,
+) -> Result<String, Fail> {
     match lines(alloc, text.as_bytes()) {
         Ok(lines) => match lines.as_slice().first() {
-            Some(line) => show_line(alloc, line, context, limit),
+            Some(line) => show_line(alloc, text, line, standing, limit),
             None => Ok(String::from_str(alloc, "no line")?),
         },
         Err(_) => Ok(String::from_str(alloc, "no logical lines")?),
@@ -123,7 +221,7 @@ fn show(alloc: Global, text: &str, context: Context, limit: Option<Limit>) -> Re
 pub(crate) fn check_lines(
     rt: &impl Abort,
     alloc: Global,
-    context: Context,
+    standing: Standing,
     limit: Option<Limit>,
     table: &str,
 ) -> Result<(), Fail> {
@@ -131,7 +229,7 @@ pub(crate) fn check_lines(
     let mut rows = 0_u64;
     for line in table.lines() {
         if let Some((text, expected)) = line.split_once(" => ") {
-            let shown = show(alloc, text, context, limit)?;
+            let shown = show(alloc, text, standing, limit)?;
             if shown.as_str() != expected {
                 let line = format!(in alloc; "{text:?} gives {shown}, not {expected}\n")?;
                 wrong.push_str(line.as_str())?;
@@ -144,20 +242,12 @@ pub(crate) fn check_lines(
     Ok(())
 }
 
-pub(crate) fn in_script(last: Last) -> Context {
-    Context {
-        around: Around::module(),
-        last,
-        may_declare: false,
-    }
-}
-
 #[test]
 fn lines_of_a_script(rt: HostRuntime) -> Result<(), Fail> {
     check_lines(
         &rt,
         rt.alloc(),
-        in_script(Last::Nothing),
+        Standing::Script(Last::Nothing),
         None,
         r#"x = 1 => = x@1:1 1@1:5
 if a: => if a@1:4
@@ -191,7 +281,7 @@ fn lines_that_end_early(rt: HostRuntime) -> Result<(), Fail> {
     check_lines(
         &rt,
         rt.alloc(),
-        in_script(Last::Nothing),
+        Standing::Script(Last::Nothing),
         None,
         r#"if => Unexpected 1:1
 if a => Unexpected 1:4
@@ -222,7 +312,7 @@ fn lines_refused(rt: HostRuntime) -> Result<(), Fail> {
     check_lines(
         &rt,
         rt.alloc(),
-        in_script(Last::Nothing),
+        Standing::Script(Last::Nothing),
         None,
         r#"if: pass => Unexpected 1:3
 if a b: pass => Unexpected 1:6
@@ -279,7 +369,7 @@ fn parts_of_statements(rt: HostRuntime) -> Result<(), Fail> {
     check_lines(
         &rt,
         rt.alloc(),
-        in_script(Last::If),
+        Standing::Script(Last::If),
         None,
         r#"elif a: b => elif a@1:6 : do b@1:9
 else: pass => else : pass
@@ -294,7 +384,7 @@ except: pass => Unexpected 1:1"#,
     check_lines(
         &rt,
         rt.alloc(),
-        in_script(Last::Loop),
+        Standing::Script(Last::Loop),
         None,
         r#"else: pass => Unsupported 1:1
 elif a: pass => Unexpected 1:1
@@ -303,7 +393,7 @@ if a: pass => if a@1:4 : pass"#,
     check_lines(
         &rt,
         rt.alloc(),
-        in_script(Last::Try),
+        Standing::Script(Last::Try),
         None,
         r#"except: => except
 except A: raise => except A@1:8 : raise
@@ -320,7 +410,7 @@ if a: pass => Unexpected 1:1"#,
     check_lines(
         &rt,
         rt.alloc(),
-        in_script(Last::Handler),
+        Standing::Script(Last::Handler),
         None,
         r#"except: pass => except : pass
 else: pass => Unsupported 1:1
@@ -329,7 +419,7 @@ x = 1 => = x@1:1 1@1:5"#,
     check_lines(
         &rt,
         rt.alloc(),
-        in_script(Last::Every),
+        Standing::Script(Last::Every),
         None,
         r#"except: pass => Unexpected 1:1
 except A: pass => Unexpected 1:1
@@ -339,15 +429,10 @@ else: pass => Unsupported 1:1"#,
 
 #[test]
 fn lines_of_a_class(rt: HostRuntime) -> Result<(), Fail> {
-    let context = Context {
-        around: Around::in_class_suite(),
-        last: Last::Nothing,
-        may_declare: false,
-    };
     check_lines(
         &rt,
         rt.alloc(),
-        context,
+        Standing::Class,
         None,
         r#"pass => pass
 'doc' => do "doc"@1:1
@@ -369,15 +454,10 @@ elif a: pass => Unexpected 1:1
 
 #[test]
 fn lines_of_a_function(rt: HostRuntime) -> Result<(), Fail> {
-    let first = Context {
-        around: Around::in_def_suite(),
-        last: Last::Nothing,
-        may_declare: true,
-    };
     check_lines(
         &rt,
         rt.alloc(),
-        first,
+        Standing::Def,
         None,
         r#"global b, c => global b c
 global b, b => global b b
@@ -394,11 +474,7 @@ class A: pass => Unsupported 1:1"#,
     check_lines(
         &rt,
         rt.alloc(),
-        Context {
-            around: first.around,
-            last: Last::Nothing,
-            may_declare: false,
-        },
+        Standing::LaterInDef,
         None,
         r#"global b => Unsupported 1:1
 return => return
@@ -411,7 +487,7 @@ fn limits_behind_a_colon(rt: HostRuntime) -> Result<(), Fail> {
     check_lines(
         &rt,
         rt.alloc(),
-        in_script(Last::Nothing),
+        Standing::Script(Last::Nothing),
         Some(Limit::Number),
         r#"if a: => if a@1:4
 if a: pass => TooMany 1:7
@@ -422,7 +498,7 @@ if a b => Unexpected 1:6"#,
     check_lines(
         &rt,
         rt.alloc(),
-        in_script(Last::Nothing),
+        Standing::Script(Last::Nothing),
         Some(Limit::Depth),
         r#"class A: => class A
 class A: x = 1 => TooDeep 1:10

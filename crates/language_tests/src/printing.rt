@@ -1,7 +1,7 @@
 // Syntax trees and faults as texts. A node of an expression is its operator or kind, and then its parts from the left, those of
 // a conditional beginning with the test. A fault is its name and its place.
 use prov_base::{Name, Pos};
-use py_grammar::ParseFault;
+use py_parser::ParseFault;
 use py_tree::{
     Atom, BinOp, Bound, CmpOp, Expr, Exprs, Form, LogicOp, Pairs, Stmt, Suite, Target, Targets,
     UnOp,
@@ -521,7 +521,17 @@ fn show_def(alloc: Global, out: &mut String, depth: u32, form: &Form) -> Result<
     }
 }
 
+/// A fault, at its place in the text.
 pub(crate) fn show_fault(alloc: Global, fault: ParseFault) -> Result<String, Fail> {
+    show_fault_behind(alloc, fault, Pos { line: 1, col: 1 })
+}
+
+/// A fault, at its place as if this one were line 1 and column 1.
+pub(crate) fn show_fault_behind(
+    alloc: Global,
+    fault: ParseFault,
+    from: Pos,
+) -> Result<String, Fail> {
     let (name, at) = match fault {
         ParseFault::Unexpected(at) => ("Unexpected", at),
         ParseFault::Unsupported(at) => ("Unsupported", at),
@@ -530,5 +540,7 @@ pub(crate) fn show_fault(alloc: Global, fault: ParseFault) -> Result<String, Fai
         ParseFault::TooMany(at) => ("TooMany", at),
         ParseFault::Memory => return Ok(String::from_str(alloc, "Memory")?),
     };
-    Ok(format!(in alloc; "{name} {}:{}", at.line, at.col)?)
+    let line = at.line.saturating_add(1).saturating_sub(from.line);
+    let col = at.col.saturating_add(1).saturating_sub(from.col);
+    Ok(format!(in alloc; "{name} {line}:{col}")?)
 }

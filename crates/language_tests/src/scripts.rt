@@ -18,7 +18,8 @@ fn outcome(alloc: Global, text: &str) -> Result<String, Fail> {
     }
 }
 
-fn with_line_ends(alloc: Global, row: &str) -> Result<String, Fail> {
+/// The text with a line end for each `$`.
+pub(crate) fn with_line_ends(alloc: Global, row: &str) -> Result<String, Fail> {
     let mut text = String::new(alloc);
     for c in row.chars() {
         text.push(if c == '$' { '\n' } else { c })?;
@@ -322,6 +323,93 @@ if x:$    y = 1$    z = = 2$ => Unexpected 3:9
 if x:$    y = 1$elif z z:$    w$ => Unexpected 3:8
 def f():$    while x:$        y +$ => Unexpected 3:11
 class C:$    def f(self):$        return a b => Unexpected 3:18"#,
+    )
+}
+
+// The rows of the table of refused forms, each beside a place where it just does not hold: here comparisons and brackets.
+#[test]
+fn refused_in_brackets(rt: HostRuntime) -> Result<(), Fail> {
+    check_texts(
+        &rt,
+        rt.alloc(),
+        r#"a < b and c < d < e => Unsupported 1:17
+f(a < b, [c < d], e < g)[h < i:j < k] < {l < m: n < o} => 1 statements
+a < None is b => Unsupported 1:10
+with a < b as c < d: e => Unexpected 1:17
+for a in b < c not in d: e => Unsupported 1:16
+for a not in b: c => Unexpected 1:7
+f(g(a)=1) => Unsupported 1:7
+f(a)[b=1] => Unexpected 1:7
+f(a, (b, c=1)) => Unexpected 1:11
+None(a=1) => Unsupported 1:7
+def f(): return(a=1) => Unexpected 1:18
+class A(b=1): pass => Unexpected 1:10
+f(a += 1) => Unexpected 1:5
+f([a] * *b) => Unsupported 1:9
+f([a * *b]) => Unexpected 1:8
+f(a) * *b => Unexpected 1:8
+def f(a *): b => Unsupported 1:9
+def f(a, b: c): pass => Unsupported 1:11
+def f(:): pass => Unexpected 1:7
+def f(a,:): pass => Unexpected 1:9
+[a + for b in c] => Unsupported 1:6
+class A(for): pass => Unsupported 1:9
+f(a) for b in c => Unexpected 1:6"#,
+    )
+}
+
+// The same of targets, and of `:` and `=` behind them.
+#[test]
+fn refused_targets(rt: HostRuntime) -> Result<(), Fail> {
+    check_texts(
+        &rt,
+        rt.alloc(),
+        r#"a, f(): b => Unexpected 1:7
+a,: b => Unsupported 1:3
+for a, b: c => Unsupported 1:9
+for f(): a => Unsupported 1:5
+for a in b: del c: d => Unsupported 1:18
+def f(): return a: b => Unexpected 1:18
+if a: b = c: d => Unexpected 1:12
+a = b + = c => Unexpected 1:9
+if a: b = c[d:] = e => Unsupported 1:17
+a = {b: c = d} => Unexpected 1:11
+def f(): return f() = 1 => Unexpected 1:21
+a.b, c[0], 1, d = e => Unsupported 1:12
+a, f(), += b => Unsupported 1:1
+del a.b: c => Unsupported 1:6
+del a < b < c => Unsupported 1:11
+del a < b not c => Unexpected 1:11
+del f(); a => Unsupported 1:5
+del (a).b => Unsupported 1:8
+for a[b in c], d in e: f => 2 statements
+for a, b + c, f() in d: e => Unsupported 1:8"#,
+    )
+}
+
+// The same of what stands at a wrong place.
+#[test]
+fn refused_by_place(rt: HostRuntime) -> Result<(), Fail> {
+    check_texts(
+        &rt,
+        rt.alloc(),
+        r#"try: a$except:$    while b: raise => 4 statements
+try:$    try: a$    except: b$    raise$except: c => Unsupported 4:5
+raise, a => Unexpected 1:6
+class A:$    'a'; b => Unsupported 2:5
+class A:$    def f(self): 'a' b => Unexpected 2:22
+class A:$    def f(self): pass$    x = 1 => Unsupported 3:5
+class A:$    def f(self):$        while a: b$    else: c => Unexpected 4:5
+class A:$    def f(self):$        try: a$    x = 1 => Unexpected 4:5
+class A:$    def __x(self): pass$    def _____(self): pass => Unsupported 3:9
+def f(): import sys as s => Unsupported 1:21
+def f():$    try: a$    def g(): b => Unexpected 3:5
+def f():$    while a: b$else: c => Unexpected 3:1
+def f():$    ('a')$    global b$    c => Unsupported 3:5
+while a:$    try: b$else: c => Unexpected 3:1
+while a: b$else => Unsupported 2:1
+if a: b$else: def f(): c => Unsupported 2:7
+if global: a => Unexpected 1:4"#,
     )
 }
 

@@ -1,6 +1,6 @@
 // Simple statements of one line, each with what it is read as or its fault, worked out apart from the program, from the rules
 // alone.
-use crate::line_heads::{check_lines, in_script};
+use crate::line_heads::{Standing, check_lines};
 use py_grammar::Last;
 use std::alloc::Global;
 use std::process::Abort;
@@ -15,7 +15,7 @@ fn check_rows(rt: &impl Abort, alloc: Global, table: &str) -> Result<(), Fail> {
         }
     }
     assert!(rt; rows > 10);
-    check_lines(rt, alloc, in_script(Last::Nothing), None, table)
+    check_lines(rt, alloc, Standing::Script(Last::Nothing), None, table)
 }
 
 #[test]

@@ -1,18 +1,18 @@
 -- Refusals where something may be read all the same: how one of a part is one of what it stands in, and one of a line.
-use Rattle.std.proofs.Common.{◌≡◌, inl, ℕ, List, [], ◌∷◌, ◌++◌, Option, refl, ap, sym, ◌∙◌, subst, append_assoc, append-nil}
+use Rattle.std.proofs.Common.{◌≡◌, ℕ, List, [], ◌∷◌, ◌++◌, Option, refl, ap, sym, ◌∙◌, subst, append_assoc, append-nil}
 use Rattle.py_lines.specs.declared.parts.Token.{Token}
 use Rattle.py_grammar.specs.declared.context.Limit.{Limit}
-use Rattle.py_grammar.specs.declared.fault.ParseFault.{ParseFault}
-use Rattle.py_grammar.specs.declared.fault.ParseFault.TheVariants.{Unexpected, Unsupported, BadIndent, TooDeep, TooMany, Memory}
-use Rattle.prov_base.specs.declared.place.Pos.{Pos}
+use Rattle.py_grammar.specs.declared.fault.Fault.{Fault}
+use Rattle.py_grammar.specs.declared.fault.Fault.TheVariants.{Unexpected, TooDeep, TooMany, Memory}
 use Rattle.py_grammar.specs.declared.fault.Stop.{Stop}
 use Rattle.py_grammar.specs.declared.fault.Stop.TheVariants.{Here, End}
-use Rattle.py_grammar.specs.Parsed.{Production, Names, IsAtFirst, IsDeep, Finds, Begins, Refused}
+use Rattle.py_grammar.specs.Parsed.{Production, IsAtFirst, IsDeep, Finds, Begins, Refused}
 use Rattle.py_grammar.specs.ParsedRows.{first_token}
-use Rattle.py_grammar.specs.ParsedHead.{Context, IsAmissHead, MayNameLine, BeginsHead, ShownBy, HeadRefused}
+use Rattle.py_grammar.specs.ParsedHead.{Context, IsAmissHead, BeginsHead, ShownBy, HeadRefused}
 use Rattle.py_grammar.specs.LineReader.{Head, head_tokens}
 use Rattle.py_grammar.specs.ParsedNames.{ShownAmiss, RefusedAmiss}
 use Rattle.py_grammar.proofs.Refusals.{finds_same, finds_weaker}
+use Rattle.py_grammar.proofs.Stops.{shows_on_line}
 use Rattle.py_grammar.proofs.HeadParts.{OnlyHead, HeadTurns, turned_head, shown_head, ended_line, finds_head_same, first_shown}
 
 -- ---- refusals as such
@@ -20,11 +20,9 @@ use Rattle.py_grammar.proofs.HeadParts.{OnlyHead, HeadTurns, turned_head, shown_
 -- a part that is refused because nothing is read
 pub amiss_of_refused : {A : Type 0} (p : Production A) (room : ℕ) (amiss : Stop → A → Type 0) (before : List Token) (stop : Stop) → ((why : Stop) (a : A) → IsDeep why room (p.depth a) → amiss why a) → Refused p room before stop → RefusedAmiss p amiss before stop
 amiss_of_refused p room amiss before (Here Memory) weaker is = tt
-amiss_of_refused p room amiss before (Here (Unexpected at)) weaker is = record { front = is.front; shown_by = is.shown_by; behind = is.behind; before_is = is.before_is; place_is = is.place_is; begins = is.begins; none = λ more. finds_weaker _ _ p.read _ (weaker (Here (Unexpected at))) (is.none more) }
-amiss_of_refused p room amiss before (Here (Unsupported at)) weaker is = record { front = is.front; shown_by = is.shown_by; behind = is.behind; before_is = is.before_is; place_is = is.place_is; begins = is.begins; none = λ more. finds_weaker _ _ p.read _ (weaker (Here (Unsupported at))) (is.none more) }
-amiss_of_refused p room amiss before (Here (TooDeep at)) weaker is = record { front = is.front; shown_by = is.shown_by; behind = is.behind; before_is = is.before_is; place_is = is.place_is; begins = is.begins; none = λ more. finds_weaker _ _ p.read _ (weaker (Here (TooDeep at))) (is.none more) }
-amiss_of_refused p room amiss before (Here (BadIndent at)) weaker is = absurd is.place_is
-amiss_of_refused p room amiss before (Here (TooMany at)) weaker is = absurd is.place_is
+amiss_of_refused p room amiss before (Here (Unexpected at)) weaker is = record { front = is.front; shown_by = is.shown_by; behind = is.behind; before_is = is.before_is; left_is = is.left_is; begins = is.begins; none = λ more. finds_weaker _ _ p.read _ (weaker (Here (Unexpected at))) (is.none more) }
+amiss_of_refused p room amiss before (Here (TooDeep at)) weaker is = record { front = is.front; shown_by = is.shown_by; behind = is.behind; before_is = is.before_is; left_is = is.left_is; begins = is.begins; none = λ more. finds_weaker _ _ p.read _ (weaker (Here (TooDeep at))) (is.none more) }
+amiss_of_refused p room amiss before (Here (TooMany at)) weaker is = absurd is.left_is
 amiss_of_refused p room amiss before End weaker is = (is.0, finds_weaker _ _ p.read _ (weaker End) is.1)
 
 pub amiss_same : {A : Type 0} (p : Production A) (amiss : Stop → A → Type 0) (before other : List Token) (stop : Stop) → before ≡ other → RefusedAmiss p amiss other stop → RefusedAmiss p amiss before stop
@@ -36,13 +34,13 @@ pub record AmissInside {A B : Type 0} (p : Production A) (amiss : Stop → A →
   pub begins : (tokens : List Token) → Begins q tokens → Begins p (front ++ tokens)
   pub finds : (stop : Stop) (more : List Token) → first_token more ≡ first_token rest → Finds (inner stop) q.read more → Finds (amiss stop) p.read (front ++ more)
 
-shown_inside : {A B : Type 0} (p : Production A) (amiss : Stop → A → Type 0) (q : Production B) (inner : Stop → B → Type 0) (front rest : List Token) (fault : ParseFault) → AmissInside p amiss q inner front rest → ShownAmiss q inner rest fault → ShownAmiss p amiss (front ++ rest) fault
+shown_inside : {A B : Type 0} (p : Production A) (amiss : Stop → A → Type 0) (q : Production B) (inner : Stop → B → Type 0) (front rest : List Token) (fault : Fault) → AmissInside p amiss q inner front rest → ShownAmiss q inner rest fault → ShownAmiss p amiss (front ++ rest) fault
 shown_inside p amiss q inner front rest fault inside s = record {
   front = front ++ s.front;
   shown_by = s.shown_by;
   behind = s.behind;
   before_is = ap (λ ts. front ++ ts) s.before_is ∙ sym (append_assoc front s.front (s.shown_by ∷ s.behind));
-  place_is = s.place_is;
+  left_is = s.left_is;
   begins = inside.begins s.front s.begins;
   none = λ more. finds_same _ p.read _ _ (append_assoc front s.front (s.shown_by ∷ more))
       (inside.finds (Here fault) (s.front ++ s.shown_by ∷ more) (first_shown s.front s.shown_by more s.behind ∙ sym (ap first_token s.before_is)) (s.none more));
@@ -51,8 +49,6 @@ shown_inside p amiss q inner front rest fault inside s = record {
 pub amiss_inside : {A B : Type 0} (p : Production A) (amiss : Stop → A → Type 0) (q : Production B) (inner : Stop → B → Type 0) (front rest : List Token) (stop : Stop) → AmissInside p amiss q inner front rest → RefusedAmiss q inner rest stop → RefusedAmiss p amiss (front ++ rest) stop
 amiss_inside p amiss q inner front rest (Here Memory) inside is = tt
 amiss_inside p amiss q inner front rest (Here (Unexpected at)) inside is = shown_inside p amiss q inner front rest (Unexpected at) inside is
-amiss_inside p amiss q inner front rest (Here (Unsupported at)) inside is = shown_inside p amiss q inner front rest (Unsupported at) inside is
-amiss_inside p amiss q inner front rest (Here (BadIndent at)) inside is = shown_inside p amiss q inner front rest (BadIndent at) inside is
 amiss_inside p amiss q inner front rest (Here (TooDeep at)) inside is = shown_inside p amiss q inner front rest (TooDeep at) inside is
 amiss_inside p amiss q inner front rest (Here (TooMany at)) inside is = shown_inside p amiss q inner front rest (TooMany at) inside is
 amiss_inside p amiss q inner front rest End inside is = (inside.begins rest is.0, inside.finds End rest refl is.1)
@@ -74,9 +70,7 @@ pub amiss_here : {A : Type 0} (p : Production A) (amiss : Stop → A → Type 0)
 amiss_here p amiss before front [] End is at begins none_end none_there =
     (subst (Begins p) (sym (is ∙ append-nil front)) begins, subst (Finds (amiss End) p.read) (sym is) (finds_weaker _ _ p.read _ (λ a no. absurd no) (none_end refl)))
 amiss_here p amiss before front [] (Here fault) is at begins none_end none_there = cc
-amiss_here p amiss before front (t ∷ ts) (Here (Unexpected place)) is at begins none_end none_there = record { front = front; shown_by = t; behind = ts; before_is = is; place_is = at; begins = begins; none = λ more. finds_weaker _ _ p.read _ (λ a no. absurd no) (none_there t ts more refl) }
-amiss_here p amiss before front (t ∷ ts) (Here (Unsupported place)) is at begins none_end none_there = record { front = front; shown_by = t; behind = ts; before_is = is; place_is = at; begins = begins; none = λ more. finds_weaker _ _ p.read _ (λ a no. absurd no) (none_there t ts more refl) }
-amiss_here p amiss before front (t ∷ ts) (Here (BadIndent place)) is at begins none_end none_there = absurd at
+amiss_here p amiss before front (t ∷ ts) (Here (Unexpected place)) is at begins none_end none_there = record { front = front; shown_by = t; behind = ts; before_is = is; left_is = at; begins = begins; none = λ more. finds_weaker _ _ p.read _ (λ a no. absurd no) (none_there t ts more refl) }
 amiss_here p amiss before front (t ∷ ts) (Here (TooDeep place)) is at begins none_end none_there = absurd at
 amiss_here p amiss before front (t ∷ ts) (Here (TooMany place)) is at begins none_end none_there = absurd at
 amiss_here p amiss before front (t ∷ ts) (Here Memory) is at begins none_end none_there = absurd at
@@ -91,20 +85,18 @@ record StandsSo {B : Type 0} (c : Context) (given : List (List ℕ)) (limit : Op
   turns : HeadTurns q front rest g
   each : (why : Stop) (n : ℕ) (b : B) (left : List Token) → inner why b → OnlyHead (IsAmissHead c given limit why) (g n b left)
 
-shown_so : {B : Type 0} (c : Context) (given : List (List ℕ)) (limit : Option Limit) (q : Production B) (inner : Stop → B → Type 0) (front rest before : List Token) (fault : ParseFault) → before ≡ front ++ rest → StandsSo c given limit q inner front rest
-    → ((t : Token) → Names t fault → MayNameLine t fault) → ShownAmiss q inner rest fault → ShownBy BeginsHead head_tokens (λ fault a. IsAmissHead c given limit (Here fault) a) before fault
-shown_so c given limit q inner front rest before fault is part named s = shown_head c given limit (front ++ s.front) s.shown_by s.behind before fault
-    (is ∙ ap (λ ts. front ++ ts) s.before_is ∙ sym (append_assoc front s.front (s.shown_by ∷ s.behind))) (named s.shown_by s.place_is) (part.begins s.front s.begins)
+shown_so : {B : Type 0} (c : Context) (given : List (List ℕ)) (limit : Option Limit) (q : Production B) (inner : Stop → B → Type 0) (front rest before : List Token) (fault : Fault) → before ≡ front ++ rest → StandsSo c given limit q inner front rest
+    → ShownAmiss q inner rest fault → ShownBy BeginsHead head_tokens (λ fault a. IsAmissHead c given limit (Here fault) a) before fault
+shown_so c given limit q inner front rest before fault is part s = shown_head c given limit (front ++ s.front) s.shown_by s.behind before fault
+    (is ∙ ap (λ ts. front ++ ts) s.before_is ∙ sym (append_assoc front s.front (s.shown_by ∷ s.behind))) (shows_on_line s.shown_by s.behind fault s.left_is) (part.begins s.front s.begins)
     (λ more. finds_head_same _ _ _ (append_assoc front s.front (s.shown_by ∷ more))
     (turned_head _ _ q front rest (s.front ++ s.shown_by ∷ more) part.g part.turns (first_shown s.front s.shown_by more s.behind ∙ sym (ap first_token s.before_is)) (part.each (Here fault)) (s.none more)))
 
 refused_so : {B : Type 0} (c : Context) (given : List (List ℕ)) (limit : Option Limit) (q : Production B) (inner : Stop → B → Type 0) (front rest before : List Token) (stop : Stop) → before ≡ front ++ rest → StandsSo c given limit q inner front rest → RefusedAmiss q inner rest stop → HeadRefused c given limit before stop
 refused_so c given limit q inner front rest before (Here Memory) is part refused = tt
-refused_so c given limit q inner front rest before (Here (Unexpected at)) is part refused = shown_so c given limit q inner front rest before (Unexpected at) is part (λ at named. named) refused
-refused_so c given limit q inner front rest before (Here (Unsupported at)) is part refused = inl (shown_so c given limit q inner front rest before (Unsupported at) is part (λ at named. tt) refused)
-refused_so c given limit q inner front rest before (Here (TooDeep at)) is part refused = shown_so c given limit q inner front rest before (TooDeep at) is part (λ at named. tt) refused
-refused_so c given limit q inner front rest before (Here (BadIndent at)) is part refused = absurd refused.place_is
-refused_so c given limit q inner front rest before (Here (TooMany at)) is part refused = absurd refused.place_is
+refused_so c given limit q inner front rest before (Here (Unexpected at)) is part refused = shown_so c given limit q inner front rest before (Unexpected at) is part refused
+refused_so c given limit q inner front rest before (Here (TooDeep at)) is part refused = shown_so c given limit q inner front rest before (TooDeep at) is part refused
+refused_so c given limit q inner front rest before (Here (TooMany at)) is part refused = absurd refused.left_is
 refused_so c given limit q inner front rest before End is part refused =
     ended_line c given limit (front ++ rest) before End is (part.begins rest refused.0) (turned_head _ _ q front rest rest part.g part.turns refl (part.each End) refused.1)
 

@@ -1,5 +1,5 @@
 -- Augmented assignments: what is read, and how it is refused.
-use Rattle.std.proofs.Common.{◌≡◌, ℕ, ◌<◌, true, false, List, [], ◌∷◌, ◌++◌, Option, Some, None, option_map, option_and_then, is_none, is_some, refl, ap, sym, ◌∙◌, arith}
+use Rattle.std.proofs.Common.{◌≡◌, ℕ, ◌<◌, true, false, List, [], ◌∷◌, ◌++◌, Option, Some, None, option_map, option_and_then, is_none, is_some, refl, ap, sym, ◌∙◌, arith, length}
 use Rattle.std.proofs.Math.Nat.{le-max_right}
 use Rattle.std.proofs.lemmas.Option.{same_Some}
 use Rattle.prov_base.specs.declared.place.Pos.{Pos}
@@ -10,7 +10,7 @@ use Rattle.py_tree.specs.declared.expr.Target.{Target as BuiltTarget}
 use Rattle.py_tree.specs.declared.stmt.Form.{Form}
 use Rattle.py_tree.specs.Erasure.{expr_of, form_of, target_of}
 use Rattle.py_tree.specs.Tree.{aug_form}
-use Rattle.py_grammar.specs.declared.fault.ParseFault.TheVariants.{Unsupported}
+use Rattle.py_grammar.specs.declared.fault.Fault.TheVariants.{Unexpected}
 use Rattle.py_grammar.specs.declared.fault.Stop.{Stop}
 use Rattle.py_grammar.specs.declared.fault.Stop.TheVariants.{Here}
 use Rattle.py_grammar.specs.declared.part.Part.{Part}
@@ -110,21 +110,21 @@ aug_builds e which spot t is = record {
   deep = λ v. le-max_right (one_target_depth t) (exprs_depth v);
 }
 
-aug_none : (around : Around) (e : Exprs) (which : AugSign) (spot : Spot) (before after : List Token) (wrong : Pos) → single_target e ≡ None → before ≡ exprs_tokens e ++ token (Sign (aug_number which)) spot ∷ after
-    → SimpleRefused around before (Here (Unsupported wrong))
-aug_none around e which spot before after wrong none is = sign_wrong around e (token (Sign (aug_number which)) spot) before after wrong (aug_level which) (aug_starts which)
+aug_none : (around : Around) (e : Exprs) (which : AugSign) (spot : Spot) (before after : List Token) (left : ℕ) → single_target e ≡ None → left ≡ length after → before ≡ exprs_tokens e ++ token (Sign (aug_number which)) spot ∷ after
+    → SimpleRefused around before (Here (Unexpected left))
+aug_none around e which spot before after left none counted is = sign_wrong around e (token (Sign (aug_number which)) spot) before after left counted (aug_level which) (aug_starts which)
     (λ n more. aug_reads which e spot n more ∙ ap (option_and_then (λ target. option_map (augmented target which spot) (whole (read_exprs n more)))) none) is
 
-pub aug_tuple : (first : Part) (at : Pos) (op : BinOp) (behind : List Token) (wrong : Pos) → is_tuple_tree (expr_of first.expr) ≡ true → RefusedAfterOp first at op behind (Here (Unsupported wrong))
-aug_tuple first at op behind wrong tuple = record {
+pub aug_tuple : (first : Part) (at : Pos) (op : BinOp) (behind : List Token) (left : ℕ) → is_tuple_tree (expr_of first.expr) ≡ true → left ≡ length behind → RefusedAfterOp first at op behind (Here (Unexpected left))
+aug_tuple first at op behind left tuple counted = record {
   there = λ around before middle f k.
-      aug_none around f.written k.which k.spot before behind wrong (tuple_no_single f.written (ap is_tuple_tree (sym f.tree_is) ∙ tuple)) (behind_sign f k.before_is);
+      aug_none around f.written k.which k.spot before behind left (tuple_no_single f.written (ap is_tuple_tree (sym f.tree_is) ∙ tuple)) counted (behind_sign f k.before_is);
 }
 
-pub aug_wrong : (first : Part) (at : Pos) (op : BinOp) (behind : List Token) (wrong : Pos) → is_none first.wrong ≡ false → RefusedAfterOp first at op behind (Here (Unsupported wrong))
-aug_wrong first at op behind wrong other = record {
+pub aug_wrong : (first : Part) (at : Pos) (op : BinOp) (behind : List Token) (left : ℕ) → is_none first.wrong ≡ false → left ≡ length behind → RefusedAfterOp first at op behind (Here (Unexpected left))
+aug_wrong first at op behind left other counted = record {
   there = λ around before middle f k.
-      aug_none around f.written k.which k.spot before behind wrong (no_single f.written (sym f.form_is ∙ other)) (behind_sign f k.before_is);
+      aug_none around f.written k.which k.spot before behind left (no_single f.written (sym f.form_is ∙ other)) counted (behind_sign f k.before_is);
 }
 
 first_single : {before middle : List Token} {first : Part} → (f : FoundRow 100 before first middle) → is_tuple_tree (expr_of first.expr) ≡ false → is_none first.wrong ≡ true → (t : OneTarget) × (single_target f.written ≡ Some t)

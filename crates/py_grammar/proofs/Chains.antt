@@ -6,7 +6,7 @@ use Rattle.std.proofs.lemmas.List.{append-nil}
 use Rattle.py_lines.specs.declared.parts.Token.{Token}
 use Rattle.py_tree.specs.Tree.{ExprTree}
 use Rattle.py_tree.specs.Erasure.{expr_of}
-use Rattle.py_grammar.specs.declared.fault.ParseFault.TheVariants.{TooDeep}
+use Rattle.py_grammar.specs.declared.fault.Fault.TheVariants.{TooDeep}
 use Rattle.py_grammar.specs.declared.fault.Stop.{Stop}
 use Rattle.py_grammar.specs.declared.fault.Stop.TheVariants.{Here}
 use Rattle.py_grammar.specs.declared.part.Part.{Part}

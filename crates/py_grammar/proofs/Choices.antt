@@ -8,7 +8,7 @@ use Rattle.py_lines.specs.declared.parts.Token.{Token}
 use Rattle.py_lines.specs.declared.parts.TokenKind.TheVariants.{Keyword}
 use Rattle.py_tree.specs.Tree.{choose_expr}
 use Rattle.py_tree.specs.Erasure.{expr_of}
-use Rattle.py_grammar.specs.declared.fault.ParseFault.TheVariants.{Unexpected, Unsupported, BadIndent, TooDeep, TooMany, Memory}
+use Rattle.py_grammar.specs.declared.fault.Fault.TheVariants.{Unexpected, TooDeep, TooMany, Memory}
 use Rattle.py_grammar.specs.declared.fault.Stop.{Stop}
 use Rattle.py_grammar.specs.declared.fault.Stop.TheVariants.{Here, End}
 use Rattle.py_grammar.specs.declared.part.Part.{Part}
@@ -75,8 +75,6 @@ expr_choice room inner before middle_1 behind_1 middle_2 behind_2 after at else_
 pub no_depth : {P : Type 0} (stop : Stop) → IsDeep stop 0 0 → P
 no_depth (Here (TooDeep at)) deep = absurd (omega (arith, deep))
 no_depth (Here (Unexpected at)) deep = absurd deep
-no_depth (Here (Unsupported at)) deep = absurd deep
-no_depth (Here (BadIndent at)) deep = absurd deep
 no_depth (Here (TooMany at)) deep = absurd deep
 no_depth (Here Memory) deep = absurd deep
 no_depth End deep = absurd deep

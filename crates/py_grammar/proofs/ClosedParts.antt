@@ -7,7 +7,7 @@ use Rattle.prov_base.specs.declared.place.Pos.{Pos}
 use Rattle.py_tree.specs.Tree.{ExprTree}
 use Rattle.py_tree.specs.Erasure.{expr_of}
 use Rattle.py_grammar.specs.declared.part.Part.{Part}
-use Rattle.py_grammar.specs.declared.fault.ParseFault.TheVariants.{Unexpected, Unsupported, BadIndent, TooDeep, TooMany, Memory}
+use Rattle.py_grammar.specs.declared.fault.Fault.TheVariants.{Unexpected, TooDeep, TooMany, Memory}
 use Rattle.py_grammar.specs.declared.fault.Stop.{Stop}
 use Rattle.py_grammar.specs.declared.fault.Stop.TheVariants.{Here, End}
 use Rattle.py_grammar.specs.Concrete.{Spot}
@@ -28,8 +28,6 @@ first_same ts us is = first_is ts ∙ is ∙ sym (first_is us)
 pub not_deep : (stop : Stop) → IsDeep stop 0 0 → ⊥
 not_deep (Here (TooDeep at)) deep = omega (arith, deep)
 not_deep (Here (Unexpected at)) deep = deep
-not_deep (Here (Unsupported at)) deep = deep
-not_deep (Here (BadIndent at)) deep = deep
 not_deep (Here (TooMany at)) deep = deep
 not_deep (Here Memory) deep = deep
 not_deep End deep = deep
@@ -99,9 +97,7 @@ refused_at_first p room [] stop begins none is = refused_same_stop is (begins, n
   where
     refused_same_stop : stop ≡ End → Refused p room [] End → Refused p room [] stop
     refused_same_stop is refused = subst (Refused p room []) (sym is) refused
-refused_at_first p room (t ∷ ts) (Here (Unexpected at)) begins none is = record { front = []; shown_by = t; behind = ts; before_is = refl; place_is = is; begins = begins; none = λ more. none (t ∷ more) refl }
-refused_at_first p room (t ∷ ts) (Here (Unsupported at)) begins none is = record { front = []; shown_by = t; behind = ts; before_is = refl; place_is = is; begins = begins; none = λ more. none (t ∷ more) refl }
-refused_at_first p room (t ∷ ts) (Here (BadIndent at)) begins none is = absurd is
+refused_at_first p room (t ∷ ts) (Here (Unexpected at)) begins none is = record { front = []; shown_by = t; behind = ts; before_is = refl; left_is = is; begins = begins; none = λ more. none (t ∷ more) refl }
 refused_at_first p room (t ∷ ts) (Here (TooDeep at)) begins none is = absurd is
 refused_at_first p room (t ∷ ts) (Here (TooMany at)) begins none is = absurd is
 refused_at_first p room (t ∷ ts) (Here Memory) begins none is = absurd is

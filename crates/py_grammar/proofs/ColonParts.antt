@@ -6,8 +6,8 @@ use Rattle.std.proofs.lemmas.Option.{same_Some}
 use Rattle.py_lines.specs.declared.parts.Token.{Token}
 use Rattle.py_lines.specs.declared.parts.TokenKind.TheVariants.{Keyword, Sign}
 use Rattle.py_grammar.specs.declared.context.Limit.{Limit}
-use Rattle.py_grammar.specs.declared.fault.ParseFault.{ParseFault}
-use Rattle.py_grammar.specs.declared.fault.ParseFault.TheVariants.{Unexpected, Unsupported, BadIndent, TooDeep, TooMany, Memory}
+use Rattle.py_grammar.specs.declared.fault.Fault.{Fault}
+use Rattle.py_grammar.specs.declared.fault.Fault.TheVariants.{Unexpected, TooDeep, TooMany, Memory}
 use Rattle.py_grammar.specs.declared.fault.Stop.{Stop}
 use Rattle.py_grammar.specs.declared.fault.Stop.TheVariants.{Here, End}
 use Rattle.py_grammar.specs.declared.head.What.{What}
@@ -22,7 +22,7 @@ use Rattle.py_grammar.specs.Reader.{is_sign, spot_of, read_sign}
 use Rattle.py_grammar.specs.Parsed.{Refused, one_sign}
 use Rattle.py_grammar.specs.ParsedRows.{first_token}
 use Rattle.py_grammar.specs.ParsedSimple.{BeginsSimple}
-use Rattle.py_grammar.specs.ParsedHead.{Context, word_may, inner_around, behind_depth, IsBehind, BehindFound, HeadFound, Opening, IsAmissPlaced, IsAmissHead, BeginsHead, ShownBy, EndedBy, PlacedRefused, BehindRefused, HeadRefused}
+use Rattle.py_grammar.specs.ParsedHead.{Context, word_may, inner_around, behind_depth, IsBehind, BehindFound, HeadFound, Opening, IsAmissPlaced, IsAmissHead, BeginsHead, ShownBy, EndedBy, BehindRefused, HeadRefused}
 use Rattle.py_grammar.proofs.Stops.{some_spot}
 use Rattle.py_grammar.proofs.Refusals.{max_below}
 use Rattle.py_grammar.proofs.SimpleParts.{not_deeper}
@@ -101,10 +101,8 @@ amiss_line c given limit word before after what spot o (Here (TooDeep at)) s (in
 amiss_line c given limit word before after what spot o (Here (TooDeep at)) s (inr passed) = inr (passed, ap is_some (o.behind_is spot (Some s)))
 amiss_line c given limit word before after what spot o (Here (TooMany at)) s passed = (passed, ap is_some (o.behind_is spot (Some s)))
 amiss_line c given limit word before after what spot o (Here (Unexpected at)) s amiss = o.stands given spot (Some s) ∙ and_false (word_may c word) _ amiss
-amiss_line c given limit word before after what spot o (Here (Unsupported at)) s amiss = o.stands given spot (Some s) ∙ and_false (word_may c word) _ amiss
-amiss_line c given limit word before after what spot o (Here (BadIndent at)) s amiss = absurd amiss
 amiss_line c given limit word before after what spot o (Here Memory) s amiss = absurd amiss
-amiss_line c given limit word before after what spot o End s amiss = absurd amiss
+amiss_line c given limit word before after what spot o End s amiss = o.stands given spot (Some s) ∙ and_false (word_may c word) _ amiss
 
 -- a statement begins behind the `:`, and so does the line
 begins_line : (c : Context) (word : ℕ) (before after : List Token) (what : What) (spot : Spot) → (o : Opening c word before what after) → (tokens : List Token) → BeginsSimple tokens → BeginsHead (o.front ++ token (Sign 7) spot ∷ tokens)
@@ -126,14 +124,14 @@ begins_line c word before after what spot o tokens (inr b) = inr (record {
       ∙ ap (λ ts. o.front ++ token (Sign 7) spot ∷ ts) b.tokens_are ∙ sym (append_assoc o.front (token (Sign 7) spot ∷ tokens) b.more);
 })
 
-behind_shown : (c : Context) (given : List (List ℕ)) (limit : Option Limit) (word : ℕ) (before after rest : List Token) (what : What) (spot : Spot) → (o : Opening c word before what after) → after ≡ token (Sign 7) spot ∷ rest → (fault : ParseFault)
+behind_shown : (c : Context) (given : List (List ℕ)) (limit : Option Limit) (word : ℕ) (before after rest : List Token) (what : What) (spot : Spot) → (o : Opening c word before what after) → after ≡ token (Sign 7) spot ∷ rest → (fault : Fault)
     → ShownBy BeginsSimple simple_tokens (λ fault a. IsAmissPlaced (inner_around word c.around) limit (Here fault) a) rest fault → ShownBy BeginsHead head_tokens (λ fault a. IsAmissHead c given limit (Here fault) a) before fault
 behind_shown c given limit word before after rest what spot o is fault s = record {
   front = o.front ++ token (Sign 7) spot ∷ s.front;
   shown_by = s.shown_by;
   behind = s.behind;
   before_is = o.before_is ∙ ap (λ ts. o.front ++ ts) (is ∙ ap (λ ts. token (Sign 7) spot ∷ ts) s.before_is) ∙ sym (append_assoc o.front (token (Sign 7) spot ∷ s.front) (s.shown_by ∷ s.behind));
-  place_is = s.place_is;
+  left_is = s.left_is;
   begun = begins_line c word before after what spot o s.front s.begun;
   none = λ h more same. none_there h more same;
 }
@@ -163,12 +161,6 @@ behind_refused c given limit word before after rest what spot (Here Memory) o is
 behind_refused c given limit word before after rest what spot (Here (Unexpected at)) o is refused = behind_shown c given limit word before after rest what spot o is (Unexpected at) refused.placed
 behind_refused c given limit word before after rest what spot (Here (TooDeep at)) o is refused = behind_shown c given limit word before after rest what spot o is (TooDeep at) refused.placed
 behind_refused c given limit word before after rest what spot (Here (TooMany at)) o is refused = behind_shown c given limit word before after rest what spot o is (TooMany at) refused.placed
-behind_refused c given limit word before after rest what spot (Here (BadIndent at)) o is refused = absurd refused.placed.place_is
-behind_refused c given limit word before after rest what spot (Here (Unsupported at)) o is refused = by refused.placed
-  where
-    by : PlacedRefused (inner_around word c.around) limit rest (Here (Unsupported at)) → HeadRefused c given limit before (Here (Unsupported at))
-    by (inl shown) = inl (behind_shown c given limit word before after rest what spot o is (Unsupported at) shown)
-    by (inr ends) = inr (behind_ended c given limit word before after rest what spot o is (Here (Unsupported at)) refused.some ends)
 behind_refused c given limit word before after rest what spot End o is refused = behind_ended c given limit word before after rest what spot o is End refused.some refused.placed
 
 -- ---- a line that may stand there

@@ -9,7 +9,7 @@ use Rattle.py_lines.specs.declared.parts.Token.{Token}
 use Rattle.py_tree.specs.declared.expr.CmpOp.{CmpOp}
 use Rattle.py_tree.specs.Tree.{compare_expr}
 use Rattle.py_tree.specs.Erasure.{expr_of}
-use Rattle.py_grammar.specs.declared.fault.ParseFault.TheVariants.{TooDeep}
+use Rattle.py_grammar.specs.declared.fault.Fault.TheVariants.{TooDeep}
 use Rattle.py_grammar.specs.declared.fault.Stop.{Stop}
 use Rattle.py_grammar.specs.declared.fault.Stop.TheVariants.{Here}
 use Rattle.py_grammar.specs.declared.part.Part.{Part}

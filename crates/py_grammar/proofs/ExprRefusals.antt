@@ -1,10 +1,9 @@
 -- Expressions that are a statement, and assignments: what is read, and how it is refused.
-use Rattle.std.proofs.Common.{◌≡◌, inl, ℕ, suc, ◌+◌, ◌≤◌, ◌<◌, Bool, true, false, List, [], ◌∷◌, ◌++◌, Option, Some, None, option_map, option_and_then, is_none, is_some, refl, ap, sym, ◌∙◌, arith, subst, append_assoc}
+use Rattle.std.proofs.Common.{◌≡◌, ℕ, suc, ◌+◌, ◌≤◌, ◌<◌, Bool, true, false, List, [], ◌∷◌, ◌++◌, Option, Some, None, option_map, option_and_then, is_none, is_some, refl, ap, sym, ◌∙◌, arith, subst, append_assoc, length}
 use Rattle.std.specs.Prelude.{◌==◌}
 use Rattle.std.proofs.Math.Nat.{le-max_left, le-max_right}
 use Rattle.std.proofs.lemmas.Bool.{eqb-true}
 use Rattle.std.proofs.lemmas.Option.{same_Some}
-use Rattle.prov_base.specs.declared.place.Pos.{Pos}
 use Rattle.py_lines.specs.declared.parts.Token.{Token}
 use Rattle.py_lines.specs.declared.parts.TokenKind.{TokenKind}
 use Rattle.py_lines.specs.declared.parts.TokenKind.TheVariants.{Word, Keyword, Number, Text, Sign}
@@ -12,7 +11,7 @@ use Rattle.py_tree.specs.declared.expr.Target.{Target as BuiltTarget}
 use Rattle.py_tree.specs.declared.stmt.Form.{Form}
 use Rattle.py_tree.specs.Erasure.{expr_of, form_of, target_of}
 use Rattle.py_tree.specs.Tree.{do_form, assign_form}
-use Rattle.py_grammar.specs.declared.fault.ParseFault.TheVariants.{Unsupported}
+use Rattle.py_grammar.specs.declared.fault.Fault.TheVariants.{Unexpected}
 use Rattle.py_grammar.specs.declared.fault.Stop.{Stop}
 use Rattle.py_grammar.specs.declared.fault.Stop.TheVariants.{Here}
 use Rattle.py_grammar.specs.declared.part.Part.{Part}
@@ -191,10 +190,10 @@ pub behind_sign : {before middle after : List Token} {first : Part} {c : Token} 
 behind_sign f is = f.before_is ∙ ap (λ ts. exprs_tokens f.written ++ ts) is
 
 -- no target stands before the sign
-pub sign_wrong : (around : Around) (e : Exprs) (c : Token) (before after : List Token) (wrong : Pos) → 8 < kind_level c.kind → start_class c.kind ≡ 0 → ((n : ℕ) (more : List Token) → behind_exprs n e (c ∷ more) ≡ None)
-    → before ≡ exprs_tokens e ++ c ∷ after → SimpleRefused around before (Here (Unsupported wrong))
-sign_wrong around e c before after wrong level no_start none is =
-    inl (at_token around (exprs_tokens e) c after before (Unsupported wrong) (expression e) is refl tt (λ more. row_none e c more (λ ends. level) (λ ends. no_start) (λ n. none n more)))
+pub sign_wrong : (around : Around) (e : Exprs) (c : Token) (before after : List Token) (left : ℕ) → left ≡ length after → 8 < kind_level c.kind → start_class c.kind ≡ 0 → ((n : ℕ) (more : List Token) → behind_exprs n e (c ∷ more) ≡ None)
+    → before ≡ exprs_tokens e ++ c ∷ after → SimpleRefused around before (Here (Unexpected left))
+sign_wrong around e c before after left counted level no_start none is =
+    at_token around (exprs_tokens e) c after before (Unexpected left) (expression e) is refl counted (λ more. row_none e c more (λ ends. level) (λ ends. no_start) (λ n. none n more))
 
 -- ---- assignments
 
@@ -218,10 +217,10 @@ assign_builds e spot t is = record {
   deep = λ v. le-max_right (target_depth t) (exprs_depth v);
 }
 
-pub assign_wrong : (first : Part) (wrong : Pos) (behind : List Token) → is_none first.wrong ≡ false → RefusedAfter first behind (Here (Unsupported wrong))
-assign_wrong first wrong behind other = record {
+pub assign_wrong : (first : Part) (left : ℕ) (behind : List Token) → is_none first.wrong ≡ false → left ≡ length behind → RefusedAfter first behind (Here (Unexpected left))
+assign_wrong first left behind other counted = record {
   there = λ around at before middle f k.
-      sign_wrong around f.written (token (Sign 9) k.spot) before behind wrong (omega arith) refl
+      sign_wrong around f.written (token (Sign 9) k.spot) before behind left counted (omega arith) refl
       (λ n more. ap (option_and_then (λ target. option_map (assign target k.spot) (whole (read_exprs n more)))) (no_target (exprs_target f.written) (sym f.form_is ∙ other)))
       (behind_sign f k.before_is);
 }

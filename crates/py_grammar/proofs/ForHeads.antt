@@ -7,8 +7,8 @@ use Rattle.py_lines.specs.declared.parts.TokenKind.TheVariants.{Keyword}
 use Rattle.py_tree.specs.declared.expr.Target.{Target as TargetRead}
 use Rattle.py_tree.specs.Erasure.{target_of}
 use Rattle.py_grammar.specs.declared.context.Limit.{Limit}
-use Rattle.py_grammar.specs.declared.fault.ParseFault.{ParseFault}
-use Rattle.py_grammar.specs.declared.fault.ParseFault.TheVariants.{Unexpected, Unsupported, BadIndent, TooDeep, TooMany, Memory}
+use Rattle.py_grammar.specs.declared.fault.Fault.{Fault}
+use Rattle.py_grammar.specs.declared.fault.Fault.TheVariants.{Unexpected, TooDeep, TooMany, Memory}
 use Rattle.py_grammar.specs.declared.fault.Stop.{Stop}
 use Rattle.py_grammar.specs.declared.fault.Stop.TheVariants.{Here, End}
 use Rattle.py_grammar.specs.declared.head.What.TheVariants.{For}
@@ -88,8 +88,6 @@ for_there spot h more is =
 for_amiss : (c : Context) (given : List (List ℕ)) (limit : Option Limit) (why : Stop) (depth : ℕ) (h : Head) → IsDeep why 100 depth → depth ≤ head_depth h → IsAmissHead c given limit why h
 for_amiss c given limit (Here (TooDeep at)) depth h deep higher = inl (omega (arith, deep, higher))
 for_amiss c given limit (Here (Unexpected at)) depth h deep higher = absurd deep
-for_amiss c given limit (Here (Unsupported at)) depth h deep higher = absurd deep
-for_amiss c given limit (Here (BadIndent at)) depth h deep higher = absurd deep
 for_amiss c given limit (Here (TooMany at)) depth h deep higher = absurd deep
 for_amiss c given limit (Here Memory) depth h deep higher = absurd deep
 for_amiss c given limit End depth h deep higher = absurd deep
@@ -106,14 +104,14 @@ for_begins spot ts b = inr (record {
 -- ---- the target is refused
 
 module _ (c : Context) (given : List (List ℕ)) (limit : Option Limit) (spot : Spot) (before : List Token) where
-  shown_for : (fault : ParseFault) → ShownBy (BeginsThen target_part) (followed_tokens target_part) (λ fault w. IsDeep (Here fault) 100 (target_depth w.part)) before fault
+  shown_for : (fault : Fault) → ShownBy (BeginsThen target_part) (followed_tokens target_part) (λ fault w. IsDeep (Here fault) 100 (target_depth w.part)) before fault
       → ShownBy BeginsHead head_tokens (λ fault h. IsAmissHead c given limit (Here fault) h) (token (Keyword 17) spot ∷ before) fault
   shown_for fault s = record {
     front = token (Keyword 17) spot ∷ s.front;
     shown_by = s.shown_by;
     behind = s.behind;
     before_is = ap (λ ts. token (Keyword 17) spot ∷ ts) s.before_is;
-    place_is = s.place_is;
+    left_is = s.left_is;
     begun = for_begins spot s.front s.begun;
     none = λ h more is.
         let f = for_there spot h (s.front ++ s.shown_by ∷ more) is in
@@ -129,10 +127,7 @@ module _ (c : Context) (given : List (List ℕ)) (limit : Option Limit) (spot : 
   refused_for : (stop : Stop) → TargetsRefused target_part 100 before stop → HeadRefused c given limit (token (Keyword 17) spot ∷ before) stop
   refused_for (Here Memory) is = tt
   refused_for (Here (Unexpected at)) is = shown_for (Unexpected at) is
-  refused_for (Here (Unsupported at)) (inl is) = inl (shown_for (Unsupported at) is)
-  refused_for (Here (Unsupported at)) (inr is) = inr (ended_for (Here (Unsupported at)) is)
   refused_for (Here (TooDeep at)) is = shown_for (TooDeep at) is
-  refused_for (Here (BadIndent at)) is = shown_for (BadIndent at) is
   refused_for (Here (TooMany at)) is = shown_for (TooMany at) is
   refused_for End is = ended_for End is
 

@@ -10,8 +10,8 @@ use Rattle.py_lines.specs.declared.parts.TokenKind.TheVariants.{Word, Keyword, N
 use Rattle.py_tree.specs.declared.expr.Expr.{Expr as ExprRead}
 use Rattle.py_tree.specs.Tree.{ExprTree, TargetTree, TargetsTree, many_target, more_targets, tuple_expr}
 use Rattle.py_tree.specs.Erasure.{expr_of, exprs_list}
-use Rattle.py_grammar.specs.declared.fault.ParseFault.{ParseFault}
-use Rattle.py_grammar.specs.declared.fault.ParseFault.TheVariants.{Unexpected, Unsupported, BadIndent, TooDeep, TooMany, Memory}
+use Rattle.py_grammar.specs.declared.fault.Fault.{Fault}
+use Rattle.py_grammar.specs.declared.fault.Fault.TheVariants.{Unexpected, TooDeep, TooMany, Memory}
 use Rattle.py_grammar.specs.declared.fault.Stop.{Stop}
 use Rattle.py_grammar.specs.declared.fault.Stop.TheVariants.{Here, End}
 use Rattle.py_grammar.specs.declared.part.Part.{Part}
@@ -20,21 +20,21 @@ use Rattle.py_grammar.specs.Concrete.{Spot, Expr, plain_expr, plain_or, plain_an
 use Rattle.py_grammar.specs.Tokens.{token, expr_tokens, sum_tokens}
 use Rattle.py_grammar.specs.Trees.{sum_tree}
 use Rattle.py_grammar.specs.Depth.{sum_depth, one_target_depth, target_rest_depth, target_depth}
-use Rattle.py_grammar.specs.Reader.{Read, go_on, next_level, kind_level, starts, begins_expr, is_keyword, is_sign, read_sign, read_sum}
+use Rattle.py_grammar.specs.Reader.{Read, go_on, next_level, kind_level, starts, begins_expr, is_sign, read_sign, read_sum}
 use Rattle.py_grammar.specs.Written.{OneTarget, named, item, field, TargetRest, end_rest_target, last_target, more_target, Target, one_target, several_targets}
 use Rattle.py_grammar.specs.StatementTokens.{one_target_tokens, target_rest_tokens, target_tokens}
 use Rattle.py_grammar.specs.StatementTrees.{one_target_tree, target_rest_tree, target_tree}
 use Rattle.py_grammar.specs.StatementReader.{expr_target}
 use Rattle.py_grammar.specs.LineReader.{read_one_target, read_target_rest, target_rest_after, read_target}
-use Rattle.py_grammar.specs.Parsed.{Production, sum_part, is_form, Names, IsDeep, Only, Finds, Begins, Shown, Refused, Found, Taken, one_keyword, is_sign_next, IsAtFirst, IsTooDeep}
+use Rattle.py_grammar.specs.Parsed.{Production, sum_part, is_form, IsDeep, Only, Finds, Begins, Shown, Refused, Found, Taken, is_sign_next, IsAtFirst, IsTooDeep}
 use Rattle.py_grammar.specs.ParsedRows.{first_token}
 use Rattle.py_grammar.specs.ParsedSimple.{target_form, targets_form, all_target_form}
-use Rattle.py_grammar.specs.ParsedHead.{Took, target_part, MayNameLine, ShownBy, EndedBy}
+use Rattle.py_grammar.specs.ParsedHead.{Took, target_part, ShownBy, EndedBy}
 use Rattle.py_grammar.specs.ParsedNames.{target_rest_part, Followed, followed_tokens, BeginsThen, TargetsRefused, ItemFound, WrongItem, ItemRefused, FoundTargets}
 use Rattle.py_grammar.proofs.Leading.{Reads}
 use Rattle.py_grammar.proofs.Reading.{if_false, sum_leads, sum_stops}
 use Rattle.py_grammar.proofs.Refusals.{deeper, max_below}
-use Rattle.py_grammar.proofs.Stops.{some_spot, keyword_refused}
+use Rattle.py_grammar.proofs.Stops.{some_spot, shows_on_line}
 use Rattle.py_grammar.proofs.TargetForms.{target_spelled, target_deep, target_tree_is}
 use Rattle.py_grammar.proofs.SimpleReading.{target_expr}
 use Rattle.py_grammar.proofs.PrimParts.{go_on_once}
@@ -87,8 +87,8 @@ item_found room before after part f fine =
 pub item_unread : (room : ℕ) (before : List Token) (stop : Stop) → Refused sum_part room before stop → ItemRefused room before stop
 item_unread room before stop is = record { why = inl is }
 
-pub item_wrong : (room : ℕ) (before after : List Token) (part : Part) (place : Pos) → Found sum_part sum_tree 3 room before part after → is_none part.wrong ≡ false → ItemRefused room before (Here (Unsupported place))
-item_wrong room before after part place f other = record { why = inr (record { part = part; after = after; place = place; stop_is = refl; found = f; form = other }) }
+pub item_wrong : (room : ℕ) (before after : List Token) (part : Part) (stop : Stop) → Found sum_part sum_tree 3 room before part after → is_none part.wrong ≡ false → IsAtFirst after stop → ItemRefused room before stop
+item_wrong room before after part stop f other first = record { why = inr (record { part = part; after = after; stop_is = first; found = f; form = other }) }
 
 -- two readings of the same tokens
 same_read : {A : Type 0} (a b : A) (x y : List Token) (p : A × List Token) (q : A × List Token) → p ≡ (a, x) → q ≡ (b, y) → p ≡ q → (a ≡ b) × (x ≡ y)
@@ -148,13 +148,13 @@ begins_sum p front tokens opens b = record {
 
 module _ {A : Type 0} (p : Production A) (room : ℕ) (front rest before : List Token) (before_is : before ≡ front ++ rest) (opens : Begins p front)
     (there : (w : Followed A) (more : List Token) → followed_tokens p w ≡ front ++ more → first_token more ≡ first_token rest → ItemThere (p.depth w.part) more) where
-  shown_item : (fault : ParseFault) → ((t : Token) → Names t fault → MayNameLine t fault) → Shown sum_part room rest fault → ShownBy (BeginsThen p) (followed_tokens p) (λ fault w. IsDeep (Here fault) room (p.depth w.part)) before fault
-  shown_item fault places s = record {
+  shown_item : (fault : Fault) → Shown sum_part room rest fault → ShownBy (BeginsThen p) (followed_tokens p) (λ fault w. IsDeep (Here fault) room (p.depth w.part)) before fault
+  shown_item fault s = record {
     front = front ++ s.front;
     shown_by = s.shown_by;
     behind = s.behind;
     before_is = before_is ∙ ap (λ ts. front ++ ts) s.before_is ∙ sym (append_assoc front s.front (s.shown_by ∷ s.behind));
-    place_is = places s.shown_by s.place_is;
+    left_is = shows_on_line s.shown_by s.behind fault s.left_is;
     begun = begins_sum p front s.front opens s.begins;
     none = λ w more is. found_deep (Here fault) room (p.depth w.part) (s.front ++ s.shown_by ∷ more) (s.none more)
         (there w (s.front ++ s.shown_by ∷ more) (is ∙ append_assoc front s.front (s.shown_by ∷ more)) (first_shown s.front s.shown_by more s.behind ∙ sym (ap first_token s.before_is)));
@@ -162,40 +162,43 @@ module _ {A : Type 0} (p : Production A) (room : ℕ) (front rest before : List 
 
   read_refused : (stop : Stop) → Refused sum_part room rest stop → TargetsRefused p room before stop
   read_refused (Here Memory) is = tt
-  read_refused (Here (Unexpected at)) is = shown_item (Unexpected at) (λ at same. same) is
-  read_refused (Here (Unsupported at)) is = inl (shown_item (Unsupported at) (λ at same. tt) is)
-  read_refused (Here (TooDeep at)) is = shown_item (TooDeep at) (λ at same. tt) is
-  read_refused (Here (BadIndent at)) is = absurd is.place_is
-  read_refused (Here (TooMany at)) is = absurd is.place_is
+  read_refused (Here (Unexpected at)) is = shown_item (Unexpected at) is
+  read_refused (Here (TooDeep at)) is = shown_item (TooDeep at) is
+  read_refused (Here (TooMany at)) is = absurd is.left_is
   read_refused End is = record {
     begun = subst (BeginsThen p) (sym before_is) (begins_sum p front rest opens is.0);
     none = λ w same. found_deep End room (p.depth w.part) rest is.1 (there w rest (same ∙ before_is) refl);
   }
 
-  wrong_at : (place : Pos) (part : Part) (after : List Token) → (f : Found sum_part sum_tree 3 room rest part after) → is_none part.wrong ≡ false → (ts : List Token) → after ≡ ts → TargetsRefused p room before (Here (Unsupported place))
-  wrong_at place part after f other [] is = inr (record {
+  wrong_at : (part : Part) (after : List Token) → (f : Found sum_part sum_tree 3 room rest part after) → is_none part.wrong ≡ false → (ts : List Token) (stop : Stop) → after ≡ ts → IsAtFirst ts stop → TargetsRefused p room before stop
+  wrong_at part after f other [] (Here fault) is first = absurd (let no : Here fault ≡ End = first in cc)
+  wrong_at part after f other [] End is first = record {
     begun = subst (BeginsThen p) (sym (before_is ∙ ap (λ ts. front ++ ts) f.before_is)) (begins_sum p front (sum_tokens f.written ++ after) opens
         (record { some = f.written; more = []; tokens_are = sym (append-nil (sum_tokens f.written ++ after) ∙ ap (λ ts. sum_tokens f.written ++ ts) is ∙ append-nil (sum_tokens f.written)) }));
     none = λ w same. absurd (no_target f.written (p.depth w.part) after rest (sym f.form_is ∙ other) f.beyond (sym f.before_is) (there w rest (same ∙ before_is) refl));
-  })
-  wrong_at place part after f other (t ∷ ts) is = inl (record {
+  }
+  wrong_at part after f other (t ∷ ts) (Here (Unexpected left)) is first = record {
     front = front ++ sum_tokens f.written;
     shown_by = t;
     behind = ts;
     before_is = before_is ∙ ap (λ ts. front ++ ts) (f.before_is ∙ ap (λ ts. sum_tokens f.written ++ ts) is) ∙ sym (append_assoc front (sum_tokens f.written) (t ∷ ts));
-    place_is = tt;
+    left_is = first;
     begun = begins_sum p front (sum_tokens f.written) opens (record { some = f.written; more = []; tokens_are = sym (append-nil (sum_tokens f.written)) });
     none = λ w more same. absurd (no_target f.written (p.depth w.part) (t ∷ more) (sum_tokens f.written ++ t ∷ more) (sym f.form_is ∙ other) (subst (λ (ts : List Token). 3 < next_level ts) is f.beyond) refl
         (there w (sum_tokens f.written ++ t ∷ more) (same ∙ append_assoc front (sum_tokens f.written) (t ∷ more))
         (first_shown (sum_tokens f.written) t more ts ∙ sym (ap first_token (f.before_is ∙ ap (λ ts. sum_tokens f.written ++ ts) is)))));
-  })
+  }
+  wrong_at part after f other (t ∷ ts) (Here (TooDeep place)) is first = absurd first
+  wrong_at part after f other (t ∷ ts) (Here (TooMany place)) is first = absurd first
+  wrong_at part after f other (t ∷ ts) (Here Memory) is first = absurd first
+  wrong_at part after f other (t ∷ ts) End is first = absurd first
 
   pub item_refused : (stop : Stop) → ItemRefused room rest stop → TargetsRefused p room before stop
   item_refused stop r = by r.why
     where
       by : Refused sum_part room rest stop ⊎ WrongItem room rest stop → TargetsRefused p room before stop
       by (inl is) = read_refused stop is
-      by (inr w) = subst (λ (stop : Stop). TargetsRefused p room before stop) (sym w.stop_is) (wrong_at w.place w.part w.after w.found w.form w.after refl)
+      by (inr w) = wrong_at w.part w.after w.found w.form w.after stop refl w.stop_is
 
 -- ---- what is written in front of `in`
 
@@ -207,13 +210,13 @@ pub record Inner {B : Type 0} (q : Production B) (inner room depth : ℕ) (more 
 
 module _ {A B : Type 0} (p : Production A) (room : ℕ) (q : Production B) (inner : ℕ) (front rest before : List Token) (before_is : before ≡ front ++ rest) (opens : (ts : List Token) → BeginsThen q ts → BeginsThen p (front ++ ts))
     (there : (w : Followed A) (more : List Token) → followed_tokens p w ≡ front ++ more → Inner q inner room (p.depth w.part) more) where
-  shown_rest : (fault : ParseFault) → ShownBy (BeginsThen q) (followed_tokens q) (λ fault w. IsDeep (Here fault) inner (q.depth w.part)) rest fault → ShownBy (BeginsThen p) (followed_tokens p) (λ fault w. IsDeep (Here fault) room (p.depth w.part)) before fault
+  shown_rest : (fault : Fault) → ShownBy (BeginsThen q) (followed_tokens q) (λ fault w. IsDeep (Here fault) inner (q.depth w.part)) rest fault → ShownBy (BeginsThen p) (followed_tokens p) (λ fault w. IsDeep (Here fault) room (p.depth w.part)) before fault
   shown_rest fault s = record {
     front = front ++ s.front;
     shown_by = s.shown_by;
     behind = s.behind;
     before_is = before_is ∙ ap (λ ts. front ++ ts) s.before_is ∙ sym (append_assoc front s.front (s.shown_by ∷ s.behind));
-    place_is = s.place_is;
+    left_is = s.left_is;
     begun = opens s.front s.begun;
     none = λ w more is.
         let i = there w (s.front ++ s.shown_by ∷ more) (is ∙ append_assoc front s.front (s.shown_by ∷ more)) in
@@ -231,10 +234,7 @@ module _ {A B : Type 0} (p : Production A) (room : ℕ) (q : Production B) (inne
   pub rest_refused : (stop : Stop) → TargetsRefused q inner rest stop → TargetsRefused p room before stop
   rest_refused (Here Memory) is = tt
   rest_refused (Here (Unexpected at)) is = shown_rest (Unexpected at) is
-  rest_refused (Here (Unsupported at)) (inl is) = inl (shown_rest (Unsupported at) is)
-  rest_refused (Here (Unsupported at)) (inr is) = inr (ended_rest (Here (Unsupported at)) is)
   rest_refused (Here (TooDeep at)) is = shown_rest (TooDeep at) is
-  rest_refused (Here (BadIndent at)) is = shown_rest (BadIndent at) is
   rest_refused (Here (TooMany at)) is = shown_rest (TooMany at) is
   rest_refused End is = ended_rest End is
 
@@ -299,7 +299,7 @@ first_full before middle behind at first (Here (TooDeep place)) f k deep = recor
   shown_by = token (Sign 6) k.spot;
   behind = behind;
   before_is = f.before_is ∙ ap (λ ts. one_target_tokens f.target ++ ts) k.before_is;
-  place_is = tt;
+  left_is = tt;
   begun = record { opened = one_target_tokens f.target; begins = record { some = one_target f.target; more = []; tokens_are = sym (append-nil (one_target_tokens f.target)) }; some = target_expr some_target; more = expr_tokens (target_expr some_target); tokens_are = refl };
   none = λ w more is.
       let s = several_there w f.target k.spot more is in
@@ -309,8 +309,6 @@ first_full before middle behind at first (Here (TooDeep place)) f k deep = recor
       omega (arith, deep, depth, high, height);
 }
 first_full before middle behind at first (Here (Unexpected place)) f k deep = absurd deep
-first_full before middle behind at first (Here (Unsupported place)) f k deep = absurd deep
-first_full before middle behind at first (Here (BadIndent place)) f k deep = absurd deep
 first_full before middle behind at first (Here (TooMany place)) f k deep = absurd deep
 first_full before middle behind at first (Here Memory) f k deep = absurd deep
 first_full before middle behind at first End f k deep = absurd deep
@@ -690,13 +688,3 @@ row_height empty row first low height_is = omega (arith, low, height_is)
 
 pub took_kept : (before : List Token) (tree : TargetTree) (after kept : List Token) → after ≡ kept → Took target_part target_tree before tree kept → Took target_part target_tree before tree after
 took_kept before tree after kept is took = subst (λ (ts : List Token). Took target_part target_tree before tree ts) (sym is) took
-
--- ---- a `:` where `in` has to stand
-
-no_in : (kind : TokenKind) → is_sign 7 kind ≡ true → is_keyword 22 kind ≡ false
-no_in (Keyword n) is = cc
-no_in kind is = refl
-
-pub colon_no_in : (before : List Token) (stop : Stop) → is_sign_next 7 before ≡ true → IsAtFirst before stop → Refused (one_keyword 22) 0 before stop
-colon_no_in [] stop colon at = cc
-colon_no_in (t ∷ ts) stop colon at = keyword_refused 22 (t ∷ ts) stop (no_in t.kind colon) at

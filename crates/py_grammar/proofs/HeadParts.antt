@@ -1,12 +1,11 @@
 -- The lines that begin compound statements: how what is read of a part, or not, tells what is read of the line.
 use Rattle.std.proofs.Common.{◌≡◌, inl, ℕ, ◌+◌, true, List, [], ◌∷◌, ◌++◌, Option, Some, None, refl, ap, sym, ◌∙◌, arith, subst, append_assoc, append-nil, if◌then◌else◌}
 use Rattle.std.specs.Bool.{⊤}
-use Rattle.prov_base.specs.declared.place.Pos.{Pos}
 use Rattle.py_lines.specs.declared.parts.Token.{Token}
 use Rattle.py_lines.specs.declared.parts.TokenKind.TheVariants.{Keyword, Sign}
 use Rattle.py_grammar.specs.declared.context.Limit.{Limit}
-use Rattle.py_grammar.specs.declared.fault.ParseFault.{ParseFault}
-use Rattle.py_grammar.specs.declared.fault.ParseFault.TheVariants.{Unexpected, Unsupported, BadIndent, TooDeep, TooMany, Memory}
+use Rattle.py_grammar.specs.declared.fault.Fault.{Fault}
+use Rattle.py_grammar.specs.declared.fault.Fault.TheVariants.{Unexpected, TooDeep, TooMany, Memory}
 use Rattle.py_grammar.specs.declared.fault.Stop.{Stop}
 use Rattle.py_grammar.specs.declared.fault.Stop.TheVariants.{Here, End}
 use Rattle.py_grammar.specs.declared.part.Part.{Part}
@@ -15,13 +14,14 @@ use Rattle.py_grammar.specs.Trees.{expr_tree}
 use Rattle.py_grammar.specs.Written.{Simple}
 use Rattle.py_grammar.specs.LineReader.{Head, head_tokens, then_read, read_colon, read_head}
 use Rattle.py_grammar.specs.Reader.{Read, next_level, starts, is_keyword, is_sign}
-use Rattle.py_grammar.specs.Parsed.{Production, Names, IsAtFirst, IsDeep, Only, Finds, Begins, Shown, Refused, Found, FoundRow, one_keyword, one_sign, one_name, expr_part, exprs_part}
+use Rattle.py_grammar.specs.Parsed.{Production, IsAtFirst, IsDeep, Only, Finds, Begins, Shown, Refused, Found, FoundRow, one_keyword, one_sign, one_name, expr_part, exprs_part}
 use Rattle.py_grammar.specs.ParsedRows.{first_token, IsRead}
-use Rattle.py_grammar.specs.ParsedHead.{Context, head_depth, IsAmissHead, MayNameLine, BeginsHead, ShownBy, EndedBy, HeadRefused}
+use Rattle.py_grammar.specs.ParsedHead.{Context, head_depth, IsAmissHead, ShowsOnLine, BeginsHead, ShownBy, EndedBy, HeadRefused}
 use Rattle.py_grammar.proofs.Reading.{expr_reads}
 use Rattle.py_grammar.proofs.RowReads.{row_reads}
 use Rattle.py_grammar.proofs.Refusals.{first_of, next_level_same}
 use Rattle.py_grammar.proofs.HeadReading.{head_reads}
+use Rattle.py_grammar.proofs.Stops.{shows_on_line}
 
 -- ---- what the reader gives
 
@@ -215,21 +215,19 @@ begins_part_head q front h tail spells tokens b = inl (record {
 amiss_deep : (c : Context) (given : List (List ℕ)) (limit : Option Limit) (stop : Stop) (h : Head) → IsDeep stop 100 (head_depth h) → IsAmissHead c given limit stop h
 amiss_deep c given limit (Here (TooDeep at)) h deep = inl deep
 amiss_deep c given limit (Here (Unexpected at)) h deep = absurd deep
-amiss_deep c given limit (Here (Unsupported at)) h deep = absurd deep
-amiss_deep c given limit (Here (BadIndent at)) h deep = absurd deep
 amiss_deep c given limit (Here (TooMany at)) h deep = absurd deep
 amiss_deep c given limit (Here Memory) h deep = absurd deep
 amiss_deep c given limit End h deep = absurd deep
 
 -- the tokens begin a line, and those up to and with the next one none that may stand there
-pub shown_head : (c : Context) (given : List (List ℕ)) (limit : Option Limit) (front : List Token) (t : Token) (behind before : List Token) (fault : ParseFault) → before ≡ front ++ t ∷ behind → MayNameLine t fault → BeginsHead front
+pub shown_head : (c : Context) (given : List (List ℕ)) (limit : Option Limit) (front : List Token) (t : Token) (behind before : List Token) (fault : Fault) → before ≡ front ++ t ∷ behind → ShowsOnLine t behind fault → BeginsHead front
     → ((more : List Token) → FindsHead (IsAmissHead c given limit (Here fault)) (front ++ t ∷ more)) → ShownBy BeginsHead head_tokens (λ fault a. IsAmissHead c given limit (Here fault) a) before fault
 shown_head c given limit front t behind before fault is named begun finds = record {
   front = front;
   shown_by = t;
   behind = behind;
   before_is = is;
-  place_is = named;
+  left_is = named;
   begun = begun;
   none = λ h more same. finds_written _ (front ++ t ∷ more) h (finds more) same;
 }
@@ -244,20 +242,18 @@ record StandsThere {B : Type 0} (q : Production B) (inner : ℕ) (front rest : L
   begins : (tokens : List Token) → Begins q tokens → BeginsHead (front ++ tokens)
   finds : (why : Stop) (more : List Token) → first_token more ≡ first_token rest → Finds (λ b. IsDeep why inner (q.depth b)) q.read more → FindsHead (λ h. IsDeep why 100 (head_depth h)) (front ++ more)
 
-shown_there : {B : Type 0} (c : Context) (given : List (List ℕ)) (limit : Option Limit) (q : Production B) (inner : ℕ) (front rest before : List Token) (fault : ParseFault) → before ≡ front ++ rest → StandsThere q inner front rest
-    → ((t : Token) → Names t fault → MayNameLine t fault) → Shown q inner rest fault → ShownBy BeginsHead head_tokens (λ fault a. IsAmissHead c given limit (Here fault) a) before fault
-shown_there c given limit q inner front rest before fault is part named s = shown_head c given limit (front ++ s.front) s.shown_by s.behind before fault
-    (is ∙ ap (λ ts. front ++ ts) s.before_is ∙ sym (append_assoc front s.front (s.shown_by ∷ s.behind))) (named s.shown_by s.place_is) (part.begins s.front s.begins)
+shown_there : {B : Type 0} (c : Context) (given : List (List ℕ)) (limit : Option Limit) (q : Production B) (inner : ℕ) (front rest before : List Token) (fault : Fault) → before ≡ front ++ rest → StandsThere q inner front rest
+    → Shown q inner rest fault → ShownBy BeginsHead head_tokens (λ fault a. IsAmissHead c given limit (Here fault) a) before fault
+shown_there c given limit q inner front rest before fault is part s = shown_head c given limit (front ++ s.front) s.shown_by s.behind before fault
+    (is ∙ ap (λ ts. front ++ ts) s.before_is ∙ sym (append_assoc front s.front (s.shown_by ∷ s.behind))) (shows_on_line s.shown_by s.behind fault s.left_is) (part.begins s.front s.begins)
     (λ more. finds_head_same _ _ _ (append_assoc front s.front (s.shown_by ∷ more))
     (finds_head_weaker _ _ _ (amiss_deep c given limit (Here fault)) (part.finds (Here fault) (s.front ++ s.shown_by ∷ more) (first_shown s.front s.shown_by more s.behind ∙ sym (ap first_token s.before_is)) (s.none more))))
 
 refused_there : {B : Type 0} (c : Context) (given : List (List ℕ)) (limit : Option Limit) (q : Production B) (inner : ℕ) (front rest before : List Token) (stop : Stop) → before ≡ front ++ rest → StandsThere q inner front rest → Refused q inner rest stop → HeadRefused c given limit before stop
 refused_there c given limit q inner front rest before (Here Memory) is part refused = tt
-refused_there c given limit q inner front rest before (Here (Unexpected at)) is part refused = shown_there c given limit q inner front rest before (Unexpected at) is part (λ at named. named) refused
-refused_there c given limit q inner front rest before (Here (Unsupported at)) is part refused = inl (shown_there c given limit q inner front rest before (Unsupported at) is part (λ at named. tt) refused)
-refused_there c given limit q inner front rest before (Here (TooDeep at)) is part refused = shown_there c given limit q inner front rest before (TooDeep at) is part (λ at named. tt) refused
-refused_there c given limit q inner front rest before (Here (BadIndent at)) is part refused = absurd refused.place_is
-refused_there c given limit q inner front rest before (Here (TooMany at)) is part refused = absurd refused.place_is
+refused_there c given limit q inner front rest before (Here (Unexpected at)) is part refused = shown_there c given limit q inner front rest before (Unexpected at) is part refused
+refused_there c given limit q inner front rest before (Here (TooDeep at)) is part refused = shown_there c given limit q inner front rest before (TooDeep at) is part refused
+refused_there c given limit q inner front rest before (Here (TooMany at)) is part refused = absurd refused.left_is
 refused_there c given limit q inner front rest before End is part refused =
     ended_line c given limit (front ++ rest) before End is (part.begins rest refused.0) (finds_head_weaker _ _ _ (amiss_deep c given limit End) (part.finds End rest refl refused.1))
 
@@ -271,7 +267,7 @@ refused_part_head c given limit q inner front rest before stop g is begins turns
     refused
 
 -- the tokens begin a line, and the next one fits nothing: this is how it is refused
-pub at_token_head : (c : Context) (given : List (List ℕ)) (limit : Option Limit) (front : List Token) (t : Token) (ts before : List Token) (fault : ParseFault) → before ≡ front ++ t ∷ ts → BeginsHead front → MayNameLine t fault
+pub at_token_head : (c : Context) (given : List (List ℕ)) (limit : Option Limit) (front : List Token) (t : Token) (ts before : List Token) (fault : Fault) → before ≡ front ++ t ∷ ts → BeginsHead front → ShowsOnLine t ts fault
     → ((more : List Token) → FindsHead (λ h. ⊥) (front ++ t ∷ more)) → ShownBy BeginsHead head_tokens (λ fault a. IsAmissHead c given limit (Here fault) a) before fault
 at_token_head c given limit front t ts before fault is begun named none =
     shown_head c given limit front t ts before fault is named begun (λ more. finds_head_weaker _ _ _ (λ h no. absurd no) (none more))
@@ -281,13 +277,11 @@ pub ended_head : (c : Context) (given : List (List ℕ)) (limit : Option Limit) 
     → (rest ≡ [] → FindsHead (λ h. ⊥) front) → ((t : Token) (ts more : List Token) → rest ≡ t ∷ ts → FindsHead (λ h. ⊥) (front ++ t ∷ more)) → HeadRefused c given limit before stop
 ended_head c given limit front [] before (Here fault) is begun at none_end none = absurd (not_end fault at)
   where
-    not_end : (fault : ParseFault) → Here fault ≡ End → ⊥
+    not_end : (fault : Fault) → Here fault ≡ End → ⊥
     not_end fault same = cc
 ended_head c given limit front [] before End is begun at none_end none =
     ended_line c given limit front before End (is ∙ append-nil front) begun (finds_head_weaker _ _ _ (λ h no. absurd no) (none_end refl))
 ended_head c given limit front (t ∷ ts) before (Here (Unexpected place)) is begun at none_end none = at_token_head c given limit front t ts before (Unexpected place) is begun at (λ more. none t ts more refl)
-ended_head c given limit front (t ∷ ts) before (Here (Unsupported place)) is begun at none_end none = inl (at_token_head c given limit front t ts before (Unsupported place) is begun tt (λ more. none t ts more refl))
-ended_head c given limit front (t ∷ ts) before (Here (BadIndent place)) is begun at none_end none = absurd at
 ended_head c given limit front (t ∷ ts) before (Here (TooDeep place)) is begun at none_end none = absurd at
 ended_head c given limit front (t ∷ ts) before (Here (TooMany place)) is begun at none_end none = absurd at
 ended_head c given limit front (t ∷ ts) before (Here Memory) is begun at none_end none = absurd at

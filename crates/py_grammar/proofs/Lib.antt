@@ -42,6 +42,9 @@ pub mod SharpReads
 pub mod SimpleParts
 pub mod SimpleReading
 pub mod SimpleRefusals
+pub mod SpelledForms
+pub mod SpelledRows
+pub mod SpelledWhole
 pub mod Stops
 pub mod Taking
 pub mod TargetForms

@@ -6,8 +6,8 @@ use Rattle.py_lines.specs.declared.parts.TokenKind.TheVariants.{Keyword, Sign}
 use Rattle.py_tree.specs.declared.stmt.Form.{Form}
 use Rattle.py_tree.specs.declared.stmt.Globals.{Globals}
 use Rattle.py_grammar.specs.declared.context.Limit.{Limit}
-use Rattle.py_grammar.specs.declared.fault.ParseFault.{ParseFault}
-use Rattle.py_grammar.specs.declared.fault.ParseFault.TheVariants.{Unexpected, Unsupported, BadIndent, TooDeep, TooMany, Memory}
+use Rattle.py_grammar.specs.declared.fault.Fault.{Fault}
+use Rattle.py_grammar.specs.declared.fault.Fault.TheVariants.{Unexpected, TooDeep, TooMany, Memory}
 use Rattle.py_grammar.specs.declared.fault.Stop.{Stop}
 use Rattle.py_grammar.specs.declared.fault.Stop.TheVariants.{Here, End}
 use Rattle.py_grammar.specs.declared.head.What.{What}
@@ -21,7 +21,7 @@ use Rattle.py_grammar.specs.WellPlaced.{Around, simple_stands}
 use Rattle.py_grammar.specs.LineReader.{Head, simple_head, else_head, try_head, global_head, head_tokens}
 use Rattle.py_grammar.specs.Parsed.{IsAtFirst, Taken, Refused, one_sign}
 use Rattle.py_grammar.specs.ParsedSimple.{BeginsSimple}
-use Rattle.py_grammar.specs.ParsedHead.{Context, lacks_handler, kind_may, may_begin, is_compound_kind, begins_compound, PlacedFound, HeadFound, OpeningFound, OpeningRefused, BehindFound, BehindRefused, inner_around, is_compound, IsAmissPlaced, IsAmissHead, MayNameLine, BeginsHead, ShownBy, EndedBy, PlacedRefused, HeadRefused, IsFirstRefused, GlobalFound, GlobalRefused, word_may, Misplaced}
+use Rattle.py_grammar.specs.ParsedHead.{Context, lacks_handler, kind_may, may_begin, is_compound_kind, begins_compound, PlacedFound, HeadFound, OpeningFound, OpeningRefused, BehindFound, BehindRefused, inner_around, is_compound, IsAmissPlaced, IsAmissHead, ShowsOnLine, BeginsHead, ShownBy, EndedBy, PlacedRefused, HeadRefused, IsFirstRefused, GlobalFound, GlobalRefused, word_may, Misplaced}
 use Rattle.py_grammar.proofs.Stops.{some_spot}
 use Rattle.py_grammar.proofs.HeadParts.{spelled_head}
 use Rattle.py_grammar.proofs.ColonParts.{colon_refused, behind_refused, line_found}
@@ -30,24 +30,22 @@ use Rattle.py_grammar.proofs.LineFirsts.{and_false, both_true, simple_some, head
 
 -- ---- where no line may begin
 
-at_first_token : (c : Context) (given : List (List ℕ)) (limit : Option Limit) (t : Token) (behind : List Token) (fault : ParseFault) → MayNameLine t fault → ((h : Head) (more : List Token) → head_tokens h ≡ t ∷ more → IsAmissHead c given limit (Here fault) h)
+at_first_token : (c : Context) (given : List (List ℕ)) (limit : Option Limit) (t : Token) (behind : List Token) (fault : Fault) → ShowsOnLine t behind fault → ((h : Head) (more : List Token) → head_tokens h ≡ t ∷ more → IsAmissHead c given limit (Here fault) h)
     → ShownBy BeginsHead head_tokens (λ fault a. IsAmissHead c given limit (Here fault) a) (t ∷ behind) fault
 at_first_token c given limit t behind fault at_it none = record {
   front = [];
   shown_by = t;
   behind = behind;
   before_is = refl;
-  place_is = at_it;
+  left_is = at_it;
   begun = spelled_head (simple_head (pass some_spot)) [] (simple_tokens (pass some_spot)) refl;
   none = none;
 }
 
 pub misplaced_refused : (c : Context) (t : Token) (behind : List Token) (stop : Stop) → kind_may c t.kind ≡ false → IsAtFirst (t ∷ behind) stop → Misplaced c (t ∷ behind) stop
 misplaced_refused c t behind (Here (Unexpected place)) absent at = record { there = λ given limit. at_first_token c given limit t behind (Unexpected place) at (λ h more same. misplaced_head c given h t more same absent) }
-misplaced_refused c t behind (Here (Unsupported place)) absent at = record { there = λ given limit. inl (at_first_token c given limit t behind (Unsupported place) tt (λ h more same. misplaced_head c given h t more same absent)) }
 misplaced_refused c t behind (Here (TooDeep place)) absent at = absurd at
 misplaced_refused c t behind (Here (TooMany place)) absent at = absurd at
-misplaced_refused c t behind (Here (BadIndent place)) absent at = absurd at
 misplaced_refused c t behind (Here Memory) absent at = absurd at
 misplaced_refused c t behind End absent at = absurd at
 
@@ -78,10 +76,8 @@ amiss_simple c given limit (Here (TooDeep at)) s (inl deep) = inl deep
 amiss_simple c given limit (Here (TooDeep at)) s (inr absent) = cc
 amiss_simple c given limit (Here (TooMany at)) s absent = cc
 amiss_simple c given limit (Here (Unexpected at)) s amiss = and_false _ (simple_stands c.around s) amiss
-amiss_simple c given limit (Here (Unsupported at)) s amiss = and_false _ (simple_stands c.around s) amiss
-amiss_simple c given limit (Here (BadIndent at)) s amiss = absurd amiss
 amiss_simple c given limit (Here Memory) s amiss = absurd amiss
-amiss_simple c given limit End s amiss = absurd amiss
+amiss_simple c given limit End s amiss = and_false _ (simple_stands c.around s) amiss
 
 begins_simple_line : (tokens : List Token) → BeginsSimple tokens → BeginsHead tokens
 begins_simple_line tokens (inl b) = inl (record { some = simple_head b.some; more = b.more; tokens_are = b.tokens_are })
@@ -104,14 +100,14 @@ same_begins : (front : List Token) (t : Token) (a b : List Token) → begins_com
 same_begins [] t a b = refl
 same_begins (first ∷ front) t a b = refl
 
-simple_shown : (c : Context) (given : List (List ℕ)) (limit : Option Limit) (before : List Token) (fault : ParseFault) → begins_compound before ≡ false → ShownBy BeginsSimple simple_tokens (λ fault a. IsAmissPlaced c.around None (Here fault) a) before fault
+simple_shown : (c : Context) (given : List (List ℕ)) (limit : Option Limit) (before : List Token) (fault : Fault) → begins_compound before ≡ false → ShownBy BeginsSimple simple_tokens (λ fault a. IsAmissPlaced c.around None (Here fault) a) before fault
     → ShownBy BeginsHead head_tokens (λ fault a. IsAmissHead c given limit (Here fault) a) before fault
 simple_shown c given limit before fault absent s = record {
   front = s.front;
   shown_by = s.shown_by;
   behind = s.behind;
   before_is = s.before_is;
-  place_is = s.place_is;
+  left_is = s.left_is;
   begun = begins_simple_line s.front s.begun;
   none = λ h more same. only_simple (IsAmissHead c given limit (Here fault)) (s.front ++ s.shown_by ∷ more) h (same_begins s.front s.shown_by more s.behind ∙ sym (ap begins_compound s.before_is) ∙ absent) same
       (λ a is. amiss_simple c given limit (Here fault) a (s.none a more is));
@@ -129,9 +125,6 @@ simple_line_refused c given limit before (Here Memory) absent is = tt
 simple_line_refused c given limit before (Here (Unexpected at)) absent is = simple_shown c given limit before (Unexpected at) absent is
 simple_line_refused c given limit before (Here (TooDeep at)) absent is = simple_shown c given limit before (TooDeep at) absent is
 simple_line_refused c given limit before (Here (TooMany at)) absent is = simple_shown c given limit before (TooMany at) absent is
-simple_line_refused c given limit before (Here (BadIndent at)) absent is = absurd is.place_is
-simple_line_refused c given limit before (Here (Unsupported at)) absent (inl is) = inl (simple_shown c given limit before (Unsupported at) absent is)
-simple_line_refused c given limit before (Here (Unsupported at)) absent (inr is) = inr (simple_ended c given limit before (Here (Unsupported at)) absent is)
 simple_line_refused c given limit before End absent is = simple_ended c given limit before End absent is
 
 -- ---- `global`

@@ -1,5 +1,5 @@
 -- The lines that begin with a name behind their keyword, `def` and `class`: what is read of them, and how they are refused.
-use Rattle.std.proofs.Common.{◌≡◌, inl, ℕ, ◌+◌, Bool, true, false, not, ◌&&◌, ◌||◌, List, [], ◌∷◌, ◌++◌, Option, Some, None, option_map, refl, ap, sym, ◌∙◌, arith, append_assoc, if◌then◌else◌}
+use Rattle.std.proofs.Common.{◌≡◌, ℕ, ◌+◌, Bool, true, false, not, ◌&&◌, ◌||◌, List, [], ◌∷◌, ◌++◌, Option, Some, None, option_map, refl, ap, sym, ◌∙◌, arith, append_assoc, if◌then◌else◌, length}
 use Rattle.prov_base.specs.declared.place.Pos.{Pos}
 use Rattle.py_lines.specs.declared.parts.Token.{Token}
 use Rattle.py_lines.specs.declared.parts.TokenKind.TheVariants.{Word, Keyword, Sign}
@@ -7,7 +7,7 @@ use Rattle.py_tree.specs.declared.expr.Expr.{Expr as ExprRead}
 use Rattle.py_tree.specs.declared.stmt.Params.{Params as ParamsRead}
 use Rattle.py_tree.specs.Erasure.{expr_of}
 use Rattle.py_grammar.specs.declared.context.Limit.{Limit}
-use Rattle.py_grammar.specs.declared.fault.ParseFault.TheVariants.{Unexpected, Unsupported, BadIndent, TooDeep, TooMany, Memory}
+use Rattle.py_grammar.specs.declared.fault.Fault.TheVariants.{Unexpected, TooDeep, TooMany, Memory}
 use Rattle.py_grammar.specs.declared.fault.Stop.{Stop}
 use Rattle.py_grammar.specs.declared.fault.Stop.TheVariants.{Here, End}
 use Rattle.py_grammar.specs.declared.head.What.TheVariants.{Def, Class}
@@ -46,8 +46,6 @@ only_colon P n made (t ∷ ts) each = by (is_sign 7 t.kind) (read_behind n ts)
 pub not_deep_there : (why : Stop) → IsDeep why 100 0 → ⊥
 not_deep_there (Here (TooDeep at)) deep = absurd (omega (arith, deep))
 not_deep_there (Here (Unexpected at)) deep = deep
-not_deep_there (Here (Unsupported at)) deep = deep
-not_deep_there (Here (BadIndent at)) deep = deep
 not_deep_there (Here (TooMany at)) deep = deep
 not_deep_there (Here Memory) deep = deep
 not_deep_there End deep = deep
@@ -149,17 +147,17 @@ no_method true false i false d x inner other = refl
 no_method false false true false d x inner other = refl
 no_method false false false false d x inner other = refl
 
-pub def_no_method : (c : Context) (place : Pos) (name : List ℕ) (before after : List Token) → TakenName before place name after → c.around.at_module_level ≡ false → may_be_method name ≡ false → OpeningRefused c 11 before (Here (Unsupported place))
-def_no_method c place name before after f inner other = record {
-  there = λ given limit spot. inl (shown_head c given limit (token (Keyword 11) spot ∷ []) (token (Word name) f.spot) after (token (Keyword 11) spot ∷ before) (Unsupported place)
-      (ap (λ ts. token (Keyword 11) spot ∷ ts) f.before_is) tt
+pub def_no_method : (c : Context) (place : Pos) (name : List ℕ) (before after : List Token) (left : ℕ) → TakenName before place name after → c.around.at_module_level ≡ false → may_be_method name ≡ false → left ≡ length after → OpeningRefused c 11 before (Here (Unexpected left))
+def_no_method c place name before after left f inner other counted = record {
+  there = λ given limit spot. shown_head c given limit (token (Keyword 11) spot ∷ []) (token (Word name) f.spot) after (token (Keyword 11) spot ∷ before) (Unexpected left)
+      (ap (λ ts. token (Keyword 11) spot ∷ ts) f.before_is) counted
       (spelled_head (def_head spot f.spot name some_spot no_params some_spot some_spot None) (token (Keyword 11) spot ∷ []) _ refl)
       (λ more. record {
         steps = 0;
         only = λ n. only_then _ (read_sign 0 more) _ (λ opening more_2. only_then _ (read_params (n + 0) more_2) _ (λ names more_3. only_then _ (read_sign 1 more_3) _ (λ closing rest.
             only_colon _ (n + 0) (def_head spot f.spot name opening names closing) rest
             (λ colon behind. no_method (lacks_handler c.last) c.around.at_module_level c.around.in_class (may_be_method name) (are_different (params_list names)) (behind_stands in_def_suite behind) inner other))));
-      }));
+      });
 }
 
 -- two parameters have one name
@@ -176,8 +174,6 @@ repeated_amiss : (c : Context) (given : List (List ℕ)) (limit : Option Limit) 
     → OnlyHead (IsAmissHead c given limit why) (def_bracket spot name_at name n w left)
 repeated_amiss c given limit spot name_at name (Here (Unexpected at)) n w left is = only_colon _ n (def_head spot name_at name w.0 w.1 w.2) left
     (λ colon behind. not_different (lacks_handler c.last) c.around.at_module_level c.around.in_class (may_be_method name) (are_different (params_list w.1)) (behind_stands in_def_suite behind) is)
-repeated_amiss c given limit spot name_at name (Here (Unsupported at)) n w left is = absurd is
-repeated_amiss c given limit spot name_at name (Here (BadIndent at)) n w left is = absurd is
 repeated_amiss c given limit spot name_at name (Here (TooDeep at)) n w left is = absurd is
 repeated_amiss c given limit spot name_at name (Here (TooMany at)) n w left is = absurd is
 repeated_amiss c given limit spot name_at name (Here Memory) n w left is = absurd is

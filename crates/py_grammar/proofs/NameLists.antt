@@ -1,5 +1,5 @@
 -- Names in a row, one after the other: what is read of them, and how they are refused.
-use Rattle.std.proofs.Common.{◌≡◌, ℕ, zero, suc, ◌+◌, ◌<◌, Bool, true, false, not, ◌&&◌, ◌||◌, ◌==◌, List, [], ◌∷◌, ◌++◌, Some, None, refl, ap, sym, ◌∙◌, arith, subst, append_assoc, append-nil, if◌then◌else◌, Option}
+use Rattle.std.proofs.Common.{◌≡◌, ℕ, zero, suc, ◌+◌, ◌<◌, Bool, true, false, not, ◌&&◌, ◌||◌, ◌==◌, List, [], ◌∷◌, ◌++◌, Some, None, refl, ap, sym, ◌∙◌, arith, subst, append_assoc, append-nil, if◌then◌else◌, Option, length}
 use Rattle.std.specs.Prelude.{nat_lt, length, take, drop, codes, ◌-◌}
 use Rattle.std.proofs.Math.Dec.{eqb}
 use Rattle.std.specs.List.{starts_with, ends_with}
@@ -12,7 +12,7 @@ use Rattle.py_lines.specs.declared.parts.TokenKind.{TokenKind}
 use Rattle.py_lines.specs.declared.parts.TokenKind.TheVariants.{Word, Keyword, Number, Text, Sign}
 use Rattle.py_tree.specs.declared.stmt.Globals.{Globals}
 use Rattle.py_grammar.specs.declared.context.Limit.{Limit}
-use Rattle.py_grammar.specs.declared.fault.ParseFault.TheVariants.{Unexpected, Unsupported, BadIndent, TooDeep, TooMany, Memory}
+use Rattle.py_grammar.specs.declared.fault.Fault.TheVariants.{Unexpected, TooDeep, TooMany, Memory}
 use Rattle.py_grammar.specs.declared.fault.Stop.{Stop}
 use Rattle.py_grammar.specs.declared.fault.Stop.TheVariants.{Here, End}
 use Rattle.py_grammar.specs.Concrete.{Spot}
@@ -294,19 +294,19 @@ only_whole P None only = tt
 only_whole P (Some (w, [])) only = only
 only_whole P (Some (w, t ∷ ts)) only = tt
 
-pub others_given : (given : List (List ℕ)) (before after middle : List Token) (list : List (List ℕ)) (place : Pos) (name : List ℕ) → OthersGo given before list after → TakenName after place name middle → is_in name given ≡ true
-    → RefusedAmiss all_names (IsGiven given) before (Here (Unexpected place))
-others_given given before after middle list place name g f there = record {
+pub others_given : (given : List (List ℕ)) (before after middle : List Token) (list : List (List ℕ)) (place : Pos) (name : List ℕ) (left : ℕ) → OthersGo given before list after → TakenName after place name middle → is_in name given ≡ true → left ≡ length middle
+    → RefusedAmiss all_names (IsGiven given) before (Here (Unexpected left))
+others_given given before after middle list place name left g f there counted = record {
   front = g.go.front;
   shown_by = token (Word name) f.spot;
   behind = middle;
   before_is = g.go.before_is ∙ ap (λ ts. g.go.front ++ ts) f.before_is;
-  place_is = (sym f.at_is, refl);
+  left_is = counted;
   begins = begins_front before after list g.go f.spot name;
   none = λ more. record {
     steps = 1 + g.go.steps;
-    only = λ n. only_whole (IsGiven given (Here (Unexpected place))) (read_names (n + (1 + g.go.steps)) (g.go.front ++ token (Word name) f.spot ∷ more))
-        (put_first before after list name (IsGiven given (Here (Unexpected place))) g.go (λ w others is. ap (none_given given) is ∙ given_there given list name others there) f.spot more n);
+    only = λ n. only_whole (IsGiven given (Here (Unexpected left))) (read_names (n + (1 + g.go.steps)) (g.go.front ++ token (Word name) f.spot ∷ more))
+        (put_first before after list name (IsGiven given (Here (Unexpected left))) g.go (λ w others is. ap (none_given given) is ∙ given_there given list name others there) f.spot more n);
   };
 }
 
@@ -348,8 +348,6 @@ given_amiss c given limit spot (Here (Unexpected at)) names is = by (word_may c 
     by : (a b : Bool) → b ≡ false → (a && b) ≡ false
     by true b is = is
     by false b is = refl
-given_amiss c given limit spot (Here (Unsupported at)) names is = absurd is
-given_amiss c given limit spot (Here (BadIndent at)) names is = absurd is
 given_amiss c given limit spot (Here (TooDeep at)) names is = absurd is
 given_amiss c given limit spot (Here (TooMany at)) names is = absurd is
 given_amiss c given limit spot (Here Memory) names is = absurd is
@@ -365,8 +363,6 @@ global_refused given before stop is = record {
 more_at : (rest : List Token) (stop : Stop) → IsMore rest stop → IsAtFirst rest stop
 more_at [] stop is = absurd is
 more_at (t ∷ ts) (Here (Unexpected place)) is = is
-more_at (t ∷ ts) (Here (Unsupported place)) is = is
-more_at (t ∷ ts) (Here (BadIndent place)) is = absurd is
 more_at (t ∷ ts) (Here (TooDeep place)) is = absurd is
 more_at (t ∷ ts) (Here (TooMany place)) is = absurd is
 more_at (t ∷ ts) (Here Memory) is = absurd is
@@ -502,21 +498,21 @@ only_params P None only = tt
 only_params P (Some (w, [])) only = only.0
 only_params P (Some (w, t ∷ ts)) only = only_if P (is_sign 6 t.kind) (Some (params_comma w (record { at = t.at; span = t.span }), ts)) (Some (params w, t ∷ ts)) (only.1 _) only.0
 
-pub different_repeated : (before after middle : List Token) (list : List (List ℕ)) (place : Pos) (name : List ℕ) → DifferentGo before list after → TakenName after place name middle → is_in name list ≡ true
-    → RefusedAmiss params_part IsRepeated before (Here (Unexpected place))
-different_repeated before after middle list place name g f there = record {
+pub different_repeated : (before after middle : List Token) (list : List (List ℕ)) (place : Pos) (name : List ℕ) (left : ℕ) → DifferentGo before list after → TakenName after place name middle → is_in name list ≡ true → left ≡ length middle
+    → RefusedAmiss params_part IsRepeated before (Here (Unexpected left))
+different_repeated before after middle list place name left g f there counted = record {
   front = g.go.front;
   shown_by = token (Word name) f.spot;
   behind = middle;
   before_is = g.go.before_is ∙ ap (λ ts. g.go.front ++ ts) f.before_is;
-  place_is = (sym f.at_is, refl);
+  left_is = counted;
   begins = record { some = params (g.go.put (last_name f.spot name)); more = word name f.spot; tokens_are = g.go.tokens_are (last_name f.spot name) };
   none = λ more. record {
     steps = 1 + g.go.steps;
-    only = λ n. only_is (IsRepeated (Here (Unexpected place))) _ _
+    only = λ n. only_is (IsRepeated (Here (Unexpected left))) _ _
         (if_true (begins_name (g.go.front ++ token (Word name) f.spot ∷ more)) (go_on (read_names (n + (1 + g.go.steps)) (g.go.front ++ token (Word name) f.spot ∷ more)) params_after) (Some (no_params, g.go.front ++ token (Word name) f.spot ∷ more))
         (g.go.opens (token (Word name) f.spot ∷ more) refl))
-        (only_params (IsRepeated (Here (Unexpected place))) (read_names (n + (1 + g.go.steps)) (g.go.front ++ token (Word name) f.spot ∷ more))
+        (only_params (IsRepeated (Here (Unexpected left))) (read_names (n + (1 + g.go.steps)) (g.go.front ++ token (Word name) f.spot ∷ more))
         (put_first before after list name (λ w. (are_different (names_list w) ≡ false) × ((comma : Spot) → are_different (names_list w) ≡ false)) g.go
         (λ w others is. let no : are_different (names_list w) ≡ false = ap are_different is ∙ repeated list name others there in (no, λ comma. no)) f.spot more n));
   };
@@ -537,10 +533,8 @@ none_reads (t ∷ ts) starts finds = by t.at t.span t.kind ts starts (finds.only
 name_memory : (ts : List Token) (stop : Stop) → begins_name ts ≡ true → Refused one_name 0 ts stop → IsMemory stop
 name_memory ts (Here Memory) starts is = refl
 name_memory ts (Here (Unexpected at)) starts is = absurd (none_reads ts starts (finds_same _ one_name.read _ _ is.before_is (is.none is.behind)))
-name_memory ts (Here (Unsupported at)) starts is = absurd (none_reads ts starts (finds_same _ one_name.read _ _ is.before_is (is.none is.behind)))
 name_memory ts (Here (TooDeep at)) starts is = absurd (none_reads ts starts (finds_weaker _ _ one_name.read _ (λ b deep. not_deep (Here (TooDeep at)) deep) (finds_same _ one_name.read _ _ is.before_is (is.none is.behind))))
-name_memory ts (Here (BadIndent at)) starts is = absurd is.place_is
-name_memory ts (Here (TooMany at)) starts is = absurd is.place_is
+name_memory ts (Here (TooMany at)) starts is = absurd is.left_is
 name_memory ts End starts is = absurd (none_reads ts starts is.1)
 
 pub different_name : (before after : List Token) (stop : Stop) → begins_name after ≡ true → Refused one_name 0 after stop → RefusedAmiss params_part IsRepeated before stop

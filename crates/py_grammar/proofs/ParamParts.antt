@@ -1,25 +1,23 @@
 -- Parameters in their brackets: what is read of them, and how they are refused.
-use Rattle.std.proofs.Common.{◌≡◌, ℕ, ◌+◌, ◌==◌, Bool, true, false, List, [], ◌∷◌, ◌++◌, Some, None, refl, ap, sym, ◌∙◌, append_assoc, append-nil, if◌then◌else◌}
-use Rattle.std.proofs.lemmas.Bool.{eqb-true}
+use Rattle.std.proofs.Common.{◌≡◌, ℕ, ◌+◌, List, [], ◌∷◌, ◌++◌, Some, refl, ap, sym, ◌∙◌, append_assoc, append-nil}
 use Rattle.prov_base.specs.declared.place.Pos.{Pos}
 use Rattle.py_lines.specs.declared.parts.Token.{Token}
 use Rattle.py_lines.specs.declared.parts.TokenKind.TheVariants.{Sign}
-use Rattle.py_lines.specs.declared.parts.TokenKind.{TokenKind}
 use Rattle.py_grammar.specs.declared.fault.Stop.{Stop}
 use Rattle.py_grammar.specs.Concrete.{Spot}
 use Rattle.py_grammar.specs.Tokens.{token}
 use Rattle.py_grammar.specs.Written.{Params, no_params}
 use Rattle.py_grammar.specs.StatementTokens.{params_tokens}
-use Rattle.py_grammar.specs.Reader.{go_on, is_sign, read_sign}
+use Rattle.py_grammar.specs.Reader.{go_on, read_sign}
 use Rattle.py_grammar.specs.LineReader.{read_params}
-use Rattle.py_grammar.specs.Parsed.{Refused, Taken, one_sign, is_sign_next, IsAtFirst}
+use Rattle.py_grammar.specs.Parsed.{Refused, Taken, one_sign}
 use Rattle.py_grammar.specs.ParsedRows.{first_token, IsRead}
 use Rattle.py_grammar.specs.ParsedHead.{params_part}
 use Rattle.py_grammar.specs.ParsedNames.{RefusedAmiss, IsRepeated, DifferentFound, bracket_part, ParamsFound, IsRepeatedIn}
 use Rattle.py_grammar.proofs.Refusals.{Inside, only_any, only_go_on, only_is, refused_inside, refused_same}
 use Rattle.py_grammar.proofs.ClosedParts.{first_same, not_deep}
 use Rattle.py_grammar.proofs.Stops.{some_spot}
-use Rattle.py_grammar.proofs.AmissParts.{AmissInside, amiss_inside, amiss_of_refused, amiss_same, amiss_here, begins_with}
+use Rattle.py_grammar.proofs.AmissParts.{AmissInside, amiss_inside, amiss_of_refused, amiss_same, begins_with}
 
 -- ---- the opening bracket
 
@@ -66,21 +64,6 @@ pub closing_refused : (at : Pos) (before behind after : List Token) (list : List
 closing_refused at before behind after list stop k f is = amiss_of_refused bracket_part 0 IsRepeatedIn before stop (λ why w deep. absurd (not_deep why deep))
     (refused_same bracket_part 0 before _ stop (front_is at before behind after list k f)
     (refused_inside bracket_part 0 (one_sign 1) 0 (token (Sign 0) k.spot ∷ params_tokens f.written) after stop (closing_inside k.spot f.written after f.is_read) is))
-
-no_closing : (kind : TokenKind) → is_sign 7 kind ≡ true → is_sign 1 kind ≡ false
-no_closing (Sign n) is = ap (λ n. n == 1) (eqb-true n 7 is)
-no_closing kind is = cc
-
-pub colon_refused : (at : Pos) (before behind after : List Token) (list : List (List ℕ)) (stop : Stop) → Taken (Sign 0) before at behind → DifferentFound behind list after → is_sign_next 7 after ≡ true → IsAtFirst after stop → RefusedAmiss bracket_part IsRepeatedIn before stop
-colon_refused at before behind after list stop k f colon first = amiss_here bracket_part IsRepeatedIn before (token (Sign 0) k.spot ∷ params_tokens f.written) after stop (front_is at before behind after list k f) first
-    (record { some = (k.spot, f.written, some_spot); more = token (Sign 1) some_spot ∷ []; tokens_are = refl })
-    (λ empty. absurd (let no : false ≡ true = sym (ap (is_sign_next 7) empty) ∙ colon in cc))
-    (λ t ts more is. record {
-      steps = f.is_read.steps;
-      only = λ n. only_is _ _ None
-          (ap (λ r. go_on r (λ names more_2. go_on (read_sign 1 more_2) (λ closing rest. Some ((k.spot, names, closing), rest)))) (f.is_read.reads n (t ∷ more) (sym (ap first_token is)))
-          ∙ ap (λ (b : Bool). go_on (if b then Some (record { at = t.at; span = t.span }, more) else None) (λ closing rest. Some ((k.spot, f.written, closing), rest))) (no_closing t.kind (sym (ap (is_sign_next 7) is) ∙ colon))) tt;
-    })
 
 -- ---- all is read
 

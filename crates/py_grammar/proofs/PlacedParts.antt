@@ -2,15 +2,14 @@
 use Rattle.std.proofs.Common.{◌≡◌, inl, inr, ℕ, ◌+◌, Bool, true, false, not, List, [], ◌∷◌, ◌++◌, length, Option, Some, None, is_some, refl, ap, sym, ◌∙◌, arith, subst}
 use Rattle.std.specs.Prelude.{◌&&◌, ◌||◌, ◌==◌}
 use Rattle.std.proofs.lemmas.Bool.{eqb-true}
-use Rattle.prov_base.specs.declared.place.Pos.{Pos}
 use Rattle.py_lines.specs.declared.parts.Token.{Token}
 use Rattle.py_lines.specs.declared.parts.TokenKind.{TokenKind}
 use Rattle.py_lines.specs.declared.parts.TokenKind.TheVariants.{Word, Keyword, Number, Text, Sign}
 use Rattle.py_tree.specs.declared.stmt.Form.{Form}
 use Rattle.py_grammar.specs.declared.context.Limit.{Limit}
 use Rattle.py_grammar.specs.declared.context.Limit.TheVariants.{Number as ByNumber, Depth as ByDepth}
-use Rattle.py_grammar.specs.declared.fault.ParseFault.{ParseFault}
-use Rattle.py_grammar.specs.declared.fault.ParseFault.TheVariants.{Unexpected, Unsupported, BadIndent, TooDeep, TooMany, Memory}
+use Rattle.py_grammar.specs.declared.fault.Fault.{Fault}
+use Rattle.py_grammar.specs.declared.fault.Fault.TheVariants.{Unexpected, TooDeep, TooMany, Memory}
 use Rattle.py_grammar.specs.declared.fault.Stop.{Stop}
 use Rattle.py_grammar.specs.declared.fault.Stop.TheVariants.{Here, End}
 use Rattle.py_grammar.specs.Concrete.{plain_expr, plain_or, plain_and, plain_not, plain_cmp, plain_sum, plain_term, plain_unary, plain_prim, text, one_expr}
@@ -21,9 +20,9 @@ use Rattle.py_grammar.specs.WellPlaced.{Around, form_stands, simple_stands, are_
 use Rattle.py_grammar.specs.Reader.{spot_of}
 use Rattle.py_grammar.specs.StatementReader.{read_simple}
 use Rattle.py_grammar.specs.Parsed.{Only, Finds}
-use Rattle.py_grammar.specs.ParsedSimple.{leaving_none, simple_part, SimpleFound, IsAmiss, BeginsSimple, SimpleShown, SimpleEnds, SimpleRefused, MayName}
-use Rattle.py_grammar.specs.ParsedHead.{PlacedFound, IsAmissPlaced, begins_at, ShownBy, EndedBy, PlacedRefused, BehindRefused, BehindFound, is_compound_kind, may_be_alone, is_refused_kind, is_text_kind, limit_fault, IsRefusedInClass, MayNameLine}
-use Rattle.py_grammar.proofs.Stops.{some_spot}
+use Rattle.py_grammar.specs.ParsedSimple.{leaving_none, simple_part, SimpleFound, IsAmiss, BeginsSimple, SimpleShown, SimpleEnds, SimpleRefused}
+use Rattle.py_grammar.specs.ParsedHead.{PlacedFound, IsAmissPlaced, begins_at, ShownBy, EndedBy, PlacedRefused, BehindRefused, BehindFound, is_compound_kind, may_be_alone, is_refused_kind, is_text_kind, limit_fault, IsRefusedInClass, ShowsOnLine, left_in_class}
+use Rattle.py_grammar.proofs.Stops.{some_spot, shows_on_line}
 use Rattle.py_grammar.proofs.SimpleReading.{simple_reads}
 use Rattle.py_grammar.proofs.SimpleParts.{nothing_there}
 use Rattle.py_grammar.proofs.LineFirsts.{and_false, simple_not_compound, simple_some, pass_is_alone, not_nothing}
@@ -40,19 +39,17 @@ finds_simple P ts s finds is =
 amiss_placed : (around : Around) (limit : Option Limit) (stop : Stop) (s : Simple) → IsAmiss around stop s → IsAmissPlaced around limit stop s
 amiss_placed around limit (Here (TooDeep at)) s deep = inl deep
 amiss_placed around limit (Here (Unexpected at)) s amiss = and_false _ (form_stands around (simple_form s)) amiss
-amiss_placed around limit (Here (Unsupported at)) s amiss = and_false _ (form_stands around (simple_form s)) amiss
-amiss_placed around limit (Here (BadIndent at)) s amiss = absurd amiss
 amiss_placed around limit (Here (TooMany at)) s amiss = absurd amiss
 amiss_placed around limit (Here Memory) s amiss = absurd amiss
-amiss_placed around limit End s amiss = absurd amiss
+amiss_placed around limit End s amiss = and_false _ (form_stands around (simple_form s)) amiss
 
-placed_shown : (around : Around) (limit : Option Limit) (before : List Token) (fault : ParseFault) → SimpleShown around before fault → ((t : Token) → MayName t fault → MayNameLine t fault) → ShownBy BeginsSimple simple_tokens (λ fault a. IsAmissPlaced around limit (Here fault) a) before fault
-placed_shown around limit before fault s named = record {
+placed_shown : (around : Around) (limit : Option Limit) (before : List Token) (fault : Fault) → SimpleShown around before fault → ShownBy BeginsSimple simple_tokens (λ fault a. IsAmissPlaced around limit (Here fault) a) before fault
+placed_shown around limit before fault s = record {
   front = s.front;
   shown_by = s.shown_by;
   behind = s.behind;
   before_is = s.before_is;
-  place_is = named s.shown_by s.place_is;
+  left_is = shows_on_line s.shown_by s.behind fault s.left_is;
   begun = s.begins;
   none = λ a more same. amiss_placed around limit (Here fault) a (finds_simple _ (s.front ++ s.shown_by ∷ more) a (s.none more) same);
 }
@@ -62,12 +59,9 @@ placed_ended around limit before stop e = record { begun = e.begins; none = λ a
 
 pub placed_refused : (around : Around) (limit : Option Limit) (before : List Token) (stop : Stop) → SimpleRefused around before stop → PlacedRefused around limit before stop
 placed_refused around limit before (Here Memory) is = tt
-placed_refused around limit before (Here (Unexpected at)) is = placed_shown around limit before (Unexpected at) is (λ place named. named)
-placed_refused around limit before (Here (TooDeep at)) is = placed_shown around limit before (TooDeep at) is (λ place named. tt)
-placed_refused around limit before (Here (TooMany at)) is = absurd is.place_is
-placed_refused around limit before (Here (BadIndent at)) is = absurd is.place_is
-placed_refused around limit before (Here (Unsupported at)) (inl is) = inl (placed_shown around limit before (Unsupported at) is (λ place named. tt))
-placed_refused around limit before (Here (Unsupported at)) (inr is) = inr (placed_ended around limit before (Here (Unsupported at)) is)
+placed_refused around limit before (Here (Unexpected at)) is = placed_shown around limit before (Unexpected at) is
+placed_refused around limit before (Here (TooDeep at)) is = placed_shown around limit before (TooDeep at) is
+placed_refused around limit before (Here (TooMany at)) is = absurd is.left_is
 placed_refused around limit before End is = placed_ended around limit before End is
 
 -- nothing stands there
@@ -76,9 +70,9 @@ placed_end around limit before is = subst (λ (ts : List Token). PlacedRefused a
     (record { begun = inl (record { some = pass some_spot; more = simple_tokens (pass some_spot); tokens_are = refl }); none = λ s same. absurd (simple_some s same) })
 
 -- the first token shows it
-at_first_token : (around : Around) (limit : Option Limit) (t : Token) (behind : List Token) (fault : ParseFault) → MayNameLine t fault → ((s : Simple) (more : List Token) → simple_tokens s ≡ t ∷ more → IsAmissPlaced around limit (Here fault) s)
+at_first_token : (around : Around) (limit : Option Limit) (t : Token) (behind : List Token) (fault : Fault) → ShowsOnLine t behind fault → ((s : Simple) (more : List Token) → simple_tokens s ≡ t ∷ more → IsAmissPlaced around limit (Here fault) s)
     → ShownBy BeginsSimple simple_tokens (λ fault a. IsAmissPlaced around limit (Here fault) a) (t ∷ behind) fault
-at_first_token around limit t behind fault named none = record { front = []; shown_by = t; behind = behind; before_is = refl; place_is = named; begun = inl (record { some = pass some_spot; more = simple_tokens (pass some_spot); tokens_are = refl }); none = none }
+at_first_token around limit t behind fault named none = record { front = []; shown_by = t; behind = behind; before_is = refl; left_is = named; begun = inl (record { some = pass some_spot; more = simple_tokens (pass some_spot); tokens_are = refl }); none = none }
 
 -- a limit is passed
 pub placed_limited : (around : Around) (l : Limit) (t : Token) (behind : List Token) → PlacedRefused around (Some l) (t ∷ behind) (Here (limit_fault l t.at))
@@ -99,8 +93,8 @@ refused_is_compound (Keyword n) is = by (n == 11) refl (n == 9) refl (n == 19) r
     by false one false other true last any = ap (λ m. is_compound_kind (Keyword m)) (eqb-true n 19 last)
     by false one false other false last any = cc
 
-pub placed_word : (around : Around) (limit : Option Limit) (t : Token) (behind : List Token) → is_refused_kind t.kind ≡ true → PlacedRefused around limit (t ∷ behind) (Here (Unsupported t.at))
-placed_word around limit t behind is = inl (at_first_token around limit t behind (Unsupported t.at) tt (λ s more same. absurd (no_such s more same)))
+pub placed_word : (around : Around) (limit : Option Limit) (t : Token) (behind : List Token) (left : ℕ) → is_refused_kind t.kind ≡ true → left ≡ length behind → PlacedRefused around limit (t ∷ behind) (Here (Unexpected left))
+placed_word around limit t behind left is counted = at_first_token around limit t behind (Unexpected left) counted (λ s more same. absurd (no_such s more same))
   where
     no_such : (s : Simple) (more : List Token) → simple_tokens s ≡ t ∷ more → ⊥
     no_such s more same = let absent : true ≡ false = sym (refused_is_compound t.kind is) ∙ simple_not_compound s t more same in cc
@@ -150,30 +144,28 @@ text_behind (Number value) is absent = cc
 text_behind (Keyword n) is absent = cc
 text_behind (Sign n) is absent = cc
 
-text_in_class : (around : Around) (limit : Option Limit) (t : Token) (behind : List Token) (place : Pos) → around.in_class ≡ true → may_be_alone t.kind behind ≡ false → is_text_kind t.kind ≡ true
-    → ShownBy BeginsSimple simple_tokens (λ fault a. IsAmissPlaced around limit (Here fault) a) (t ∷ behind) (Unsupported place)
-text_in_class around limit t [] place inside absent is = absurd (text_behind t.kind is absent)
-text_in_class around limit t (u ∷ us) place inside absent is = record {
+text_in_class : (around : Around) (limit : Option Limit) (t : Token) (behind : List Token) (left : ℕ) → around.in_class ≡ true → may_be_alone t.kind behind ≡ false → is_text_kind t.kind ≡ true → left ≡ left_in_class true behind
+    → ShownBy BeginsSimple simple_tokens (λ fault a. IsAmissPlaced around limit (Here fault) a) (t ∷ behind) (Unexpected left)
+text_in_class around limit t [] left inside absent is counted = absurd (text_behind t.kind is absent)
+text_in_class around limit t (u ∷ us) left inside absent is counted = record {
   front = t ∷ [];
   shown_by = u;
   behind = us;
   before_is = refl;
-  place_is = tt;
+  left_is = counted;
   begun = begins_text t is;
   none = λ s more same. not_alone around s inside (ap are_alone same);
 }
 
-other_in_class : (around : Around) (limit : Option Limit) (t : Token) (behind : List Token) (place : Pos) → around.in_class ≡ true → may_be_alone t.kind behind ≡ false → (b : Bool) → is_text_kind t.kind ≡ b
-    → ShownBy BeginsSimple simple_tokens (λ fault a. IsAmissPlaced around limit (Here fault) a) (t ∷ behind) (Unsupported place)
-other_in_class around limit t behind place inside absent true is = text_in_class around limit t behind place inside absent is
-other_in_class around limit t behind place inside absent false is = at_first_token around limit t behind (Unsupported place) tt (λ s more same. amiss_in_class around t behind inside absent is s more same)
+other_in_class : (around : Around) (limit : Option Limit) (t : Token) (behind : List Token) (left : ℕ) → around.in_class ≡ true → may_be_alone t.kind behind ≡ false → (b : Bool) → is_text_kind t.kind ≡ b → left ≡ left_in_class b behind
+    → ShownBy BeginsSimple simple_tokens (λ fault a. IsAmissPlaced around limit (Here fault) a) (t ∷ behind) (Unexpected left)
+other_in_class around limit t behind left inside absent true is counted = text_in_class around limit t behind left inside absent is counted
+other_in_class around limit t behind left inside absent false is counted = at_first_token around limit t behind (Unexpected left) counted (λ s more same. amiss_in_class around t behind inside absent is s more same)
 
 pub placed_in_class : (around : Around) (limit : Option Limit) (t : Token) (behind : List Token) (stop : Stop) → around.in_class ≡ true → may_be_alone t.kind behind ≡ false → IsRefusedInClass (t ∷ behind) stop → PlacedRefused around limit (t ∷ behind) stop
-placed_in_class around limit t behind (Here (Unexpected place)) inside absent is = at_first_token around limit t behind (Unexpected place) is.0 (λ s more same. amiss_in_class around t behind inside absent is.1 s more same)
-placed_in_class around limit t behind (Here (Unsupported place)) inside absent is = inl (other_in_class around limit t behind place inside absent (is_text_kind t.kind) refl)
+placed_in_class around limit t behind (Here (Unexpected left)) inside absent is = other_in_class around limit t behind left inside absent (is_text_kind t.kind) refl is
 placed_in_class around limit t behind (Here (TooDeep place)) inside absent is = absurd is
 placed_in_class around limit t behind (Here (TooMany place)) inside absent is = absurd is
-placed_in_class around limit t behind (Here (BadIndent place)) inside absent is = absurd is
 placed_in_class around limit t behind (Here Memory) inside absent is = absurd is
 placed_in_class around limit t behind End inside absent is = absurd is
 
@@ -212,13 +204,13 @@ placed_found around t behind form alone f = record {
 abbrev PlacedThere : Around → (limit : Option Limit) → Stop → List Token → Type 0
 PlacedThere around limit stop ts = PlacedRefused around limit ts stop
 
-pub limit_there : (around : Around) (limit : Option Limit) (l : Limit) (before : List Token) (t : Token) (behind : List Token) (fault : ParseFault) → limit ≡ Some l → before ≡ t ∷ behind → fault ≡ limit_fault l t.at → PlacedRefused around limit before (Here fault)
+pub limit_there : (around : Around) (limit : Option Limit) (l : Limit) (before : List Token) (t : Token) (behind : List Token) (fault : Fault) → limit ≡ Some l → before ≡ t ∷ behind → fault ≡ limit_fault l t.at → PlacedRefused around limit before (Here fault)
 limit_there around limit l before t behind fault some is at =
     subst (λ w. PlacedRefused around limit before (Here w)) (sym at)
     (subst (λ o. PlacedRefused around o before (Here (limit_fault l t.at))) (sym some) (subst (PlacedThere around (Some l) (Here (limit_fault l t.at))) (sym is) (placed_limited around l t behind)))
 
-pub word_there : (around : Around) (limit : Option Limit) (before : List Token) (t : Token) (behind : List Token) → before ≡ t ∷ behind → is_refused_kind t.kind ≡ true → PlacedRefused around limit before (Here (Unsupported t.at))
-word_there around limit before t behind is kind = subst (PlacedThere around limit (Here (Unsupported t.at))) (sym is) (placed_word around limit t behind kind)
+pub word_there : (around : Around) (limit : Option Limit) (before : List Token) (t : Token) (behind : List Token) (left : ℕ) → before ≡ t ∷ behind → is_refused_kind t.kind ≡ true → left ≡ length behind → PlacedRefused around limit before (Here (Unexpected left))
+word_there around limit before t behind left is kind counted = subst (PlacedThere around limit (Here (Unexpected left))) (sym is) (placed_word around limit t behind left kind counted)
 
 pub class_there : (around : Around) (limit : Option Limit) (before : List Token) (t : Token) (behind : List Token) (stop : Stop) → before ≡ t ∷ behind → around.in_class ≡ true → may_be_alone t.kind behind ≡ false → IsRefusedInClass before stop → PlacedRefused around limit before stop
 class_there around limit before t behind stop is inside alone refused =

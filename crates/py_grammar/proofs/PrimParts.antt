@@ -10,7 +10,7 @@ use Rattle.py_lines.specs.declared.parts.TokenKind.{TokenKind}
 use Rattle.py_lines.specs.declared.parts.TokenKind.TheVariants.{Word, Keyword, Number, Text, Sign}
 use Rattle.py_tree.specs.Tree.{call_expr, attr_expr}
 use Rattle.py_tree.specs.Erasure.{expr_of}
-use Rattle.py_grammar.specs.declared.fault.ParseFault.TheVariants.{TooDeep}
+use Rattle.py_grammar.specs.declared.fault.Fault.TheVariants.{TooDeep}
 use Rattle.py_grammar.specs.declared.fault.Stop.{Stop}
 use Rattle.py_grammar.specs.declared.fault.Stop.TheVariants.{Here}
 use Rattle.py_grammar.specs.declared.part.Part.{Part}

@@ -4,8 +4,8 @@ use Rattle.std.specs.Bool.{⊤}
 use Rattle.std.specs.Option.{option_map_or}
 use Rattle.std.proofs.lemmas.List.{append-nil}
 use Rattle.py_lines.specs.declared.parts.Token.{Token}
-use Rattle.py_grammar.specs.declared.fault.ParseFault.{ParseFault}
-use Rattle.py_grammar.specs.declared.fault.ParseFault.TheVariants.{Unexpected, Unsupported, BadIndent, TooDeep, TooMany, Memory}
+use Rattle.py_grammar.specs.declared.fault.Fault.{Fault}
+use Rattle.py_grammar.specs.declared.fault.Fault.TheVariants.{Unexpected, TooDeep, TooMany, Memory}
 use Rattle.py_grammar.specs.declared.fault.Stop.{Stop}
 use Rattle.py_grammar.specs.declared.fault.Stop.TheVariants.{Here, End}
 use Rattle.py_grammar.specs.Parsed.{Production, IsDeep, Only, Finds, Begins, Shown, Refused, IsTooDeep, is_keyword_next}
@@ -97,8 +97,6 @@ finds_same P read ts us is finds = subst (Finds P read) (sym is) finds
 pub deeper : (stop : Stop) (room depth outer above : ℕ) → IsDeep stop room depth → outer + depth ≤ room + above → IsDeep stop outer above
 deeper (Here (TooDeep at)) room depth outer above deep less = omega (arith, deep, less)
 deeper (Here (Unexpected at)) room depth outer above deep less = absurd deep
-deeper (Here (Unsupported at)) room depth outer above deep less = absurd deep
-deeper (Here (BadIndent at)) room depth outer above deep less = absurd deep
 deeper (Here (TooMany at)) room depth outer above deep less = absurd deep
 deeper (Here Memory) room depth outer above deep less = absurd deep
 deeper End room depth outer above deep less = absurd deep
@@ -121,13 +119,13 @@ begins_inside p q front part begins b =
     regroup : (w x y z : List Token) → (w ++ (x ++ y)) ++ z ≡ (w ++ x) ++ (y ++ z)
     regroup w x y z = append_assoc w (x ++ y) z ∙ ap (λ ts. w ++ ts) (append_assoc x y z) ∙ sym (append_assoc w x (y ++ z))
 
-shown_inside : {A B : Type 0} (p : Production A) (room : ℕ) (q : Production B) (inner : ℕ) (front rest : List Token) (fault : ParseFault) → Inside p room q inner front rest → Shown q inner rest fault → Shown p room (front ++ rest) fault
+shown_inside : {A B : Type 0} (p : Production A) (room : ℕ) (q : Production B) (inner : ℕ) (front rest : List Token) (fault : Fault) → Inside p room q inner front rest → Shown q inner rest fault → Shown p room (front ++ rest) fault
 shown_inside p room q inner front rest fault inside s = record {
   front = front ++ s.front;
   shown_by = s.shown_by;
   behind = s.behind;
   before_is = ap (λ ts. front ++ ts) s.before_is ∙ sym (append_assoc front s.front (s.shown_by ∷ s.behind));
-  place_is = s.place_is;
+  left_is = s.left_is;
   begins = begins_inside p q front s.front inside.begins s.begins;
   none = λ more. finds_same _ p.read _ _ (append_assoc front s.front (s.shown_by ∷ more))
       (inside.finds (Here fault) (s.front ++ s.shown_by ∷ more) (first_alike s.front s.shown_by more s.behind ∙ sym (ap first_of s.before_is)) (s.none more));
@@ -136,8 +134,6 @@ shown_inside p room q inner front rest fault inside s = record {
 pub refused_inside : {A B : Type 0} (p : Production A) (room : ℕ) (q : Production B) (inner : ℕ) (front rest : List Token) (stop : Stop) → Inside p room q inner front rest → Refused q inner rest stop → Refused p room (front ++ rest) stop
 refused_inside p room q inner front rest (Here Memory) inside is = tt
 refused_inside p room q inner front rest (Here (Unexpected at)) inside is = shown_inside p room q inner front rest (Unexpected at) inside is
-refused_inside p room q inner front rest (Here (Unsupported at)) inside is = shown_inside p room q inner front rest (Unsupported at) inside is
-refused_inside p room q inner front rest (Here (BadIndent at)) inside is = shown_inside p room q inner front rest (BadIndent at) inside is
 refused_inside p room q inner front rest (Here (TooDeep at)) inside is = shown_inside p room q inner front rest (TooDeep at) inside is
 refused_inside p room q inner front rest (Here (TooMany at)) inside is = shown_inside p room q inner front rest (TooMany at) inside is
 refused_inside p room q inner front rest End inside is = (begins_inside p q front rest inside.begins is.0, inside.finds End rest refl is.1)
@@ -163,13 +159,11 @@ full p room before front t behind height (Here (TooDeep at)) deep before_is begi
   shown_by = t;
   behind = behind;
   before_is = before_is;
-  place_is = tt;
+  left_is = tt;
   begins = begins;
   none = λ more. finds_weaker _ _ p.read (front ++ t ∷ more) (λ a higher. omega (arith, deep, higher)) (over more);
 }
 full p room before front t behind height (Here (Unexpected at)) deep before_is begins over = absurd deep
-full p room before front t behind height (Here (Unsupported at)) deep before_is begins over = absurd deep
-full p room before front t behind height (Here (BadIndent at)) deep before_is begins over = absurd deep
 full p room before front t behind height (Here (TooMany at)) deep before_is begins over = absurd deep
 full p room before front t behind height (Here Memory) deep before_is begins over = absurd deep
 full p room before front t behind height End deep before_is begins over = absurd deep

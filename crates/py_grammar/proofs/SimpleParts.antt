@@ -2,10 +2,9 @@
 use Rattle.std.proofs.Common.{◌≡◌, inl, ℕ, suc, ◌+◌, ◌<◌, Bool, true, false, List, [], ◌∷◌, ◌++◌, Option, Some, None, option_map, option_and_then, refl, ap, sym, ◌∙◌, arith, subst, append_assoc, append-nil, length, is_some, IfNone, if◌then◌else◌}
 use Rattle.std.specs.Prelude.{◌==◌}
 use Rattle.std.proofs.lemmas.Bool.{eqb-true}
-use Rattle.prov_base.specs.declared.place.Pos.{Pos}
 use Rattle.py_lines.specs.declared.parts.Token.{Token}
-use Rattle.py_grammar.specs.declared.fault.ParseFault.{ParseFault}
-use Rattle.py_grammar.specs.declared.fault.ParseFault.TheVariants.{Unexpected, Unsupported, BadIndent, TooDeep, TooMany, Memory}
+use Rattle.py_grammar.specs.declared.fault.Fault.{Fault}
+use Rattle.py_grammar.specs.declared.fault.Fault.TheVariants.{Unexpected, TooDeep, TooMany, Memory}
 use Rattle.py_grammar.specs.declared.fault.Stop.{Stop}
 use Rattle.py_grammar.specs.declared.fault.Stop.TheVariants.{Here, End}
 use Rattle.py_grammar.specs.declared.part.Part.{Part}
@@ -17,8 +16,8 @@ use Rattle.py_grammar.specs.Depth.{simple_depth}
 use Rattle.py_grammar.specs.WellPlaced.{Around}
 use Rattle.py_grammar.specs.Reader.{Read, spot_of, next_level, starts, read_expr, read_exprs}
 use Rattle.py_grammar.specs.StatementReader.{whole, alone, read_simple}
-use Rattle.py_grammar.specs.Parsed.{Production, Names, IsDeep, Only, Finds, Begins, Shown, Refused, Found, FoundRow, expr_part}
-use Rattle.py_grammar.specs.ParsedSimple.{leaving_none, simple_part, BeginsSimple, IsAmiss, MayName, SimpleShown, SimpleEnds, SimpleRefused, IsMore}
+use Rattle.py_grammar.specs.Parsed.{Production, ShowsAt, IsDeep, Only, Finds, Begins, Shown, Refused, Found, FoundRow, expr_part}
+use Rattle.py_grammar.specs.ParsedSimple.{leaving_none, simple_part, BeginsSimple, IsAmiss, SimpleShown, SimpleEnds, SimpleRefused, IsMore}
 use Rattle.py_grammar.proofs.Reading.{expr_reads}
 use Rattle.py_grammar.proofs.RowReads.{row_reads}
 use Rattle.py_grammar.proofs.Refusals.{first_of, only_is, finds_same, finds_weaker}
@@ -129,14 +128,14 @@ record Stands {B : Type 0} (q : Production B) (inner : ℕ) (front rest : List T
   begins : (tokens : List Token) → Begins q tokens → BeginsSimple (front ++ tokens)
   finds : (why : Stop) (more : List Token) → first_of more ≡ first_of rest → Finds (λ b. IsDeep why inner (q.depth b)) q.read more → Finds (λ s. IsDeep why 100 (simple_depth s)) simple_part.read (front ++ more)
 
-shown_part : {B : Type 0} (around : Around) (q : Production B) (inner : ℕ) (front rest before : List Token) (fault : ParseFault) → before ≡ front ++ rest → Stands q inner front rest → IsWeaker around (Here fault)
-    → ((t : Token) → Names t fault → MayName t fault) → Shown q inner rest fault → SimpleShown around before fault
-shown_part around q inner front rest before fault is part weaker named s = record {
+shown_part : {B : Type 0} (around : Around) (q : Production B) (inner : ℕ) (front rest before : List Token) (fault : Fault) → before ≡ front ++ rest → Stands q inner front rest → IsWeaker around (Here fault)
+    → Shown q inner rest fault → SimpleShown around before fault
+shown_part around q inner front rest before fault is part weaker s = record {
   front = front ++ s.front;
   shown_by = s.shown_by;
   behind = s.behind;
   before_is = is ∙ ap (λ ts. front ++ ts) s.before_is ∙ sym (append_assoc front s.front (s.shown_by ∷ s.behind));
-  place_is = named s.shown_by s.place_is;
+  left_is = s.left_is;
   begins = part.begins s.front s.begins;
   none = λ more. finds_same _ simple_part.read _ _ (append_assoc front s.front (s.shown_by ∷ more))
       (finds_weaker _ _ simple_part.read _ weaker (part.finds (Here fault) (s.front ++ s.shown_by ∷ more) (first_alike s.front s.shown_by more s.behind ∙ sym (ap first_of s.before_is)) (s.none more)));
@@ -144,11 +143,9 @@ shown_part around q inner front rest before fault is part weaker named s = recor
 
 refused_there : {B : Type 0} (around : Around) (q : Production B) (inner : ℕ) (front rest before : List Token) (stop : Stop) → before ≡ front ++ rest → Stands q inner front rest → Refused q inner rest stop → SimpleRefused around before stop
 refused_there around q inner front rest before (Here Memory) is part refused = tt
-refused_there around q inner front rest before (Here (Unexpected at)) is part refused = shown_part around q inner front rest before (Unexpected at) is part (λ s deep. absurd deep) (λ at named. named) refused
-refused_there around q inner front rest before (Here (Unsupported at)) is part refused = inl (shown_part around q inner front rest before (Unsupported at) is part (λ s deep. absurd deep) (λ at named. tt) refused)
-refused_there around q inner front rest before (Here (TooDeep at)) is part refused = shown_part around q inner front rest before (TooDeep at) is part (λ s deep. deep) (λ at named. tt) refused
-refused_there around q inner front rest before (Here (BadIndent at)) is part refused = absurd refused.place_is
-refused_there around q inner front rest before (Here (TooMany at)) is part refused = absurd refused.place_is
+refused_there around q inner front rest before (Here (Unexpected at)) is part refused = shown_part around q inner front rest before (Unexpected at) is part (λ s deep. absurd deep) refused
+refused_there around q inner front rest before (Here (TooDeep at)) is part refused = shown_part around q inner front rest before (TooDeep at) is part (λ s deep. deep) refused
+refused_there around q inner front rest before (Here (TooMany at)) is part refused = absurd refused.left_is
 refused_there around q inner front rest before End is part refused =
     subst (λ (ts : List Token). SimpleEnds around ts End) (sym is)
     (record { begins = part.begins rest refused.0; none = finds_weaker _ _ simple_part.read _ (λ s deep. absurd deep) (part.finds End rest refl refused.1) })
@@ -163,14 +160,14 @@ refused_part around q inner front rest before stop g is begins turns deep refuse
     refused
 
 -- the tokens are a statement, and something stands behind them
-pub at_token : (around : Around) (tokens : List Token) (t : Token) (ts before : List Token) (fault : ParseFault) (s : Simple) → before ≡ tokens ++ t ∷ ts → simple_tokens s ≡ tokens → MayName t fault
+pub at_token : (around : Around) (tokens : List Token) (t : Token) (ts before : List Token) (fault : Fault) (s : Simple) → before ≡ tokens ++ t ∷ ts → simple_tokens s ≡ tokens → ShowsAt ts fault
     → ((more : List Token) → ReadsNone (tokens ++ t ∷ more)) → SimpleShown around before fault
 at_token around tokens t ts before fault s is spells named none = record {
   front = tokens;
   shown_by = t;
   behind = ts;
   before_is = is;
-  place_is = named;
+  left_is = named;
   begins = spelled s tokens spells;
   none = λ more. none_found _ (tokens ++ t ∷ more) (none more);
 }
@@ -179,22 +176,20 @@ pub ended : (around : Around) (tokens behind before : List Token) (stop : Stop) 
     → ((t : Token) (ts more : List Token) → behind ≡ t ∷ ts → ReadsNone (tokens ++ t ∷ more)) → SimpleRefused around before stop
 ended around tokens [] before stop s is spells more none = absurd more
 ended around tokens (t ∷ ts) before (Here (Unexpected at)) s is spells more none = at_token around tokens t ts before (Unexpected at) s is spells more (λ rest. none t ts rest refl)
-ended around tokens (t ∷ ts) before (Here (Unsupported at)) s is spells more none = inl (at_token around tokens t ts before (Unsupported at) s is spells tt (λ rest. none t ts rest refl))
-ended around tokens (t ∷ ts) before (Here (BadIndent at)) s is spells more none = absurd more
 ended around tokens (t ∷ ts) before (Here (TooDeep at)) s is spells more none = absurd more
 ended around tokens (t ∷ ts) before (Here (TooMany at)) s is spells more none = absurd more
 ended around tokens (t ∷ ts) before (Here Memory) s is spells more none = absurd more
 ended around tokens (t ∷ ts) before End s is spells more none = absurd more
 
 -- a word that no statement may begin with there
-pub misplaced : (around : Around) (t : Token) (behind : List Token) (fault : ParseFault) → MayName t fault
+pub misplaced : (around : Around) (t : Token) (behind : List Token) (fault : Fault) → ShowsAt behind fault
     → ((n : ℕ) (more : List Token) → Only (IsAmiss around (Here fault)) (leaving_none (read_simple n (t ∷ more)))) → SimpleShown around (t ∷ behind) fault
 misplaced around t behind fault named amiss = record {
   front = [];
   shown_by = t;
   behind = behind;
   before_is = refl;
-  place_is = named;
+  left_is = named;
   begins = nothing_yet t;
   none = λ more. record { steps = 0; only = λ n. amiss (n + 0) more };
 }
@@ -220,8 +215,6 @@ row_goes f t ts rest is n = (row_reads f.written).reads n (t ∷ rest) (λ ends.
 pub not_deeper : (why : Stop) (depth : ℕ) → IsDeep why depth depth → ⊥
 not_deeper (Here (TooDeep at)) depth deep = absurd (omega (arith, deep))
 not_deeper (Here (Unexpected at)) depth deep = deep
-not_deeper (Here (Unsupported at)) depth deep = deep
-not_deeper (Here (BadIndent at)) depth deep = deep
 not_deeper (Here (TooMany at)) depth deep = deep
 not_deeper (Here Memory) depth deep = deep
 not_deeper End depth deep = deep

@@ -1,5 +1,5 @@
 -- `assert` and `del`: what is read, and how it is refused.
-use Rattle.std.proofs.Common.{◌≡◌, inl, inr, ℕ, ◌+◌, true, false, List, [], ◌∷◌, ◌++◌, Option, Some, None, option_map, option_and_then, is_none, is_some, refl, ap, sym, ◌∙◌, arith, subst, append_assoc, append-nil}
+use Rattle.std.proofs.Common.{◌≡◌, inr, ℕ, ◌+◌, true, false, List, [], ◌∷◌, ◌++◌, Option, Some, None, option_map, option_and_then, is_none, is_some, refl, ap, sym, ◌∙◌, arith, subst, append_assoc, append-nil}
 use Rattle.std.proofs.Math.Nat.{le-max_left, le-max_right}
 use Rattle.std.proofs.lemmas.Option.{same_Some}
 use Rattle.prov_base.specs.declared.place.Pos.{Pos}
@@ -9,21 +9,21 @@ use Rattle.py_tree.specs.declared.expr.Target.{Target as BuiltTarget}
 use Rattle.py_tree.specs.declared.stmt.Form.{Form}
 use Rattle.py_tree.specs.Erasure.{expr_of, form_of, target_of}
 use Rattle.py_tree.specs.Tree.{ExprTree, assert_form, del_form, field_target, attr_expr}
-use Rattle.py_grammar.specs.declared.fault.ParseFault.TheVariants.{Unsupported}
+use Rattle.py_grammar.specs.declared.fault.Fault.TheVariants.{Unexpected, TooDeep, TooMany, Memory}
 use Rattle.py_grammar.specs.declared.fault.Stop.{Stop}
-use Rattle.py_grammar.specs.declared.fault.Stop.TheVariants.{Here}
+use Rattle.py_grammar.specs.declared.fault.Stop.TheVariants.{Here, End}
 use Rattle.py_grammar.specs.declared.part.Part.{Part}
 use Rattle.py_grammar.specs.Concrete.{Spot, Expr}
 use Rattle.py_grammar.specs.Tokens.{token, expr_tokens}
 use Rattle.py_grammar.specs.Trees.{expr_tree}
 use Rattle.py_grammar.specs.Depth.{expr_depth, simple_depth}
 use Rattle.py_grammar.specs.Written.{OneTarget, named, item, field, Simple, assert, assert_message, del}
-use Rattle.py_grammar.specs.StatementTrees.{one_target_tree}
-use Rattle.py_grammar.specs.WellPlaced.{Around, may_go}
+use Rattle.py_grammar.specs.StatementTrees.{one_target_tree, simple_form}
+use Rattle.py_grammar.specs.WellPlaced.{Around, may_go, form_stands}
 use Rattle.py_grammar.specs.Reader.{Read, is_sign, spot_of, read_expr}
 use Rattle.py_grammar.specs.StatementReader.{expr_target, whole, after_test}
-use Rattle.py_grammar.specs.Parsed.{IsDeep, Only, Begins, Found, Refused, Taken, is_sign_next, is_form, expr_part}
-use Rattle.py_grammar.specs.ParsedSimple.{leaving_none, BeginsSimple, IsAmiss, SimpleEnds, SimpleRefused, FoundBehindAny, RefusedBehindAny, IsMore, target_form}
+use Rattle.py_grammar.specs.Parsed.{IsDeep, Only, Begins, Found, Refused, Taken, is_sign_next, is_form, expr_part, IsAtFirst}
+use Rattle.py_grammar.specs.ParsedSimple.{leaving_none, BeginsSimple, SimpleEnds, SimpleRefused, FoundBehindAny, RefusedBehindAny, IsMore, target_form}
 use Rattle.py_grammar.proofs.Reading.{expr_reads, if_false}
 use Rattle.py_grammar.proofs.Refusals.{only_is, deeper, max_below}
 use Rattle.py_grammar.proofs.TargetForms.{target_is, target_deep, target_spelled, target_tree_is}
@@ -155,15 +155,16 @@ del_refused behind stop is = record {
 }
 
 -- the expression was read, and is none that can be deleted
-del_stops : (wrong : Pos) (behind after : List Token) (part : Part) → (f : Found expr_part expr_tree 7 100 behind part after)
-    → ((around : Around) (spot : Spot) → Only (IsAmiss around (Here (Unsupported wrong))) (leaving_none (del_of spot f.written))) → RefusedBehindAny 12 behind (Here (Unsupported wrong))
-del_stops wrong behind after part f amiss = record { there = λ around spot. by around spot after refl }
+del_stops : (behind after : List Token) (part : Part) (stop : Stop) → (f : Found expr_part expr_tree 7 100 behind part after) → IsAtFirst after stop
+    → ((around : Around) (spot : Spot) → Only (λ s. form_stands around (simple_form s) ≡ false) (leaving_none (del_of spot f.written))) → RefusedBehindAny 12 behind stop
+del_stops behind after part stop f first amiss = record { there = λ around spot. by around spot after stop refl first }
   where
     begins : (spot : Spot) → BeginsSimple (token (Keyword 12) spot ∷ expr_tokens f.written)
     begins spot = del_begins spot (expr_tokens f.written) (record { some = f.written; more = []; tokens_are = sym (append-nil (expr_tokens f.written)) })
 
-    by : (around : Around) (spot : Spot) (rest : List Token) → after ≡ rest → SimpleRefused around (token (Keyword 12) spot ∷ behind) (Here (Unsupported wrong))
-    by around spot [] is = inr (subst (λ (ts : List Token). SimpleEnds around (token (Keyword 12) spot ∷ ts) (Here (Unsupported wrong))) (sym (expr_all f is))
+    by : (around : Around) (spot : Spot) (rest : List Token) (stop : Stop) → after ≡ rest → IsAtFirst rest stop → SimpleRefused around (token (Keyword 12) spot ∷ behind) stop
+    by around spot [] (Here fault) is first = absurd (let no : Here fault ≡ End = first in cc)
+    by around spot [] End is first = subst (λ (ts : List Token). SimpleEnds around (token (Keyword 12) spot ∷ ts) End) (sym (expr_all f is))
         (record {
           begins = begins spot;
           none = record {
@@ -171,16 +172,20 @@ del_stops wrong behind after part f amiss = record { there = λ around spot. by 
             only = λ n. only_is _ _ _ (ap leaving_none (ap (λ o. option_map (del spot) (option_and_then expr_target (whole o)))
                 (ap (read_expr (n + (expr_reads f.written).steps)) (sym (append-nil (expr_tokens f.written))) ∙ (expr_reads f.written).reads n [] (omega arith)))) (amiss around spot);
           };
-        }))
-    by around spot (t ∷ ts) is = inl (record {
+        })
+    by around spot (t ∷ ts) (Here (Unexpected left)) is first = record {
       front = token (Keyword 12) spot ∷ expr_tokens f.written;
       shown_by = t;
       behind = ts;
       before_is = ap (λ us. token (Keyword 12) spot ∷ us) (f.before_is ∙ ap (λ us. expr_tokens f.written ++ us) is);
-      place_is = tt;
+      left_is = first;
       begins = begins spot;
       none = λ more. none_found _ _ (turned_none expr_part _ (expr_tokens f.written ++ t ∷ more) (t ∷ more) (del_turn spot) f.written (expr_reads f.written).steps (del_turns spot _) (expr_goes f t ts more is) (λ n. refl));
-    })
+    }
+    by around spot (t ∷ ts) (Here (TooDeep place)) is first = absurd first
+    by around spot (t ∷ ts) (Here (TooMany place)) is first = absurd first
+    by around spot (t ∷ ts) (Here Memory) is first = absurd first
+    by around spot (t ∷ ts) End is first = absurd first
 
 no_form : (o : Option OneTarget) → is_form o ≡ false → o ≡ None
 no_form None is = refl
@@ -190,13 +195,13 @@ a_form : (o : Option OneTarget) → is_form o ≡ true → (t : OneTarget) × (o
 a_form None is = absurd (let no : false ≡ true = is in cc)
 a_form (Some t) is = (t, refl)
 
-pub del_wrong : (wrong : Pos) (behind after : List Token) (part : Part) → Found expr_part expr_tree 7 100 behind part after → is_none part.wrong ≡ false → RefusedBehindAny 12 behind (Here (Unsupported wrong))
-del_wrong wrong behind after part f other = del_stops wrong behind after part f
+pub del_wrong : (behind after : List Token) (part : Part) (stop : Stop) → Found expr_part expr_tree 7 100 behind part after → is_none part.wrong ≡ false → IsAtFirst after stop → RefusedBehindAny 12 behind stop
+del_wrong behind after part stop f other first = del_stops behind after part stop f first
     (λ around spot. only_is _ _ None (ap (λ o. leaving_none (option_map (del spot) o)) (no_form _ (sym f.form_is ∙ other))) tt)
 
-pub del_attribute : (dot : Pos) (e : ExprTree) (name : List ℕ) (behind after : List Token) (part : Part) → Found expr_part expr_tree 7 100 behind part after → is_none part.wrong ≡ true
-    → expr_of part.expr ≡ attr_expr dot e name → RefusedBehindAny 12 behind (Here (Unsupported dot))
-del_attribute dot e name behind after part f fine tree = del_stops dot behind after part f
+pub del_attribute : (dot : Pos) (e : ExprTree) (name : List ℕ) (behind after : List Token) (part : Part) (stop : Stop) → Found expr_part expr_tree 7 100 behind part after → is_none part.wrong ≡ true
+    → expr_of part.expr ≡ attr_expr dot e name → IsAtFirst after stop → RefusedBehindAny 12 behind stop
+del_attribute dot e name behind after part stop f fine tree first = del_stops behind after part stop f first
     (λ around spot. only_is _ _ (Some (del spot t.0, [])) (ap (λ o. leaving_none (option_map (del spot) o)) t.1) (ap may_go stays))
   where
     t : (t : OneTarget) × (expr_target f.written ≡ Some t)

@@ -1,40 +1,32 @@
 -- Refusals at the next token.
-use Rattle.std.proofs.Common.{◌≡◌, ℕ, ◌+◌, Bool, true, false, List, [], ◌∷◌, ◌++◌, Some, None, refl, ap, sym, ◌∙◌, subst, if◌then◌else◌}
-use Rattle.std.proofs.lemmas.Bool.{false≢true, eqb-true}
+use Rattle.std.proofs.Common.{◌≡◌, ℕ, ◌+◌, false, List, [], ◌∷◌, ◌++◌, Some, None, refl, ap, sym, ◌∙◌, subst, if◌then◌else◌}
 use Rattle.std.proofs.lemmas.List.{append-nil}
 use Rattle.prov_base.specs.declared.place.Pos.{Pos}
 use Rattle.prov_base.specs.declared.place.Span.{Span}
 use Rattle.py_lines.specs.declared.parts.Token.{Token}
 use Rattle.py_lines.specs.declared.parts.TokenKind.{TokenKind}
 use Rattle.py_lines.specs.declared.parts.TokenKind.TheVariants.{Word, Keyword, Number, Text, Sign}
-use Rattle.py_grammar.specs.declared.fault.ParseFault.TheVariants.{Unexpected, Unsupported, BadIndent, TooDeep, TooMany, Memory}
+use Rattle.py_grammar.specs.declared.fault.Fault.{Fault}
+use Rattle.py_grammar.specs.declared.fault.Fault.TheVariants.{Unexpected, TooDeep, TooMany, Memory}
 use Rattle.py_grammar.specs.declared.fault.Stop.{Stop}
 use Rattle.py_grammar.specs.declared.fault.Stop.TheVariants.{Here, End}
 use Rattle.py_grammar.specs.Concrete.{Spot}
-use Rattle.py_grammar.specs.Parsed.{Production, is_never, one_keyword, one_sign, one_name, is_keyword_next, is_sign_next, IsAtFirst, Finds, Begins, Refused}
-use Rattle.py_grammar.specs.Reader.{Read, is_keyword, read_keyword, read_sign, read_name, spot_of}
+use Rattle.py_grammar.specs.Parsed.{Production, ShowsAt, one_keyword, one_sign, one_name, is_keyword_next, is_sign_next, IsAtFirst, Finds, Begins, Refused}
+use Rattle.py_grammar.specs.Reader.{Read, read_keyword, read_sign, read_name, spot_of}
 use Rattle.py_grammar.specs.LineReader.{begins_name, is_word}
+use Rattle.py_grammar.specs.ParsedHead.{ShowsOnLine}
 use Rattle.py_grammar.proofs.Refusals.{only_is}
 
 -- a place, where any will do
 pub some_spot : Spot
 some_spot = record { at = record { line = 0; col = 0 }; span = record { from = 0; to = 0 } }
 
--- what is not refused is no word or sign that stands nowhere
-pub not_never : (kind : TokenKind) (refused : Bool) → (is_never kind ≡ true → refused ≡ true) → refused ≡ false → is_never kind ≡ false
-not_never kind refused tells is = by (is_never kind) refl
-  where
-    by : (never : Bool) → is_never kind ≡ never → is_never kind ≡ false
-    by true never = absurd (false≢true (sym is ∙ tells never))
-    by false never = never
-
--- `not` stands somewhere
-pub not_stands : (kind : TokenKind) → is_keyword 26 kind ≡ true → is_never kind ≡ false
-not_stands (Keyword n) is = ap (λ m. is_never (Keyword m)) (eqb-true n 26 is)
-not_stands (Word bytes) is = absurd (false≢true is)
-not_stands (Number n) is = absurd (false≢true is)
-not_stands (Text bytes) is = absurd (false≢true is)
-not_stands (Sign n) is = absurd (false≢true is)
+-- what shows a fault of a part shows it on the line
+pub shows_on_line : (t : Token) (behind : List Token) (fault : Fault) → ShowsAt behind fault → ShowsOnLine t behind fault
+shows_on_line t behind (Unexpected left) is = is
+shows_on_line t behind (TooDeep place) is = is
+shows_on_line t behind (TooMany place) is = absurd is
+shows_on_line t behind Memory is = absurd is
 
 -- nothing is read
 pub finds_none : {A : Type 0} (P : A → Type 0) (read : ℕ → List Token → Read A) (ts : List Token) → ((n : ℕ) → read n ts ≡ None) → Finds P read ts
@@ -46,9 +38,7 @@ pub here : {A : Type 0} (p : Production A) (room : ℕ) (before front rest : Lis
 here p room before front [] End is at begins none_end none_there =
     (subst (Begins p) (sym (is ∙ append-nil front)) begins, subst (Finds (λ a. ⊥) p.read) (sym is) (none_end refl))
 here p room before front [] (Here fault) is at begins none_end none_there = cc
-here p room before front (t ∷ ts) (Here (Unexpected place)) is at begins none_end none_there = record { front = front; shown_by = t; behind = ts; before_is = is; place_is = at; begins = begins; none = λ more. none_there t ts more refl }
-here p room before front (t ∷ ts) (Here (Unsupported place)) is at begins none_end none_there = record { front = front; shown_by = t; behind = ts; before_is = is; place_is = at; begins = begins; none = λ more. none_there t ts more refl }
-here p room before front (t ∷ ts) (Here (BadIndent place)) is at begins none_end none_there = absurd at
+here p room before front (t ∷ ts) (Here (Unexpected place)) is at begins none_end none_there = record { front = front; shown_by = t; behind = ts; before_is = is; left_is = at; begins = begins; none = λ more. none_there t ts more refl }
 here p room before front (t ∷ ts) (Here (TooDeep place)) is at begins none_end none_there = absurd at
 here p room before front (t ∷ ts) (Here (TooMany place)) is at begins none_end none_there = absurd at
 here p room before front (t ∷ ts) (Here Memory) is at begins none_end none_there = absurd at
@@ -82,7 +72,3 @@ no_name_of at span (Sign n) more other = refl
 pub name_refused : (before : List Token) (stop : Stop) → begins_name before ≡ false → IsAtFirst before stop → Refused one_name 0 before stop
 name_refused before stop absent at = at_first one_name 0 before stop at (record { some = (some_spot, []); more = _; tokens_are = refl })
     (λ empty. finds_none _ _ [] (λ m. refl)) (λ t ts more is. finds_none _ _ (t ∷ more) (λ m. no_name_of t.at t.span t.kind more (sym (ap begins_name is) ∙ absent)))
-
--- the next token is refused where it stands
-pub unexpected_first : (before : List Token) (t : Token) (ts : List Token) → before ≡ t ∷ ts → is_never t.kind ≡ false → IsAtFirst before (Here (Unexpected t.at))
-unexpected_first before t ts is stands = subst (λ us. IsAtFirst us (Here (Unexpected t.at))) (sym is) (refl, stands)

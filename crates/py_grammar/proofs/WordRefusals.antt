@@ -1,14 +1,14 @@
 -- Simple statements that are a keyword alone, or a keyword with one expression or name: what is read, and how it is refused.
-use Rattle.std.proofs.Common.{◌≡◌, inl, inr, ℕ, ◌+◌, true, false, List, [], ◌∷◌, ◌++◌, Option, Some, None, option_map, refl, ap, sym, ◌∙◌, arith, subst}
+use Rattle.std.proofs.Common.{◌≡◌, inl, ℕ, ◌+◌, true, false, List, [], ◌∷◌, ◌++◌, Option, Some, None, option_map, refl, ap, sym, ◌∙◌, arith, subst, length}
 use Rattle.prov_base.specs.declared.place.Pos.{Pos}
 use Rattle.py_lines.specs.declared.parts.Token.{Token}
 use Rattle.py_lines.specs.declared.parts.TokenKind.TheVariants.{Word, Keyword}
 use Rattle.py_tree.specs.declared.stmt.Form.{Form}
 use Rattle.py_tree.specs.Erasure.{expr_of, form_of}
 use Rattle.py_tree.specs.Tree.{pass_form, break_form, continue_form, return_form, raise_form, import_form}
-use Rattle.py_grammar.specs.declared.fault.ParseFault.TheVariants.{Unexpected, Unsupported}
+use Rattle.py_grammar.specs.declared.fault.Fault.TheVariants.{Unexpected}
 use Rattle.py_grammar.specs.declared.fault.Stop.{Stop}
-use Rattle.py_grammar.specs.declared.fault.Stop.TheVariants.{Here}
+use Rattle.py_grammar.specs.declared.fault.Stop.TheVariants.{Here, End}
 use Rattle.py_grammar.specs.declared.part.Part.{Part}
 use Rattle.py_grammar.specs.Concrete.{Spot, Expr, Exprs}
 use Rattle.py_grammar.specs.Tokens.{token, word, expr_tokens, exprs_tokens}
@@ -26,10 +26,10 @@ use Rattle.py_grammar.proofs.Refusals.{first_of}
 use Rattle.py_grammar.proofs.SimpleParts.{Turns, turned_none, one_found, as_whole, map_whole, only_whole, only_map, only_alone, spelled, begins_part, refused_part, ended, misplaced, row_all, row_goes, expr_all, expr_goes, not_deeper}
 
 -- a token that a keyword alone does not have behind it
-none_behind : (around : Around) (word : ℕ) (s : Spot → Simple) (at : Pos) (behind : List Token) (stop : Stop) → ((spot : Spot) → simple_tokens (s spot) ≡ token (Keyword word) spot ∷ [])
-    → ((spot : Spot) (n : ℕ) (more : List Token) → read_simple n (token (Keyword word) spot ∷ more) ≡ alone (s spot) more) → IsMore behind stop → RefusedBehind word at around behind stop
-none_behind around word s at behind stop spells reads more = record {
-  there = λ spot here.
+none_behind : (around : Around) (word : ℕ) (s : Spot → Simple) (behind : List Token) (stop : Stop) → ((spot : Spot) → simple_tokens (s spot) ≡ token (Keyword word) spot ∷ [])
+    → ((spot : Spot) (n : ℕ) (more : List Token) → read_simple n (token (Keyword word) spot ∷ more) ≡ alone (s spot) more) → IsMore behind stop → RefusedBehind word around behind stop
+none_behind around word s behind stop spells reads more = record {
+  there = λ spot.
       ended around (token (Keyword word) spot ∷ []) behind (token (Keyword word) spot ∷ behind) stop (s spot) refl (spells spot) more (λ t ts rest is. record { steps = 0; none = λ n. reads spot (n + 0) (t ∷ rest) });
 }
 
@@ -39,25 +39,25 @@ pub pass_found : (behind : List Token) (form : Form) → behind ≡ [] → form_
 pass_found behind form is tree around spot = record { written = pass spot; before_is = ap (λ ts. token (Keyword 28) spot ∷ ts) is; tree_is = tree; fits = omega arith; stands = refl }
 
 pub pass_more : (behind : List Token) (stop : Stop) → IsMore behind stop → RefusedBehindAny 28 behind stop
-pass_more behind stop more = record { there = λ around spot. (none_behind around 28 pass spot.at behind stop (λ spot. refl) (λ spot n ts. refl) more).there spot refl }
+pass_more behind stop more = record { there = λ around spot. (none_behind around 28 pass behind stop (λ spot. refl) (λ spot n ts. refl) more).there spot }
 
 pub break_found : (around : Around) (behind : List Token) (form : Form) → around.in_loop ≡ true → behind ≡ [] → form_of form ≡ break_form → FoundBehind 8 around behind form
 break_found around behind form inside is tree spot = record { written = break spot; before_is = ap (λ ts. token (Keyword 8) spot ∷ ts) is; tree_is = tree; fits = omega arith; stands = inside }
 
-pub break_more : (around : Around) (at : Pos) (behind : List Token) (stop : Stop) → IsMore behind stop → RefusedBehind 8 at around behind stop
-break_more around at behind stop more = none_behind around 8 break at behind stop (λ spot. refl) (λ spot n ts. refl) more
+pub break_more : (around : Around) (behind : List Token) (stop : Stop) → IsMore behind stop → RefusedBehind 8 around behind stop
+break_more around behind stop more = none_behind around 8 break behind stop (λ spot. refl) (λ spot n ts. refl) more
 
-pub break_outside : (around : Around) (at : Pos) (behind : List Token) → around.in_loop ≡ false → RefusedBehind 8 at around behind (Here (Unexpected at))
-break_outside around at behind outside = record { there = λ spot here. misplaced around (token (Keyword 8) spot) behind (Unexpected at) (sym here, refl) (λ n more. only_alone _ (break spot) more outside) }
+pub break_outside : (around : Around) (behind : List Token) (left : ℕ) → around.in_loop ≡ false → left ≡ length behind → RefusedBehind 8 around behind (Here (Unexpected left))
+break_outside around behind left outside is = record { there = λ spot. misplaced around (token (Keyword 8) spot) behind (Unexpected left) is (λ n more. only_alone _ (break spot) more outside) }
 
 pub continue_found : (around : Around) (behind : List Token) (form : Form) → around.in_loop ≡ true → behind ≡ [] → form_of form ≡ continue_form → FoundBehind 10 around behind form
 continue_found around behind form inside is tree spot = record { written = continue spot; before_is = ap (λ ts. token (Keyword 10) spot ∷ ts) is; tree_is = tree; fits = omega arith; stands = inside }
 
-pub continue_more : (around : Around) (at : Pos) (behind : List Token) (stop : Stop) → IsMore behind stop → RefusedBehind 10 at around behind stop
-continue_more around at behind stop more = none_behind around 10 continue at behind stop (λ spot. refl) (λ spot n ts. refl) more
+pub continue_more : (around : Around) (behind : List Token) (stop : Stop) → IsMore behind stop → RefusedBehind 10 around behind stop
+continue_more around behind stop more = none_behind around 10 continue behind stop (λ spot. refl) (λ spot n ts. refl) more
 
-pub continue_outside : (around : Around) (at : Pos) (behind : List Token) → around.in_loop ≡ false → RefusedBehind 10 at around behind (Here (Unexpected at))
-continue_outside around at behind outside = record { there = λ spot here. misplaced around (token (Keyword 10) spot) behind (Unexpected at) (sym here, refl) (λ n more. only_alone _ (continue spot) more outside) }
+pub continue_outside : (around : Around) (behind : List Token) (left : ℕ) → around.in_loop ≡ false → left ≡ length behind → RefusedBehind 10 around behind (Here (Unexpected left))
+continue_outside around behind left outside is = record { there = λ spot. misplaced around (token (Keyword 10) spot) behind (Unexpected left) is (λ n more. only_alone _ (continue spot) more outside) }
 
 -- ---- `return`
 
@@ -89,24 +89,24 @@ return_value_found around behind after part form inside f is tree spot = record 
   stands = inside;
 }
 
-pub return_outside : (around : Around) (at : Pos) (behind : List Token) → around.in_function ≡ false → RefusedBehind 30 at around behind (Here (Unexpected at))
-return_outside around at behind outside = record { there = λ spot here. misplaced around (token (Keyword 30) spot) behind (Unexpected at) (sym here, refl) (amiss spot) }
+pub return_outside : (around : Around) (behind : List Token) (left : ℕ) → around.in_function ≡ false → left ≡ length behind → RefusedBehind 30 around behind (Here (Unexpected left))
+return_outside around behind left outside is = record { there = λ spot. misplaced around (token (Keyword 30) spot) behind (Unexpected left) is (amiss spot) }
   where
-    amiss : (spot : Spot) (n : ℕ) (more : List Token) → Only (IsAmiss around (Here (Unexpected at))) (leaving_none (read_simple n (token (Keyword 30) spot ∷ more)))
+    amiss : (spot : Spot) (n : ℕ) (more : List Token) → Only (IsAmiss around (Here (Unexpected left))) (leaving_none (read_simple n (token (Keyword 30) spot ∷ more)))
     amiss spot n [] = outside
     amiss spot n (t ∷ ts) = only_map _ (return_value spot) (whole (read_exprs n (t ∷ ts))) (λ e. outside)
 
-pub return_refused : (around : Around) (at : Pos) (behind : List Token) (stop : Stop) → (behind ≡ [] → ⊥) → Refused exprs_part 100 behind stop → RefusedBehind 30 at around behind stop
-return_refused around at behind stop some is = record {
-  there = λ spot here.
+pub return_refused : (around : Around) (behind : List Token) (stop : Stop) → (behind ≡ [] → ⊥) → Refused exprs_part 100 behind stop → RefusedBehind 30 around behind stop
+return_refused around behind stop some is = record {
+  there = λ spot.
       refused_part around exprs_part 100 (token (Keyword 30) spot ∷ []) behind (token (Keyword 30) spot ∷ behind) stop (return_turn spot) refl
       (begins_part exprs_part (token (Keyword 30) spot ∷ []) (return_value spot) (λ e. refl)) (λ more first. return_turns spot more (not_empty more behind first some))
       (λ why n e left deep. only_whole _ (λ e. Some (return_value spot e)) n e left deep) is;
 }
 
-pub return_more : (around : Around) (at : Pos) (behind after : List Token) (part : Part) (stop : Stop) → FoundRow 100 behind part after → IsMore after stop → RefusedBehind 30 at around behind stop
-return_more around at behind after part stop f more = record {
-  there = λ spot here.
+pub return_more : (around : Around) (behind after : List Token) (part : Part) (stop : Stop) → FoundRow 100 behind part after → IsMore after stop → RefusedBehind 30 around behind stop
+return_more around behind after part stop f more = record {
+  there = λ spot.
       ended around (token (Keyword 30) spot ∷ exprs_tokens f.written) after (token (Keyword 30) spot ∷ behind) stop (return_value spot f.written) (ap (λ ts. token (Keyword 30) spot ∷ ts) f.before_is) refl more
       (λ t ts rest is. turned_none exprs_part _ (exprs_tokens f.written ++ t ∷ rest) (t ∷ rest) (return_turn spot) f.written (row_reads f.written).steps (return_turns spot _ (behind_none (exprs_tokens f.written) t rest)) (row_goes f t ts rest is) (λ n. refl));
 }
@@ -132,24 +132,24 @@ raise_value_found around behind after part form f is tree spot = record {
   stands = refl;
 }
 
-pub raise_outside : (around : Around) (at : Pos) (behind : List Token) → around.in_handler ≡ false → behind ≡ [] → RefusedBehind 29 at around behind (Here (Unsupported at))
-raise_outside around at behind outside is = record {
-  there = λ spot here.
-      inr (subst (λ (ts : List Token). SimpleEnds around (token (Keyword 29) spot ∷ ts) (Here (Unsupported at))) (sym is)
-      (record { begins = spelled (raise spot) (token (Keyword 29) spot ∷ []) refl; none = one_found _ (token (Keyword 29) spot ∷ []) (raise spot) 0 (λ n. refl) outside }));
+pub raise_outside : (around : Around) (behind : List Token) → around.in_handler ≡ false → behind ≡ [] → RefusedBehind 29 around behind End
+raise_outside around behind outside is = record {
+  there = λ spot.
+      subst (λ (ts : List Token). SimpleEnds around (token (Keyword 29) spot ∷ ts) End) (sym is)
+      (record { begins = spelled (raise spot) (token (Keyword 29) spot ∷ []) refl; none = one_found _ (token (Keyword 29) spot ∷ []) (raise spot) 0 (λ n. refl) outside });
 }
 
-pub raise_refused : (around : Around) (at : Pos) (behind : List Token) (stop : Stop) → (behind ≡ [] → ⊥) → Refused expr_part 100 behind stop → RefusedBehind 29 at around behind stop
-raise_refused around at behind stop some is = record {
-  there = λ spot here.
+pub raise_refused : (around : Around) (behind : List Token) (stop : Stop) → (behind ≡ [] → ⊥) → Refused expr_part 100 behind stop → RefusedBehind 29 around behind stop
+raise_refused around behind stop some is = record {
+  there = λ spot.
       refused_part around expr_part 100 (token (Keyword 29) spot ∷ []) behind (token (Keyword 29) spot ∷ behind) stop (raise_turn spot) refl
       (begins_part expr_part (token (Keyword 29) spot ∷ []) (raise_value spot) (λ e. refl)) (λ more first. raise_turns spot more (not_empty more behind first some))
       (λ why n e left deep. only_whole _ (λ e. Some (raise_value spot e)) n e left deep) is;
 }
 
-pub raise_more : (around : Around) (at : Pos) (behind after : List Token) (part : Part) (stop : Stop) → Found expr_part expr_tree 7 100 behind part after → IsMore after stop → RefusedBehind 29 at around behind stop
-raise_more around at behind after part stop f more = record {
-  there = λ spot here.
+pub raise_more : (around : Around) (behind after : List Token) (part : Part) (stop : Stop) → Found expr_part expr_tree 7 100 behind part after → IsMore after stop → RefusedBehind 29 around behind stop
+raise_more around behind after part stop f more = record {
+  there = λ spot.
       ended around (token (Keyword 29) spot ∷ expr_tokens f.written) after (token (Keyword 29) spot ∷ behind) stop (raise_value spot f.written) (ap (λ ts. token (Keyword 29) spot ∷ ts) f.before_is) refl more
       (λ t ts rest is. turned_none expr_part _ (expr_tokens f.written ++ t ∷ rest) (t ∷ rest) (raise_turn spot) f.written (expr_reads f.written).steps (raise_turns spot _ (behind_none (expr_tokens f.written) t rest)) (expr_goes f t ts rest is) (λ n. refl));
 }
@@ -171,20 +171,20 @@ import_found name_at name behind after form f known is tree around spot = record
   stands = known;
 }
 
-pub import_other : (name_at : Pos) (name : List ℕ) (behind after : List Token) → TakenName behind name_at name after → is_module name ≡ false → RefusedBehindAny 21 behind (Here (Unsupported name_at))
-import_other name_at name behind after f unknown = record {
-  there = λ around spot. inl (record {
+pub import_other : (name_at : Pos) (name : List ℕ) (behind after : List Token) (left : ℕ) → TakenName behind name_at name after → is_module name ≡ false → left ≡ length after → RefusedBehindAny 21 behind (Here (Unexpected left))
+import_other name_at name behind after left f unknown is = record {
+  there = λ around spot. record {
     front = token (Keyword 21) spot ∷ [];
     shown_by = token (Word name) f.spot;
     behind = after;
     before_is = ap (λ ts. token (Keyword 21) spot ∷ ts) f.before_is;
-    place_is = tt;
+    left_is = is;
     begins = inl (record { some = import_module spot f.spot name; more = word name f.spot; tokens_are = refl });
     none = λ more. record { steps = 0; only = λ n. amiss around spot more };
-  });
+  };
 }
   where
-    amiss : (around : Around) (spot : Spot) (more : List Token) → Only (IsAmiss around (Here (Unsupported name_at))) (leaving_none (option_map (λ (found : Spot × List ℕ). import_module spot found.0 found.1) (whole (Some ((f.spot, name), more)))))
+    amiss : (around : Around) (spot : Spot) (more : List Token) → Only (IsAmiss around (Here (Unexpected left))) (leaving_none (option_map (λ (found : Spot × List ℕ). import_module spot found.0 found.1) (whole (Some ((f.spot, name), more)))))
     amiss around spot [] = unknown
     amiss around spot (t ∷ ts) = tt
 

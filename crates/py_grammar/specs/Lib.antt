@@ -10,6 +10,7 @@ pub mod ParsedRows
 pub mod ParsedSimple
 pub mod LineReader
 pub mod Reader
+pub mod Spelled
 pub mod StatementReader
 pub mod StatementTokens
 pub mod StatementTrees

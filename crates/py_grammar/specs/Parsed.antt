@@ -1,5 +1,5 @@
 -- What the parser's functions answer of the tokens before them. No public clause speaks of it.
-use Rattle.std.specs.Prelude.{◌≡◌, ⊤, ℕ, ◌+◌, ◌<◌, ◌≤◌, Bool, true, false, List, [], ◌∷◌, ◌++◌, Option, Some, None, is_some, is_none, ◌==◌, ◌||◌, nat_le, if◌then◌else◌}
+use Rattle.std.specs.Prelude.{◌≡◌, ⊤, ℕ, ◌+◌, ◌<◌, ◌≤◌, Bool, true, false, List, [], ◌∷◌, ◌++◌, length, Option, Some, None, is_some, is_none, ◌==◌, if◌then◌else◌}
 use Rattle.prov_base.specs.declared.place.Pos.{Pos}
 use Rattle.py_lines.specs.declared.parts.Token.{Token}
 use Rattle.py_lines.specs.declared.parts.TokenKind.{TokenKind}
@@ -12,8 +12,8 @@ use Rattle.py_tree.specs.declared.expr.CmpOp.{CmpOp}
 use Rattle.py_tree.specs.declared.expr.CmpOp.TheVariants.{Eq, Ne, Lt, Le, Gt, Ge}
 use Rattle.py_tree.specs.Tree.{ExprTree}
 use Rattle.py_tree.specs.Erasure.{expr_of}
-use Rattle.py_grammar.specs.declared.fault.ParseFault.{ParseFault}
-use Rattle.py_grammar.specs.declared.fault.ParseFault.TheVariants.{Unexpected, Unsupported, TooDeep, Memory}
+use Rattle.py_grammar.specs.declared.fault.Fault.{Fault}
+use Rattle.py_grammar.specs.declared.fault.Fault.TheVariants.{Unexpected, TooDeep, Memory}
 use Rattle.py_grammar.specs.declared.fault.Stop.{Stop}
 use Rattle.py_grammar.specs.declared.fault.Stop.TheVariants.{Here, End}
 use Rattle.py_grammar.specs.declared.part.Part.{Part}
@@ -102,29 +102,16 @@ pub record Taken (kind : TokenKind) (before : List Token) (at : Pos) (after : Li
 abbrev pub IsMemory : Stop → Type 0
 IsMemory stop = stop ≡ Here Memory
 
--- Words and signs that stand nowhere: `async`, `await`, `finally`, `from`, `lambda`, `nonlocal` and `yield`, and the signs behind
--- those of the grammar.
-abbrev pub is_never : TokenKind → Bool
-is_never (Keyword n) = (n == 6) || (n == 7) || (n == 16) || (n == 18) || (n == 24) || (n == 25) || (n == 34)
-is_never (Sign n) = nat_le 26 n
-is_never kind = false
-
--- this token is Unexpected, so it is none of these
-abbrev pub IsUnexpected : Token → Pos → Type 0
-IsUnexpected t place = (place ≡ t.at) × (is_never t.kind ≡ false)
-
--- the fault names this token; of TooDeep, which may name an earlier one, nothing is said here
-abbrev pub Names : Token → ParseFault → Type 0
-Names t (Unexpected place) = IsUnexpected t place
-Names t (Unsupported place) = place ≡ t.at
-Names t (TooDeep place) = ⊤
-Names t fault = ⊥
+-- the fault is shown by the token behind which these stand; of the place that TooDeep names nothing is said here
+abbrev pub ShowsAt : List Token → Fault → Type 0
+ShowsAt behind (Unexpected left) = left ≡ length behind
+ShowsAt behind (TooDeep place) = ⊤
+ShowsAt behind fault = ⊥
 
 -- reading stops at the first of these tokens, where the grammar has another
 abbrev pub IsAtFirst : List Token → Stop → Type 0
 IsAtFirst [] stop = stop ≡ End
-IsAtFirst (t ∷ ts) (Here (Unexpected place)) = IsUnexpected t place
-IsAtFirst (t ∷ ts) (Here (Unsupported place)) = place ≡ t.at
+IsAtFirst (t ∷ ts) (Here (Unexpected left)) = left ≡ length ts
 IsAtFirst (t ∷ ts) stop = ⊥
 
 -- What is read all the same where reading stopped: with TooDeep what goes deeper than there is room for, else nothing.
@@ -149,12 +136,12 @@ pub record Begins {A : Type 0} (p : Production A) (front : List Token) : Type 0 
 
 -- The tokens before this one begin such a part, and those up to and with it begin none: with TooDeep, none that there is
 -- room for.
-pub record Shown {A : Type 0} (p : Production A) (room : ℕ) (before : List Token) (fault : ParseFault) : Type 0 where
+pub record Shown {A : Type 0} (p : Production A) (room : ℕ) (before : List Token) (fault : Fault) : Type 0 where
   pub front : List Token
   pub shown_by : Token
   pub behind : List Token
   pub before_is : before ≡ front ++ shown_by ∷ behind
-  pub place_is : Names shown_by fault
+  pub left_is : ShowsAt behind fault
   pub begins : Begins p front
   pub none : (more : List Token) → Finds (λ a. IsDeep (Here fault) room (p.depth a)) p.read (front ++ shown_by ∷ more)
 

@@ -12,8 +12,8 @@ use Rattle.py_grammar.specs.declared.context.Last.{Last}
 use Rattle.py_grammar.specs.declared.context.Limit.{Limit}
 use Rattle.py_grammar.specs.declared.context.Limit.TheVariants.{Number, Depth}
 use Rattle.py_grammar.specs.declared.context.Last.TheVariants.{If as AfterIf, Try as AfterTry, Handler}
-use Rattle.py_grammar.specs.declared.fault.ParseFault.{ParseFault}
-use Rattle.py_grammar.specs.declared.fault.ParseFault.TheVariants.{Unexpected, Unsupported, TooDeep, TooMany, Memory}
+use Rattle.py_grammar.specs.declared.fault.Fault.{Fault}
+use Rattle.py_grammar.specs.declared.fault.Fault.TheVariants.{Unexpected, TooDeep, TooMany, Memory}
 use Rattle.py_grammar.specs.declared.fault.Stop.{Stop}
 use Rattle.py_grammar.specs.declared.fault.Stop.TheVariants.{Here, End}
 use Rattle.py_grammar.specs.declared.head.What.{What}
@@ -29,7 +29,7 @@ use Rattle.py_grammar.specs.StatementTrees.{simple_form, target_tree, names_list
 use Rattle.py_grammar.specs.Depth.{expr_depth, exprs_depth, simple_depth, target_depth, kind_depth}
 use Rattle.py_grammar.specs.WellPlaced.{Around, in_suite, in_loop_suite, in_handler_suite, in_def_suite, in_class_suite, simple_stands, def_stands, none_given}
 use Rattle.py_grammar.specs.LineReader.{Head, simple_head, if_head, elif_head, else_head, while_head, for_head, try_head, except_head, with_head, def_head, class_head, global_head, behind_tokens, colon_tokens, head_tokens, read_colon, read_head, read_target, read_names, read_params, read_naming, read_kind, read_base}
-use Rattle.py_grammar.specs.Parsed.{Production, Begins, IsAtFirst, IsUnexpected}
+use Rattle.py_grammar.specs.Parsed.{Production, Begins, IsAtFirst, ShowsAt}
 use Rattle.py_grammar.specs.ParsedRows.{first_token, IsRead}
 use Rattle.py_grammar.specs.ParsedSimple.{around_of, leaving_none, BeginsSimple}
 
@@ -241,8 +241,8 @@ pub record Opening (c : Context) (word : ℕ) (before : List Token) (what : What
 abbrev pub IsAmissPlaced : Around → (limit : Option Limit) → Stop → Simple → Type 0
 IsAmissPlaced around limit (Here (TooDeep at)) s = (100 < simple_depth s) ⊎ (limit ≡ Some Depth)
 IsAmissPlaced around limit (Here (TooMany at)) s = limit ≡ Some Number
-IsAmissPlaced around limit (Here (Unexpected at)) s = simple_stands around s ≡ false
-IsAmissPlaced around limit (Here (Unsupported at)) s = simple_stands around s ≡ false
+IsAmissPlaced around limit (Here (Unexpected left)) s = simple_stands around s ≡ false
+IsAmissPlaced around limit End s = simple_stands around s ≡ false
 IsAmissPlaced around limit stop s = ⊥
 
 -- this limit is passed
@@ -252,17 +252,14 @@ passes one limit h = (limit ≡ Some one) × (is_some (behind_in h) ≡ true)
 abbrev pub IsAmissHead : Context → List (List ℕ) → (limit : Option Limit) → Stop → Head → Type 0
 IsAmissHead c given limit (Here (TooDeep at)) h = (100 < head_depth h) ⊎ passes Depth limit h
 IsAmissHead c given limit (Here (TooMany at)) h = passes Number limit h
-IsAmissHead c given limit (Here (Unexpected at)) h = head_stands c given h ≡ false
-IsAmissHead c given limit (Here (Unsupported at)) h = head_stands c given h ≡ false
+IsAmissHead c given limit (Here (Unexpected left)) h = head_stands c given h ≡ false
+IsAmissHead c given limit End h = head_stands c given h ≡ false
 IsAmissHead c given limit stop h = ⊥
 
--- Unexpected and TooMany name this token. Of Unsupported and TooDeep, which may name an earlier one, nothing is said here.
-abbrev pub MayNameLine : Token → ParseFault → Type 0
-MayNameLine t (Unexpected place) = IsUnexpected t place
-MayNameLine t (TooMany place) = place ≡ t.at
-MayNameLine t (Unsupported place) = ⊤
-MayNameLine t (TooDeep place) = ⊤
-MayNameLine t fault = ⊥
+-- The fault is shown by this token, behind which these stand, and TooMany names it.
+abbrev pub ShowsOnLine : Token → List Token → Fault → Type 0
+ShowsOnLine t behind (TooMany place) = place ≡ t.at
+ShowsOnLine t behind fault = ShowsAt behind fault
 
 -- tokens that begin a line, and then the first tokens of an expression, which is read before it is asked whether it is a target
 pub record BeginsReading (front : List Token) : Type 0 where
@@ -276,12 +273,12 @@ abbrev pub BeginsHead : List Token → Type 0
 BeginsHead front = Begins head_part front ⊎ BeginsReading front
 
 -- The tokens before this one begin what is asked for, and those up to and with it begin nothing that may stand there.
-pub record ShownBy {A : Type 0} (begins : List Token → Type 0) (tokens : A → List Token) (amiss : ParseFault → A → Type 0) (before : List Token) (fault : ParseFault) : Type 0 where
+pub record ShownBy {A : Type 0} (begins : List Token → Type 0) (tokens : A → List Token) (amiss : Fault → A → Type 0) (before : List Token) (fault : Fault) : Type 0 where
   pub front : List Token
   pub shown_by : Token
   pub behind : List Token
   pub before_is : before ≡ front ++ shown_by ∷ behind
-  pub place_is : MayNameLine shown_by fault
+  pub left_is : ShowsOnLine shown_by behind fault
   pub begun : begins front
   pub none : (a : A) (more : List Token) → tokens a ≡ front ++ shown_by ∷ more → amiss fault a
 
@@ -293,8 +290,6 @@ pub record EndedBy {A : Type 0} (begins : List Token → Type 0) (tokens : A →
 -- nothing was read that may stand there
 abbrev pub LineRefused : {A : Type 0} → (List Token → Type 0) → (A → List Token) → (Stop → A → Type 0) → List Token → Stop → Type 0
 LineRefused begins tokens amiss before (Here Memory) = ⊤
-LineRefused begins tokens amiss before (Here (Unsupported at)) =
-    ShownBy begins tokens (λ fault a. amiss (Here fault) a) before (Unsupported at) ⊎ EndedBy begins tokens (amiss (Here (Unsupported at))) before
 LineRefused begins tokens amiss before (Here fault) = ShownBy begins tokens (λ fault a. amiss (Here fault) a) before fault
 LineRefused begins tokens amiss before End = EndedBy begins tokens (amiss End) before
 
@@ -328,7 +323,7 @@ is_refused_kind (Keyword n) = (n == 11) || (n == 9) || (n == 19)
 is_refused_kind kind = false
 
 -- the fault that names this limit at this place
-abbrev pub limit_fault : Limit → Pos → ParseFault
+abbrev pub limit_fault : Limit → Pos → Fault
 limit_fault Number at = TooMany at
 limit_fault Depth at = TooDeep at
 
@@ -336,11 +331,16 @@ abbrev pub is_text_kind : TokenKind → Bool
 is_text_kind (Text bytes) = true
 is_text_kind kind = false
 
--- what may not stand in a class is refused at its first token; a text always as a refused form
+-- How many tokens stand behind the one that shows that a statement may not stand in a class: the first one, or behind a text the second one.
+-- `ts` are those behind the first.
+abbrev pub left_in_class : Bool → List Token → ℕ
+left_in_class true (t ∷ ts) = length ts
+left_in_class first ts = length ts
+
+-- what may not stand in a class is refused
 abbrev pub IsRefusedInClass : List Token → Stop → Type 0
 IsRefusedInClass [] stop = stop ≡ End
-IsRefusedInClass (t ∷ ts) (Here (Unexpected place)) = IsUnexpected t place × (is_text_kind t.kind ≡ false)
-IsRefusedInClass (t ∷ ts) (Here (Unsupported place)) = place ≡ t.at
+IsRefusedInClass (t ∷ ts) (Here (Unexpected left)) = left ≡ left_in_class (is_text_kind t.kind) ts
 IsRefusedInClass (t ∷ ts) stop = ⊥
 
 -- no line may stand there that begins with the next token

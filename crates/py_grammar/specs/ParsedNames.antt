@@ -2,13 +2,12 @@
 use Rattle.std.specs.Prelude.{◌≡◌, ⊤, ◌⊎◌, ℕ, ◌<◌, ◌≤◌, max, true, false, List, [], ◌∷◌, ◌++◌, map, Some, is_none}
 use Rattle.py_lines.specs.declared.parts.Token.{Token}
 use Rattle.py_lines.specs.declared.parts.TokenKind.TheVariants.{Keyword, Sign}
-use Rattle.prov_base.specs.declared.place.Pos.{Pos}
 use Rattle.py_tree.specs.Tree.{ExprTree}
 use Rattle.py_tree.specs.Erasure.{expr_of, exprs_list}
 use Rattle.py_grammar.specs.declared.part.Part.{Part}
 use Rattle.py_grammar.specs.declared.rows.Row.{Row}
-use Rattle.py_grammar.specs.declared.fault.ParseFault.{ParseFault}
-use Rattle.py_grammar.specs.declared.fault.ParseFault.TheVariants.{Unexpected, Unsupported, Memory}
+use Rattle.py_grammar.specs.declared.fault.Fault.{Fault}
+use Rattle.py_grammar.specs.declared.fault.Fault.TheVariants.{Unexpected, Memory}
 use Rattle.py_grammar.specs.declared.fault.Stop.{Stop}
 use Rattle.py_grammar.specs.declared.fault.Stop.TheVariants.{Here, End}
 use Rattle.py_grammar.specs.Concrete.{Spot, Expr}
@@ -22,7 +21,7 @@ use Rattle.py_grammar.specs.Depth.{one_target_depth, target_rest_depth}
 use Rattle.py_grammar.specs.StatementReader.{whole}
 use Rattle.py_grammar.specs.LineReader.{read_target_rest, read_names, read_params}
 use Rattle.py_grammar.specs.WellPlaced.{are_different, none_given}
-use Rattle.py_grammar.specs.Parsed.{Production, Names as NamesPlace, IsDeep, Finds, Begins, Refused, Found, sum_part}
+use Rattle.py_grammar.specs.Parsed.{Production, ShowsAt, IsAtFirst, IsDeep, Finds, Begins, Refused, Found, sum_part}
 use Rattle.py_grammar.specs.ParsedRows.{IsRead}
 use Rattle.py_grammar.specs.ParsedSimple.{leaving_none, target_form, targets_form}
 use Rattle.py_grammar.specs.ParsedHead.{names_part, params_part, LineRefused}
@@ -30,12 +29,12 @@ use Rattle.py_grammar.specs.ParsedHead.{names_part, params_part, LineRefused}
 -- ---- refused, where something may be read all the same
 
 -- The tokens before this one begin such a part, and of those up to and with it only what is amiss is read.
-pub record ShownAmiss {A : Type 0} (p : Production A) (amiss : Stop → A → Type 0) (before : List Token) (fault : ParseFault) : Type 0 where
+pub record ShownAmiss {A : Type 0} (p : Production A) (amiss : Stop → A → Type 0) (before : List Token) (fault : Fault) : Type 0 where
   pub front : List Token
   pub shown_by : Token
   pub behind : List Token
   pub before_is : before ≡ front ++ shown_by ∷ behind
-  pub place_is : NamesPlace shown_by fault
+  pub left_is : ShowsAt behind fault
   pub begins : Begins p front
   pub none : (more : List Token) → Finds (amiss (Here fault)) p.read (front ++ shown_by ∷ more)
 
@@ -140,8 +139,7 @@ pub record ItemFound (room : ℕ) (before : List Token) (part : Part) (after : L
 pub record WrongItem (room : ℕ) (before : List Token) (stop : Stop) : Type 0 where
   pub part : Part
   pub after : List Token
-  pub place : Pos
-  pub stop_is : stop ≡ Here (Unsupported place)
+  pub stop_is : IsAtFirst after stop
   pub found : Found sum_part sum_tree 3 room before part after
   pub form : is_none part.wrong ≡ false
 

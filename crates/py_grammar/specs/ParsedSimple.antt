@@ -1,5 +1,5 @@
 -- What the parser answers of the tokens of a simple statement. No public clause speaks of it.
-use Rattle.std.specs.Prelude.{◌≡◌, ⊤, ◌⊎◌, ℕ, ◌<◌, ◌≤◌, Bool, true, false, ◌||◌, ◌==◌, List, [], ◌∷◌, ◌++◌, Option, Some, None, option_map, option_and_then, is_some, is_none}
+use Rattle.std.specs.Prelude.{◌≡◌, ⊤, ◌⊎◌, ℕ, ◌<◌, ◌≤◌, Bool, true, false, ◌||◌, ◌==◌, List, [], ◌∷◌, ◌++◌, length, Option, Some, None, option_map, option_and_then, is_some, is_none}
 use Rattle.prov_base.specs.declared.place.Pos.{Pos}
 use Rattle.py_lines.specs.declared.parts.Token.{Token}
 use Rattle.py_lines.specs.declared.parts.TokenKind.{TokenKind}
@@ -9,8 +9,8 @@ use Rattle.py_tree.specs.declared.stmt.Form.{Form}
 use Rattle.py_tree.specs.Tree.{ExprTree, ExprsTree, TargetTree, TargetsTree, var_expr, attr_expr, part_expr, tuple_expr, end_exprs, more_exprs, var_target, part_target, field_target, many_target, end_targets, more_targets}
 use Rattle.py_tree.specs.Erasure.{expr_of, form_of}
 use Rattle.py_grammar.specs.declared.around.Around.{Around as Standing}
-use Rattle.py_grammar.specs.declared.fault.ParseFault.{ParseFault}
-use Rattle.py_grammar.specs.declared.fault.ParseFault.TheVariants.{Unexpected, Unsupported, TooDeep, Memory}
+use Rattle.py_grammar.specs.declared.fault.Fault.{Fault}
+use Rattle.py_grammar.specs.declared.fault.Fault.TheVariants.{Unexpected, TooDeep, Memory}
 use Rattle.py_grammar.specs.declared.fault.Stop.{Stop}
 use Rattle.py_grammar.specs.declared.fault.Stop.TheVariants.{Here, End}
 use Rattle.py_grammar.specs.declared.part.Part.{Part}
@@ -24,7 +24,7 @@ use Rattle.py_grammar.specs.Depth.{simple_depth}
 use Rattle.py_grammar.specs.WellPlaced.{Around, form_stands}
 use Rattle.py_grammar.specs.Reader.{Read}
 use Rattle.py_grammar.specs.StatementReader.{aug_sign_of, exprs_target, read_simple}
-use Rattle.py_grammar.specs.Parsed.{IsUnexpected, Production, Finds, Begins, Taken, FoundRow}
+use Rattle.py_grammar.specs.Parsed.{ShowsAt, Production, Finds, Begins, Taken, FoundRow}
 
 -- where the code is, in the words of the grammar
 abbrev pub around_of : Standing → Around
@@ -53,16 +53,9 @@ pub record SimpleFound (around : Around) (before : List Token) (form : Form) : T
 -- What is read all the same where reading stopped: with TooDeep what goes too deep, else what does not stand there.
 abbrev pub IsAmiss : Around → Stop → Simple → Type 0
 IsAmiss around (Here (TooDeep at)) s = 100 < simple_depth s
-IsAmiss around (Here (Unexpected at)) s = form_stands around (simple_form s) ≡ false
-IsAmiss around (Here (Unsupported at)) s = form_stands around (simple_form s) ≡ false
+IsAmiss around (Here (Unexpected left)) s = form_stands around (simple_form s) ≡ false
+IsAmiss around End s = form_stands around (simple_form s) ≡ false
 IsAmiss around stop s = ⊥
-
--- Unexpected names this token. Of Unsupported and TooDeep, which may name an earlier one, nothing is said here.
-abbrev pub MayName : Token → ParseFault → Type 0
-MayName t (Unexpected place) = IsUnexpected t place
-MayName t (Unsupported place) = ⊤
-MayName t (TooDeep place) = ⊤
-MayName t fault = ⊥
 
 -- `del` and the first tokens of an expression, which is read before it is asked whether it is a target
 pub record BeginsDel (front : List Token) : Type 0 where
@@ -75,12 +68,12 @@ abbrev pub BeginsSimple : List Token → Type 0
 BeginsSimple front = Begins simple_part front ⊎ BeginsDel front
 
 -- The tokens before this one begin a simple statement, and those up to and with it begin none that may stand there.
-pub record SimpleShown (around : Around) (before : List Token) (fault : ParseFault) : Type 0 where
+pub record SimpleShown (around : Around) (before : List Token) (fault : Fault) : Type 0 where
   pub front : List Token
   pub shown_by : Token
   pub behind : List Token
   pub before_is : before ≡ front ++ shown_by ∷ behind
-  pub place_is : MayName shown_by fault
+  pub left_is : ShowsAt behind fault
   pub begins : BeginsSimple front
   pub none : (more : List Token) → Finds (IsAmiss around (Here fault)) simple_part.read (front ++ shown_by ∷ more)
 
@@ -92,7 +85,6 @@ pub record SimpleEnds (around : Around) (before : List Token) (stop : Stop) : Ty
 -- no simple statement was read
 abbrev pub SimpleRefused : Around → List Token → Stop → Type 0
 SimpleRefused around before (Here Memory) = ⊤
-SimpleRefused around before (Here (Unsupported at)) = SimpleShown around before (Unsupported at) ⊎ SimpleEnds around before (Here (Unsupported at))
 SimpleRefused around before (Here fault) = SimpleShown around before fault
 SimpleRefused around before End = SimpleEnds around before End
 
@@ -100,8 +92,8 @@ SimpleRefused around before End = SimpleEnds around before End
 abbrev pub FoundBehind : ℕ → Around → List Token → Form → Type 0
 FoundBehind word around before form = (spot : Spot) → SimpleFound around (token (Keyword word) spot ∷ before) form
 
-pub record RefusedBehind (word : ℕ) (at : Pos) (around : Around) (before : List Token) (stop : Stop) : Type 0 where
-  pub there : (spot : Spot) → spot.at ≡ at → SimpleRefused around (token (Keyword word) spot ∷ before) stop
+pub record RefusedBehind (word : ℕ) (around : Around) (before : List Token) (stop : Stop) : Type 0 where
+  pub there : (spot : Spot) → SimpleRefused around (token (Keyword word) spot ∷ before) stop
 
 -- wherever it stands
 abbrev pub FoundAnywhere : List Token → Form → Type 0
@@ -132,8 +124,7 @@ begins_word (t ∷ ts) = is_word_kind t.kind
 -- something stands there, and this refuses it
 abbrev pub IsMore : List Token → Stop → Type 0
 IsMore [] stop = ⊥
-IsMore (t ∷ ts) (Here (Unexpected place)) = IsUnexpected t place
-IsMore (t ∷ ts) (Here (Unsupported place)) = place ≡ t.at
+IsMore (t ∷ ts) (Here (Unexpected left)) = left ≡ length ts
 IsMore (t ∷ ts) stop = ⊥
 
 -- ---- behind expressions

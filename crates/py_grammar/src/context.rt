@@ -3,7 +3,7 @@ ghost use Rattle.std.specs.Prelude.{◌≡◌};
 ghost use Rattle.py_grammar.specs.ParsedHead.{limit_fault};
 
 use crate::around::Around;
-use crate::fault::ParseFault;
+use crate::fault::Fault;
 use prov_base::Pos;
 
 /// The statement before a line at its indentation, as far as a part of it may follow.
@@ -43,12 +43,12 @@ pub enum Limit {
 
 impl Limit {
     /// The fault that is named at this place.
-    pub fn fault(self, at: Pos) -> ParseFault
+    pub fn fault(self, at: Pos) -> Fault
         ensures { result ≡ limit_fault self at }
     {
         match self {
-            Limit::Number => ParseFault::TooMany(at),
-            Limit::Depth => ParseFault::TooDeep(at),
+            Limit::Number => Fault::TooMany(at),
+            Limit::Depth => Fault::TooDeep(at),
         }
     }
 }

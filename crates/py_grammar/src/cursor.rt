@@ -1,34 +1,18 @@
 // The tokens of a line that are not read yet.
 ghost use Rattle.std.specs.Prelude.{◌≡◌, true, false, IfSome, IfNone, IfOk, IfErr};
 ghost use Rattle.py_lines.specs.declared.parts.TokenKind.TheVariants.{Keyword, Sign};
-ghost use Rattle.py_grammar.specs.Parsed.{is_never, Taken, is_keyword_next, is_sign_next, IsAtFirst, Refused, one_keyword, one_sign, one_name, TakenName};
-ghost use Rattle.py_grammar.specs.Reader.{is_keyword as is_this_keyword};
+ghost use Rattle.py_grammar.specs.Parsed.{Taken, is_keyword_next, is_sign_next, IsAtFirst, Refused, one_keyword, one_sign, one_name, TakenName};
 ghost use Rattle.py_grammar.specs.LineReader.{begins_name};
 
-use crate::fault::{ParseFault, Stop};
-use crate::words::{
-    ASSIGN, ASYNC, AWAIT, FINALLY, FOR, FROM, IN, LAMBDA, NONLOCAL, NOT, SEMICOLON, STAR, YIELD,
-};
+use crate::fault::{Fault, Stop};
 use prov_base::{Name, Pos};
 use py_lines::{Token, TokenKind};
 use std::alloc::Global;
 
-/// The innermost bracket that is open.
-#[derive(Clone, Copy, PartialEq, Eq)]
-pub(crate) enum Inside {
-    /// None.
-    Line,
-    /// That of a call or of a parameter list.
-    Call,
-    /// Another one.
-    Bracket,
-}
-
-/// The tokens that are not read yet, and what is remembered to tell faults apart.
+/// The tokens that are not read yet.
 #[derive(Drop)]
 pub(crate) struct Cursor<'a> {
     pub rest: &'a [Token],
-    pub inside: Inside,
 }
 
 impl<'a> Cursor<'a> {
@@ -120,83 +104,13 @@ impl<'a> Cursor<'a> {
         Ok((at, name))
     }
 
-    /// That the grammar has no such token as the next one here: Unsupported where it is of a form that this profile refuses.
+    /// That the grammar has no such token as the next one here.
     pub(crate) fn refuse(&self) -> Stop
         ensures { IsAtFirst self.now.rest.now result }
     {
         match self.rest.split_first() {
             None => Stop::End,
-            Some((token, _)) => {
-                if self.is_refused(&token.kind) {
-                    Stop::Here(ParseFault::Unsupported(token.at))
-                } else {
-                    Stop::Here(ParseFault::Unexpected(token.at))
-                }
-            }
+            Some((_, behind)) => Stop::Here(Fault::Unexpected(behind.len())),
         }
     }
-
-    /// A token of this kind is of a refused form where the grammar has another.
-    pub(crate) fn is_refused(&self, kind: &TokenKind) -> bool
-        ensures { is_never kind.now ≡ true → result ≡ true }
-    {
-        match kind {
-            TokenKind::Keyword(FOR) => self.inside != Inside::Line,
-            TokenKind::Sign(ASSIGN | STAR) => self.inside == Inside::Call,
-            _ => is_never(kind),
-        }
-    }
-
-    /// That a second comparison begins here: Unsupported, but a `not` without `in` begins none.
-    pub(crate) fn refuse_second(&self) -> Stop
-        ensures { IsAtFirst self.now.rest.now result }
-    {
-        match self.rest.split_first() {
-            None => Stop::End,
-            Some((token, behind)) => {
-                if is_keyword(token, NOT)
-                    && !behind.first().is_some_and(|next| is_keyword(next, IN))
-                {
-                    Stop::Here(ParseFault::Unexpected(token.at))
-                } else {
-                    Stop::Here(ParseFault::Unsupported(token.at))
-                }
-            }
-        }
-    }
-}
-
-/// The token is this keyword.
-fn is_keyword(token: &Token, number: u8) -> bool
-    ensures { result ≡ is_this_keyword number token.now.kind }
-{
-    matches!(&token.kind, TokenKind::Keyword(found) if *found == number)
-}
-
-/// A word or sign of this kind stands nowhere.
-pub fn is_never(kind: &TokenKind) -> bool
-    ensures { result ≡ is_never kind.now }
-{
-    match kind {
-        TokenKind::Keyword(number) => is_never_word(*number),
-        TokenKind::Sign(number) => is_never_sign(*number),
-        _ => false,
-    }
-}
-
-/// A keyword that stands nowhere: `async`, `await`, `finally`, `from`, `lambda`, `nonlocal`, `yield`.
-fn is_never_word(number: u8) -> bool
-    ensures { result ≡ is_never (Keyword number) }
-{
-    matches!(
-        number,
-        ASYNC | AWAIT | FINALLY | FROM | LAMBDA | NONLOCAL | YIELD
-    )
-}
-
-/// A sign that stands nowhere: `;`, `@`, `/`, `**` and those behind them in the table.
-fn is_never_sign(number: u8) -> bool
-    ensures { result ≡ is_never (Sign number) }
-{
-    SEMICOLON <= number
 }

@@ -1,15 +1,14 @@
 // The lines of a script: a simple statement, or what begins a compound one or a part of it, up to what stands behind its `:`.
 ghost use Rattle.std.specs.Prelude.{◌≡◌, ◌==◌, ℕ, List, Bool, true, false, is_some, IfSome, IfNone, IfOk, IfErr};
 ghost use Rattle.py_lines.specs.declared.parts.TokenKind.TheVariants.{Keyword};
-ghost use Rattle.py_grammar.specs.Parsed.{is_never, Taken};
+ghost use Rattle.py_grammar.specs.Parsed.{Taken};
 ghost use Rattle.py_grammar.specs.ParsedSimple.{around_of};
 ghost use Rattle.py_grammar.specs.ParsedHead.{Context as Standing, context_of, inner_around, is_compound, begins_compound, may_begin, kind_may, may_be_alone, is_refused_kind, is_text_kind, IsRefusedInClass, IsFirstRefused, FirstMay, Misplaced, BehindFound, BehindRefused, HeadFound, HeadRefused, OpeningFound, OpeningRefused, PlacedFound, PlacedRefused};
 
 use crate::around::Around;
 use crate::context::{Context, Last, Limit};
-use crate::cursor::{Cursor, Inside};
-use crate::fault::{ParseFault, Stop};
-use crate::simple::begins_simple;
+use crate::cursor::Cursor;
+use crate::fault::{Fault, Stop};
 use crate::words::{
     CLASS, COLON, DEF, ELIF, ELSE, EXCEPT, FOR, GLOBAL, IF, PASS, TRY, WHILE, WITH,
 };
@@ -76,10 +75,7 @@ pub fn read_head(
     // Either the first token may stand there, or it is the one that is refused.
     ensures first { IfErr result (FirstMay (context_of context) tokens.now) }
 {
-    let mut cursor = Cursor {
-        rest: tokens,
-        inside: Inside::Line,
-    };
+    let mut cursor = Cursor { rest: tokens };
     if let Some(stop) = cursor.misplaced(context) {
         return Err(stop);
     }
@@ -125,29 +121,11 @@ impl<'a> Cursor<'a> {
         ensures first { IfSome result (IsFirstRefused (context_of context) self.now.rest.now) }
         ensures fine { IfNone result (may_begin (context_of context) self.now.rest.now ≡ true) }
     {
-        let (token, _) = self.rest.split_first()?;
+        let (token, behind) = self.rest.split_first()?;
         if may_stand(context, &token.kind) {
             return None;
         }
-        if self.is_refused_there(context, &token.kind) {
-            Some(Stop::Here(ParseFault::Unsupported(token.at)))
-        } else {
-            Some(Stop::Here(ParseFault::Unexpected(token.at)))
-        }
-    }
-
-    /// A token of this kind that may not stand here is of a refused form.
-    fn is_refused_there(&self, context: Context, kind: &TokenKind) -> bool
-        ensures { is_never kind.now ≡ true → result ≡ true }
-    {
-        match kind {
-            TokenKind::Keyword(ELIF | EXCEPT) => false,
-            TokenKind::Keyword(ELSE) => context.last != Last::Nothing,
-            TokenKind::Keyword(IF | WHILE | FOR | TRY | WITH | DEF | CLASS | GLOBAL) => {
-                context.last != Last::Try
-            }
-            _ => self.is_refused(kind),
-        }
+        Some(Stop::Here(Fault::Unexpected(behind.len())))
     }
 
     /// The keyword of a compound statement, of a part of one or of a `global` line, which is taken where it is next.
@@ -225,37 +203,22 @@ impl<'a> Cursor<'a> {
             return Err(self.refuse_in_class());
         }
         if !around.in_class && is_refused_word(&token.kind) {
-            return Err(Stop::Here(ParseFault::Unsupported(at)));
+            return Err(Stop::Here(Fault::Unexpected(behind.len())));
         }
         let form = self.simple(alloc, around)?;
         Ok(form)
     }
 
-    /// That the next token begins nothing that may stand in a class: Unsupported where it begins something else.
+    /// That the next token begins nothing that may stand in a class, or is a text that is not alone, which the token behind it shows.
     fn refuse_in_class(&self) -> Stop
         ensures { IsRefusedInClass self.now.rest.now result }
     {
-        match self.rest.first() {
-            None => Stop::End,
-            Some(token) => {
-                if self.begins_statement(&token.kind) || self.is_refused(&token.kind) {
-                    Stop::Here(ParseFault::Unsupported(token.at))
-                } else {
-                    Stop::Here(ParseFault::Unexpected(token.at))
-                }
-            }
-        }
-    }
-
-    /// A statement begins with the next token, which is of this kind, but for a `def`.
-    fn begins_statement(&self, kind: &TokenKind) -> bool
-        ensures text { is_text_kind kind.now ≡ true → result ≡ true }
-    {
-        match kind {
-            TokenKind::Word(_) | TokenKind::Number(_) | TokenKind::Text(_) => true,
-            TokenKind::Keyword(IF | WHILE | FOR | TRY | WITH | CLASS | GLOBAL) => true,
-            TokenKind::Keyword(word) if begins_simple(*word) => true,
-            _ => self.at_expr(),
+        let Some((token, behind)) = self.rest.split_first() else {
+            return Stop::End;
+        };
+        match (&token.kind, behind.split_first()) {
+            (TokenKind::Text(_), Some((_, more))) => Stop::Here(Fault::Unexpected(more.len())),
+            _ => Stop::Here(Fault::Unexpected(behind.len())),
         }
     }
 }

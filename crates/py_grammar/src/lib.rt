@@ -16,13 +16,14 @@ mod part;
 mod primaries;
 mod rows;
 mod simple;
+mod spelled;
 mod targets;
 mod words;
 
 pub use around::Around;
 pub use context::{Context, Last, Limit};
-pub use cursor::is_never;
-pub use fault::{ParseFault, Stop};
+pub use fault::{Fault, Stop};
 pub use head::{Behind, LineHead, What, read_head};
 pub use laws::{one_expression, one_script, one_simple_statement};
+pub use spelled::{Spelled, spelled_expr, spelled_row, spelled_sum};
 pub use words::{ELIF, ELSE, EXCEPT, GLOBAL, PASS};

@@ -9,14 +9,14 @@ ghost use Rattle.py_grammar.specs.ParsedNames.{RefusedAmiss, all_names, IsGiven,
 ghost use Rattle.py_grammar.specs.StatementTrees.{target_tree, naming_bound, base_tree};
 ghost use Rattle.py_grammar.specs.WellPlaced.{is_in, is_special as special_name, may_be_method as method_name};
 
-use crate::cursor::{Cursor, Inside};
-use crate::fault::{ParseFault, Stop};
+use crate::cursor::Cursor;
+use crate::fault::{Fault, Stop};
 use crate::operators::goes_above;
 use crate::part::Part;
 use crate::rows::{Row, tuple};
 use crate::simple::ROOM;
 use crate::targets::{one_target, target_of};
-use crate::words::{AS, CLOSE_ROUND, COLON, COMMA, IN, OPEN_ROUND};
+use crate::words::{AS, CLOSE_ROUND, COMMA, OPEN_ROUND};
 use prov_base::{Name, Pos};
 use py_lines::TokenKind;
 use py_tree::{Bound, Expr, Globals, Params, Target};
@@ -64,21 +64,10 @@ impl<'a> Cursor<'a> {
         ensures refused { IfErr result (ItemRefused room self.old.rest.now) }
     {
         let item = self.sum(alloc, room)?;
-        if let Some(wrong) = item.wrong {
-            return Err(Stop::Here(ParseFault::Unsupported(wrong)));
+        if let Some(_) = item.wrong {
+            return Err(self.refuse());
         }
         Ok(item)
-    }
-
-    /// The `in` behind the target of a `for`: a `:` there is of a refused form.
-    pub(crate) fn in_word(&mut self) -> Result<Pos, Stop>
-        ensures taken { IfOk result (λ at. Taken (Keyword 22) self.old.rest.now at self.new.rest.now) }
-        ensures refused { IfErr result (Refused (one_keyword 22) 0 self.old.rest.now) }
-    {
-        if self.at_sign(COLON) {
-            return Err(self.unsupported());
-        }
-        self.keyword(IN)
     }
 
     /// `["as" NAME]`
@@ -101,15 +90,12 @@ impl<'a> Cursor<'a> {
         let Some(_) = self.take_sign(OPEN_ROUND) else {
             return Ok(None);
         };
-        self.inside = Inside::Bracket;
         if !self.at_name() {
             self.sign(CLOSE_ROUND)?;
-            self.inside = Inside::Line;
             return Ok(None);
         }
         let (at, name) = self.name(alloc)?;
         self.sign(CLOSE_ROUND)?;
-        self.inside = Inside::Line;
         Ok(Some(Expr::Var(at, name)))
     }
 
@@ -119,13 +105,8 @@ impl<'a> Cursor<'a> {
         ensures refused { IfErr result (RefusedAmiss bracket_part IsRepeatedIn self.old.rest.now) }
     {
         self.sign(OPEN_ROUND)?;
-        self.inside = Inside::Call;
         let list = self.different_names(alloc)?;
-        if self.at_sign(COLON) {
-            return Err(self.unsupported());
-        }
         self.sign(CLOSE_ROUND)?;
-        self.inside = Inside::Line;
         Ok(Params { list })
     }
 
@@ -136,9 +117,9 @@ impl<'a> Cursor<'a> {
     {
         let mut list = Vec::new(alloc);
         while self.at_name() {
-            let (at, name) = self.name(alloc)?;
+            let (_, name) = self.name(alloc)?;
             if is_among(&name, &list) {
-                return Err(Stop::Here(ParseFault::Unexpected(at)));
+                return Err(Stop::Here(Fault::Unexpected(self.rest.len())));
             }
             list.push(name)?;
             let Some(_) = self.take_sign(COMMA) else {
@@ -154,7 +135,7 @@ impl<'a> Cursor<'a> {
         ensures refused { IfErr result (GlobalRefused given.now self.old.rest.now) }
     {
         let list = self.other_names(alloc, given)?;
-        self.end(false)?;
+        self.end()?;
         Ok(Globals { list })
     }
 
@@ -165,9 +146,9 @@ impl<'a> Cursor<'a> {
     {
         let mut list = Vec::new(alloc);
         loop {
-            let (at, name) = self.name(alloc)?;
+            let (_, name) = self.name(alloc)?;
             if is_among(&name, given) {
-                return Err(Stop::Here(ParseFault::Unexpected(at)));
+                return Err(Stop::Here(Fault::Unexpected(self.rest.len())));
             }
             list.push(name)?;
             let Some(_) = self.take_sign(COMMA) else {
@@ -184,16 +165,6 @@ impl<'a> Cursor<'a> {
             return false;
         };
         matches!(&token.kind, TokenKind::Word(_))
-    }
-
-    /// That the next token is of a refused form.
-    fn unsupported(&self) -> Stop
-        ensures { IsAtFirst self.now.rest.now result }
-    {
-        match self.rest.first() {
-            None => Stop::End,
-            Some(token) => Stop::Here(ParseFault::Unsupported(token.at)),
-        }
     }
 }
 

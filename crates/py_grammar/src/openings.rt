@@ -6,10 +6,11 @@ ghost use Rattle.py_grammar.specs.ParsedHead.{Context as Standing, OpeningFound,
 
 use crate::around::Around;
 use crate::cursor::Cursor;
-use crate::fault::{ParseFault, Stop};
+use crate::fault::{Fault, Stop};
 use crate::head::What;
 use crate::names::may_be_method;
 use crate::simple::ROOM;
+use crate::words::IN;
 use std::alloc::Global;
 
 impl<'a> Cursor<'a> {
@@ -46,7 +47,7 @@ impl<'a> Cursor<'a> {
         ensures refused { (c : Standing) → IfErr result (OpeningRefused c 17 self.old.rest.now) }
     {
         let target = self.for_target(alloc)?;
-        self.in_word()?;
+        self.keyword(IN)?;
         let items = self.exprs(alloc, ROOM)?;
         Ok(What::For(target, items.expr))
     }
@@ -79,10 +80,10 @@ impl<'a> Cursor<'a> {
         ensures found { (c : Standing) → c.around ≡ around_of around → IfOk result (λ what. OpeningFound c 11 self.old.rest.now what self.new.rest.now) }
         ensures refused { (c : Standing) → c.around ≡ around_of around → IfErr result (OpeningRefused c 11 self.old.rest.now) }
     {
-        let (name_at, name) = self.name(alloc)?;
+        let (_, name) = self.name(alloc)?;
         // A function stands at module level, or it is a method.
         if !around.at_module_level && !may_be_method(&name) {
-            return Err(Stop::Here(ParseFault::Unsupported(name_at)));
+            return Err(Stop::Here(Fault::Unexpected(self.rest.len())));
         }
         let params = self.params(alloc)?;
         Ok(What::Def(name, params))

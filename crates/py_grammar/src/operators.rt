@@ -7,7 +7,7 @@ ghost use Rattle.py_grammar.specs.Parsed as spec;
 ghost use Rattle.py_grammar.specs.Trees.{expr_tree, or_tree, and_tree, not_tree, cmp_tree, sum_tree, term_tree, unary_tree};
 
 use crate::cursor::Cursor;
-use crate::fault::{ParseFault, Stop};
+use crate::fault::{Fault, Stop};
 use crate::part::{Part, binary, choose, compare, logic, unary};
 use crate::words::{
     AND, ELSE, EQUAL, FLOOR_DIVIDE, GREATER, GREATER_EQUAL, IF, IN, IS, LESS, LESS_EQUAL, MINUS,
@@ -26,7 +26,7 @@ pub(crate) fn goes_above(part: &Part, room: u32) -> Result<(), Stop>
     if part.height < room {
         Ok(())
     } else {
-        Err(Stop::Here(ParseFault::TooDeep(part.deepest)))
+        Err(Stop::Here(Fault::TooDeep(part.deepest)))
     }
 }
 
@@ -38,7 +38,7 @@ pub(crate) fn goes_here(at: Pos, room: u32) -> Result<(), Stop>
     if 0 < room {
         Ok(())
     } else {
-        Err(Stop::Here(ParseFault::TooDeep(at)))
+        Err(Stop::Here(Fault::TooDeep(at)))
     }
 }
 
@@ -234,7 +234,7 @@ impl<'a> Cursor<'a> {
         let (at, op) = self.comparison()?;
         let right = self.sum(alloc, room - 1)?;
         if self.at_comparison() {
-            return Err(self.refuse_second());
+            return Err(self.refuse());
         }
         let part = compare(alloc, at, op, left, right)?;
         Ok(part)

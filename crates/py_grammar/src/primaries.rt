@@ -9,7 +9,7 @@ ghost use Rattle.py_lines.specs.declared.parts.TokenKind.TheVariants.{Sign};
 ghost use Rattle.py_grammar.specs.Trees.{prim_tree, atom_tree, items_tree, pairs_tree};
 ghost use Rattle.py_grammar.specs.Depth.{items_depth, index_depth, pairs_depth};
 
-use crate::cursor::{Cursor, Inside};
+use crate::cursor::Cursor;
 use crate::fault::Stop;
 use crate::operators::{goes_above, goes_here};
 use crate::part::{Part, literal};
@@ -106,11 +106,8 @@ impl<'a> Cursor<'a> {
         ensures found { IfOk result (λ part. FoundClosed (items_part 1) 1 (λ i. call_expr at (expr_of callee.expr) (items_tree i)) (λ i. suc (max callee.height (items_depth i))) (λ _. false) room self.old.rest.now part self.new.rest.now) }
         ensures refused { IfErr result (Refused (closed (items_part 1) 1) room self.old.rest.now) }
     {
-        let outer = self.inside;
-        self.inside = Inside::Call;
         let arguments = self.items(alloc, room, at, CLOSE_ROUND)?;
         self.sign(CLOSE_ROUND)?;
-        self.inside = outer;
         call(alloc, at, callee, arguments)
     }
 
@@ -128,11 +125,8 @@ impl<'a> Cursor<'a> {
         ensures found { IfOk result (λ part. FoundClosed index_part 3 (index_tree at (expr_of object.expr)) (λ i. suc (max object.height (index_depth i))) index_form room self.old.rest.now part self.new.rest.now) }
         ensures refused { IfErr result (Refused (closed index_part 3) room self.old.rest.now) }
     {
-        let outer = self.inside;
-        self.inside = Inside::Bracket;
         let index = self.index(alloc, room)?;
         self.sign(CLOSE_SQUARE)?;
-        self.inside = outer;
         subscript(alloc, at, object, index)
     }
 
@@ -187,11 +181,8 @@ impl<'a> Cursor<'a> {
         if let Some(_) = self.take_sign(CLOSE_ROUND) {
             return Ok(empty_tuple(alloc, at));
         }
-        let outer = self.inside;
-        self.inside = Inside::Bracket;
         let inner = self.exprs(alloc, room)?;
         self.sign(CLOSE_ROUND)?;
-        self.inside = outer;
         Ok(grouped(at, inner))
     }
 
@@ -202,11 +193,8 @@ impl<'a> Cursor<'a> {
         ensures found { IfOk result (λ part. FoundClosed (items_part 3) 3 (λ i. list_expr at (items_tree i)) (λ i. suc (items_depth i)) (λ _. false) room self.old.rest.now part self.new.rest.now) }
         ensures refused { IfErr result (Refused (closed (items_part 3) 3) room self.old.rest.now) }
     {
-        let outer = self.inside;
-        self.inside = Inside::Bracket;
         let items = self.items(alloc, room, at, CLOSE_SQUARE)?;
         self.sign(CLOSE_SQUARE)?;
-        self.inside = outer;
         Ok(list(at, items))
     }
 
@@ -217,11 +205,8 @@ impl<'a> Cursor<'a> {
         ensures found { IfOk result (λ part. FoundClosed pairs_part 5 (λ p. dict_expr at (pairs_tree p)) (λ p. suc (pairs_depth p)) (λ _. false) room self.old.rest.now part self.new.rest.now) }
         ensures refused { IfErr result (Refused (closed pairs_part 5) room self.old.rest.now) }
     {
-        let outer = self.inside;
-        self.inside = Inside::Bracket;
         let pairs = self.pairs(alloc, room, at)?;
         self.sign(CLOSE_CURLY)?;
-        self.inside = outer;
         Ok(dict(at, pairs))
     }
 

@@ -10,12 +10,12 @@ ghost use Rattle.py_grammar.specs.ParsedSimple.{around_of, SimpleFound, SimpleRe
 
 use crate::around::Around;
 use crate::cursor::Cursor;
-use crate::fault::{ParseFault, Stop};
+use crate::fault::{Fault, Stop};
 use crate::part::Part;
 use crate::targets::{one_target, target_of};
 use crate::words::{
-    AS, ASSERT, ASSIGN, BREAK, COLON, COMMA, CONTINUE, DEL, FLOOR_DIVIDE_ASSIGN, IMPORT,
-    MINUS_ASSIGN, PASS, PERCENT_ASSIGN, PLUS_ASSIGN, RAISE, RETURN, STAR_ASSIGN,
+    ASSERT, ASSIGN, BREAK, COMMA, CONTINUE, DEL, FLOOR_DIVIDE_ASSIGN, IMPORT, MINUS_ASSIGN, PASS,
+    PERCENT_ASSIGN, PLUS_ASSIGN, RAISE, RETURN, STAR_ASSIGN,
 };
 use prov_base::{Name, Pos};
 use py_lines::TokenKind;
@@ -31,16 +31,16 @@ impl<'a> Cursor<'a> {
         ensures found { IfOk result (SimpleFound (around_of around) self.old.rest.now) }
         ensures refused { IfErr result (SimpleRefused (around_of around) self.old.rest.now) }
     {
-        let Some((word, at)) = self.take_word() else {
+        let Some((word, _)) = self.take_word() else {
             return self.expression(alloc);
         };
         match word {
             DEL => self.del(alloc),
             PASS => self.pass(),
-            BREAK => self.break_loop(around, at),
-            CONTINUE => self.continue_loop(around, at),
-            RETURN => self.return_value(alloc, around, at),
-            RAISE => self.raise(alloc, around, at),
+            BREAK => self.break_loop(around),
+            CONTINUE => self.continue_loop(around),
+            RETURN => self.return_value(alloc, around),
+            RAISE => self.raise(alloc, around),
             ASSERT => self.assert_test(alloc),
             _ => self.import(alloc),
         }
@@ -64,22 +64,13 @@ impl<'a> Cursor<'a> {
         }
     }
 
-    /// The next token is this keyword.
-    fn at_keyword(&self, number: u8) -> bool {
-        match self.rest.first() {
-            Some(token) => matches!(&token.kind, TokenKind::Keyword(found) if *found == number),
-            None => false,
-        }
-    }
-
-    /// The line ends here. A token that stands here is of a refused form, or is refused as any other.
-    pub(crate) fn end(&self, is_refused_form: bool) -> Result<(), Stop>
+    /// The line ends here.
+    pub(crate) fn end(&self) -> Result<(), Stop>
         ensures ended { IfOk result (λ _. self.now.rest.now ≡ []) }
         ensures more { IfErr result (IsMore self.now.rest.now) }
     {
         match self.rest.first() {
             None => Ok(()),
-            Some(token) if is_refused_form => Err(Stop::Here(ParseFault::Unsupported(token.at))),
             Some(_) => Err(self.refuse()),
         }
     }
@@ -89,63 +80,63 @@ impl<'a> Cursor<'a> {
         ensures found { IfOk result (FoundBehindAny 28 self.old.rest.now) }
         ensures refused { IfErr result (RefusedBehindAny 28 self.old.rest.now) }
     {
-        self.end(false)?;
+        self.end()?;
         Ok(Form::Pass)
     }
 
     /// `break`, behind it.
-    fn break_loop(&mut self, around: Around, at: Pos) -> Result<Form, Stop>
+    fn break_loop(&mut self, around: Around) -> Result<Form, Stop>
         ensures found { IfOk result (FoundBehind 8 (around_of around) self.old.rest.now) }
-        ensures refused { IfErr result (RefusedBehind 8 at (around_of around) self.old.rest.now) }
+        ensures refused { IfErr result (RefusedBehind 8 (around_of around) self.old.rest.now) }
     {
         if !around.in_loop {
-            return Err(Stop::Here(ParseFault::Unexpected(at)));
+            return Err(Stop::Here(Fault::Unexpected(self.rest.len())));
         }
-        self.end(false)?;
+        self.end()?;
         Ok(Form::Break)
     }
 
     /// `continue`, behind it.
-    fn continue_loop(&mut self, around: Around, at: Pos) -> Result<Form, Stop>
+    fn continue_loop(&mut self, around: Around) -> Result<Form, Stop>
         ensures found { IfOk result (FoundBehind 10 (around_of around) self.old.rest.now) }
-        ensures refused { IfErr result (RefusedBehind 10 at (around_of around) self.old.rest.now) }
+        ensures refused { IfErr result (RefusedBehind 10 (around_of around) self.old.rest.now) }
     {
         if !around.in_loop {
-            return Err(Stop::Here(ParseFault::Unexpected(at)));
+            return Err(Stop::Here(Fault::Unexpected(self.rest.len())));
         }
-        self.end(false)?;
+        self.end()?;
         Ok(Form::Continue)
     }
 
     /// `"return" [exprs]`, behind the `return`.
-    fn return_value(&mut self, alloc: Global, around: Around, at: Pos) -> Result<Form, Stop>
+    fn return_value(&mut self, alloc: Global, around: Around) -> Result<Form, Stop>
         ensures found { IfOk result (FoundBehind 30 (around_of around) self.old.rest.now) }
-        ensures refused { IfErr result (RefusedBehind 30 at (around_of around) self.old.rest.now) }
+        ensures refused { IfErr result (RefusedBehind 30 (around_of around) self.old.rest.now) }
     {
         if !around.in_function {
-            return Err(Stop::Here(ParseFault::Unexpected(at)));
+            return Err(Stop::Here(Fault::Unexpected(self.rest.len())));
         }
         if self.rest.is_empty() {
             return Ok(Form::Return(None));
         }
         let value = self.exprs(alloc, ROOM)?;
-        self.end(false)?;
+        self.end()?;
         Ok(Form::Return(Some(value.expr)))
     }
 
     /// `"raise" [expr]`, behind the `raise`.
-    fn raise(&mut self, alloc: Global, around: Around, at: Pos) -> Result<Form, Stop>
+    fn raise(&mut self, alloc: Global, around: Around) -> Result<Form, Stop>
         ensures found { IfOk result (FoundBehind 29 (around_of around) self.old.rest.now) }
-        ensures refused { IfErr result (RefusedBehind 29 at (around_of around) self.old.rest.now) }
+        ensures refused { IfErr result (RefusedBehind 29 (around_of around) self.old.rest.now) }
     {
         if self.rest.is_empty() {
             if around.in_handler {
                 return Ok(Form::Raise(None));
             }
-            return Err(Stop::Here(ParseFault::Unsupported(at)));
+            return Err(Stop::End);
         }
         let value = self.expr(alloc, ROOM)?;
-        self.end(false)?;
+        self.end()?;
         Ok(Form::Raise(Some(value.expr)))
     }
 
@@ -156,11 +147,11 @@ impl<'a> Cursor<'a> {
     {
         let test = self.expr(alloc, ROOM)?;
         let Some(_) = self.take_sign(COMMA) else {
-            self.end(false)?;
+            self.end()?;
             return Ok(Form::Assert(test.expr, None));
         };
         let message = self.expr(alloc, ROOM)?;
-        self.end(false)?;
+        self.end()?;
         Ok(Form::Assert(test.expr, Some(message.expr)))
     }
 
@@ -169,11 +160,11 @@ impl<'a> Cursor<'a> {
         ensures found { IfOk result (FoundBehindAny 21 self.old.rest.now) }
         ensures refused { IfErr result (RefusedBehindAny 21 self.old.rest.now) }
     {
-        let (name_at, name) = self.name(alloc)?;
+        let (_, name) = self.name(alloc)?;
         if !is_module(&name) {
-            return Err(Stop::Here(ParseFault::Unsupported(name_at)));
+            return Err(Stop::Here(Fault::Unexpected(self.rest.len())));
         }
-        self.end(self.at_keyword(AS) || self.at_sign(COMMA))?;
+        self.end()?;
         Ok(Form::Import(name))
     }
 
@@ -183,13 +174,13 @@ impl<'a> Cursor<'a> {
         ensures refused { IfErr result (RefusedBehindAny 12 self.old.rest.now) }
     {
         let target = self.expr(alloc, ROOM)?;
-        if let Some(wrong) = target.wrong {
-            return Err(Stop::Here(ParseFault::Unsupported(wrong)));
+        if let Some(_) = target.wrong {
+            return Err(self.refuse());
         }
-        if let Expr::Attr(dot, _, _) = &target.expr {
-            return Err(Stop::Here(ParseFault::Unsupported(*dot)));
+        if let Expr::Attr(_, _, _) = &target.expr {
+            return Err(self.refuse());
         }
-        self.end(self.at_sign(COLON))?;
+        self.end()?;
         Ok(Form::Del(one_target(target.expr)))
     }
 
@@ -206,7 +197,7 @@ impl<'a> Cursor<'a> {
         if let Some((at, op)) = self.take_assigning() {
             return self.augmented(alloc, first, at, op);
         }
-        self.end(first.wrong.is_none() && self.at_sign(COLON))?;
+        self.end()?;
         Ok(Form::Do(first.expr))
     }
 
@@ -216,12 +207,12 @@ impl<'a> Cursor<'a> {
         ensures found { IfOk result (FoundAfter first self.old.rest.now) }
         ensures refused { IfErr result (RefusedAfter first self.old.rest.now) }
     {
-        if let Some(wrong) = first.wrong {
-            return Err(Stop::Here(ParseFault::Unsupported(wrong)));
+        if let Some(_) = first.wrong {
+            return Err(Stop::Here(Fault::Unexpected(self.rest.len())));
         }
         let target = target_of(alloc, first.expr)?;
         let value = self.exprs(alloc, ROOM)?;
-        self.end(self.at_sign(ASSIGN))?;
+        self.end()?;
         Ok(Form::Assign(target, value.expr))
     }
 
@@ -232,14 +223,14 @@ impl<'a> Cursor<'a> {
         ensures refused { IfErr result (RefusedAfterOp first at op self.old.rest.now) }
     {
         if is_tuple(&first.expr) {
-            return Err(Stop::Here(ParseFault::Unsupported(first.first)));
+            return Err(Stop::Here(Fault::Unexpected(self.rest.len())));
         }
-        if let Some(wrong) = first.wrong {
-            return Err(Stop::Here(ParseFault::Unsupported(wrong)));
+        if let Some(_) = first.wrong {
+            return Err(Stop::Here(Fault::Unexpected(self.rest.len())));
         }
         let target = one_target(first.expr);
         let value = self.exprs(alloc, ROOM)?;
-        self.end(false)?;
+        self.end()?;
         Ok(Form::Aug(target, op, at, value.expr))
     }
 

@@ -11,10 +11,6 @@ pub(crate) const AS: u8 = 4;
 
 pub(crate) const ASSERT: u8 = 5;
 
-pub(crate) const ASYNC: u8 = 6;
-
-pub(crate) const AWAIT: u8 = 7;
-
 pub(crate) const BREAK: u8 = 8;
 
 pub(crate) const CLASS: u8 = 9;
@@ -31,11 +27,7 @@ pub const ELSE: u8 = 14;
 
 pub const EXCEPT: u8 = 15;
 
-pub(crate) const FINALLY: u8 = 16;
-
 pub(crate) const FOR: u8 = 17;
-
-pub(crate) const FROM: u8 = 18;
 
 pub const GLOBAL: u8 = 19;
 
@@ -46,10 +38,6 @@ pub(crate) const IMPORT: u8 = 21;
 pub(crate) const IN: u8 = 22;
 
 pub(crate) const IS: u8 = 23;
-
-pub(crate) const LAMBDA: u8 = 24;
-
-pub(crate) const NONLOCAL: u8 = 25;
 
 pub(crate) const NOT: u8 = 26;
 
@@ -66,8 +54,6 @@ pub(crate) const TRY: u8 = 31;
 pub(crate) const WHILE: u8 = 32;
 
 pub(crate) const WITH: u8 = 33;
-
-pub(crate) const YIELD: u8 = 34;
 
 pub(crate) const OPEN_ROUND: u8 = 0;
 
@@ -120,5 +106,3 @@ pub(crate) const STAR_ASSIGN: u8 = 23;
 pub(crate) const FLOOR_DIVIDE_ASSIGN: u8 = 24;
 
 pub(crate) const PERCENT_ASSIGN: u8 = 25;
-
-pub(crate) const SEMICOLON: u8 = 26;

@@ -1,5 +1,5 @@
 -- What is read of a line of a suite: what the first token tells, the limits, and what is refused.
-use Rattle.std.proofs.Common.{◌≡◌, inl, inr, ℕ, ◌+◌, ◌<◌, ◌≤◌, suc, nat_le, Bool, true, false, not, ◌&&◌, ◌||◌, ◌==◌, List, [], ◌∷◌, ◌++◌, Option, Some, None, is_some, is_none, if◌then◌else◌, refl, ap, sym, ◌∙◌, arith, subst}
+use Rattle.std.proofs.Common.{◌≡◌, inl, inr, ℕ, ◌+◌, ◌<◌, ◌≤◌, suc, nat_le, Bool, true, false, not, ◌&&◌, ◌||◌, ◌==◌, List, [], ◌∷◌, ◌++◌, length, Option, Some, None, is_some, is_none, if◌then◌else◌, refl, ap, sym, ◌∙◌, arith, subst}
 use Rattle.std.specs.Prelude.{slice_get}
 use Rattle.std.specs.Int.{from_bool}
 use Rattle.std.proofs.lemmas.Bool.{eqb-true, leb-true, leb-false, le-leb, false≢true}
@@ -11,8 +11,9 @@ use Rattle.py_lines.specs.declared.parts.TokenKind.{TokenKind}
 use Rattle.py_lines.specs.declared.parts.TokenKind.TheVariants.{Keyword}
 use Rattle.py_grammar.specs.declared.context.Limit.{Limit}
 use Rattle.py_grammar.specs.declared.context.Limit.TheVariants.{Number, Depth}
-use Rattle.py_grammar.specs.declared.fault.ParseFault.{ParseFault}
-use Rattle.py_grammar.specs.declared.fault.ParseFault.TheVariants.{Unexpected, Unsupported, BadIndent, TooDeep, TooMany, Memory}
+use Rattle.py_grammar.specs.declared.fault.Fault.{Fault}
+use Rattle.py_grammar.specs.declared.fault.Fault.TheVariants.{Unexpected, TooDeep, TooMany, Memory}
+use Rattle.py_parser.specs.declared.fault.Halt.TheVariants.{AtEnd, TooMany as ManyHalt}
 use Rattle.py_grammar.specs.declared.fault.Stop.{Stop}
 use Rattle.py_grammar.specs.declared.fault.Stop.TheVariants.{Here, End}
 use Rattle.py_grammar.specs.declared.head.LineHead.{LineHead}
@@ -20,12 +21,12 @@ use Rattle.py_grammar.specs.Concrete.{Spot}
 use Rattle.py_grammar.specs.Tokens.{token}
 use Rattle.py_grammar.specs.Written.{Simple}
 use Rattle.py_grammar.specs.LineReader.{Head, simple_head, if_head, elif_head, else_head, while_head, for_head, try_head, except_head, with_head, def_head, class_head, global_head, head_tokens}
-use Rattle.py_grammar.specs.ParsedHead.{Context, lacks_handler, word_may, is_compound, is_compound_kind, head_stands, head_depth, behind_in, HeadFound, HeadRefused, IsAmissHead, ShownBy, EndedBy, BeginsHead, kind_may, may_begin, FirstMay}
+use Rattle.py_grammar.specs.ParsedHead.{Context, lacks_handler, word_may, is_compound, is_compound_kind, head_stands, head_depth, behind_in, HeadFound, HeadRefused, IsAmissHead, ShownBy, BeginsHead, kind_may, may_begin, FirstMay, ShowsOnLine}
 use Rattle.py_grammar.specs.Parsed.{IsAtFirst}
 use Rattle.py_parser.specs.Limits.{Limits, profile}
 use Rattle.py_parser.specs.Rows.{Level, Begun, is_stmt, is_every, counted, follows, may}
-use Rattle.py_parser.specs.Faults.{Asks, last_place, at_token, at_end, shows, Opens, names}
-use Rattle.py_parser.specs.ParsedBlocks.{limit_by, limit_at, is_stmt_kind, RowsBegin, LineRead, RefusedLine, LineStopped}
+use Rattle.py_parser.specs.Faults.{last_place, at_token, at_end, shows, Opens}
+use Rattle.py_parser.specs.ParsedBlocks.{limit_by, limit_at, is_stmt_kind, RowsBegin, LineRead, RefusedLine, LineStopped, Asks, MarksToken, halt_of}
 use Rattle.py_grammar.proofs.LineFirsts.{same_first, head_some, simple_not_compound, may_as_word, may_as_simple, misplaced_head}
 use Rattle.py_parser.proofs.Endings.{begins_here, begins_with, begins_line}
 
@@ -253,9 +254,9 @@ front_first [] shown behind more t rest is = (more, ap (λ (u : Token). u ∷ mo
 front_first (f ∷ fs) shown behind more t rest is = (fs ++ shown ∷ more, ap (λ (u : Token). u ∷ (fs ++ shown ∷ more)) (same_first f t (fs ++ shown ∷ behind) rest is))
 
 -- what is amiss of a line is no line that may stand there
-amiss : (q : Limits) (m : Level) (n : ℕ) (begins : Bool) (limit : Option Limit) (h : Head) (fault : ParseFault) → Asks fault q → begins ≡ is_stmt h → limit ≡ limit_at (n + from_bool begins) m.depth → may q m n h ≡ true
+amiss : (q : Limits) (m : Level) (n : ℕ) (begins : Bool) (limit : Option Limit) (h : Head) (k : ℕ) (fault : Fault) → Asks (halt_of k fault) q → begins ≡ is_stmt h → limit ≡ limit_at (n + from_bool begins) m.depth → may q m n h ≡ true
     → IsAmissHead m.context m.given limit (Here fault) h → ⊥
-amiss q m n begins limit h fault asks same is fine bad = by fault asks bad
+amiss q m n begins limit h k fault asks same is fine bad = by fault asks bad
   where
     parts : (head_stands m.context m.given h ≡ true) × (nat_le (head_depth h) q.height ≡ true) × (nat_le (n + counted h) q.number ≡ true) × ((is_none (behind_in h) || nat_le (suc m.depth) q.suites) ≡ true)
     parts = each_true (head_stands m.context m.given h) (nat_le (head_depth h) q.height) (nat_le (n + counted h) q.number) (is_none (behind_in h) || nat_le (suc m.depth) q.suites) fine
@@ -263,13 +264,11 @@ amiss q m n begins limit h fault asks same is fine bad = by fault asks bad
     limit_now : limit ≡ limit_at (n + from_bool (is_stmt h)) m.depth
     limit_now = is ∙ ap (λ b. limit_at (n + from_bool b) m.depth) same
 
-    by : (fault : ParseFault) → Asks fault q → IsAmissHead m.context m.given limit (Here fault) h → ⊥
+    by : (fault : Fault) → Asks (halt_of k fault) q → IsAmissHead m.context m.given limit (Here fault) h → ⊥
     by (TooDeep at) asks (inl deep) = let most = asks.0 in omega (arith, most, deep, leb-true (head_depth h) q.height parts.1)
     by (TooDeep at) asks (inr over) = depth_passed q (n + from_bool (is_stmt h)) m.depth (behind_in h) asks.1 (sym limit_now ∙ over.0) over.1 parts.3
     by (TooMany at) asks over = number_passed q n m.depth (is_stmt h) (behind_in h) asks (sym limit_now ∙ over.0) over.1 parts.2
     by (Unexpected at) asks no_place = false≢true (sym no_place ∙ parts.0)
-    by (Unsupported at) asks no_place = false≢true (sym no_place ∙ parts.0)
-    by (BadIndent at) asks bad = bad
     by Memory asks bad = bad
 
 -- the tokens before the faulty one begin a line
@@ -290,56 +289,52 @@ begins_ended m indent t rest (f ∷ fs) declares may tokens (inl b) same =
     (λ x opens. inl (subst (λ d. Opens d (f ∷ fs) x) (sym same) opens))
 begins_ended m indent t rest (f ∷ fs) declares may tokens (inr reading) same = begins_with m (at_end indent (f ∷ fs)) (λ x. inr reading)
 
-shown_line : (m : Level) (n : ℕ) (at : Pos) (line : Line) (t : Token) (begins : Bool) (limit : Option Limit) (fault : ParseFault) → Opened m n line t begins limit → (m.context.may_declare ≡ true → m.of_def ≡ true) → kind_may m.context t.kind ≡ true
-    → (s : ShownBy BeginsHead head_tokens (λ fault h. IsAmissHead m.context m.given limit (Here fault) h) line.tokens fault) → names at (line ∷ []) (at_token line.indent s.front s.shown_by) fault → RefusedLine m n at line fault
-shown_line m n at line t begins limit fault o declares may s named = record {
+-- the token that shows the fault, and what stands behind it
+marked_shown : (line : Line) (lines : List Line) (front : List Token) (t : Token) (behind : List Token) (fault : Fault) → line.tokens ≡ front ++ t ∷ behind → ShowsOnLine t behind fault
+    → MarksToken front t (line ∷ lines) (halt_of (length lines) fault)
+marked_shown line lines front t behind (Unexpected left) tokens is = (refl, let counted = ap length tokens in let sum = lengths front (t ∷ behind) in omega (arith, counted, sum, is))
+  where
+    lengths : (a b : List Token) → length (a ++ b) ≡ length a + length b
+    lengths [] b = omega arith
+    lengths (x ∷ a) b = let more = lengths a b in omega (arith, more)
+marked_shown line lines front t behind (TooDeep place) tokens is = tt
+marked_shown line lines front t behind (TooMany place) tokens is = is
+marked_shown line lines front t behind Memory tokens is = absurd is
+
+shown_line : (m : Level) (n : ℕ) (at : Pos) (line : Line) (lines : List Line) (t : Token) (begins : Bool) (limit : Option Limit) (fault : Fault) → Opened m n line t begins limit → (m.context.may_declare ≡ true → m.of_def ≡ true) → kind_may m.context t.kind ≡ true
+    → ShownBy BeginsHead head_tokens (λ fault h. IsAmissHead m.context m.given limit (Here fault) h) line.tokens fault → RefusedLine m n at line lines (halt_of (length lines) fault)
+shown_line m n at line lines t begins limit fault o declares may s = record {
   point = at_token line.indent s.front s.shown_by;
   on_line = tt;
   shown = (refl, record { more = s.behind; tokens_are = s.before_is });
-  named = named;
+  marked = marked_shown line lines s.front s.shown_by s.behind fault s.before_is s.left_is;
   begun = begun_token line.indent s.front s.shown_by;
   begins = begins_token m line t o.rest s.front s.shown_by s.behind declares may o.tokens_are s.before_is s.begun;
   none = λ q asks other more h there tokens_are goes_on fine.
       let is = sym tokens_are ∙ there.1.tokens_are in
       let opens = front_first s.front s.shown_by s.behind there.1.more t o.rest (sym s.before_is ∙ o.tokens_are) in
-      amiss q m n begins limit h fault asks (begins_as m n line t begins limit o h opens.0 (is ∙ opens.1)) o.limit_is fine (s.none h there.1.more is);
-}
-
-ended_line : (m : Level) (n : ℕ) (at : Pos) (line : Line) (t : Token) (begins : Bool) (limit : Option Limit) (fault : ParseFault) → Opened m n line t begins limit → (m.context.may_declare ≡ true → m.of_def ≡ true) → kind_may m.context t.kind ≡ true
-    → EndedBy BeginsHead head_tokens (IsAmissHead m.context m.given limit (Here fault)) line.tokens → names at (line ∷ []) (at_end line.indent line.tokens) fault → RefusedLine m n at line fault
-ended_line m n at line t begins limit fault o declares may e named = record {
-  point = at_end line.indent line.tokens;
-  on_line = tt;
-  shown = (refl, refl);
-  named = named;
-  begun = begun_end line.indent line.tokens;
-  begins = begins_ended m line.indent t o.rest line.tokens declares may o.tokens_are e.begun;
-  none = λ q asks other more h there tokens_are goes_on fine.
-      let is = sym tokens_are ∙ there.1 in
-      amiss q m n begins limit h fault asks (begins_as m n line t begins limit o h o.rest (is ∙ o.tokens_are)) o.limit_is fine (e.none h is);
+      amiss q m n begins limit h (length lines) fault asks (begins_as m n line t begins limit o h opens.0 (is ∙ opens.1)) o.limit_is fine (s.none h there.1.more is);
 }
 
 -- the first token may stand there
-line_goes_on : (m : Level) (n : ℕ) (at : Pos) (line : Line) (t : Token) (begins : Bool) (limit : Option Limit) (fault : ParseFault) → Opened m n line t begins limit → (m.context.may_declare ≡ true → m.of_def ≡ true) → kind_may m.context t.kind ≡ true
-    → HeadRefused m.context m.given limit line.tokens (Here fault) → LineStopped m n at line fault
-line_goes_on m n at line t begins limit (Unexpected place) o declares may is = shown_line m n at line t begins limit (Unexpected place) o declares may is is.place_is
-line_goes_on m n at line t begins limit (TooMany place) o declares may is = shown_line m n at line t begins limit (TooMany place) o declares may is is.place_is
-line_goes_on m n at line t begins limit (TooDeep place) o declares may is = shown_line m n at line t begins limit (TooDeep place) o declares may is tt
-line_goes_on m n at line t begins limit (Unsupported place) o declares may (inl is) = shown_line m n at line t begins limit (Unsupported place) o declares may is tt
-line_goes_on m n at line t begins limit (Unsupported place) o declares may (inr is) = ended_line m n at line t begins limit (Unsupported place) o declares may is tt
-line_goes_on m n at line t begins limit (BadIndent place) o declares may is = absurd is.place_is
-line_goes_on m n at line t begins limit Memory o declares may is = tt
+line_goes_on : (m : Level) (n : ℕ) (at : Pos) (line : Line) (lines : List Line) (t : Token) (begins : Bool) (limit : Option Limit) (fault : Fault) → Opened m n line t begins limit → (m.context.may_declare ≡ true → m.of_def ≡ true) → kind_may m.context t.kind ≡ true
+    → HeadRefused m.context m.given limit line.tokens (Here fault) → LineStopped m n at line lines (halt_of (length lines) fault)
+line_goes_on m n at line lines t begins limit (Unexpected left) o declares may is = shown_line m n at line lines t begins limit (Unexpected left) o declares may is
+line_goes_on m n at line lines t begins limit (TooMany place) o declares may is = shown_line m n at line lines t begins limit (TooMany place) o declares may is
+line_goes_on m n at line lines t begins limit (TooDeep place) o declares may is = shown_line m n at line lines t begins limit (TooDeep place) o declares may is
+line_goes_on m n at line lines t begins limit Memory o declares may is = tt
 
 -- the first token may not stand there
-line_never : (m : Level) (n : ℕ) (at : Pos) (line : Line) (t : Token) (rest : List Token) (fault : ParseFault) → line.tokens ≡ t ∷ rest → kind_may m.context t.kind ≡ false → IsAtFirst (t ∷ rest) (Here fault) → LineStopped m n at line fault
-line_never m n at line t rest fault tokens absent first = by fault first
+line_never : (m : Level) (n : ℕ) (at : Pos) (line : Line) (lines : List Line) (t : Token) (rest : List Token) (fault : Fault) → line.tokens ≡ t ∷ rest → kind_may m.context t.kind ≡ false → IsAtFirst (t ∷ rest) (Here fault)
+    → LineStopped m n at line lines (halt_of (length lines) fault)
+line_never m n at line lines t rest fault tokens absent first = by fault first
   where
-    refused : (fault : ParseFault) → names at (line ∷ []) (at_token line.indent [] t) fault → RefusedLine m n at line fault
-    refused fault named = record {
+    refused : (fault : Fault) → ShowsOnLine t rest fault → RefusedLine m n at line lines (halt_of (length lines) fault)
+    refused fault shows_it = record {
       point = at_token line.indent [] t;
       on_line = tt;
       shown = (refl, record { more = rest; tokens_are = tokens });
-      named = named;
+      marked = marked_shown line lines [] t rest fault tokens shows_it;
       begun = begun_token line.indent [] t;
       begins = λ same. begins_here m (at_token line.indent [] t) refl;
       none = λ q asks other more h there tokens_are goes_on fine.
@@ -347,35 +342,35 @@ line_never m n at line t rest fault tokens absent first = by fault first
           ∙ (each_true (head_stands m.context m.given h) (nat_le (head_depth h) q.height) (nat_le (n + counted h) q.number) (is_none (behind_in h) || nat_le (suc m.depth) q.suites) fine).0);
     }
 
-    by : (fault : ParseFault) → IsAtFirst (t ∷ rest) (Here fault) → LineStopped m n at line fault
-    by (Unexpected place) first = refused (Unexpected place) first
-    by (Unsupported place) first = refused (Unsupported place) tt
+    by : (fault : Fault) → IsAtFirst (t ∷ rest) (Here fault) → LineStopped m n at line lines (halt_of (length lines) fault)
+    by (Unexpected left) first = refused (Unexpected left) first
     by (TooDeep place) first = absurd first
     by (TooMany place) first = absurd first
-    by (BadIndent place) first = absurd first
     by Memory first = absurd first
 
-pub line_refused : (m : Level) (n : ℕ) (at : Pos) (line : Line) (t : Token) (begins : Bool) (limit : Option Limit) (fault : ParseFault) → Opened m n line t begins limit → (m.context.may_declare ≡ true → m.of_def ≡ true)
-    → FirstMay m.context line.tokens (Here fault) → HeadRefused m.context m.given limit line.tokens (Here fault) → LineStopped m n at line fault
-line_refused m n at line t begins limit fault o declares (inl may) is = line_goes_on m n at line t begins limit fault o declares (sym (ap (may_begin m.context) o.tokens_are) ∙ may) is
-line_refused m n at line t begins limit fault o declares (inr first) is =
-    line_never m n at line t o.rest fault o.tokens_are (sym (ap (may_begin m.context) o.tokens_are) ∙ first.0) (subst (λ (ts : List Token). IsAtFirst ts (Here fault)) o.tokens_are first.1)
+pub line_refused : (m : Level) (n : ℕ) (at : Pos) (line : Line) (lines : List Line) (t : Token) (begins : Bool) (limit : Option Limit) (fault : Fault) → Opened m n line t begins limit → (m.context.may_declare ≡ true → m.of_def ≡ true)
+    → FirstMay m.context line.tokens (Here fault) → HeadRefused m.context m.given limit line.tokens (Here fault) → LineStopped m n at line lines (halt_of (length lines) fault)
+line_refused m n at line lines t begins limit fault o declares (inl may) is = line_goes_on m n at line lines t begins limit fault o declares (sym (ap (may_begin m.context) o.tokens_are) ∙ may) is
+line_refused m n at line lines t begins limit fault o declares (inr first) is =
+    line_never m n at line lines t o.rest fault o.tokens_are (sym (ap (may_begin m.context) o.tokens_are) ∙ first.0) (subst (λ (ts : List Token). IsAtFirst ts (Here fault)) o.tokens_are first.1)
 
 -- a line that ends too early
 ends_may : (c : Context) (t : Token) (rest tokens : List Token) → tokens ≡ t ∷ rest → FirstMay c tokens End → kind_may c t.kind ≡ true
 ends_may c t rest tokens is (inl may) = sym (ap (may_begin c) is) ∙ may
 ends_may c t rest tokens is (inr first) = absurd (subst (λ (ts : List Token). IsAtFirst ts End) is first.1)
 
-pub line_ends : (m : Level) (n : ℕ) (at place : Pos) (line : Line) (t : Token) (begins : Bool) (limit : Option Limit) → Opened m n line t begins limit → (m.context.may_declare ≡ true → m.of_def ≡ true) → place ≡ last_place at line.tokens
-    → FirstMay m.context line.tokens End → HeadRefused m.context m.given limit line.tokens End → RefusedLine m n at line (Unexpected place)
-line_ends m n at place line t begins limit o declares named first e = record {
+pub line_ends : (m : Level) (n : ℕ) (at place : Pos) (line : Line) (lines : List Line) (t : Token) (begins : Bool) (limit : Option Limit) → Opened m n line t begins limit → (m.context.may_declare ≡ true → m.of_def ≡ true) → place ≡ last_place at line.tokens
+    → FirstMay m.context line.tokens End → HeadRefused m.context m.given limit line.tokens End → RefusedLine m n at line lines (AtEnd (length lines) place)
+line_ends m n at place line lines t begins limit o declares named first e = record {
   point = at_end line.indent line.tokens;
   on_line = tt;
   shown = (refl, refl);
-  named = named;
+  marked = (refl, named);
   begun = begun_end line.indent line.tokens;
   begins = begins_ended m line.indent t o.rest line.tokens declares (ends_may m.context t o.rest line.tokens o.tokens_are first) o.tokens_are e.begun;
-  none = λ q asks other more h there tokens_are goes_on fine. e.none h (sym tokens_are ∙ there.1);
+  none = λ q asks other more h there tokens_are goes_on fine.
+      false≢true (sym (e.none h (sym tokens_are ∙ there.1))
+      ∙ (each_true (head_stands m.context m.given h) (nat_le (head_depth h) q.height) (nat_le (n + counted h) q.number) (is_none (behind_in h) || nat_le (suc m.depth) q.suites) fine).0);
 }
 
 pub refused_at : (m : Level) (limit : Option Limit) (ts us : List Token) (s r : Stop) → ts ≡ us → s ≡ r → HeadRefused m.context m.given limit ts s → HeadRefused m.context m.given limit us r
@@ -385,24 +380,24 @@ pub first_at : (m : Level) (ts us : List Token) (s r : Stop) → ts ≡ us → s
 first_at m ts us s r same stop is = subst (λ (l : List Token). FirstMay m.context l r) same (subst (λ (x : Stop). FirstMay m.context ts x) stop is)
 
 -- no line is without tokens
-pub line_is_empty : (m : Level) (n : ℕ) (at : Pos) (line : Line) → line.tokens ≡ [] → RefusedLine m n at line (Unexpected at)
-line_is_empty m n at line empty = record {
+pub line_is_empty : (m : Level) (n : ℕ) (at : Pos) (line : Line) (lines : List Line) → line.tokens ≡ [] → RefusedLine m n at line lines (AtEnd (length lines) at)
+line_is_empty m n at line lines empty = record {
   point = at_end line.indent [];
   on_line = tt;
   shown = (refl, empty);
-  named = refl;
+  marked = (refl, refl);
   begun = begun_end line.indent [];
   begins = λ same. begins_here m (at_end line.indent []) refl;
   none = λ q asks other more h there tokens_are goes_on fine. head_some h (sym tokens_are ∙ there.1);
 }
 
 -- a statement more than there may be
-pub one_too_many : (m : Level) (n : ℕ) (at : Pos) (line : Line) (t : Token) (rest : List Token) → line.tokens ≡ t ∷ rest → true ≡ is_stmt_kind t.kind → 20000 ≤ n → RefusedLine m n at line (TooMany t.at)
-one_too_many m n at line t rest tokens begins many = record {
+pub one_too_many : (m : Level) (n : ℕ) (at : Pos) (line : Line) (lines : List Line) (t : Token) (rest : List Token) → line.tokens ≡ t ∷ rest → true ≡ is_stmt_kind t.kind → 20000 ≤ n → RefusedLine m n at line lines (ManyHalt t.at)
+one_too_many m n at line lines t rest tokens begins many = record {
   point = at_token line.indent [] t;
   on_line = tt;
   shown = (refl, record { more = rest; tokens_are = tokens });
-  named = refl;
+  marked = refl;
   begun = begun_token line.indent [] t;
   begins = λ same. begins_here m (at_token line.indent [] t) refl;
   none = λ q asks other more h there tokens_are goes_on fine. no_more q asks h there.1.more (sym tokens_are ∙ there.1.tokens_are) fine;

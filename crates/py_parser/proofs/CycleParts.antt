@@ -7,8 +7,8 @@ use Rattle.prov_base.specs.declared.place.Pos.{Pos}
 use Rattle.py_lines.specs.declared.parts.Line.{Line}
 use Rattle.py_grammar.specs.declared.around.Around.{Around}
 use Rattle.py_grammar.specs.declared.context.Last.{Last}
-use Rattle.py_grammar.specs.declared.fault.ParseFault.{ParseFault}
-use Rattle.py_grammar.specs.declared.fault.ParseFault.TheVariants.{BadIndent, TooDeep}
+use Rattle.py_parser.specs.declared.fault.Halt.{Halt}
+use Rattle.py_parser.specs.declared.fault.Halt.TheVariants.{BadIndent, TooDeep}
 use Rattle.py_grammar.specs.declared.head.Behind.{Behind}
 use Rattle.py_grammar.specs.declared.head.LineHead.{LineHead}
 use Rattle.py_grammar.specs.Written.{Simple}
@@ -29,7 +29,7 @@ use Rattle.py_parser.proofs.UnderParts.{line_stopped, row_stopped, row_read, inn
 here_is : (d : ℕ) (before : List Line) (line : Line) (lines : List Line) → before ≡ line ∷ lines → is_here d before ≡ true → line.indent ≡ d
 here_is d before line lines is here = eqb-true line.indent d (sym (ap (is_here d) is) ∙ here)
 
-pub line_stopped_there : (cs : List ℕ) (m : Level) (n : ℕ) (at : Pos) (before : List Line) (line : Line) (lines : List Line) (fault : ParseFault) → before ≡ line ∷ lines → is_here m.indent before ≡ true → LineStopped m n at line fault → RowsStopped cs m n at before fault
+pub line_stopped_there : (cs : List ℕ) (m : Level) (n : ℕ) (at : Pos) (before : List Line) (line : Line) (lines : List Line) (fault : Halt) → before ≡ line ∷ lines → is_here m.indent before ≡ true → LineStopped m n at line lines fault → RowsStopped cs m n at before fault
 line_stopped_there cs m n at before line lines fault is here stopped =
     subst (λ (ls : List Line). RowsStopped cs m n at ls fault) (sym is) (line_stopped cs m n at line lines fault (here_is m.indent before line lines is here) stopped)
 
@@ -37,7 +37,7 @@ line_stopped_there cs m n at before line lines fault is here stopped =
 under_of : (p : Place) (given : List (List ℕ)) (n middle : ℕ) (line : Line) (built : Built) (head : LineHead) → (l : LineRead (level_at p given built) n line head middle) → IsUnderOf p middle (level_at p given built) n l.written
 under_of p given n middle line built head l = record { indent_is = refl; depth_is = refl; around_is = refl; count_is = l.count_is; may_be = l.may_be }
 
-pub under_stopped_there : (cs ds : List ℕ) (p : Place) (given : List (List ℕ)) (n middle : ℕ) (at there : Pos) (before : List Line) (line : Line) (lines : List Line) (built : Built) (head : LineHead) (fault : ParseFault) → ds ≡ cs → before ≡ line ∷ lines
+pub under_stopped_there : (cs ds : List ℕ) (p : Place) (given : List (List ℕ)) (n middle : ℕ) (at there : Pos) (before : List Line) (line : Line) (lines : List Line) (built : Built) (head : LineHead) (fault : Halt) → ds ≡ cs → before ≡ line ∷ lines
     → is_here p.indent before ≡ true → there ≡ last_place at line.tokens → LineRead (level_at p given built) n line head middle
     → ((m : Level) (k : ℕ) (h : Head) → IsUnderOf p middle m k h → IsHead head.what line h → IsBehind head.behind (behind_in h) → UnderStopped ds m (k + counted h) h there lines fault)
     → RowsStopped cs (level_at p given built) n at before fault
@@ -62,7 +62,7 @@ level_by p given last may_declare has_stmt = record {
 level_same : (p : Place) (given : List (List ℕ)) (a b : Last) (x y s t : Bool) → a ≡ b → x ≡ y → s ≡ t → level_by p given a x s ≡ level_by p given b y t
 level_same p given a b x y s t one two three = ap (λ z. level_by p given z x s) one ∙ ap (λ z. level_by p given b z s) two ∙ ap (λ z. level_by p given b y z) three
 
-pub row_found : (p : Place) (given : List (List ℕ)) (n middle next : ℕ) (at there now : Pos) (before : List Line) (line : Line) (lines left : List Line) (old under : Built) (head : LineHead) (result : Result Built ParseFault) → before ≡ line ∷ lines
+pub row_found : (p : Place) (given : List (List ℕ)) (n middle next : ℕ) (at there now : Pos) (before : List Line) (line : Line) (lines left : List Line) (old under : Built) (head : LineHead) (result : Result Built Halt) → before ≡ line ∷ lines
     → is_here p.indent before ≡ true → there ≡ last_place at line.tokens → LineRead (level_at p given old) n line head middle
     → ((m : Level) (k : ℕ) (h : Head) → IsUnderOf p middle m k h → IsHead head.what line h → IsBehind head.behind (behind_in h) → UnderRead m k h line.span.to there lines under next now left)
     → ((h : Head) → IsHead head.what line h → IfOk result (λ more. trees_of more ≡ grown n h (suite_list (trees_of under)) under.globals.items under.to (trees_of old)))
@@ -136,7 +136,7 @@ too_deep_below cs p count m n h at place line rest lines is u deeper deep open_i
 abbrev pub inner_place : ℕ → ℕ → Around → Bool → Place
 inner_place indent depth around def = record { indent = indent; depth = depth; around = around; of_def = def }
 
-pub suite_stopped_there : (cs ds : List ℕ) (p q : Place) (given : List (List ℕ)) (count : ℕ) (m : Level) (n : ℕ) (h : Head) (at : Pos) (lines : List Line) (fault : ParseFault) → IsUnderOf p count m n h → opens h ≡ true → q.depth ≡ p.depth + 1
+pub suite_stopped_there : (cs ds : List ℕ) (p q : Place) (given : List (List ℕ)) (count : ℕ) (m : Level) (n : ℕ) (h : Head) (at : Pos) (lines : List Line) (fault : Halt) → IsUnderOf p count m n h → opens h ≡ true → q.depth ≡ p.depth + 1
     → around_of q.around ≡ head_around (around_of p.around) h → q.of_def ≡ is_def h → given ≡ head_given h → p.indent < q.indent → ds ≡ cs ++ p.indent ∷ [] → RowsStopped ds (level_of q given) count at lines fault
     → UnderStopped cs m (n + counted h) h at lines fault
 suite_stopped_there cs ds p q given count m n h at lines fault u open_is depth around def params deeper columns stopped =

@@ -6,6 +6,7 @@ pub mod CloseParts
 pub mod Columns
 pub mod CycleParts
 pub mod Endings
+pub mod FirstFaults
 pub mod Grown
 pub mod Parsing
 pub mod Peeled

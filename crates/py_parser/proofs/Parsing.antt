@@ -8,8 +8,10 @@ use Rattle.py_tree.specs.declared.stmt.Suite.{roll-Suite}
 use Rattle.py_tree.specs.Erasure.{stmt_of, suite_of}
 use Rattle.py_tree.specs.Tree.{StmtTree, SuiteTree, ScriptTree}
 use Rattle.py_tree.specs.Numbering.{numbered_suite, size_suite, IsNumbered}
-use Rattle.py_grammar.specs.declared.fault.ParseFault.{ParseFault}
-use Rattle.py_grammar.specs.declared.fault.ParseFault.TheVariants.{Unexpected, Unsupported, BadIndent, TooDeep, TooMany, Memory}
+use Rattle.py_parser.specs.declared.fault.ParseFault.{ParseFault}
+use Rattle.py_parser.specs.declared.fault.ParseFault.TheVariants.{Unexpected, Unsupported, BadIndent, TooDeep, TooMany, Memory}
+use Rattle.py_parser.specs.declared.fault.Halt.{Halt}
+use Rattle.py_parser.specs.declared.fault.Halt.TheVariants.{AtToken, AtEnd, NoLine, BadIndent as IndentHalt, TooDeep as DeepHalt, TooMany as ManyHalt, Memory as MemoryHalt}
 use Rattle.py_grammar.specs.Written.{Script, empty_script, script}
 use Rattle.py_grammar.specs.Grammar.{script_lines, FitsScript}
 use Rattle.py_grammar.specs.StatementTrees.{script_body}
@@ -21,7 +23,7 @@ use Rattle.py_parser.specs.Faults.{Point, at_token, at_end, at_line, below, no_l
 use Rattle.py_parser.specs.Rows.{Rows, end_rows, row, rows_lines, rows_size, rows_may, start, Level, FitsRows, FitsStart, Begun}
 use Rattle.py_parser.specs.Grouped.{script_rows, script_of}
 use Rattle.py_parser.specs.RowForms.{suite_list, grow}
-use Rattle.py_parser.specs.ParsedBlocks.{trees_of, RowsBegin, RowsGoOn, NoRows, MayStand, Placed, Refused, RowsStopped, RowsRead}
+use Rattle.py_parser.specs.ParsedBlocks.{trees_of, RowsBegin, RowsGoOn, NoRows, MayStand, Placed, Refused, RowsStopped, RowsRead, FirstHalt, IsHalt}
 use Rattle.py_parser.proofs.RowLines.{script_same}
 use Rattle.py_parser.proofs.RowFits.{script_fits}
 use Rattle.py_parser.proofs.RowStatements.{script_is}
@@ -137,14 +139,14 @@ in_column front (at_line d) placed = record { none = never_there d front placed;
 in_column front (below d) placed = script_goes_on (IsPass d) front placed
 in_column front no_line placed = script_goes_on IsHandler front placed
 
-first_fault : (lines : List Line) (fault : ParseFault) → Refused [] start 0 origin lines fault → FirstFault lines fault
-first_fault lines fault r = record {
+first_halt : (lines : List Line) (halt : Halt) → Refused [] start 0 origin lines halt → FirstHalt lines halt
+first_halt lines halt r = record {
   front = r.front;
   behind = r.behind;
   point = r.point;
   lines_are = r.lines_are;
   shown = r.shown;
-  named = r.named;
+  marked = r.marked;
   column = in_column r.front r.point r.placed;
   begins = script_begins r.front r.point r.begins;
   none = λ limits asks s fits fine rest shown_it same.
@@ -152,20 +154,21 @@ first_fault lines fault r = record {
       (append-nil (rows_lines (script_rows s)) ∙ script_same s ∙ same);
 }
 
-stopped_script : (lines : List Line) (l : Level) (fault : ParseFault) → l ≡ start → RowsStopped [] l 0 origin lines fault → IsFault lines fault
-stopped_script lines l fault is r = by fault (subst (λ (k : Level). RowsStopped [] k 0 origin lines fault) is r)
+stopped_script : (lines : List Line) (l : Level) (halt : Halt) → l ≡ start → RowsStopped [] l 0 origin lines halt → IsHalt lines halt
+stopped_script lines l halt is r = by halt (subst (λ (k : Level). RowsStopped [] k 0 origin lines halt) is r)
   where
-    by : (fault : ParseFault) → RowsStopped [] start 0 origin lines fault → IsFault lines fault
-    by Memory r = tt
-    by (Unexpected place) r = first_fault lines (Unexpected place) r
-    by (Unsupported place) r = first_fault lines (Unsupported place) r
-    by (BadIndent place) r = first_fault lines (BadIndent place) r
-    by (TooDeep place) r = first_fault lines (TooDeep place) r
-    by (TooMany place) r = first_fault lines (TooMany place) r
+    by : (halt : Halt) → RowsStopped [] start 0 origin lines halt → IsHalt lines halt
+    by MemoryHalt r = tt
+    by (AtToken lines_left left) r = first_halt lines (AtToken lines_left left) r
+    by (AtEnd lines_left place) r = first_halt lines (AtEnd lines_left place) r
+    by (NoLine place) r = first_halt lines (NoLine place) r
+    by (IndentHalt place) r = first_halt lines (IndentHalt place) r
+    by (DeepHalt place) r = first_halt lines (DeepHalt place) r
+    by (ManyHalt place) r = first_halt lines (ManyHalt place) r
 
-pub stopped_there : (lines read : List Line) (cs : List ℕ) (l : Level) (fault : ParseFault) → read ≡ lines → cs ≡ [] → l ≡ start → RowsStopped cs l 0 origin read fault → IsFault lines fault
-stopped_there lines read cs l fault same columns is r =
-    subst (λ (ls : List Line). IsFault ls fault) same (stopped_script read l fault is (subst (λ (xs : List ℕ). RowsStopped xs l 0 origin read fault) columns r))
+pub stopped_there : (lines read : List Line) (cs : List ℕ) (l : Level) (halt : Halt) → read ≡ lines → cs ≡ [] → l ≡ start → RowsStopped cs l 0 origin read halt → IsHalt lines halt
+stopped_there lines read cs l halt same columns is r =
+    subst (λ (ls : List Line). IsHalt ls halt) same (stopped_script read l halt is (subst (λ (xs : List ℕ). RowsStopped xs l 0 origin read halt) columns r))
 
 -- the first line of a script is not indented
 zero_first : (rows : Rows) (rest : List Line) → FitsRows start rows → rows_lines rows ≡ rest → Begun 0 rest

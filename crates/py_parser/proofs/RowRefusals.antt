@@ -1,19 +1,19 @@
 -- Where the lines of a script stop being rows: how a refusal further on is one of what stands before it.
-use Rattle.std.proofs.Common.{◌≡◌, inl, inr, ◌⊎◌, ℕ, ◌+◌, ◌<◌, ◌≤◌, suc, nat_le, Bool, true, false, ◌&&◌, List, [], ◌∷◌, ◌++◌, refl, ap, sym, ◌∙◌, subst, arith, append_assoc, leb-true}
+use Rattle.std.proofs.Common.{◌≡◌, inl, inr, ◌⊎◌, ℕ, ◌+◌, ◌<◌, ◌≤◌, suc, nat_le, Bool, true, false, ◌&&◌, List, [], ◌∷◌, ◌++◌, refl, ap, sym, ◌∙◌, subst, arith, append_assoc, leb-true, length}
 use Rattle.std.proofs.lemmas.Bool.{false≢true}
 use Rattle.prov_base.specs.declared.place.Pos.{Pos}
 use Rattle.py_lines.specs.declared.parts.Line.{Line}
 use Rattle.py_lines.specs.declared.parts.Token.{Token}
-use Rattle.py_grammar.specs.declared.fault.ParseFault.{ParseFault}
-use Rattle.py_grammar.specs.declared.fault.ParseFault.TheVariants.{Unexpected, BadIndent, TooDeep}
+use Rattle.py_parser.specs.declared.fault.Halt.{Halt}
+use Rattle.py_parser.specs.declared.fault.Halt.TheVariants.{AtToken, AtEnd, NoLine, BadIndent, TooDeep, TooMany, Memory}
 use Rattle.py_grammar.specs.LineReader.{Head, head_tokens}
 use Rattle.py_grammar.specs.Layout.{IsLine}
 use Rattle.py_grammar.specs.Follows.{Below}
 use Rattle.py_parser.specs.Limits.{Limits}
 use Rattle.py_parser.specs.Rows.{Rows, end_rows, row, Under, nothing, block, rows_lines, under_lines, Level, counted, opens, after, inside, is_done, follows, Leads, FitsUnder, FitsRows, may, rows_may, under_may, rows_size, Edge, LastEdge, Begun}
 use Rattle.py_grammar.specs.ParsedHead.{lacks_handler}
-use Rattle.py_parser.specs.Faults.{NoLess, Asks, Point, at_token, at_end, at_line, below, no_line, shows, first_place, last_place, last_token, NamesToken, NamesEnd, names, IsAt, IsPass, IsPassBefore, IsHandler, IsOpenAt}
-use Rattle.py_parser.specs.ParsedBlocks.{is_column, columns_under, RowsGoOn, UnderGoesOn, NoRows, NoUnder, MayStand, MayStandUnder, Placed, PlacedUnder, IsOnLine, UnderBegins, Refused, RefusedHere, RefusedUnder, RefusedLine}
+use Rattle.py_parser.specs.Faults.{NoLess, Point, at_token, at_end, at_line, below, no_line, shows, first_place, last_place, last_token, IsAt, IsPass, IsPassBefore, IsHandler, IsOpenAt}
+use Rattle.py_parser.specs.ParsedBlocks.{is_column, columns_under, RowsGoOn, UnderGoesOn, NoRows, NoUnder, MayStand, MayStandUnder, Placed, PlacedUnder, IsOnLine, UnderBegins, Refused, RefusedHere, RefusedUnder, RefusedLine, Asks, marks, MarksFirst}
 use Rattle.py_parser.proofs.Columns.{leads_low, under_low, less_in, all_front, open_behind, open_first, none_open, open_split, open_apart, open_low, no_open_rows, column_inside, own_column, column_here}
 use Rattle.py_parser.proofs.Endings.{begins_here, begins_behind, begins_end, begins_under, begins_inside, begins_suite, handler_next, pass_next, pass_before, line_next, goes_behind, goes_end, goes_under, goes_inside}
 use Rattle.py_parser.proofs.Peeled.{begun_rows, one_indent, edge_under, head_is, left_over, peeled}
@@ -100,7 +100,7 @@ placed_behind cs l m rows front behind (at_line d) leads shown begun is = no_row
 placed_behind cs l m rows front behind (below d) leads shown begun is = goes_behind l m rows (IsPass d) front leads is
 placed_behind cs l m rows front behind no_line leads shown begun is = goes_behind l m rows IsHandler front leads is
 
-pub refused_behind : (cs : List ℕ) (l m : Level) (n k : ℕ) (at now : Pos) (before left : List Line) (rows : Rows) (fault : ParseFault) → before ≡ rows_lines rows ++ left → Leads l rows m → k ≡ n + rows_size rows → now ≡ last_token at (rows_lines rows)
+pub refused_behind : (cs : List ℕ) (l m : Level) (n k : ℕ) (at now : Pos) (before left : List Line) (rows : Rows) (fault : Halt) → before ≡ rows_lines rows ++ left → Leads l rows m → k ≡ n + rows_size rows → now ≡ last_token at (rows_lines rows)
     → Refused cs m k now left fault → Refused cs l n at before fault
 refused_behind cs l m n k at now before left rows fault is leads count_is now_is r = record {
   front = rows_lines rows ++ r.front;
@@ -108,7 +108,7 @@ refused_behind cs l m n k at now before left rows fault is leads count_is now_is
   point = r.point;
   lines_are = is ∙ ap (λ ls. rows_lines rows ++ ls) r.lines_are ∙ sym (append_assoc (rows_lines rows) r.front r.behind);
   shown = r.shown;
-  named = subst (λ p. names p r.behind r.point fault) (ap (λ p. last_token p r.front) now_is ∙ sym (tokens_append at (rows_lines rows) r.front)) r.named;
+  marked = subst (λ p. marks p r.behind r.point fault) (ap (λ p. last_token p r.front) now_is ∙ sym (tokens_append at (rows_lines rows) r.front)) r.marked;
   placed = placed_behind cs l m rows r.front r.behind r.point leads r.shown r.begun r.placed;
   begun = λ rest shows_it. subst (Begun l.indent) (sym (append_assoc (rows_lines rows) r.front rest)) (begun_first l m rows (r.front ++ rest) leads (r.begun rest shows_it));
   begins = begins_behind l m rows r.front r.point leads r.begins;
@@ -151,7 +151,7 @@ placed_end cs l m rows left (below d) leads shown edge edges is = goes_end l m r
 placed_end cs l m rows left no_line leads shown edge edges is = goes_end l m rows IsHandler leads is
 
 -- behind at least one row
-pub refused_end : (cs : List ℕ) (l m : Level) (n k : ℕ) (at now : Pos) (before left : List Line) (rows : Rows) (fault : ParseFault) → before ≡ rows_lines rows ++ left → Leads l rows m → k ≡ n + rows_size rows → now ≡ last_token at (rows_lines rows)
+pub refused_end : (cs : List ℕ) (l m : Level) (n k : ℕ) (at now : Pos) (before left : List Line) (rows : Rows) (fault : Halt) → before ≡ rows_lines rows ++ left → Leads l rows m → k ≡ n + rows_size rows → now ≡ last_token at (rows_lines rows)
     → LastEdge rows left → ((x : List Line) → Begun l.indent (rows_lines rows ++ x)) → RefusedHere cs m k now left fault → Refused cs l n at before fault
 refused_end cs l m n k at now before left rows fault is leads count_is now_is edge begun r = record {
   front = rows_lines rows;
@@ -159,7 +159,7 @@ refused_end cs l m n k at now before left rows fault is leads count_is now_is ed
   point = r.point;
   lines_are = is;
   shown = r.shown;
-  named = subst (λ p. names p left r.point fault) now_is r.named;
+  marked = subst (λ p. marks p left r.point fault) now_is r.marked;
   placed = placed_end cs l m rows left r.point leads r.shown edge (λ rest shows_it. r.edge rows rest shows_it l (sym (indent_stays l m rows leads)) leads edge) r.placed;
   begun = λ rest shows_it. begun rest;
   begins = begins_end l m rows r.point leads (begins_here m r.point r.before);
@@ -233,7 +233,7 @@ placed_under cs m h line front (at_line d) is may_follow low placed = no_rows_un
 placed_under cs m h line front (below d) is may_follow low placed = goes_under m h line (IsPass d) front is may_follow placed
 placed_under cs m h line front no_line is may_follow low placed = goes_under m h line IsHandler front is may_follow placed
 
-pub refused_under : (cs : List ℕ) (m : Level) (n : ℕ) (h : Head) (at : Pos) (line : Line) (lines : List Line) (fault : ParseFault) → IsLine line m.indent (head_tokens h) → follows m h ≡ true
+pub refused_under : (cs : List ℕ) (m : Level) (n : ℕ) (h : Head) (at : Pos) (line : Line) (lines : List Line) (fault : Halt) → IsLine line m.indent (head_tokens h) → follows m h ≡ true
     → RefusedUnder cs m (n + counted h) h (last_place at line.tokens) lines fault → Refused cs m n at (line ∷ lines) fault
 refused_under cs m n h at line lines fault is may_follow r = record {
   front = line ∷ r.front;
@@ -241,7 +241,7 @@ refused_under cs m n h at line lines fault is may_follow r = record {
   point = r.point;
   lines_are = ap (λ ls. line ∷ ls) r.lines_are;
   shown = r.shown;
-  named = r.named;
+  marked = r.marked;
   placed = placed_under cs m h line r.front r.point is may_follow (further_in m h r.front r.point r.begins) r.placed;
   begun = λ rest shows_it. is.indent_is;
   begins = begins_under m h line r.front r.point is may_follow r.begins;
@@ -267,13 +267,6 @@ more_lines (at_line indent) line lines is = is
 more_lines (below indent) line lines is = is
 more_lines no_line line lines is = is
 
-named_more : (at : Pos) (point : Point) (line : Line) (lines : List Line) (fault : ParseFault) → names at (line ∷ []) point fault → names at (line ∷ lines) point fault
-named_more at (at_token indent front t) line lines fault is = is
-named_more at (at_end indent tokens) line lines fault is = is
-named_more at (at_line indent) line lines fault is = is
-named_more at (below indent) line lines fault is = is
-named_more at no_line line lines fault is = is
-
 placed_line : (cs : List ℕ) (m : Level) (line : Line) (p : Point) → line.indent ≡ m.indent → IsOnLine p → shows p (line ∷ []) → Placed cs m [] p
 placed_line cs m line (at_token d tokens t) is on_line shown = inl (subst (λ e. RowsGoOn m (IsAt e) []) (sym is ∙ shown.0) (line_next m))
 placed_line cs m line (at_end d tokens) is on_line shown = inl (subst (λ e. RowsGoOn m (IsAt e) []) (sym is ∙ shown.0) (line_next m))
@@ -281,14 +274,14 @@ placed_line cs m line (at_line d) is on_line shown = absurd on_line
 placed_line cs m line (below d) is on_line shown = absurd on_line
 placed_line cs m line no_line is on_line shown = absurd on_line
 
-pub refused_line : (cs : List ℕ) (m : Level) (n : ℕ) (at : Pos) (line : Line) (lines : List Line) (fault : ParseFault) → line.indent ≡ m.indent → RefusedLine m n at line fault → Refused cs m n at (line ∷ lines) fault
+pub refused_line : (cs : List ℕ) (m : Level) (n : ℕ) (at : Pos) (line : Line) (lines : List Line) (fault : Halt) → line.indent ≡ m.indent → RefusedLine m n at line lines fault → Refused cs m n at (line ∷ lines) fault
 refused_line cs m n at line lines fault is r = record {
   front = [];
   behind = line ∷ lines;
   point = r.point;
   lines_are = refl;
   shown = more_lines r.point line lines r.shown;
-  named = named_more at r.point line lines fault r.named;
+  marked = r.marked;
   placed = placed_line cs m line r.point is r.on_line r.shown;
   begun = λ rest shows_it. subst (λ d. Begun d rest) is (r.begun rest shows_it);
   begins = r.begins is;
@@ -326,7 +319,7 @@ placed_inside cs m h k front (at_line d) open_is deeper begun is = no_inside cs 
 placed_inside cs m h k front (below d) open_is deeper begun is = goes_inside m h k (IsPass d) front open_is deeper is
 placed_inside cs m h k front no_line open_is deeper begun is = goes_inside m h k IsHandler front open_is deeper is
 
-pub refused_inside : (cs : List ℕ) (m : Level) (n k : ℕ) (h : Head) (at : Pos) (lines : List Line) (fault : ParseFault) → opens h ≡ true → m.indent < k → Refused (columns_under cs m) (inside m h k) n at lines fault
+pub refused_inside : (cs : List ℕ) (m : Level) (n k : ℕ) (h : Head) (at : Pos) (lines : List Line) (fault : Halt) → opens h ≡ true → m.indent < k → Refused (columns_under cs m) (inside m h k) n at lines fault
     → RefusedUnder cs m n h at lines fault
 refused_inside cs m n k h at lines fault open_is deeper r = record {
   front = r.front;
@@ -334,7 +327,7 @@ refused_inside cs m n k h at lines fault open_is deeper r = record {
   point = r.point;
   lines_are = r.lines_are;
   shown = r.shown;
-  named = r.named;
+  marked = r.marked;
   placed = placed_inside (columns_under cs m) m h k r.front r.point open_is deeper r.begun r.placed;
   begins = begins_inside m h k r.front r.point open_is deeper r.begins;
   none = none;
@@ -358,7 +351,7 @@ no_suite cs m n h at lines open_is low = record {
   point = below (suc m.indent);
   lines_are = refl;
   shown = low;
-  named = refl;
+  marked = refl;
   placed = goes_inside m h (suc m.indent) (IsPass (suc m.indent)) [] open_is (omega arith) (pass_next (inside m h (suc m.indent)) (suc m.indent) refl (omega arith));
   begins = begins_suite m h (below (suc m.indent)) open_is refl;
   none = none;
@@ -386,7 +379,7 @@ too_deep_at cs m n h at place line lines open_is deeper deep = by line.tokens re
       point = at_end line.indent [];
       lines_are = refl;
       shown = (refl, is);
-      named = tt;
+      marked = tt;
       placed = inl next;
       begins = begins_suite m h (at_end line.indent []) open_is refl;
       none = λ q asks rest under s shows_it fits may_be edge same. none_deeper q m n h under asks.1 open_is deep fits may_be;
@@ -397,7 +390,7 @@ too_deep_at cs m n h at place line lines open_is deeper deep = by line.tokens re
       point = at_token line.indent [] t;
       lines_are = refl;
       shown = (refl, record { more = ts; tokens_are = is });
-      named = tt;
+      marked = tt;
       placed = inl next;
       begins = begins_suite m h (at_token line.indent [] t) open_is refl;
       none = λ q asks rest under s shows_it fits may_be edge same. none_deeper q m n h under asks.1 open_is deep fits may_be;
@@ -451,7 +444,7 @@ pub refused_indent : (cs : List ℕ) (m : Level) (n : ℕ) (at : Pos) (line : Li
 refused_indent cs m n at line lines column further other ends = record {
   point = at_line line.indent;
   shown = refl;
-  named = refl;
+  marked = refl;
   placed = record {
     around = λ is. false≢true (sym column ∙ is);
     here = other;
@@ -478,15 +471,15 @@ refused_indent cs m n at line lines column further other ends = record {
     none_1 (first ∷ more) rows r shows_it fits low same = none_there m line first more rows r other ends shows_it fits low same
 
 -- A line at the column of a suite around is refused at its first token, where a handler is missing.
-pub refused_first : (cs : List ℕ) (m : Level) (n : ℕ) (at : Pos) (line : Line) (lines : List Line) (fault : Pos → ParseFault) → ((t : Token) (ts : List Token) → line.tokens ≡ t ∷ ts → NamesToken t (fault t.at)) → NamesEnd at (fault at)
-    → is_column line.indent cs ≡ true → lacks_handler m.context.last ≡ true → (line.indent ≡ m.indent → ⊥) → (is_done m ≡ true → line.indent < m.indent → ⊥) → RefusedHere cs m n at (line ∷ lines) (fault (first_place at line.tokens))
-refused_first cs m n at line lines fault named ended column lacks other ends = by line.tokens refl
+pub refused_first : (cs : List ℕ) (m : Level) (n : ℕ) (at : Pos) (line : Line) (lines : List Line) (halt : Halt) → MarksFirst line.tokens lines at halt
+    → is_column line.indent cs ≡ true → lacks_handler m.context.last ≡ true → (line.indent ≡ m.indent → ⊥) → (is_done m ≡ true → line.indent < m.indent → ⊥) → RefusedHere cs m n at (line ∷ lines) halt
+refused_first cs m n at line lines halt marked column lacks other ends = by line.tokens halt refl marked
   where
-    by : (ts : List Token) → line.tokens ≡ ts → RefusedHere cs m n at (line ∷ lines) (fault (first_place at ts))
-    by [] is = record {
+    by : (ts : List Token) (halt : Halt) → line.tokens ≡ ts → MarksFirst ts lines at halt → RefusedHere cs m n at (line ∷ lines) halt
+    by [] (AtEnd lines_left place) is mark = record {
       point = at_end line.indent [];
       shown = (refl, is);
-      named = ended;
+      marked = mark;
       placed = inr (inl column, handler_next m lacks);
       before = refl;
       edge = λ rows rest shows_it l indent leads edge. edge_1 rows rest shows_it edge;
@@ -500,10 +493,10 @@ refused_first cs m n at line lines fault named ended column lacks other ends = b
         none_1 : (rest : List Line) (rows : Rows) (r : List Line) → shows (at_end line.indent []) rest → FitsRows m rows → Below m.indent r → rows_lines rows ++ r ≡ rest → ⊥
         none_1 [] rows r shows_it fits low same = absurd shows_it
         none_1 (first ∷ more) rows r shows_it fits low same = none_there m line first more rows r other ends shows_it.0 fits low same
-    by (t ∷ ts) is = record {
+    by (t ∷ ts) (AtToken lines_left left) is mark = record {
       point = at_token line.indent [] t;
       shown = (refl, record { more = ts; tokens_are = is });
-      named = named t ts is;
+      marked = (mark.0, let counted = ap length is in let left_is = mark.1 in omega (arith, counted, left_is));
       placed = inr (inl column, handler_next m lacks);
       before = refl;
       edge = λ rows rest shows_it l indent leads edge. edge_1 rows rest shows_it edge;
@@ -517,13 +510,25 @@ refused_first cs m n at line lines fault named ended column lacks other ends = b
         none_1 : (rest : List Line) (rows : Rows) (r : List Line) → shows (at_token line.indent [] t) rest → FitsRows m rows → Below m.indent r → rows_lines rows ++ r ≡ rest → ⊥
         none_1 [] rows r shows_it fits low same = absurd shows_it
         none_1 (first ∷ more) rows r shows_it fits low same = none_there m line first more rows r other ends shows_it.0 fits low same
+    by [] (AtToken lines_left left) is mark = absurd mark
+    by (t ∷ ts) (AtEnd lines_left place) is mark = absurd mark
+    by [] (NoLine place) is mark = absurd mark
+    by (t ∷ ts) (NoLine place) is mark = absurd mark
+    by [] (BadIndent place) is mark = absurd mark
+    by (t ∷ ts) (BadIndent place) is mark = absurd mark
+    by [] (TooDeep place) is mark = absurd mark
+    by (t ∷ ts) (TooDeep place) is mark = absurd mark
+    by [] (TooMany place) is mark = absurd mark
+    by (t ∷ ts) (TooMany place) is mark = absurd mark
+    by [] Memory is mark = absurd mark
+    by (t ∷ ts) Memory is mark = absurd mark
 
 -- the lines end where the suite may not
-pub refused_nothing : (cs : List ℕ) (m : Level) (n : ℕ) (at : Pos) → lacks_handler m.context.last ≡ true → (is_done m ≡ true → ⊥) → RefusedHere cs m n at [] (Unexpected at)
+pub refused_nothing : (cs : List ℕ) (m : Level) (n : ℕ) (at : Pos) → lacks_handler m.context.last ≡ true → (is_done m ≡ true → ⊥) → RefusedHere cs m n at [] (NoLine at)
 refused_nothing cs m n at lacks ends = record {
   point = no_line;
   shown = tt;
-  named = refl;
+  marked = refl;
   placed = handler_next m lacks;
   before = refl;
   edge = λ rows rest shows_it l indent leads edge. edge_1 rows rest shows_it;
@@ -543,7 +548,7 @@ pub refused_empty : (cs : List ℕ) (m : Level) (n : ℕ) (at : Pos) (lines : Li
 refused_empty cs m n at lines low lacks ends = record {
   point = below m.indent;
   shown = low;
-  named = refl;
+  marked = refl;
   placed = pass_next m m.indent lacks (omega arith);
   before = refl;
   edge = λ rows rest shows_it l indent leads edge. edge_below l m rows rest leads (subst (λ d. Below d rest) (sym indent) shows_it);

@@ -6,8 +6,8 @@ use Rattle.py_lines.specs.declared.parts.Line.{Line}
 use Rattle.py_tree.specs.Tree.{StmtTree}
 use Rattle.py_parser.specs.declared.blocks.Place.{Place}
 use Rattle.py_parser.specs.declared.blocks.Built.{Built}
-use Rattle.py_grammar.specs.declared.fault.ParseFault.{ParseFault}
-use Rattle.py_grammar.specs.declared.fault.ParseFault.TheVariants.{Unexpected, Unsupported, BadIndent, TooDeep, TooMany, Memory}
+use Rattle.py_parser.specs.declared.fault.Halt.{Halt}
+use Rattle.py_parser.specs.declared.fault.Halt.TheVariants.{AtToken, AtEnd, NoLine, BadIndent, TooDeep, TooMany, Memory}
 use Rattle.py_grammar.specs.LineReader.{Head, head_tokens}
 use Rattle.py_grammar.specs.StatementTrees.{end_of}
 use Rattle.py_grammar.specs.Layout.{IsLine}
@@ -136,10 +136,11 @@ fewer_lines m k n next at then_at left rest built more r =
     lengths [] b = omega arith
     lengths (x ∷ a) b = let more = lengths a b in omega (arith, more)
 
-stopped_behind : (cs : List ℕ) (l m : Level) (n count : ℕ) (at now : Pos) (before left : List Line) (built : Built) (fault : ParseFault) → Standing l n at before m built count now left → RowsStopped cs m count now left fault → RowsStopped cs l n at before fault
+stopped_behind : (cs : List ℕ) (l m : Level) (n count : ℕ) (at now : Pos) (before left : List Line) (built : Built) (fault : Halt) → Standing l n at before m built count now left → RowsStopped cs m count now left fault → RowsStopped cs l n at before fault
 stopped_behind cs l m n count at now before left built Memory s r = tt
-stopped_behind cs l m n count at now before left built (Unexpected place) s r = refused_behind cs l m n count at now before left s.rows (Unexpected place) s.lines_are s.leads s.count_is s.now_is r
-stopped_behind cs l m n count at now before left built (Unsupported place) s r = refused_behind cs l m n count at now before left s.rows (Unsupported place) s.lines_are s.leads s.count_is s.now_is r
+stopped_behind cs l m n count at now before left built (AtToken lines_left tokens_left) s r = refused_behind cs l m n count at now before left s.rows (AtToken lines_left tokens_left) s.lines_are s.leads s.count_is s.now_is r
+stopped_behind cs l m n count at now before left built (AtEnd lines_left place) s r = refused_behind cs l m n count at now before left s.rows (AtEnd lines_left place) s.lines_are s.leads s.count_is s.now_is r
+stopped_behind cs l m n count at now before left built (NoLine place) s r = refused_behind cs l m n count at now before left s.rows (NoLine place) s.lines_are s.leads s.count_is s.now_is r
 stopped_behind cs l m n count at now before left built (BadIndent place) s r = refused_behind cs l m n count at now before left s.rows (BadIndent place) s.lines_are s.leads s.count_is s.now_is r
 stopped_behind cs l m n count at now before left built (TooDeep place) s r = refused_behind cs l m n count at now before left s.rows (TooDeep place) s.lines_are s.leads s.count_is s.now_is r
 stopped_behind cs l m n count at now before left built (TooMany place) s r = refused_behind cs l m n count at now before left s.rows (TooMany place) s.lines_are s.leads s.count_is s.now_is r
@@ -149,15 +150,16 @@ begun_behind : (l m : Level) (rows : Rows) (before left : List Line) → before 
 begun_behind l m end_rows before left is leads here gone x = absurd (false≢true (sym gone ∙ sym (ap (is_here l.indent) is) ∙ here))
 begun_behind l m (row line h under rest) before left is leads here gone x = leads.0.indent_is
 
-as_stopped : (cs : List ℕ) (l : Level) (n : ℕ) (at : Pos) (lines : List Line) (fault : ParseFault) → (fault ≡ Memory → ⊥) → Refused cs l n at lines fault → RowsStopped cs l n at lines fault
+as_stopped : (cs : List ℕ) (l : Level) (n : ℕ) (at : Pos) (lines : List Line) (fault : Halt) → (fault ≡ Memory → ⊥) → Refused cs l n at lines fault → RowsStopped cs l n at lines fault
 as_stopped cs l n at lines Memory other r = tt
-as_stopped cs l n at lines (Unexpected place) other r = r
-as_stopped cs l n at lines (Unsupported place) other r = r
+as_stopped cs l n at lines (AtToken lines_left tokens_left) other r = r
+as_stopped cs l n at lines (AtEnd lines_left place) other r = r
+as_stopped cs l n at lines (NoLine place) other r = r
 as_stopped cs l n at lines (BadIndent place) other r = r
 as_stopped cs l n at lines (TooDeep place) other r = r
 as_stopped cs l n at lines (TooMany place) other r = r
 
-stopped_end : (cs : List ℕ) (p : Place) (given : List (List ℕ)) (n count : ℕ) (at now : Pos) (before left : List Line) (built : Built) (fault : ParseFault) → is_here p.indent before ≡ true → is_here p.indent left ≡ false
+stopped_end : (cs : List ℕ) (p : Place) (given : List (List ℕ)) (n count : ℕ) (at now : Pos) (before left : List Line) (built : Built) (fault : Halt) → is_here p.indent before ≡ true → is_here p.indent left ≡ false
     → Standing (level_of p given) n at before (level_at p given built) built count now left → NotClosed cs p built now left fault → RowsStopped cs (level_of p given) n at before fault
 stopped_end cs p given n count at now before left built fault here gone s r =
     as_stopped cs (level_of p given) n at before fault r.other
@@ -190,12 +192,12 @@ pub standing_declares : (p : Place) (given : List (List ℕ)) (n count : ℕ) (a
 standing_declares p given n count at now before left built s is = declares_kept (level_of p given) (level_at p given built) s.rows s.leads (λ may. may) is
 
 -- the same, where the columns around are known to be these
-pub stopped_behind_there : (cs ds : List ℕ) (l m : Level) (n count : ℕ) (at now : Pos) (before left : List Line) (built : Built) (fault : ParseFault) → ds ≡ cs → Standing l n at before m built count now left → RowsStopped ds m count now left fault
+pub stopped_behind_there : (cs ds : List ℕ) (l m : Level) (n count : ℕ) (at now : Pos) (before left : List Line) (built : Built) (fault : Halt) → ds ≡ cs → Standing l n at before m built count now left → RowsStopped ds m count now left fault
     → RowsStopped cs l n at before fault
 stopped_behind_there cs ds l m n count at now before left built fault columns s r =
     stopped_behind cs l m n count at now before left built fault s (subst (λ (xs : List ℕ). RowsStopped xs m count now left fault) columns r)
 
-pub stopped_end_there : (cs ds : List ℕ) (p : Place) (given : List (List ℕ)) (n count : ℕ) (at now : Pos) (before left : List Line) (built : Built) (fault : ParseFault) → ds ≡ cs → is_here p.indent before ≡ true → is_here p.indent left ≡ false
+pub stopped_end_there : (cs ds : List ℕ) (p : Place) (given : List (List ℕ)) (n count : ℕ) (at now : Pos) (before left : List Line) (built : Built) (fault : Halt) → ds ≡ cs → is_here p.indent before ≡ true → is_here p.indent left ≡ false
     → Standing (level_of p given) n at before (level_at p given built) built count now left → NotClosed ds p built now left fault → RowsStopped cs (level_of p given) n at before fault
 stopped_end_there cs ds p given n count at now before left built fault columns here gone s r =
     stopped_end cs p given n count at now before left built fault here gone s (subst (λ (xs : List ℕ). NotClosed xs p built now left fault) columns r)

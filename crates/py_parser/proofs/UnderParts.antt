@@ -8,8 +8,8 @@ use Rattle.py_parser.specs.declared.blocks.Place.{Place}
 use Rattle.py_parser.specs.declared.blocks.Built.{Built}
 use Rattle.py_grammar.specs.declared.head.Behind.{Behind}
 use Rattle.py_grammar.specs.declared.head.LineHead.{LineHead}
-use Rattle.py_grammar.specs.declared.fault.ParseFault.{ParseFault}
-use Rattle.py_grammar.specs.declared.fault.ParseFault.TheVariants.{Unexpected, Unsupported, BadIndent, TooDeep, TooMany, Memory}
+use Rattle.py_parser.specs.declared.fault.Halt.{Halt}
+use Rattle.py_parser.specs.declared.fault.Halt.TheVariants.{AtToken, AtEnd, NoLine, BadIndent, TooDeep, TooMany, Memory}
 use Rattle.py_grammar.specs.declared.context.Last.TheVariants.{Nothing}
 use Rattle.py_grammar.specs.Written.{Simple}
 use Rattle.py_grammar.specs.StatementTokens.{simple_tokens}
@@ -172,14 +172,15 @@ suite_read p k n count next to m h at now lines left built u is open_is deeper d
     both true false one other = absurd (false≢true other)
     both false b one other = absurd (false≢true one)
 
-pub suite_stopped : (cs : List ℕ) (p : Place) (k n count : ℕ) (m : Level) (h : Head) (at : Pos) (lines : List Line) (fault : ParseFault) → IsUnderOf p count m n h → IsBehind None (behind_in h) → opens h ≡ true → m.indent < k
+pub suite_stopped : (cs : List ℕ) (p : Place) (k n count : ℕ) (m : Level) (h : Head) (at : Pos) (lines : List Line) (fault : Halt) → IsUnderOf p count m n h → IsBehind None (behind_in h) → opens h ≡ true → m.indent < k
     → RowsStopped (columns_under cs m) (inside m h k) count at lines fault → UnderStopped cs m (n + counted h) h at lines fault
 suite_stopped cs p k n count m h at lines fault u is open_is deeper r = by fault (subst (λ j. RowsStopped (columns_under cs m) (inside m h k) j at lines fault) (u.count_is ∙ sym (counted_alone n h (none_behind h is))) r)
   where
-    by : (f : ParseFault) → RowsStopped (columns_under cs m) (inside m h k) (n + counted h) at lines f → UnderStopped cs m (n + counted h) h at lines f
+    by : (f : Halt) → RowsStopped (columns_under cs m) (inside m h k) (n + counted h) at lines f → UnderStopped cs m (n + counted h) h at lines f
     by Memory r = tt
-    by (Unexpected place) r = refused_inside cs m (n + counted h) k h at lines (Unexpected place) open_is deeper r
-    by (Unsupported place) r = refused_inside cs m (n + counted h) k h at lines (Unsupported place) open_is deeper r
+    by (AtToken lines_left tokens_left) r = refused_inside cs m (n + counted h) k h at lines (AtToken lines_left tokens_left) open_is deeper r
+    by (AtEnd lines_left place) r = refused_inside cs m (n + counted h) k h at lines (AtEnd lines_left place) open_is deeper r
+    by (NoLine place) r = refused_inside cs m (n + counted h) k h at lines (NoLine place) open_is deeper r
     by (BadIndent place) r = refused_inside cs m (n + counted h) k h at lines (BadIndent place) open_is deeper r
     by (TooDeep place) r = refused_inside cs m (n + counted h) k h at lines (TooDeep place) open_is deeper r
     by (TooMany place) r = refused_inside cs m (n + counted h) k h at lines (TooMany place) open_is deeper r
@@ -213,19 +214,21 @@ row_read p given n middle next at now line rest left old more built head l inden
   edge = u.edge;
 }
 
-pub row_stopped : (cs : List ℕ) (m : Level) (n : ℕ) (h : Head) (at : Pos) (line : Line) (lines : List Line) (fault : ParseFault) → IsLine line m.indent (head_tokens h) → follows m h ≡ true
+pub row_stopped : (cs : List ℕ) (m : Level) (n : ℕ) (h : Head) (at : Pos) (line : Line) (lines : List Line) (fault : Halt) → IsLine line m.indent (head_tokens h) → follows m h ≡ true
     → UnderStopped cs m (n + counted h) h (last_place at line.tokens) lines fault → RowsStopped cs m n at (line ∷ lines) fault
 row_stopped cs m n h at line lines Memory is may_follow r = tt
-row_stopped cs m n h at line lines (Unexpected place) is may_follow r = refused_under cs m n h at line lines (Unexpected place) is may_follow r
-row_stopped cs m n h at line lines (Unsupported place) is may_follow r = refused_under cs m n h at line lines (Unsupported place) is may_follow r
+row_stopped cs m n h at line lines (AtToken lines_left tokens_left) is may_follow r = refused_under cs m n h at line lines (AtToken lines_left tokens_left) is may_follow r
+row_stopped cs m n h at line lines (AtEnd lines_left place) is may_follow r = refused_under cs m n h at line lines (AtEnd lines_left place) is may_follow r
+row_stopped cs m n h at line lines (NoLine place) is may_follow r = refused_under cs m n h at line lines (NoLine place) is may_follow r
 row_stopped cs m n h at line lines (BadIndent place) is may_follow r = refused_under cs m n h at line lines (BadIndent place) is may_follow r
 row_stopped cs m n h at line lines (TooDeep place) is may_follow r = refused_under cs m n h at line lines (TooDeep place) is may_follow r
 row_stopped cs m n h at line lines (TooMany place) is may_follow r = refused_under cs m n h at line lines (TooMany place) is may_follow r
 
-pub line_stopped : (cs : List ℕ) (m : Level) (n : ℕ) (at : Pos) (line : Line) (lines : List Line) (fault : ParseFault) → line.indent ≡ m.indent → LineStopped m n at line fault → RowsStopped cs m n at (line ∷ lines) fault
+pub line_stopped : (cs : List ℕ) (m : Level) (n : ℕ) (at : Pos) (line : Line) (lines : List Line) (fault : Halt) → line.indent ≡ m.indent → LineStopped m n at line lines fault → RowsStopped cs m n at (line ∷ lines) fault
 line_stopped cs m n at line lines Memory is r = tt
-line_stopped cs m n at line lines (Unexpected place) is r = refused_line cs m n at line lines (Unexpected place) is r
-line_stopped cs m n at line lines (Unsupported place) is r = refused_line cs m n at line lines (Unsupported place) is r
+line_stopped cs m n at line lines (AtToken lines_left tokens_left) is r = refused_line cs m n at line lines (AtToken lines_left tokens_left) is r
+line_stopped cs m n at line lines (AtEnd lines_left place) is r = refused_line cs m n at line lines (AtEnd lines_left place) is r
+line_stopped cs m n at line lines (NoLine place) is r = refused_line cs m n at line lines (NoLine place) is r
 line_stopped cs m n at line lines (BadIndent place) is r = refused_line cs m n at line lines (BadIndent place) is r
 line_stopped cs m n at line lines (TooDeep place) is r = refused_line cs m n at line lines (TooDeep place) is r
 line_stopped cs m n at line lines (TooMany place) is r = refused_line cs m n at line lines (TooMany place) is r

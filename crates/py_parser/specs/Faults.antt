@@ -1,18 +1,24 @@
 -- The first fault of lines that are no script: where it is shown, and which scripts it rules out.
-use Rattle.std.specs.Prelude.{◌≡◌, ⊤, ◌⊎◌, ℕ, ◌<◌, ◌≤◌, List, [], ◌∷◌, ◌++◌, codes}
+use Rattle.std.specs.Prelude.{◌≡◌, ⊤, ◌⊎◌, ℕ, suc, ◌<◌, ◌≤◌, List, [], ◌∷◌, ◌++◌, length, drop, codes}
 use Rattle.prov_base.specs.declared.place.Pos.{Pos}
 use Rattle.py_lines.specs.declared.parts.Line.{Line}
 use Rattle.py_lines.specs.declared.parts.Token.{Token}
-use Rattle.py_grammar.specs.declared.fault.ParseFault.{ParseFault}
-use Rattle.py_grammar.specs.declared.fault.ParseFault.TheVariants.{Unexpected, Unsupported, BadIndent, TooDeep, TooMany, Memory}
+use Rattle.py_parser.specs.declared.fault.ParseFault.{ParseFault}
+use Rattle.py_parser.specs.declared.fault.ParseFault.TheVariants.{Unexpected, Unsupported, BadIndent, TooDeep, TooMany, Memory}
 use Rattle.py_grammar.specs.Concrete.{Spot}
 use Rattle.py_grammar.specs.Tokens.{keyword}
 use Rattle.py_grammar.specs.Follows.{Below}
-use Rattle.py_grammar.specs.Parsed.{IsUnexpected}
 use Rattle.py_grammar.specs.ParsedHead.{BeginsReading}
 use Rattle.py_grammar.specs.Written.{Script}
 use Rattle.py_grammar.specs.Grammar.{script_lines, FitsScript}
+use Rattle.refused_forms.specs.declared.standing.Standing.{Standing}
+use Rattle.refused_forms.specs.LineForms.{standing}
+use Rattle.refused_forms.specs.RefusedForms.{IsRefusedForm}
 use Rattle.py_parser.specs.Limits.{Limits, IsFine}
+
+-- where a text begins
+abbrev pub origin : Pos
+origin = record { line = 1; col = 1 }
 
 -- the place of the first token of these, if there is one
 abbrev pub first_place : Pos → List Token → Pos
@@ -59,19 +65,22 @@ shows (below indent) lines = Below indent lines
 shows no_line [] = ⊤
 shows no_line (line ∷ lines) = ⊥
 
--- a fault at this token, at the end of a line or of the lines, at an indentation
-abbrev pub NamesToken : Token → ParseFault → Type 0
-NamesToken t (Unexpected place) = IsUnexpected t place
-NamesToken t (TooMany place) = place ≡ t.at
-NamesToken t (Unsupported place) = ⊤
-NamesToken t (TooDeep place) = ⊤
-NamesToken t fault = ⊥
+-- The fault at a token behind which a line does not go on. `front` stands before it, and `rest` are the tokens from it on. It is Unsupported
+-- where the table of refused forms has a row for it, at the place that the table names, and else Unexpected there. Of the place that TooDeep
+-- names nothing is said here.
+abbrev pub NamesToken : Standing → List Token → List Token → Token → ParseFault → Type 0
+NamesToken s front rest t (Unexpected place) = (place ≡ t.at) × ((other : Pos) → IsRefusedForm s front rest other → ⊥)
+NamesToken s front rest t (Unsupported place) = IsRefusedForm s front rest place
+NamesToken s front rest t (TooMany place) = place ≡ t.at
+NamesToken s front rest t (TooDeep place) = ⊤
+NamesToken s front rest t fault = ⊥
 
-abbrev pub NamesEnd : Pos → ParseFault → Type 0
-NamesEnd last (Unexpected place) = place ≡ last
-NamesEnd last (Unsupported place) = ⊤
-NamesEnd last (TooDeep place) = ⊤
-NamesEnd last fault = ⊥
+-- the fault at the end of a line with these tokens, of which this is the last one
+abbrev pub NamesEnd : Standing → List Token → Pos → ParseFault → Type 0
+NamesEnd s tokens last (Unexpected place) = (place ≡ last) × ((other : Pos) → IsRefusedForm s tokens [] other → ⊥)
+NamesEnd s tokens last (Unsupported place) = IsRefusedForm s tokens [] place
+NamesEnd s tokens last (TooDeep place) = ⊤
+NamesEnd s tokens last fault = ⊥
 
 abbrev pub NamesLast : Pos → ParseFault → Type 0
 NamesLast last (Unexpected place) = place ≡ last
@@ -81,14 +90,18 @@ abbrev pub NamesIndent : Pos → ParseFault → Type 0
 NamesIndent at (BadIndent place) = place ≡ at
 NamesIndent at fault = ⊥
 
--- The fault names this place. Of Unsupported and TooDeep, which may name an earlier one, nothing is said here. `at` is the last token
--- before it, and the lines are those where it is shown.
-abbrev pub names : Pos → List Line → Point → ParseFault → Type 0
-names at lines (at_token indent front t) fault = NamesToken t fault
-names at lines (at_end indent tokens) fault = NamesEnd (last_place at tokens) fault
-names at lines (at_line indent) fault = NamesIndent (first_token at lines) fault
-names at lines (below indent) fault = NamesIndent at fault
-names at lines no_line fault = NamesLast at fault
+-- the tokens of the first line behind so many
+abbrev pub tokens_behind : ℕ → List Line → List Token
+tokens_behind n [] = []
+tokens_behind n (line ∷ lines) = drop n line.tokens
+
+-- The fault that is named there. `before` are the lines before it, and `lines` those where it is shown.
+abbrev pub names : List Line → List Line → Point → ParseFault → Type 0
+names before lines (at_token indent front t) fault = NamesToken (standing indent before) front (t ∷ tokens_behind (suc (length front)) lines) t fault
+names before lines (at_end indent tokens) fault = NamesEnd (standing indent before) tokens (last_place (last_token origin before) tokens) fault
+names before lines (at_line indent) fault = NamesIndent (first_token (last_token origin before) lines) fault
+names before lines (below indent) fault = NamesIndent (last_token origin before) fault
+names before lines no_line fault = NamesLast (last_token origin before) fault
 
 -- The limits that a fault speaks of: TooDeep of depth, TooMany of number, and the others of none.
 abbrev pub Asks : ParseFault → Limits → Type 0
@@ -199,10 +212,6 @@ InColumn front no_line = MayFollow IsHandler front
 
 -- ---- the first fault
 
--- where a text begins
-abbrev pub origin : Pos
-origin = record { line = 1; col = 1 }
-
 -- What stands before the fault begins a script, and these lines up to and with what is shown begin no script whose statements stand
 -- where they may: with TooDeep none that keeps the limits of depth, with TooMany none that keeps the limit of number, and else none
 -- whatever its depth and number. What shows it is a line's indentation alone where no line may stand at it.
@@ -212,7 +221,7 @@ pub record FirstFault (lines : List Line) (fault : ParseFault) : Type 0 where
   pub point : Point
   pub lines_are : lines ≡ front ++ behind
   pub shown : shows point behind
-  pub named : names (last_token origin front) behind point fault
+  pub named : names front behind point fault
   pub column : InColumn front point
   pub begins : BeginsScript front point
   pub none : (limits : Limits) → Asks fault limits → (s : Script) → FitsScript s → IsFine limits s → (rest : List Line) → shows point rest → script_lines s ≡ front ++ rest → ⊥

@@ -1,5 +1,5 @@
 -- What the parser answers of the lines of a script. No public clause speaks of it.
-use Rattle.std.specs.Prelude.{◌≡◌, ⊤, ◌⊎◌, ℕ, ◌+◌, ◌<◌, ◌≤◌, nat_le, Bool, true, false, ◌==◌, ◌||◌, not, List, [], ◌∷◌, ◌++◌, map, Option, Some, None}
+use Rattle.std.specs.Prelude.{◌≡◌, ⊤, ◌⊎◌, ℕ, suc, length, ◌+◌, ◌<◌, ◌≤◌, nat_le, Bool, true, false, ◌==◌, ◌||◌, not, List, [], ◌∷◌, ◌++◌, map, Option, Some, None}
 use Rattle.std.specs.List.{list_any}
 use Rattle.prov_base.specs.declared.place.Pos.{Pos}
 use Rattle.py_lines.specs.declared.parts.Line.{Line}
@@ -13,19 +13,22 @@ use Rattle.py_grammar.specs.declared.context.Limit.{Limit}
 use Rattle.py_grammar.specs.declared.context.Limit.TheVariants.{Number, Depth}
 use Rattle.py_parser.specs.declared.blocks.Place.{Place}
 use Rattle.py_parser.specs.declared.blocks.Built.{Built}
-use Rattle.py_grammar.specs.declared.fault.ParseFault.{ParseFault}
-use Rattle.py_grammar.specs.declared.fault.ParseFault.TheVariants.{Unexpected, Unsupported, BadIndent, Memory}
+use Rattle.py_grammar.specs.declared.fault.Fault.{Fault}
+use Rattle.py_grammar.specs.declared.fault.Fault.TheVariants.{Unexpected, TooDeep as FaultDeep, TooMany as FaultMany, Memory as FaultMemory}
+use Rattle.py_parser.specs.declared.fault.Halt.{Halt}
+use Rattle.py_parser.specs.declared.fault.Halt.TheVariants.{AtToken, AtEnd, NoLine, BadIndent, TooDeep, TooMany, Memory}
 use Rattle.py_grammar.specs.declared.head.LineHead.{LineHead}
 use Rattle.py_grammar.specs.declared.head.What.{What}
 use Rattle.py_grammar.specs.LineReader.{Head, head_tokens}
 use Rattle.py_grammar.specs.Layout.{IsLine}
 use Rattle.py_grammar.specs.Follows.{Below}
 use Rattle.py_grammar.specs.StatementTrees.{end_of}
-use Rattle.py_grammar.specs.Parsed.{is_never}
+use Rattle.py_grammar.specs.Written.{Script}
+use Rattle.py_grammar.specs.Grammar.{script_lines, FitsScript}
 use Rattle.py_grammar.specs.ParsedSimple.{around_of}
 use Rattle.py_grammar.specs.ParsedHead.{IsWhat, IsBehind, behind_in}
-use Rattle.py_parser.specs.Limits.{Limits, profile}
-use Rattle.py_parser.specs.Faults.{last_token, Point, at_token, at_end, at_line, below, no_line, IsAt, IsPass, IsPassBefore, IsHandler, IsOpenAt, shows, names, Asks, tokens_before, Next}
+use Rattle.py_parser.specs.Limits.{Limits, IsFine, profile}
+use Rattle.py_parser.specs.Faults.{last_token, Point, at_token, at_end, at_line, below, no_line, IsAt, IsPass, IsPassBefore, IsHandler, IsOpenAt, InColumn, BeginsScript, shows, first_place, first_token, last_place, origin, tokens_before, Next}
 use Rattle.py_parser.specs.Rows.{Begun, Rows, Under, rows_lines, under_lines, Level, counted, after, is_done, follows, Leads, FitsUnder, FitsRows, may, rows_may, under_may, rows_size, under_size, Edge, LastEdge}
 use Rattle.py_parser.specs.RowForms.{suite_list, grown, inner_number, declared, row_globals, under_globals, grow, below_tree}
 
@@ -224,6 +227,58 @@ IsOnLine (at_token d tokens t) = ⊤
 IsOnLine (at_end d tokens) = ⊤
 IsOnLine p = ⊥
 
+-- ---- where the lines stop
+
+-- at a token, behind which so many tokens and lines stand
+abbrev pub MarksToken : List Token → Token → List Line → Halt → Type 0
+MarksToken front t [] halt = ⊥
+MarksToken front t (line ∷ lines) (AtToken lines_left left) = (lines_left ≡ length lines) × (length front + suc left ≡ length line.tokens)
+MarksToken front t (line ∷ lines) (TooMany place) = place ≡ t.at
+MarksToken front t (line ∷ lines) (TooDeep place) = ⊤
+MarksToken front t (line ∷ lines) halt = ⊥
+
+-- at the end of a line, where this token is the last one
+abbrev pub MarksEnd : Pos → List Line → Halt → Type 0
+MarksEnd last [] halt = ⊥
+MarksEnd last (line ∷ lines) (AtEnd lines_left place) = (lines_left ≡ length lines) × (place ≡ last)
+MarksEnd last (line ∷ lines) (TooDeep place) = ⊤
+MarksEnd last (line ∷ lines) halt = ⊥
+
+abbrev pub MarksIndent : Pos → Halt → Type 0
+MarksIndent at (BadIndent place) = place ≡ at
+MarksIndent at halt = ⊥
+
+abbrev pub MarksLast : Pos → Halt → Type 0
+MarksLast at (NoLine place) = place ≡ at
+MarksLast at halt = ⊥
+
+-- The parser stops at this point. `at` is the last token before the lines, which are those where it is shown.
+abbrev pub marks : Pos → List Line → Point → Halt → Type 0
+marks at lines (at_token indent front t) halt = MarksToken front t lines halt
+marks at lines (at_end indent tokens) halt = MarksEnd (last_place at tokens) lines halt
+marks at lines (at_line indent) halt = MarksIndent (first_token at lines) halt
+marks at lines (below indent) halt = MarksIndent at halt
+marks at lines no_line halt = MarksLast at halt
+
+-- at the first token of a line, or at its end where it has none
+abbrev pub MarksFirst : List Token → List Line → Pos → Halt → Type 0
+MarksFirst [] lines before (AtEnd lines_left place) = (lines_left ≡ length lines) × (place ≡ before)
+MarksFirst (t ∷ ts) lines before (AtToken lines_left left) = (lines_left ≡ length lines) × (left ≡ length ts)
+MarksFirst tokens lines before halt = ⊥
+
+-- where the lines stop that stop at this on a line, behind which so many lines stand
+abbrev pub halt_of : ℕ → Fault → Halt
+halt_of lines_left (Unexpected left) = AtToken lines_left left
+halt_of lines_left (FaultDeep place) = TooDeep place
+halt_of lines_left (FaultMany place) = TooMany place
+halt_of lines_left FaultMemory = Memory
+
+-- the limits that it speaks of: TooDeep of depth, TooMany of number, and the others of none
+abbrev pub Asks : Halt → Limits → Type 0
+Asks (TooDeep at) q = (q.height ≤ 100) × (q.suites ≤ 50)
+Asks (TooMany at) q = q.number ≤ 20000
+Asks halt q = ⊤
+
 -- ---- what is refused
 
 -- Some rows at this level begin with these lines, and go on with what stands before the fault.
@@ -242,61 +297,61 @@ pub record UnderBegins (m : Level) (h : Head) (front : List Line) (point : Point
   pub next : Next point more
 
 -- No suite at this level has these first lines up to and with what is shown.
-pub record Refused (cs : List ℕ) (l : Level) (n : ℕ) (at : Pos) (lines : List Line) (fault : ParseFault) : Type 0 where
+pub record Refused (cs : List ℕ) (l : Level) (n : ℕ) (at : Pos) (lines : List Line) (fault : Halt) : Type 0 where
   pub front : List Line
   pub behind : List Line
   pub point : Point
   pub lines_are : lines ≡ front ++ behind
   pub shown : shows point behind
-  pub named : names (last_token at front) behind point fault
+  pub marked : marks (last_token at front) behind point fault
   pub placed : Placed cs l front point
   pub begun : (rest : List Line) → shows point rest → Begun l.indent (front ++ rest)
   pub begins : RowsBegin l front point
   pub none : (q : Limits) → Asks fault q → (rest : List Line) (rows : Rows) (r : List Line) → shows point rest → FitsRows l rows → rows_may q l n rows ≡ true → Below l.indent r → rows_lines rows ++ r ≡ front ++ rest → ⊥
 
-abbrev pub RowsStopped : List ℕ → Level → ℕ → Pos → List Line → ParseFault → Type 0
+abbrev pub RowsStopped : List ℕ → Level → ℕ → Pos → List Line → Halt → Type 0
 RowsStopped cs l n at lines Memory = ⊤
 RowsStopped cs l n at lines fault = Refused cs l n at lines fault
 
 -- No suite goes on from this level so that it shows this at once.
-pub record RefusedHere (cs : List ℕ) (m : Level) (n : ℕ) (at : Pos) (lines : List Line) (fault : ParseFault) : Type 0 where
+pub record RefusedHere (cs : List ℕ) (m : Level) (n : ℕ) (at : Pos) (lines : List Line) (fault : Halt) : Type 0 where
   pub point : Point
   pub shown : shows point lines
-  pub named : names at lines point fault
+  pub marked : marks at lines point fault
   pub placed : Placed cs m [] point
   pub before : tokens_before point ≡ []
   pub edge : (rows : Rows) (rest : List Line) → shows point rest → (l : Level) → l.indent ≡ m.indent → Leads l rows m → LastEdge rows lines → LastEdge rows rest
   pub none : (q : Limits) → Asks fault q → (rest : List Line) (rows : Rows) (r : List Line) → shows point rest → FitsRows m rows → rows_may q m n rows ≡ true → Below m.indent r → rows_lines rows ++ r ≡ rest → ⊥
 
 -- Nothing that may stand under a line that begins this has these first lines up to and with what is shown.
-pub record RefusedUnder (cs : List ℕ) (m : Level) (n : ℕ) (h : Head) (at : Pos) (lines : List Line) (fault : ParseFault) : Type 0 where
+pub record RefusedUnder (cs : List ℕ) (m : Level) (n : ℕ) (h : Head) (at : Pos) (lines : List Line) (fault : Halt) : Type 0 where
   pub front : List Line
   pub behind : List Line
   pub point : Point
   pub lines_are : lines ≡ front ++ behind
   pub shown : shows point behind
-  pub named : names (last_token at front) behind point fault
+  pub marked : marks (last_token at front) behind point fault
   pub placed : PlacedUnder (columns_under cs m) m h front point
   pub begins : UnderBegins m h front point
   pub none : (q : Limits) → Asks fault q → (rest : List Line) (under : Under) (r : List Line) → shows point rest → FitsUnder m h under → under_may q m n h under ≡ true → Edge under r → under_lines under ++ r ≡ front ++ rest → ⊥
 
-abbrev pub UnderStopped : List ℕ → Level → ℕ → Head → Pos → List Line → ParseFault → Type 0
+abbrev pub UnderStopped : List ℕ → Level → ℕ → Head → Pos → List Line → Halt → Type 0
 UnderStopped cs m n h at lines Memory = ⊤
 UnderStopped cs m n h at lines fault = RefusedUnder cs m n h at lines fault
 
--- No line that may stand there has these tokens up to and with what is shown.
-pub record RefusedLine (m : Level) (n : ℕ) (at : Pos) (line : Line) (fault : ParseFault) : Type 0 where
+-- No line that may stand there has these tokens up to and with what is shown. `lines` stand behind it.
+pub record RefusedLine (m : Level) (n : ℕ) (at : Pos) (line : Line) (lines : List Line) (fault : Halt) : Type 0 where
   pub point : Point
   pub on_line : IsOnLine point
   pub shown : shows point (line ∷ [])
-  pub named : names at (line ∷ []) point fault
+  pub marked : marks at (line ∷ lines) point fault
   pub begun : (rest : List Line) → shows point rest → Begun line.indent rest
   pub begins : line.indent ≡ m.indent → RowsBegin m [] point
   pub none : (q : Limits) → Asks fault q → (other : Line) (more : List Line) (h : Head) → shows point (other ∷ more) → other.tokens ≡ head_tokens h → follows m h ≡ true → may q m n h ≡ true → ⊥
 
-abbrev pub LineStopped : Level → ℕ → Pos → Line → ParseFault → Type 0
-LineStopped m n at line Memory = ⊤
-LineStopped m n at line fault = RefusedLine m n at line fault
+abbrev pub LineStopped : Level → ℕ → Pos → Line → List Line → Halt → Type 0
+LineStopped m n at line lines Memory = ⊤
+LineStopped m n at line lines fault = RefusedLine m n at line lines fault
 
 -- what was read of a line is what it begins
 abbrev pub IsHead : What → Line → Head → Type 0
@@ -309,18 +364,29 @@ pub record IsClosed (p : Place) (b : Built) (lines : List Line) : Type 0 where
   pub low : Below p.indent lines
   pub done : (given : List (List ℕ)) → is_done (level_at p given b) ≡ true
 
-pub record NotClosed (cs : List ℕ) (p : Place) (b : Built) (at : Pos) (lines : List Line) (fault : ParseFault) : Type 0 where
+pub record NotClosed (cs : List ℕ) (p : Place) (b : Built) (at : Pos) (lines : List Line) (fault : Halt) : Type 0 where
   pub there : (given : List (List ℕ)) (n : ℕ) → RefusedHere cs (level_at p given b) n at lines fault
   pub other : fault ≡ Memory → ⊥
 
--- a word or sign that stands nowhere comes first
-abbrev pub begins_never : List Token → Bool
-begins_never [] = false
-begins_never (t ∷ ts) = is_never t.kind
+-- a line stands where a handler has to, and it is at the column of a suite around or not
+abbrev pub IsNoHandler : List ℕ → Line → List Line → Pos → Halt → Type 0
+IsNoHandler cs line lines before (BadIndent place) = (place ≡ first_place before line.tokens) × (is_column line.indent cs ≡ false)
+IsNoHandler cs line lines before halt = MarksFirst line.tokens lines before halt × (is_column line.indent cs ≡ true)
 
--- a line stands where a handler has to, and this is at the column of a suite around or not
-abbrev pub IsNoHandler : List ℕ → Line → Pos → ParseFault → Type 0
-IsNoHandler cs line at (Unexpected place) = (place ≡ at) × (begins_never line.tokens ≡ false) × (is_column line.indent cs ≡ true)
-IsNoHandler cs line at (Unsupported place) = (place ≡ at) × (is_column line.indent cs ≡ true)
-IsNoHandler cs line at (BadIndent place) = (place ≡ at) × (is_column line.indent cs ≡ false)
-IsNoHandler cs line at fault = ⊥
+-- ---- a whole script
+
+-- What stands before the point begins a script, and these lines up to and with what is shown there begin none that is asked for.
+pub record FirstHalt (lines : List Line) (halt : Halt) : Type 0 where
+  pub front : List Line
+  pub behind : List Line
+  pub point : Point
+  pub lines_are : lines ≡ front ++ behind
+  pub shown : shows point behind
+  pub marked : marks (last_token origin front) behind point halt
+  pub column : InColumn front point
+  pub begins : BeginsScript front point
+  pub none : (limits : Limits) → Asks halt limits → (s : Script) → FitsScript s → IsFine limits s → (rest : List Line) → shows point rest → script_lines s ≡ front ++ rest → ⊥
+
+abbrev pub IsHalt : List Line → Halt → Type 0
+IsHalt lines Memory = ⊤
+IsHalt lines halt = FirstHalt lines halt

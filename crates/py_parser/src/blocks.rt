@@ -8,18 +8,19 @@ ghost use Rattle.py_grammar.specs.Written.{Simple};
 ghost use Rattle.py_grammar.specs.StatementTokens.{simple_tokens};
 ghost use Rattle.py_grammar.specs.StatementTrees.{simple_form};
 ghost use Rattle.py_grammar.specs.WellPlaced.{are_alone as alone, alone_kind};
-ghost use Rattle.py_grammar.specs.declared.fault.ParseFault.TheVariants.{Memory};
+ghost use Rattle.py_parser.specs.declared.fault.Halt.TheVariants.{Memory};
 ghost use Rattle.py_grammar.specs.ParsedSimple.{around_of};
 ghost use Rattle.py_grammar.specs.ParsedHead.{IsWhat, IsBehind, IsThere, behind_in};
 ghost use Rattle.py_parser.specs.Rows.{start, Level, counted, is_global, is_def as def_begins, is_stmt, opens as head_opens, after, head_around, head_given, last_after, lets_declare};
 ghost use Rattle.py_parser.specs.RowForms.{begun, form_begun, suite_list, grown as grown_trees, below_tree, declared, with_elif as with_elif_tree, with_else as with_else_tree, with_handler as with_handler_tree, with_part as with_part_tree, longer};
 ghost use Rattle.py_parser.specs.Faults.{first_place, last_place};
-ghost use Rattle.py_parser.specs.ParsedBlocks.{limit_at, AreBelow, level_of, level_at, is_here, is_stmt_kind, IsUnderOf, IsClosed, NotClosed, IsNoHandler, begins_never as never_first, trees_of, IsHead, LineRead, LineStopped, RowsRead, RowRead, RowsStopped, UnderRead, UnderStopped};
+ghost use Rattle.py_parser.specs.ParsedBlocks.{limit_at, AreBelow, level_of, level_at, is_here, is_stmt_kind, halt_of, MarksFirst, IsUnderOf, IsClosed, NotClosed, IsNoHandler, trees_of, IsHead, LineRead, LineStopped, RowsRead, RowRead, RowsStopped, UnderRead, UnderStopped};
 
+use crate::fault::Halt;
 use prov_base::{Name, Pos, Span};
 use py_grammar::{
-    Around, Behind, Context, ELIF, ELSE, EXCEPT, GLOBAL, Last, Limit, LineHead, PASS, ParseFault,
-    Stop, What, is_never, read_head,
+    Around, Behind, Context, ELIF, ELSE, EXCEPT, Fault, GLOBAL, Last, Limit, LineHead, PASS, Stop,
+    What, read_head,
 };
 use py_lines::{Line, Token, TokenKind};
 use py_tree::{Bound, Branches, Expr, Form, Globals, Handlers, Stmt, Suite};
@@ -77,7 +78,7 @@ impl<'a> Blocks<'a> {
         alloc: Global,
         place: Place,
         given: &[Name],
-    ) -> Result<Built, ParseFault>
+    ) -> Result<Built, Halt>
         requires here { is_here place.indent self.old.rest.now ≡ true }
         requires deep { place.depth ≤ 50 }
         requires few { self.old.count ≤ 20000 }
@@ -102,7 +103,7 @@ impl<'a> Blocks<'a> {
         place: Place,
         given: &[Name],
         built: Built,
-    ) -> Result<Built, ParseFault>
+    ) -> Result<Built, Halt>
         requires here { is_here place.indent self.old.rest.now ≡ true }
         requires deep { place.depth ≤ 50 }
         requires few { self.old.count ≤ 20000 }
@@ -113,39 +114,40 @@ impl<'a> Blocks<'a> {
         ensures columns { IfOk result (λ _. self.new.columns.items ≡ self.old.columns.items) }
     {
         let Some((line, rest)) = self.rest.split_first() else {
-            return Err(ParseFault::BadIndent(self.before));
+            return Err(Halt::BadIndent(self.before));
         };
         let no = self.count;
-        let LineHead { what, behind } = self.line(alloc, line, place, given, &built)?;
+        let LineHead { what, behind } = self.line(alloc, line, rest, place, given, &built)?;
         self.rest = rest;
         self.before = last_of(line.tokens.as_slice(), self.before);
         let under = self.under(alloc, line, behind, &what, place)?;
         built.with(alloc, line, no, what, under)
     }
 
-    /// What the tokens of a line begin.
+    /// What the tokens of a line begin, behind which these lines stand.
     fn line(
         &mut self,
         alloc: Global,
         line: &Line,
+        lines: &[Line],
         place: Place,
         given: &[Name],
         built: &Built,
-    ) -> Result<LineHead, ParseFault>
+    ) -> Result<LineHead, Halt>
         requires few { self.old.count ≤ 20000 }
         requires declares { built.now.may_declare ≡ true → place.of_def ≡ true }
         ensures found { IfOk result (λ head. LineRead (level_at place given.now built.now) self.old.count line.now head self.new.count) }
-        ensures refused { IfErr result (LineStopped (level_at place given.now built.now) self.old.count self.old.before line.now) }
+        ensures refused { IfErr result (LineStopped (level_at place given.now built.now) self.old.count self.old.before line.now lines.now) }
         ensures kept { self.new.rest.now ≡ self.old.rest.now }
         ensures before { self.new.before ≡ self.old.before }
         ensures columns { self.new.columns ≡ self.old.columns }
     {
         let Some(first) = line.tokens.as_slice().first() else {
-            return Err(ParseFault::Unexpected(self.before));
+            return Err(Halt::AtEnd(lines.len(), self.before));
         };
         let begins = begins_stmt(&first.kind);
         if begins && STATEMENTS <= self.count {
-            return Err(ParseFault::TooMany(first.at));
+            return Err(Halt::TooMany(first.at));
         }
         let count = self.count + u32::from(begins);
         let limit = limit_of(count, place.depth);
@@ -159,11 +161,11 @@ impl<'a> Blocks<'a> {
                 self.count = count;
                 Ok(head)
             }
-            Err(Stop::Here(fault)) => Err(fault),
-            Err(Stop::End) => Err(ParseFault::Unexpected(last_of(
-                line.tokens.as_slice(),
-                self.before,
-            ))),
+            Err(Stop::Here(fault)) => Err(halted(lines.len(), fault)),
+            Err(Stop::End) => Err(Halt::AtEnd(
+                lines.len(),
+                last_of(line.tokens.as_slice(), self.before),
+            )),
         }
     }
 
@@ -176,7 +178,7 @@ impl<'a> Blocks<'a> {
         behind: Option<Behind>,
         what: &What,
         place: Place,
-    ) -> Result<Built, ParseFault>
+    ) -> Result<Built, Halt>
         requires deep { place.depth ≤ 50 }
         requires few { self.old.count ≤ 20000 }
         requires columns { AreBelow place.indent self.old.columns.items }
@@ -199,7 +201,7 @@ impl<'a> Blocks<'a> {
 
     /// The suite on the lines below one that begins this.
     #[cycle(blocks)]
-    fn suite(&mut self, alloc: Global, what: &What, place: Place) -> Result<Built, ParseFault>
+    fn suite(&mut self, alloc: Global, what: &What, place: Place) -> Result<Built, Halt>
         requires deep { place.depth ≤ 50 }
         requires few { self.old.count ≤ 20000 }
         requires columns { AreBelow place.indent self.old.columns.items }
@@ -210,14 +212,14 @@ impl<'a> Blocks<'a> {
         ensures columns { IfOk result (λ _. self.new.columns.items ≡ self.old.columns.items) }
     {
         let Some(next) = self.rest.first() else {
-            return Err(ParseFault::BadIndent(self.before));
+            return Err(Halt::BadIndent(self.before));
         };
         if next.indent <= place.indent {
-            return Err(ParseFault::BadIndent(self.before));
+            return Err(Halt::BadIndent(self.before));
         }
         if SUITES <= place.depth {
             let at = first_of(next.tokens.as_slice(), self.before);
-            return Err(ParseFault::TooDeep(at));
+            return Err(Halt::TooDeep(at));
         }
         let inner = Place {
             indent: next.indent,
@@ -243,48 +245,67 @@ impl<'a> Blocks<'a> {
 
     /// The lines of a suite end here: no line follows that is indented more than the lines around, no handler is missing, and
     /// there is a statement.
-    fn close(&self, place: Place, built: &Built) -> Result<(), ParseFault>
+    fn close(&self, place: Place, built: &Built) -> Result<(), Halt>
         requires ended { is_here place.indent self.now.rest.now ≡ false }
         requires columns { AreBelow place.indent self.now.columns.items }
         ensures found { IfOk result (λ _. IsClosed place built.now self.now.rest.now) }
         ensures refused { IfErr result (NotClosed self.now.columns.items place built.now self.now.before self.now.rest.now) }
     {
         let lacks_handler = built.last == Last::Try;
-        let Some((line, _)) = self.rest.split_first() else {
+        let Some((line, lines)) = self.rest.split_first() else {
             if lacks_handler {
-                return Err(ParseFault::Unexpected(self.before));
+                return Err(Halt::NoLine(self.before));
             }
             if !built.has_stmt {
-                return Err(ParseFault::BadIndent(self.before));
+                return Err(Halt::BadIndent(self.before));
             }
             return Ok(());
         };
         let at = first_of(line.tokens.as_slice(), self.before);
         if place.indent < line.indent {
-            return Err(ParseFault::BadIndent(at));
+            return Err(Halt::BadIndent(at));
         }
         if lacks_handler {
-            return Err(self.no_handler(line));
+            return Err(self.no_handler(line, lines));
         }
         if !built.has_stmt {
-            return Err(ParseFault::BadIndent(self.before));
+            return Err(Halt::BadIndent(self.before));
         }
         Ok(())
     }
 
-    /// That a line stands where a handler has to.
-    fn no_handler(&self, line: &Line) -> ParseFault
-        ensures { IsNoHandler self.now.columns.items line.now (first_place self.now.before line.now.tokens) result }
+    /// That a line stands where a handler has to, in front of these lines.
+    fn no_handler(&self, line: &Line, lines: &[Line]) -> Halt
+        ensures { IsNoHandler self.now.columns.items line.now lines.now self.now.before result }
     {
         let tokens = line.tokens.as_slice();
-        let at = first_of(tokens, self.before);
-        if !self.columns.contains(&line.indent) {
-            ParseFault::BadIndent(at)
-        } else if begins_never(tokens) {
-            ParseFault::Unsupported(at)
+        if self.columns.contains(&line.indent) {
+            at_first(tokens, lines, self.before)
         } else {
-            ParseFault::Unexpected(at)
+            Halt::BadIndent(first_of(tokens, self.before))
         }
+    }
+}
+
+/// At the first of these tokens, or at the end of their line where there is none. These lines stand behind it.
+fn at_first(tokens: &[Token], lines: &[Line], before: Pos) -> Halt
+    ensures { MarksFirst tokens.now lines.now before result }
+{
+    match tokens.split_first() {
+        Some((_, behind)) => Halt::AtToken(lines.len(), behind.len()),
+        None => Halt::AtEnd(lines.len(), before),
+    }
+}
+
+/// Where the lines stop that stop at this on a line, behind which so many lines stand.
+fn halted(lines_left: usize, fault: Fault) -> Halt
+    ensures { result ≡ halt_of lines_left fault }
+{
+    match fault {
+        Fault::Unexpected(left) => Halt::AtToken(lines_left, left),
+        Fault::TooDeep(at) => Halt::TooDeep(at),
+        Fault::TooMany(at) => Halt::TooMany(at),
+        Fault::Memory => Halt::Memory,
     }
 }
 
@@ -328,7 +349,7 @@ impl Built {
         no: u32,
         what: What,
         under: Built,
-    ) -> Result<Built, ParseFault>
+    ) -> Result<Built, Halt>
         ensures trees { (h : Head) → IsHead what line.now h → IfOk result (λ more. trees_of more ≡ grown_trees no h (suite_list (trees_of under)) under.globals.items under.to (trees_of self)) }
         ensures globals { (h : Head) → IsHead what line.now h → IfOk result (λ more. more.globals.items ≡ self.globals.items ++ declared h) }
         ensures to { IfOk result (λ more. more.to ≡ under.to) }
@@ -716,16 +737,6 @@ fn is_alone(kind: &TokenKind) -> bool
         TokenKind::Text(_) => true,
         TokenKind::Keyword(word) => *word == PASS,
         _ => false,
-    }
-}
-
-/// A word or sign that stands nowhere comes first.
-fn begins_never(tokens: &[Token]) -> bool
-    ensures { result ≡ never_first tokens.now }
-{
-    match tokens.first() {
-        Some(token) => is_never(&token.kind),
-        None => false,
     }
 }
 

@@ -9,7 +9,9 @@
 #![tactic(auto)]
 
 mod blocks;
+mod fault;
 mod script;
+mod told;
 
-pub use py_grammar::ParseFault;
+pub use fault::ParseFault;
 pub use script::parse;

@@ -3,13 +3,14 @@ ghost use Rattle.std.specs.Prelude.{◌≡◌, IfOk, IfErr};
 ghost use Rattle.py_tree.specs.Erasure.{script_of};
 ghost use Rattle.py_tree.specs.Numbering.{IsNumbered};
 ghost use Rattle.py_tree.specs.Tree.{ScriptTree};
-ghost use Rattle.py_grammar.specs.declared.fault.ParseFault.TheVariants.{Memory};
+ghost use Rattle.py_parser.specs.declared.fault.ParseFault.TheVariants.{Memory};
 ghost use Rattle.py_parser.specs.Script.{IsScript};
 ghost use Rattle.py_parser.specs.Faults.{IsFault};
 
 use crate::blocks::{Blocks, Place, first_of};
+use crate::fault::ParseFault;
+use crate::told::told;
 use prov_base::Pos;
-use py_grammar::ParseFault;
 use py_lines::Lines;
 use py_tree::{Script, Suite};
 use std::alloc::Global;
@@ -18,7 +19,7 @@ use std::alloc::Global;
 /// may, with at most 20,000 statements, each in at most 50 suites and with expressions at most 100 deep.
 ///
 /// A fault names the first token, in the order of the text, that no such script has there, or an earlier one where
-/// `ParseFault` says so.
+/// `ParseFault` or the table of refused forms says so (`RefusedForms` of `refused_forms`).
 pub fn parse(alloc: Global, lines: &Lines) -> Result<Script, ParseFault>
     ensures found { IfOk result (λ script. IsScript lines.now (script_of script)) }
     ensures numbered { IfOk result (λ script. IsNumbered (script_of script)) }
@@ -44,7 +45,10 @@ pub fn parse(alloc: Global, lines: &Lines) -> Result<Script, ParseFault>
         count: 0,
         columns: Vec::new(alloc),
     };
-    let built = blocks.rows(alloc, Place::module(), &[])?;
+    let built = match blocks.rows(alloc, Place::module(), &[]) {
+        Ok(built) => built,
+        Err(halt) => return Err(told(alloc, lines, halt)),
+    };
     let body = Suite { list: built.list };
     Ok(Script {
         body,

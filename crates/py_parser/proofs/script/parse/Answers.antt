@@ -1,6 +1,7 @@
-use Rattle.std.proofs.Common.{rules, ap, sym, ◌∙◌, subst}
-use Rattle.py_grammar.specs.declared.fault.ParseFault.TheVariants.{BadIndent}
-use Rattle.py_parser.specs.Faults.{origin, first_place, FirstFault}
+use Rattle.std.proofs.Common.{List, refl, ap, sym, ◌∙◌, subst}
+use Rattle.py_lines.specs.declared.parts.Line.{Line}
+use Rattle.py_parser.specs.declared.fault.ParseFault.TheVariants.{BadIndent}
+use Rattle.py_parser.specs.Faults.{origin, first_place, FirstFault, IsFault}
 use Rattle.py_parser.proofs.CycleParts.{no_first, some_first}
 use Rattle.py_parser.proofs.Parsing.{read_script_there, empty_script_is, stopped_there, indented_first, only_memory, numbered_script}
 use Rattle.py_parser.proofs.script.parse.Goals as goal
@@ -22,24 +23,24 @@ returns-then-first-ne0-clause-refused c =
     (indented_first c.in-Some.first.now there.0 c.args.lines.now (sym c.as_slice-lines.ensures ∙ there.1) c.if-first-ne0.true)
 
 -- src/script.rt
-pub returns-in_err-built-clause-complete : goal.returns-in_err-built-clause-complete
-returns-in_err-built-clause-complete c tree s =
-    let is = only_memory c.args.lines.now _ tree (stopped_there c.args.lines.now c.as_slice-lines.result.now _ _ _ c.as_slice-lines.ensures c.new-2.ensures.items c.module.ensures c.in_err-built.ensures.refused) s in
-    search (rules, is)
+pub told-requires : goal.told-requires
+told-requires c = stopped_there c.as_slice-lines.result.now c.as_slice-lines.result.now _ _ _ refl c.new-2.ensures.items c.module.ensures c.in-Err.ensures.refused
 
 -- src/script.rt
-pub returns-in_err-built-clause-refused : goal.returns-in_err-built-clause-refused
-returns-in_err-built-clause-refused c =
-    let is = stopped_there c.args.lines.now c.as_slice-lines.result.now _ _ _ c.as_slice-lines.ensures c.new-2.ensures.items c.module.ensures c.in_err-built.ensures.refused in
-    search (rules, is)
+pub returns-in-Err-clause-complete : goal.returns-in-Err-clause-complete
+returns-in-Err-clause-complete c tree s = only_memory c.args.lines.now _ tree (subst (λ (ls : List Line). IsFault ls c.told.result) c.as_slice-lines.ensures c.told.ensures) s
+
+-- src/script.rt
+pub returns-in-Err-clause-refused : goal.returns-in-Err-clause-refused
+returns-in-Err-clause-refused c = subst (λ (ls : List Line). IsFault ls c.told.result) c.as_slice-lines.ensures c.told.ensures
 
 -- src/script.rt
 pub returns-clause-found : goal.returns-clause-found
 returns-clause-found c =
-    read_script_there c.args.lines.now c.as_slice-lines.result.now _ _ c.in_ok-built.built c.rows.new.self.count origin _ c.as_slice-lines.ensures c.module.ensures c.in_ok-built.ensures.found
+    read_script_there c.args.lines.now c.as_slice-lines.result.now _ _ c.in-Ok.built c.rows.new.self.count origin _ c.as_slice-lines.ensures c.module.ensures c.in-Ok.ensures.found
 
 -- src/script.rt
 pub returns-clause-numbered : goal.returns-clause-numbered
 returns-clause-numbered c =
     numbered_script c.args.lines.now _
-    (read_script_there c.args.lines.now c.as_slice-lines.result.now _ _ c.in_ok-built.built c.rows.new.self.count origin _ c.as_slice-lines.ensures c.module.ensures c.in_ok-built.ensures.found)
+    (read_script_there c.args.lines.now c.as_slice-lines.result.now _ _ c.in-Ok.built c.rows.new.self.count origin _ c.as_slice-lines.ensures c.module.ensures c.in-Ok.ensures.found)

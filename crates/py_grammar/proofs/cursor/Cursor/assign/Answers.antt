@@ -1,11 +1,11 @@
-use Rattle.std.proofs.Common.{rules, is_none, ap}
+use Rattle.std.proofs.Common.{rules, is_none, ap, refl}
 use Rattle.py_tree.proofs.StmtTrees.{assign_tree}
 use Rattle.py_grammar.proofs.ExprRefusals.{assign_wrong, assign_is_target, assign_refused, assign_more, assign_found}
 use Rattle.py_grammar.proofs.cursor.Cursor.assign.Goals as goal
 
 -- src/simple.rt
 pub returns-in-Some-clause-refused : goal.returns-in-Some-clause-refused
-returns-in-Some-clause-refused c = assign_wrong c.args.first _ c.args.self.now.rest.now (ap is_none c.in-Some.is)
+returns-in-Some-clause-refused c = assign_wrong c.args.first _ c.args.self.now.rest.now (ap is_none c.in-Some.is) refl
 
 -- src/simple.rt
 pub target_of-requires : goal.target_of-requires

@@ -1,15 +1,15 @@
-use Rattle.std.proofs.Common.{rules, is_none, ap, sym, ◌∙◌}
+use Rattle.std.proofs.Common.{rules, is_none, ap, sym, ◌∙◌, refl}
 use Rattle.py_tree.proofs.StmtTrees.{aug_tree}
 use Rattle.py_grammar.proofs.AugRefusals.{aug_tuple, aug_wrong, aug_is_target, aug_refused, aug_more, aug_found}
 use Rattle.py_grammar.proofs.cursor.Cursor.augmented.Goals as goal
 
 -- src/simple.rt
 pub returns-then-is_tuple-clause-refused : goal.returns-then-is_tuple-clause-refused
-returns-then-is_tuple-clause-refused c = aug_tuple c.args.first c.args.at c.args.op c.args.self.now.rest.now _ (sym c.is_tuple.ensures ∙ c.if-is_tuple.true)
+returns-then-is_tuple-clause-refused c = aug_tuple c.args.first c.args.at c.args.op c.args.self.now.rest.now _ (sym c.is_tuple.ensures ∙ c.if-is_tuple.true) refl
 
 -- src/simple.rt
 pub returns-in-Some-clause-refused : goal.returns-in-Some-clause-refused
-returns-in-Some-clause-refused c = aug_wrong c.args.first c.args.at c.args.op c.args.self.now.rest.now _ (ap is_none c.in-Some.is)
+returns-in-Some-clause-refused c = aug_wrong c.args.first c.args.at c.args.op c.args.self.now.rest.now _ (ap is_none c.in-Some.is) refl
 
 -- src/simple.rt
 pub one_target-target-requires : goal.one_target-target-requires

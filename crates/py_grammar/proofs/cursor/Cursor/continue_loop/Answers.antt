@@ -1,4 +1,4 @@
-use Rattle.std.proofs.Common.{rules}
+use Rattle.std.proofs.Common.{rules, refl}
 use Rattle.std.proofs.lemmas.Bool.{not-true, not-false}
 use Rattle.py_tree.proofs.StmtTrees.{continue_tree}
 use Rattle.py_grammar.specs.ParsedSimple.{around_of}
@@ -7,11 +7,11 @@ use Rattle.py_grammar.proofs.cursor.Cursor.continue_loop.Goals as goal
 
 -- src/simple.rt
 pub returns-then-not-around-clause-refused : goal.returns-then-not-around-clause-refused
-returns-then-not-around-clause-refused c = continue_outside (around_of c.args.around) c.args.at c.args.self.now.rest.now (not-true _ c.if-not-around.true)
+returns-then-not-around-clause-refused c = continue_outside (around_of c.args.around) c.args.self.now.rest.now _ (not-true _ c.if-not-around.true) refl
 
 -- src/simple.rt
 pub returns-in_err-end-clause-refused : goal.returns-in_err-end-clause-refused
-returns-in_err-end-clause-refused c = let is = continue_more (around_of c.args.around) c.args.at c.args.self.now.rest.now _ c.in_err-end.ensures.more in search (rules, is)
+returns-in_err-end-clause-refused c = let is = continue_more (around_of c.args.around) c.args.self.now.rest.now _ c.in_err-end.ensures.more in search (rules, is)
 
 -- src/simple.rt
 pub returns-clause-found : goal.returns-clause-found

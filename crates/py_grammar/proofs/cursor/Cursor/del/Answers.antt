@@ -12,12 +12,12 @@ returns-in_err-target-clause-refused c = let is = del_refused c.args.self.now.re
 
 -- src/simple.rt
 pub returns-in-Some-clause-refused : goal.returns-in-Some-clause-refused
-returns-in-Some-clause-refused c = del_wrong _ c.args.self.now.rest.now c.expr.new.self.rest.now _ c.in_ok-target.ensures.found (ap is_none c.in-Some.is)
+returns-in-Some-clause-refused c = del_wrong c.args.self.now.rest.now c.expr.new.self.rest.now _ _ c.in_ok-target.ensures.found (ap is_none c.in-Some.is) c.refuse.ensures
 
 -- src/simple.rt
 pub returns-in-Attr-clause-refused : goal.returns-in-Attr-clause-refused
 returns-in-Attr-clause-refused c =
-    del_attribute _ _ _ c.args.self.now.rest.now c.expr.new.self.rest.now _ c.in_ok-target.ensures.found (ap is_none c.in_default.is) (ap expr_of c.in-Attr.is ∙ attr_tree _ _ _)
+    del_attribute _ _ _ c.args.self.now.rest.now c.expr.new.self.rest.now _ _ c.in_ok-target.ensures.found (ap is_none c.in_default.is) (ap expr_of c.in-Attr.is ∙ attr_tree _ _ _) c.refuse-in-Attr.ensures
 
 -- src/simple.rt
 pub returns-in_err-end-clause-refused : goal.returns-in_err-end-clause-refused

@@ -1,4 +1,4 @@
-use Rattle.std.proofs.Common.{rules, List, ℕ, subst, ap, sym, ◌∙◌}
+use Rattle.std.proofs.Common.{rules, List, ℕ, subst, ap, sym, ◌∙◌, refl}
 use Rattle.py_lines.specs.declared.parts.Token.{Token}
 use Rattle.py_grammar.specs.ParsedNames.{DifferentFound}
 use Rattle.py_grammar.specs.WellPlaced.{is_in}
@@ -10,23 +10,23 @@ pub loop-alloc-init : goal.loop-alloc-init
 loop-alloc-init c = different_init c.args.self.now.rest.now _ c.new-list.ensures.items
 
 -- src/names.rt
-pub returns-in_err-at-clause-refused : goal.returns-in_err-at-clause-refused
-returns-in_err-at-clause-refused c = let is = different_name c.args.self.now.rest.now _ _ (sym c.at_name.ensures ∙ c.loop-alloc-test.true) c.in_err-at.ensures.refused in search (rules, is)
+pub returns-in_err-name-clause-refused : goal.returns-in_err-name-clause-refused
+returns-in_err-name-clause-refused c = let is = different_name c.args.self.now.rest.now _ _ (sym c.at_name.ensures ∙ c.loop-alloc-test.true) c.in_err-name.ensures.refused in search (rules, is)
 
 -- src/names.rt
 pub returns-then-is_among-clause-refused : goal.returns-then-is_among-clause-refused
-returns-then-is_among-clause-refused c = different_repeated c.args.self.now.rest.now _ _ _ _ _ c.loop-alloc.invariant c.in_ok-at.ensures.taken (ap (is_in c.in_ok-at.name) (sym {A = List (List ℕ)} c.deref.ensures.value) ∙ sym c.is_among.ensures ∙ c.if-is_among.true)
+returns-then-is_among-clause-refused c = different_repeated c.args.self.now.rest.now _ _ _ _ _ _ c.loop-alloc.invariant c.in_ok-name.ensures.taken (ap (is_in c.in_ok-name.name) (sym {A = List (List ℕ)} c.deref.ensures.value) ∙ sym c.is_among.ensures ∙ c.if-is_among.true) refl
 
 -- src/names.rt
 pub loop-alloc-preserved : goal.loop-alloc-preserved
 loop-alloc-preserved c =
-    different_next c.args.self.now.rest.now _ _ _ _ _ _ _ _ c.loop-alloc.invariant c.in_ok-at.ensures.taken (ap (is_in c.in_ok-at.name) (sym {A = List (List ℕ)} c.deref.ensures.value) ∙ sym c.is_among.ensures ∙ c.if-is_among.false) c.in_ok-push.ensures.items c.in-Some.ensures.taken
+    different_next c.args.self.now.rest.now _ _ _ _ _ _ _ _ c.loop-alloc.invariant c.in_ok-name.ensures.taken (ap (is_in c.in_ok-name.name) (sym {A = List (List ℕ)} c.deref.ensures.value) ∙ sym c.is_among.ensures ∙ c.if-is_among.false) c.in_ok-push.ensures.items c.in-Some.ensures.taken
 
 -- src/names.rt
 pub returns-in_default-clause-found : goal.returns-in_default-clause-found
 returns-in_default-clause-found c =
     subst (λ (ts : List Token). DifferentFound c.args.self.now.rest.now c.push.new.self.items ts) (sym c.in_default.ensures.kept)
-    (different_last c.args.self.now.rest.now _ _ _ _ _ _ c.loop-alloc.invariant c.in_ok-at.ensures.taken (ap (is_in c.in_ok-at.name) (sym {A = List (List ℕ)} c.deref.ensures.value) ∙ sym c.is_among.ensures ∙ c.if-is_among.false) c.in_ok-push.ensures.items c.in_default.ensures.absent)
+    (different_last c.args.self.now.rest.now _ _ _ _ _ _ c.loop-alloc.invariant c.in_ok-name.ensures.taken (ap (is_in c.in_ok-name.name) (sym {A = List (List ℕ)} c.deref.ensures.value) ∙ sym c.is_among.ensures ∙ c.if-is_among.false) c.in_ok-push.ensures.items c.in_default.ensures.absent)
 
 -- src/names.rt
 pub returns-clause-found : goal.returns-clause-found

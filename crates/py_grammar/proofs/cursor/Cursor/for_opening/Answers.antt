@@ -7,15 +7,15 @@ pub returns-in_err-target-clause-refused : goal.returns-in_err-target-clause-ref
 returns-in_err-target-clause-refused c = λ context. let is = for_target_refused context c.args.self.now.rest.now _ c.in_err-target.ensures.refused in search (rules, is)
 
 -- src/openings.rt
-pub returns-in_err-in_word-clause-refused : goal.returns-in_err-in_word-clause-refused
-returns-in_err-in_word-clause-refused c = λ context.
-    let is = for_in_refused context _ c.args.self.now.rest.now _ _ c.in_ok-target.ensures.found c.in_err-in_word.ensures.refused in search (rules, is)
+pub returns-in_err-keyword-clause-refused : goal.returns-in_err-keyword-clause-refused
+returns-in_err-keyword-clause-refused c = λ context.
+    let is = for_in_refused context _ c.args.self.now.rest.now _ _ c.in_ok-target.ensures.found c.in_err-keyword.ensures.refused in search (rules, is)
 
 -- src/openings.rt
 pub returns-in_err-items-clause-refused : goal.returns-in_err-items-clause-refused
 returns-in_err-items-clause-refused c = λ context.
-    let is = for_items_refused context _ c.args.self.now.rest.now _ _ _ _ c.in_ok-target.ensures.found c.in_ok-in_word.ensures.taken c.in_err-items.ensures.refused in search (rules, is)
+    let is = for_items_refused context _ c.args.self.now.rest.now _ _ _ _ c.in_ok-target.ensures.found c.in_ok-keyword.ensures.taken c.in_err-items.ensures.refused in search (rules, is)
 
 -- src/openings.rt
 pub returns-clause-found : goal.returns-clause-found
-returns-clause-found c = λ context. for_found context _ _ c.args.self.now.rest.now _ _ _ _ c.in_ok-target.ensures.found c.in_ok-in_word.ensures.taken c.in_ok-items.ensures.found
+returns-clause-found c = λ context. for_found context _ _ c.args.self.now.rest.now _ _ _ _ c.in_ok-target.ensures.found c.in_ok-keyword.ensures.taken c.in_ok-items.ensures.found

@@ -1,5 +1,5 @@
-use Rattle.std.proofs.Common.{rules, sym, ◌∙◌}
-use Rattle.py_grammar.proofs.ParamParts.{opening_refused, names_refused, closing_refused, colon_refused, params_found}
+use Rattle.std.proofs.Common.{rules}
+use Rattle.py_grammar.proofs.ParamParts.{opening_refused, names_refused, closing_refused, params_found}
 use Rattle.py_grammar.proofs.cursor.Cursor.params.Goals as goal
 
 -- src/names.rt
@@ -9,11 +9,6 @@ returns-in_err-sign-clause-refused c = let is = opening_refused c.args.self.now.
 -- src/names.rt
 pub returns-in_err-list-clause-refused : goal.returns-in_err-list-clause-refused
 returns-in_err-list-clause-refused c = let is = names_refused _ c.args.self.now.rest.now _ _ c.in_ok-sign.ensures.taken c.in_err-list.ensures.refused in search (rules, is)
-
--- src/names.rt
-pub returns-then-at_sign-clause-refused : goal.returns-then-at_sign-clause-refused
-returns-then-at_sign-clause-refused c =
-    colon_refused _ c.args.self.now.rest.now _ _ _ _ c.in_ok-sign.ensures.taken c.in_ok-list.ensures.found (sym c.at_sign.ensures ∙ c.if-at_sign.true) c.unsupported.ensures
 
 -- src/names.rt
 pub returns-in_err-sign-2-clause-refused : goal.returns-in_err-sign-2-clause-refused

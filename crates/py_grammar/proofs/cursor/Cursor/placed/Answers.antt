@@ -1,4 +1,4 @@
-use Rattle.std.proofs.Common.{rules, sym, ◌∙◌}
+use Rattle.std.proofs.Common.{rules, sym, ◌∙◌, refl}
 use Rattle.py_grammar.specs.ParsedSimple.{around_of}
 use Rattle.py_grammar.proofs.PlacedParts.{placed_end, limit_there, word_there, class_there, found_there, placed_refused, outside, none_there}
 use Rattle.py_grammar.proofs.cursor.Cursor.placed.Goals.{else-around-via-then-around+else-not-is_alone, else-around-via-else-around}
@@ -21,7 +21,7 @@ returns-then-not-is_alone-clause-refused c =
 -- src/head.rt
 pub returns-then-is_refused_word-clause-refused : goal.returns-then-is_refused_word-clause-refused
 returns-then-is_refused_word-clause-refused c =
-    word_there (around_of c.args.around) c.args.limit c.args.self.now.rest.now c.in-Some.token.now _ c.in-Some.ensures.cases.0 (sym c.is_refused_word.ensures ∙ c.if-is_refused_word.true)
+    word_there (around_of c.args.around) c.args.limit c.args.self.now.rest.now c.in-Some.token.now _ _ c.in-Some.ensures.cases.0 (sym c.is_refused_word.ensures ∙ c.if-is_refused_word.true) refl
 
 -- src/head.rt
 pub returns-in_err-form-clause-refused : goal.returns-in_err-form-clause-refused

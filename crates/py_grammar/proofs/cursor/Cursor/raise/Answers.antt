@@ -13,18 +13,18 @@ returns-then-around-clause-found c =
 -- src/simple.rt
 pub returns-then-is_empty-clause-refused : goal.returns-then-is_empty-clause-refused
 returns-then-is_empty-clause-refused c =
-    raise_outside (around_of c.args.around) c.args.at c.args.self.now.rest.now c.if-around.false (nothing_there _ _ c.is_empty.ensures c.if-is_empty.true)
+    raise_outside (around_of c.args.around) c.args.self.now.rest.now c.if-around.false (nothing_there _ _ c.is_empty.ensures c.if-is_empty.true)
 
 -- src/simple.rt
 pub returns-in_err-value-clause-refused : goal.returns-in_err-value-clause-refused
 returns-in_err-value-clause-refused c =
-    let is = raise_refused (around_of c.args.around) c.args.at c.args.self.now.rest.now _ (something_there _ _ c.is_empty.ensures c.if-is_empty.false) c.in_err-value.ensures.refused in
+    let is = raise_refused (around_of c.args.around) c.args.self.now.rest.now _ (something_there _ _ c.is_empty.ensures c.if-is_empty.false) c.in_err-value.ensures.refused in
     search (rules, is)
 
 -- src/simple.rt
 pub returns-in_err-end-clause-refused : goal.returns-in_err-end-clause-refused
 returns-in_err-end-clause-refused c =
-    let is = raise_more (around_of c.args.around) c.args.at c.args.self.now.rest.now c.expr.new.self.rest.now _ _ c.in_ok-value.ensures.found c.in_err-end.ensures.more in
+    let is = raise_more (around_of c.args.around) c.args.self.now.rest.now c.expr.new.self.rest.now _ _ c.in_ok-value.ensures.found c.in_err-end.ensures.more in
     search (rules, is)
 
 -- src/simple.rt

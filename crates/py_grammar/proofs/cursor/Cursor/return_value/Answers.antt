@@ -1,4 +1,4 @@
-use Rattle.std.proofs.Common.{rules, None, Some}
+use Rattle.std.proofs.Common.{rules, None, Some, refl}
 use Rattle.std.proofs.lemmas.Bool.{not-true, not-false}
 use Rattle.py_tree.proofs.StmtTrees.{return_tree}
 use Rattle.py_grammar.specs.ParsedSimple.{around_of}
@@ -8,7 +8,7 @@ use Rattle.py_grammar.proofs.cursor.Cursor.return_value.Goals as goal
 
 -- src/simple.rt
 pub returns-then-not-around-clause-refused : goal.returns-then-not-around-clause-refused
-returns-then-not-around-clause-refused c = return_outside (around_of c.args.around) c.args.at c.args.self.now.rest.now (not-true _ c.if-not-around.true)
+returns-then-not-around-clause-refused c = return_outside (around_of c.args.around) c.args.self.now.rest.now _ (not-true _ c.if-not-around.true) refl
 
 -- src/simple.rt
 pub returns-then-is_empty-clause-found : goal.returns-then-is_empty-clause-found
@@ -18,13 +18,13 @@ returns-then-is_empty-clause-found c =
 -- src/simple.rt
 pub returns-in_err-value-clause-refused : goal.returns-in_err-value-clause-refused
 returns-in_err-value-clause-refused c =
-    let is = return_refused (around_of c.args.around) c.args.at c.args.self.now.rest.now _ (something_there _ _ c.is_empty.ensures c.if-is_empty.false) c.in_err-value.ensures.refused in
+    let is = return_refused (around_of c.args.around) c.args.self.now.rest.now _ (something_there _ _ c.is_empty.ensures c.if-is_empty.false) c.in_err-value.ensures.refused in
     search (rules, is)
 
 -- src/simple.rt
 pub returns-in_err-end-clause-refused : goal.returns-in_err-end-clause-refused
 returns-in_err-end-clause-refused c =
-    let is = return_more (around_of c.args.around) c.args.at c.args.self.now.rest.now c.exprs.new.self.rest.now _ _ c.in_ok-value.ensures.found c.in_err-end.ensures.more in
+    let is = return_more (around_of c.args.around) c.args.self.now.rest.now c.exprs.new.self.rest.now _ _ c.in_ok-value.ensures.found c.in_err-end.ensures.more in
     search (rules, is)
 
 -- src/simple.rt

@@ -8,7 +8,7 @@ returns-in_err-item-clause-refused c = let is = item_unread c.args.room c.args.s
 
 -- src/names.rt
 pub returns-in-Some-clause-refused : goal.returns-in-Some-clause-refused
-returns-in-Some-clause-refused c = item_wrong c.args.room c.args.self.now.rest.now _ _ _ c.in_ok-item.ensures.found (ap is_none c.in-Some.is)
+returns-in-Some-clause-refused c = item_wrong c.args.room c.args.self.now.rest.now _ _ _ c.in_ok-item.ensures.found (ap is_none c.in-Some.is) c.refuse.ensures
 
 -- src/names.rt
 pub returns-clause-found : goal.returns-clause-found

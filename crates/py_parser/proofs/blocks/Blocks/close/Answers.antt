@@ -1,5 +1,5 @@
 use Rattle.std.proofs.Common.{rules, arith, sym, ap, ◌∙◌, subst}
-use Rattle.py_grammar.specs.declared.fault.ParseFault.TheVariants.{BadIndent}
+use Rattle.py_parser.specs.declared.fault.Halt.TheVariants.{BadIndent}
 use Rattle.py_grammar.specs.Follows.{Below}
 use Rattle.py_parser.specs.Faults.{first_place}
 use Rattle.py_parser.proofs.CloseParts.{lacks_end, empty_end, deeper, no_handler_at, closes_lower, other_place, nothing_below}

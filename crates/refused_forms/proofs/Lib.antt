@@ -1,0 +1,5 @@
+pub mod LastTokens
+pub mod OneSpelling
+pub mod WrongForms
+pub mod WholeAnswer
+mod Worked
