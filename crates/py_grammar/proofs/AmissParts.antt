@@ -18,7 +18,7 @@ use Rattle.py_grammar.proofs.HeadParts.{OnlyHead, HeadTurns, turned_head, shown_
 -- ---- refusals as such
 
 -- a part that is refused because nothing is read
-pub amiss_of_refused : {A : Type 0} (p : Production A) (room : ℕ) (amiss : Stop → A → Type 0) (before : List Token) (stop : Stop) → ((why : Stop) (a : A) → IsDeep why room (p.depth a) → amiss why a) → Refused p room before stop → RefusedAmiss p amiss before stop
+pub amiss_of_refused : {A : Type 0} (p : Production A) (room : ℕ) (amiss : Stop → A → Type 0) (before : List Token) (stop : Stop) → ((why : Stop) (a : A) → IsDeep why room (p.lies a) → amiss why a) → Refused p room before stop → RefusedAmiss p amiss before stop
 amiss_of_refused p room amiss before (Here Memory) weaker is = tt
 amiss_of_refused p room amiss before (Here (Unexpected at)) weaker is = record { front = is.front; shown_by = is.shown_by; behind = is.behind; before_is = is.before_is; left_is = is.left_is; begins = is.begins; none = λ more. finds_weaker _ _ p.read _ (weaker (Here (Unexpected at))) (is.none more) }
 amiss_of_refused p room amiss before (Here (TooDeep at)) weaker is = record { front = is.front; shown_by = is.shown_by; behind = is.behind; before_is = is.before_is; left_is = is.left_is; begins = is.begins; none = λ more. finds_weaker _ _ p.read _ (weaker (Here (TooDeep at))) (is.none more) }

@@ -1,5 +1,5 @@
 -- Atoms: what is read of them, and how they are refused.
-use Rattle.std.proofs.Common.{◌≡◌, ℕ, suc, ◌+◌, ◌≤◌, ◌<◌, Bool, true, false, List, [], ◌∷◌, ◌++◌, Option, Some, None, is_none, refl, ap, sym, ◌∙◌, arith, subst, append_assoc, if◌then◌else◌}
+use Rattle.std.proofs.Common.{◌≡◌, ℕ, zero, suc, ◌+◌, ◌≤◌, ◌<◌, Bool, true, false, List, [], ◌∷◌, ◌++◌, Option, Some, None, is_none, refl, ap, sym, ◌∙◌, arith, subst, append_assoc, if◌then◌else◌}
 use Rattle.std.specs.Prelude.{◌==◌, pos, negsuc}
 use Rattle.std.proofs.lemmas.Bool.{eqb-true}
 use Rattle.std.proofs.lemmas.List.{append-nil}
@@ -11,15 +11,17 @@ use Rattle.py_tree.specs.Tree.{tuple_expr, list_expr, dict_expr, end_exprs}
 use Rattle.py_tree.specs.Erasure.{expr_of}
 use Rattle.py_grammar.specs.declared.fault.Stop.{Stop}
 use Rattle.py_grammar.specs.declared.part.Part.{Part}
-use Rattle.py_grammar.specs.Concrete.{Spot, plain_prim, Atom, name, number, text, none, true_word, false_word, empty_tuple, group, list, dict, Items, no_items, items}
+use Rattle.py_grammar.specs.Concrete.{Spot, plain_prim, Atom, name, none, true_word, false_word, list, dict, Items, no_items, items}
 use Rattle.py_grammar.specs.Tokens.{token, word, atom_tokens, exprs_tokens, items_tokens, pairs_tokens}
 use Rattle.py_grammar.specs.Trees.{atom_tree, items_tree, pairs_tree}
 use Rattle.py_grammar.specs.Depth.{atom_depth, exprs_depth, items_depth, pairs_depth}
+use Rattle.py_grammar.specs.Lies.{is_place, over, atom_lies, exprs_lies, items_lies, pairs_lies}
+use Rattle.py_grammar.proofs.Lying.{alone_here, exprs_above, is_here, over_here, over_is}
 use Rattle.py_grammar.specs.Reader.{Read, go_on, spot_of, is_sign, grouped, read_sign, read_items, read_pairs, read_atom, atom_of}
 use Rattle.py_grammar.specs.StatementReader.{prim_target}
 use Rattle.py_grammar.specs.Parsed.{Production, atom_part, exprs_part, is_form, Taken, Found, FoundRow, IsDeep, Only, Finds, Begins, Refused, IsTooDeep, IsAtFirst, one_sign, is_sign_next}
-use Rattle.py_grammar.specs.ParsedRows.{closed, read_closed, items_part, group_part, group_depth, group_tree, pairs_part, leaf_kind, leaf_atom, IsLeaf, FoundClosed}
-use Rattle.py_grammar.proofs.Refusals.{Inside, first_of, only_go_on, only_is, finds_at_once, deeper, refused_inside, refused_same, full}
+use Rattle.py_grammar.specs.ParsedRows.{IsDeepestIn, closed, read_closed, items_part, group_part, group_depth, group_lies, group_tree, pairs_part, leaf_kind, leaf_atom, IsLeaf, FoundClosed}
+use Rattle.py_grammar.proofs.Refusals.{only_any, only_if, Inside, first_of, only_go_on, only_is, finds_at_once, deep_same, deep_over, refused_inside, refused_same, full}
 use Rattle.py_grammar.proofs.ClosedParts.{no_spot, closed_first, closed_last, closed_of, closed_once, refused_at_first}
 use Rattle.py_grammar.proofs.PrimParts.{above_zero}
 use Rattle.py_grammar.proofs.RowParts.{sign_first, more_steps}
@@ -58,48 +60,53 @@ leaf_is n (Sign k) t ts one two three = leaf_sign (k == 0) (k == 2) (k == 4) _ _
 -- what is said of the atom that a token is, if it is one
 abbrev Leaf : TokenKind → Spot → Option Atom → Type 0
 Leaf kind spot None = Unit {0}
-Leaf kind spot (Some a) = (atom_tokens a ≡ token kind spot ∷ []) × (atom_depth a ≡ 1)
+Leaf kind spot (Some a) = (atom_tokens a ≡ token kind spot ∷ []) × (atom_depth a ≡ 1) × ((d : Pos) → d ≡ spot.at → atom_lies a d ≡ 1)
+
+-- one token lies where it stands
+alone : (spot : Spot) (d : Pos) → d ≡ spot.at → over (is_place spot.at d) 0 ≡ 1
+alone spot d is = alone_here (is_place spot.at d) (is_here spot.at d (sym is))
 
 leaf_all : (kind : TokenKind) (spot : Spot) → Leaf kind spot (leaf_kind kind spot)
-leaf_all (Word bytes) spot = (refl, refl)
-leaf_all (Number (pos value)) spot = (refl, refl)
+leaf_all (Word bytes) spot = (refl, refl, alone spot)
+leaf_all (Number (pos value)) spot = (refl, refl, alone spot)
 leaf_all (Number (negsuc value)) spot = tt
-leaf_all (Text bytes) spot = (refl, refl)
+leaf_all (Text bytes) spot = (refl, refl, alone spot)
 leaf_all (Sign k) spot = tt
 leaf_all (Keyword k) spot = by (k == 1) (k == 2) (k == 0) refl refl refl
   where
     by : (a b c : Bool) → (k == 1) ≡ a → (k == 2) ≡ b → (k == 0) ≡ c → Leaf (Keyword k) spot (if a then Some (none spot) else (if b then Some (true_word spot) else (if c then Some (false_word spot) else None)))
-    by true b c one two three = (ap (λ n. token (Keyword n) spot ∷ []) (sym (eqb-true k 1 one)), refl)
-    by false true c one two three = (ap (λ n. token (Keyword n) spot ∷ []) (sym (eqb-true k 2 two)), refl)
-    by false false true one two three = (ap (λ n. token (Keyword n) spot ∷ []) (sym (eqb-true k 0 three)), refl)
+    by true b c one two three = (ap (λ n. token (Keyword n) spot ∷ []) (sym (eqb-true k 1 one)), refl, alone spot)
+    by false true c one two three = (ap (λ n. token (Keyword n) spot ∷ []) (sym (eqb-true k 2 two)), refl, alone spot)
+    by false false true one two three = (ap (λ n. token (Keyword n) spot ∷ []) (sym (eqb-true k 0 three)), refl, alone spot)
     by false false false one two three = tt
 
-pub leaf_found : (room : ℕ) (t : Token) (ts : List Token) (part : Part) → IsLeaf (leaf_atom t) (Some part) → 0 < room → Found atom_part atom_tree 0 room (t ∷ ts) part ts
+pub leaf_found : (room : ℕ) (t : Token) (ts : List Token) (part : Part) → IsLeaf t.at (leaf_atom t) (Some part) → 0 < room → Found atom_part atom_tree 0 room (t ∷ ts) part ts
 leaf_found room t ts part is fits = by (leaf_atom t) (leaf_all t.kind (spot_of t)) is
   where
-    by : (o : Option Atom) → Leaf t.kind (spot_of t) o → IsLeaf o (Some part) → Found atom_part atom_tree 0 room (t ∷ ts) part ts
+    by : (o : Option Atom) → Leaf t.kind (spot_of t) o → IsLeaf t.at o (Some part) → Found atom_part atom_tree 0 room (t ∷ ts) part ts
     by None leaf is = absurd is
     by (Some a) leaf is = record {
       written = a;
       before_is = ap (λ us. us ++ ts) (sym leaf.0);
       tree_is = is.tree_is;
       height_is = is.height_is ∙ sym leaf.1;
+      deepest_is = leaf.2 part.deepest is.deepest_is ∙ sym leaf.1;
       form_is = is.form_is;
       fits = let one = is.height_is in omega (arith, one, fits);
       beyond = above_zero ts;
     }
 
-no_leaf : (t : Token) → IsLeaf (leaf_atom t) None → leaf_atom t ≡ None
+no_leaf : (t : Token) → IsLeaf t.at (leaf_atom t) None → leaf_atom t ≡ None
 no_leaf t is = by (leaf_atom t) is
   where
-    by : (o : Option Atom) → IsLeaf o None → o ≡ None
+    by : (o : Option Atom) → IsLeaf t.at o None → o ≡ None
     by None is = refl
     by (Some a) is = absurd is
 
 atom_begins : Begins atom_part []
 atom_begins = record { some = name no_spot []; more = word [] no_spot; tokens_are = refl }
 
-nothing_finds : (t : Token) (ts more : List Token) → is_sign 0 t.kind ≡ false → is_sign 2 t.kind ≡ false → is_sign 4 t.kind ≡ false → IsLeaf (leaf_atom t) None → first_of more ≡ Some t → Finds (λ a. ⊥) read_atom more
+nothing_finds : (t : Token) (ts more : List Token) → is_sign 0 t.kind ≡ false → is_sign 2 t.kind ≡ false → is_sign 4 t.kind ≡ false → IsLeaf t.at (leaf_atom t) None → first_of more ≡ Some t → Finds (λ a. ⊥) read_atom more
 unfolding leaf_read
 nothing_finds t ts [] one two three other first = cc
 nothing_finds t ts (u ∷ more) one two three other first = subst (λ v. Finds (λ a. ⊥) read_atom (v ∷ more)) (by t u first) (record {
@@ -110,7 +117,7 @@ nothing_finds t ts (u ∷ more) one two three other first = subst (λ v. Finds (
     by : (t u : Token) → Some u ≡ Some t → t ≡ u
     by t u is = cc
 
-pub leaf_refused : (room : ℕ) (t : Token) (ts : List Token) (stop : Stop) → is_sign_next 0 (t ∷ ts) ≡ false → is_sign_next 2 (t ∷ ts) ≡ false → is_sign_next 4 (t ∷ ts) ≡ false → IsLeaf (leaf_atom t) None → IsAtFirst (t ∷ ts) stop
+pub leaf_refused : (room : ℕ) (t : Token) (ts : List Token) (stop : Stop) → is_sign_next 0 (t ∷ ts) ≡ false → is_sign_next 2 (t ∷ ts) ≡ false → is_sign_next 4 (t ∷ ts) ≡ false → IsLeaf t.at (leaf_atom t) None → IsAtFirst (t ∷ ts) stop
     → Refused atom_part room (t ∷ ts) stop
 leaf_refused room t ts stop one two three other is = refused_at_first atom_part room (t ∷ ts) stop atom_begins (λ more first. nothing_finds t ts more one two three other first) is
 
@@ -123,27 +130,32 @@ no_token room stop is = refused_at_first atom_part room [] stop atom_begins (λ 
 
 -- ---- an atom that lies too deep
 
-has_depth : (a : Atom) → 0 < atom_depth a
-has_depth (name at bytes) = omega arith
-has_depth (number at n) = omega arith
-has_depth (text at bytes) = omega arith
-has_depth (none at) = omega arith
-has_depth (true_word at) = omega arith
-has_depth (false_word at) = omega arith
-has_depth (empty_tuple opening closing) = omega arith
-has_depth (group opening e closing) = omega arith
-has_depth (list opening e closing) = omega arith
-has_depth (dict opening pairs closing) = omega arith
+some_here : (spot : Spot) (at : Pos) (n : ℕ) → spot.at ≡ at → 0 < over (is_place spot.at at) n
+some_here spot at n is = let one = over_here (is_place spot.at at) n (is_here spot.at at is) in omega (arith, one)
 
-each_is : {A : Type 0} (P : A → Type 0) (r : Read A) → ((a : A) → P a) → Only P r
-each_is P None each = tt
-each_is P (Some (a, rest)) each = each a
+grouped_here : (spot : Spot) (at : Pos) (i : Items) (closing : Spot) → spot.at ≡ at → 0 < atom_lies (grouped spot i closing) at
+grouped_here spot at no_items closing is = some_here spot at 0 is
+grouped_here spot at (items e) closing is = some_here spot at (exprs_lies e at) is
 
-pub atom_full : (room : ℕ) (before : List Token) (t : Token) (ts : List Token) (stop : Stop) → before ≡ t ∷ ts → IsTooDeep 0 room stop → Refused atom_part room before stop
-atom_full room before t ts stop is deep = full atom_part room before [] t ts 0 stop deep is atom_begins (λ more. finds_at_once _ read_atom (t ∷ more) (λ n. each_is _ (read_atom (suc n) (t ∷ more)) has_depth))
+-- an atom that is read here begins here
+atom_here : (n : ℕ) (kind : TokenKind) (t : Token) (ts : List Token) (at : Pos) → t.at ≡ at → Only (λ a. 0 < atom_lies a at) (atom_of n kind t ts)
+atom_here zero kind t ts at is = tt
+atom_here (suc n) (Word bytes) t ts at is = some_here (spot_of t) at 0 is
+atom_here (suc n) (Number (pos value)) t ts at is = some_here (spot_of t) at 0 is
+atom_here (suc n) (Number (negsuc value)) t ts at is = tt
+atom_here (suc n) (Text bytes) t ts at is = some_here (spot_of t) at 0 is
+atom_here (suc n) (Keyword word) t ts at is = only_if _ (word == 1) _ _ (some_here (spot_of t) at 0 is) (only_if _ (word == 2) _ _ (some_here (spot_of t) at 0 is) (only_if _ (word == 0) _ _ (some_here (spot_of t) at 0 is) tt))
+atom_here (suc n) (Sign sign) t ts at is =
+    only_if _ (sign == 0) _ _ (only_any _ (read_items n 1 ts) _ (λ found more. only_any _ (read_sign 1 more) _ (λ closing rest. grouped_here (spot_of t) at found closing is)))
+    (only_if _ (sign == 2) _ _ (only_any _ (read_items n 3 ts) _ (λ found more. only_any _ (read_sign 3 more) _ (λ closing rest. some_here (spot_of t) at (items_lies found at) is)))
+    (only_if _ (sign == 4) _ _ (only_any _ (read_pairs n ts) _ (λ found more. only_any _ (read_sign 5 more) _ (λ closing rest. some_here (spot_of t) at (pairs_lies found at) is)))
+    tt))
 
-pub opening_full : (k room : ℕ) (before after : List Token) (at : Pos) (stop : Stop) → Taken (Sign k) before at after → IsTooDeep 0 room stop → Refused atom_part room before stop
-opening_full k room before after at stop taken deep = atom_full room before (token (Sign k) taken.spot) after stop taken.before_is deep
+pub atom_full : (room : ℕ) (before : List Token) (t : Token) (ts : List Token) (at : Pos) (stop : Stop) → before ≡ t ∷ ts → t.at ≡ at → IsTooDeep 0 at room stop → Refused atom_part room before stop
+atom_full room before t ts at stop is place deep = full atom_part room before [] t ts 0 at stop deep is atom_begins (λ more. finds_at_once _ read_atom (t ∷ more) (λ n. atom_here n t.kind t more at place))
+
+pub opening_full : (k room : ℕ) (before after : List Token) (at : Pos) (stop : Stop) → Taken (Sign k) before at after → IsTooDeep 0 at room stop → Refused atom_part room before stop
+opening_full k room before after at stop taken deep = atom_full room before (token (Sign k) taken.spot) after at stop taken.before_is taken.at_is deep
 
 -- ---- brackets are read
 
@@ -162,6 +174,10 @@ grouped_depth : (opening : Spot) (i : Items) (closing : Spot) → atom_depth (gr
 grouped_depth opening no_items closing = refl
 grouped_depth opening (items e) closing = sym (one_more (exprs_depth e))
 
+grouped_lies : (opening : Spot) (i : Items) (closing : Spot) (at : Pos) → atom_lies (grouped opening i closing) at ≡ over (is_place opening.at at) (group_lies i at)
+grouped_lies opening no_items closing at = refl
+grouped_lies opening (items e) closing at = refl
+
 grouped_form : (opening : Spot) (i : Items) (closing : Spot) → false ≡ is_form (prim_target (plain_prim (grouped opening i closing)))
 grouped_form opening no_items closing = refl
 grouped_form opening (items e) closing = refl
@@ -170,36 +186,39 @@ in_brackets : (t : Token) (ts : List Token) (u : Token) (after : List Token) →
 in_brackets t ts u after = ap (λ us. t ∷ us) (sym (append_assoc ts (u ∷ []) after))
 
 pub atom_group : (room inner : ℕ) (before middle after : List Token) (at : Pos) (part : Part) → Taken (Sign 0) before at middle → inner < room
-    → FoundClosed group_part 1 (group_tree at) (λ i. suc (group_depth i)) (λ _. false) inner middle part after → Found atom_part atom_tree 0 room before part after
+    → FoundClosed group_part 1 (group_tree at) (λ i. suc (group_depth i)) (λ i. IsDeepestIn at (group_lies i) (group_depth i)) (λ _. false) inner middle part after → Found atom_part atom_tree 0 room before part after
 atom_group room inner before middle after at part k smaller f = record {
   written = grouped k.spot f.written f.spot;
   before_is = k.before_is ∙ ap (λ ts. token (Sign 0) k.spot ∷ ts) f.before_is ∙ in_brackets (token (Sign 0) k.spot) (items_tokens f.written) (token (Sign 1) f.spot) after ∙ ap (λ ts. ts ++ after) (sym (grouped_tokens k.spot f.written f.spot));
   tree_is = f.tree_is ∙ ap (λ place. group_tree place f.written) (sym k.at_is) ∙ sym (grouped_tree k.spot f.written f.spot);
   height_is = f.height_is ∙ sym (grouped_depth k.spot f.written f.spot);
+  deepest_is = grouped_lies k.spot f.written f.spot part.deepest ∙ ap (λ p. over (is_place p part.deepest) (group_lies f.written part.deepest)) k.at_is ∙ f.deepest_is ∙ sym (one_more (group_depth f.written)) ∙ sym (grouped_depth k.spot f.written f.spot);
   form_is = f.form_is ∙ grouped_form k.spot f.written f.spot;
   fits = let small = f.fits in let high = f.height_is in omega (arith, small, high, smaller);
   beyond = above_zero after;
 }
 
 pub atom_list : (room inner : ℕ) (before middle after : List Token) (at : Pos) (part : Part) → Taken (Sign 2) before at middle → inner < room
-    → FoundClosed (items_part 3) 3 (λ i. list_expr at (items_tree i)) (λ i. suc (items_depth i)) (λ _. false) inner middle part after → Found atom_part atom_tree 0 room before part after
+    → FoundClosed (items_part 3) 3 (λ i. list_expr at (items_tree i)) (λ i. suc (items_depth i)) (λ i. IsDeepestIn at (items_lies i) (items_depth i)) (λ _. false) inner middle part after → Found atom_part atom_tree 0 room before part after
 atom_list room inner before middle after at part k smaller f = record {
   written = list k.spot f.written f.spot;
   before_is = k.before_is ∙ ap (λ ts. token (Sign 2) k.spot ∷ ts) f.before_is ∙ in_brackets (token (Sign 2) k.spot) (items_tokens f.written) (token (Sign 3) f.spot) after;
   tree_is = f.tree_is ∙ ap (λ place. list_expr place (items_tree f.written)) (sym k.at_is);
   height_is = f.height_is ∙ one_more (items_depth f.written);
+  deepest_is = ap (λ p. over (is_place p part.deepest) (items_lies f.written part.deepest)) k.at_is ∙ f.deepest_is;
   form_is = f.form_is;
   fits = let small = f.fits in let high = f.height_is in omega (arith, small, high, smaller);
   beyond = above_zero after;
 }
 
 pub atom_dict : (room inner : ℕ) (before middle after : List Token) (at : Pos) (part : Part) → Taken (Sign 4) before at middle → inner < room
-    → FoundClosed pairs_part 5 (λ p. dict_expr at (pairs_tree p)) (λ p. suc (pairs_depth p)) (λ _. false) inner middle part after → Found atom_part atom_tree 0 room before part after
+    → FoundClosed pairs_part 5 (λ p. dict_expr at (pairs_tree p)) (λ p. suc (pairs_depth p)) (λ p. IsDeepestIn at (pairs_lies p) (pairs_depth p)) (λ _. false) inner middle part after → Found atom_part atom_tree 0 room before part after
 atom_dict room inner before middle after at part k smaller f = record {
   written = dict k.spot f.written f.spot;
   before_is = k.before_is ∙ ap (λ ts. token (Sign 4) k.spot ∷ ts) f.before_is ∙ in_brackets (token (Sign 4) k.spot) (pairs_tokens f.written) (token (Sign 5) f.spot) after;
   tree_is = f.tree_is ∙ ap (λ place. dict_expr place (pairs_tree f.written)) (sym k.at_is);
   height_is = f.height_is ∙ one_more (pairs_depth f.written);
+  deepest_is = ap (λ p. over (is_place p part.deepest) (pairs_lies f.written part.deepest)) k.at_is ∙ f.deepest_is;
   form_is = f.form_is;
   fits = let small = f.fits in let high = f.height_is in omega (arith, small, high, smaller);
   beyond = above_zero after;
@@ -213,7 +232,7 @@ behind_sign t ts = ap (λ us. t ∷ us) (sym (append-nil ts))
 -- brackets in which something is read, and of which an atom is made
 module _ {A : Type 0} (q : Production A) (opening closing : ℕ) (make : Spot → A × Spot → Atom)
     (tokens_are : (spot : Spot) (w : A × Spot) → atom_tokens (make spot w) ≡ token (Sign opening) spot ∷ q.tokens w.0 ++ token (Sign closing) w.1 ∷ [])
-    (depth_is : (spot : Spot) (w : A × Spot) → suc (q.depth w.0) ≡ atom_depth (make spot w))
+    (lies_is : (spot : Spot) (w : A × Spot) (at : Pos) → atom_lies (make spot w) at ≡ over (is_place spot.at at) (q.lies w.0 at))
     (reads_is : (n : ℕ) (spot : Spot) (ts : List Token) → read_atom (suc (suc n)) (token (Sign opening) spot ∷ ts) ≡ go_on (read_closed q.read closing n ts) (λ w rest. Some (make spot w, rest))) where
   in_atom : (room inner : ℕ) (spot : Spot) (rest : List Token) → room ≤ suc inner → Inside atom_part room (closed q closing) inner (token (Sign opening) spot ∷ []) rest
   in_atom room inner spot rest less = record {
@@ -221,7 +240,7 @@ module _ {A : Type 0} (q : Production A) (opening closing : ℕ) (make : Spot �
     finds = λ stop more first finds. record {
       steps = suc (suc finds.steps);
       only = λ n. only_is _ _ _ (more_steps (λ m. read_atom m (token (Sign opening) spot ∷ more)) (n + suc (suc finds.steps)) (suc (suc (n + finds.steps))) (omega arith) ∙ reads_is (n + finds.steps) spot more)
-          (only_go_on (λ w. IsDeep stop inner (q.depth w.0)) _ (read_closed q.read closing (n + finds.steps) more) _ (finds.only n) (λ w rest deep. deeper stop inner (q.depth w.0) room _ deep (let is = depth_is spot w in omega (arith, is, less))));
+          (only_go_on (λ w. IsDeep stop inner (q.lies w.0)) _ (read_closed q.read closing (n + finds.steps) more) _ (finds.only n) (λ w rest deep. deep_same stop room (λ at. over (is_place spot.at at) (q.lies w.0 at)) (atom_lies (make spot w)) (λ at. sym (lies_is spot w at)) (deep_over stop inner room (is_place spot.at) (q.lies w.0) less deep)));
     };
   }
 
@@ -230,27 +249,28 @@ module _ {A : Type 0} (q : Production A) (opening closing : ℕ) (make : Spot �
       (refused_inside atom_part room (closed q closing) inner (token (Sign opening) k.spot ∷ []) middle stop (in_atom room inner k.spot middle less) is)
 
 pub group_refused : (room inner : ℕ) (before middle : List Token) (at : Pos) (stop : Stop) → Taken (Sign 0) before at middle → room ≤ suc inner → Refused (closed group_part 1) inner middle stop → Refused atom_part room before stop
-group_refused room inner before middle at stop k less is = atom_refused group_part 0 1 (λ spot w. grouped spot w.0 w.1) (λ spot w. grouped_tokens spot w.0 w.1) (λ spot w. sym (grouped_depth spot w.0 w.1))
+group_refused room inner before middle at stop k less is = atom_refused group_part 0 1 (λ spot w. grouped spot w.0 w.1) (λ spot w. grouped_tokens spot w.0 w.1) (λ spot w place. grouped_lies spot w.0 w.1 place)
     (λ n spot ts. closed_once (read_items n 1 ts) (read_sign 1) (λ w. grouped spot w.0 w.1)) room inner before middle at stop k less is
 
 pub list_refused : (room inner : ℕ) (before middle : List Token) (at : Pos) (stop : Stop) → Taken (Sign 2) before at middle → room ≤ suc inner → Refused (closed (items_part 3) 3) inner middle stop → Refused atom_part room before stop
-list_refused room inner before middle at stop k less is = atom_refused (items_part 3) 2 3 (λ spot w. list spot w.0 w.1) (λ spot w. refl) (λ spot w. one_more (items_depth w.0))
+list_refused room inner before middle at stop k less is = atom_refused (items_part 3) 2 3 (λ spot w. list spot w.0 w.1) (λ spot w. refl) (λ spot w place. refl)
     (λ n spot ts. closed_once (read_items n 3 ts) (read_sign 3) (λ w. list spot w.0 w.1)) room inner before middle at stop k less is
 
 pub dict_refused : (room inner : ℕ) (before middle : List Token) (at : Pos) (stop : Stop) → Taken (Sign 4) before at middle → room ≤ suc inner → Refused (closed pairs_part 5) inner middle stop → Refused atom_part room before stop
-dict_refused room inner before middle at stop k less is = atom_refused pairs_part 4 5 (λ spot w. dict spot w.0 w.1) (λ spot w. refl) (λ spot w. one_more (pairs_depth w.0))
+dict_refused room inner before middle at stop k less is = atom_refused pairs_part 4 5 (λ spot w. dict spot w.0 w.1) (λ spot w. refl) (λ spot w place. refl)
     (λ n spot ts. closed_once (read_pairs n ts) (read_sign 5) (λ w. dict spot w.0 w.1)) room inner before middle at stop k less is
 
 -- ---- what round brackets group
 
-pub group_none : (room : ℕ) (before after : List Token) (at closing : Pos) (part : Part) → Taken (Sign 1) before closing after → expr_of part.expr ≡ tuple_expr at end_exprs → part.height ≡ 1 → is_none part.wrong ≡ false
-    → FoundClosed group_part 1 (group_tree at) (λ i. suc (group_depth i)) (λ _. false) room before part after
-group_none room before after at closing part k tree height form = closed_of group_part 1 (group_tree at) (λ i. suc (group_depth i)) (λ _. false) room before before after closing part no_items refl k tree height form (omega arith)
+pub group_none : (room : ℕ) (before after : List Token) (at closing : Pos) (part : Part) → Taken (Sign 1) before closing after → expr_of part.expr ≡ tuple_expr at end_exprs → part.height ≡ 1 → part.deepest ≡ at → is_none part.wrong ≡ false
+    → FoundClosed group_part 1 (group_tree at) (λ i. suc (group_depth i)) (λ i. IsDeepestIn at (group_lies i) (group_depth i)) (λ _. false) room before part after
+group_none room before after at closing part k tree height deepest form = closed_of group_part 1 (group_tree at) (λ i. suc (group_depth i)) (λ i. IsDeepestIn at (group_lies i) (group_depth i)) (λ _. false) room before before after closing part no_items refl k tree height (alone_here (is_place at part.deepest) (is_here at part.deepest (sym deepest))) form (omega arith)
 
-pub group_some : (room : ℕ) (before middle after : List Token) (at closing : Pos) (inside part : Part) → FoundRow room before inside middle → Taken (Sign 1) middle closing after → expr_of part.expr ≡ expr_of inside.expr → part.height ≡ suc inside.height
-    → is_none part.wrong ≡ false → FoundClosed group_part 1 (group_tree at) (λ i. suc (group_depth i)) (λ _. false) room before part after
-group_some room before middle after at closing inside part r k tree height form = closed_of group_part 1 (group_tree at) (λ i. suc (group_depth i)) (λ _. false) room before middle after closing part (items r.written) r.before_is k
-    (tree ∙ r.tree_is) (height ∙ ap suc r.height_is) form (let fits = r.fits in let is = r.height_is in omega (arith, fits, is))
+pub group_some : (room : ℕ) (before middle after : List Token) (at closing : Pos) (inside part : Part) → FoundRow room before inside middle → Taken (Sign 1) middle closing after → expr_of part.expr ≡ expr_of inside.expr → part.height ≡ suc inside.height → part.deepest ≡ inside.deepest
+    → is_none part.wrong ≡ false → FoundClosed group_part 1 (group_tree at) (λ i. suc (group_depth i)) (λ i. IsDeepestIn at (group_lies i) (group_depth i)) (λ _. false) room before part after
+group_some room before middle after at closing inside part r k tree height deepest form = closed_of group_part 1 (group_tree at) (λ i. suc (group_depth i)) (λ i. IsDeepestIn at (group_lies i) (group_depth i)) (λ _. false) room before middle after closing part (items r.written) r.before_is k
+    (tree ∙ r.tree_is) (height ∙ ap suc r.height_is)
+    (over_is (is_place at part.deepest) (exprs_lies r.written part.deepest) (exprs_depth r.written) (ap (exprs_lies r.written) deepest ∙ r.deepest_is) (exprs_above r.written)) form (let fits = r.fits in let is = r.height_is in omega (arith, fits, is))
 
 group_inside : (room : ℕ) (rest : List Token) → is_sign_next 1 rest ≡ false → Inside group_part room exprs_part room [] rest
 group_inside room rest other = record {

@@ -18,6 +18,7 @@ use Rattle.py_grammar.specs.Concrete.{Spot, Exprs, one_expr, several}
 use Rattle.py_grammar.specs.Tokens.{token, exprs_tokens}
 use Rattle.py_grammar.specs.Trees.{expr_tree, exprs_tree}
 use Rattle.py_grammar.specs.Depth.{exprs_depth, one_target_depth}
+use Rattle.py_grammar.specs.Lies.{exprs_lies, one_target_lies}
 use Rattle.py_grammar.specs.Written.{AugSign, add_to, take_from, multiply_by, divide_by, leave_of, OneTarget, named, item, field, one_target, augmented}
 use Rattle.py_grammar.specs.StatementTokens.{one_target_tokens}
 use Rattle.py_grammar.specs.StatementTrees.{aug_op, one_target_tree}
@@ -107,7 +108,7 @@ aug_builds e which spot t is = record {
   no_start = aug_starts which;
   reads = λ n more. aug_reads which e spot n more ∙ ap (option_and_then (λ target. option_map (augmented target which spot) (whole (read_exprs n more)))) is;
   spells = λ v. ap (λ ts. ts ++ (token (Sign (aug_number which)) spot ∷ exprs_tokens v)) (sym (single_spelled e t is));
-  deep = λ v. le-max_right (one_target_depth t) (exprs_depth v);
+  deep = λ v at. le-max_right (one_target_lies t at) (exprs_lies v at);
 }
 
 aug_none : (around : Around) (e : Exprs) (which : AugSign) (spot : Spot) (before after : List Token) (left : ℕ) → single_target e ≡ None → left ≡ length after → before ≡ exprs_tokens e ++ token (Sign (aug_number which)) spot ∷ after

@@ -1,7 +1,7 @@
 -- Operators of one level in a row, as in `a or b or c`, for all such levels alike: what is read of them, and how they are refused.
-use Rattle.std.proofs.Common.{◌≡◌, ℕ, suc, ◌+◌, max, ◌≤◌, ◌<◌, false, List, [], ◌∷◌, ◌++◌, is_none, ap, sym, ◌∙◌, subst, arith, append_assoc}
+use Rattle.std.proofs.Common.{◌≡◌, ℕ, suc, ◌+◌, max, ◌≤◌, ◌<◌, false, List, [], ◌∷◌, ◌++◌, is_none, ap, sym, ◌∙◌, arith, append_assoc}
 use Rattle.std.specs.Bool.{⊤}
-use Rattle.std.proofs.Math.Nat.{le-max_left, le-max_right}
+use Rattle.prov_base.specs.declared.place.Pos.{Pos}
 use Rattle.std.proofs.lemmas.List.{append-nil}
 use Rattle.py_lines.specs.declared.parts.Token.{Token}
 use Rattle.py_tree.specs.Tree.{ExprTree}
@@ -13,8 +13,9 @@ use Rattle.py_grammar.specs.declared.part.Part.{Part}
 use Rattle.py_grammar.specs.Parsed.{Production, Found, IsDeep, Only, Refused, IsTooDeep}
 use Rattle.py_grammar.specs.Reader.{Read, go_on, kind_level, next_level}
 use Rattle.py_grammar.proofs.Leading.{Leads}
-use Rattle.py_grammar.proofs.Refusals.{Inside, finds_first, finds_lead, finds_same, finds_anything, deeper, refused_inside, refused_same, one_behind, full, over_both, fits_above}
-use Rattle.py_grammar.proofs.Stops.{some_spot}
+use Rattle.py_grammar.proofs.Refusals.{Inside, finds_first, finds_lead, finds_same, finds_anything, deeper, deep_same, refused_inside, refused_same, one_behind, full, over_both, fits_above}
+use Rattle.py_grammar.specs.Lies.{begins, over, deeper_of}
+use Rattle.py_grammar.proofs.Lying.{deepest_node, over_left, over_right}
 
 -- A level `p` of operators over the level `q`: one of `q`, or one of `p`, an operator and one of `q`.
 pub record Chain {C S O : Type 0} (p : Production C) (q : Production S) (tree : C → ExprTree) (part_tree : S → ExprTree) (level : ℕ) (one : S → C) (next : C → O → S → C) (token_of : O → Token)
@@ -25,11 +26,16 @@ pub record Chain {C S O : Type 0} (p : Production C) (q : Production S) (tree : 
   pub tokens_next : (left : C) (o : O) (s : S) → p.tokens (next left o s) ≡ p.tokens left ++ token_of o ∷ q.tokens s
   pub depth_one : (s : S) → p.depth (one s) ≡ q.depth s
   pub depth_next : (left : C) (o : O) (s : S) → p.depth (next left o s) ≡ 1 + max (p.depth left) (q.depth s)
+  pub lies_one : (s : S) (at : Pos) → p.lies (one s) at ≡ q.lies s at
+  pub lies_next : (left : C) (o : O) (s : S) (at : Pos) → p.lies (next left o s) at ≡ over (begins (p.tokens left) at) (max (p.lies left at) (q.lies s at))
+  pub low : (c : C) (at : Pos) → p.lies c at ≤ p.depth c
+  pub part_low : (s : S) (at : Pos) → q.lies s at ≤ q.depth s
+  pub some_depth : (c : C) → 1 ≤ p.depth c
   pub tree_one : (s : S) → tree (one s) ≡ part_tree s
   pub tree_next : (left : C) (o : O) (s : S) → tree (next left o s) ≡ node o (tree left) (part_tree s)
   pub form_one : (s : S) → p.form (one s) ≡ q.form s
   pub form_next : (left : C) (o : O) (s : S) → p.form (next left o s) ≡ false
-  pub rest_deep : (stop : Stop) (room n : ℕ) (left : C) (ts : List Token) → IsDeep stop room (p.depth left) → Only (λ c. IsDeep stop room (p.depth c)) (rest n left ts)
+  pub rest_deep : (stop : Stop) (room n : ℕ) (left : C) (ts : List Token) → IsDeep stop room (p.lies left) → Only (λ c. IsDeep stop room (p.lies c)) (rest n left ts)
   pub leads : (c : C) → Leads p.read rest level (p.tokens c) c
   pub above : (o : O) → level < kind_level (token_of o).kind
 
@@ -43,27 +49,32 @@ module _ {C S O : Type 0} (p : Production C) (q : Production S) (tree : C → Ex
     before_is = f.before_is ∙ ap (λ ts. ts ++ after) (sym (chain.tokens_one f.written));
     tree_is = f.tree_is ∙ sym (chain.tree_one f.written);
     height_is = f.height_is ∙ sym (chain.depth_one f.written);
+    deepest_is = chain.lies_one f.written part.deepest ∙ f.deepest_is ∙ sym (chain.depth_one f.written);
     form_is = f.form_is ∙ sym (chain.form_one f.written);
     fits = f.fits;
     beyond = f.beyond;
   }
 
   pub next_found : (room inner : ℕ) (before middle behind after : List Token) (o : O) (left right part : Part) → Found p tree level room before left middle → middle ≡ token_of o ∷ behind → left.height < room → inner < room
-      → Found q part_tree level inner behind right after → expr_of part.expr ≡ node o (expr_of left.expr) (expr_of right.expr) → part.height ≡ suc (max left.height right.height) → is_none part.wrong ≡ false
+      → Found q part_tree level inner behind right after → expr_of part.expr ≡ node o (expr_of left.expr) (expr_of right.expr) → part.height ≡ suc (max left.height right.height) → part.deepest ≡ deeper_of left.height left.deepest right.height right.deepest → is_none part.wrong ≡ false
       → Found p tree level room before part after
-  next_found room inner before middle behind after o left right part l taken less smaller r tree_is height other = record {
+  next_found room inner before middle behind after o left right part l taken less smaller r tree_is height deepest other = record {
     written = next l.written o r.written;
     before_is = l.before_is ∙ ap (λ ts. p.tokens l.written ++ ts) (taken ∙ ap (λ ts. token_of o ∷ ts) r.before_is) ∙ sym (append_assoc (p.tokens l.written) (token_of o ∷ q.tokens r.written) after)
         ∙ ap (λ ts. ts ++ after) (sym (chain.tokens_next l.written o r.written));
     tree_is = tree_is ∙ ap (λ e. node o e (expr_of right.expr)) l.tree_is ∙ ap (node o (tree l.written)) r.tree_is ∙ sym (chain.tree_next l.written o r.written);
     height_is = height ∙ over_both _ _ _ _ l.height_is r.height_is ∙ sym (chain.depth_next l.written o r.written);
+    deepest_is = chain.lies_next l.written o r.written part.deepest
+        ∙ deepest_node (begins (p.tokens l.written) part.deepest) (p.lies l.written) (q.lies r.written) left.height right.height (p.depth l.written) (q.depth r.written) left.deepest right.deepest part.deepest deepest l.height_is r.height_is l.deepest_is r.deepest_is
+        (chain.low l.written) (chain.part_low r.written) (chain.some_depth l.written)
+        ∙ sym (chain.depth_next l.written o r.written);
     form_is = other ∙ sym (chain.form_next l.written o r.written);
     fits = let small = r.fits in fits_above room left.height right.height part.height height less (omega (arith, small, smaller));
     beyond = r.beyond;
   }
 
   pub last_found : (higher room : ℕ) (before after : List Token) (part : Part) → Found p tree level room before part after → higher < next_level after → Found p tree higher room before part after
-  last_found higher room before after part f beyond = record { written = f.written; before_is = f.before_is; tree_is = f.tree_is; height_is = f.height_is; form_is = f.form_is; fits = f.fits; beyond = beyond }
+  last_found higher room before after part f beyond = record { written = f.written; before_is = f.before_is; tree_is = f.tree_is; height_is = f.height_is; deepest_is = f.deepest_is; form_is = f.form_is; fits = f.fits; beyond = beyond }
 
   -- ---- what is refused
 
@@ -71,7 +82,7 @@ module _ {C S O : Type 0} (p : Production C) (q : Production S) (tree : C → Ex
   starts_inside room behind = record {
     begins = λ b. record { some = one b; more = []; tokens_are = chain.tokens_one b ∙ sym (append-nil (q.tokens b)) };
     finds = λ stop more first finds. finds_first _ _ p.read q.read (λ n s ts. rest n (one s) ts) more more (λ n. chain.read_is n more)
-        (λ n b ts deep. chain.rest_deep stop room n (one b) ts (subst (IsDeep stop room) (sym (chain.depth_one b)) deep)) finds;
+        (λ n b ts deep. chain.rest_deep stop room n (one b) ts (deep_same stop room (q.lies b) (p.lies (one b)) (λ at. sym (chain.lies_one b at)) deep)) finds;
   }
 
   pub first_refused : (room : ℕ) (before : List Token) (stop : Stop) → Refused q room before stop → Refused p room before stop
@@ -83,8 +94,8 @@ module _ {C S O : Type 0} (p : Production C) (q : Production S) (tree : C → Ex
     finds = λ stop more first finds. finds_same _ p.read _ _ (append_assoc (p.tokens left) (token_of o ∷ []) more)
         (finds_lead _ p.read rest level (p.tokens left) left (token_of o ∷ more) (chain.leads left) (chain.above o)
         (finds_first _ _ (λ n ts. rest n left ts) q.read (λ n s ts. rest n (next left o s) ts) (token_of o ∷ more) more (λ n. chain.step_is n left o more)
-        (λ n b ts deep. chain.rest_deep stop room n (next left o b) ts (deeper stop inner (q.depth b) room _ deep
-        (let high = le-max_right (p.depth left) (q.depth b) in let is = chain.depth_next left o b in omega (arith, high, less, is))))
+        (λ n b ts deep. chain.rest_deep stop room n (next left o b) ts (deeper stop inner (q.lies b) room (p.lies (next left o b)) deep
+        (λ at some. let more_deep = over_right (begins (p.tokens left) at) (p.lies left at) (q.lies b at) some in let is = chain.lies_next left o b at in omega (arith, more_deep, less, is))))
         finds));
   }
 
@@ -94,12 +105,14 @@ module _ {C S O : Type 0} (p : Production C) (q : Production S) (tree : C → Ex
       refused_same p room _ _ stop (l.before_is ∙ ap (λ ts. p.tokens l.written ++ ts) taken ∙ sym (append_assoc (p.tokens l.written) (token_of o ∷ []) behind))
       (refused_inside p room q inner (p.tokens l.written ++ token_of o ∷ []) behind stop (goes_on_inside room inner l.written o behind less) is)
 
-  pub too_deep : (room : ℕ) (before middle behind : List Token) (o : O) (left : Part) (stop : Stop) → Found p tree level room before left middle → middle ≡ token_of o ∷ behind → IsTooDeep left.height room stop
+  pub too_deep : (room : ℕ) (before middle behind : List Token) (o : O) (left : Part) (stop : Stop) → Found p tree level room before left middle → middle ≡ token_of o ∷ behind → IsTooDeep left.height left.deepest room stop
       → Refused p room before stop
-  too_deep room before middle behind o left stop l taken deep = full p room before (p.tokens l.written) (token_of o) behind left.height stop deep
+  too_deep room before middle behind o left stop l taken deep = full p room before (p.tokens l.written) (token_of o) behind left.height left.deepest stop deep
       (l.before_is ∙ ap (λ ts. p.tokens l.written ++ ts) taken) (record { some = l.written; more = []; tokens_are = sym (append-nil (p.tokens l.written)) })
       (λ more. finds_lead _ p.read rest level (p.tokens l.written) l.written (token_of o ∷ more) (chain.leads l.written) (chain.above o)
       (finds_first (λ s. ⊤) _ (λ n ts. rest n l.written ts) q.read (λ n s ts. rest n (next l.written o s) ts) (token_of o ∷ more) more (λ n. chain.step_is n l.written o more)
-      (λ n b ts any. chain.rest_deep (Here (TooDeep some_spot.at)) left.height n (next l.written o b) ts
-      (let high = le-max_left (p.depth l.written) (q.depth b) in let is = l.height_is in let deep_is = chain.depth_next l.written o b in omega (arith, high, is, deep_is)))
+      (λ n b ts any. chain.rest_deep (Here (TooDeep left.deepest)) left.height n (next l.written o b) ts
+      (let is = l.height_is in let there = l.deepest_is in let some = chain.some_depth l.written in
+      let more_deep = over_left (begins (p.tokens l.written) left.deepest) (p.lies l.written left.deepest) (q.lies b left.deepest) (omega (arith, there, some)) in
+      let next_is = chain.lies_next l.written o b left.deepest in omega (arith, more_deep, is, there, next_is)))
       (finds_anything q.read more)))

@@ -1,7 +1,6 @@
 -- Conditionals: what is read of them, and how they are refused.
 use Rattle.std.proofs.Common.{◌≡◌, ℕ, zero, suc, ◌+◌, max, ◌≤◌, ◌<◌, false, List, [], ◌∷◌, ◌++◌, Some, is_none, refl, ap, sym, ◌∙◌, arith, append_assoc}
 use Rattle.std.specs.Prelude.{◌==◌}
-use Rattle.std.proofs.Math.Nat.{le-max_left, le-max_right}
 use Rattle.std.proofs.lemmas.List.{append-nil}
 use Rattle.prov_base.specs.declared.place.Pos.{Pos}
 use Rattle.py_lines.specs.declared.parts.Token.{Token}
@@ -16,12 +15,14 @@ use Rattle.py_grammar.specs.Concrete.{Spot, Expr, plain_expr, choice, Or, plain_
 use Rattle.py_grammar.specs.Tokens.{token, expr_tokens, or_tokens}
 use Rattle.py_grammar.specs.Trees.{expr_tree, or_tree}
 use Rattle.py_grammar.specs.Depth.{expr_depth, or_depth}
+use Rattle.py_grammar.specs.Lies.{begins, deeper_of, expr_lies, or_lies}
+use Rattle.py_grammar.proofs.Lying.{deepest_here, deepest_node, above_left, both_low, expr_low, or_low, or_above}
 use Rattle.py_grammar.specs.Reader.{Read, go_on, next_level, read_keyword, read_expr, choice_rest, read_or}
 use Rattle.py_grammar.specs.Parsed.{expr_part, or_part, one_keyword, Taken, Found, IsDeep, Only, Refused, IsTooDeep, is_keyword_next}
 use Rattle.py_grammar.proofs.Leading.{Reads}
 use Rattle.py_grammar.proofs.Reading.{or_leads, or_stops}
 use Rattle.py_grammar.proofs.Levels.{beyond_if}
-use Rattle.py_grammar.proofs.Refusals.{Inside, only_any, only_if, finds_first, finds_behind, finds_after, finds_now, finds_anything, finds_same, deeper, refused_inside, refused_same, full, two_behind, one_between, last_behind, next_level_same, max_below}
+use Rattle.py_grammar.proofs.Refusals.{Inside, only_any, only_if, finds_first, finds_behind, finds_after, finds_now, finds_anything, finds_same, deep_left, deep_right, deep_beside_left, deep_beside_right, refused_inside, refused_same, full, two_behind, one_between, last_behind, next_level_same, max_below}
 use Rattle.py_grammar.proofs.Stops.{some_spot}
 
 -- an expression, where any will do
@@ -34,8 +35,8 @@ reads_or e = or_stops e (or_leads e)
 -- ---- what is read
 
 pub expr_one : (room : ℕ) (before after : List Token) (part : Part) → Found or_part or_tree 6 room before part after → is_keyword_next 20 after ≡ false → Found expr_part expr_tree 7 room before part after
-expr_one room before [] part f other = record { written = plain_expr f.written; before_is = f.before_is; tree_is = f.tree_is; height_is = f.height_is; form_is = f.form_is; fits = f.fits; beyond = omega arith }
-expr_one room before (t ∷ ts) part f other = record { written = plain_expr f.written; before_is = f.before_is; tree_is = f.tree_is; height_is = f.height_is; form_is = f.form_is; fits = f.fits; beyond = beyond_if t.kind f.beyond other }
+expr_one room before [] part f other = record { written = plain_expr f.written; before_is = f.before_is; tree_is = f.tree_is; height_is = f.height_is; deepest_is = f.deepest_is; form_is = f.form_is; fits = f.fits; beyond = omega arith }
+expr_one room before (t ∷ ts) part f other = record { written = plain_expr f.written; before_is = f.before_is; tree_is = f.tree_is; height_is = f.height_is; deepest_is = f.deepest_is; form_is = f.form_is; fits = f.fits; beyond = beyond_if t.kind f.beyond other }
 
 higher : (a b c d e f room height : ℕ) → height ≡ suc (max a (max b c)) → a ≡ d → b ≡ e → c ≡ f → a < room → b < room → c < room → (height ≡ 1 + max d (max e f)) × (height ≤ room)
 higher a b c d e f room height is one two three low_1 low_2 low_3 =
@@ -51,8 +52,9 @@ higher a b c d e f room height is one two three low_1 low_2 low_3 =
 pub expr_choice : (room inner : ℕ) (before middle_1 behind_1 middle_2 behind_2 after : List Token) (at else_at : Pos) (chosen test other part : Part)
     → Found or_part or_tree 6 room before chosen middle_1 → Taken (Keyword 20) middle_1 at behind_1 → chosen.height < room → inner < room → Found or_part or_tree 6 inner behind_1 test middle_2 → Taken (Keyword 14) middle_2 else_at behind_2
     → Found expr_part expr_tree 7 inner behind_2 other after → expr_of part.expr ≡ choose_expr at (expr_of test.expr) (expr_of chosen.expr) (expr_of other.expr)
-    → part.height ≡ suc (max chosen.height (max test.height other.height)) → is_none part.wrong ≡ false → Found expr_part expr_tree 7 room before part after
-expr_choice room inner before middle_1 behind_1 middle_2 behind_2 after at else_at chosen test other part c i less smaller t e o tree height wrong =
+    → part.height ≡ suc (max chosen.height (max test.height other.height))
+    → part.deepest ≡ deeper_of chosen.height chosen.deepest (max test.height other.height) (deeper_of test.height test.deepest other.height other.deepest) → is_none part.wrong ≡ false → Found expr_part expr_tree 7 room before part after
+expr_choice room inner before middle_1 behind_1 middle_2 behind_2 after at else_at chosen test other part c i less smaller t e o tree height deepest wrong =
     let low_2 = t.fits in
     let low_3 = o.fits in
     let heights = higher chosen.height test.height other.height _ _ _ room part.height height c.height_is t.height_is o.height_is less (omega (arith, low_2, smaller)) (omega (arith, low_3, smaller)) in
@@ -64,6 +66,11 @@ expr_choice room inner before middle_1 behind_1 middle_2 behind_2 after at else_
       tree_is = tree ∙ ap (λ a. choose_expr a (expr_of test.expr) (expr_of chosen.expr) (expr_of other.expr)) (sym i.at_is) ∙ ap (λ x. choose_expr i.spot.at x (expr_of chosen.expr) (expr_of other.expr)) t.tree_is
           ∙ ap (λ x. choose_expr i.spot.at (or_tree t.written) x (expr_of other.expr)) c.tree_is ∙ ap (choose_expr i.spot.at (or_tree t.written) (or_tree c.written)) o.tree_is;
       height_is = heights.0;
+      deepest_is = deepest_node (begins (or_tokens c.written) part.deepest) (or_lies c.written) (λ at. max (or_lies t.written at) (expr_lies o.written at)) chosen.height (max test.height other.height) (or_depth c.written) (max (or_depth t.written) (expr_depth o.written))
+          chosen.deepest (deeper_of test.height test.deepest other.height other.deepest) part.deepest deepest c.height_is (ap (λ h. max h other.height) t.height_is ∙ ap (max (or_depth t.written)) o.height_is) c.deepest_is
+          (deepest_here (or_lies t.written) (expr_lies o.written) test.height other.height (or_depth t.written) (expr_depth o.written) test.deepest other.deepest (deeper_of test.height test.deepest other.height other.deepest) refl
+          t.height_is o.height_is t.deepest_is o.deepest_is (or_low t.written) (expr_low o.written))
+          (or_low c.written) (λ at. both_low _ _ _ _ (or_low t.written at) (expr_low o.written at)) (or_above c.written);
       form_is = wrong;
       fits = heights.1;
       beyond = o.beyond;
@@ -72,7 +79,7 @@ expr_choice room inner before middle_1 behind_1 middle_2 behind_2 after at else_
 -- ---- what is refused
 
 -- what has no depth is not too deep
-pub no_depth : {P : Type 0} (stop : Stop) → IsDeep stop 0 0 → P
+pub no_depth : {P : Type 0} (stop : Stop) → IsDeep stop 0 (λ at. 0) → P
 no_depth (Here (TooDeep at)) deep = absurd (omega (arith, deep))
 no_depth (Here (Unexpected at)) deep = absurd deep
 no_depth (Here (TooMany at)) deep = absurd deep
@@ -83,11 +90,11 @@ no_depth End deep = absurd deep
 abbrev after_test : Or → Spot → ℕ → Or → List Token → Read Expr
 after_test chosen if_word n test ts = go_on (read_keyword 14 ts) (λ else_word more. go_on (read_expr n more) (λ other rest. Some (choice chosen if_word test else_word other, rest)))
 
-choice_deep : (stop : Stop) (room n : ℕ) (chosen : Or) (ts : List Token) → IsDeep stop room (or_depth chosen) → Only (λ e. IsDeep stop room (expr_depth e)) (choice_rest n chosen ts)
+choice_deep : (stop : Stop) (room n : ℕ) (chosen : Or) (ts : List Token) → IsDeep stop room (or_lies chosen) → Only (λ e. IsDeep stop room (expr_lies e)) (choice_rest n chosen ts)
 choice_deep stop room zero chosen ts deep = tt
 choice_deep stop room (suc n) chosen ts deep = only_if _ (next_level ts == 7) _ _
     (only_any _ (read_keyword 20 ts) _ (λ if_word more. only_any _ (read_or n more) _ (λ test more_2. only_any _ (read_keyword 14 more_2) _ (λ else_word more_3. only_any _ (read_expr n more_3) _
-    (λ other rest. deeper stop room (or_depth chosen) room _ deep (let high = le-max_left (or_depth chosen) (max (or_depth test) (expr_depth other)) in omega (arith, high)))))))
+    (λ other rest. deep_left stop room (begins (or_tokens chosen)) (or_lies chosen) (λ at. max (or_lies test at) (expr_lies other at)) deep)))))
     deep
 
 chosen_inside : (room : ℕ) (behind : List Token) → Inside expr_part room or_part room [] behind
@@ -99,14 +106,14 @@ chosen_inside room behind = record {
 pub chosen_refused : (room : ℕ) (before : List Token) (stop : Stop) → Refused or_part room before stop → Refused expr_part room before stop
 chosen_refused room before stop is = refused_inside expr_part room or_part room [] before stop (chosen_inside room before) is
 
-pub choice_full : (room : ℕ) (before middle behind : List Token) (at : Pos) (chosen : Part) (stop : Stop) → Found or_part or_tree 6 room before chosen middle → Taken (Keyword 20) middle at behind → IsTooDeep chosen.height room stop
+pub choice_full : (room : ℕ) (before middle behind : List Token) (at : Pos) (chosen : Part) (stop : Stop) → Found or_part or_tree 6 room before chosen middle → Taken (Keyword 20) middle at behind → IsTooDeep chosen.height chosen.deepest room stop
     → Refused expr_part room before stop
-choice_full room before middle behind at chosen stop c i deep = full expr_part room before (or_tokens c.written) (token (Keyword 20) i.spot) behind chosen.height stop deep
+choice_full room before middle behind at chosen stop c i deep = full expr_part room before (or_tokens c.written) (token (Keyword 20) i.spot) behind chosen.height chosen.deepest stop deep
     (c.before_is ∙ ap (λ ts. or_tokens c.written ++ ts) i.before_is) (record { some = plain_expr c.written; more = []; tokens_are = sym (append-nil (or_tokens c.written)) })
     (λ more. finds_behind _ read_expr read_or choice_rest 6 (or_tokens c.written) c.written (token (Keyword 20) i.spot ∷ more) (λ n. refl) (reads_or c.written) (omega arith)
     (finds_first _ _ (λ n ts. choice_rest n c.written ts) read_or (after_test c.written i.spot) (token (Keyword 20) i.spot ∷ more) more (λ n. refl)
     (λ n test ts any. only_any _ (read_keyword 14 ts) _ (λ else_word more_3. only_any _ (read_expr n more_3) _
-    (λ other rest. let high = le-max_left (or_depth c.written) (max (or_depth test) (expr_depth other)) in let is = c.height_is in omega (arith, high, is))))
+    (λ other rest. above_left (begins (or_tokens c.written) chosen.deepest) (or_lies c.written chosen.deepest) (max (or_lies test chosen.deepest) (expr_lies other chosen.deepest)) chosen.height (or_depth c.written) c.height_is c.deepest_is (or_above c.written))))
     (finds_anything read_or more)))
 
 test_inside : (room inner : ℕ) (chosen : Or) (spot : Spot) (behind : List Token) → room ≤ suc inner → Inside expr_part room or_part inner (or_tokens chosen ++ token (Keyword 20) spot ∷ []) behind
@@ -116,7 +123,7 @@ test_inside room inner chosen spot behind less = record {
       (finds_behind _ read_expr read_or choice_rest 6 (or_tokens chosen) chosen (token (Keyword 20) spot ∷ more) (λ n. refl) (reads_or chosen) (omega arith)
       (finds_first _ _ (λ n ts. choice_rest n chosen ts) read_or (after_test chosen spot) (token (Keyword 20) spot ∷ more) more (λ n. refl)
       (λ n test ts deep. only_any _ (read_keyword 14 ts) _ (λ else_word more_3. only_any _ (read_expr n more_3) _
-      (λ other rest. deeper stop inner (or_depth test) room _ deep (let far = le-max_right (or_depth chosen) (max (or_depth test) (expr_depth other)) in let near = le-max_left (or_depth test) (expr_depth other) in omega (arith, far, near, less)))))
+      (λ other rest. deep_right stop inner room (begins (or_tokens chosen)) (or_lies chosen) (λ at. max (or_lies test at) (expr_lies other at)) less (deep_beside_left stop inner (or_lies test) (expr_lies other) deep))))
       finds));
 }
 
@@ -152,7 +159,7 @@ other_inside room inner chosen spot test else_word behind less = record {
       (finds_behind _ read_expr read_or choice_rest 6 (or_tokens chosen) chosen (token (Keyword 20) spot ∷ or_tokens test ++ token (Keyword 14) else_word ∷ more) (λ n. refl) (reads_or chosen) (omega arith)
       (finds_after _ (λ n ts. choice_rest n chosen ts) read_or (after_test chosen spot) 6 (token (Keyword 20) spot ∷ or_tokens test ++ token (Keyword 14) else_word ∷ more) (or_tokens test) test (token (Keyword 14) else_word ∷ more) (λ n. refl) (reads_or test) (omega arith)
       (finds_now _ _ (λ n ts. after_test chosen spot n test ts) read_expr (λ n other rest. Some (choice chosen spot test else_word other, rest)) (token (Keyword 14) else_word ∷ more) more (λ n. refl)
-      (λ n other rest deep. deeper stop inner (expr_depth other) room _ deep (let far = le-max_right (or_depth chosen) (max (or_depth test) (expr_depth other)) in let near = le-max_right (or_depth test) (expr_depth other) in omega (arith, far, near, less)))
+      (λ n other rest deep. deep_right stop inner room (begins (or_tokens chosen)) (or_lies chosen) (λ at. max (or_lies test at) (expr_lies other at)) less (deep_beside_right stop inner (or_lies test) (expr_lies other) deep))
       finds)));
 }
 

@@ -25,7 +25,7 @@ pub first_same : (ts us : List Token) → first_of ts ≡ first_of us → first_
 first_same ts us is = first_is ts ∙ is ∙ sym (first_is us)
 
 -- a token is never too deep
-pub not_deep : (stop : Stop) → IsDeep stop 0 0 → ⊥
+pub not_deep : (stop : Stop) → IsDeep stop 0 (λ at. 0) → ⊥
 not_deep (Here (TooDeep at)) deep = omega (arith, deep)
 not_deep (Here (Unexpected at)) deep = deep
 not_deep (Here (TooMany at)) deep = deep
@@ -68,14 +68,15 @@ closed_last p closing room a before middle stop before_is is refused =
 
 -- ---- both are read
 
-pub closed_of : {A : Type 0} (p : Production A) (closing : ℕ) (tree : A → ExprTree) (height : A → ℕ) (form : A → Bool) (room : ℕ) (before middle after : List Token) (at : Pos) (part : Part) (a : A) → before ≡ p.tokens a ++ middle
-    → Taken (Sign closing) middle at after → expr_of part.expr ≡ tree a → part.height ≡ height a → is_none part.wrong ≡ form a → p.depth a ≤ room → FoundClosed p closing tree height form room before part after
-closed_of p closing tree height form room before middle after at part a before_is k tree_is height_is form_is fits = record {
+pub closed_of : {A : Type 0} (p : Production A) (closing : ℕ) (tree : A → ExprTree) (height : A → ℕ) (deepest : A → Pos → Type 0) (form : A → Bool) (room : ℕ) (before middle after : List Token) (at : Pos) (part : Part) (a : A) → before ≡ p.tokens a ++ middle
+    → Taken (Sign closing) middle at after → expr_of part.expr ≡ tree a → part.height ≡ height a → deepest a part.deepest → is_none part.wrong ≡ form a → p.depth a ≤ room → FoundClosed p closing tree height deepest form room before part after
+closed_of p closing tree height deepest form room before middle after at part a before_is k tree_is height_is deepest_is form_is fits = record {
   written = a;
   spot = k.spot;
   before_is = before_is ∙ ap (λ ts. p.tokens a ++ ts) k.before_is;
   tree_is = tree_is;
   height_is = height_is;
+  deepest_is = deepest_is;
   form_is = form_is;
   fits = fits;
 }

@@ -1,6 +1,5 @@
 -- The `:` of a line and what stands behind it: what is read there, and how it is refused.
 use Rattle.std.proofs.Common.{◌≡◌, inl, inr, ℕ, ◌+◌, ◌≤◌, max, Bool, true, false, List, [], ◌∷◌, ◌++◌, Option, Some, None, option_map, is_some, refl, ap, sym, ◌∙◌, arith, subst, append_assoc, if◌then◌else◌}
-use Rattle.std.proofs.Math.Nat.{le-max_right}
 use Rattle.std.proofs.lemmas.List.{append_cancel_left}
 use Rattle.std.proofs.lemmas.Option.{same_Some}
 use Rattle.py_lines.specs.declared.parts.Token.{Token}
@@ -14,7 +13,6 @@ use Rattle.py_grammar.specs.declared.head.What.{What}
 use Rattle.py_grammar.specs.declared.head.LineHead.{LineHead}
 use Rattle.py_grammar.specs.Concrete.{Spot}
 use Rattle.py_grammar.specs.Tokens.{token, word as word_tokens, expr_tokens}
-use Rattle.py_grammar.specs.Depth.{simple_depth}
 use Rattle.py_grammar.specs.Written.{Simple, del, named}
 use Rattle.py_grammar.specs.StatementTokens.{simple_tokens}
 use Rattle.py_grammar.specs.LineReader.{Head, behind_tokens, head_tokens, then_read, read_colon, read_behind, read_head}
@@ -22,7 +20,7 @@ use Rattle.py_grammar.specs.Reader.{is_sign, spot_of, read_sign}
 use Rattle.py_grammar.specs.Parsed.{Refused, one_sign}
 use Rattle.py_grammar.specs.ParsedRows.{first_token}
 use Rattle.py_grammar.specs.ParsedSimple.{BeginsSimple}
-use Rattle.py_grammar.specs.ParsedHead.{Context, word_may, inner_around, behind_depth, IsBehind, BehindFound, HeadFound, Opening, IsAmissPlaced, IsAmissHead, BeginsHead, ShownBy, EndedBy, BehindRefused, HeadRefused}
+use Rattle.py_grammar.specs.ParsedHead.{Context, word_may, inner_around, behind_depth, IsBehind, BehindFound, HeadFound, Opening, IsAmissPlaced, IsAmissHead, BeginsHead, ShownBy, EndedBy, BehindRefused, HeadRefused, behind_first}
 use Rattle.py_grammar.proofs.Stops.{some_spot}
 use Rattle.py_grammar.proofs.Refusals.{max_below}
 use Rattle.py_grammar.proofs.SimpleParts.{not_deeper}
@@ -97,8 +95,8 @@ shown_some (first ∷ front) t more is = not_nothing first _ is
 amiss_line : (c : Context) (given : List (List ℕ)) (limit : Option Limit) (word : ℕ) (before after : List Token) (what : What) (spot : Spot) → (o : Opening c word before what after) → (stop : Stop) (s : Simple)
     → IsAmissPlaced (inner_around word c.around) limit stop s → IsAmissHead c given limit stop (o.made spot (Some s))
 amiss_line c given limit word before after what spot o (Here (TooDeep at)) s (inl deep) =
-    inl (let is = o.depth_is spot (Some s) in let high = le-max_right o.depth (simple_depth s) in omega (arith, deep, is, high))
-amiss_line c given limit word before after what spot o (Here (TooDeep at)) s (inr passed) = inr (passed, ap is_some (o.behind_is spot (Some s)))
+    inl (let high = o.lies_behind spot s at in omega (arith, deep, high))
+amiss_line c given limit word before after what spot o (Here (TooDeep at)) s (inr passed) = inr (passed.0, subst (λ (b : Option Simple). behind_first b at) (sym (o.behind_is spot (Some s))) passed.1)
 amiss_line c given limit word before after what spot o (Here (TooMany at)) s passed = (passed, ap is_some (o.behind_is spot (Some s)))
 amiss_line c given limit word before after what spot o (Here (Unexpected at)) s amiss = o.stands given spot (Some s) ∙ and_false (word_may c word) _ amiss
 amiss_line c given limit word before after what spot o (Here Memory) s amiss = absurd amiss

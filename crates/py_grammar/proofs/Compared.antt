@@ -1,7 +1,6 @@
 -- Comparisons between operands: what is read of them, and how they are refused.
 use Rattle.std.proofs.Common.{◌≡◌, ℕ, zero, suc, max, ◌≤◌, ◌<◌, Bool, true, false, List, [], ◌∷◌, ◌++◌, is_none, refl, ap, sym, ◌∙◌, arith, append_assoc}
 use Rattle.std.specs.Prelude.{◌==◌, ⊤, nat_lt}
-use Rattle.std.proofs.Math.Nat.{le-max_left, le-max_right}
 use Rattle.std.proofs.lemmas.List.{append-nil}
 use Rattle.std.proofs.lemmas.Bool.{eqb-true, eqb-false, leb-true, leb-false}
 use Rattle.prov_base.specs.declared.place.Pos.{Pos}
@@ -16,12 +15,14 @@ use Rattle.py_grammar.specs.declared.part.Part.{Part}
 use Rattle.py_grammar.specs.Concrete.{Cmp, plain_cmp, compared, Sum, plain_sum, plain_term, plain_unary, Prim, plain_prim, name}
 use Rattle.py_grammar.specs.Tokens.{cmp_tokens, sum_tokens}
 use Rattle.py_grammar.specs.Trees.{cmp_tree, sum_tree, cmp_op, cmp_at}
-use Rattle.py_grammar.specs.Depth.{cmp_depth, sum_depth}
+use Rattle.py_grammar.specs.Depth.{sum_depth}
+use Rattle.py_grammar.specs.Lies.{begins, deeper_of, cmp_lies, sum_lies}
+use Rattle.py_grammar.proofs.Lying.{deepest_node, above_left, sum_low, sum_above}
 use Rattle.py_grammar.specs.Reader.{go_on, next_level, no_second, read_cmp_sign, read_cmp, cmp_rest, read_sum}
 use Rattle.py_grammar.specs.Parsed.{cmp_part, sum_part, one_cmp_sign, TakenCmp, Found, IsAtFirst, IsDeep, Only, Finds, Refused, IsTooDeep}
 use Rattle.py_grammar.proofs.Leading.{Reads}
 use Rattle.py_grammar.proofs.Reading.{if_true, sum_leads, sum_stops, cmp_level}
-use Rattle.py_grammar.proofs.Refusals.{first_of, Inside, only_any, only_if, only_is, finds_first, finds_step, finds_behind, finds_behind_now, first_alike, finds_now, finds_anything, finds_same, deeper, refused_inside, refused_same, full, over_both, fits_above, next_level_same, keyword_next_same}
+use Rattle.py_grammar.proofs.Refusals.{first_of, Inside, only_any, only_if, only_is, finds_first, finds_step, finds_behind, finds_behind_now, first_alike, finds_now, finds_anything, finds_same, deep_left, deep_right, refused_inside, refused_same, full, over_both, fits_above, next_level_same, keyword_next_same}
 use Rattle.py_grammar.proofs.Stops.{some_spot, here}
 use Rattle.py_grammar.proofs.Choices.{no_depth}
 
@@ -34,7 +35,7 @@ reads_sum e = sum_stops e (sum_leads e)
 -- ---- what is read
 
 pub cmp_one : (room : ℕ) (before after : List Token) (part : Part) → Found sum_part sum_tree 3 room before part after → (next_level after == 4) ≡ false → Found cmp_part cmp_tree 4 room before part after
-cmp_one room before after part f other = record { written = plain_cmp f.written; before_is = f.before_is; tree_is = f.tree_is; height_is = f.height_is; form_is = f.form_is; fits = f.fits; beyond = let low = f.beyond in not_equal (next_level after) low other }
+cmp_one room before after part f other = record { written = plain_cmp f.written; before_is = f.before_is; tree_is = f.tree_is; height_is = f.height_is; deepest_is = f.deepest_is; form_is = f.form_is; fits = f.fits; beyond = let low = f.beyond in not_equal (next_level after) low other }
   where
     not_equal : (n : ℕ) → 3 < n → (n == 4) ≡ false → 4 < n
     not_equal n above apart = by (nat_lt 4 n) refl
@@ -44,15 +45,17 @@ cmp_one room before after part f other = record { written = plain_cmp f.written;
         by false is = let low = leb-false 5 n is in absurd (eqb-false n 4 apart (omega (arith, above, low)))
 
 pub cmp_next : (room inner : ℕ) (before middle behind after : List Token) (at : Pos) (op : CmpOp) (left right part : Part) → Found sum_part sum_tree 3 room before left middle → TakenCmp middle at op behind → left.height < room → inner < room
-    → Found sum_part sum_tree 3 inner behind right after → (next_level after == 4) ≡ false → expr_of part.expr ≡ compare_expr at op (expr_of left.expr) (expr_of right.expr) → part.height ≡ suc (max left.height right.height) → is_none part.wrong ≡ false
+    → Found sum_part sum_tree 3 inner behind right after → (next_level after == 4) ≡ false → expr_of part.expr ≡ compare_expr at op (expr_of left.expr) (expr_of right.expr) → part.height ≡ suc (max left.height right.height) → part.deepest ≡ deeper_of left.height left.deepest right.height right.deepest → is_none part.wrong ≡ false
     → Found cmp_part cmp_tree 4 room before part after
-cmp_next room inner before middle behind after at op left right part l k less smaller r apart tree height other = record {
+cmp_next room inner before middle behind after at op left right part l k less smaller r apart tree height deepest other = record {
   written = compared l.written k.which r.written;
   before_is = l.before_is ∙ ap (λ ts. sum_tokens l.written ++ ts) (k.before_is ∙ ap (λ ts. cmp_tokens k.which ++ ts) r.before_is ∙ sym (append_assoc (cmp_tokens k.which) (sum_tokens r.written) after))
       ∙ sym (append_assoc (sum_tokens l.written) (cmp_tokens k.which ++ sum_tokens r.written) after);
   tree_is = tree ∙ ap (λ a. compare_expr a op (expr_of left.expr) (expr_of right.expr)) (sym k.at_is) ∙ ap (λ o. compare_expr (cmp_at k.which) o (expr_of left.expr) (expr_of right.expr)) k.op_is
       ∙ ap (λ e. compare_expr (cmp_at k.which) (cmp_op k.which) e (expr_of right.expr)) l.tree_is ∙ ap (compare_expr (cmp_at k.which) (cmp_op k.which) (sum_tree l.written)) r.tree_is;
   height_is = height ∙ over_both _ _ _ _ l.height_is r.height_is;
+  deepest_is = deepest_node (begins (sum_tokens l.written) part.deepest) (sum_lies l.written) (sum_lies r.written) left.height right.height (sum_depth l.written) (sum_depth r.written) left.deepest right.deepest part.deepest deepest
+      l.height_is r.height_is l.deepest_is r.deepest_is (sum_low l.written) (sum_low r.written) (sum_above l.written);
   form_is = other;
   fits = let small = r.fits in fits_above room left.height right.height part.height height less (omega (arith, small, smaller));
   beyond = (cmp_one inner behind after right r apart).beyond;
@@ -60,14 +63,14 @@ cmp_next room inner before middle behind after at op left right part l k less sm
 
 -- ---- what is refused
 
-no_second_deep : (stop : Stop) (room : ℕ) (e : Cmp) (ts : List Token) → IsDeep stop room (cmp_depth e) → Only (λ c. IsDeep stop room (cmp_depth c)) (no_second e ts)
+no_second_deep : (stop : Stop) (room : ℕ) (e : Cmp) (ts : List Token) → IsDeep stop room (cmp_lies e) → Only (λ c. IsDeep stop room (cmp_lies c)) (no_second e ts)
 no_second_deep stop room e ts deep = only_if _ (next_level ts == 4) _ _ tt deep
 
-cmp_deep : (stop : Stop) (room n : ℕ) (left : Sum) (ts : List Token) → IsDeep stop room (sum_depth left) → Only (λ c. IsDeep stop room (cmp_depth c)) (cmp_rest n left ts)
+cmp_deep : (stop : Stop) (room n : ℕ) (left : Sum) (ts : List Token) → IsDeep stop room (sum_lies left) → Only (λ c. IsDeep stop room (cmp_lies c)) (cmp_rest n left ts)
 cmp_deep stop room zero left ts deep = tt
 cmp_deep stop room (suc n) left ts deep = only_if _ (next_level ts == 4) _ _
     (only_any _ (read_cmp_sign ts) _ (λ op more. only_any _ (read_sum n more) _ (λ right rest. no_second_deep stop room (compared left op right) rest
-    (deeper stop room (sum_depth left) room _ deep (let high = le-max_left (sum_depth left) (sum_depth right) in omega (arith, high))))))
+    (deep_left stop room (begins (sum_tokens left)) (sum_lies left) (sum_lies right) deep))))
     deep
 
 left_inside : (room : ℕ) (behind : List Token) → Inside cmp_part room sum_part room [] behind
@@ -86,13 +89,13 @@ behind_left n left ts level = if_true (next_level ts == 4) _ _ (ap (λ l. l == 4
 at_level : (ts : List Token) → (next_level ts == 4) ≡ true → next_level ts ≡ 4
 at_level ts is = eqb-true (next_level ts) 4 is
 
-pub cmp_full : (room : ℕ) (before middle : List Token) (left : Part) (stop : Stop) → Found sum_part sum_tree 3 room before left middle → (next_level middle == 4) ≡ true → IsTooDeep left.height room stop → Refused cmp_part room before stop
+pub cmp_full : (room : ℕ) (before middle : List Token) (left : Part) (stop : Stop) → Found sum_part sum_tree 3 room before left middle → (next_level middle == 4) ≡ true → IsTooDeep left.height left.deepest room stop → Refused cmp_part room before stop
 cmp_full room before [] left stop l level deep = cc
-cmp_full room before (t ∷ ts) left stop l level deep = full cmp_part room before (sum_tokens l.written) t ts left.height stop deep l.before_is (record { some = plain_cmp l.written; more = []; tokens_are = sym (append-nil (sum_tokens l.written)) })
+cmp_full room before (t ∷ ts) left stop l level deep = full cmp_part room before (sum_tokens l.written) t ts left.height left.deepest stop deep l.before_is (record { some = plain_cmp l.written; more = []; tokens_are = sym (append-nil (sum_tokens l.written)) })
     (λ more. let four = at_level (t ∷ more) level in finds_behind _ read_cmp read_sum cmp_rest 3 (sum_tokens l.written) l.written (t ∷ more) (λ n. refl) (reads_sum l.written) (omega (arith, four))
     (finds_first (λ o. ⊤) _ (λ n us. cmp_rest n l.written us) (λ n us. read_cmp_sign us) (λ n op us. go_on (read_sum n us) (λ right rest. no_second (compared l.written op right) rest)) (t ∷ more) (t ∷ more) (λ n. behind_left n l.written (t ∷ more) four)
-    (λ n op us any. only_any _ (read_sum n us) _ (λ right rest. no_second_deep (Here (TooDeep some_spot.at)) left.height (compared l.written op right) rest
-    (let high = le-max_left (sum_depth l.written) (sum_depth right) in let is = l.height_is in omega (arith, high, is))))
+    (λ n op us any. only_any _ (read_sum n us) _ (λ right rest. no_second_deep (Here (TooDeep left.deepest)) left.height (compared l.written op right) rest
+    (above_left (begins (sum_tokens l.written) left.deepest) (sum_lies l.written left.deepest) (sum_lies right left.deepest) left.height (sum_depth l.written) l.height_is l.deepest_is (sum_above l.written))))
     (finds_anything (λ n us. read_cmp_sign us) (t ∷ more))))
 
 sign_inside : (room : ℕ) (left : Sum) (behind : List Token) → next_level behind ≡ 4 → Inside cmp_part room one_cmp_sign 0 (sum_tokens left) behind
@@ -123,7 +126,7 @@ right_inside room inner left before behind at op k less = record {
   begins = λ b. record { some = compared left k.which b; more = []; tokens_are = sym (append-nil ((sum_tokens left ++ cmp_tokens k.which) ++ sum_tokens b) ∙ append_assoc (sum_tokens left) (cmp_tokens k.which) (sum_tokens b)) };
   finds = λ stop more first finds. finds_same _ read_cmp _ _ (append_assoc (sum_tokens left) (cmp_tokens k.which) more) (behind_sign left before behind at op k more first
       (finds_now _ _ (λ n us. go_on (read_sum n us) (λ right rest. no_second (compared left k.which right) rest)) read_sum (λ n right rest. no_second (compared left k.which right) rest) more more (λ n. refl)
-      (λ n right rest deep. no_second_deep stop room (compared left k.which right) rest (deeper stop inner (sum_depth right) room _ deep (let high = le-max_right (sum_depth left) (sum_depth right) in omega (arith, high, less)))) finds));
+      (λ n right rest deep. no_second_deep stop room (compared left k.which right) rest (deep_right stop inner room (begins (sum_tokens left)) (sum_lies left) (sum_lies right) less deep)) finds));
 }
 
 pub cmp_right_refused : (room inner : ℕ) (before middle behind : List Token) (at : Pos) (op : CmpOp) (left : Part) (stop : Stop) → Found sum_part sum_tree 3 room before left middle → TakenCmp middle at op behind → room ≤ suc inner

@@ -1,7 +1,6 @@
 -- The levels of operators, from `or` down to `*`, as chains.
 use Rattle.std.proofs.Common.{◌≡◌, ℕ, zero, suc, max, ◌≤◌, ◌<◌, false, List, [], ◌∷◌, ◌++◌, None, is_none, refl, ap, sym, ◌∙◌, arith}
 use Rattle.std.specs.Prelude.{◌==◌}
-use Rattle.std.proofs.Math.Nat.{le-max_left}
 use Rattle.prov_base.specs.declared.place.Pos.{Pos}
 use Rattle.py_lines.specs.declared.parts.Token.{Token}
 use Rattle.py_lines.specs.declared.parts.TokenKind.TheVariants.{Keyword, Sign}
@@ -12,23 +11,24 @@ use Rattle.py_tree.specs.Erasure.{expr_of}
 use Rattle.py_grammar.specs.declared.fault.Stop.{Stop}
 use Rattle.py_grammar.specs.declared.part.Part.{Part}
 use Rattle.py_grammar.specs.Concrete.{Spot, AddSign, plus, minus, MulSign, times, floor, modulo, Or, plain_or, or_more, And, plain_and, and_more, Sum, plain_sum, sum_more, Term, plain_term, term_more, Unary}
-use Rattle.py_grammar.specs.Tokens.{token, sign, add_sign, mul_sign}
+use Rattle.py_grammar.specs.Tokens.{token, sign, add_sign, mul_sign, or_tokens, and_tokens, sum_tokens, term_tokens}
 use Rattle.py_grammar.specs.Trees.{or_tree, and_tree, not_tree, sum_tree, term_tree, unary_tree, add_op, mul_op}
-use Rattle.py_grammar.specs.Depth.{or_depth, and_depth, not_depth, sum_depth, term_depth, unary_depth}
+use Rattle.py_grammar.specs.Lies.{begins, deeper_of, or_lies, and_lies, not_lies, sum_lies, term_lies, unary_lies}
+use Rattle.py_grammar.proofs.Lying.{or_low, or_above, and_low, and_above, not_low, sum_low, sum_above, term_low, term_above, unary_low}
 use Rattle.py_grammar.specs.Reader.{go_on, next_level, kind_level, add_sign_of, mul_sign_of, spot_of, read_keyword, or_rest, read_and, and_rest, read_not, sum_rest, read_term, term_rest, read_unary}
 use Rattle.py_grammar.specs.Parsed.{or_part, and_part, not_part, sum_part, term_part, unary_part, Taken, TakenAdd, TakenMul, Found, IsDeep, Only, Refused, IsTooDeep, is_keyword_next, add_sign_next, mul_sign_next}
 use Rattle.py_grammar.proofs.Reading.{or_leads, and_leads, sum_leads, term_leads}
 use Rattle.py_grammar.proofs.Levels.{beyond_or, beyond_and, beyond_sum, beyond_term}
-use Rattle.py_grammar.proofs.Refusals.{only_any, only_if, only_map_or, deeper}
+use Rattle.py_grammar.proofs.Refusals.{only_any, only_if, only_map_or, deep_left}
 use Rattle.py_grammar.proofs.Chains.{Chain, first_found, next_found, last_found, first_refused, next_refused, too_deep}
 
 -- ---- `or`
 
-or_deep : (stop : Stop) (room n : ℕ) (left : Or) (ts : List Token) → IsDeep stop room (or_depth left) → Only (λ e. IsDeep stop room (or_depth e)) (or_rest n left ts)
+or_deep : (stop : Stop) (room n : ℕ) (left : Or) (ts : List Token) → IsDeep stop room (or_lies left) → Only (λ e. IsDeep stop room (or_lies e)) (or_rest n left ts)
 or_deep stop room zero left ts deep = tt
 or_deep stop room (suc n) left ts deep = only_if _ (next_level ts == 6) _ _
     (only_any _ (read_keyword 27 ts) _ (λ at more. only_any _ (read_and n more) _ (λ right rest. or_deep stop room n (or_more left at right) rest
-    (deeper stop room (or_depth left) room _ deep (let high = le-max_left (or_depth left) (and_depth right) in omega (arith, high))))))
+    (deep_left stop room (begins (or_tokens left)) (or_lies left) (and_lies right) deep))))
     deep
 
 abbrev or_node : Spot → ExprTree → ExprTree → ExprTree
@@ -42,6 +42,11 @@ or_chain = record {
   tokens_next = λ left o s. refl;
   depth_one = λ s. refl;
   depth_next = λ left o s. refl;
+  lies_one = λ s at. refl;
+  lies_next = λ left o s at. refl;
+  low = or_low;
+  part_low = and_low;
+  some_depth = or_above;
   tree_one = λ s. refl;
   tree_next = λ left o s. refl;
   form_one = λ s. refl;
@@ -55,7 +60,7 @@ pub or_one : (room : ℕ) (before after : List Token) (part : Part) → Found an
 or_one = first_found or_part and_part or_tree and_tree 5 plain_or or_more (token (Keyword 27)) or_node or_rest or_chain
 
 pub or_next : (room inner : ℕ) (before middle behind after : List Token) (at : Pos) (left right part : Part) → Found or_part or_tree 5 room before left middle → Taken (Keyword 27) middle at behind → left.height < room → inner < room
-    → Found and_part and_tree 5 inner behind right after → expr_of part.expr ≡ logic_expr at Either (expr_of left.expr) (expr_of right.expr) → part.height ≡ suc (max left.height right.height) → is_none part.wrong ≡ false
+    → Found and_part and_tree 5 inner behind right after → expr_of part.expr ≡ logic_expr at Either (expr_of left.expr) (expr_of right.expr) → part.height ≡ suc (max left.height right.height) → part.deepest ≡ deeper_of left.height left.deepest right.height right.deepest → is_none part.wrong ≡ false
     → Found or_part or_tree 5 room before part after
 or_next room inner before middle behind after at left right part l taken less smaller r tree =
     next_found or_part and_part or_tree and_tree 5 plain_or or_more (token (Keyword 27)) or_node or_rest or_chain room inner before middle behind after taken.spot left right part l taken.before_is less smaller r
@@ -73,18 +78,18 @@ pub or_right : (room inner : ℕ) (before middle behind : List Token) (at : Pos)
 or_right room inner before middle behind at left stop l taken =
     next_refused or_part and_part or_tree and_tree 5 plain_or or_more (token (Keyword 27)) or_node or_rest or_chain room inner before middle behind taken.spot left stop l taken.before_is
 
-pub or_full : (room : ℕ) (before middle behind : List Token) (at : Pos) (left : Part) (stop : Stop) → Found or_part or_tree 5 room before left middle → Taken (Keyword 27) middle at behind → IsTooDeep left.height room stop
+pub or_full : (room : ℕ) (before middle behind : List Token) (at : Pos) (left : Part) (stop : Stop) → Found or_part or_tree 5 room before left middle → Taken (Keyword 27) middle at behind → IsTooDeep left.height left.deepest room stop
     → Refused or_part room before stop
 or_full room before middle behind at left stop l taken =
     too_deep or_part and_part or_tree and_tree 5 plain_or or_more (token (Keyword 27)) or_node or_rest or_chain room before middle behind taken.spot left stop l taken.before_is
 
 -- ---- `and`
 
-and_deep : (stop : Stop) (room n : ℕ) (left : And) (ts : List Token) → IsDeep stop room (and_depth left) → Only (λ e. IsDeep stop room (and_depth e)) (and_rest n left ts)
+and_deep : (stop : Stop) (room n : ℕ) (left : And) (ts : List Token) → IsDeep stop room (and_lies left) → Only (λ e. IsDeep stop room (and_lies e)) (and_rest n left ts)
 and_deep stop room zero left ts deep = tt
 and_deep stop room (suc n) left ts deep = only_if _ (next_level ts == 5) _ _
     (only_any _ (read_keyword 3 ts) _ (λ at more. only_any _ (read_not n more) _ (λ right rest. and_deep stop room n (and_more left at right) rest
-    (deeper stop room (and_depth left) room _ deep (let high = le-max_left (and_depth left) (not_depth right) in omega (arith, high))))))
+    (deep_left stop room (begins (and_tokens left)) (and_lies left) (not_lies right) deep))))
     deep
 
 abbrev and_node : Spot → ExprTree → ExprTree → ExprTree
@@ -98,6 +103,11 @@ and_chain = record {
   tokens_next = λ left o s. refl;
   depth_one = λ s. refl;
   depth_next = λ left o s. refl;
+  lies_one = λ s at. refl;
+  lies_next = λ left o s at. refl;
+  low = and_low;
+  part_low = not_low;
+  some_depth = and_above;
   tree_one = λ s. refl;
   tree_next = λ left o s. refl;
   form_one = λ s. refl;
@@ -111,7 +121,7 @@ pub and_one : (room : ℕ) (before after : List Token) (part : Part) → Found n
 and_one = first_found and_part not_part and_tree not_tree 4 plain_and and_more (token (Keyword 3)) and_node and_rest and_chain
 
 pub and_next : (room inner : ℕ) (before middle behind after : List Token) (at : Pos) (left right part : Part) → Found and_part and_tree 4 room before left middle → Taken (Keyword 3) middle at behind → left.height < room → inner < room
-    → Found not_part not_tree 4 inner behind right after → expr_of part.expr ≡ logic_expr at Both (expr_of left.expr) (expr_of right.expr) → part.height ≡ suc (max left.height right.height) → is_none part.wrong ≡ false
+    → Found not_part not_tree 4 inner behind right after → expr_of part.expr ≡ logic_expr at Both (expr_of left.expr) (expr_of right.expr) → part.height ≡ suc (max left.height right.height) → part.deepest ≡ deeper_of left.height left.deepest right.height right.deepest → is_none part.wrong ≡ false
     → Found and_part and_tree 4 room before part after
 and_next room inner before middle behind after at left right part l taken less smaller r tree =
     next_found and_part not_part and_tree not_tree 4 plain_and and_more (token (Keyword 3)) and_node and_rest and_chain room inner before middle behind after taken.spot left right part l taken.before_is less smaller r
@@ -129,19 +139,19 @@ pub and_right : (room inner : ℕ) (before middle behind : List Token) (at : Pos
 and_right room inner before middle behind at left stop l taken =
     next_refused and_part not_part and_tree not_tree 4 plain_and and_more (token (Keyword 3)) and_node and_rest and_chain room inner before middle behind taken.spot left stop l taken.before_is
 
-pub and_full : (room : ℕ) (before middle behind : List Token) (at : Pos) (left : Part) (stop : Stop) → Found and_part and_tree 4 room before left middle → Taken (Keyword 3) middle at behind → IsTooDeep left.height room stop
+pub and_full : (room : ℕ) (before middle behind : List Token) (at : Pos) (left : Part) (stop : Stop) → Found and_part and_tree 4 room before left middle → Taken (Keyword 3) middle at behind → IsTooDeep left.height left.deepest room stop
     → Refused and_part room before stop
 and_full room before middle behind at left stop l taken =
     too_deep and_part not_part and_tree not_tree 4 plain_and and_more (token (Keyword 3)) and_node and_rest and_chain room before middle behind taken.spot left stop l taken.before_is
 
 -- ---- the signs of `sum`
 
-sum_deep : (stop : Stop) (room n : ℕ) (left : Sum) (ts : List Token) → IsDeep stop room (sum_depth left) → Only (λ e. IsDeep stop room (sum_depth e)) (sum_rest n left ts)
+sum_deep : (stop : Stop) (room n : ℕ) (left : Sum) (ts : List Token) → IsDeep stop room (sum_lies left) → Only (λ e. IsDeep stop room (sum_lies e)) (sum_rest n left ts)
 sum_deep stop room zero left ts deep = tt
 sum_deep stop room (suc n) left [] deep = deep
 sum_deep stop room (suc n) left (t ∷ ts) deep = only_map_or _ (add_sign_of t.kind) _ _
     (λ op. only_any _ (read_term n ts) _ (λ right rest. sum_deep stop room n (sum_more left (spot_of t) op right) rest
-    (deeper stop room (sum_depth left) room _ deep (let high = le-max_left (sum_depth left) (term_depth right) in omega (arith, high)))))
+    (deep_left stop room (begins (sum_tokens left)) (sum_lies left) (term_lies right) deep)))
     deep
 
 abbrev sum_next_of : Sum → AddSign × Spot → Term → Sum
@@ -162,6 +172,11 @@ sum_chain = record {
   tokens_next = tokens_next;
   depth_one = λ s. refl;
   depth_next = λ left o s. refl;
+  lies_one = λ s at. refl;
+  lies_next = λ left o s at. refl;
+  low = sum_low;
+  part_low = term_low;
+  some_depth = sum_above;
   tree_one = λ s. refl;
   tree_next = λ left o s. refl;
   form_one = λ s. refl;
@@ -191,7 +206,7 @@ pub sum_one : (room : ℕ) (before after : List Token) (part : Part) → Found t
 sum_one = first_found sum_part term_part sum_tree term_tree 2 plain_sum sum_next_of sum_token sum_node sum_rest sum_chain
 
 pub sum_next : (room inner : ℕ) (before middle behind after : List Token) (at : Pos) (op : BinOp) (left right part : Part) → Found sum_part sum_tree 2 room before left middle → TakenAdd middle at op behind → left.height < room → inner < room
-    → Found term_part term_tree 2 inner behind right after → expr_of part.expr ≡ binary_expr at op (expr_of left.expr) (expr_of right.expr) → part.height ≡ suc (max left.height right.height) → is_none part.wrong ≡ false
+    → Found term_part term_tree 2 inner behind right after → expr_of part.expr ≡ binary_expr at op (expr_of left.expr) (expr_of right.expr) → part.height ≡ suc (max left.height right.height) → part.deepest ≡ deeper_of left.height left.deepest right.height right.deepest → is_none part.wrong ≡ false
     → Found sum_part sum_tree 2 room before part after
 sum_next room inner before middle behind after at op left right part l taken less smaller r tree =
     next_found sum_part term_part sum_tree term_tree 2 plain_sum sum_next_of sum_token sum_node sum_rest sum_chain room inner before middle behind after (taken.which, taken.spot) left right part l (taken.before_is ∙ sum_same taken.which taken.spot behind) less smaller r
@@ -209,19 +224,19 @@ pub sum_right : (room inner : ℕ) (before middle behind : List Token) (at : Pos
 sum_right room inner before middle behind at op left stop l taken =
     next_refused sum_part term_part sum_tree term_tree 2 plain_sum sum_next_of sum_token sum_node sum_rest sum_chain room inner before middle behind (taken.which, taken.spot) left stop l (taken.before_is ∙ sum_same taken.which taken.spot behind)
 
-pub sum_full : (room : ℕ) (before middle behind : List Token) (at : Pos) (op : BinOp) (left : Part) (stop : Stop) → Found sum_part sum_tree 2 room before left middle → TakenAdd middle at op behind → IsTooDeep left.height room stop
+pub sum_full : (room : ℕ) (before middle behind : List Token) (at : Pos) (op : BinOp) (left : Part) (stop : Stop) → Found sum_part sum_tree 2 room before left middle → TakenAdd middle at op behind → IsTooDeep left.height left.deepest room stop
     → Refused sum_part room before stop
 sum_full room before middle behind at op left stop l taken =
     too_deep sum_part term_part sum_tree term_tree 2 plain_sum sum_next_of sum_token sum_node sum_rest sum_chain room before middle behind (taken.which, taken.spot) left stop l (taken.before_is ∙ sum_same taken.which taken.spot behind)
 
 -- ---- the signs of `term`
 
-term_deep : (stop : Stop) (room n : ℕ) (left : Term) (ts : List Token) → IsDeep stop room (term_depth left) → Only (λ e. IsDeep stop room (term_depth e)) (term_rest n left ts)
+term_deep : (stop : Stop) (room n : ℕ) (left : Term) (ts : List Token) → IsDeep stop room (term_lies left) → Only (λ e. IsDeep stop room (term_lies e)) (term_rest n left ts)
 term_deep stop room zero left ts deep = tt
 term_deep stop room (suc n) left [] deep = deep
 term_deep stop room (suc n) left (t ∷ ts) deep = only_map_or _ (mul_sign_of t.kind) _ _
     (λ op. only_any _ (read_unary n ts) _ (λ right rest. term_deep stop room n (term_more left (spot_of t) op right) rest
-    (deeper stop room (term_depth left) room _ deep (let high = le-max_left (term_depth left) (unary_depth right) in omega (arith, high)))))
+    (deep_left stop room (begins (term_tokens left)) (term_lies left) (unary_lies right) deep)))
     deep
 
 abbrev term_next_of : Term → MulSign × Spot → Unary → Term
@@ -243,6 +258,11 @@ term_chain = record {
   tokens_next = tokens_next;
   depth_one = λ s. refl;
   depth_next = λ left o s. refl;
+  lies_one = λ s at. refl;
+  lies_next = λ left o s at. refl;
+  low = term_low;
+  part_low = unary_low;
+  some_depth = term_above;
   tree_one = λ s. refl;
   tree_next = λ left o s. refl;
   form_one = λ s. refl;
@@ -276,7 +296,7 @@ pub term_one : (room : ℕ) (before after : List Token) (part : Part) → Found 
 term_one = first_found term_part unary_part term_tree unary_tree 1 plain_term term_next_of term_token term_node term_rest term_chain
 
 pub term_next : (room inner : ℕ) (before middle behind after : List Token) (at : Pos) (op : BinOp) (left right part : Part) → Found term_part term_tree 1 room before left middle → TakenMul middle at op behind → left.height < room → inner < room
-    → Found unary_part unary_tree 1 inner behind right after → expr_of part.expr ≡ binary_expr at op (expr_of left.expr) (expr_of right.expr) → part.height ≡ suc (max left.height right.height) → is_none part.wrong ≡ false
+    → Found unary_part unary_tree 1 inner behind right after → expr_of part.expr ≡ binary_expr at op (expr_of left.expr) (expr_of right.expr) → part.height ≡ suc (max left.height right.height) → part.deepest ≡ deeper_of left.height left.deepest right.height right.deepest → is_none part.wrong ≡ false
     → Found term_part term_tree 1 room before part after
 term_next room inner before middle behind after at op left right part l taken less smaller r tree =
     next_found term_part unary_part term_tree unary_tree 1 plain_term term_next_of term_token term_node term_rest term_chain room inner before middle behind after (taken.which, taken.spot) left right part l (taken.before_is ∙ term_same taken.which taken.spot behind) less smaller r
@@ -294,7 +314,7 @@ pub term_right : (room inner : ℕ) (before middle behind : List Token) (at : Po
 term_right room inner before middle behind at op left stop l taken =
     next_refused term_part unary_part term_tree unary_tree 1 plain_term term_next_of term_token term_node term_rest term_chain room inner before middle behind (taken.which, taken.spot) left stop l (taken.before_is ∙ term_same taken.which taken.spot behind)
 
-pub term_full : (room : ℕ) (before middle behind : List Token) (at : Pos) (op : BinOp) (left : Part) (stop : Stop) → Found term_part term_tree 1 room before left middle → TakenMul middle at op behind → IsTooDeep left.height room stop
+pub term_full : (room : ℕ) (before middle behind : List Token) (at : Pos) (op : BinOp) (left : Part) (stop : Stop) → Found term_part term_tree 1 room before left middle → TakenMul middle at op behind → IsTooDeep left.height left.deepest room stop
     → Refused term_part room before stop
 term_full room before middle behind at op left stop l taken =
     too_deep term_part unary_part term_tree unary_tree 1 plain_term term_next_of term_token term_node term_rest term_chain room before middle behind (taken.which, taken.spot) left stop l (taken.before_is ∙ term_same taken.which taken.spot behind)

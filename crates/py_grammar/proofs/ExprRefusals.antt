@@ -1,10 +1,11 @@
 -- Expressions that are a statement, and assignments: what is read, and how it is refused.
 use Rattle.std.proofs.Common.{◌≡◌, ℕ, suc, ◌+◌, ◌≤◌, ◌<◌, Bool, true, false, List, [], ◌∷◌, ◌++◌, Option, Some, None, option_map, option_and_then, is_none, is_some, refl, ap, sym, ◌∙◌, arith, subst, append_assoc, length}
 use Rattle.std.specs.Prelude.{◌==◌}
-use Rattle.std.proofs.Math.Nat.{le-max_left, le-max_right}
+use Rattle.std.proofs.Math.Nat.{le-max_right}
 use Rattle.std.proofs.lemmas.Bool.{eqb-true}
 use Rattle.std.proofs.lemmas.Option.{same_Some}
 use Rattle.py_lines.specs.declared.parts.Token.{Token}
+use Rattle.prov_base.specs.declared.place.Pos.{Pos}
 use Rattle.py_lines.specs.declared.parts.TokenKind.{TokenKind}
 use Rattle.py_lines.specs.declared.parts.TokenKind.TheVariants.{Word, Keyword, Number, Text, Sign}
 use Rattle.py_tree.specs.declared.expr.Target.{Target as BuiltTarget}
@@ -17,7 +18,8 @@ use Rattle.py_grammar.specs.declared.fault.Stop.TheVariants.{Here}
 use Rattle.py_grammar.specs.declared.part.Part.{Part}
 use Rattle.py_grammar.specs.Concrete.{Spot, Exprs, one_expr, several}
 use Rattle.py_grammar.specs.Tokens.{token, exprs_tokens}
-use Rattle.py_grammar.specs.Depth.{exprs_depth, one_target_depth, target_depth, simple_depth}
+use Rattle.py_grammar.specs.Depth.{simple_depth}
+use Rattle.py_grammar.specs.Lies.{exprs_lies, one_target_lies, simple_lies, target_lies}
 use Rattle.py_grammar.specs.Written.{AugSign, OneTarget, Target, Simple, expression, assign, augmented}
 use Rattle.py_grammar.specs.StatementTokens.{simple_tokens}
 use Rattle.py_grammar.specs.StatementTrees.{target_tree, simple_form}
@@ -29,9 +31,9 @@ use Rattle.py_grammar.specs.ParsedSimple.{leaving_none, IsRow, SimpleFound, Simp
 use Rattle.py_grammar.proofs.Firsts.{exprs_starts}
 use Rattle.py_grammar.proofs.Reading.{if_false}
 use Rattle.py_grammar.proofs.RowReads.{row_reads}
-use Rattle.py_grammar.proofs.Refusals.{first_of, deeper, max_below}
+use Rattle.py_grammar.proofs.Refusals.{first_of, deeper, deep_same, deep_beside_left, max_below}
 use Rattle.py_grammar.proofs.SimpleReading.{by_exprs, begins_with_exprs}
-use Rattle.py_grammar.proofs.TargetForms.{target_deep, targets_deep, targets_spelled, targets_tree_is}
+use Rattle.py_grammar.proofs.TargetForms.{target_lies_so, targets_deep, targets_lie_so, targets_spelled, targets_tree_is}
 use Rattle.py_grammar.proofs.SimpleParts.{ReadsNone, Turns, turned_none, turns_same, as_whole, map_whole, only_whole, only_map, only_if_simple, begins_part, refused_part, at_token, ended, row_all, row_goes}
 
 -- ---- the expressions with which it begins
@@ -86,24 +88,24 @@ same_first [] rest first other = refl
 same_first (t ∷ ts) [] first other = cc
 same_first (t ∷ ts) (u ∷ us) first other = ap (λ (t : Token). is_word_kind t.kind) (same_Some _ _ first) ∙ other
 
-row_deep : (why : Stop) (n : ℕ) (e : Exprs) (left : List Token) → IsDeep why 100 (exprs_depth e) → Only (λ s. IsDeep why 100 (simple_depth s)) (leaving_none (behind_exprs n e left))
+row_deep : (why : Stop) (n : ℕ) (e : Exprs) (left : List Token) → IsDeep why 100 (exprs_lies e) → Only (λ s. IsDeep why 100 (simple_lies s)) (leaving_none (behind_exprs n e left))
 row_deep why n e [] deep = deep
 row_deep why n e (t ∷ ts) deep = only_if_simple _ (is_sign 9 t.kind) _ _ (assigned (exprs_target e) refl) (operated (aug_sign_of t.kind))
   where
-    assigned : (o : Option Target) → exprs_target e ≡ o → Only (λ s. IsDeep why 100 (simple_depth s)) (leaving_none (option_and_then (λ target. option_map (assign target (spot_of t)) (whole (read_exprs n ts))) o))
+    assigned : (o : Option Target) → exprs_target e ≡ o → Only (λ s. IsDeep why 100 (simple_lies s)) (leaving_none (option_and_then (λ target. option_map (assign target (spot_of t)) (whole (read_exprs n ts))) o))
     assigned None is = tt
     assigned (Some target) is = only_map _ (assign target (spot_of t)) (whole (read_exprs n ts))
-        (λ v. deeper why 100 (exprs_depth e) 100 _ deep (let high = le-max_left (target_depth target) (exprs_depth v) in let same = targets_deep e target is in omega (arith, high, same)))
+        (λ v. deep_beside_left why 100 (target_lies target) (exprs_lies v) (deep_same why 100 (exprs_lies e) (target_lies target) (targets_lie_so e target is) deep))
 
-    single : (op : AugSign) (f : Exprs) → exprs_depth f ≡ exprs_depth e → (o : Option OneTarget) → single_target f ≡ o → Only (λ s. IsDeep why 100 (simple_depth s)) (leaving_none (option_and_then (λ target. option_map (augmented target op (spot_of t)) (whole (read_exprs n ts))) o))
+    single : (op : AugSign) (f : Exprs) → ((at : Pos) → exprs_lies f at ≡ exprs_lies e at) → (o : Option OneTarget) → single_target f ≡ o → Only (λ s. IsDeep why 100 (simple_lies s)) (leaving_none (option_and_then (λ target. option_map (augmented target op (spot_of t)) (whole (read_exprs n ts))) o))
     single op f level None is = tt
     single op (one_expr f) level (Some target) is = only_map _ (augmented target op (spot_of t)) (whole (read_exprs n ts))
-        (λ v. deeper why 100 (exprs_depth e) 100 _ deep (let high = le-max_left (one_target_depth target) (exprs_depth v) in let same = target_deep f target is in omega (arith, high, same, level)))
+        (λ v. deep_beside_left why 100 (one_target_lies target) (exprs_lies v) (deep_same why 100 (exprs_lies e) (one_target_lies target) (λ at. sym (level at) ∙ target_lies_so f target is at) deep))
     single op (several f comma rest) level (Some target) is = absurd (let no : None ≡ Some target = is in cc)
 
-    operated : (o : Option AugSign) → Only (λ s. IsDeep why 100 (simple_depth s)) (leaving_none (option_and_then (λ op. option_and_then (λ target. option_map (augmented target op (spot_of t)) (whole (read_exprs n ts))) (single_target e)) o))
+    operated : (o : Option AugSign) → Only (λ s. IsDeep why 100 (simple_lies s)) (leaving_none (option_and_then (λ op. option_and_then (λ target. option_map (augmented target op (spot_of t)) (whole (read_exprs n ts))) (single_target e)) o))
     operated None = tt
-    operated (Some op) = single op e refl (single_target e) refl
+    operated (Some op) = single op e (λ at. refl) (single_target e) refl
 
 pub row_refused : (before : List Token) (stop : Stop) → begins_word before ≡ false → Refused exprs_part 100 before stop → RefusedAnywhere before stop
 row_refused before stop other is = record {
@@ -143,7 +145,7 @@ pub record Builds (e : Exprs) (c : Token) (build : Exprs → Simple) : Type 0 wh
   pub no_start : start_class c.kind ≡ 0
   pub reads : (n : ℕ) (more : List Token) → behind_exprs n e (c ∷ more) ≡ option_map build (whole (read_exprs n more))
   pub spells : (v : Exprs) → simple_tokens (build v) ≡ exprs_tokens e ++ (c ∷ exprs_tokens v)
-  pub deep : (v : Exprs) → exprs_depth v ≤ simple_depth (build v)
+  pub deep : (v : Exprs) (at : Pos) → exprs_lies v at ≤ simple_lies (build v) at
 
 abbrev value_turn : (Exprs → Simple) → ℕ → Exprs → List Token → Option Simple
 value_turn build = as_whole (λ v. Some (build v))
@@ -164,7 +166,7 @@ value_refused around e c build before after stop b is refused = refused_part aro
     (is ∙ sym (append_assoc (exprs_tokens e) (c ∷ []) after))
     (begins_part exprs_part (exprs_tokens e ++ c ∷ []) build (λ v. b.spells v ∙ sym (append_assoc (exprs_tokens e) (c ∷ []) (exprs_tokens v))))
     (λ more first. turns_same exprs_part _ (exprs_tokens e ++ c ∷ more) more _ (append_assoc (exprs_tokens e) (c ∷ []) more) (value_turns e c build b more))
-    (λ why n v left deep. only_whole _ (λ v. Some (build v)) n v left (deeper why 100 (exprs_depth v) 100 _ deep (let high = b.deep v in omega (arith, high))))
+    (λ why n v left deep. only_whole _ (λ v. Some (build v)) n v left (deeper why 100 (exprs_lies v) 100 (simple_lies (build v)) deep (λ at some. let high = b.deep v at in omega (arith, high))))
     refused
 
 pub value_more : (around : Around) (e : Exprs) (c : Token) (build : Exprs → Simple) (before after last : List Token) (value : Part) (stop : Stop) → Builds e c build → before ≡ exprs_tokens e ++ c ∷ after → FoundRow 100 after value last
@@ -214,7 +216,7 @@ assign_builds e spot t is = record {
   no_start = refl;
   reads = λ n more. ap (option_and_then (λ target. option_map (assign target spot) (whole (read_exprs n more)))) is;
   spells = λ v. ap (λ ts. ts ++ (token (Sign 9) spot ∷ exprs_tokens v)) (sym (targets_spelled e t is));
-  deep = λ v. le-max_right (target_depth t) (exprs_depth v);
+  deep = λ v at. le-max_right (target_lies t at) (exprs_lies v at);
 }
 
 pub assign_wrong : (first : Part) (left : ℕ) (behind : List Token) → is_none first.wrong ≡ false → left ≡ length behind → RefusedAfter first behind (Here (Unexpected left))

@@ -16,6 +16,7 @@ use Rattle.py_grammar.specs.declared.part.Part.{Part}
 use Rattle.py_grammar.specs.Concrete.{Spot, Exprs, one_expr}
 use Rattle.py_grammar.specs.Tokens.{token, exprs_tokens}
 use Rattle.py_grammar.specs.Depth.{target_depth, exprs_depth}
+use Rattle.py_grammar.specs.Lies.{target_lies, exprs_lies, simple_lies}
 use Rattle.py_grammar.specs.Written.{Simple, Target, named}
 use Rattle.py_grammar.specs.StatementTokens.{target_tokens}
 use Rattle.py_grammar.specs.StatementTrees.{target_tree}
@@ -23,11 +24,11 @@ use Rattle.py_grammar.specs.LineReader.{Head, for_head, head_tokens, colon_token
 use Rattle.py_grammar.specs.Reader.{read_keyword, read_exprs}
 use Rattle.py_grammar.specs.Parsed.{IsDeep, Refused, FoundRow, Taken, one_keyword, exprs_part}
 use Rattle.py_grammar.specs.ParsedRows.{IsRead}
-use Rattle.py_grammar.specs.ParsedHead.{Took, target_part, Context, head_depth, behind_depth, IsAmissHead, BeginsHead, ShownBy, EndedBy, HeadRefused, head_part, OpeningFound, OpeningRefused}
+use Rattle.py_grammar.specs.ParsedHead.{Took, target_part, Context, head_lies, behind_lies, IsAmissHead, BeginsHead, ShownBy, EndedBy, HeadRefused, head_part, OpeningFound, OpeningRefused}
 use Rattle.py_grammar.specs.ParsedNames.{Followed, followed_tokens, BeginsThen, TargetsRefused}
 use Rattle.py_grammar.proofs.Stops.{some_spot}
 use Rattle.py_grammar.proofs.SimpleReading.{target_expr}
-use Rattle.py_grammar.proofs.Refusals.{deeper}
+use Rattle.py_grammar.proofs.Refusals.{deep_beside_left, deep_beside_right}
 use Rattle.py_grammar.proofs.RowParts.{more_steps}
 use Rattle.py_grammar.proofs.ClosedParts.{not_deep}
 use Rattle.py_grammar.proofs.HeadParts.{FindsHead, HeadTurns, finds_written, begins_part_head, refused_part_head, turns_on, ColonReads, colon_on, row_is_read}
@@ -68,29 +69,30 @@ finds_for spot more = record {
 record ForThere (h : Head) (more : List Token) : Type 0 where
   part : Followed Target
   tokens_are : followed_tokens target_part part ≡ more
-  higher : target_depth part.part ≤ head_depth h
+  higher : (at : Pos) → target_lies part.part at ≤ head_lies h at
 
 for_there : (spot : Spot) (h : Head) (more : List Token) → head_tokens h ≡ token (Keyword 17) spot ∷ more → ForThere h more
 for_there spot h more is =
     let f = finds_written (IsFor spot) (token (Keyword 17) spot ∷ more) h (finds_for spot more) is in
-    let depth : head_depth h ≡ max (max (target_depth f.target) (exprs_depth f.items)) (behind_depth f.behind) = ap head_depth f.is in
-    let one = le-max_left (target_depth f.target) (exprs_depth f.items) in
-    let two = le-max_left (max (target_depth f.target) (exprs_depth f.items)) (behind_depth f.behind) in
     record {
       part = record { part = f.target; in_word = f.in_word; behind = exprs_tokens f.items ++ colon_tokens f.colon f.behind };
       tokens_are = behind_it (token (Keyword 17) spot) (token (Keyword 17) spot) _ more (sym (ap head_tokens f.is) ∙ is);
-      higher = omega (arith, depth, one, two);
+      higher = λ at.
+          let lies : head_lies h at ≡ max (max (target_lies f.target at) (exprs_lies f.items at)) (behind_lies f.behind at) = ap (λ h. head_lies h at) f.is in
+          let one = le-max_left (target_lies f.target at) (exprs_lies f.items at) in
+          let two = le-max_left (max (target_lies f.target at) (exprs_lies f.items at)) (behind_lies f.behind at) in
+          omega (arith, lies, one, two);
     }
   where
     behind_it : (a b : Token) (x y : List Token) → a ∷ x ≡ b ∷ y → x ≡ y
     behind_it a b x y is = cc
 
-for_amiss : (c : Context) (given : List (List ℕ)) (limit : Option Limit) (why : Stop) (depth : ℕ) (h : Head) → IsDeep why 100 depth → depth ≤ head_depth h → IsAmissHead c given limit why h
-for_amiss c given limit (Here (TooDeep at)) depth h deep higher = inl (omega (arith, deep, higher))
-for_amiss c given limit (Here (Unexpected at)) depth h deep higher = absurd deep
-for_amiss c given limit (Here (TooMany at)) depth h deep higher = absurd deep
-for_amiss c given limit (Here Memory) depth h deep higher = absurd deep
-for_amiss c given limit End depth h deep higher = absurd deep
+for_amiss : (c : Context) (given : List (List ℕ)) (limit : Option Limit) (why : Stop) (lies : Pos → ℕ) (h : Head) → IsDeep why 100 lies → ((at : Pos) → lies at ≤ head_lies h at) → IsAmissHead c given limit why h
+for_amiss c given limit (Here (TooDeep at)) lies h deep higher = inl (let high = higher at in omega (arith, deep, high))
+for_amiss c given limit (Here (Unexpected at)) lies h deep higher = absurd deep
+for_amiss c given limit (Here (TooMany at)) lies h deep higher = absurd deep
+for_amiss c given limit (Here Memory) lies h deep higher = absurd deep
+for_amiss c given limit End lies h deep higher = absurd deep
 
 for_begins : (spot : Spot) (ts : List Token) → BeginsThen target_part ts → BeginsHead (token (Keyword 17) spot ∷ ts)
 for_begins spot ts b = inr (record {
@@ -104,7 +106,7 @@ for_begins spot ts b = inr (record {
 -- ---- the target is refused
 
 module _ (c : Context) (given : List (List ℕ)) (limit : Option Limit) (spot : Spot) (before : List Token) where
-  shown_for : (fault : Fault) → ShownBy (BeginsThen target_part) (followed_tokens target_part) (λ fault w. IsDeep (Here fault) 100 (target_depth w.part)) before fault
+  shown_for : (fault : Fault) → ShownBy (BeginsThen target_part) (followed_tokens target_part) (λ fault w. IsDeep (Here fault) 100 (target_lies w.part)) before fault
       → ShownBy BeginsHead head_tokens (λ fault h. IsAmissHead c given limit (Here fault) h) (token (Keyword 17) spot ∷ before) fault
   shown_for fault s = record {
     front = token (Keyword 17) spot ∷ s.front;
@@ -115,13 +117,13 @@ module _ (c : Context) (given : List (List ℕ)) (limit : Option Limit) (spot : 
     begun = for_begins spot s.front s.begun;
     none = λ h more is.
         let f = for_there spot h (s.front ++ s.shown_by ∷ more) is in
-        for_amiss c given limit (Here fault) (target_depth f.part.part) h (s.none f.part more f.tokens_are) f.higher;
+        for_amiss c given limit (Here fault) (target_lies f.part.part) h (s.none f.part more f.tokens_are) f.higher;
   }
 
-  ended_for : (stop : Stop) → EndedBy (BeginsThen target_part) (followed_tokens target_part) (λ w. IsDeep stop 100 (target_depth w.part)) before → EndedBy BeginsHead head_tokens (IsAmissHead c given limit stop) (token (Keyword 17) spot ∷ before)
+  ended_for : (stop : Stop) → EndedBy (BeginsThen target_part) (followed_tokens target_part) (λ w. IsDeep stop 100 (target_lies w.part)) before → EndedBy BeginsHead head_tokens (IsAmissHead c given limit stop) (token (Keyword 17) spot ∷ before)
   ended_for stop e = record {
     begun = for_begins spot before e.begun;
-    none = λ h is. let f = for_there spot h before is in for_amiss c given limit stop (target_depth f.part.part) h (e.none f.part f.tokens_are) f.higher;
+    none = λ h is. let f = for_there spot h before is in for_amiss c given limit stop (target_lies f.part.part) h (e.none f.part f.tokens_are) f.higher;
   }
 
   refused_for : (stop : Stop) → TargetsRefused target_part 100 before stop → HeadRefused c given limit (token (Keyword 17) spot ∷ before) stop
@@ -175,11 +177,11 @@ for_items_refused c tree before middle behind at stop t k is = record {
       (begins_part_head exprs_part ((token (Keyword 17) spot ∷ target_tokens t.written) ++ token (Keyword 22) k.spot ∷ []) (λ e. for_head spot t.written k.spot e some_spot None) (λ e. colon_tokens some_spot None)
       (λ e. sym (append_assoc (token (Keyword 17) spot ∷ target_tokens t.written) (token (Keyword 22) k.spot ∷ []) (exprs_tokens e ++ colon_tokens some_spot None))))
       (items_turns spot t k)
-      (λ why n e left deep. only_colon (λ h. IsDeep why 100 (head_depth h)) ((n + 0) + t.is_read.steps) (for_head spot t.written k.spot e) left (λ colon behind. items_deep why (target_depth t.written) (exprs_depth e) (behind_depth behind) deep)) is;
+      (λ why n e left deep. only_colon (λ h. IsDeep why 100 (head_lies h)) ((n + 0) + t.is_read.steps) (for_head spot t.written k.spot e) left (λ colon behind. items_deep why (target_lies t.written) (exprs_lies e) (behind_lies behind) deep)) is;
 }
   where
-    items_deep : (why : Stop) (a b c : ℕ) → IsDeep why 100 b → IsDeep why 100 (max (max a b) c)
-    items_deep why a b c deep = deeper why 100 b 100 (max (max a b) c) deep (let one = le-max_right a b in let two = le-max_left (max a b) c in omega (arith, one, two))
+    items_deep : (why : Stop) (a b c : Pos → ℕ) → IsDeep why 100 b → IsDeep why 100 (λ at. max (max (a at) (b at)) (c at))
+    items_deep why a b c deep = deep_beside_left why 100 (λ at. max (a at) (b at)) c (deep_beside_right why 100 a b deep)
 
 pub for_found : (c : Context) (target : TargetRead) (items : Part) (before middle behind after : List Token) (at : Pos) → Took target_part target_tree before (target_of target) middle → Taken (Keyword 22) middle at behind → FoundRow 100 behind items after
     → OpeningFound c 17 before (For target items.expr) after
@@ -202,5 +204,6 @@ for_found c target items before middle behind after at t k e spot =
       depth = max (target_depth t.written) (exprs_depth e.written);
       low = let one = t.fits in let two = e.fits in let same = e.height_is in omega (arith, one, two, same);
       depth_is = λ colon behind_it. refl;
+      lies_behind = λ colon s at. le-max_right _ (simple_lies s at);
       stands = λ given colon behind_it. refl;
     }

@@ -19,7 +19,9 @@ use Rattle.py_grammar.specs.declared.rows.Row.{Row}
 use Rattle.py_grammar.specs.Concrete.{Spot, Expr, plain_expr, plain_or, plain_and, plain_not, plain_cmp, Sum, plain_sum, plain_term, plain_unary}
 use Rattle.py_grammar.specs.Tokens.{token, expr_tokens, sum_tokens}
 use Rattle.py_grammar.specs.Trees.{sum_tree}
-use Rattle.py_grammar.specs.Depth.{sum_depth, one_target_depth, target_rest_depth, target_depth}
+use Rattle.py_grammar.specs.Depth.{sum_depth, one_target_depth, target_rest_depth}
+use Rattle.py_grammar.specs.Lies.{begins, sum_lies, one_target_lies, target_rest_lies, target_lies}
+use Rattle.py_grammar.proofs.Lying.{above_left, over_least, over_right}
 use Rattle.py_grammar.specs.Reader.{Read, go_on, next_level, kind_level, starts, begins_expr, is_sign, read_sign, read_sum}
 use Rattle.py_grammar.specs.Written.{OneTarget, named, item, field, TargetRest, end_rest_target, last_target, more_target, Target, one_target, several_targets}
 use Rattle.py_grammar.specs.StatementTokens.{one_target_tokens, target_rest_tokens, target_tokens}
@@ -35,7 +37,7 @@ use Rattle.py_grammar.proofs.Leading.{Reads}
 use Rattle.py_grammar.proofs.Reading.{if_false, sum_leads, sum_stops}
 use Rattle.py_grammar.proofs.Refusals.{deeper, max_below}
 use Rattle.py_grammar.proofs.Stops.{some_spot, shows_on_line}
-use Rattle.py_grammar.proofs.TargetForms.{target_spelled, target_deep, target_tree_is}
+use Rattle.py_grammar.proofs.TargetForms.{target_spelled, target_deep, target_lies_so, target_tree_is}
 use Rattle.py_grammar.proofs.SimpleReading.{target_expr}
 use Rattle.py_grammar.proofs.PrimParts.{go_on_once}
 use Rattle.py_grammar.proofs.RowParts.{more_steps, sign_first, no_start}
@@ -60,6 +62,11 @@ sum_deep (named at bytes) = refl
 sum_deep (item p opening index closing) = refl
 sum_deep (field p dot name_at bytes) = refl
 
+sum_lies_so : (t : OneTarget) (at : Pos) → sum_lies (target_sum t) at ≡ one_target_lies t at
+sum_lies_so (named spot bytes) at = refl
+sum_lies_so (item p opening index closing) at = refl
+sum_lies_so (field p dot name_at bytes) at = refl
+
 sum_form : (t : OneTarget) → is_form (expr_target (lift (target_sum t))) ≡ true
 sum_form (named at bytes) = refl
 sum_form (item p opening index closing) = refl
@@ -80,6 +87,7 @@ item_found room before after part f fine =
       before_is = f.before_is ∙ ap (λ ts. ts ++ after) (target_spelled (lift f.written) t.0 t.1);
       tree_is = ap target_form f.tree_is ∙ target_tree_is (lift f.written) t.0 t.1;
       height_is = f.height_is ∙ target_deep (lift f.written) t.0 t.1;
+      deepest_is = sym (target_lies_so (lift f.written) t.0 t.1 part.deepest) ∙ f.deepest_is ∙ target_deep (lift f.written) t.0 t.1;
       fits = f.fits;
       beyond = f.beyond;
     }
@@ -113,26 +121,24 @@ same_target t u a b above high is =
 -- ---- how a target is refused where one stands
 
 -- the target that is written there, no deeper than what it stands in
-pub record ItemThere (depth : ℕ) (more : List Token) : Type 0 where
+pub record ItemThere (lies : Pos → ℕ) (more : List Token) : Type 0 where
   pub target : OneTarget
   pub tail : List Token
   pub tokens_are : one_target_tokens target ++ tail ≡ more
   pub beyond : 3 < next_level tail
-  pub higher : one_target_depth target ≤ depth
+  pub higher : (at : Pos) → one_target_lies target at ≤ lies at
 
-found_deep : (why : Stop) (room depth : ℕ) (more : List Token) → Finds (λ s. IsDeep why room (sum_depth s)) read_sum more → ItemThere depth more → IsDeep why room depth
-found_deep why room depth more finds i =
+found_deep : (why : Stop) (room : ℕ) (lies : Pos → ℕ) (more : List Token) → Finds (λ s. IsDeep why room (sum_lies s)) read_sum more → ItemThere lies more → IsDeep why room lies
+found_deep why room lies more finds i =
     let one = sum_reads (target_sum i.target) in
     let is : read_sum (one.steps + finds.steps) more ≡ Some (target_sum i.target, i.tail) =
     more_steps (λ n. read_sum n more) (one.steps + finds.steps) (finds.steps + one.steps) (omega arith)
     ∙ ap (read_sum (finds.steps + one.steps)) (sym i.tokens_are ∙ ap (λ ts. ts ++ i.tail) (sum_spells i.target)) ∙ one.reads finds.steps i.tail i.beyond in
-    let deep : IsDeep why room (sum_depth (target_sum i.target)) = subst (Only (λ s. IsDeep why room (sum_depth s))) is (finds.only one.steps) in
-    let same = sum_deep i.target in
-    let higher = i.higher in
-    deeper why room (sum_depth (target_sum i.target)) room depth deep (omega (arith, same, higher))
+    let deep : IsDeep why room (sum_lies (target_sum i.target)) = subst (Only (λ s. IsDeep why room (sum_lies s))) is (finds.only one.steps) in
+    deeper why room (sum_lies (target_sum i.target)) room lies deep (λ at some. let same = sum_lies_so i.target at in let higher = i.higher at in omega (arith, same, higher))
 
-no_target : (s : Sum) (depth : ℕ) (rest more : List Token) → is_form (expr_target (lift s)) ≡ false → 3 < next_level rest → sum_tokens s ++ rest ≡ more → ItemThere depth more → ⊥
-no_target s depth rest more other above is i =
+no_target : (s : Sum) (lies : Pos → ℕ) (rest more : List Token) → is_form (expr_target (lift s)) ≡ false → 3 < next_level rest → sum_tokens s ++ rest ≡ more → ItemThere lies more → ⊥
+no_target s lies rest more other above is i =
     let same = same_sum s (target_sum i.target) rest i.tail above i.beyond (is ∙ sym i.tokens_are ∙ ap (λ ts. ts ++ i.tail) (sum_spells i.target)) in
     let no : true ≡ false = sym (sum_form i.target) ∙ ap (λ s. is_form (expr_target (lift s))) (sym same.0) ∙ other in
     cc
@@ -147,8 +153,8 @@ begins_sum p front tokens opens b = record {
 }
 
 module _ {A : Type 0} (p : Production A) (room : ℕ) (front rest before : List Token) (before_is : before ≡ front ++ rest) (opens : Begins p front)
-    (there : (w : Followed A) (more : List Token) → followed_tokens p w ≡ front ++ more → first_token more ≡ first_token rest → ItemThere (p.depth w.part) more) where
-  shown_item : (fault : Fault) → Shown sum_part room rest fault → ShownBy (BeginsThen p) (followed_tokens p) (λ fault w. IsDeep (Here fault) room (p.depth w.part)) before fault
+    (there : (w : Followed A) (more : List Token) → followed_tokens p w ≡ front ++ more → first_token more ≡ first_token rest → ItemThere (p.lies w.part) more) where
+  shown_item : (fault : Fault) → Shown sum_part room rest fault → ShownBy (BeginsThen p) (followed_tokens p) (λ fault w. IsDeep (Here fault) room (p.lies w.part)) before fault
   shown_item fault s = record {
     front = front ++ s.front;
     shown_by = s.shown_by;
@@ -156,7 +162,7 @@ module _ {A : Type 0} (p : Production A) (room : ℕ) (front rest before : List 
     before_is = before_is ∙ ap (λ ts. front ++ ts) s.before_is ∙ sym (append_assoc front s.front (s.shown_by ∷ s.behind));
     left_is = shows_on_line s.shown_by s.behind fault s.left_is;
     begun = begins_sum p front s.front opens s.begins;
-    none = λ w more is. found_deep (Here fault) room (p.depth w.part) (s.front ++ s.shown_by ∷ more) (s.none more)
+    none = λ w more is. found_deep (Here fault) room (p.lies w.part) (s.front ++ s.shown_by ∷ more) (s.none more)
         (there w (s.front ++ s.shown_by ∷ more) (is ∙ append_assoc front s.front (s.shown_by ∷ more)) (first_shown s.front s.shown_by more s.behind ∙ sym (ap first_token s.before_is)));
   }
 
@@ -167,7 +173,7 @@ module _ {A : Type 0} (p : Production A) (room : ℕ) (front rest before : List 
   read_refused (Here (TooMany at)) is = absurd is.left_is
   read_refused End is = record {
     begun = subst (BeginsThen p) (sym before_is) (begins_sum p front rest opens is.0);
-    none = λ w same. found_deep End room (p.depth w.part) rest is.1 (there w rest (same ∙ before_is) refl);
+    none = λ w same. found_deep End room (p.lies w.part) rest is.1 (there w rest (same ∙ before_is) refl);
   }
 
   wrong_at : (part : Part) (after : List Token) → (f : Found sum_part sum_tree 3 room rest part after) → is_none part.wrong ≡ false → (ts : List Token) (stop : Stop) → after ≡ ts → IsAtFirst ts stop → TargetsRefused p room before stop
@@ -175,7 +181,7 @@ module _ {A : Type 0} (p : Production A) (room : ℕ) (front rest before : List 
   wrong_at part after f other [] End is first = record {
     begun = subst (BeginsThen p) (sym (before_is ∙ ap (λ ts. front ++ ts) f.before_is)) (begins_sum p front (sum_tokens f.written ++ after) opens
         (record { some = f.written; more = []; tokens_are = sym (append-nil (sum_tokens f.written ++ after) ∙ ap (λ ts. sum_tokens f.written ++ ts) is ∙ append-nil (sum_tokens f.written)) }));
-    none = λ w same. absurd (no_target f.written (p.depth w.part) after rest (sym f.form_is ∙ other) f.beyond (sym f.before_is) (there w rest (same ∙ before_is) refl));
+    none = λ w same. absurd (no_target f.written (p.lies w.part) after rest (sym f.form_is ∙ other) f.beyond (sym f.before_is) (there w rest (same ∙ before_is) refl));
   }
   wrong_at part after f other (t ∷ ts) (Here (Unexpected left)) is first = record {
     front = front ++ sum_tokens f.written;
@@ -184,7 +190,7 @@ module _ {A : Type 0} (p : Production A) (room : ℕ) (front rest before : List 
     before_is = before_is ∙ ap (λ ts. front ++ ts) (f.before_is ∙ ap (λ ts. sum_tokens f.written ++ ts) is) ∙ sym (append_assoc front (sum_tokens f.written) (t ∷ ts));
     left_is = first;
     begun = begins_sum p front (sum_tokens f.written) opens (record { some = f.written; more = []; tokens_are = sym (append-nil (sum_tokens f.written)) });
-    none = λ w more same. absurd (no_target f.written (p.depth w.part) (t ∷ more) (sum_tokens f.written ++ t ∷ more) (sym f.form_is ∙ other) (subst (λ (ts : List Token). 3 < next_level ts) is f.beyond) refl
+    none = λ w more same. absurd (no_target f.written (p.lies w.part) (t ∷ more) (sum_tokens f.written ++ t ∷ more) (sym f.form_is ∙ other) (subst (λ (ts : List Token). 3 < next_level ts) is f.beyond) refl
         (there w (sum_tokens f.written ++ t ∷ more) (same ∙ append_assoc front (sum_tokens f.written) (t ∷ more))
         (first_shown (sum_tokens f.written) t more ts ∙ sym (ap first_token (f.before_is ∙ ap (λ ts. sum_tokens f.written ++ ts) is)))));
   }
@@ -203,14 +209,14 @@ module _ {A : Type 0} (p : Production A) (room : ℕ) (front rest before : List 
 -- ---- what is written in front of `in`
 
 -- what was refused inside is refused where it stands
-pub record Inner {B : Type 0} (q : Production B) (inner room depth : ℕ) (more : List Token) : Type 0 where
+pub record Inner {B : Type 0} (q : Production B) (inner room : ℕ) (lies : Pos → ℕ) (more : List Token) : Type 0 where
   pub part : Followed B
   pub tokens_are : followed_tokens q part ≡ more
-  pub higher : room + q.depth part.part ≤ inner + depth
+  pub higher : (at : Pos) → 1 ≤ q.lies part.part at → room + q.lies part.part at ≤ inner + lies at
 
 module _ {A B : Type 0} (p : Production A) (room : ℕ) (q : Production B) (inner : ℕ) (front rest before : List Token) (before_is : before ≡ front ++ rest) (opens : (ts : List Token) → BeginsThen q ts → BeginsThen p (front ++ ts))
-    (there : (w : Followed A) (more : List Token) → followed_tokens p w ≡ front ++ more → Inner q inner room (p.depth w.part) more) where
-  shown_rest : (fault : Fault) → ShownBy (BeginsThen q) (followed_tokens q) (λ fault w. IsDeep (Here fault) inner (q.depth w.part)) rest fault → ShownBy (BeginsThen p) (followed_tokens p) (λ fault w. IsDeep (Here fault) room (p.depth w.part)) before fault
+    (there : (w : Followed A) (more : List Token) → followed_tokens p w ≡ front ++ more → Inner q inner room (p.lies w.part) more) where
+  shown_rest : (fault : Fault) → ShownBy (BeginsThen q) (followed_tokens q) (λ fault w. IsDeep (Here fault) inner (q.lies w.part)) rest fault → ShownBy (BeginsThen p) (followed_tokens p) (λ fault w. IsDeep (Here fault) room (p.lies w.part)) before fault
   shown_rest fault s = record {
     front = front ++ s.front;
     shown_by = s.shown_by;
@@ -220,15 +226,15 @@ module _ {A B : Type 0} (p : Production A) (room : ℕ) (q : Production B) (inne
     begun = opens s.front s.begun;
     none = λ w more is.
         let i = there w (s.front ++ s.shown_by ∷ more) (is ∙ append_assoc front s.front (s.shown_by ∷ more)) in
-        deeper (Here fault) inner (q.depth i.part.part) room (p.depth w.part) (s.none i.part more i.tokens_are) i.higher;
+        deeper (Here fault) inner (q.lies i.part.part) room (p.lies w.part) (s.none i.part more i.tokens_are) i.higher;
   }
 
-  ended_rest : (stop : Stop) → EndedBy (BeginsThen q) (followed_tokens q) (λ w. IsDeep stop inner (q.depth w.part)) rest → EndedBy (BeginsThen p) (followed_tokens p) (λ w. IsDeep stop room (p.depth w.part)) before
+  ended_rest : (stop : Stop) → EndedBy (BeginsThen q) (followed_tokens q) (λ w. IsDeep stop inner (q.lies w.part)) rest → EndedBy (BeginsThen p) (followed_tokens p) (λ w. IsDeep stop room (p.lies w.part)) before
   ended_rest stop e = record {
     begun = subst (BeginsThen p) (sym before_is) (opens rest e.begun);
     none = λ w is.
         let i = there w rest (is ∙ before_is) in
-        deeper stop inner (q.depth i.part.part) room (p.depth w.part) (e.none i.part i.tokens_are) i.higher;
+        deeper stop inner (q.lies i.part.part) room (p.lies w.part) (e.none i.part i.tokens_are) i.higher;
   }
 
   pub rest_refused : (stop : Stop) → TargetsRefused q inner rest stop → TargetsRefused p room before stop
@@ -241,17 +247,17 @@ module _ {A B : Type 0} (p : Production A) (room : ℕ) (q : Production B) (inne
 some_target : OneTarget
 some_target = named some_spot []
 
-first_there : (w : Followed Target) (more : List Token) → followed_tokens target_part w ≡ more → ItemThere (target_depth w.part) more
+first_there : (w : Followed Target) (more : List Token) → followed_tokens target_part w ≡ more → ItemThere (target_lies w.part) more
 first_there w more is = by w.part is
   where
-    by : (t : Target) → target_tokens t ++ token (Keyword 22) w.in_word ∷ w.behind ≡ more → ItemThere (target_depth t) more
-    by (one_target t) same = record { target = t; tail = token (Keyword 22) w.in_word ∷ w.behind; tokens_are = same; beyond = omega arith; higher = omega arith }
+    by : (t : Target) → target_tokens t ++ token (Keyword 22) w.in_word ∷ w.behind ≡ more → ItemThere (target_lies t) more
+    by (one_target t) same = record { target = t; tail = token (Keyword 22) w.in_word ∷ w.behind; tokens_are = same; beyond = omega arith; higher = λ at. omega arith }
     by (several_targets t comma r) same = record {
       target = t;
       tail = token (Sign 6) comma ∷ (target_rest_tokens r ++ token (Keyword 22) w.in_word ∷ w.behind);
       tokens_are = sym (append_assoc (one_target_tokens t) (token (Sign 6) comma ∷ target_rest_tokens r) (token (Keyword 22) w.in_word ∷ w.behind)) ∙ same;
       beyond = omega arith;
-      higher = let high = le-max_left (one_target_depth t) (target_rest_depth r) in omega (arith, high);
+      higher = λ at. let high = le-max_left (one_target_lies t at) (target_rest_lies r at) in let more_deep = over_least (begins (one_target_tokens t) at) (max (one_target_lies t at) (target_rest_lies r at)) in omega (arith, high, more_deep);
     }
 
 begins_first : Begins target_part []
@@ -292,8 +298,13 @@ several_there w t comma more is = by w.part refl is
           tokens_are = behind_it (token (Sign 6) c) (token (Sign 6) comma) (target_rest_tokens r ++ i) more both.1;
         }
 
+some_target_depth : (t : OneTarget) → 1 ≤ one_target_depth t
+some_target_depth (named at bytes) = omega arith
+some_target_depth (item e opening index closing) = omega arith
+some_target_depth (field e dot name_at bytes) = omega arith
+
 -- several targets lie one deeper, and there is no room
-pub first_full : (before middle behind : List Token) (at : Pos) (first : Part) (stop : Stop) → ItemFound 100 before first middle → Taken (Sign 6) middle at behind → IsTooDeep first.height 100 stop → TargetsRefused target_part 100 before stop
+pub first_full : (before middle behind : List Token) (at : Pos) (first : Part) (stop : Stop) → ItemFound 100 before first middle → Taken (Sign 6) middle at behind → IsTooDeep first.height first.deepest 100 stop → TargetsRefused target_part 100 before stop
 first_full before middle behind at first (Here (TooDeep place)) f k deep = record {
   front = one_target_tokens f.target;
   shown_by = token (Sign 6) k.spot;
@@ -303,10 +314,11 @@ first_full before middle behind at first (Here (TooDeep place)) f k deep = recor
   begun = record { opened = one_target_tokens f.target; begins = record { some = one_target f.target; more = []; tokens_are = sym (append-nil (one_target_tokens f.target)) }; some = target_expr some_target; more = expr_tokens (target_expr some_target); tokens_are = refl };
   none = λ w more is.
       let s = several_there w f.target k.spot more is in
-      let depth : target_depth w.part ≡ target_depth (several_targets f.target s.comma s.rest) = ap target_depth s.part_is in
-      let high = le-max_left (one_target_depth f.target) (target_rest_depth s.rest) in
-      let height = f.height_is in
-      omega (arith, deep, depth, high, height);
+      let there : target_lies w.part place ≡ target_lies (several_targets f.target s.comma s.rest) place = ap (λ t. target_lies t place) s.part_is in
+      let same : target_lies (several_targets f.target s.comma s.rest) place ≡ target_lies (several_targets f.target s.comma s.rest) first.deepest = ap (target_lies (several_targets f.target s.comma s.rest)) deep.1 in
+      let low = deep.0 in
+      let more_deep = above_left (begins (one_target_tokens f.target) first.deepest) (one_target_lies f.target first.deepest) (target_rest_lies s.rest first.deepest) first.height (one_target_depth f.target) f.height_is f.deepest_is (some_target_depth f.target) in
+      omega (arith, low, there, same, more_deep);
 }
 first_full before middle behind at first (Here (Unexpected place)) f k deep = absurd deep
 first_full before middle behind at first (Here (TooMany place)) f k deep = absurd deep
@@ -336,9 +348,14 @@ others_refused before middle behind at first stop f k is =
     })
     (λ w more same.
     let s = several_there w f.target k.spot more (same ∙ comma_behind (one_target_tokens f.target) (token (Sign 6) k.spot) more) in
-    let depth : target_depth w.part ≡ target_depth (several_targets f.target s.comma s.rest) = ap target_depth s.part_is in
-    let high = le-max_right (one_target_depth f.target) (target_rest_depth s.rest) in
-    record { part = record { part = s.rest; in_word = w.in_word; behind = w.behind }; tokens_are = s.tokens_are; higher = omega (arith, depth, high) })
+    record {
+      part = record { part = s.rest; in_word = w.in_word; behind = w.behind };
+      tokens_are = s.tokens_are;
+      higher = λ place some.
+          let there : target_lies w.part place ≡ target_lies (several_targets f.target s.comma s.rest) place = ap (λ t. target_lies t place) s.part_is in
+          let more_deep = over_right (begins (one_target_tokens f.target) place) (one_target_lies f.target place) (target_rest_lies s.rest place) some in
+          omega (arith, there, more_deep);
+    })
     stop is
 
 -- ---- targets behind a comma
@@ -355,6 +372,8 @@ pub record TargetsGo (room : ℕ) (before : List Token) (old : Row) (after : Lis
   pub depth : ℕ
   pub height_is : row.height ≡ max old.height depth
   pub depth_is : (r : TargetRest) → target_rest_depth (put r) ≡ max depth (target_rest_depth r)
+  pub lies : Pos → ℕ
+  pub lies_is : (r : TargetRest) (at : Pos) → target_rest_lies (put r) at ≡ max (lies at) (target_rest_lies r at)
   pub fits : row.height ≤ room
   pub steps : ℕ
   pub behind : ℕ
@@ -376,6 +395,8 @@ targets_init room before row fits = record {
   depth = 0;
   height_is = none_above row.height;
   depth_is = λ r. none_below (target_rest_depth r);
+  lies = λ at. 0;
+  lies_is = λ r at. none_below (target_rest_lies r at);
   fits = fits;
   steps = 0;
   behind = 0;
@@ -442,6 +463,8 @@ targets_next room before after middle behind at old row row_2 part g f k items_a
   depth = max g.depth (one_target_depth f.target);
   height_is = higher ∙ ap (λ h. max h part.height) g.height_is ∙ ap (λ h. max (max old.height g.depth) h) f.height_is ∙ max_assoc old.height g.depth (one_target_depth f.target);
   depth_is = λ r. g.depth_is (more_target f.target k.spot r) ∙ sym (max_assoc g.depth (one_target_depth f.target) (target_rest_depth r));
+  lies = λ at. max (g.lies at) (one_target_lies f.target at);
+  lies_is = λ r at. g.lies_is (more_target f.target k.spot r) at ∙ sym (max_assoc (g.lies at) (one_target_lies f.target at) (target_rest_lies r at));
   fits = below_both row_2.height row.height part.height room higher g.fits f.fits;
   steps = suc (suc (one_target_reads f.target).steps) + g.steps;
   behind = g.behind + (one_target_reads f.target).steps;
@@ -562,7 +585,7 @@ peeled room before after old row g w more is = by (read_target_rest (r.steps + g
         }
 
 target_there : (room : ℕ) (before after : List Token) (old row : Row) → (g : TargetsGo room before old after row) → begins_expr after ≡ true → (w : Followed TargetRest) (more : List Token)
-    → followed_tokens target_rest_part w ≡ g.front ++ more → first_token more ≡ first_token after → ItemThere (target_rest_depth w.part) more
+    → followed_tokens target_rest_part w ≡ g.front ++ more → first_token more ≡ first_token after → ItemThere (target_rest_lies w.part) more
 target_there room before after old row g start w more is first = by p.rest refl p.tokens_are
   where
     i : List Token
@@ -571,14 +594,14 @@ target_there room before after old row g start w more is first = by p.rest refl 
     p : Peeled g.put w more
     p = peeled room before after old row g w more is
 
-    low : (t : TargetRest) → p.rest ≡ t → target_rest_depth t ≤ target_rest_depth w.part
-    low t same =
-        let depth : target_rest_depth w.part ≡ max g.depth (target_rest_depth p.rest) = ap target_rest_depth p.part_is ∙ g.depth_is p.rest in
-        let one : target_rest_depth p.rest ≡ target_rest_depth t = ap target_rest_depth same in
-        let high = le-max_right g.depth (target_rest_depth p.rest) in
-        omega (arith, depth, one, high)
+    low : (t : TargetRest) → p.rest ≡ t → (at : Pos) → target_rest_lies t at ≤ target_rest_lies w.part at
+    low t same at =
+        let there : target_rest_lies w.part at ≡ max (g.lies at) (target_rest_lies p.rest at) = ap (λ r. target_rest_lies r at) p.part_is ∙ g.lies_is p.rest at in
+        let one : target_rest_lies p.rest at ≡ target_rest_lies t at = ap (λ r. target_rest_lies r at) same in
+        let high = le-max_right (g.lies at) (target_rest_lies p.rest at) in
+        omega (arith, there, one, high)
 
-    by : (t : TargetRest) → p.rest ≡ t → target_rest_tokens t ++ i ≡ more → ItemThere (target_rest_depth w.part) more
+    by : (t : TargetRest) → p.rest ≡ t → target_rest_tokens t ++ i ≡ more → ItemThere (target_rest_lies w.part) more
     by end_rest_target same tokens =
         let none : starts more ≡ 0 = ap starts (sym tokens) in
         let some : begins_expr more ≡ true = ap (nat_lt 0) (starts_same more after first) ∙ start in
@@ -589,7 +612,7 @@ target_there room before after old row g start w more is first = by p.rest refl 
       tail = token (Sign 6) comma ∷ (target_rest_tokens r ++ i);
       tokens_are = sym (append_assoc (one_target_tokens t) (token (Sign 6) comma ∷ target_rest_tokens r) i) ∙ tokens;
       beyond = omega arith;
-      higher = let deep = low (more_target t comma r) same in let high = le-max_left (one_target_depth t) (target_rest_depth r) in omega (arith, deep, high);
+      higher = λ at. let deep = low (more_target t comma r) same at in let high = le-max_left (one_target_lies t at) (target_rest_lies r at) in omega (arith, deep, high);
     }
 
 pub next_refused : (room : ℕ) (before after : List Token) (old row : Row) (stop : Stop) → TargetsGo room before old after row → begins_expr after ≡ true → ItemRefused room after stop → TargetsRefused target_rest_part room before stop

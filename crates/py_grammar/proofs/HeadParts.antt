@@ -16,7 +16,7 @@ use Rattle.py_grammar.specs.LineReader.{Head, head_tokens, then_read, read_colon
 use Rattle.py_grammar.specs.Reader.{Read, next_level, starts, is_keyword, is_sign}
 use Rattle.py_grammar.specs.Parsed.{Production, IsAtFirst, IsDeep, Only, Finds, Begins, Shown, Refused, Found, FoundRow, one_keyword, one_sign, one_name, expr_part, exprs_part}
 use Rattle.py_grammar.specs.ParsedRows.{first_token, IsRead}
-use Rattle.py_grammar.specs.ParsedHead.{Context, head_depth, IsAmissHead, ShowsOnLine, BeginsHead, ShownBy, EndedBy, HeadRefused}
+use Rattle.py_grammar.specs.ParsedHead.{Context, head_lies, IsAmissHead, ShowsOnLine, BeginsHead, ShownBy, EndedBy, HeadRefused}
 use Rattle.py_grammar.proofs.Reading.{expr_reads}
 use Rattle.py_grammar.proofs.RowReads.{row_reads}
 use Rattle.py_grammar.proofs.Refusals.{first_of, next_level_same}
@@ -212,7 +212,7 @@ begins_part_head q front h tail spells tokens b = inl (record {
 
 -- ---- how it is refused
 
-amiss_deep : (c : Context) (given : List (List ℕ)) (limit : Option Limit) (stop : Stop) (h : Head) → IsDeep stop 100 (head_depth h) → IsAmissHead c given limit stop h
+amiss_deep : (c : Context) (given : List (List ℕ)) (limit : Option Limit) (stop : Stop) (h : Head) → IsDeep stop 100 (head_lies h) → IsAmissHead c given limit stop h
 amiss_deep c given limit (Here (TooDeep at)) h deep = inl deep
 amiss_deep c given limit (Here (Unexpected at)) h deep = absurd deep
 amiss_deep c given limit (Here (TooMany at)) h deep = absurd deep
@@ -240,7 +240,7 @@ ended_line c given limit tokens before stop is begun finds = subst (λ (ts : Lis
 -- a part stands behind these tokens: how it begins, and what is read there
 record StandsThere {B : Type 0} (q : Production B) (inner : ℕ) (front rest : List Token) : Type 0 where
   begins : (tokens : List Token) → Begins q tokens → BeginsHead (front ++ tokens)
-  finds : (why : Stop) (more : List Token) → first_token more ≡ first_token rest → Finds (λ b. IsDeep why inner (q.depth b)) q.read more → FindsHead (λ h. IsDeep why 100 (head_depth h)) (front ++ more)
+  finds : (why : Stop) (more : List Token) → first_token more ≡ first_token rest → Finds (λ b. IsDeep why inner (q.lies b)) q.read more → FindsHead (λ h. IsDeep why 100 (head_lies h)) (front ++ more)
 
 shown_there : {B : Type 0} (c : Context) (given : List (List ℕ)) (limit : Option Limit) (q : Production B) (inner : ℕ) (front rest before : List Token) (fault : Fault) → before ≡ front ++ rest → StandsThere q inner front rest
     → Shown q inner rest fault → ShownBy BeginsHead head_tokens (λ fault a. IsAmissHead c given limit (Here fault) a) before fault
@@ -260,7 +260,7 @@ refused_there c given limit q inner front rest before End is part refused =
 -- a part is refused behind these tokens
 pub refused_part_head : {B : Type 0} (c : Context) (given : List (List ℕ)) (limit : Option Limit) (q : Production B) (inner : ℕ) (front rest before : List Token) (stop : Stop) (g : ℕ → B → List Token → Option Head) → before ≡ front ++ rest
     → ((tokens : List Token) → Begins q tokens → BeginsHead (front ++ tokens)) → HeadTurns q front rest g
-    → ((why : Stop) (n : ℕ) (b : B) (left : List Token) → IsDeep why inner (q.depth b) → OnlyHead (λ h. IsDeep why 100 (head_depth h)) (g n b left))
+    → ((why : Stop) (n : ℕ) (b : B) (left : List Token) → IsDeep why inner (q.lies b) → OnlyHead (λ h. IsDeep why 100 (head_lies h)) (g n b left))
     → Refused q inner rest stop → HeadRefused c given limit before stop
 refused_part_head c given limit q inner front rest before stop g is begins turns deep refused = refused_there c given limit q inner front rest before stop is
     (record { begins = begins; finds = λ why more first finds. turned_head _ _ q front rest more g turns first (deep why) finds })

@@ -1,6 +1,5 @@
 -- What stands in the brackets of a subscription: what is read of it, and how it is refused.
 use Rattle.std.proofs.Common.{◌≡◌, ℕ, zero, suc, ◌+◌, max, ◌≤◌, Bool, true, false, List, [], ◌∷◌, ◌++◌, Option, Some, None, refl, ap, sym, ◌∙◌, arith, append_assoc}
-use Rattle.std.proofs.Math.Nat.{le-max_left, le-max_right}
 use Rattle.std.proofs.lemmas.List.{append-nil}
 use Rattle.prov_base.specs.declared.place.Pos.{Pos}
 use Rattle.py_lines.specs.declared.parts.Token.{Token}
@@ -13,14 +12,16 @@ use Rattle.py_grammar.specs.declared.rows.Index.TheVariants.{One, Slice}
 use Rattle.py_grammar.specs.Concrete.{Spot, Expr, Exprs, one_expr, several, one_index, range_index, Bound, no_bound, bound}
 use Rattle.py_grammar.specs.Tokens.{token, expr_tokens, exprs_tokens, bound_tokens}
 use Rattle.py_grammar.specs.Trees.{expr_tree, exprs_tree}
-use Rattle.py_grammar.specs.Depth.{expr_depth, exprs_depth, index_depth, bound_depth}
+use Rattle.py_grammar.specs.Depth.{expr_depth, exprs_depth, bound_depth}
+use Rattle.py_grammar.specs.Lies.{bound_lies, expr_lies, exprs_lies, index_lies}
+use Rattle.py_grammar.proofs.Lying.{bound_low, deepest_here, expr_low}
 use Rattle.py_grammar.specs.Reader.{go_on, is_sign, read_expr, read_exprs, read_index, index_rest, read_bound}
 use Rattle.py_grammar.specs.Parsed.{expr_part, exprs_part, Taken, Found, IsDeep, Only, Finds, Refused, is_sign_next}
-use Rattle.py_grammar.specs.ParsedRows.{IsRead, first_token, index_part, bound_part, limit_tree, limit_height, has_comma, FoundList, FoundBound, FoundIndex}
+use Rattle.py_grammar.specs.ParsedRows.{limit_deepest, IsRead, first_token, index_part, bound_part, limit_tree, limit_height, has_comma, FoundList, FoundBound, FoundIndex}
 use Rattle.py_grammar.proofs.Leading.{Reads}
 use Rattle.py_grammar.proofs.Firsts.{expr_starts, exprs_starts}
 use Rattle.py_grammar.proofs.Reading.{if_false, if_true, expr_reads, index_is, bound_is}
-use Rattle.py_grammar.proofs.Refusals.{Inside, only_any, only_go_on, only_if, only_is, finds_first, finds_behind, finds_same, deeper, refused_inside, refused_same, one_behind}
+use Rattle.py_grammar.proofs.Refusals.{Inside, only_any, only_go_on, only_if, only_is, finds_first, finds_behind, finds_same, deep_beside_left, deep_beside_right, refused_inside, refused_same, one_behind}
 use Rattle.py_grammar.proofs.ClosedParts.{first_is}
 use Rattle.py_grammar.proofs.RowParts.{sign_first, more_steps}
 use Rattle.py_grammar.proofs.SharpReads.{exprs_is_read, exprs_row, level_same}
@@ -37,6 +38,7 @@ bound_none room before closes = record {
   before_is = refl;
   tree_is = refl;
   height_is = refl;
+  deepest_is = λ at. refl;
   fits = omega arith;
   is_read = record {
     steps = 1;
@@ -56,6 +58,7 @@ bound_some room before after part f =
       before_is = f.before_is;
       tree_is = ap some_expr f.tree_is;
       height_is = f.height_is;
+      deepest_is = λ at. f.deepest_is;
       fits = f.fits;
       is_read = record {
         steps = suc is.steps;
@@ -113,6 +116,7 @@ index_one room before after part comma f other =
       before_is = row.before_is;
       tree_is = λ at e. ap (part_expr at e) row.tree_is;
       height_is = row.height_is;
+      deepest_is = λ at. row.deepest_is;
       form_is = refl;
       fits = row.fits;
       is_read = one_index_read row.written after (λ one. other (sym f.comma_is ∙ one)) (exprs_is_read row.written after row.beyond row.no_more);
@@ -124,14 +128,15 @@ record FoundOne (room : ℕ) (before : List Token) (part : Part) (after : List T
   before_is : before ≡ expr_tokens written ++ after
   tree_is : expr_of part.expr ≡ expr_tree written
   height_is : part.height ≡ expr_depth written
+  deepest_is : expr_lies written part.deepest ≡ expr_depth written
   fits : part.height ≤ room
 
 found_one : (room : ℕ) (before after : List Token) (part : Part) → FoundList room before part false after → FoundOne room before part after
-found_one room before after part f = by f.row.written f.row.before_is f.row.tree_is f.row.height_is f.comma_is
+found_one room before after part f = by f.row.written f.row.before_is f.row.tree_is f.row.height_is f.row.deepest_is f.comma_is
   where
-    by : (e : Exprs) → before ≡ exprs_tokens e ++ after → expr_of part.expr ≡ exprs_tree e → part.height ≡ exprs_depth e → has_comma e ≡ false → FoundOne room before part after
-    by (one_expr e) before_is tree_is height_is comma_is = record { written = e; before_is = before_is; tree_is = tree_is; height_is = height_is; fits = f.row.fits }
-    by (several e comma r) before_is tree_is height_is comma_is = cc
+    by : (e : Exprs) → before ≡ exprs_tokens e ++ after → expr_of part.expr ≡ exprs_tree e → part.height ≡ exprs_depth e → exprs_lies e part.deepest ≡ exprs_depth e → has_comma e ≡ false → FoundOne room before part after
+    by (one_expr e) before_is tree_is height_is deepest_is comma_is = record { written = e; before_is = before_is; tree_is = tree_is; height_is = height_is; deepest_is = deepest_is; fits = f.row.fits }
+    by (several e comma r) before_is tree_is height_is deepest_is comma_is = cc
 
 range_read : (e : Expr) (colon : Spot) (high : Bound) (rest : List Token) → IsRead bound_part high rest → IsRead index_part (range_index (bound e) colon high) rest
 range_read e colon high rest next =
@@ -165,6 +170,7 @@ index_from_start room before behind after at high k f = record {
   before_is = k.before_is ∙ ap (λ ts. token (Sign 7) k.spot ∷ ts) f.before_is;
   tree_is = λ place e. ap (range_expr place e no_expr) f.tree_is;
   height_is = ap (max 0) f.height_is;
+  deepest_is = λ place. deepest_here (λ p. 0) (bound_lies f.written) 0 (limit_height high) 0 (bound_depth f.written) place (limit_deepest place high) _ refl refl f.height_is refl (f.deepest_is place) (λ p. omega arith) (bound_low f.written);
   form_is = refl;
   fits = let small = f.fits in max_fits 0 (limit_height high) room (omega arith) small;
   is_read = from_start_read k.spot f.written after f.is_read;
@@ -179,6 +185,7 @@ index_range room before middle behind after at low high l k f =
       before_is = one.before_is ∙ ap (λ ts. expr_tokens one.written ++ ts) (k.before_is ∙ ap (λ ts. token (Sign 7) k.spot ∷ ts) f.before_is) ∙ sym (append_assoc (expr_tokens one.written) (token (Sign 7) k.spot ∷ bound_tokens f.written) after);
       tree_is = λ place e. ap (λ t. range_expr place e (some_expr t) (limit_tree high)) one.tree_is ∙ ap (range_expr place e (some_expr (expr_tree one.written))) f.tree_is;
       height_is = ap (λ h. max h (limit_height high)) one.height_is ∙ ap (max (expr_depth one.written)) f.height_is;
+      deepest_is = λ place. deepest_here (expr_lies one.written) (bound_lies f.written) low.height (limit_height high) (expr_depth one.written) (bound_depth f.written) low.deepest (limit_deepest place high) _ refl one.height_is f.height_is one.deepest_is (f.deepest_is place) (expr_low one.written) (bound_low f.written);
       form_is = refl;
       fits = max_fits low.height (limit_height high) room one.fits f.fits;
       is_read = range_read one.written k.spot f.written after f.is_read;
@@ -189,19 +196,19 @@ index_range room before middle behind after at low high l k f =
 index_start_inside : (room : ℕ) (colon : Spot) (rest : List Token) → Inside index_part room bound_part room (token (Sign 7) colon ∷ []) rest
 index_start_inside room colon rest = record {
   begins = λ b. record { some = range_index no_bound colon b; more = []; tokens_are = ap (λ ts. token (Sign 7) colon ∷ ts) (sym (append-nil (bound_tokens b))) };
-  finds = λ stop more first finds. finds_first (λ b. IsDeep stop room (bound_depth b)) _ read_index read_bound (λ n high ts. Some (range_index no_bound colon high, ts)) (token (Sign 7) colon ∷ more) more (λ n. refl)
-      (λ n b ts deep. deeper stop room (bound_depth b) room _ deep (let high = le-max_right 0 (bound_depth b) in omega (arith, high))) finds;
+  finds = λ stop more first finds. finds_first (λ b. IsDeep stop room (bound_lies b)) _ read_index read_bound (λ n high ts. Some (range_index no_bound colon high, ts)) (token (Sign 7) colon ∷ more) more (λ n. refl)
+      (λ n b ts deep. deep_beside_right stop room (λ at. 0) (bound_lies b) deep) finds;
 }
 
 pub index_start_refused : (room : ℕ) (before behind : List Token) (at : Pos) (stop : Stop) → Taken (Sign 7) before at behind → Refused bound_part room behind stop → Refused index_part room before stop
 index_start_refused room before behind at stop k is = refused_same index_part room before _ stop k.before_is (refused_inside index_part room bound_part room (token (Sign 7) k.spot ∷ []) behind stop (index_start_inside room k.spot behind) is)
 
-index_deep : (stop : Stop) (room n : ℕ) (e : Exprs) (ts : List Token) → IsDeep stop room (exprs_depth e) → Only (λ i. IsDeep stop room (index_depth i)) (index_rest n e ts)
+index_deep : (stop : Stop) (room n : ℕ) (e : Exprs) (ts : List Token) → IsDeep stop room (exprs_lies e) → Only (λ i. IsDeep stop room (index_lies i)) (index_rest n e ts)
 index_deep stop room zero e ts deep = tt
 index_deep stop room (suc n) (several e comma r) ts deep = deep
 index_deep stop room (suc n) (one_expr e) [] deep = deep
 index_deep stop room (suc n) (one_expr e) (t ∷ ts) deep = only_if _ (is_sign 7 t.kind) _ _
-    (only_any _ (read_bound n ts) _ (λ high rest. deeper stop room (expr_depth e) room _ deep (let above = le-max_left (expr_depth e) (bound_depth high) in omega (arith, above))))
+    (only_any _ (read_bound n ts) _ (λ high rest. deep_beside_left stop room (expr_lies e) (bound_lies high) deep))
     deep
 
 index_row_inside : (room : ℕ) (rest : List Token) → is_sign_next 7 rest ≡ false → Inside index_part room exprs_part room [] rest
@@ -213,7 +220,7 @@ index_row_inside room rest other = record {
   };
 }
   where
-    by : (stop : Stop) (us : List Token) (m : ℕ) → is_sign_next 7 us ≡ false → Only (λ e. IsDeep stop room (exprs_depth e)) (read_exprs m us) → Only (λ i. IsDeep stop room (index_depth i)) (read_index (suc m) us)
+    by : (stop : Stop) (us : List Token) (m : ℕ) → is_sign_next 7 us ≡ false → Only (λ e. IsDeep stop room (exprs_lies e)) (read_exprs m us) → Only (λ i. IsDeep stop room (index_lies i)) (read_index (suc m) us)
     by stop [] m no_sign only = tt
     by stop (t ∷ us) m no_sign only = only_is _ _ _ (if_false (is_sign 7 t.kind) _ _ no_sign) (only_go_on _ _ (read_exprs m (t ∷ us)) _ only (λ e rest deep. index_deep stop room m e rest deep))
 
@@ -228,8 +235,8 @@ index_end_inside room e colon rest = record {
   begins = λ b. record { some = range_index (bound e) colon b; more = []; tokens_are = one_behind (expr_tokens e) (token (Sign 7) colon) (bound_tokens b) };
   finds = λ stop more first finds. finds_same _ read_index _ _ (append_assoc (expr_tokens e) (token (Sign 7) colon ∷ []) more)
       (finds_behind _ read_index read_exprs (λ n e ts. index_rest n e ts) 8 (expr_tokens e) (one_expr e) (token (Sign 7) colon ∷ more) (λ n. index_is n (expr_tokens e ++ token (Sign 7) colon ∷ more) (expr_starts e (token (Sign 7) colon ∷ more))) (one_reads e) (omega arith)
-      (finds_first (λ b. IsDeep stop room (bound_depth b)) _ (λ n ts. index_rest n (one_expr e) ts) read_bound (λ n high ts. Some (range_index (bound e) colon high, ts)) (token (Sign 7) colon ∷ more) more (λ n. refl)
-      (λ n b ts deep. deeper stop room (bound_depth b) room _ deep (let high = le-max_right (expr_depth e) (bound_depth b) in omega (arith, high))) finds));
+      (finds_first (λ b. IsDeep stop room (bound_lies b)) _ (λ n ts. index_rest n (one_expr e) ts) read_bound (λ n high ts. Some (range_index (bound e) colon high, ts)) (token (Sign 7) colon ∷ more) more (λ n. refl)
+      (λ n b ts deep. deep_beside_right stop room (expr_lies e) (bound_lies b) deep) finds));
 }
 
 pub index_end_refused : (room : ℕ) (before middle behind : List Token) (at : Pos) (low : Part) (stop : Stop) → FoundList room before low false middle → Taken (Sign 7) middle at behind → Refused bound_part room behind stop → Refused index_part room before stop

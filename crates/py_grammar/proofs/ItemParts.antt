@@ -1,7 +1,7 @@
 -- Expressions in a row and items up to a closing sign: what is read of them, and how they are refused.
 use Rattle.std.proofs.Common.{◌≡◌, ℕ, zero, suc, ◌+◌, max, ◌≤◌, ◌<◌, true, false, List, [], ◌∷◌, ◌++◌, map, Some, is_some, is_none, refl, ap, sym, ◌∙◌, arith, subst, append_assoc, if◌then◌else◌}
 use Rattle.std.specs.Prelude.{◌==◌}
-use Rattle.std.proofs.Math.Nat.{le-max_left, le-max_right}
+use Rattle.std.proofs.Math.Nat.{le-max_left}
 use Rattle.std.proofs.lemmas.List.{append-nil}
 use Rattle.prov_base.specs.declared.place.Pos.{Pos}
 use Rattle.py_lines.specs.declared.parts.Token.{Token}
@@ -15,14 +15,16 @@ use Rattle.py_grammar.specs.declared.rows.Row.{Row}
 use Rattle.py_grammar.specs.Concrete.{Spot, Expr, Exprs, one_expr, several, Rest, end_rest, last_rest, more_rest, Items, no_items, items}
 use Rattle.py_grammar.specs.Tokens.{token, expr_tokens, exprs_tokens, rest_tokens}
 use Rattle.py_grammar.specs.Trees.{expr_tree, rest_tree}
-use Rattle.py_grammar.specs.Depth.{expr_depth, exprs_depth, rest_depth}
+use Rattle.py_grammar.specs.Depth.{expr_depth, rest_depth}
+use Rattle.py_grammar.specs.Lies.{begins, deeper_of, expr_lies, exprs_lies, rest_lies}
+use Rattle.py_grammar.proofs.Lying.{above_left, deeper_second, expr_above, expr_low, over_is}
 use Rattle.py_grammar.specs.Reader.{go_on, next_level, start_class, starts, is_sign, read_sign, read_expr, read_exprs, exprs_rest, read_rest, read_items}
 use Rattle.py_grammar.specs.StatementReader.{rest_target}
 use Rattle.py_grammar.specs.Parsed.{expr_part, exprs_part, Taken, Found, IsDeep, Only, Finds, Refused, IsTooDeep, is_sign_next}
-use Rattle.py_grammar.specs.ParsedRows.{IsRead, items_part, rest_part, rest_trees, FoundList, FoundRest, FoundItems}
+use Rattle.py_grammar.specs.ParsedRows.{IsDeepestWith, IsRead, items_part, rest_part, rest_trees, FoundList, FoundRest, FoundItems}
 use Rattle.py_grammar.proofs.Firsts.{IsStart, expr_starts, exprs_starts, items_is}
 use Rattle.py_grammar.proofs.Reading.{if_false, if_true, expr_reads}
-use Rattle.py_grammar.proofs.Refusals.{Inside, only_any, only_go_on, only_if, only_is, finds_first, finds_behind, finds_at_once, finds_same, deeper, refused_inside, refused_same, one_behind, full}
+use Rattle.py_grammar.proofs.Refusals.{Inside, only_any, only_go_on, only_if, only_is, finds_first, finds_behind, finds_at_once, finds_same, deep_left, deep_right, deep_beside_left, deep_beside_right, refused_inside, refused_same, one_behind, full}
 use Rattle.py_grammar.proofs.ClosedParts.{first_is}
 use Rattle.py_grammar.proofs.RowParts.{beyond_comma, sign_first, some_several, some_one, more_steps}
 use Rattle.py_grammar.proofs.SharpReads.{exprs_is_read}
@@ -36,6 +38,7 @@ row_one room before after part f other = record {
     before_is = f.before_is;
     tree_is = f.tree_is;
     height_is = f.height_is;
+    deepest_is = f.deepest_is;
     form_is = f.form_is ∙ sym (some_one f.written);
     fits = f.fits;
     beyond = λ closed_there. beyond_comma after f.beyond other;
@@ -53,13 +56,15 @@ rest_list (more_rest e comma r) = ap (more_exprs (expr_tree e)) (rest_list r)
 pub record FirstOf (first : Part) (row : Row) : Type 0 where
   pub list_is : row.list.items ≡ first.expr ∷ []
   pub height_is : row.height ≡ first.height
+  pub deepest_is : 1 ≤ first.height → row.deepest ≡ first.deepest
   pub form_is : is_none row.wrong ≡ is_none first.wrong
 
 pub first_pushed : (empty row : Row) (first : Part) → empty.list.items ≡ [] → empty.height ≡ 0 → is_none empty.wrong ≡ true → row.list.items ≡ empty.list.items ++ first.expr ∷ [] → row.height ≡ max empty.height first.height
-    → is_none row.wrong ≡ (if is_none empty.wrong then is_none first.wrong else false) → FirstOf first row
-first_pushed empty row first none_there low free list_is height_is form_is = record {
+    → row.deepest ≡ deeper_of empty.height empty.deepest first.height first.deepest → is_none row.wrong ≡ (if is_none empty.wrong then is_none first.wrong else false) → FirstOf first row
+first_pushed empty row first none_there low free list_is height_is deepest_is form_is = record {
   list_is = list_is ∙ ap (λ xs. xs ++ first.expr ∷ []) none_there;
   height_is = height_is ∙ ap (λ h. max h first.height) low ∙ none_below first.height;
+  deepest_is = λ some. deepest_is ∙ deeper_second empty.height first.height empty.deepest first.deepest low some;
   form_is = form_is ∙ ap (λ b. if b then is_none first.wrong else false) free;
 }
   where
@@ -71,15 +76,28 @@ first_trees : (row : Row) (first : Part) (e : ExprTree) (list : List ExprRead) (
 first_trees row first e list r one is all =
     ap exprs_list (all ∙ ap (λ xs. map expr_of xs ++ rest_trees r) one.list_is) ∙ ap (λ x. more_exprs x (exprs_list (rest_trees r))) is ∙ ap (more_exprs e) (rest_list r)
 
+-- the first one with what stands behind its comma
+first_deepest : (first : Part) (row : Row) (deepest : Pos) (e : Expr) (r : Rest) → FirstOf first row → first.height ≡ expr_depth e → expr_lies e first.deepest ≡ expr_depth e → IsDeepestWith row.height row.deepest (rest_lies r) (rest_depth r) deepest
+    → max (expr_lies e deepest) (rest_lies r deepest) ≡ max (expr_depth e) (rest_depth r)
+first_deepest first row deepest e r one height there behind =
+    let same : row.height ≡ expr_depth e = one.height_is ∙ height in
+    let some : 1 ≤ first.height = let above = expr_above e in omega (arith, above, height) in
+    behind (expr_lies e) (ap (expr_lies e) (one.deepest_is some) ∙ there ∙ sym same) (λ at. let low = expr_low e at in omega (arith, low, same)) ∙ ap (λ h. max h (rest_depth r)) same
+
+some_first : (e : Expr) (n : ℕ) → 1 ≤ max (expr_depth e) n
+some_first e n = let above = expr_above e in let high = le-max_left (expr_depth e) n in omega (arith, above, high)
+
 pub row_several : (room inner : ℕ) (before middle behind after : List Token) (at : Pos) (first part : Part) (row more : Row) → Found expr_part expr_tree 7 room before first middle → Taken (Sign 6) middle at behind
     → first.height < room → inner < room → FirstOf first row → FoundRest inner behind row more after
-    → expr_of part.expr ≡ tuple_expr at (exprs_list (map expr_of more.list.items)) → part.height ≡ suc more.height → is_none part.wrong ≡ is_none more.wrong → FoundList room before part true after
-row_several room inner before middle behind after at first part row more f k less smaller one r tree height form = record {
+    → expr_of part.expr ≡ tuple_expr at (exprs_list (map expr_of more.list.items)) → part.height ≡ suc more.height → part.deepest ≡ more.deepest → is_none part.wrong ≡ is_none more.wrong → FoundList room before part true after
+row_several room inner before middle behind after at first part row more f k less smaller one r tree height deepest form = record {
   row = record {
     written = several f.written k.spot r.written;
     before_is = f.before_is ∙ ap (λ ts. expr_tokens f.written ++ ts) (k.before_is ∙ ap (λ ts. token (Sign 6) k.spot ∷ ts) r.before_is) ∙ sym (append_assoc (expr_tokens f.written) (token (Sign 6) k.spot ∷ rest_tokens r.written) after);
     tree_is = tree ∙ ap (tuple_expr at) (first_trees row first (expr_tree f.written) more.list.items r.written one f.tree_is r.trees_are) ∙ ap (λ place. tuple_expr place (more_exprs (expr_tree f.written) (rest_tree r.written))) (sym k.at_is);
     height_is = height ∙ ap suc (r.height_is ∙ ap (λ h. max h (rest_depth r.written)) (one.height_is ∙ f.height_is)) ∙ one_more (max (expr_depth f.written) (rest_depth r.written));
+    deepest_is = over_is (begins (expr_tokens f.written) part.deepest) (max (expr_lies f.written part.deepest) (rest_lies r.written part.deepest)) (max (expr_depth f.written) (rest_depth r.written))
+        (ap (λ p. max (expr_lies f.written p) (rest_lies r.written p)) deepest ∙ first_deepest first row more.deepest f.written r.written one f.height_is f.deepest_is r.deepest_is) (some_first f.written (rest_depth r.written));
     form_is = form ∙ r.form_is ∙ ap (λ b. if b then is_some (rest_target r.written) else false) (one.form_is ∙ f.form_is) ∙ sym (some_several f.written k.spot r.written);
     fits = let small = r.fits in omega (arith, height, small, smaller);
     beyond = r.beyond;
@@ -106,13 +124,13 @@ exprs_finds_rest P Q e comma more each finds = finds_same P read_exprs _ _ (appe
     (finds_behind P read_exprs read_expr (λ n e ts. exprs_rest n e ts) 7 (expr_tokens e) e (token (Sign 6) comma ∷ more) (λ n. refl) (expr_reads e) (omega arith)
     (finds_first Q P (λ n ts. exprs_rest n e ts) read_rest (λ n r ts. Some (several e comma r, ts)) (token (Sign 6) comma ∷ more) more (λ n. refl) (λ n r ts deep. each r deep) finds))
 
-several_deep : (stop : Stop) (room : ℕ) (e : Expr) (comma : Spot) (r : Rest) → IsDeep stop room (expr_depth e) → IsDeep stop room (exprs_depth (several e comma r))
-several_deep stop room e comma r deep = deeper stop room (expr_depth e) room _ deep (let high = le-max_left (expr_depth e) (rest_depth r) in omega (arith, high))
+several_deep : (stop : Stop) (room : ℕ) (e : Expr) (comma : Spot) (r : Rest) → IsDeep stop room (expr_lies e) → IsDeep stop room (exprs_lies (several e comma r))
+several_deep stop room e comma r deep = deep_left stop room (begins (expr_tokens e)) (expr_lies e) (rest_lies r) deep
 
 row_starts : (room : ℕ) (rest : List Token) → Inside exprs_part room expr_part room [] rest
 row_starts room rest = record {
   begins = λ b. record { some = one_expr b; more = []; tokens_are = sym (append-nil (expr_tokens b)) };
-  finds = λ stop more first finds. exprs_finds_first _ (λ e. IsDeep stop room (expr_depth e)) more (λ e deep. deep) (λ e comma r deep. several_deep stop room e comma r deep) finds;
+  finds = λ stop more first finds. exprs_finds_first _ (λ e. IsDeep stop room (expr_lies e)) more (λ e deep. deep) (λ e comma r deep. several_deep stop room e comma r deep) finds;
 }
 
 pub row_first : (room : ℕ) (before : List Token) (stop : Stop) → Refused expr_part room before stop → Refused exprs_part room before stop
@@ -121,8 +139,8 @@ row_first room before stop is = refused_inside exprs_part room expr_part room []
 row_goes_on : (room inner : ℕ) (e : Expr) (comma : Spot) (rest : List Token) → room ≤ suc inner → Inside exprs_part room rest_part inner (expr_tokens e ++ token (Sign 6) comma ∷ []) rest
 row_goes_on room inner e comma rest less = record {
   begins = λ b. record { some = several e comma b; more = []; tokens_are = one_behind (expr_tokens e) (token (Sign 6) comma) (rest_tokens b) };
-  finds = λ stop more first finds. exprs_finds_rest _ (λ r. IsDeep stop inner (rest_depth r)) e comma more
-      (λ r deep. deeper stop inner (rest_depth r) room _ deep (let high = le-max_right (expr_depth e) (rest_depth r) in omega (arith, high, less))) finds;
+  finds = λ stop more first finds. exprs_finds_rest _ (λ r. IsDeep stop inner (rest_lies r)) e comma more
+      (λ r deep. deep_right stop inner room (begins (expr_tokens e)) (expr_lies e) (rest_lies r) less deep) finds;
 }
 
 pub row_rest : (room inner : ℕ) (before middle behind : List Token) (at : Pos) (first : Part) (stop : Stop) → Found expr_part expr_tree 7 room before first middle → Taken (Sign 6) middle at behind → room ≤ suc inner
@@ -132,21 +150,23 @@ row_rest room inner before middle behind at first stop f k less is =
     (refused_inside exprs_part room rest_part inner (expr_tokens f.written ++ token (Sign 6) k.spot ∷ []) behind stop (row_goes_on room inner f.written k.spot behind less) is)
 
 pub row_full : (room : ℕ) (before middle behind : List Token) (at : Pos) (first : Part) (stop : Stop) → Found expr_part expr_tree 7 room before first middle → Taken (Sign 6) middle at behind
-    → IsTooDeep first.height room stop → Refused exprs_part room before stop
-row_full room before middle behind at first stop f k deep = full exprs_part room before (expr_tokens f.written) (token (Sign 6) k.spot) behind first.height stop deep
+    → IsTooDeep first.height first.deepest room stop → Refused exprs_part room before stop
+row_full room before middle behind at first stop f k deep = full exprs_part room before (expr_tokens f.written) (token (Sign 6) k.spot) behind first.height first.deepest stop deep
     (f.before_is ∙ ap (λ ts. expr_tokens f.written ++ ts) k.before_is) (record { some = one_expr f.written; more = []; tokens_are = sym (append-nil (expr_tokens f.written)) })
     (λ more. finds_behind _ read_exprs read_expr (λ n e ts. exprs_rest n e ts) 7 (expr_tokens f.written) f.written (token (Sign 6) k.spot ∷ more) (λ n. refl) (expr_reads f.written) (omega arith)
     (finds_at_once _ (λ n ts. exprs_rest n f.written ts) (token (Sign 6) k.spot ∷ more)
-    (λ n. only_any _ (read_rest n more) _ (λ r rest. let high = le-max_left (expr_depth f.written) (rest_depth r) in let is = f.height_is in omega (arith, high, is)))))
+    (λ n. only_any _ (read_rest n more) _ (λ r rest. above_left (begins (expr_tokens f.written) first.deepest) (expr_lies f.written first.deepest) (rest_lies r first.deepest) first.height (expr_depth f.written) f.height_is f.deepest_is (expr_above f.written)))))
 
 -- ---- items are read
 
-pub items_none : (closing room : ℕ) (before : List Token) (row : Row) → row.list.items ≡ [] → row.height ≡ 0 → is_sign_next closing before ≡ true → FoundItems closing room before row before
-items_none closing room before row none_there low closes = record {
+pub items_none : (closing room : ℕ) (opening : Pos) (before : List Token) (row : Row) → row.list.items ≡ [] → row.height ≡ 0 → row.deepest ≡ opening → is_sign_next closing before ≡ true → FoundItems closing room opening before row before
+items_none closing room opening before row none_there low deepest closes = record {
   written = no_items;
   before_is = refl;
   trees_are = ap (λ xs. exprs_list (map expr_of xs)) none_there;
   height_is = low;
+  deepest_is = refl;
+  empty_is = λ none. deepest;
   fits = omega (arith, low);
   is_read = record {
     steps = 1;
@@ -167,24 +187,28 @@ items_is_read closing e rest closes is = record {
       ∙ ap (λ r. go_on r (λ e rest. Some (items e, rest))) (is.reads n more first);
 }
 
-pub items_one : (closing room : ℕ) (before after : List Token) (first : Part) (row : Row) → start_class (Sign closing) ≡ 0 → Found expr_part expr_tree 7 room before first after → FirstOf first row → is_sign_next 6 after ≡ false
-    → FoundItems closing room before row after
-items_one closing room before after first row closes f one other = record {
+pub items_one : (closing room : ℕ) (opening : Pos) (before after : List Token) (first : Part) (row : Row) → start_class (Sign closing) ≡ 0 → Found expr_part expr_tree 7 room before first after → FirstOf first row → is_sign_next 6 after ≡ false
+    → FoundItems closing room opening before row after
+items_one closing room opening before after first row closes f one other = record {
   written = items (one_expr f.written);
   before_is = f.before_is;
   trees_are = ap (λ xs. exprs_list (map expr_of xs)) one.list_is ∙ ap (λ e. more_exprs e end_exprs) f.tree_is;
   height_is = one.height_is ∙ f.height_is;
+  deepest_is = ap (expr_lies f.written) (one.deepest_is (let above = expr_above f.written in let is = f.height_is in omega (arith, above, is))) ∙ f.deepest_is;
+  empty_is = λ none. let above = expr_above f.written in absurd (omega (arith, none, above));
   fits = let is = one.height_is in let small = f.fits in omega (arith, is, small);
   is_read = items_is_read closing (one_expr f.written) after closes (exprs_is_read (one_expr f.written) after (λ closed_there. beyond_comma after f.beyond other) (λ open_there. cc));
 }
 
-pub items_several : (closing room : ℕ) (before middle behind after : List Token) (at : Pos) (first : Part) (row more : Row) → start_class (Sign closing) ≡ 0 → Found expr_part expr_tree 7 room before first middle
-    → Taken (Sign 6) middle at behind → FirstOf first row → FoundRest room behind row more after → FoundItems closing room before more after
-items_several closing room before middle behind after at first row more closes f k one r = record {
+pub items_several : (closing room : ℕ) (opening : Pos) (before middle behind after : List Token) (at : Pos) (first : Part) (row more : Row) → start_class (Sign closing) ≡ 0 → Found expr_part expr_tree 7 room before first middle
+    → Taken (Sign 6) middle at behind → FirstOf first row → FoundRest room behind row more after → FoundItems closing room opening before more after
+items_several closing room opening before middle behind after at first row more closes f k one r = record {
   written = items (several f.written k.spot r.written);
   before_is = f.before_is ∙ ap (λ ts. expr_tokens f.written ++ ts) (k.before_is ∙ ap (λ ts. token (Sign 6) k.spot ∷ ts) r.before_is) ∙ sym (append_assoc (expr_tokens f.written) (token (Sign 6) k.spot ∷ rest_tokens r.written) after);
   trees_are = first_trees row first (expr_tree f.written) more.list.items r.written one f.tree_is r.trees_are;
   height_is = r.height_is ∙ ap (λ h. max h (rest_depth r.written)) (one.height_is ∙ f.height_is);
+  deepest_is = first_deepest first row more.deepest f.written r.written one f.height_is f.deepest_is r.deepest_is;
+  empty_is = λ none. let above = some_first f.written (rest_depth r.written) in absurd (omega (arith, none, above));
   fits = r.fits;
   is_read = items_is_read closing (several f.written k.spot r.written) after closes (exprs_is_read (several f.written k.spot r.written) after r.beyond r.no_more);
 }
@@ -205,7 +229,7 @@ items_inside : (closing room : ℕ) (rest : List Token) → is_sign_next closing
 items_inside closing room rest other = record {
   begins = λ b. record { some = items (one_expr b); more = []; tokens_are = sym (append-nil (expr_tokens b)) };
   finds = λ stop more first finds. items_finds closing _ more (sign_first closing rest more first ∙ other)
-      (exprs_finds_first _ (λ e. IsDeep stop room (expr_depth e)) more (λ e deep. deep) (λ e comma r deep. deeper stop room (expr_depth e) room _ deep (let high = le-max_left (expr_depth e) (rest_depth r) in omega (arith, high))) finds);
+      (exprs_finds_first _ (λ e. IsDeep stop room (expr_lies e)) more (λ e deep. deep) (λ e comma r deep. deep_beside_left stop room (expr_lies e) (rest_lies r) deep) finds);
 }
 
 pub items_first : (closing room : ℕ) (before : List Token) (stop : Stop) → is_sign_next closing before ≡ false → Refused expr_part room before stop → Refused (items_part closing) room before stop
@@ -219,7 +243,7 @@ items_go_on closing room e comma rest closes = record {
   begins = λ b. record { some = items (several e comma b); more = []; tokens_are = one_behind (expr_tokens e) (token (Sign 6) comma) (rest_tokens b) };
   finds = λ stop more first finds.
       items_start closing _ ((expr_tokens e ++ token (Sign 6) comma ∷ []) ++ more) closes (start more)
-      (exprs_finds_rest _ (λ r. IsDeep stop room (rest_depth r)) e comma more (λ r deep. deeper stop room (rest_depth r) room _ deep (let high = le-max_right (expr_depth e) (rest_depth r) in omega (arith, high))) finds);
+      (exprs_finds_rest _ (λ r. IsDeep stop room (rest_lies r)) e comma more (λ r deep. deep_beside_right stop room (expr_lies e) (rest_lies r) deep) finds);
 }
   where
     start : (more : List Token) → IsStart (starts ((expr_tokens e ++ token (Sign 6) comma ∷ []) ++ more))

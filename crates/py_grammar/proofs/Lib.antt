@@ -2,6 +2,7 @@ pub mod AmissParts
 pub mod AtomParts
 pub mod AugForms
 pub mod AugRefusals
+pub mod BracketParts
 pub mod Chains
 pub mod Choices
 pub mod ClosedParts
@@ -20,6 +21,8 @@ pub mod IndexParts
 pub mod ItemParts
 pub mod Leading
 pub mod Levels
+pub mod Lying
+pub mod LyingLines
 pub mod LineFirsts
 pub mod LineForms
 pub mod NameHeads
@@ -52,3 +55,4 @@ pub mod TargetLists
 pub mod TestOpenings
 pub mod WordRefusals
 mod Worked
+mod WorkedLies

@@ -1,5 +1,6 @@
 -- The lines that have no `:` or nothing before it, and the tokens with which none may begin.
-use Rattle.std.proofs.Common.{◌≡◌, inl, inr, ℕ, Bool, true, false, not, List, [], ◌∷◌, ◌++◌, length, Option, None, refl, ap, sym, ◌∙◌, arith, subst}
+use Rattle.std.proofs.Common.{◌≡◌, inl, inr, ℕ, Bool, true, false, not, List, [], ◌∷◌, ◌++◌, length, Option, None, refl, ap, sym, ◌∙◌, arith, subst, Some}
+use Rattle.std.proofs.Math.Nat.{le-max_right}
 use Rattle.prov_base.specs.declared.place.Pos.{Pos}
 use Rattle.py_lines.specs.declared.parts.Token.{Token}
 use Rattle.py_lines.specs.declared.parts.TokenKind.TheVariants.{Keyword, Sign}
@@ -19,6 +20,7 @@ use Rattle.py_grammar.specs.Written.{Simple, pass, del, named}
 use Rattle.py_grammar.specs.StatementTokens.{simple_tokens}
 use Rattle.py_grammar.specs.WellPlaced.{Around, simple_stands}
 use Rattle.py_grammar.specs.LineReader.{Head, simple_head, else_head, try_head, global_head, head_tokens}
+use Rattle.py_grammar.specs.Lies.{simple_lies}
 use Rattle.py_grammar.specs.Parsed.{IsAtFirst, Taken, Refused, one_sign}
 use Rattle.py_grammar.specs.ParsedSimple.{BeginsSimple}
 use Rattle.py_grammar.specs.ParsedHead.{Context, lacks_handler, kind_may, may_begin, is_compound_kind, begins_compound, PlacedFound, HeadFound, OpeningFound, OpeningRefused, BehindFound, BehindRefused, inner_around, is_compound, IsAmissPlaced, IsAmissHead, ShowsOnLine, BeginsHead, ShownBy, EndedBy, PlacedRefused, HeadRefused, IsFirstRefused, GlobalFound, GlobalRefused, word_may, Misplaced}
@@ -27,6 +29,7 @@ use Rattle.py_grammar.proofs.HeadParts.{spelled_head}
 use Rattle.py_grammar.proofs.ColonParts.{colon_refused, behind_refused, line_found}
 use Rattle.py_grammar.proofs.PlacedParts.{none_there}
 use Rattle.py_grammar.proofs.LineFirsts.{and_false, both_true, simple_some, head_some, head_simple, may_as_simple, may_as_word, misplaced_head}
+use Rattle.py_grammar.specs.declared.context.Limit.TheVariants.{Depth}
 
 -- ---- where no line may begin
 
@@ -73,7 +76,7 @@ simple_line c given limit before form may absent f = record {
 
 amiss_simple : (c : Context) (given : List (List ℕ)) (limit : Option Limit) (stop : Stop) (s : Simple) → IsAmissPlaced c.around None stop s → IsAmissHead c given limit stop (simple_head s)
 amiss_simple c given limit (Here (TooDeep at)) s (inl deep) = inl deep
-amiss_simple c given limit (Here (TooDeep at)) s (inr absent) = cc
+amiss_simple c given limit (Here (TooDeep at)) s (inr absent) = absurd (let no : None ≡ Some Depth = absent.0 in cc)
 amiss_simple c given limit (Here (TooMany at)) s absent = cc
 amiss_simple c given limit (Here (Unexpected at)) s amiss = and_false _ (simple_stands c.around s) amiss
 amiss_simple c given limit (Here Memory) s amiss = absurd amiss
@@ -157,6 +160,7 @@ else_found c before spot = record {
   depth = 0;
   low = omega arith;
   depth_is = λ colon behind. refl;
+  lies_behind = λ colon s at. le-max_right _ (simple_lies s at);
   stands = λ given colon behind. refl;
 }
 
@@ -174,6 +178,7 @@ try_found c before spot = record {
   depth = 0;
   low = omega arith;
   depth_is = λ colon behind. refl;
+  lies_behind = λ colon s at. le-max_right _ (simple_lies s at);
   stands = λ given colon behind. refl;
 }
 

@@ -1,5 +1,6 @@
 -- The lines that begin with a name behind their keyword, `def` and `class`: what is read of them, and how they are refused.
 use Rattle.std.proofs.Common.{◌≡◌, ℕ, ◌+◌, Bool, true, false, not, ◌&&◌, ◌||◌, List, [], ◌∷◌, ◌++◌, Option, Some, None, option_map, refl, ap, sym, ◌∙◌, arith, append_assoc, if◌then◌else◌, length}
+use Rattle.std.proofs.Math.Nat.{le-max_right}
 use Rattle.prov_base.specs.declared.place.Pos.{Pos}
 use Rattle.py_lines.specs.declared.parts.Token.{Token}
 use Rattle.py_lines.specs.declared.parts.TokenKind.TheVariants.{Word, Keyword, Sign}
@@ -19,6 +20,7 @@ use Rattle.py_grammar.specs.StatementTrees.{params_list, base_tree}
 use Rattle.py_grammar.specs.LineReader.{Head, def_head, class_head, head_tokens, colon_tokens, then_read, read_colon, read_behind, read_head, read_params, read_base}
 use Rattle.py_grammar.specs.Reader.{Read, go_on, is_sign, read_sign}
 use Rattle.py_grammar.specs.WellPlaced.{may_be_method, are_different, in_def_suite}
+use Rattle.py_grammar.specs.Lies.{simple_lies}
 use Rattle.py_grammar.specs.Parsed.{IsDeep, Refused, TakenName, one_name}
 use Rattle.py_grammar.specs.ParsedHead.{Took, base_part, Context, lacks_handler, behind_stands, IsAmissHead, OpeningFound, OpeningRefused}
 use Rattle.py_grammar.specs.ParsedNames.{RefusedAmiss, BracketNames, bracket_tokens, read_bracket, bracket_part, ParamsFound, IsRepeatedIn}
@@ -43,7 +45,7 @@ only_colon P n made (t ∷ ts) each = by (is_sign 7 t.kind) (read_behind n ts)
     by true None = tt
     by true (Some behind) = each _ behind
 
-pub not_deep_there : (why : Stop) → IsDeep why 100 0 → ⊥
+pub not_deep_there : (why : Stop) → IsDeep why 100 (λ at. 0) → ⊥
 not_deep_there (Here (TooDeep at)) deep = absurd (omega (arith, deep))
 not_deep_there (Here (Unexpected at)) deep = deep
 not_deep_there (Here (TooMany at)) deep = deep
@@ -92,6 +94,7 @@ class_found c place name base before middle after f b spot = record {
   depth = 1;
   low = omega arith;
   depth_is = λ colon behind. refl;
+  lies_behind = λ colon s at. le-max_right _ (simple_lies s at);
   stands = λ given colon behind. refl;
 }
 
@@ -223,5 +226,6 @@ def_found c place name params before middle after f p method spot = record {
   depth = 0;
   low = omega arith;
   depth_is = λ colon behind. refl;
+  lies_behind = λ colon s at. le-max_right _ (simple_lies s at);
   stands = λ given colon behind. method_there (lacks_handler c.last) c.around.at_module_level c.around.in_class (may_be_method name) (are_different (params_list p.written.1)) (behind_stands in_def_suite behind) method p.different;
 }

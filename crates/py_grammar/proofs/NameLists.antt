@@ -319,7 +319,7 @@ name_inside before after list g = record {
   };
 }
   where
-    by : (stop : Stop) (n : ℕ) (more : List Token) → Only (λ b. IsDeep stop 0 0) (read_name more) → (b : Bool) → begins_name more ≡ b → Only (λ w. IsDeep stop 0 0) (leaving_none (whole (read_names (n + (1 + g.steps)) (g.front ++ more))))
+    by : (stop : Stop) (n : ℕ) (more : List Token) → Only (λ b. IsDeep stop 0 (λ at. 0)) (read_name more) → (b : Bool) → begins_name more ≡ b → Only (λ w. IsDeep stop 0 (λ at. 0)) (leaving_none (whole (read_names (n + (1 + g.steps)) (g.front ++ more))))
     by stop n more only true is = only_whole _ (read_names (n + (1 + g.steps)) (g.front ++ more)) (only_is _ _ _
         (more_steps (λ k. read_names k (g.front ++ more)) (n + (1 + g.steps)) ((n + 1) + g.steps) (omega arith)
         ∙ g.leads (n + 1) more is

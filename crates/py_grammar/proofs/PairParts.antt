@@ -16,13 +16,15 @@ use Rattle.py_grammar.specs.Concrete.{Spot, Expr, Pairs, no_pairs, last_pair, mo
 use Rattle.py_grammar.specs.Tokens.{token, expr_tokens, pairs_tokens}
 use Rattle.py_grammar.specs.Trees.{expr_tree, pairs_tree}
 use Rattle.py_grammar.specs.Depth.{expr_depth, pairs_depth}
+use Rattle.py_grammar.specs.Lies.{deeper_of, expr_lies, pairs_lies}
+use Rattle.py_grammar.proofs.Lying.{both_low, deepest_pair, expr_above, expr_low}
 use Rattle.py_grammar.specs.Reader.{Read, go_on, next_level, is_sign, read_sign, read_expr, read_pairs, pairs_rest}
 use Rattle.py_grammar.specs.Parsed.{expr_part, Taken, Found, IsDeep, Only, Finds, Refused, one_sign, is_sign_next}
 use Rattle.py_grammar.specs.ParsedRows.{IsRead, first_token, pairs_part, FoundPairs}
 use Rattle.py_grammar.proofs.Leading.{Reads, no_such}
 use Rattle.py_grammar.proofs.Firsts.{expr_starts}
 use Rattle.py_grammar.proofs.Reading.{if_false, if_true, expr_reads, pairs_is, pair_of, after_key}
-use Rattle.py_grammar.proofs.Refusals.{Inside, only_any, only_go_on, only_if, only_is, finds_behind, finds_same, deeper, refused_inside, refused_same}
+use Rattle.py_grammar.proofs.Refusals.{Inside, only_any, only_go_on, only_if, only_is, finds_behind, finds_same, deeper, deep_beside_left, deep_beside_right, refused_inside, refused_same}
 use Rattle.py_grammar.proofs.ClosedParts.{first_is, first_same, no_spot, not_deep}
 use Rattle.py_grammar.proofs.PrimParts.{go_on_once}
 use Rattle.py_grammar.proofs.RowParts.{beyond_comma, sign_first, more_steps}
@@ -44,7 +46,7 @@ abbrev both_trees : ExprRead × ExprRead → ExprTree × ExprTree
 both_trees p = (expr_of p.0, expr_of p.1)
 
 -- `put` puts what comes behind what was read
-pub record PairsGo (room : ℕ) (before after : List Token) (row : PairRow) : Type 0 where
+pub record PairsGo (room : ℕ) (opening : Pos) (before after : List Token) (row : PairRow) : Type 0 where
   pub put : Pairs → Pairs
   pub front : List Token
   pub before_is : before ≡ front ++ after
@@ -55,6 +57,11 @@ pub record PairsGo (room : ℕ) (before after : List Token) (row : PairRow) : Ty
   pub depth : ℕ
   pub height_is : row.height ≡ depth
   pub depth_is : (p : Pairs) → pairs_depth (put p) ≡ max depth (pairs_depth p)
+  pub lies : Pos → ℕ
+  pub lies_is : (p : Pairs) (at : Pos) → pairs_lies (put p) at ≡ max (lies at) (pairs_lies p at)
+  pub low : (at : Pos) → lies at ≤ depth
+  pub deepest_is : lies row.deepest ≡ depth
+  pub empty_is : depth ≡ 0 → row.deepest ≡ opening
   pub fits : row.height ≤ room
   pub steps : ℕ
   pub behind : ℕ
@@ -64,8 +71,8 @@ go_on_itself : {A : Type 0} (r : Read A) → r ≡ go_on r (λ a rest. Some (a, 
 go_on_itself None = refl
 go_on_itself (Some (a, rest)) = refl
 
-pub pairs_init : (room : ℕ) (before : List Token) (row : PairRow) → row.list.items ≡ [] → row.height ≡ 0 → PairsGo room before before row
-pairs_init room before row none_there low = record {
+pub pairs_init : (room : ℕ) (opening : Pos) (before : List Token) (row : PairRow) → row.list.items ≡ [] → row.height ≡ 0 → row.deepest ≡ opening → PairsGo room opening before before row
+pairs_init room opening before row none_there low deepest = record {
   put = λ p. p;
   front = [];
   before_is = refl;
@@ -76,6 +83,11 @@ pairs_init room before row none_there low = record {
   depth = 0;
   height_is = low;
   depth_is = λ p. none_below (pairs_depth p);
+  lies = λ at. 0;
+  lies_is = λ p at. none_below (pairs_lies p at);
+  low = λ at. omega arith;
+  deepest_is = refl;
+  empty_is = λ none. deepest;
   fits = omega (arith, low);
   steps = 0;
   behind = 0;
@@ -122,10 +134,13 @@ pair_leads put front steps behind leads key colon value comma is next n tail =
     ∙ more_steps (λ k. pairs_rest k key colon value (d ∷ tail)) (suc ((n + behind) + (0 + s))) (suc (n + (behind + s))) (omega arith))
     ∙ go_on_once (read_pairs (n + (behind + s)) tail) (more_pairs key colon value comma) (λ p rest. Some (put p, rest))
 
-pub pairs_next : (room : ℕ) (before after middle second third behind : List Token) (colon_at at : Pos) (row row_2 : PairRow) (key value : Part) → PairsGo room before after row → Found expr_part expr_tree 7 room after key middle
+some_pair : (n : ℕ) (key : Expr) (m : ℕ) → 1 ≤ max n (max (expr_depth key) m)
+some_pair n key m = let above = expr_above key in let high = le-max_left (expr_depth key) m in let higher = le-max_right n (max (expr_depth key) m) in omega (arith, above, high, higher)
+
+pub pairs_next : (room : ℕ) (opening : Pos) (before after middle second third behind : List Token) (colon_at at : Pos) (row row_2 : PairRow) (key value : Part) → PairsGo room opening before after row → Found expr_part expr_tree 7 room after key middle
     → Taken (Sign 7) middle colon_at second → Found expr_part expr_tree 7 room second value third → Taken (Sign 6) third at behind → row_2.list.items ≡ row.list.items ++ (key.expr, value.expr) ∷ []
-    → row_2.height ≡ max (max row.height key.height) value.height → PairsGo room before behind row_2
-pairs_next room before after middle second third behind colon_at at row row_2 key value g f c v k items_are higher = record {
+    → row_2.height ≡ max (max row.height key.height) value.height → row_2.deepest ≡ deeper_of (max row.height key.height) (deeper_of row.height row.deepest key.height key.deepest) value.height value.deepest → PairsGo room opening before behind row_2
+pairs_next room opening before after middle second third behind colon_at at row row_2 key value g f c v k items_are higher deepest = record {
   put = λ p. g.put (more_pairs f.written c.spot v.written k.spot p);
   front = g.front ++ (expr_tokens f.written ++ token (Sign 7) c.spot ∷ (expr_tokens v.written ++ token (Sign 6) k.spot ∷ []));
   before_is = g.before_is ∙ ap (λ ts. g.front ++ ts) (f.before_is ∙ ap (λ ts. expr_tokens f.written ++ ts) (c.before_is ∙ ap (λ ts. token (Sign 7) c.spot ∷ ts) (v.before_is ∙ ap (λ ts. expr_tokens v.written ++ ts) k.before_is)))
@@ -137,6 +152,12 @@ pairs_next room before after middle second third behind colon_at at row row_2 ke
   depth = max g.depth (max (expr_depth f.written) (expr_depth v.written));
   height_is = higher_is g.depth (expr_depth f.written) (expr_depth v.written) row.height key.height value.height row_2.height higher g.height_is f.height_is v.height_is;
   depth_is = λ p. g.depth_is (more_pairs f.written c.spot v.written k.spot p) ∙ sym (max_three g.depth (expr_depth f.written) (expr_depth v.written) (pairs_depth p));
+  lies = λ at. max (g.lies at) (max (expr_lies f.written at) (expr_lies v.written at));
+  lies_is = λ p at. g.lies_is (more_pairs f.written c.spot v.written k.spot p) at ∙ sym (max_three (g.lies at) (expr_lies f.written at) (expr_lies v.written at) (pairs_lies p at));
+  low = λ at. both_low _ _ _ _ (g.low at) (both_low _ _ _ _ (expr_low f.written at) (expr_low v.written at));
+  deepest_is = deepest_pair g.lies (expr_lies f.written) (expr_lies v.written) g.depth (expr_depth f.written) (expr_depth v.written) row.height key.height value.height row.deepest key.deepest value.deepest row_2.deepest deepest
+      g.height_is f.height_is v.height_is g.deepest_is f.deepest_is v.deepest_is g.low (expr_low f.written) (expr_low v.written);
+  empty_is = λ none. let above = some_pair g.depth f.written (expr_depth v.written) in absurd (omega (arith, none, above));
   fits = three_below row_2.height row.height key.height value.height room higher g.fits f.fits v.fits;
   steps = suc (suc ((expr_reads f.written).steps + (expr_reads v.written).steps)) + g.steps;
   behind = g.behind + ((expr_reads f.written).steps + (expr_reads v.written).steps);
@@ -144,8 +165,8 @@ pairs_next room before after middle second third behind colon_at at row row_2 ke
 }
 
 -- what ends the pairs is read behind what was read
-put_read : (room : ℕ) (before after : List Token) (row : PairRow) (g : PairsGo room before after row) (p : Pairs) (rest : List Token) → IsRead pairs_part p rest → IsRead pairs_part (g.put p) rest
-put_read room before after row g p rest is = record {
+put_read : (room : ℕ) (opening : Pos) (before after : List Token) (row : PairRow) (g : PairsGo room opening before after row) (p : Pairs) (rest : List Token) → IsRead pairs_part p rest → IsRead pairs_part (g.put p) rest
+put_read room opening before after row g p rest is = record {
   steps = is.steps + g.steps;
   reads = λ n more first.
       more_steps (λ k. read_pairs k (pairs_tokens (g.put p) ++ more)) (n + (is.steps + g.steps)) ((n + is.steps) + g.steps) (omega arith)
@@ -184,23 +205,25 @@ last_read key colon value rest beyond =
           ∙ if_false (next_level more == 8) _ _ (no_such (next_level more) 8 above);
     }
 
-pub pairs_end : (room : ℕ) (before after : List Token) (row : PairRow) → PairsGo room before after row → is_sign_next 5 after ≡ true → FoundPairs room before row after
-pairs_end room before after row g closes = record {
+pub pairs_end : (room : ℕ) (opening : Pos) (before after : List Token) (row : PairRow) → PairsGo room opening before after row → is_sign_next 5 after ≡ true → FoundPairs room opening before row after
+pairs_end room opening before after row g closes = record {
   written = g.put no_pairs;
   before_is = g.before_is ∙ ap (λ ts. ts ++ after) (sym (g.tokens_are no_pairs ∙ append-nil g.front));
   trees_are = ap pairs_list (g.row_is ∙ sym (g.trees_are no_pairs ∙ append-nil g.trees)) ∙ pair_list (g.put no_pairs);
   height_is = g.height_is ∙ sym (g.depth_is no_pairs ∙ no_deeper g.depth);
+  deepest_is = g.lies_is no_pairs row.deepest ∙ no_deeper (g.lies row.deepest) ∙ g.deepest_is ∙ sym (g.depth_is no_pairs ∙ no_deeper g.depth);
+  empty_is = λ none. g.empty_is (sym (g.depth_is no_pairs ∙ no_deeper g.depth) ∙ none);
   fits = g.fits;
-  is_read = put_read room before after row g no_pairs after (none_read after closes);
+  is_read = put_read room opening before after row g no_pairs after (none_read after closes);
 }
   where
     no_deeper : (n : ℕ) → max n 0 ≡ n
     no_deeper n = omega arith
 
-pub pairs_last : (room : ℕ) (before after middle second third : List Token) (colon_at : Pos) (row row_2 : PairRow) (key value : Part) → PairsGo room before after row → Found expr_part expr_tree 7 room after key middle
+pub pairs_last : (room : ℕ) (opening : Pos) (before after middle second third : List Token) (colon_at : Pos) (row row_2 : PairRow) (key value : Part) → PairsGo room opening before after row → Found expr_part expr_tree 7 room after key middle
     → Taken (Sign 7) middle colon_at second → Found expr_part expr_tree 7 room second value third → is_sign_next 6 third ≡ false → row_2.list.items ≡ row.list.items ++ (key.expr, value.expr) ∷ []
-    → row_2.height ≡ max (max row.height key.height) value.height → FoundPairs room before row_2 third
-pairs_last room before after middle second third colon_at row row_2 key value g f c v other items_are higher = record {
+    → row_2.height ≡ max (max row.height key.height) value.height → row_2.deepest ≡ deeper_of (max row.height key.height) (deeper_of row.height row.deepest key.height key.deepest) value.height value.deepest → FoundPairs room opening before row_2 third
+pairs_last room opening before after middle second third colon_at row row_2 key value g f c v other items_are higher deepest = record {
   written = g.put (last_pair f.written c.spot v.written);
   before_is = g.before_is ∙ ap (λ ts. g.front ++ ts) (f.before_is ∙ ap (λ ts. expr_tokens f.written ++ ts) (c.before_is ∙ ap (λ ts. token (Sign 7) c.spot ∷ ts) v.before_is))
       ∙ sym (append_assoc g.front (expr_tokens f.written ++ token (Sign 7) c.spot ∷ expr_tokens v.written) third ∙ ap (λ ts. g.front ++ ts) (append_assoc (expr_tokens f.written) (token (Sign 7) c.spot ∷ expr_tokens v.written) third))
@@ -208,60 +231,62 @@ pairs_last room before after middle second third colon_at row row_2 key value g 
   trees_are = ap pairs_list (pushed_trees row.list.items row_2.list.items key.expr value.expr g.trees (expr_tree f.written) (expr_tree v.written) items_are g.row_is f.tree_is v.tree_is ∙ sym (g.trees_are (last_pair f.written c.spot v.written)))
       ∙ pair_list (g.put (last_pair f.written c.spot v.written));
   height_is = higher_is g.depth (expr_depth f.written) (expr_depth v.written) row.height key.height value.height row_2.height higher g.height_is f.height_is v.height_is ∙ sym (g.depth_is (last_pair f.written c.spot v.written));
+  deepest_is = g.lies_is (last_pair f.written c.spot v.written) row_2.deepest ∙ deepest_pair g.lies (expr_lies f.written) (expr_lies v.written) g.depth (expr_depth f.written) (expr_depth v.written) row.height key.height value.height row.deepest key.deepest value.deepest row_2.deepest deepest
+      g.height_is f.height_is v.height_is g.deepest_is f.deepest_is v.deepest_is g.low (expr_low f.written) (expr_low v.written) ∙ sym (g.depth_is (last_pair f.written c.spot v.written));
+  empty_is = λ none. let above = some_pair g.depth f.written (expr_depth v.written) in let is = g.depth_is (last_pair f.written c.spot v.written) in absurd (omega (arith, none, is, above));
   fits = three_below row_2.height row.height key.height value.height room higher g.fits f.fits v.fits;
-  is_read = put_read room before after row g (last_pair f.written c.spot v.written) third (last_read f.written c.spot v.written third (beyond_comma third v.beyond other));
+  is_read = put_read room opening before after row g (last_pair f.written c.spot v.written) third (last_read f.written c.spot v.written third (beyond_comma third v.beyond other));
 }
 
 -- ---- and refused
 
 -- what is found behind what was read
-put_finds : (room : ℕ) (before after : List Token) (row : PairRow) (g : PairsGo room before after row) (stop : Stop) (more : List Token) → Finds (λ p. IsDeep stop room (pairs_depth p)) read_pairs more
-    → Finds (λ p. IsDeep stop room (pairs_depth p)) read_pairs (g.front ++ more)
-put_finds room before after row g stop more finds = record {
+put_finds : (room : ℕ) (opening : Pos) (before after : List Token) (row : PairRow) (g : PairsGo room opening before after row) (stop : Stop) (more : List Token) → Finds (λ p. IsDeep stop room (pairs_lies p)) read_pairs more
+    → Finds (λ p. IsDeep stop room (pairs_lies p)) read_pairs (g.front ++ more)
+put_finds room opening before after row g stop more finds = record {
   steps = finds.steps + g.steps;
   only = λ n. only_is _ _ _ (more_steps (λ k. read_pairs k (g.front ++ more)) (n + (finds.steps + g.steps)) ((n + finds.steps) + g.steps) (omega arith)
       ∙ g.leads (n + finds.steps) more
       ∙ more_steps (λ k. go_on (read_pairs k more) (λ p rest. Some (g.put p, rest))) ((n + finds.steps) + g.behind) ((n + g.behind) + finds.steps) (omega arith))
-      (only_go_on (λ p. IsDeep stop room (pairs_depth p)) _ (read_pairs ((n + g.behind) + finds.steps) more) _ (finds.only (n + g.behind))
-      (λ p rest deep. deeper stop room (pairs_depth p) room _ deep (let is = g.depth_is p in let high = le-max_right g.depth (pairs_depth p) in omega (arith, is, high))));
+      (only_go_on (λ p. IsDeep stop room (pairs_lies p)) _ (read_pairs ((n + g.behind) + finds.steps) more) _ (finds.only (n + g.behind))
+      (λ p rest deep. deeper stop room (pairs_lies p) room (pairs_lies (g.put p)) deep (λ at some. let is = g.lies_is p at in let high = le-max_right (g.lies at) (pairs_lies p at) in omega (arith, is, high))));
 }
 
-pair_deep : (stop : Stop) (room n : ℕ) (key : Expr) (colon : Spot) (value : Expr) (ts : List Token) → IsDeep stop room (max (expr_depth key) (expr_depth value)) → Only (λ p. IsDeep stop room (pairs_depth p)) (pairs_rest n key colon value ts)
+pair_deep : (stop : Stop) (room n : ℕ) (key : Expr) (colon : Spot) (value : Expr) (ts : List Token) → IsDeep stop room (λ at. max (expr_lies key at) (expr_lies value at)) → Only (λ p. IsDeep stop room (pairs_lies p)) (pairs_rest n key colon value ts)
 pair_deep stop room zero key colon value ts deep = tt
 pair_deep stop room (suc n) key colon value ts deep = only_if _ (next_level ts == 8) _ _
-    (only_any _ (read_sign 6 ts) _ (λ comma more. only_any _ (read_pairs n more) _ (λ found rest. deeper stop room (max (expr_depth key) (expr_depth value)) room _ deep
-    (let high = le-max_left (max (expr_depth key) (expr_depth value)) (pairs_depth found) in omega (arith, high)))))
+    (only_any _ (read_sign 6 ts) _ (λ comma more. only_any _ (read_pairs n more) _ (λ found rest. deep_beside_left stop room (λ at. max (expr_lies key at) (expr_lies value at)) (pairs_lies found) deep)))
     deep
 
-key_deep : (stop : Stop) (room n : ℕ) (key : Expr) (ts : List Token) → IsDeep stop room (expr_depth key) → Only (λ p. IsDeep stop room (pairs_depth p)) (after_key n key ts)
+key_deep : (stop : Stop) (room n : ℕ) (key : Expr) (ts : List Token) → IsDeep stop room (expr_lies key) → Only (λ p. IsDeep stop room (pairs_lies p)) (after_key n key ts)
 key_deep stop room n key ts deep = only_any _ (read_sign 7 ts) _ (λ colon more. only_any _ (read_expr n more) _ (λ value rest. pair_deep stop room n key colon value rest
-    (deeper stop room (expr_depth key) room _ deep (let high = le-max_left (expr_depth key) (expr_depth value) in omega (arith, high)))))
+    (deep_beside_left stop room (expr_lies key) (expr_lies value) deep)))
 
-key_finds : (room : ℕ) (stop : Stop) (more : List Token) → is_sign_next 5 more ≡ false → Finds (λ e. IsDeep stop room (expr_depth e)) read_expr more → Finds (λ p. IsDeep stop room (pairs_depth p)) read_pairs more
+key_finds : (room : ℕ) (stop : Stop) (more : List Token) → is_sign_next 5 more ≡ false → Finds (λ e. IsDeep stop room (expr_lies e)) read_expr more → Finds (λ p. IsDeep stop room (pairs_lies p)) read_pairs more
 key_finds room stop more other finds = record {
   steps = suc finds.steps;
   only = λ n. only_is _ _ _ (more_steps (λ m. read_pairs m more) (n + suc finds.steps) (suc (n + finds.steps)) (omega arith)) (by more (n + finds.steps) other (finds.only n));
 }
   where
-    by : (us : List Token) (m : ℕ) → is_sign_next 5 us ≡ false → Only (λ e. IsDeep stop room (expr_depth e)) (read_expr m us) → Only (λ p. IsDeep stop room (pairs_depth p)) (read_pairs (suc m) us)
+    by : (us : List Token) (m : ℕ) → is_sign_next 5 us ≡ false → Only (λ e. IsDeep stop room (expr_lies e)) (read_expr m us) → Only (λ p. IsDeep stop room (pairs_lies p)) (read_pairs (suc m) us)
     by [] m no_sign only = tt
     by (t ∷ us) m no_sign only = only_is _ _ _ (if_false (is_sign 5 t.kind) _ _ no_sign) (only_go_on _ _ (read_expr m (t ∷ us)) _ only (λ key rest deep. key_deep stop room m key rest deep))
 
-key_inside : (room : ℕ) (before after : List Token) (row : PairRow) (g : PairsGo room before after row) → is_sign_next 5 after ≡ false → Inside pairs_part room expr_part room g.front after
-key_inside room before after row g other = record {
+key_inside : (room : ℕ) (opening : Pos) (before after : List Token) (row : PairRow) (g : PairsGo room opening before after row) → is_sign_next 5 after ≡ false → Inside pairs_part room expr_part room g.front after
+key_inside room opening before after row g other = record {
   begins = λ b. record { some = g.put (last_pair b no_spot b); more = token (Sign 7) no_spot ∷ expr_tokens b; tokens_are = g.tokens_are (last_pair b no_spot b) ∙ sym (append_assoc g.front (expr_tokens b) (token (Sign 7) no_spot ∷ expr_tokens b)) };
-  finds = λ stop more first finds. put_finds room before after row g stop more (key_finds room stop more (sign_first 5 after more first ∙ other) finds);
+  finds = λ stop more first finds. put_finds room opening before after row g stop more (key_finds room stop more (sign_first 5 after more first ∙ other) finds);
 }
 
-pub key_refused : (room : ℕ) (before after : List Token) (row : PairRow) (stop : Stop) → PairsGo room before after row → is_sign_next 5 after ≡ false → Refused expr_part room after stop → Refused pairs_part room before stop
-key_refused room before after row stop g other is = refused_same pairs_part room before _ stop g.before_is (refused_inside pairs_part room expr_part room g.front after stop (key_inside room before after row g other) is)
+pub key_refused : (room : ℕ) (opening : Pos) (before after : List Token) (row : PairRow) (stop : Stop) → PairsGo room opening before after row → is_sign_next 5 after ≡ false → Refused expr_part room after stop → Refused pairs_part room before stop
+key_refused room opening before after row stop g other is = refused_same pairs_part room before _ stop g.before_is (refused_inside pairs_part room expr_part room g.front after stop (key_inside room opening before after row g other) is)
 
 -- behind a key
 behind_key : (P : Pairs → Type 0) (key : Expr) (more : List Token) → 7 < next_level more → Finds P (λ n ts. after_key n key ts) more → Finds P read_pairs (expr_tokens key ++ more)
 behind_key P key more beyond finds = finds_behind P read_pairs read_expr (λ n key ts. after_key n key ts) 7 (expr_tokens key) key more (λ n. pairs_is n (expr_tokens key ++ more) (expr_starts key more)) (expr_reads key) beyond finds
 
-colon_inside : (room : ℕ) (before after : List Token) (row : PairRow) (g : PairsGo room before after row) (key : Expr) (rest : List Token) → 7 < next_level rest → Inside pairs_part room (one_sign 7) 0 (g.front ++ expr_tokens key) rest
-colon_inside room before after row g key rest beyond = record {
+colon_inside : (room : ℕ) (opening : Pos) (before after : List Token) (row : PairRow) (g : PairsGo room opening before after row) (key : Expr) (rest : List Token) → 7 < next_level rest → Inside pairs_part room (one_sign 7) 0 (g.front ++ expr_tokens key) rest
+colon_inside room opening before after row g key rest beyond = record {
   begins = λ spot. record {
     some = g.put (last_pair key spot key);
     more = expr_tokens key;
@@ -270,19 +295,19 @@ colon_inside room before after row g key rest beyond = record {
   finds = λ stop more first finds.
       let level : next_level more ≡ next_level rest = level_same more rest (first_same more rest first) in
       finds_same _ read_pairs _ _ (append_assoc g.front (expr_tokens key) more)
-      (put_finds room before after row g stop (expr_tokens key ++ more) (behind_key _ key more (omega (arith, level, beyond))
-      (record { steps = 0; only = λ n. only_go_on (λ spot. IsDeep stop 0 0) _ (read_sign 7 more) _ (finds.only n) (λ spot rest deep. absurd (not_deep stop deep)) })));
+      (put_finds room opening before after row g stop (expr_tokens key ++ more) (behind_key _ key more (omega (arith, level, beyond))
+      (record { steps = 0; only = λ n. only_go_on (λ spot. IsDeep stop 0 (λ at. 0)) _ (read_sign 7 more) _ (finds.only n) (λ spot rest deep. absurd (not_deep stop deep)) })));
 }
 
-pub colon_refused : (room : ℕ) (before after middle : List Token) (row : PairRow) (key : Part) (stop : Stop) → PairsGo room before after row → Found expr_part expr_tree 7 room after key middle → Refused (one_sign 7) 0 middle stop
+pub colon_refused : (room : ℕ) (opening : Pos) (before after middle : List Token) (row : PairRow) (key : Part) (stop : Stop) → PairsGo room opening before after row → Found expr_part expr_tree 7 room after key middle → Refused (one_sign 7) 0 middle stop
     → Refused pairs_part room before stop
-colon_refused room before after middle row key stop g f is =
+colon_refused room opening before after middle row key stop g f is =
     refused_same pairs_part room before _ stop (g.before_is ∙ ap (λ ts. g.front ++ ts) f.before_is ∙ sym (append_assoc g.front (expr_tokens f.written) middle))
-    (refused_inside pairs_part room (one_sign 7) 0 (g.front ++ expr_tokens f.written) middle stop (colon_inside room before after row g f.written middle f.beyond) is)
+    (refused_inside pairs_part room (one_sign 7) 0 (g.front ++ expr_tokens f.written) middle stop (colon_inside room opening before after row g f.written middle f.beyond) is)
 
-value_inside : (room : ℕ) (before after : List Token) (row : PairRow) (g : PairsGo room before after row) (key : Expr) (colon : Spot) (rest : List Token)
+value_inside : (room : ℕ) (opening : Pos) (before after : List Token) (row : PairRow) (g : PairsGo room opening before after row) (key : Expr) (colon : Spot) (rest : List Token)
     → Inside pairs_part room expr_part room (g.front ++ (expr_tokens key ++ token (Sign 7) colon ∷ [])) rest
-value_inside room before after row g key colon rest = record {
+value_inside room opening before after row g key colon rest = record {
   begins = λ b. record {
     some = g.put (last_pair key colon b);
     more = [];
@@ -291,17 +316,17 @@ value_inside room before after row g key colon rest = record {
   };
   finds = λ stop more first finds.
       finds_same _ read_pairs _ _ (append_assoc g.front (expr_tokens key ++ token (Sign 7) colon ∷ []) more ∙ ap (λ ts. g.front ++ ts) (append_assoc (expr_tokens key) (token (Sign 7) colon ∷ []) more))
-      (put_finds room before after row g stop (expr_tokens key ++ token (Sign 7) colon ∷ more) (behind_key _ key (token (Sign 7) colon ∷ more) (omega arith)
+      (put_finds room opening before after row g stop (expr_tokens key ++ token (Sign 7) colon ∷ more) (behind_key _ key (token (Sign 7) colon ∷ more) (omega arith)
       (record {
         steps = finds.steps;
-        only = λ n. only_go_on (λ e. IsDeep stop room (expr_depth e)) _ (read_expr (n + finds.steps) more) _ (finds.only n)
-            (λ value rest deep. pair_deep stop room (n + finds.steps) key colon value rest (deeper stop room (expr_depth value) room _ deep (let high = le-max_right (expr_depth key) (expr_depth value) in omega (arith, high))));
+        only = λ n. only_go_on (λ e. IsDeep stop room (expr_lies e)) _ (read_expr (n + finds.steps) more) _ (finds.only n)
+            (λ value rest deep. pair_deep stop room (n + finds.steps) key colon value rest (deep_beside_right stop room (expr_lies key) (expr_lies value) deep));
       })));
 }
 
-pub value_refused : (room : ℕ) (before after middle second : List Token) (at : Pos) (row : PairRow) (key : Part) (stop : Stop) → PairsGo room before after row → Found expr_part expr_tree 7 room after key middle → Taken (Sign 7) middle at second
+pub value_refused : (room : ℕ) (opening : Pos) (before after middle second : List Token) (at : Pos) (row : PairRow) (key : Part) (stop : Stop) → PairsGo room opening before after row → Found expr_part expr_tree 7 room after key middle → Taken (Sign 7) middle at second
     → Refused expr_part room second stop → Refused pairs_part room before stop
-value_refused room before after middle second at row key stop g f k is =
+value_refused room opening before after middle second at row key stop g f k is =
     refused_same pairs_part room before _ stop (g.before_is ∙ ap (λ ts. g.front ++ ts) (f.before_is ∙ ap (λ ts. expr_tokens f.written ++ ts) k.before_is ∙ sym (append_assoc (expr_tokens f.written) (token (Sign 7) k.spot ∷ []) second))
     ∙ sym (append_assoc g.front (expr_tokens f.written ++ token (Sign 7) k.spot ∷ []) second))
-    (refused_inside pairs_part room expr_part room (g.front ++ (expr_tokens f.written ++ token (Sign 7) k.spot ∷ [])) second stop (value_inside room before after row g f.written k.spot second) is)
+    (refused_inside pairs_part room expr_part room (g.front ++ (expr_tokens f.written ++ token (Sign 7) k.spot ∷ [])) second stop (value_inside room opening before after row g f.written k.spot second) is)

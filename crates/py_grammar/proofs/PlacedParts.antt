@@ -21,7 +21,7 @@ use Rattle.py_grammar.specs.Reader.{spot_of}
 use Rattle.py_grammar.specs.StatementReader.{read_simple}
 use Rattle.py_grammar.specs.Parsed.{Only, Finds}
 use Rattle.py_grammar.specs.ParsedSimple.{leaving_none, simple_part, SimpleFound, IsAmiss, BeginsSimple, SimpleShown, SimpleEnds, SimpleRefused}
-use Rattle.py_grammar.specs.ParsedHead.{PlacedFound, IsAmissPlaced, begins_at, ShownBy, EndedBy, PlacedRefused, BehindRefused, BehindFound, is_compound_kind, may_be_alone, is_refused_kind, is_text_kind, limit_fault, IsRefusedInClass, ShowsOnLine, left_in_class}
+use Rattle.py_grammar.specs.ParsedHead.{PlacedFound, IsAmissPlaced, begins_at, ShownBy, EndedBy, PlacedRefused, BehindRefused, BehindFound, is_compound_kind, may_be_alone, is_refused_kind, is_text_kind, limit_fault, IsRefusedInClass, ShowsOnLine, left_in_class, stands_first}
 use Rattle.py_grammar.proofs.Stops.{some_spot, shows_on_line}
 use Rattle.py_grammar.proofs.SimpleReading.{simple_reads}
 use Rattle.py_grammar.proofs.SimpleParts.{nothing_there}
@@ -77,7 +77,7 @@ at_first_token around limit t behind fault named none = record { front = []; sho
 -- a limit is passed
 pub placed_limited : (around : Around) (l : Limit) (t : Token) (behind : List Token) → PlacedRefused around (Some l) (t ∷ behind) (Here (limit_fault l t.at))
 placed_limited around ByNumber t behind = at_first_token around (Some ByNumber) t behind (TooMany t.at) refl (λ s more same. refl)
-placed_limited around ByDepth t behind = at_first_token around (Some ByDepth) t behind (TooDeep t.at) tt (λ s more same. inr refl)
+placed_limited around ByDepth t behind = at_first_token around (Some ByDepth) t behind (TooDeep t.at) tt (λ s more same. inr (refl, subst (λ (ts : List Token). stands_first ts t.at) (sym same) refl))
 
 -- `def`, `class` and `global`
 refused_is_compound : (kind : TokenKind) → is_refused_kind kind ≡ true → is_compound_kind kind ≡ true

@@ -15,10 +15,12 @@ use Rattle.py_grammar.specs.declared.part.Part.{Part}
 use Rattle.py_grammar.specs.Concrete.{Spot, AddSign, plus, minus, Not, plain_not, not_of, plain_cmp, plain_sum, plain_term, Unary, plain_unary, signed, Prim, plain_prim, name}
 use Rattle.py_grammar.specs.Tokens.{token, sign, add_sign, not_tokens, cmp_tokens_of, unary_tokens, prim_tokens}
 use Rattle.py_grammar.specs.Trees.{not_tree, cmp_tree, unary_tree, prim_tree, add_op, unary_op}
-use Rattle.py_grammar.specs.Depth.{not_depth, unary_depth, prim_depth}
+use Rattle.py_grammar.specs.Depth.{not_depth, unary_depth}
+use Rattle.py_grammar.specs.Lies.{is_place, not_lies, unary_lies, prim_lies}
+use Rattle.py_grammar.proofs.Lying.{over_is, over_here, is_here, not_above, unary_above}
 use Rattle.py_grammar.specs.Reader.{go_on, spot_of, add_sign_of, read_keyword, read_not, read_cmp, read_unary, read_prim}
 use Rattle.py_grammar.specs.Parsed.{not_part, cmp_part, unary_part, prim_part, Taken, TakenAdd, Found, IsDeep, Finds, Refused, IsTooDeep, is_keyword_next, add_sign_next, sign_of}
-use Rattle.py_grammar.proofs.Refusals.{first_of, Inside, finds_first, finds_anything, deeper, refused_inside, refused_same, full, keyword_next_same, one_behind}
+use Rattle.py_grammar.proofs.Refusals.{first_of, Inside, finds_first, finds_anything, deep_over, refused_inside, refused_same, full, keyword_next_same, one_behind}
 use Rattle.py_grammar.proofs.Stops.{some_spot, finds_none}
 
 some_unary : Unary
@@ -33,15 +35,16 @@ one_more n = omega arith
 -- ---- `not`
 
 pub not_one : (room : ℕ) (before after : List Token) (part : Part) → Found cmp_part cmp_tree 4 room before part after → Found not_part not_tree 4 room before part after
-not_one room before after part f = record { written = plain_not f.written; before_is = f.before_is; tree_is = f.tree_is; height_is = f.height_is; form_is = f.form_is; fits = f.fits; beyond = f.beyond }
+not_one room before after part f = record { written = plain_not f.written; before_is = f.before_is; tree_is = f.tree_is; height_is = f.height_is; deepest_is = f.deepest_is; form_is = f.form_is; fits = f.fits; beyond = f.beyond }
 
 pub not_next : (room inner : ℕ) (before behind after : List Token) (at : Pos) (operand part : Part) → Taken (Keyword 26) before at behind → inner < room → Found not_part not_tree 4 inner behind operand after
-    → expr_of part.expr ≡ unary_expr at Negation (expr_of operand.expr) → part.height ≡ suc operand.height → is_none part.wrong ≡ false → Found not_part not_tree 4 room before part after
-not_next room inner before behind after at operand part k smaller o tree height other = record {
+    → expr_of part.expr ≡ unary_expr at Negation (expr_of operand.expr) → part.height ≡ suc operand.height → part.deepest ≡ operand.deepest → is_none part.wrong ≡ false → Found not_part not_tree 4 room before part after
+not_next room inner before behind after at operand part k smaller o tree height deepest other = record {
   written = not_of k.spot o.written;
   before_is = k.before_is ∙ ap (λ ts. token (Keyword 26) k.spot ∷ ts) o.before_is;
   tree_is = tree ∙ ap (λ a. unary_expr a Negation (expr_of operand.expr)) (sym k.at_is) ∙ ap (unary_expr k.spot.at Negation) o.tree_is;
   height_is = height ∙ ap suc o.height_is ∙ one_more (not_depth o.written);
+  deepest_is = over_is (is_place k.spot.at part.deepest) (not_lies o.written part.deepest) (not_depth o.written) (ap (not_lies o.written) deepest ∙ o.deepest_is) (not_above o.written);
   form_is = other;
   fits = let low = o.fits in omega (arith, height, low, smaller);
   beyond = o.beyond;
@@ -62,15 +65,15 @@ cmp_inside room before absent = record {
 pub not_cmp_refused : (room : ℕ) (before : List Token) (stop : Stop) → is_keyword_next 26 before ≡ false → Refused cmp_part room before stop → Refused not_part room before stop
 not_cmp_refused room before stop absent is = refused_inside not_part room cmp_part room [] before stop (cmp_inside room before absent) is
 
-pub not_here : (room : ℕ) (before behind : List Token) (at : Pos) (stop : Stop) → Taken (Keyword 26) before at behind → IsTooDeep 0 room stop → Refused not_part room before stop
-not_here room before behind at stop k deep = full not_part room before [] (token (Keyword 26) k.spot) behind 0 stop deep k.before_is (record { some = some_not; more = _; tokens_are = refl })
-    (λ more. finds_first _ _ read_not read_not (λ n e rest. Some (not_of k.spot e, rest)) (token (Keyword 26) k.spot ∷ more) more (λ n. refl) (λ n e ts any. omega arith) (finds_anything read_not more))
+pub not_here : (room : ℕ) (before behind : List Token) (at : Pos) (stop : Stop) → Taken (Keyword 26) before at behind → IsTooDeep 0 at room stop → Refused not_part room before stop
+not_here room before behind at stop k deep = full not_part room before [] (token (Keyword 26) k.spot) behind 0 at stop deep k.before_is (record { some = some_not; more = _; tokens_are = refl })
+    (λ more. finds_first _ _ read_not read_not (λ n e rest. Some (not_of k.spot e, rest)) (token (Keyword 26) k.spot ∷ more) more (λ n. refl) (λ n e ts any. let one = over_here (is_place k.spot.at at) (not_lies e at) (is_here k.spot.at at k.at_is) in omega (arith, one)) (finds_anything read_not more))
 
 operand_inside : (room inner : ℕ) (spot : Spot) (behind : List Token) → room ≤ suc inner → Inside not_part room not_part inner (token (Keyword 26) spot ∷ []) behind
 operand_inside room inner spot behind less = record {
   begins = λ b. record { some = not_of spot b; more = []; tokens_are = one_behind [] (token (Keyword 26) spot) (not_tokens b) };
   finds = λ stop more first finds. finds_first _ _ read_not read_not (λ n e rest. Some (not_of spot e, rest)) (token (Keyword 26) spot ∷ more) more (λ n. refl)
-      (λ n e ts deep. deeper stop inner (not_depth e) room _ deep (omega (arith, less))) finds;
+      (λ n e ts deep. deep_over stop inner room (is_place spot.at) (not_lies e) less deep) finds;
 }
 
 pub not_operand_refused : (room inner : ℕ) (before behind : List Token) (at : Pos) (stop : Stop) → Taken (Keyword 26) before at behind → room ≤ suc inner → Refused not_part inner behind stop → Refused not_part room before stop
@@ -87,19 +90,20 @@ sign_same plus spot behind = refl
 sign_same minus spot behind = refl
 
 pub unary_one : (room : ℕ) (before after : List Token) (part : Part) → Found prim_part prim_tree 1 room before part after → Found unary_part unary_tree 1 room before part after
-unary_one room before after part f = record { written = plain_unary f.written; before_is = f.before_is; tree_is = f.tree_is; height_is = f.height_is; form_is = f.form_is; fits = f.fits; beyond = f.beyond }
+unary_one room before after part f = record { written = plain_unary f.written; before_is = f.before_is; tree_is = f.tree_is; height_is = f.height_is; deepest_is = f.deepest_is; form_is = f.form_is; fits = f.fits; beyond = f.beyond }
 
 sign_of_add : (which : AddSign) (op : BinOp) → op ≡ add_op which → sign_of op ≡ unary_op which
 sign_of_add plus op is = ap sign_of is
 sign_of_add minus op is = ap sign_of is
 
 pub unary_next : (room inner : ℕ) (before behind after : List Token) (at : Pos) (op : BinOp) (sign_op : UnOp) (operand part : Part) → TakenAdd before at op behind → sign_op ≡ sign_of op → inner < room → Found unary_part unary_tree 1 inner behind operand after
-    → expr_of part.expr ≡ unary_expr at sign_op (expr_of operand.expr) → part.height ≡ suc operand.height → is_none part.wrong ≡ false → Found unary_part unary_tree 1 room before part after
-unary_next room inner before behind after at op sign_op operand part k op_is smaller o tree height other = record {
+    → expr_of part.expr ≡ unary_expr at sign_op (expr_of operand.expr) → part.height ≡ suc operand.height → part.deepest ≡ operand.deepest → is_none part.wrong ≡ false → Found unary_part unary_tree 1 room before part after
+unary_next room inner before behind after at op sign_op operand part k op_is smaller o tree height deepest other = record {
   written = signed k.spot k.which o.written;
   before_is = k.before_is ∙ ap (λ ts. sign (add_sign k.which) k.spot ++ ts) o.before_is;
   tree_is = tree ∙ ap (λ a. unary_expr a sign_op (expr_of operand.expr)) (sym k.at_is) ∙ ap (λ x. unary_expr k.spot.at x (expr_of operand.expr)) (op_is ∙ sign_of_add k.which op k.op_is) ∙ ap (unary_expr k.spot.at (unary_op k.which)) o.tree_is;
   height_is = height ∙ ap suc o.height_is ∙ one_more (unary_depth o.written);
+  deepest_is = over_is (is_place k.spot.at part.deepest) (unary_lies o.written part.deepest) (unary_depth o.written) (ap (unary_lies o.written) deepest ∙ o.deepest_is) (unary_above o.written);
   form_is = other;
   fits = let low = o.fits in omega (arith, height, low, smaller);
   beyond = o.beyond;
@@ -120,8 +124,8 @@ unary_end : (n : ℕ) → read_unary n [] ≡ None
 unary_end zero = refl
 unary_end (suc n) = refl
 
-prim_finds : (room : ℕ) (before : List Token) → add_sign_next before ≡ None → (stop : Stop) (more : List Token) → first_of more ≡ first_of before → Finds (λ b. IsDeep stop room (prim_depth b)) read_prim more
-    → Finds (λ a. IsDeep stop room (unary_depth a)) read_unary more
+prim_finds : (room : ℕ) (before : List Token) → add_sign_next before ≡ None → (stop : Stop) (more : List Token) → first_of more ≡ first_of before → Finds (λ b. IsDeep stop room (prim_lies b)) read_prim more
+    → Finds (λ a. IsDeep stop room (unary_lies a)) read_unary more
 prim_finds room before absent stop [] first finds = finds_none _ read_unary [] unary_end
 prim_finds room [] absent stop (t ∷ ts) first finds = cc
 prim_finds room (u ∷ us) absent stop (t ∷ ts) first finds =
@@ -136,15 +140,15 @@ prim_inside room before absent = record {
 pub unary_prim_refused : (room : ℕ) (before : List Token) (stop : Stop) → add_sign_next before ≡ None → Refused prim_part room before stop → Refused unary_part room before stop
 unary_prim_refused room before stop absent is = refused_inside unary_part room prim_part room [] before stop (prim_inside room before absent) is
 
-pub unary_here : (room : ℕ) (before behind : List Token) (at : Pos) (op : BinOp) (stop : Stop) → TakenAdd before at op behind → IsTooDeep 0 room stop → Refused unary_part room before stop
-unary_here room before behind at op stop k deep = full unary_part room before [] (sign_token k.which k.spot) behind 0 stop deep (k.before_is ∙ sign_same k.which k.spot behind) (record { some = some_unary; more = _; tokens_are = refl })
-    (λ more. finds_first _ _ read_unary read_unary (λ n e rest. Some (signed k.spot k.which e, rest)) (sign_token k.which k.spot ∷ more) more (λ n. unary_sign k.which k.spot n more) (λ n e ts any. omega arith) (finds_anything read_unary more))
+pub unary_here : (room : ℕ) (before behind : List Token) (at : Pos) (op : BinOp) (stop : Stop) → TakenAdd before at op behind → IsTooDeep 0 at room stop → Refused unary_part room before stop
+unary_here room before behind at op stop k deep = full unary_part room before [] (sign_token k.which k.spot) behind 0 at stop deep (k.before_is ∙ sign_same k.which k.spot behind) (record { some = some_unary; more = _; tokens_are = refl })
+    (λ more. finds_first _ _ read_unary read_unary (λ n e rest. Some (signed k.spot k.which e, rest)) (sign_token k.which k.spot ∷ more) more (λ n. unary_sign k.which k.spot n more) (λ n e ts any. let one = over_here (is_place k.spot.at at) (unary_lies e at) (is_here k.spot.at at k.at_is) in omega (arith, one)) (finds_anything read_unary more))
 
 signed_inside : (room inner : ℕ) (which : AddSign) (spot : Spot) (behind : List Token) → room ≤ suc inner → Inside unary_part room unary_part inner (sign_token which spot ∷ []) behind
 signed_inside room inner which spot behind less = record {
   begins = λ b. record { some = signed spot which b; more = []; tokens_are = sign_same which spot (unary_tokens b) ∙ one_behind [] (sign_token which spot) (unary_tokens b) };
   finds = λ stop more first finds. finds_first _ _ read_unary read_unary (λ n e rest. Some (signed spot which e, rest)) (sign_token which spot ∷ more) more (λ n. unary_sign which spot n more)
-      (λ n e ts deep. deeper stop inner (unary_depth e) room _ deep (omega (arith, less))) finds;
+      (λ n e ts deep. deep_over stop inner room (is_place spot.at) (unary_lies e) less deep) finds;
 }
 
 pub unary_operand_refused : (room inner : ℕ) (before behind : List Token) (at : Pos) (op : BinOp) (stop : Stop) → TakenAdd before at op behind → room ≤ suc inner → Refused unary_part inner behind stop → Refused unary_part room before stop

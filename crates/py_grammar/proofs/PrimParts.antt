@@ -1,7 +1,7 @@
 -- What goes on with a primary, and primaries: what is read of them, and how they are refused.
 use Rattle.std.proofs.Common.{◌≡◌, ℕ, zero, suc, ◌+◌, max, ◌≤◌, ◌<◌, Bool, true, false, ◌||◌, List, [], ◌∷◌, ◌++◌, Some, None, is_none, refl, ap, sym, ◌∙◌, arith, append_assoc, if◌then◌else◌}
 use Rattle.std.specs.Prelude.{◌==◌}
-use Rattle.std.proofs.Math.Nat.{le-max_left, le-max_right}
+use Rattle.std.proofs.Math.Nat.{le-max_left}
 use Rattle.std.proofs.lemmas.List.{append-nil}
 use Rattle.std.proofs.lemmas.Bool.{eqb-true}
 use Rattle.prov_base.specs.declared.place.Pos.{Pos}
@@ -18,12 +18,14 @@ use Rattle.py_grammar.specs.Concrete.{Spot, Prim, plain_prim, call, part, attrib
 use Rattle.py_grammar.specs.Tokens.{token, word, prim_tokens, items_tokens, index_tokens}
 use Rattle.py_grammar.specs.Trees.{prim_tree, atom_tree, items_tree}
 use Rattle.py_grammar.specs.Depth.{prim_depth, items_depth, index_depth}
+use Rattle.py_grammar.specs.Lies.{begins, over, index_lies, items_lies, prim_lies}
+use Rattle.py_grammar.proofs.Lying.{above_left, over_is, over_right, prim_above, prim_low}
 use Rattle.py_grammar.specs.Reader.{Read, go_on, spot_of, next_level, kind_level, is_sign, keyword_level, read_sign, read_name, read_items, read_index, read_prim, prim_rest, read_atom}
 use Rattle.py_grammar.specs.StatementReader.{prim_target}
 use Rattle.py_grammar.specs.Parsed.{prim_part, atom_part, is_form, Taken, TakenName, Found, IsDeep, Only, Refused, IsTooDeep, one_sign, one_name, is_sign_next}
-use Rattle.py_grammar.specs.ParsedRows.{closed, read_closed, items_part, index_part, index_form, Trailer, called, parted, dotted, with_trailer, trailer_tokens, trailer_depth, trailer_form, trailer_tree, index_tree, read_trailer, trailer_part, FoundClosed, FoundTrailer}
+use Rattle.py_grammar.specs.ParsedRows.{IsDeepestWith, closed, read_closed, items_part, index_part, index_form, Trailer, called, parted, dotted, with_trailer, trailer_tokens, trailer_depth, trailer_lies, trailer_form, trailer_tree, index_tree, read_trailer, trailer_part, FoundClosed, FoundTrailer}
 use Rattle.py_grammar.proofs.Reading.{prim_leads}
-use Rattle.py_grammar.proofs.Refusals.{Inside, first_of, only_any, only_go_on, only_if, only_is, finds_first, finds_lead, finds_at_once, deeper, refused_inside, refused_same, full, fits_above}
+use Rattle.py_grammar.proofs.Refusals.{Inside, first_of, only_any, only_go_on, only_if, only_is, finds_first, finds_lead, finds_at_once, deeper, deep_left, deep_over, refused_inside, refused_same, full, fits_above}
 use Rattle.py_grammar.proofs.ClosedParts.{not_deep}
 
 -- ---- what goes on with a primary is read
@@ -32,23 +34,25 @@ regroup : (t : Token) (ts : List Token) (u : Token) (after : List Token) → t �
 regroup t ts u after = ap (λ us. t ∷ us) (sym (append_assoc ts (u ∷ []) after))
 
 pub trailer_call : (room : ℕ) (before middle after : List Token) (at : Pos) (left found : Part) → Taken (Sign 0) before at middle
-    → FoundClosed (items_part 1) 1 (λ i. call_expr at (expr_of left.expr) (items_tree i)) (λ i. suc (max left.height (items_depth i))) (λ _. false) room middle found after → FoundTrailer room before left found after
+    → FoundClosed (items_part 1) 1 (λ i. call_expr at (expr_of left.expr) (items_tree i)) (λ i. suc (max left.height (items_depth i))) (λ i. IsDeepestWith left.height left.deepest (items_lies i) (items_depth i)) (λ _. false) room middle found after → FoundTrailer room before left found after
 trailer_call room before middle after at left found k f = record {
   written = called k.spot f.written f.spot;
   before_is = k.before_is ∙ ap (λ ts. token (Sign 0) k.spot ∷ ts) f.before_is ∙ regroup (token (Sign 0) k.spot) (items_tokens f.written) (token (Sign 1) f.spot) after;
   tree_is = f.tree_is ∙ ap (λ place. call_expr place (expr_of left.expr) (items_tree f.written)) (sym k.at_is);
   height_is = f.height_is;
+  deepest_is = f.deepest_is;
   form_is = f.form_is;
   fits = f.fits;
 }
 
 pub trailer_part_of : (room : ℕ) (before middle after : List Token) (at : Pos) (left found : Part) → Taken (Sign 2) before at middle
-    → FoundClosed index_part 3 (index_tree at (expr_of left.expr)) (λ i. suc (max left.height (index_depth i))) index_form room middle found after → FoundTrailer room before left found after
+    → FoundClosed index_part 3 (index_tree at (expr_of left.expr)) (λ i. suc (max left.height (index_depth i))) (λ i. IsDeepestWith left.height left.deepest (index_lies i) (index_depth i)) index_form room middle found after → FoundTrailer room before left found after
 trailer_part_of room before middle after at left found k f = record {
   written = parted k.spot f.written f.spot;
   before_is = k.before_is ∙ ap (λ ts. token (Sign 2) k.spot ∷ ts) f.before_is ∙ regroup (token (Sign 2) k.spot) (index_tokens f.written) (token (Sign 3) f.spot) after;
   tree_is = f.tree_is ∙ ap (λ place. index_tree place (expr_of left.expr) f.written) (sym k.at_is);
   height_is = f.height_is;
+  deepest_is = f.deepest_is;
   form_is = f.form_is;
   fits = f.fits;
 }
@@ -57,12 +61,13 @@ max_none : (n : ℕ) → suc n ≡ suc (max n 0)
 max_none n = omega arith
 
 pub trailer_dot : (room : ℕ) (before middle after : List Token) (at name_at : Pos) (name : List ℕ) (left found : Part) → Taken (Sign 8) before at middle → TakenName middle name_at name after
-    → expr_of found.expr ≡ attr_expr at (expr_of left.expr) name → found.height ≡ suc left.height → is_none found.wrong ≡ true → FoundTrailer room before left found after
-trailer_dot room before middle after at name_at name left found k named tree height form = record {
+    → expr_of found.expr ≡ attr_expr at (expr_of left.expr) name → found.height ≡ suc left.height → found.deepest ≡ left.deepest → is_none found.wrong ≡ true → FoundTrailer room before left found after
+trailer_dot room before middle after at name_at name left found k named tree height deepest form = record {
   written = dotted k.spot named.spot name;
   before_is = k.before_is ∙ ap (λ ts. token (Sign 8) k.spot ∷ ts) named.before_is;
   tree_is = tree ∙ ap (λ place. attr_expr place (expr_of left.expr) name) (sym k.at_is);
   height_is = height ∙ max_none left.height;
+  deepest_is = λ other is low. ap (λ p. max (other p) 0) deepest ∙ ap (λ h. max h 0) is;
   form_is = form;
   fits = omega arith;
 }
@@ -137,7 +142,7 @@ at_dot room rest one two = record {
   };
 }
   where
-    weaken : (r : Read Spot) (stop : Stop) → Only (λ spot. IsDeep stop 0 0) r → Only (λ spot. ⊥) r
+    weaken : (r : Read Spot) (stop : Stop) → Only (λ spot. IsDeep stop 0 (λ at. 0)) r → Only (λ spot. ⊥) r
     weaken None stop only = tt
     weaken (Some (spot, ts)) stop only = not_deep stop only
 
@@ -183,7 +188,7 @@ above_one (suc (suc n)) above other = omega arith
 -- ---- a primary is read
 
 pub prim_one : (room : ℕ) (before after : List Token) (found : Part) → Found atom_part atom_tree 0 room before found after → Found prim_part prim_tree 0 room before found after
-prim_one room before after found f = record { written = plain_prim f.written; before_is = f.before_is; tree_is = f.tree_is; height_is = f.height_is; form_is = f.form_is; fits = f.fits; beyond = f.beyond }
+prim_one room before after found f = record { written = plain_prim f.written; before_is = f.before_is; tree_is = f.tree_is; height_is = f.height_is; deepest_is = f.deepest_is; form_is = f.form_is; fits = f.fits; beyond = f.beyond }
 
 with_tokens : (p : Prim) (t : Trailer) → prim_tokens (with_trailer p t) ≡ prim_tokens p ++ trailer_tokens t
 with_tokens p (called opening arguments closing) = refl
@@ -204,6 +209,14 @@ with_depth p (called opening arguments closing) = one_more _
 with_depth p (parted opening index closing) = one_more _
 with_depth p (dotted dot name_at bytes) = one_more _ ∙ max_none (prim_depth p)
 
+with_lies : (p : Prim) (t : Trailer) (at : Pos) → prim_lies (with_trailer p t) at ≡ over (begins (prim_tokens p) at) (max (prim_lies p at) (trailer_lies t at))
+with_lies p (called opening arguments closing) at = refl
+with_lies p (parted opening index closing) at = refl
+with_lies p (dotted dot name_at bytes) at = ap (over (begins (prim_tokens p) at)) (no_more (prim_lies p at))
+  where
+    no_more : (n : ℕ) → n ≡ max n 0
+    no_more n = omega arith
+
 with_form : (p : Prim) (t : Trailer) → is_form (prim_target (with_trailer p t)) ≡ trailer_form t
 with_form p (called opening arguments closing) = refl
 with_form p (parted opening (one_index e) closing) = refl
@@ -217,28 +230,33 @@ prim_next room inner before middle after left found l less smaller f = record {
   before_is = l.before_is ∙ ap (λ ts. prim_tokens l.written ++ ts) f.before_is ∙ sym (append_assoc (prim_tokens l.written) (trailer_tokens f.written) after) ∙ ap (λ ts. ts ++ after) (sym (with_tokens l.written f.written));
   tree_is = f.tree_is ∙ ap (λ e. trailer_tree e f.written) l.tree_is ∙ sym (with_tree l.written f.written);
   height_is = f.height_is ∙ ap (λ n. suc (max n (trailer_depth f.written))) l.height_is ∙ sym (with_depth l.written f.written);
+  deepest_is = with_lies l.written f.written found.deepest
+      ∙ over_is (begins (prim_tokens l.written) found.deepest) (max (prim_lies l.written found.deepest) (trailer_lies f.written found.deepest)) (max (prim_depth l.written) (trailer_depth f.written))
+      (f.deepest_is (prim_lies l.written) (l.deepest_is ∙ sym l.height_is) (λ at. let low = prim_low l.written at in let is = l.height_is in omega (arith, low, is)) ∙ ap (λ n. max n (trailer_depth f.written)) l.height_is)
+      (let above = prim_above l.written in let high = le-max_left (prim_depth l.written) (trailer_depth f.written) in omega (arith, above, high))
+      ∙ one_more _ ∙ sym (with_depth l.written f.written);
   form_is = f.form_is ∙ sym (with_form l.written f.written);
   fits = let small = f.fits in fits_above room left.height (trailer_depth f.written) found.height f.height_is less (omega (arith, small, smaller));
   beyond = above_zero after;
 }
 
 pub prim_end : (room : ℕ) (before after : List Token) (found : Part) → Found prim_part prim_tree 0 room before found after → (next_level after == 1) ≡ false → Found prim_part prim_tree 1 room before found after
-prim_end room before after found f other = record { written = f.written; before_is = f.before_is; tree_is = f.tree_is; height_is = f.height_is; form_is = f.form_is; fits = f.fits; beyond = above_one (next_level after) f.beyond other }
+prim_end room before after found f other = record { written = f.written; before_is = f.before_is; tree_is = f.tree_is; height_is = f.height_is; deepest_is = f.deepest_is; form_is = f.form_is; fits = f.fits; beyond = above_one (next_level after) f.beyond other }
 
 -- ---- a primary is refused
 
-prim_deep : (stop : Stop) (room n : ℕ) (left : Prim) (ts : List Token) → IsDeep stop room (prim_depth left) → Only (λ p. IsDeep stop room (prim_depth p)) (prim_rest n left ts)
+prim_deep : (stop : Stop) (room n : ℕ) (left : Prim) (ts : List Token) → IsDeep stop room (prim_lies left) → Only (λ p. IsDeep stop room (prim_lies p)) (prim_rest n left ts)
 prim_deep stop room zero left ts deep = tt
 prim_deep stop room (suc n) left [] deep = deep
 prim_deep stop room (suc n) left (t ∷ ts) deep =
     only_if _ (is_sign 0 t.kind) _ _
     (only_any _ (read_items n 1 ts) _ (λ arguments more. only_any _ (read_sign 1 more) _ (λ closing rest. prim_deep stop room n (call left (spot_of t) arguments closing) rest
-    (deeper stop room (prim_depth left) room _ deep (let high = le-max_left (prim_depth left) (items_depth arguments) in omega (arith, high))))))
+    (deep_left stop room (begins (prim_tokens left)) (prim_lies left) (items_lies arguments) deep))))
     (only_if _ (is_sign 2 t.kind) _ _
     (only_any _ (read_index n ts) _ (λ index more. only_any _ (read_sign 3 more) _ (λ closing rest. prim_deep stop room n (part left (spot_of t) index closing) rest
-    (deeper stop room (prim_depth left) room _ deep (let high = le-max_left (prim_depth left) (index_depth index) in omega (arith, high))))))
+    (deep_left stop room (begins (prim_tokens left)) (prim_lies left) (index_lies index) deep))))
     (only_if _ (is_sign 8 t.kind) _ _
-    (only_any _ (read_name ts) _ (λ found rest. prim_deep stop room n (attribute left (spot_of t) found.0 found.1) rest (deeper stop room (prim_depth left) room _ deep (omega arith))))
+    (only_any _ (read_name ts) _ (λ found rest. prim_deep stop room n (attribute left (spot_of t) found.0 found.1) rest (deep_over stop room room (begins (prim_tokens left)) (prim_lies left) (omega arith) deep)))
     deep))
 
 prim_starts : (room : ℕ) (rest : List Token) → Inside prim_part room atom_part room [] rest
@@ -317,7 +335,7 @@ prim_goes_on room inner left rest less is = record {
       finds_lead _ read_prim prim_rest 0 (prim_tokens left) left more (prim_leads left) (above_zero more)
       (finds_first _ _ (λ n ts. prim_rest n left ts) read_trailer (λ n t ts. prim_rest n (with_trailer left t) ts) more more (λ n. rest_is n left more (ap (λ l. l == 1) (level_first more rest first) ∙ is))
       (λ n b ts deep. prim_deep stop room n (with_trailer left b) ts
-      (deeper stop inner (trailer_depth b) room _ deep (let high = le-max_right (prim_depth left) (trailer_depth b) in let depth = with_depth left b in omega (arith, high, less, depth))))
+      (deeper stop inner (trailer_lies b) room (prim_lies (with_trailer left b)) deep (λ at some. let more_deep = over_right (begins (prim_tokens left) at) (prim_lies left at) (trailer_lies b at) some in let is = with_lies left b at in omega (arith, more_deep, less, is))))
       finds);
 }
 
@@ -326,10 +344,10 @@ pub prim_right : (room inner : ℕ) (before middle : List Token) (left : Part) (
 prim_right room inner before middle left stop l level less is =
     refused_same prim_part room before _ stop l.before_is (refused_inside prim_part room trailer_part inner (prim_tokens l.written) middle stop (prim_goes_on room inner l.written middle less level) is)
 
-pub prim_full : (room : ℕ) (before middle : List Token) (left : Part) (stop : Stop) → Found prim_part prim_tree 0 room before left middle → (next_level middle == 1) ≡ true → IsTooDeep left.height room stop → Refused prim_part room before stop
+pub prim_full : (room : ℕ) (before middle : List Token) (left : Part) (stop : Stop) → Found prim_part prim_tree 0 room before left middle → (next_level middle == 1) ≡ true → IsTooDeep left.height left.deepest room stop → Refused prim_part room before stop
 prim_full room before [] left stop l level deep = cc
-prim_full room before (t ∷ ts) left stop l level deep = full prim_part room before (prim_tokens l.written) t ts left.height stop deep l.before_is (record { some = l.written; more = []; tokens_are = sym (append-nil (prim_tokens l.written)) })
+prim_full room before (t ∷ ts) left stop l level deep = full prim_part room before (prim_tokens l.written) t ts left.height left.deepest stop deep l.before_is (record { some = l.written; more = []; tokens_are = sym (append-nil (prim_tokens l.written)) })
     (λ more. finds_lead _ read_prim prim_rest 0 (prim_tokens l.written) l.written (t ∷ more) (prim_leads l.written) (above_zero (t ∷ more))
     (finds_at_once _ (λ n ts. prim_rest n l.written ts) (t ∷ more)
-    (λ n. only_is _ _ _ (rest_is n l.written (t ∷ more) level) (only_any _ (read_trailer n (t ∷ more)) _ (λ tr rest. prim_deep (Here (TooDeep t.at)) left.height n (with_trailer l.written tr) rest
-    (let high = le-max_left (prim_depth l.written) (trailer_depth tr) in let is = l.height_is in let depth = with_depth l.written tr in omega (arith, high, is, depth)))))))
+    (λ n. only_is _ _ _ (rest_is n l.written (t ∷ more) level) (only_any _ (read_trailer n (t ∷ more)) _ (λ tr rest. prim_deep (Here (TooDeep left.deepest)) left.height n (with_trailer l.written tr) rest
+    (let more_deep = above_left (begins (prim_tokens l.written) left.deepest) (prim_lies l.written left.deepest) (trailer_lies tr left.deepest) left.height (prim_depth l.written) l.height_is l.deepest_is (prim_above l.written) in let is = with_lies l.written tr left.deepest in omega (arith, more_deep, is)))))))

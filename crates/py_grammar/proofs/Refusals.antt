@@ -3,12 +3,16 @@ use Rattle.std.proofs.Common.{◌≡◌, ℕ, suc, max, ◌+◌, ◌≤◌, ◌<
 use Rattle.std.specs.Bool.{⊤}
 use Rattle.std.specs.Option.{option_map_or}
 use Rattle.std.proofs.lemmas.List.{append-nil}
+use Rattle.std.proofs.Math.Nat.{le-max_left, le-max_right}
+use Rattle.prov_base.specs.declared.place.Pos.{Pos}
 use Rattle.py_lines.specs.declared.parts.Token.{Token}
 use Rattle.py_grammar.specs.declared.fault.Fault.{Fault}
 use Rattle.py_grammar.specs.declared.fault.Fault.TheVariants.{Unexpected, TooDeep, TooMany, Memory}
 use Rattle.py_grammar.specs.declared.fault.Stop.{Stop}
 use Rattle.py_grammar.specs.declared.fault.Stop.TheVariants.{Here, End}
 use Rattle.py_grammar.specs.Parsed.{Production, IsDeep, Only, Finds, Begins, Shown, Refused, IsTooDeep, is_keyword_next}
+use Rattle.py_grammar.specs.Lies.{over}
+use Rattle.py_grammar.proofs.Lying.{over_more}
 use Rattle.py_grammar.specs.Reader.{Read, go_on, next_level, kind_level, is_keyword}
 use Rattle.py_grammar.proofs.Leading.{Beyond, Reads, Leads}
 
@@ -20,8 +24,8 @@ first_of (t ∷ ts) = Some t
 -- begins with the same token none is read there.
 pub record Inside {A B : Type 0} (p : Production A) (room : ℕ) (q : Production B) (inner : ℕ) (front rest : List Token) : Type 0 where
   pub begins : (b : B) → Begins p (front ++ q.tokens b)
-  pub finds : (stop : Stop) (more : List Token) → first_of more ≡ first_of rest → Finds (λ b. IsDeep stop inner (q.depth b)) q.read more
-      → Finds (λ a. IsDeep stop room (p.depth a)) p.read (front ++ more)
+  pub finds : (stop : Stop) (more : List Token) → first_of more ≡ first_of rest → Finds (λ b. IsDeep stop inner (q.lies b)) q.read more
+      → Finds (λ a. IsDeep stop room (p.lies a)) p.read (front ++ more)
 
 -- ---- what is read with enough steps
 
@@ -94,12 +98,31 @@ finds_same P read ts us is finds = subst (Finds P read) (sym is) finds
 
 -- ---- depth
 
-pub deeper : (stop : Stop) (room depth outer above : ℕ) → IsDeep stop room depth → outer + depth ≤ room + above → IsDeep stop outer above
-deeper (Here (TooDeep at)) room depth outer above deep less = omega (arith, deep, less)
-deeper (Here (Unexpected at)) room depth outer above deep less = absurd deep
-deeper (Here (TooMany at)) room depth outer above deep less = absurd deep
-deeper (Here Memory) room depth outer above deep less = absurd deep
-deeper End room depth outer above deep less = absurd deep
+pub deeper : (stop : Stop) (room : ℕ) (f : Pos → ℕ) (outer : ℕ) (g : Pos → ℕ) → IsDeep stop room f → ((at : Pos) → 1 ≤ f at → outer + f at ≤ room + g at) → IsDeep stop outer g
+deeper (Here (TooDeep at)) room f outer g deep less = let more = less at (omega (arith, deep)) in omega (arith, deep, more)
+deeper (Here (Unexpected at)) room f outer g deep less = absurd deep
+deeper (Here (TooMany at)) room f outer g deep less = absurd deep
+deeper (Here Memory) room f outer g deep less = absurd deep
+deeper End room f outer g deep less = absurd deep
+
+pub deep_same : (stop : Stop) (room : ℕ) (f g : Pos → ℕ) → ((at : Pos) → f at ≡ g at) → IsDeep stop room f → IsDeep stop room g
+deep_same stop room f g same deep = deeper stop room f room g deep (λ at some. let is = same at in omega (arith, is))
+
+-- in the whole it lies one deeper
+pub deep_over : (stop : Stop) (inner room : ℕ) (here : Pos → Bool) (f : Pos → ℕ) → room ≤ suc inner → IsDeep stop inner f → IsDeep stop room (λ at. over (here at) (f at))
+deep_over stop inner room here f less deep = deeper stop inner f room (λ at. over (here at) (f at)) deep (λ at some. let more = over_more (here at) (f at) some in omega (arith, less, more))
+
+pub deep_beside_left : (stop : Stop) (room : ℕ) (f g : Pos → ℕ) → IsDeep stop room f → IsDeep stop room (λ at. max (f at) (g at))
+deep_beside_left stop room f g deep = deeper stop room f room (λ at. max (f at) (g at)) deep (λ at some. let high = le-max_left (f at) (g at) in omega (arith, high))
+
+pub deep_beside_right : (stop : Stop) (room : ℕ) (f g : Pos → ℕ) → IsDeep stop room g → IsDeep stop room (λ at. max (f at) (g at))
+deep_beside_right stop room f g deep = deeper stop room g room (λ at. max (f at) (g at)) deep (λ at some. let high = le-max_right (f at) (g at) in omega (arith, high))
+
+pub deep_left : (stop : Stop) (room : ℕ) (here : Pos → Bool) (f g : Pos → ℕ) → IsDeep stop room f → IsDeep stop room (λ at. over (here at) (max (f at) (g at)))
+deep_left stop room here f g deep = deep_over stop room room here (λ at. max (f at) (g at)) (omega arith) (deep_beside_left stop room f g deep)
+
+pub deep_right : (stop : Stop) (inner room : ℕ) (here : Pos → Bool) (f g : Pos → ℕ) → room ≤ suc inner → IsDeep stop inner g → IsDeep stop room (λ at. over (here at) (max (f at) (g at)))
+deep_right stop inner room here f g less deep = deep_over stop inner room here (λ at. max (f at) (g at)) less (deep_beside_right stop inner f g deep)
 
 -- ---- a refusal of what stands inside
 
@@ -152,21 +175,24 @@ finds_weaker P Q read ts weaker finds = record { steps = finds.steps; only = λ 
     weaken (Some (a, rest)) only = weaker a only
 
 -- there is no room over what was read, and the next token begins something over it
-pub full : {A : Type 0} (p : Production A) (room : ℕ) (before front : List Token) (t : Token) (behind : List Token) (height : ℕ) (stop : Stop) → IsTooDeep height room stop → before ≡ front ++ t ∷ behind → Begins p front
-    → ((more : List Token) → Finds (λ a. height < p.depth a) p.read (front ++ t ∷ more)) → Refused p room before stop
-full p room before front t behind height (Here (TooDeep at)) deep before_is begins over = record {
+pub full : {A : Type 0} (p : Production A) (room : ℕ) (before front : List Token) (t : Token) (behind : List Token) (height : ℕ) (deepest : Pos) (stop : Stop) → IsTooDeep height deepest room stop → before ≡ front ++ t ∷ behind → Begins p front
+    → ((more : List Token) → Finds (λ a. height < p.lies a deepest) p.read (front ++ t ∷ more)) → Refused p room before stop
+full p room before front t behind height deepest (Here (TooDeep at)) deep before_is begins over_it = record {
   front = front;
   shown_by = t;
   behind = behind;
   before_is = before_is;
   left_is = tt;
   begins = begins;
-  none = λ more. finds_weaker _ _ p.read (front ++ t ∷ more) (λ a higher. omega (arith, deep, higher)) (over more);
+  none = λ more. finds_weaker _ _ p.read (front ++ t ∷ more) (λ a higher. there (p.lies a) deep.0 deep.1 higher) (over_it more);
 }
-full p room before front t behind height (Here (Unexpected at)) deep before_is begins over = absurd deep
-full p room before front t behind height (Here (TooMany at)) deep before_is begins over = absurd deep
-full p room before front t behind height (Here Memory) deep before_is begins over = absurd deep
-full p room before front t behind height End deep before_is begins over = absurd deep
+  where
+    there : (f : Pos → ℕ) → room ≤ height → at ≡ deepest → height < f deepest → room < f at
+    there f low same higher = let is = ap f same in omega (arith, low, higher, is)
+full p room before front t behind height deepest (Here (Unexpected at)) deep before_is begins over_it = absurd deep
+full p room before front t behind height deepest (Here (TooMany at)) deep before_is begins over_it = absurd deep
+full p room before front t behind height deepest (Here Memory) deep before_is begins over_it = absurd deep
+full p room before front t behind height deepest End deep before_is begins over_it = absurd deep
 
 -- ---- heights
 

@@ -17,9 +17,10 @@ use Rattle.py_grammar.proofs.IndexParts.{index_one}
 use Rattle.py_grammar.specs.Tokens.{expr_tokens}
 use Rattle.py_grammar.specs.Trees.{expr_tree, atom_tree, items_tree, pairs_tree}
 use Rattle.py_grammar.specs.Depth.{items_depth, index_depth, pairs_depth}
+use Rattle.py_grammar.specs.Lies.{index_lies, items_lies, pairs_lies}
 use Rattle.py_grammar.specs.Reader.{start_class}
 use Rattle.py_grammar.specs.Parsed.{Production, expr_part, atom_part, Taken, Found, Refused, IsAtFirst, is_sign_next, FoundRow}
-use Rattle.py_grammar.specs.ParsedRows.{closed, items_part, group_part, rest_part, index_part, pairs_part, group_depth, group_tree, index_form, index_tree, trailer_part, leaf_atom, IsLeaf, FoundClosed, FoundTrailer, FoundRest, FoundItems, FoundList, FoundPairs, FoundIndex}
+use Rattle.py_grammar.specs.ParsedRows.{IsDeepestIn, IsDeepestWith, group_lies, closed, items_part, group_part, rest_part, index_part, pairs_part, group_depth, group_tree, index_form, index_tree, trailer_part, leaf_atom, IsLeaf, FoundClosed, FoundTrailer, FoundRest, FoundItems, FoundList, FoundPairs, FoundIndex}
 use Rattle.py_grammar.proofs.Refusals.{refused_same}
 use Rattle.py_grammar.proofs.AtomParts.{leaf_found, leaf_refused, no_token, atom_group, atom_list, atom_dict, group_refused, list_refused, dict_refused}
 use Rattle.py_grammar.proofs.PrimParts.{trailer_call, trailer_part_of, trailer_call_refused, trailer_part_refused}
@@ -52,17 +53,17 @@ leaf_none room [] stop none_there is = no_token room stop is
 leaf_none room (t ∷ ts) stop none_there is = absurd (omega (arith, none_there))
 
 pub leaf_other : (room : ℕ) (before : List Token) (t : Token) (ts : List Token) (found : Option Part) (stop : Stop) → before ≡ t ∷ ts → is_sign_next 0 before ≡ false → is_sign_next 2 before ≡ false → is_sign_next 4 before ≡ false
-    → IsLeaf (leaf_atom t) found → found ≡ None → IsAtFirst before stop → Refused atom_part room before stop
+    → IsLeaf t.at (leaf_atom t) found → found ≡ None → IsAtFirst before stop → Refused atom_part room before stop
 leaf_other room before t ts found stop is one two three leaf none_there first = refused_same atom_part room before (t ∷ ts) stop is
-    (leaf_refused room t ts stop (ap (is_sign_next 0) (sym is) ∙ one) (ap (is_sign_next 2) (sym is) ∙ two) (ap (is_sign_next 4) (sym is) ∙ three) (subst (IsLeaf (leaf_atom t)) none_there leaf) (subst (λ us. IsAtFirst us stop) is first))
+    (leaf_refused room t ts stop (ap (is_sign_next 0) (sym is) ∙ one) (ap (is_sign_next 2) (sym is) ∙ two) (ap (is_sign_next 4) (sym is) ∙ three) (subst (IsLeaf t.at (leaf_atom t)) none_there leaf) (subst (λ us. IsAtFirst us stop) is first))
 
-pub leaf_taken : (room : ℕ) (before : List Token) (t : Token) (ts : List Token) (found : Option Part) (part : Part) → before ≡ t ∷ ts → IsLeaf (leaf_atom t) found → found ≡ Some part → 0 < room → Found atom_part atom_tree 0 room before part ts
-leaf_taken room before t ts found part is leaf some_there fits = subst (λ us. Found atom_part atom_tree 0 room us part ts) (sym is) (leaf_found room t ts part (subst (IsLeaf (leaf_atom t)) some_there leaf) fits)
+pub leaf_taken : (room : ℕ) (before : List Token) (t : Token) (ts : List Token) (found : Option Part) (part : Part) → before ≡ t ∷ ts → IsLeaf t.at (leaf_atom t) found → found ≡ Some part → 0 < room → Found atom_part atom_tree 0 room before part ts
+leaf_taken room before t ts found part is leaf some_there fits = subst (λ us. Found atom_part atom_tree 0 room us part ts) (sym is) (leaf_found room t ts part (subst (IsLeaf t.at (leaf_atom t)) some_there leaf) fits)
 
 -- ---- an atom in brackets
 
 pub group_ok : (r : Result Part Stop) (room inner : ℕ) (before middle after : List Token) (at : Pos) → Taken (Sign 0) before at middle → inner < room
-    → IfOk r (λ part. FoundClosed group_part 1 (group_tree at) (λ i. suc (group_depth i)) (λ _. false) inner middle part after) → IfOk r (λ part. Found atom_part atom_tree 0 room before part after)
+    → IfOk r (λ part. FoundClosed group_part 1 (group_tree at) (λ i. suc (group_depth i)) (λ i. IsDeepestIn at (group_lies i) (group_depth i)) (λ _. false) inner middle part after) → IfOk r (λ part. Found atom_part atom_tree 0 room before part after)
 group_ok (Ok part) room inner before middle after at taken smaller is = atom_group room inner before middle after at part taken smaller is
 group_ok (Err e) room inner before middle after at taken smaller is = tt
 
@@ -71,7 +72,7 @@ group_err (Ok part) room inner before middle at taken less is = tt
 group_err (Err e) room inner before middle at taken less is = group_refused room inner before middle at e taken less is
 
 pub list_ok : (r : Result Part Stop) (room inner : ℕ) (before middle after : List Token) (at : Pos) → Taken (Sign 2) before at middle → inner < room
-    → IfOk r (λ part. FoundClosed (items_part 3) 3 (λ i. list_expr at (items_tree i)) (λ i. suc (items_depth i)) (λ _. false) inner middle part after) → IfOk r (λ part. Found atom_part atom_tree 0 room before part after)
+    → IfOk r (λ part. FoundClosed (items_part 3) 3 (λ i. list_expr at (items_tree i)) (λ i. suc (items_depth i)) (λ i. IsDeepestIn at (items_lies i) (items_depth i)) (λ _. false) inner middle part after) → IfOk r (λ part. Found atom_part atom_tree 0 room before part after)
 list_ok (Ok part) room inner before middle after at taken smaller is = atom_list room inner before middle after at part taken smaller is
 list_ok (Err e) room inner before middle after at taken smaller is = tt
 
@@ -80,7 +81,7 @@ list_err (Ok part) room inner before middle at taken less is = tt
 list_err (Err e) room inner before middle at taken less is = list_refused room inner before middle at e taken less is
 
 pub dict_ok : (r : Result Part Stop) (room inner : ℕ) (before middle after : List Token) (at : Pos) → Taken (Sign 4) before at middle → inner < room
-    → IfOk r (λ part. FoundClosed pairs_part 5 (λ p. dict_expr at (pairs_tree p)) (λ p. suc (pairs_depth p)) (λ _. false) inner middle part after) → IfOk r (λ part. Found atom_part atom_tree 0 room before part after)
+    → IfOk r (λ part. FoundClosed pairs_part 5 (λ p. dict_expr at (pairs_tree p)) (λ p. suc (pairs_depth p)) (λ p. IsDeepestIn at (pairs_lies p) (pairs_depth p)) (λ _. false) inner middle part after) → IfOk r (λ part. Found atom_part atom_tree 0 room before part after)
 dict_ok (Ok part) room inner before middle after at taken smaller is = atom_dict room inner before middle after at part taken smaller is
 dict_ok (Err e) room inner before middle after at taken smaller is = tt
 
@@ -91,7 +92,7 @@ dict_err (Err e) room inner before middle at taken less is = dict_refused room i
 -- ---- what goes on with a primary
 
 pub call_ok : (r : Result Part Stop) (room : ℕ) (before middle after : List Token) (at : Pos) (left : Part) → Taken (Sign 0) before at middle
-    → IfOk r (λ found. FoundClosed (items_part 1) 1 (λ i. call_expr at (expr_of left.expr) (items_tree i)) (λ i. suc (max left.height (items_depth i))) (λ _. false) room middle found after) → IfOk r (λ found. FoundTrailer room before left found after)
+    → IfOk r (λ found. FoundClosed (items_part 1) 1 (λ i. call_expr at (expr_of left.expr) (items_tree i)) (λ i. suc (max left.height (items_depth i))) (λ i. IsDeepestWith left.height left.deepest (items_lies i) (items_depth i)) (λ _. false) room middle found after) → IfOk r (λ found. FoundTrailer room before left found after)
 call_ok (Ok part) room before middle after at left taken is = trailer_call room before middle after at left part taken is
 call_ok (Err e) room before middle after at left taken is = tt
 
@@ -100,7 +101,7 @@ call_err (Ok part) room before middle at taken is = tt
 call_err (Err e) room before middle at taken is = trailer_call_refused room before middle at e taken is
 
 pub part_ok : (r : Result Part Stop) (room : ℕ) (before middle after : List Token) (at : Pos) (left : Part) → Taken (Sign 2) before at middle
-    → IfOk r (λ found. FoundClosed index_part 3 (index_tree at (expr_of left.expr)) (λ i. suc (max left.height (index_depth i))) index_form room middle found after) → IfOk r (λ found. FoundTrailer room before left found after)
+    → IfOk r (λ found. FoundClosed index_part 3 (index_tree at (expr_of left.expr)) (λ i. suc (max left.height (index_depth i))) (λ i. IsDeepestWith left.height left.deepest (index_lies i) (index_depth i)) index_form room middle found after) → IfOk r (λ found. FoundTrailer room before left found after)
 part_ok (Ok part) room before middle after at left taken is = trailer_part_of room before middle after at left part taken is
 part_ok (Err e) room before middle after at left taken is = tt
 
@@ -110,10 +111,10 @@ part_err (Err e) room before middle at taken is = trailer_part_refused room befo
 
 -- ---- items behind a comma
 
-pub items_ok : (r : Result Row Stop) (closing room : ℕ) (before middle behind after : List Token) (at : Pos) (first : Part) (row : Row) → start_class (Sign closing) ≡ 0 → Found expr_part expr_tree 7 room before first middle
-    → Taken (Sign 6) middle at behind → FirstOf first row → IfOk r (λ more. FoundRest room behind row more after) → IfOk r (λ more. FoundItems closing room before more after)
-items_ok (Ok more) closing room before middle behind after at first row closes f taken one is = items_several closing room before middle behind after at first row more closes f taken one is
-items_ok (Err e) closing room before middle behind after at first row closes f taken one is = tt
+pub items_ok : (r : Result Row Stop) (closing room : ℕ) (opening : Pos) (before middle behind after : List Token) (at : Pos) (first : Part) (row : Row) → start_class (Sign closing) ≡ 0 → Found expr_part expr_tree 7 room before first middle
+    → Taken (Sign 6) middle at behind → FirstOf first row → IfOk r (λ more. FoundRest room behind row more after) → IfOk r (λ more. FoundItems closing room opening before more after)
+items_ok (Ok more) closing room opening before middle behind after at first row closes f taken one is = items_several closing room opening before middle behind after at first row more closes f taken one is
+items_ok (Err e) closing room opening before middle behind after at first row closes f taken one is = tt
 
 pub items_err : (r : Result Row Stop) (closing room : ℕ) (before middle behind : List Token) (at : Pos) (first : Part) → start_class (Sign closing) ≡ 0 → Found expr_part expr_tree 7 room before first middle
     → Taken (Sign 6) middle at behind → IfErr r (Refused rest_part room behind) → IfErr r (Refused (items_part closing) room before)
@@ -146,11 +147,11 @@ list_kept room before part comma after old is f = subst (λ ts. FoundList room b
 pub rest_kept : (room : ℕ) (before : List Token) (first row : Row) (after old : List Token) → after ≡ old → FoundRest room before first row old → FoundRest room before first row after
 rest_kept room before first row after old is f = subst (λ ts. FoundRest room before first row ts) (sym is) f
 
-pub items_kept : (closing room : ℕ) (before : List Token) (row : Row) (after old : List Token) → after ≡ old → FoundItems closing room before row old → FoundItems closing room before row after
-items_kept closing room before row after old is f = subst (λ ts. FoundItems closing room before row ts) (sym is) f
+pub items_kept : (closing room : ℕ) (opening : Pos) (before : List Token) (row : Row) (after old : List Token) → after ≡ old → FoundItems closing room opening before row old → FoundItems closing room opening before row after
+items_kept closing room opening before row after old is f = subst (λ ts. FoundItems closing room opening before row ts) (sym is) f
 
-pub pairs_kept : (room : ℕ) (before : List Token) (row : PairRow) (after old : List Token) → after ≡ old → FoundPairs room before row old → FoundPairs room before row after
-pairs_kept room before row after old is f = subst (λ ts. FoundPairs room before row ts) (sym is) f
+pub pairs_kept : (room : ℕ) (opening : Pos) (before : List Token) (row : PairRow) (after old : List Token) → after ≡ old → FoundPairs room opening before row old → FoundPairs room opening before row after
+pairs_kept room opening before row after old is f = subst (λ ts. FoundPairs room opening before row ts) (sym is) f
 
 pub index_kept : (room : ℕ) (before old : List Token) (index : Index) (after : List Token) → before ≡ old → FoundIndex room before index after → FoundIndex room old index after
 index_kept room before old index after is f = subst (λ ts. FoundIndex room ts index after) is f

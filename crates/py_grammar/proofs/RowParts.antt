@@ -1,7 +1,7 @@
 -- Expressions in a row: what is read of them, and how they are refused.
 use Rattle.std.proofs.Common.{◌≡◌, ℕ, zero, suc, ◌+◌, max, nat_lt, ◌≤◌, ◌<◌, Bool, true, false, ◌||◌, List, [], ◌∷◌, ◌++◌, map, Option, Some, None, is_some, is_none, option_map, refl, ap, sym, ◌∙◌, arith, append_assoc, if◌then◌else◌}
 use Rattle.std.specs.Prelude.{◌==◌, option_and_then}
-use Rattle.std.proofs.Math.Nat.{le-max_left, le-max_right}
+use Rattle.std.proofs.Math.Nat.{le-max_right}
 use Rattle.std.proofs.lemmas.List.{append-nil}
 use Rattle.std.proofs.lemmas.Bool.{leb-false}
 use Rattle.prov_base.specs.declared.place.Pos.{Pos}
@@ -18,15 +18,17 @@ use Rattle.py_grammar.specs.Concrete.{Spot, Expr, one_expr, several, Rest, end_r
 use Rattle.py_grammar.specs.Tokens.{token, expr_tokens, rest_tokens}
 use Rattle.py_grammar.specs.Trees.{expr_tree}
 use Rattle.py_grammar.specs.Depth.{expr_depth, rest_depth}
+use Rattle.py_grammar.specs.Lies.{deeper_of, expr_lies, rest_lies}
+use Rattle.py_grammar.proofs.Lying.{both_low, expr_low, deepest_more}
 use Rattle.py_grammar.specs.Reader.{Read, go_on, next_level, kind_level, starts, begins_expr, is_sign, read_sign, read_expr, read_rest, rest_rest}
 use Rattle.py_grammar.specs.Written.{OneTarget, TargetRest, last_target, more_target, one_target, several_targets}
 use Rattle.py_grammar.specs.StatementReader.{expr_target, rest_target, exprs_target}
 use Rattle.py_grammar.specs.Parsed.{expr_part, is_form, Taken, Found, IsDeep, Only, Refused, is_sign_next, rest_ends_open}
-use Rattle.py_grammar.specs.ParsedRows.{rest_part, rest_trees, FoundRest}
+use Rattle.py_grammar.specs.ParsedRows.{IsDeepestWith, rest_part, rest_trees, FoundRest}
 use Rattle.py_grammar.proofs.Leading.{Reads}
 use Rattle.py_grammar.proofs.Firsts.{expr_starts, rest_is}
 use Rattle.py_grammar.proofs.Reading.{if_true, expr_reads}
-use Rattle.py_grammar.proofs.Refusals.{Inside, first_of, only_any, only_go_on, only_if, only_is, deeper, refused_inside, refused_same}
+use Rattle.py_grammar.proofs.Refusals.{Inside, first_of, only_any, only_go_on, only_if, only_is, deeper, deep_beside_left, refused_inside, refused_same}
 use Rattle.py_grammar.proofs.ClosedParts.{first_same}
 use Rattle.py_grammar.proofs.PrimParts.{go_on_once}
 use Rattle.py_grammar.proofs.SharpReads.{starts_same}
@@ -91,6 +93,10 @@ pub record RestGoes (room : ℕ) (before : List Token) (old : Row) (after : List
   pub depth : ℕ
   pub height_is : row.height ≡ max old.height depth
   pub depth_is : (r : Rest) → rest_depth (put r) ≡ max depth (rest_depth r)
+  pub lies : Pos → ℕ
+  pub lies_is : (r : Rest) (at : Pos) → rest_lies (put r) at ≡ max (lies at) (rest_lies r at)
+  pub low : (at : Pos) → lies at ≤ depth
+  pub deepest_is : IsDeepestWith old.height old.deepest lies depth row.deepest
   pub form_is : (r : Rest) → (if is_none row.wrong then is_some (rest_target r) else false) ≡ (if is_none old.wrong then is_some (rest_target (put r)) else false)
   pub open_is : (r : Rest) → rest_ends_open (put r) ≡ rest_ends_open r
   pub fits : row.height ≤ room
@@ -114,6 +120,10 @@ rest_init room before row fits = record {
   depth = 0;
   height_is = none_above row.height;
   depth_is = λ r. none_below (rest_depth r);
+  lies = λ at. 0;
+  lies_is = λ r at. none_below (rest_lies r at);
+  low = λ at. omega arith;
+  deepest_is = λ other is other_low. ap (λ h. max h 0) is;
   form_is = λ r. refl;
   open_is = λ r. refl;
   fits = fits;
@@ -198,9 +208,9 @@ rest_leads put front steps behind leads e comma is n tail =
     ∙ more_steps (λ k. go_on (read_rest k tail) (λ r rest. Some (put (more_rest e comma r), rest))) ((n + behind) + is.steps) (n + (behind + is.steps)) (omega arith)
 
 pub rest_next : (room : ℕ) (before after middle behind : List Token) (at : Pos) (old row row_2 : Row) (part : Part) → RestGoes room before old after row → Found expr_part expr_tree 7 room after part middle
-    → Taken (Sign 6) middle at behind → row_2.list.items ≡ row.list.items ++ part.expr ∷ [] → row_2.height ≡ max row.height part.height → is_none row_2.wrong ≡ (if is_none row.wrong then is_none part.wrong else false)
+    → Taken (Sign 6) middle at behind → row_2.list.items ≡ row.list.items ++ part.expr ∷ [] → row_2.height ≡ max row.height part.height → row_2.deepest ≡ deeper_of row.height row.deepest part.height part.deepest → is_none row_2.wrong ≡ (if is_none row.wrong then is_none part.wrong else false)
     → RestGoes room before old behind row_2
-rest_next room before after middle behind at old row row_2 part g f k items_are higher form = record {
+rest_next room before after middle behind at old row row_2 part g f k items_are higher deepest form = record {
   put = λ r. g.put (more_rest f.written k.spot r);
   front = g.front ++ (expr_tokens f.written ++ token (Sign 6) k.spot ∷ []);
   before_is = g.before_is ∙ ap (λ ts. g.front ++ ts) (f.before_is ∙ ap (λ ts. expr_tokens f.written ++ ts) k.before_is) ∙ behind_comma g.front (expr_tokens f.written) (token (Sign 6) k.spot) behind;
@@ -211,6 +221,10 @@ rest_next room before after middle behind at old row row_2 part g f k items_are 
   depth = max g.depth (expr_depth f.written);
   height_is = higher ∙ ap (λ h. max h part.height) g.height_is ∙ ap (λ h. max (max old.height g.depth) h) f.height_is ∙ max_assoc old.height g.depth (expr_depth f.written);
   depth_is = λ r. g.depth_is (more_rest f.written k.spot r) ∙ sym (max_assoc g.depth (expr_depth f.written) (rest_depth r));
+  lies = λ at. max (g.lies at) (expr_lies f.written at);
+  lies_is = λ r at. g.lies_is (more_rest f.written k.spot r) at ∙ sym (max_assoc (g.lies at) (expr_lies f.written at) (rest_lies r at));
+  low = λ at. both_low _ _ _ _ (g.low at) (expr_low f.written at);
+  deepest_is = deepest_more old.height old.deepest g.lies g.depth (expr_lies f.written) (expr_depth f.written) row.height row.deepest part.height part.deepest row_2.deepest g.deepest_is g.low g.height_is deepest f.height_is f.deepest_is (expr_low f.written);
   form_is = λ r.
       ap (λ b. if b then is_some (rest_target r) else false) (form ∙ ap (λ b. if is_none row.wrong then b else false) f.form_is)
       ∙ three_forms (is_none row.wrong) (is_form (expr_target f.written)) (is_some (rest_target r))
@@ -224,13 +238,17 @@ rest_next room before after middle behind at old row row_2 part g f k items_are 
 }
 
 pub rest_last : (room : ℕ) (before after middle : List Token) (old row row_2 : Row) (part : Part) → RestGoes room before old after row → Found expr_part expr_tree 7 room after part middle
-    → is_sign_next 6 middle ≡ false → row_2.list.items ≡ row.list.items ++ part.expr ∷ [] → row_2.height ≡ max row.height part.height → is_none row_2.wrong ≡ (if is_none row.wrong then is_none part.wrong else false)
+    → is_sign_next 6 middle ≡ false → row_2.list.items ≡ row.list.items ++ part.expr ∷ [] → row_2.height ≡ max row.height part.height → row_2.deepest ≡ deeper_of row.height row.deepest part.height part.deepest → is_none row_2.wrong ≡ (if is_none row.wrong then is_none part.wrong else false)
     → FoundRest room before old row_2 middle
-rest_last room before after middle old row row_2 part g f other items_are higher form = record {
+rest_last room before after middle old row row_2 part g f other items_are higher deepest form = record {
   written = g.put (last_rest f.written);
   before_is = g.before_is ∙ ap (λ ts. g.front ++ ts) f.before_is ∙ sym (append_assoc g.front (expr_tokens f.written) middle) ∙ ap (λ ts. ts ++ middle) (sym (g.tokens_are (last_rest f.written)));
   trees_are = pushed_trees row.list.items row_2.list.items part.expr (map expr_of old.list.items) g.trees (expr_tree f.written) items_are g.row_is f.tree_is ∙ ap (λ ts. map expr_of old.list.items ++ ts) (sym (g.trees_are (last_rest f.written)));
   height_is = higher ∙ ap (λ h. max h part.height) g.height_is ∙ ap (λ h. max (max old.height g.depth) h) f.height_is ∙ max_assoc old.height g.depth (expr_depth f.written) ∙ ap (max old.height) (sym (g.depth_is (last_rest f.written)));
+  deepest_is = λ other_lies is other_low.
+      ap (max (other_lies row_2.deepest)) (g.lies_is (last_rest f.written) row_2.deepest)
+      ∙ deepest_more old.height old.deepest g.lies g.depth (expr_lies f.written) (expr_depth f.written) row.height row.deepest part.height part.deepest row_2.deepest g.deepest_is g.low g.height_is deepest f.height_is f.deepest_is (expr_low f.written) other_lies is other_low
+      ∙ ap (max old.height) (sym (g.depth_is (last_rest f.written)));
   form_is = form ∙ ap (λ b. if is_none row.wrong then b else false) (f.form_is ∙ sym (some_last f.written)) ∙ g.form_is (last_rest f.written);
   fits = below_both row_2.height row.height part.height room higher g.fits f.fits;
   beyond = λ closed_there. beyond_comma middle f.beyond other;
@@ -243,6 +261,8 @@ rest_end room before after old row g other = record {
   before_is = g.before_is ∙ ap (λ ts. ts ++ after) (sym (g.tokens_are end_rest ∙ append-nil g.front));
   trees_are = g.row_is ∙ ap (λ ts. map expr_of old.list.items ++ ts) (sym (g.trees_are end_rest ∙ append-nil g.trees));
   height_is = g.height_is ∙ ap (max old.height) (sym (g.depth_is end_rest ∙ no_deeper g.depth));
+  deepest_is = λ other_lies is other_low.
+      ap (max (other_lies row.deepest)) (g.lies_is end_rest row.deepest ∙ no_deeper (g.lies row.deepest)) ∙ g.deepest_is other_lies is other_low ∙ ap (max old.height) (sym (g.depth_is end_rest ∙ no_deeper g.depth));
   form_is = form_itself (is_none row.wrong) ∙ g.form_is end_rest;
   fits = g.fits;
   beyond = λ closed_there. let open_there = g.open_is end_rest in cc;
@@ -254,10 +274,10 @@ rest_end room before after old row g other = record {
 
 -- ---- and refused
 
-pub rest_deep : (stop : Stop) (room n : ℕ) (e : Expr) (ts : List Token) → IsDeep stop room (expr_depth e) → Only (λ r. IsDeep stop room (rest_depth r)) (rest_rest n e ts)
+pub rest_deep : (stop : Stop) (room n : ℕ) (e : Expr) (ts : List Token) → IsDeep stop room (expr_lies e) → Only (λ r. IsDeep stop room (rest_lies r)) (rest_rest n e ts)
 rest_deep stop room zero e ts deep = tt
 rest_deep stop room (suc n) e ts deep = only_if _ (next_level ts == 8) _ _
-    (only_any _ (read_sign 6 ts) _ (λ comma more. only_any _ (read_rest n more) _ (λ found rest. deeper stop room (expr_depth e) room _ deep (let high = le-max_left (expr_depth e) (rest_depth found) in omega (arith, high)))))
+    (only_any _ (read_sign 6 ts) _ (λ comma more. only_any _ (read_rest n more) _ (λ found rest. deep_beside_left stop room (expr_lies e) (rest_lies found) deep)))
     deep
 
 rest_inside : (room : ℕ) (before after : List Token) (old row : Row) (g : RestGoes room before old after row) → begins_expr after ≡ true → Inside rest_part room expr_part room g.front after
@@ -271,9 +291,9 @@ rest_inside room before after old row g start = record {
         ∙ g.leads (n + suc finds.steps) more
         ∙ more_steps (λ k. go_on (read_rest k more) (λ r rest. Some (g.put r, rest))) ((n + suc finds.steps) + g.behind) (suc ((n + g.behind) + finds.steps)) (omega arith)
         ∙ ap (λ r. go_on r (λ r rest. Some (g.put r, rest))) (if_true (begins_expr more) (go_on (read_expr ((n + g.behind) + finds.steps) more) (λ e rest. rest_rest ((n + g.behind) + finds.steps) e rest)) (Some (end_rest, more)) same))
-        (only_go_on (λ r. IsDeep stop room (rest_depth r)) _ _ _
-        (only_go_on (λ e. IsDeep stop room (expr_depth e)) _ (read_expr ((n + g.behind) + finds.steps) more) _ (finds.only (n + g.behind)) (λ e rest deep. rest_deep stop room ((n + g.behind) + finds.steps) e rest deep))
-        (λ r rest deep. deeper stop room (rest_depth r) room _ deep (let is = g.depth_is r in let high = le-max_right g.depth (rest_depth r) in omega (arith, is, high))));
+        (only_go_on (λ r. IsDeep stop room (rest_lies r)) _ _ _
+        (only_go_on (λ e. IsDeep stop room (expr_lies e)) _ (read_expr ((n + g.behind) + finds.steps) more) _ (finds.only (n + g.behind)) (λ e rest deep. rest_deep stop room ((n + g.behind) + finds.steps) e rest deep))
+        (λ r rest deep. deeper stop room (rest_lies r) room (rest_lies (g.put r)) deep (λ at some. let is = g.lies_is r at in let high = le-max_right (g.lies at) (rest_lies r at) in omega (arith, is, high))));
   };
 }
 

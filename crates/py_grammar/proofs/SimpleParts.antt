@@ -12,7 +12,7 @@ use Rattle.py_grammar.specs.Tokens.{expr_tokens, exprs_tokens}
 use Rattle.py_grammar.specs.Trees.{expr_tree}
 use Rattle.py_grammar.specs.Written.{Simple, pass}
 use Rattle.py_grammar.specs.StatementTokens.{simple_tokens}
-use Rattle.py_grammar.specs.Depth.{simple_depth}
+use Rattle.py_grammar.specs.Lies.{simple_lies}
 use Rattle.py_grammar.specs.WellPlaced.{Around}
 use Rattle.py_grammar.specs.Reader.{Read, spot_of, next_level, starts, read_expr, read_exprs}
 use Rattle.py_grammar.specs.StatementReader.{whole, alone, read_simple}
@@ -121,12 +121,12 @@ first_alike [] t more behind = refl
 first_alike (first ∷ f) t more behind = refl
 
 abbrev IsWeaker : Around → Stop → Type 0
-IsWeaker around stop = (s : Simple) → IsDeep stop 100 (simple_depth s) → IsAmiss around stop s
+IsWeaker around stop = (s : Simple) → IsDeep stop 100 (simple_lies s) → IsAmiss around stop s
 
 -- a part stands behind these tokens: how it begins, and what is read there
 record Stands {B : Type 0} (q : Production B) (inner : ℕ) (front rest : List Token) : Type 0 where
   begins : (tokens : List Token) → Begins q tokens → BeginsSimple (front ++ tokens)
-  finds : (why : Stop) (more : List Token) → first_of more ≡ first_of rest → Finds (λ b. IsDeep why inner (q.depth b)) q.read more → Finds (λ s. IsDeep why 100 (simple_depth s)) simple_part.read (front ++ more)
+  finds : (why : Stop) (more : List Token) → first_of more ≡ first_of rest → Finds (λ b. IsDeep why inner (q.lies b)) q.read more → Finds (λ s. IsDeep why 100 (simple_lies s)) simple_part.read (front ++ more)
 
 shown_part : {B : Type 0} (around : Around) (q : Production B) (inner : ℕ) (front rest before : List Token) (fault : Fault) → before ≡ front ++ rest → Stands q inner front rest → IsWeaker around (Here fault)
     → Shown q inner rest fault → SimpleShown around before fault
@@ -153,7 +153,7 @@ refused_there around q inner front rest before End is part refused =
 -- a part is refused behind these tokens
 pub refused_part : {B : Type 0} (around : Around) (q : Production B) (inner : ℕ) (front rest before : List Token) (stop : Stop) (g : ℕ → B → List Token → Option Simple) → before ≡ front ++ rest
     → ((tokens : List Token) → Begins q tokens → BeginsSimple (front ++ tokens)) → ((more : List Token) → first_of more ≡ first_of rest → Turns q (front ++ more) more g)
-    → ((why : Stop) (n : ℕ) (b : B) (left : List Token) → IsDeep why inner (q.depth b) → Only (λ s. IsDeep why 100 (simple_depth s)) (leaving_none (g n b left)))
+    → ((why : Stop) (n : ℕ) (b : B) (left : List Token) → IsDeep why inner (q.lies b) → Only (λ s. IsDeep why 100 (simple_lies s)) (leaving_none (g n b left)))
     → Refused q inner rest stop → SimpleRefused around before stop
 refused_part around q inner front rest before stop g is begins turns deep refused = refused_there around q inner front rest before stop is
     (record { begins = begins; finds = λ why more first finds. turned_found _ _ q (front ++ more) more g (turns more first) (deep why) finds })
@@ -212,7 +212,7 @@ pub row_goes : {room : ℕ} {before after : List Token} {part : Part} → (f : F
 row_goes f t ts rest is n = (row_reads f.written).reads n (t ∷ rest) (λ ends. subst (λ (ts : List Token). 8 < next_level ts) is (f.beyond ends)) (λ ends. subst (λ (ts : List Token). starts ts ≡ 0) is (f.no_more ends))
 
 -- nothing is deeper than it is
-pub not_deeper : (why : Stop) (depth : ℕ) → IsDeep why depth depth → ⊥
+pub not_deeper : (why : Stop) (depth : ℕ) → IsDeep why depth (λ at. depth) → ⊥
 not_deeper (Here (TooDeep at)) depth deep = absurd (omega (arith, deep))
 not_deeper (Here (Unexpected at)) depth deep = deep
 not_deeper (Here (TooMany at)) depth deep = deep

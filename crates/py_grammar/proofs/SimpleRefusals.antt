@@ -1,6 +1,5 @@
 -- `assert` and `del`: what is read, and how it is refused.
 use Rattle.std.proofs.Common.{◌≡◌, inr, ℕ, ◌+◌, true, false, List, [], ◌∷◌, ◌++◌, Option, Some, None, option_map, option_and_then, is_none, is_some, refl, ap, sym, ◌∙◌, arith, subst, append_assoc, append-nil}
-use Rattle.std.proofs.Math.Nat.{le-max_left, le-max_right}
 use Rattle.std.proofs.lemmas.Option.{same_Some}
 use Rattle.prov_base.specs.declared.place.Pos.{Pos}
 use Rattle.py_lines.specs.declared.parts.Token.{Token}
@@ -16,7 +15,7 @@ use Rattle.py_grammar.specs.declared.part.Part.{Part}
 use Rattle.py_grammar.specs.Concrete.{Spot, Expr}
 use Rattle.py_grammar.specs.Tokens.{token, expr_tokens}
 use Rattle.py_grammar.specs.Trees.{expr_tree}
-use Rattle.py_grammar.specs.Depth.{expr_depth, simple_depth}
+use Rattle.py_grammar.specs.Lies.{expr_lies, one_target_lies, simple_lies}
 use Rattle.py_grammar.specs.Written.{OneTarget, named, item, field, Simple, assert, assert_message, del}
 use Rattle.py_grammar.specs.StatementTrees.{one_target_tree, simple_form}
 use Rattle.py_grammar.specs.WellPlaced.{Around, may_go, form_stands}
@@ -25,8 +24,8 @@ use Rattle.py_grammar.specs.StatementReader.{expr_target, whole, after_test}
 use Rattle.py_grammar.specs.Parsed.{IsDeep, Only, Begins, Found, Refused, Taken, is_sign_next, is_form, expr_part, IsAtFirst}
 use Rattle.py_grammar.specs.ParsedSimple.{leaving_none, BeginsSimple, SimpleEnds, SimpleRefused, FoundBehindAny, RefusedBehindAny, IsMore, target_form}
 use Rattle.py_grammar.proofs.Reading.{expr_reads, if_false}
-use Rattle.py_grammar.proofs.Refusals.{only_is, deeper, max_below}
-use Rattle.py_grammar.proofs.TargetForms.{target_is, target_deep, target_spelled, target_tree_is}
+use Rattle.py_grammar.proofs.Refusals.{only_is, deep_same, deep_beside_left, deep_beside_right, max_below}
+use Rattle.py_grammar.proofs.TargetForms.{target_is, target_deep, target_lies_so, target_spelled, target_tree_is}
 use Rattle.py_grammar.proofs.ExprForms.{is_attr_tree}
 use Rattle.py_grammar.proofs.SimpleParts.{Turns, turned_none, turns_same, as_whole, map_whole, only_whole, only_map, only_if_simple, none_found, begins_part, refused_part, ended, expr_all, expr_goes}
 
@@ -38,10 +37,10 @@ assert_turn spot n e rest = after_test (n + 0) spot e rest
 assert_turns : (spot : Spot) (more : List Token) → Turns expr_part (token (Keyword 5) spot ∷ more) more (assert_turn spot)
 assert_turns spot more = record { before = 0; behind = 0; turns = λ n. refl }
 
-assert_deep : (why : Stop) (n : ℕ) (spot : Spot) (e : Expr) (left : List Token) → IsDeep why 100 (expr_depth e) → Only (λ s. IsDeep why 100 (simple_depth s)) (leaving_none (after_test n spot e left))
+assert_deep : (why : Stop) (n : ℕ) (spot : Spot) (e : Expr) (left : List Token) → IsDeep why 100 (expr_lies e) → Only (λ s. IsDeep why 100 (simple_lies s)) (leaving_none (after_test n spot e left))
 assert_deep why n spot e [] deep = deep
 assert_deep why n spot e (t ∷ ts) deep = only_if_simple _ (is_sign 6 t.kind) _ None
-    (only_map _ (assert_message spot e (spot_of t)) (whole (read_expr n ts)) (λ m. deeper why 100 (expr_depth e) 100 _ deep (let high = le-max_left (expr_depth e) (expr_depth m) in omega (arith, high)))) tt
+    (only_map _ (assert_message spot e (spot_of t)) (whole (read_expr n ts)) (λ m. deep_beside_left why 100 (expr_lies e) (expr_lies m) deep)) tt
 
 pub assert_refused : (behind : List Token) (stop : Stop) → Refused expr_part 100 behind stop → RefusedBehindAny 5 behind stop
 assert_refused behind stop is = record {
@@ -93,7 +92,7 @@ message_refused comma_at behind middle after part stop f k is = record {
       (ap (λ ts. w ∷ ts) (f.before_is ∙ ap (λ ts. expr_tokens e ++ ts) k.before_is ∙ sym (append_assoc (expr_tokens e) (c ∷ []) after)))
       (begins_part expr_part (w ∷ (expr_tokens e ++ c ∷ [])) (assert_message spot e k.spot) (λ m. ap (λ ts. w ∷ ts) (sym (append_assoc (expr_tokens e) (c ∷ []) (expr_tokens m)))))
       (λ more first. turns_same expr_part _ (w ∷ (expr_tokens e ++ c ∷ more)) more _ (ap (λ ts. w ∷ ts) (append_assoc (expr_tokens e) (c ∷ []) more)) (message_turns spot e k.spot more))
-      (λ why n m left deep. only_whole _ (λ m. Some (assert_message spot e k.spot m)) n m left (deeper why 100 (expr_depth m) 100 _ deep (let high = le-max_right (expr_depth e) (expr_depth m) in omega (arith, high))))
+      (λ why n m left deep. only_whole _ (λ m. Some (assert_message spot e k.spot m)) n m left (deep_beside_right why 100 (expr_lies e) (expr_lies m) deep))
       is;
 }
 
@@ -140,12 +139,12 @@ del_turns spot more = record { before = 0; behind = 0; turns = λ n. by n (read_
 del_begins : (spot : Spot) (tokens : List Token) → Begins expr_part tokens → BeginsSimple (token (Keyword 12) spot ∷ tokens)
 del_begins spot tokens b = inr (record { spot = spot; some = b.some; more = b.more; tokens_are = ap (λ ts. token (Keyword 12) spot ∷ ts) b.tokens_are })
 
-del_deep : (why : Stop) (spot : Spot) (e : Expr) → IsDeep why 100 (expr_depth e) → Only (λ s. IsDeep why 100 (simple_depth s)) (leaving_none (del_of spot e))
+del_deep : (why : Stop) (spot : Spot) (e : Expr) → IsDeep why 100 (expr_lies e) → Only (λ s. IsDeep why 100 (simple_lies s)) (leaving_none (del_of spot e))
 del_deep why spot e deep = by (expr_target e) refl
   where
-    by : (o : Option OneTarget) → expr_target e ≡ o → Only (λ s. IsDeep why 100 (simple_depth s)) (leaving_none (option_map (del spot) o))
+    by : (o : Option OneTarget) → expr_target e ≡ o → Only (λ s. IsDeep why 100 (simple_lies s)) (leaving_none (option_map (del spot) o))
     by None is = tt
-    by (Some t) is = subst (λ (d : ℕ). IsDeep why 100 d) (target_deep e t is) deep
+    by (Some t) is = deep_same why 100 (expr_lies e) (one_target_lies t) (target_lies_so e t is) deep
 
 pub del_refused : (behind : List Token) (stop : Stop) → Refused expr_part 100 behind stop → RefusedBehindAny 12 behind stop
 del_refused behind stop is = record {

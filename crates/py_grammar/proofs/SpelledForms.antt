@@ -22,6 +22,7 @@ use Rattle.py_grammar.proofs.ExprForms.{is_attr_tree}
 use Rattle.py_grammar.proofs.SimpleReading.{target_expr, start_of_expr}
 use Rattle.py_grammar.proofs.TargetForms.{target_is}
 use Rattle.py_grammar.proofs.SpelledWhole.{ReadsSome, ReadsWhole, none_refused, none_left}
+use Rattle.py_grammar.proofs.Lying.{expr_low, sum_low}
 
 -- ---- the form by the tree
 
@@ -83,7 +84,7 @@ expr_whole : ReadsWhole expr_part
 expr_whole = record { reads = λ before e is. expr_some before e [] (is ∙ sym (append-nil (expr_tokens e))) (omega arith) }
 
 pub expr_refused : (tokens : List Token) (stop : Stop) → is_memory stop ≡ false → Refused expr_part 100 tokens stop → IsExpr tokens Nothing
-expr_refused tokens stop other refused e s = none_refused expr_part tokens stop expr_whole other refused e s.tokens_are s.low
+expr_refused tokens stop other refused e s = none_refused expr_part tokens stop expr_whole other refused e s.tokens_are (λ at. let lies = expr_low e at in let low = s.low in omega (arith, lies, low))
 
 pub expr_left : (tokens after : List Token) (part : Part) → Found expr_part expr_tree 7 100 tokens part after → (after ≡ [] → ⊥) → IsExpr tokens Nothing
 expr_left tokens after part f more e s = none_left expr_part tokens after f.written expr_whole (expr_some tokens f.written after f.before_is f.beyond) more e s.tokens_are
@@ -112,7 +113,7 @@ sum_whole : ReadsWhole sum_part
 sum_whole = record { reads = λ before s is. sum_some before s [] (is ∙ sym (append-nil (sum_tokens s))) (omega arith) }
 
 pub sum_refused : (tokens : List Token) (stop : Stop) → is_memory stop ≡ false → Refused sum_part 100 tokens stop → IsSum tokens Nothing
-sum_refused tokens stop other refused e s = none_refused sum_part tokens stop sum_whole other refused e s.tokens_are s.low
+sum_refused tokens stop other refused e s = none_refused sum_part tokens stop sum_whole other refused e s.tokens_are (λ at. let lies = sum_low e at in let low = s.low in omega (arith, lies, low))
 
 pub sum_left : (tokens after : List Token) (part : Part) → Found sum_part sum_tree 3 100 tokens part after → (after ≡ [] → ⊥) → IsSum tokens Nothing
 sum_left tokens after part f more e s = none_left sum_part tokens after f.written sum_whole (sum_some tokens f.written after f.before_is f.beyond) more e s.tokens_are

@@ -22,6 +22,7 @@ use Rattle.py_grammar.proofs.RowReads.{row_reads}
 use Rattle.py_grammar.proofs.SimpleParts.{row_all}
 use Rattle.py_grammar.proofs.SpelledForms.{no_tokens, expr_some}
 use Rattle.py_grammar.proofs.SpelledWhole.{ReadsSome, ReadsWhole, not_refused, same_value, same_left, none_refused, none_left}
+use Rattle.py_grammar.proofs.Lying.{expr_low, exprs_low}
 
 -- ---- what is left of a row
 
@@ -118,7 +119,7 @@ pub first_refused : (tokens before : List Token) (t : Token) (ts : List Token) (
 first_refused tokens before t ts stop left there other refused e s =
     let m = left e s in
     let f : First m.rest before = subst (λ (us : List Token). First m.rest us) (sym there) (first_is m.rest t ts (sym there ∙ m.after_is)) in
-    absurd (not_refused expr_part 100 before f.behind stop f.first (expr_some before f.first f.behind f.after_is f.beyond) (let one = f.low in let all = m.low in omega (arith, one, all)) other refused)
+    absurd (not_refused expr_part 100 before f.behind stop f.first (expr_some before f.first f.behind f.after_is f.beyond) (λ at. let lies = expr_low f.first at in let one = f.low in let all = m.low in omega (arith, lies, one, all)) other refused)
 
 place_of : (before : List Token) (t : Token) (ts : List Token) (e : Expr) (behind : List Token) → before ≡ t ∷ ts → before ≡ expr_tokens e ++ behind → first_place (expr_tokens e) ≡ Some t.at
 place_of before t ts e behind there is = by (expr_tokens e) (no_tokens e) (sym there ∙ is)
@@ -190,7 +191,7 @@ row_whole : ReadsWhole exprs_part
 row_whole = record { reads = λ before e is. row_some before e [] (is ∙ sym (append-nil (exprs_tokens e))) (λ ends. omega arith) (λ ends. refl) }
 
 pub row_refused : (tokens : List Token) (stop : Stop) → is_memory stop ≡ false → Refused exprs_part 100 tokens stop → IsRow tokens Nothing
-row_refused tokens stop other refused e s = none_refused exprs_part tokens stop row_whole other refused e s.tokens_are s.low
+row_refused tokens stop other refused e s = none_refused exprs_part tokens stop row_whole other refused e s.tokens_are (λ at. let lies = exprs_low e at in let low = s.low in omega (arith, lies, low))
 
 pub row_left : (tokens after : List Token) (part : Part) → FoundRow 100 tokens part after → (after ≡ [] → ⊥) → IsRow tokens Nothing
 row_left tokens after part f more e s = none_left exprs_part tokens after f.written row_whole (row_some tokens f.written after f.before_is f.beyond f.no_more) more e s.tokens_are

@@ -2,6 +2,7 @@
 use Rattle.std.proofs.Common.{◌≡◌, ℕ, ◌+◌, ◌≤◌, false, List, [], Some, ap, sym, ◌∙◌, arith, subst}
 use Rattle.std.proofs.lemmas.Option.{same_Some}
 use Rattle.py_lines.specs.declared.parts.Token.{Token}
+use Rattle.prov_base.specs.declared.place.Pos.{Pos}
 use Rattle.py_grammar.specs.declared.fault.Fault.{Fault}
 use Rattle.py_grammar.specs.declared.fault.Fault.TheVariants.{Unexpected, TooDeep, TooMany, Memory}
 use Rattle.py_grammar.specs.declared.fault.Stop.{Stop}
@@ -20,31 +21,31 @@ more_steps f m n is = ap f is
 
 -- ---- refusals
 
-shown_finds : {A : Type 0} (p : Production A) (room : ℕ) (before : List Token) (fault : Fault) → Shown p room before fault → Finds (λ a. IsDeep (Here fault) room (p.depth a)) p.read before
+shown_finds : {A : Type 0} (p : Production A) (room : ℕ) (before : List Token) (fault : Fault) → Shown p room before fault → Finds (λ a. IsDeep (Here fault) room (p.lies a)) p.read before
 shown_finds p room before fault s = finds_same _ p.read _ _ s.before_is (s.none s.behind)
 
-refused_finds : {A : Type 0} (p : Production A) (room : ℕ) (before : List Token) (stop : Stop) → is_memory stop ≡ false → Refused p room before stop → Finds (λ a. IsDeep stop room (p.depth a)) p.read before
+refused_finds : {A : Type 0} (p : Production A) (room : ℕ) (before : List Token) (stop : Stop) → is_memory stop ≡ false → Refused p room before stop → Finds (λ a. IsDeep stop room (p.lies a)) p.read before
 refused_finds p room before (Here Memory) other is = cc
 refused_finds p room before (Here (Unexpected at)) other is = shown_finds p room before (Unexpected at) is
 refused_finds p room before (Here (TooDeep at)) other is = shown_finds p room before (TooDeep at) is
 refused_finds p room before (Here (TooMany at)) other is = shown_finds p room before (TooMany at) is
 refused_finds p room before End other is = is.1
 
-not_deep : (stop : Stop) (room depth : ℕ) → IsDeep stop room depth → depth ≤ room → ⊥
-not_deep (Here (TooDeep at)) room depth deep low = omega (arith, deep, low)
-not_deep (Here (Unexpected at)) room depth deep low = deep
-not_deep (Here (TooMany at)) room depth deep low = deep
-not_deep (Here Memory) room depth deep low = deep
-not_deep End room depth deep low = deep
+not_deep : (stop : Stop) (room : ℕ) (lies : Pos → ℕ) → IsDeep stop room lies → ((at : Pos) → lies at ≤ room) → ⊥
+not_deep (Here (TooDeep at)) room lies deep low = let less = low at in omega (arith, deep, less)
+not_deep (Here (Unexpected at)) room lies deep low = deep
+not_deep (Here (TooMany at)) room lies deep low = deep
+not_deep (Here Memory) room lies deep low = deep
+not_deep End room lies deep low = deep
 
 -- what is read is what is found
 read_so : {A : Type 0} (P : A → Type 0) (p : Production A) (before after : List Token) (a : A) → Finds P p.read before → ReadsSome p before a after → P a
 read_so P p before after a finds is = subst (Only P) (more_steps (λ m. p.read m before) (is.steps + finds.steps) (finds.steps + is.steps) (omega arith) ∙ is.reads finds.steps) (finds.only is.steps)
 
 -- what is read within the limit is not refused
-pub not_refused : {A : Type 0} (p : Production A) (room : ℕ) (before after : List Token) (stop : Stop) (a : A) → ReadsSome p before a after → p.depth a ≤ room → is_memory stop ≡ false → Refused p room before stop → ⊥
+pub not_refused : {A : Type 0} (p : Production A) (room : ℕ) (before after : List Token) (stop : Stop) (a : A) → ReadsSome p before a after → ((at : Pos) → p.lies a at ≤ room) → is_memory stop ≡ false → Refused p room before stop → ⊥
 not_refused p room before after stop a is low other refused =
-    not_deep stop room (p.depth a) (read_so (λ a. IsDeep stop room (p.depth a)) p before after a (refused_finds p room before stop other refused) is) low
+    not_deep stop room (p.lies a) (read_so (λ a. IsDeep stop room (p.lies a)) p before after a (refused_finds p room before stop other refused) is) low
 
 -- ---- there is one way to read
 
@@ -65,7 +66,7 @@ pub record ReadsWhole {A : Type 0} (p : Production A) : Type 0 where
   pub reads : (before : List Token) (a : A) → before ≡ p.tokens a → ReadsSome p before a []
 
 -- the tokens are refused
-pub none_refused : {A : Type 0} (p : Production A) (before : List Token) (stop : Stop) → ReadsWhole p → is_memory stop ≡ false → Refused p 100 before stop → (a : A) → before ≡ p.tokens a → p.depth a ≤ 100 → ⊥
+pub none_refused : {A : Type 0} (p : Production A) (before : List Token) (stop : Stop) → ReadsWhole p → is_memory stop ≡ false → Refused p 100 before stop → (a : A) → before ≡ p.tokens a → ((at : Pos) → p.lies a at ≤ 100) → ⊥
 none_refused p before stop all other refused a is low = not_refused p 100 before [] stop a (all.reads before a is) low other refused
 
 -- something is read, and tokens are left

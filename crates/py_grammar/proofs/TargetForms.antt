@@ -6,6 +6,8 @@ use Rattle.py_grammar.specs.Concrete.{Expr, plain_expr, choice, plain_or, or_mor
 use Rattle.py_grammar.specs.Tokens.{expr_tokens, exprs_tokens}
 use Rattle.py_grammar.specs.Trees.{expr_tree, rest_tree, exprs_tree}
 use Rattle.py_grammar.specs.Depth.{expr_depth, rest_depth, exprs_depth, one_target_depth, target_rest_depth, target_depth}
+use Rattle.prov_base.specs.declared.place.Pos.{Pos}
+use Rattle.py_grammar.specs.Lies.{begins, over, expr_lies, exprs_lies, rest_lies, one_target_lies, target_rest_lies, target_lies}
 use Rattle.py_grammar.specs.StatementTokens.{one_target_tokens, target_tokens}
 use Rattle.py_grammar.specs.StatementTrees.{one_target_tree, target_rest_tree, target_tree}
 use Rattle.py_grammar.specs.StatementReader.{prim_target, expr_target, rest_target, exprs_target}
@@ -91,6 +93,36 @@ target_deep e t is = ap expr_depth (target_is e t is) ∙ one_deep t
 
 pub targets_deep : (e : Exprs) (t : Target) → exprs_target e ≡ Some t → exprs_depth e ≡ target_depth t
 targets_deep e t is = ap exprs_depth (targets_are e t is) ∙ deep_of t
+
+-- ---- how deep what begins at a place lies in them
+
+one_lies : (t : OneTarget) (at : Pos) → expr_lies (target_expr t) at ≡ one_target_lies t at
+one_lies (named spot bytes) at = refl
+one_lies (item e opening index closing) at = refl
+one_lies (field e dot name_at bytes) at = refl
+
+rest_lie : (t : TargetRest) (at : Pos) → rest_lies (rest_exprs t) at ≡ target_rest_lies t at
+rest_lie end_rest_target at = refl
+rest_lie (last_target t) at = one_lies t at
+rest_lie (more_target t comma rest) at = ap (λ x. max x (rest_lies (rest_exprs rest) at)) (one_lies t at) ∙ ap (max (one_target_lies t at)) (rest_lie rest at)
+
+one_begins : (t : OneTarget) (at : Pos) → begins (expr_tokens (target_expr t)) at ≡ begins (one_target_tokens t) at
+one_begins (named spot bytes) at = refl
+one_begins (item e opening index closing) at = refl
+one_begins (field e dot name_at bytes) at = refl
+
+lies_of : (t : Target) (at : Pos) → exprs_lies (target_exprs t) at ≡ target_lies t at
+lies_of (one_target t) at = one_lies t at
+lies_of (several_targets t comma rest) at =
+    ap (λ b. over b (max (expr_lies (target_expr t) at) (rest_lies (rest_exprs rest) at))) (one_begins t at)
+    ∙ ap (λ x. over (begins (one_target_tokens t) at) (max x (rest_lies (rest_exprs rest) at))) (one_lies t at)
+    ∙ ap (λ x. over (begins (one_target_tokens t) at) (max (one_target_lies t at) x)) (rest_lie rest at)
+
+pub target_lies_so : (e : Expr) (t : OneTarget) → expr_target e ≡ Some t → (at : Pos) → expr_lies e at ≡ one_target_lies t at
+target_lies_so e t is at = ap (λ x. expr_lies x at) (target_is e t is) ∙ one_lies t at
+
+pub targets_lie_so : (e : Exprs) (t : Target) → exprs_target e ≡ Some t → (at : Pos) → exprs_lies e at ≡ target_lies t at
+targets_lie_so e t is at = ap (λ x. exprs_lies x at) (targets_are e t is) ∙ lies_of t at
 
 -- ---- their tokens
 

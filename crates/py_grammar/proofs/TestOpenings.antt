@@ -1,8 +1,9 @@
 -- `if`, `elif`, `while`, `with` and `except`, up to the `:`.
 use Rattle.std.proofs.Common.{◌≡◌, ℕ, ◌+◌, ◌≤◌, max, nat_lt, Bool, true, false, List, [], ◌∷◌, ◌++◌, Option, Some, None, option_map, refl, ap, sym, ◌∙◌, arith, append_assoc, if◌then◌else◌}
 use Rattle.std.specs.Prelude.{◌&&◌}
-use Rattle.std.proofs.Math.Nat.{le-max_left}
+use Rattle.std.proofs.Math.Nat.{le-max_left, le-max_right}
 use Rattle.py_lines.specs.declared.parts.Token.{Token}
+use Rattle.prov_base.specs.declared.place.Pos.{Pos}
 use Rattle.py_lines.specs.declared.parts.TokenKind.TheVariants.{Keyword}
 use Rattle.py_tree.specs.declared.expr.Expr.{Expr as BuiltExpr}
 use Rattle.py_tree.specs.declared.stmt.Bound.{Bound}
@@ -15,13 +16,14 @@ use Rattle.py_grammar.specs.Concrete.{Spot, Expr}
 use Rattle.py_grammar.specs.Tokens.{token, expr_tokens}
 use Rattle.py_grammar.specs.Trees.{expr_tree}
 use Rattle.py_grammar.specs.Depth.{expr_depth}
+use Rattle.py_grammar.specs.Lies.{expr_lies, simple_lies}
 use Rattle.py_grammar.specs.Written.{Simple, Naming, no_naming, every_kind, one_kind}
 use Rattle.py_grammar.specs.StatementTokens.{naming_tokens}
 use Rattle.py_grammar.specs.StatementTrees.{naming_bound}
 use Rattle.py_grammar.specs.LineReader.{Head, if_head, elif_head, while_head, except_head, with_head, colon_tokens, head_tokens, then_read, read_colon, read_behind, read_naming, read_head}
 use Rattle.py_grammar.specs.Reader.{Read, go_on, is_sign, spot_of, begins_expr, read_expr}
 use Rattle.py_grammar.specs.Parsed.{IsDeep, Refused, Found, expr_part}
-use Rattle.py_grammar.specs.ParsedHead.{Context, Took, naming_part, word_may, inner_around, behind_stands, head_stands, behind_depth, head_depth, behind_in, IsWhat, OpeningFound, OpeningRefused}
+use Rattle.py_grammar.specs.ParsedHead.{Context, Took, naming_part, word_may, inner_around, behind_stands, head_stands, behind_depth, behind_lies, head_depth, head_lies, behind_in, IsWhat, OpeningFound, OpeningRefused}
 use Rattle.py_grammar.proofs.Stops.{some_spot}
 use Rattle.py_grammar.proofs.Reading.{if_true, if_false}
 use Rattle.py_grammar.proofs.Refusals.{deeper}
@@ -43,10 +45,10 @@ only_colon P n made [] each = tt
 only_colon P n made (t ∷ ts) each = only_if_head P (is_sign 7 t.kind) _ (only_option P (made (spot_of t)) (read_behind n ts) (each (spot_of t)))
 
 -- what lies too deep before the `:` lies too deep in the line
-pub deep_colon : (why : Stop) (n : ℕ) (made : Spot → Option Simple → Head) (ts : List Token) (inner depth low : ℕ) → ((colon : Spot) (behind : Option Simple) → head_depth (made colon behind) ≡ max low (behind_depth behind))
-    → 100 + depth ≤ inner + low → IsDeep why inner depth → OnlyHead (λ h. IsDeep why 100 (head_depth h)) (read_colon n made ts)
-deep_colon why n made ts inner depth low depth_is less deep = only_colon _ n made ts
-    (λ colon behind. deeper why inner depth 100 _ deep (let is = depth_is colon behind in let high = le-max_left low (behind_depth behind) in omega (arith, less, is, high)))
+pub deep_colon : (why : Stop) (n : ℕ) (made : Spot → Option Simple → Head) (ts : List Token) (inner : ℕ) (lies before : Pos → ℕ) → ((colon : Spot) (behind : Option Simple) (at : Pos) → head_lies (made colon behind) at ≡ max (before at) (behind_lies behind at))
+    → ((at : Pos) → 1 ≤ lies at → 100 + lies at ≤ inner + before at) → IsDeep why inner lies → OnlyHead (λ h. IsDeep why 100 (head_lies h)) (read_colon n made ts)
+deep_colon why n made ts inner lies before lies_is less deep = only_colon _ n made ts
+    (λ colon behind. deeper why inner lies 100 (head_lies (made colon behind)) deep (λ at some. let is = lies_is colon behind at in let high = le-max_left (before at) (behind_lies behind at) in let enough = less at some in omega (arith, enough, is, high)))
 
 -- ---- `if`, `elif`, `while`: an expression
 
@@ -56,16 +58,17 @@ record Tested (word : ℕ) (head : Spot → Expr → Spot → Option Simple → 
   what_is : (built : BuiltExpr) (spot : Spot) (e : Expr) (colon : Spot) (behind : Option Simple) → expr_of built ≡ expr_tree e → IsWhat (what built) (head spot e colon behind)
   behind_is : (spot : Spot) (e : Expr) (colon : Spot) (behind : Option Simple) → behind_in (head spot e colon behind) ≡ behind
   depth_is : (spot : Spot) (e : Expr) (colon : Spot) (behind : Option Simple) → head_depth (head spot e colon behind) ≡ max (expr_depth e) (behind_depth behind)
+  lies_is : (spot : Spot) (e : Expr) (colon : Spot) (behind : Option Simple) (at : Pos) → head_lies (head spot e colon behind) at ≡ max (expr_lies e at) (behind_lies behind at)
   stands : (c : Context) (given : List (List ℕ)) (spot : Spot) (e : Expr) (colon : Spot) (behind : Option Simple) → head_stands c given (head spot e colon behind) ≡ word_may c word && behind_stands (inner_around word c.around) behind
 
 if_tested : Tested 20 if_head If
-if_tested = record { tokens_are = λ spot e colon behind. refl; reads = λ n spot more. refl; what_is = λ built spot e colon behind is. is; behind_is = λ spot e colon behind. refl; depth_is = λ spot e colon behind. refl; stands = λ c given spot e colon behind. refl }
+if_tested = record { tokens_are = λ spot e colon behind. refl; reads = λ n spot more. refl; what_is = λ built spot e colon behind is. is; behind_is = λ spot e colon behind. refl; depth_is = λ spot e colon behind. refl; lies_is = λ spot e colon behind at. refl; stands = λ c given spot e colon behind. refl }
 
 elif_tested : Tested 13 elif_head Elif
-elif_tested = record { tokens_are = λ spot e colon behind. refl; reads = λ n spot more. refl; what_is = λ built spot e colon behind is. is; behind_is = λ spot e colon behind. refl; depth_is = λ spot e colon behind. refl; stands = λ c given spot e colon behind. refl }
+elif_tested = record { tokens_are = λ spot e colon behind. refl; reads = λ n spot more. refl; what_is = λ built spot e colon behind is. is; behind_is = λ spot e colon behind. refl; depth_is = λ spot e colon behind. refl; lies_is = λ spot e colon behind at. refl; stands = λ c given spot e colon behind. refl }
 
 while_tested : Tested 32 while_head While
-while_tested = record { tokens_are = λ spot e colon behind. refl; reads = λ n spot more. refl; what_is = λ built spot e colon behind is. is; behind_is = λ spot e colon behind. refl; depth_is = λ spot e colon behind. refl; stands = λ c given spot e colon behind. refl }
+while_tested = record { tokens_are = λ spot e colon behind. refl; reads = λ n spot more. refl; what_is = λ built spot e colon behind is. is; behind_is = λ spot e colon behind. refl; depth_is = λ spot e colon behind. refl; lies_is = λ spot e colon behind at. refl; stands = λ c given spot e colon behind. refl }
 
 abbrev test_turn : (Spot → Expr → Spot → Option Simple → Head) → Spot → ℕ → Expr → List Token → Option Head
 test_turn head spot n e rest = read_colon (n + 0) (head spot e) rest
@@ -90,6 +93,7 @@ test_found word head what is c before after part f spot =
       depth = expr_depth f.written;
       low = let high = f.height_is in let low = f.fits in omega (arith, high, low);
       depth_is = λ colon behind. is.depth_is spot f.written colon behind;
+      lies_behind = λ colon s at. let same = is.lies_is spot f.written colon (Some s) at in let high = le-max_right (expr_lies f.written at) (simple_lies s at) in omega (arith, same, high);
       stands = λ given colon behind. is.stands c given spot f.written colon behind;
     }
 
@@ -100,7 +104,7 @@ test_refused word head what is c before stop refused = record {
       refused_part_head c given limit expr_part 100 (token (Keyword word) spot ∷ []) before (token (Keyword word) spot ∷ before) stop (test_turn head spot) refl
       (begins_part_head expr_part (token (Keyword word) spot ∷ []) (λ e. head spot e some_spot None) (λ e. colon_tokens some_spot None) (λ e. is.tokens_are spot e some_spot None))
       (test_turns word head what is spot before)
-      (λ why n e left deep. deep_colon why (n + 0) (head spot e) left 100 (expr_depth e) (expr_depth e) (λ colon behind. is.depth_is spot e colon behind) (omega arith) deep) refused;
+      (λ why n e left deep. deep_colon why (n + 0) (head spot e) left 100 (expr_lies e) (expr_lies e) (λ colon behind at. is.lies_is spot e colon behind at) (λ at some. omega arith) deep) refused;
 }
 
 pub if_found : (c : Context) (before after : List Token) (part : Part) → Found expr_part expr_tree 7 100 before part after → OpeningFound c 20 before (If part.expr) after
@@ -137,12 +141,12 @@ with_refused c before stop refused = record {
       (with_turns spot before) (λ why n e left deep. deep_naming why n spot e left deep) refused;
 }
   where
-    deep_naming : (why : Stop) (n : ℕ) (spot : Spot) (e : Expr) (left : List Token) → IsDeep why 100 (expr_depth e) → OnlyHead (λ h. IsDeep why 100 (head_depth h)) (with_turn spot n e left)
+    deep_naming : (why : Stop) (n : ℕ) (spot : Spot) (e : Expr) (left : List Token) → IsDeep why 100 (expr_lies e) → OnlyHead (λ h. IsDeep why 100 (head_lies h)) (with_turn spot n e left)
     deep_naming why n spot e left deep = by (read_naming left)
       where
-        by : (r : Read Naming) → OnlyHead (λ h. IsDeep why 100 (head_depth h)) (then_read r (λ called rest. read_colon (n + 0) (with_head spot e called) rest))
+        by : (r : Read Naming) → OnlyHead (λ h. IsDeep why 100 (head_lies h)) (then_read r (λ called rest. read_colon (n + 0) (with_head spot e called) rest))
         by None = tt
-        by (Some (called, rest)) = deep_colon why (n + 0) (with_head spot e called) rest 100 (expr_depth e) (expr_depth e) (λ colon behind. refl) (omega arith) deep
+        by (Some (called, rest)) = deep_colon why (n + 0) (with_head spot e called) rest 100 (expr_lies e) (expr_lies e) (λ colon behind at. refl) (λ at some. omega arith) deep
 
 abbrev called_turn : Spot → Expr → ℕ → Naming → List Token → Option Head
 called_turn spot e n called rest = read_colon (n + 0) (with_head spot e called) rest
@@ -159,7 +163,7 @@ with_name_refused c before after part stop f refused = record {
       (ap (λ ts. token (Keyword 33) spot ∷ ts) f.before_is)
       (begins_part_head naming_part (token (Keyword 33) spot ∷ expr_tokens f.written) (λ called. with_head spot f.written called some_spot None) (λ called. colon_tokens some_spot None) (λ called. refl))
       (called_turns spot before after part f)
-      (λ why n called left deep. deep_colon why ((n + (expr_is_read f).steps) + 0) (with_head spot f.written called) left 100 0 (expr_depth f.written) (λ colon behind. refl) (omega arith) deep) refused;
+      (λ why n called left deep. deep_colon why ((n + (expr_is_read f).steps) + 0) (with_head spot f.written called) left 100 (λ at. 0) (expr_lies f.written) (λ colon behind at. refl) (λ at some. omega arith) deep) refused;
 }
 
 pub with_found : (c : Context) (before middle after : List Token) (part : Part) (bound : Option Bound) → Found expr_part expr_tree 7 100 before part middle → Took naming_part naming_bound middle bound after → OpeningFound c 33 before (With part.expr bound) after
@@ -179,6 +183,7 @@ with_found c before middle after part bound f took spot =
       depth = expr_depth f.written;
       low = let high = f.height_is in let low = f.fits in omega (arith, high, low);
       depth_is = λ colon behind. refl;
+      lies_behind = λ colon s at. le-max_right _ (simple_lies s at);
       stands = λ given colon behind. refl;
     }
 
@@ -199,6 +204,7 @@ except_every c before other spot = record {
   depth = 0;
   low = omega arith;
   depth_is = λ colon behind. refl;
+  lies_behind = λ colon s at. le-max_right _ (simple_lies s at);
   stands = λ given colon behind. refl;
 }
 
@@ -227,12 +233,12 @@ except_refused c before stop begins refused = record {
       (except_turns spot before begins) (λ why n e left deep. deep_naming why n spot e left deep) refused;
 }
   where
-    deep_naming : (why : Stop) (n : ℕ) (spot : Spot) (e : Expr) (left : List Token) → IsDeep why 100 (expr_depth e) → OnlyHead (λ h. IsDeep why 100 (head_depth h)) (except_turn spot n e left)
+    deep_naming : (why : Stop) (n : ℕ) (spot : Spot) (e : Expr) (left : List Token) → IsDeep why 100 (expr_lies e) → OnlyHead (λ h. IsDeep why 100 (head_lies h)) (except_turn spot n e left)
     deep_naming why n spot e left deep = by (read_naming left)
       where
-        by : (r : Read Naming) → OnlyHead (λ h. IsDeep why 100 (head_depth h)) (then_read (go_on r (λ called left. Some (one_kind e called, left))) (λ kind rest. read_colon (n + 0) (except_head spot kind) rest))
+        by : (r : Read Naming) → OnlyHead (λ h. IsDeep why 100 (head_lies h)) (then_read (go_on r (λ called left. Some (one_kind e called, left))) (λ kind rest. read_colon (n + 0) (except_head spot kind) rest))
         by None = tt
-        by (Some (called, rest)) = deep_colon why (n + 0) (except_head spot (one_kind e called)) rest 100 (expr_depth e) (expr_depth e) (λ colon behind. refl) (omega arith) deep
+        by (Some (called, rest)) = deep_colon why (n + 0) (except_head spot (one_kind e called)) rest 100 (expr_lies e) (expr_lies e) (λ colon behind at. refl) (λ at some. omega arith) deep
 
 abbrev class_turn : Spot → Expr → ℕ → Naming → List Token → Option Head
 class_turn spot e n called rest = read_colon (n + 0) (except_head spot (one_kind e called)) rest
@@ -251,7 +257,7 @@ except_name_refused c before after part stop begins f refused = record {
       (begins_part_head naming_part (token (Keyword 15) spot ∷ expr_tokens f.written) (λ called. except_head spot (one_kind f.written called) some_spot None) (λ called. colon_tokens some_spot None)
       (λ called. ap (λ ts. token (Keyword 15) spot ∷ ts) (append_assoc (expr_tokens f.written) (naming_tokens called) (colon_tokens some_spot None))))
       (class_turns spot before after part begins f)
-      (λ why n called left deep. deep_colon why ((n + (expr_is_read f).steps) + 0) (except_head spot (one_kind f.written called)) left 100 0 (expr_depth f.written) (λ colon behind. refl) (omega arith) deep) refused;
+      (λ why n called left deep. deep_colon why ((n + (expr_is_read f).steps) + 0) (except_head spot (one_kind f.written called)) left 100 (λ at. 0) (expr_lies f.written) (λ colon behind at. refl) (λ at some. omega arith) deep) refused;
 }
 
 pub except_found : (c : Context) (before middle after : List Token) (part : Part) (bound : Option Bound) → begins_expr before ≡ true → Found expr_part expr_tree 7 100 before part middle → Took naming_part naming_bound middle bound after
@@ -272,5 +278,6 @@ except_found c before middle after part bound begins f took spot =
       depth = expr_depth f.written;
       low = let high = f.height_is in let low = f.fits in omega (arith, high, low);
       depth_is = λ colon behind. refl;
+      lies_behind = λ colon s at. le-max_right _ (simple_lies s at);
       stands = λ given colon behind. refl;
     }

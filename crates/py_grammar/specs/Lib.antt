@@ -3,6 +3,7 @@ pub mod Depth
 pub mod Follows
 pub mod Grammar
 pub mod Layout
+pub mod Lies
 pub mod Parsed
 pub mod ParsedHead
 pub mod ParsedNames

@@ -20,66 +20,69 @@ use Rattle.py_grammar.specs.declared.part.Part.{Part}
 use Rattle.py_grammar.specs.Concrete.{Spot, AddSign, MulSign, Expr, plain_expr, Or, plain_or, And, plain_and, Not, plain_not, Cmp, plain_cmp, CmpSign, Sum, plain_sum, Term, plain_term, Unary, Prim, plain_prim, Atom, Exprs, one_expr, several, Rest, end_rest, last_rest, more_rest}
 use Rattle.py_grammar.specs.Tokens.{token, word, sign, add_sign, mul_sign, cmp_tokens, expr_tokens, or_tokens, and_tokens, not_tokens, cmp_tokens_of, sum_tokens, term_tokens, unary_tokens, prim_tokens, atom_tokens, exprs_tokens}
 use Rattle.py_grammar.specs.Depth.{expr_depth, or_depth, and_depth, not_depth, cmp_depth, sum_depth, term_depth, unary_depth, prim_depth, atom_depth, exprs_depth}
+use Rattle.py_grammar.specs.Lies.{expr_lies, or_lies, and_lies, not_lies, cmp_lies, sum_lies, term_lies, unary_lies, prim_lies, atom_lies, exprs_lies}
 use Rattle.py_grammar.specs.Reader.{Read, add_sign_of, mul_sign_of, is_keyword, is_sign, next_level, starts, read_keyword, read_sign, read_name, read_cmp_sign, read_expr, read_or, read_and, read_not, read_cmp, read_sum, read_term, read_unary, read_prim, read_atom, read_exprs}
 use Rattle.py_grammar.specs.Trees.{exprs_tree, add_op, mul_op, cmp_op, cmp_at}
 use Rattle.py_grammar.specs.Written.{OneTarget}
 use Rattle.py_grammar.specs.StatementReader.{prim_target, expr_target, exprs_target}
 
--- a part of the grammar: the tokens of what is written, how deep it goes, whether it is of a target's form, and its reader
+-- a part of the grammar: the tokens of what is written, how deep it goes, how deep what begins at a place lies in it, whether
+-- it is of a target's form, and its reader
 pub record Production (A : Type 0) : Type 0 where
   pub tokens : A → List Token
   pub depth : A → ℕ
+  pub lies : A → Pos → ℕ
   pub form : A → Bool
   pub read : ℕ → List Token → Read A
 
 abbrev pub one_keyword : ℕ → Production Spot
-one_keyword n = record { tokens = λ spot. token (Keyword n) spot ∷ []; depth = λ _. 0; form = λ _. false; read = λ _ ts. read_keyword n ts }
+one_keyword n = record { tokens = λ spot. token (Keyword n) spot ∷ []; depth = λ _. 0; lies = λ _ at. 0; form = λ _. false; read = λ _ ts. read_keyword n ts }
 
 abbrev pub one_sign : ℕ → Production Spot
-one_sign n = record { tokens = λ spot. token (Sign n) spot ∷ []; depth = λ _. 0; form = λ _. false; read = λ _ ts. read_sign n ts }
+one_sign n = record { tokens = λ spot. token (Sign n) spot ∷ []; depth = λ _. 0; lies = λ _ at. 0; form = λ _. false; read = λ _ ts. read_sign n ts }
 
 abbrev pub one_name : Production (Spot × List ℕ)
-one_name = record { tokens = λ found. word found.1 found.0; depth = λ _. 0; form = λ _. false; read = λ _ ts. read_name ts }
+one_name = record { tokens = λ found. word found.1 found.0; depth = λ _. 0; lies = λ _ at. 0; form = λ _. false; read = λ _ ts. read_name ts }
 
 abbrev pub one_cmp_sign : Production CmpSign
-one_cmp_sign = record { tokens = cmp_tokens; depth = λ _. 0; form = λ _. false; read = λ _ ts. read_cmp_sign ts }
+one_cmp_sign = record { tokens = cmp_tokens; depth = λ _. 0; lies = λ _ at. 0; form = λ _. false; read = λ _ ts. read_cmp_sign ts }
 
 abbrev pub is_form : Option OneTarget → Bool
 is_form None = false
 is_form (Some target) = true
 
 abbrev pub expr_part : Production Expr
-expr_part = record { tokens = expr_tokens; depth = expr_depth; form = λ e. is_form (expr_target e); read = read_expr }
+expr_part = record { tokens = expr_tokens; depth = expr_depth; lies = expr_lies; form = λ e. is_form (expr_target e); read = read_expr }
 
 abbrev pub or_part : Production Or
-or_part = record { tokens = or_tokens; depth = or_depth; form = λ e. is_form (expr_target (plain_expr e)); read = read_or }
+or_part = record { tokens = or_tokens; depth = or_depth; lies = or_lies; form = λ e. is_form (expr_target (plain_expr e)); read = read_or }
 
 abbrev pub and_part : Production And
-and_part = record { tokens = and_tokens; depth = and_depth; form = λ e. is_form (expr_target (plain_expr (plain_or e))); read = read_and }
+and_part = record { tokens = and_tokens; depth = and_depth; lies = and_lies; form = λ e. is_form (expr_target (plain_expr (plain_or e))); read = read_and }
 
 abbrev pub not_part : Production Not
-not_part = record { tokens = not_tokens; depth = not_depth; form = λ e. is_form (expr_target (plain_expr (plain_or (plain_and e)))); read = read_not }
+not_part = record { tokens = not_tokens; depth = not_depth; lies = not_lies; form = λ e. is_form (expr_target (plain_expr (plain_or (plain_and e)))); read = read_not }
 
 abbrev pub cmp_part : Production Cmp
-cmp_part = record { tokens = cmp_tokens_of; depth = cmp_depth; form = λ e. is_form (expr_target (plain_expr (plain_or (plain_and (plain_not e))))); read = read_cmp }
+cmp_part = record { tokens = cmp_tokens_of; depth = cmp_depth; lies = cmp_lies; form = λ e. is_form (expr_target (plain_expr (plain_or (plain_and (plain_not e))))); read = read_cmp }
 
 abbrev pub sum_part : Production Sum
-sum_part = record { tokens = sum_tokens; depth = sum_depth; form = λ e. is_form (expr_target (plain_expr (plain_or (plain_and (plain_not (plain_cmp e)))))); read = read_sum }
+sum_part = record { tokens = sum_tokens; depth = sum_depth; lies = sum_lies; form = λ e. is_form (expr_target (plain_expr (plain_or (plain_and (plain_not (plain_cmp e)))))); read = read_sum }
 
 abbrev pub term_part : Production Term
-term_part = record { tokens = term_tokens; depth = term_depth; form = λ e. is_form (expr_target (plain_expr (plain_or (plain_and (plain_not (plain_cmp (plain_sum e))))))); read = read_term }
+term_part = record { tokens = term_tokens; depth = term_depth; lies = term_lies; form = λ e. is_form (expr_target (plain_expr (plain_or (plain_and (plain_not (plain_cmp (plain_sum e))))))); read = read_term }
 
 abbrev pub unary_part : Production Unary
-unary_part = record { tokens = unary_tokens; depth = unary_depth; form = λ e. is_form (expr_target (plain_expr (plain_or (plain_and (plain_not (plain_cmp (plain_sum (plain_term e)))))))); read = read_unary }
+unary_part = record { tokens = unary_tokens; depth = unary_depth; lies = unary_lies; form = λ e. is_form (expr_target (plain_expr (plain_or (plain_and (plain_not (plain_cmp (plain_sum (plain_term e)))))))); read = read_unary }
 
 abbrev pub prim_part : Production Prim
-prim_part = record { tokens = prim_tokens; depth = prim_depth; form = λ p. is_form (prim_target p); read = read_prim }
+prim_part = record { tokens = prim_tokens; depth = prim_depth; lies = prim_lies; form = λ p. is_form (prim_target p); read = read_prim }
 
 abbrev pub atom_part : Production Atom
-atom_part = record { tokens = atom_tokens; depth = atom_depth; form = λ a. is_form (prim_target (plain_prim a)); read = read_atom }
+atom_part = record { tokens = atom_tokens; depth = atom_depth; lies = atom_lies; form = λ a. is_form (prim_target (plain_prim a)); read = read_atom }
 
 abbrev pub exprs_part : Production Exprs
-exprs_part = record { tokens = exprs_tokens; depth = exprs_depth; form = λ e. is_some (exprs_target e); read = read_exprs }
+exprs_part = record { tokens = exprs_tokens; depth = exprs_depth; lies = exprs_lies; form = λ e. is_some (exprs_target e); read = read_exprs }
 
 -- ---- the next token
 
@@ -102,7 +105,7 @@ pub record Taken (kind : TokenKind) (before : List Token) (at : Pos) (after : Li
 abbrev pub IsMemory : Stop → Type 0
 IsMemory stop = stop ≡ Here Memory
 
--- the fault is shown by the token behind which these stand; of the place that TooDeep names nothing is said here
+-- the fault is shown by the token behind which these stand; what begins at the place that TooDeep names is said below
 abbrev pub ShowsAt : List Token → Fault → Type 0
 ShowsAt behind (Unexpected left) = left ≡ length behind
 ShowsAt behind (TooDeep place) = ⊤
@@ -114,10 +117,11 @@ IsAtFirst [] stop = stop ≡ End
 IsAtFirst (t ∷ ts) (Here (Unexpected left)) = left ≡ length ts
 IsAtFirst (t ∷ ts) stop = ⊥
 
--- What is read all the same where reading stopped: with TooDeep what goes deeper than there is room for, else nothing.
-abbrev pub IsDeep : Stop → ℕ → ℕ → Type 0
-IsDeep (Here (TooDeep at)) room depth = room < depth
-IsDeep stop room depth = ⊥
+-- What is read all the same where reading stopped: with TooDeep what has an expression that begins at the place that it names
+-- and lies deeper than there is room for, else nothing.
+abbrev pub IsDeep : Stop → ℕ → (lies : Pos → ℕ) → Type 0
+IsDeep (Here (TooDeep at)) room lies = room < lies at
+IsDeep stop room lies = ⊥
 
 abbrev pub Only : {A : Type 0} → (A → Type 0) → Read A → Type 0
 Only P None = ⊤
@@ -143,7 +147,7 @@ pub record Shown {A : Type 0} (p : Production A) (room : ℕ) (before : List Tok
   pub before_is : before ≡ front ++ shown_by ∷ behind
   pub left_is : ShowsAt behind fault
   pub begins : Begins p front
-  pub none : (more : List Token) → Finds (λ a. IsDeep (Here fault) room (p.depth a)) p.read (front ++ shown_by ∷ more)
+  pub none : (more : List Token) → Finds (λ a. IsDeep (Here fault) room (p.lies a)) p.read (front ++ shown_by ∷ more)
 
 -- no such part was read
 abbrev pub Refused : {A : Type 0} → Production A → ℕ → List Token → Stop → Type 0
@@ -157,14 +161,15 @@ pub record Found {A : Type 0} (p : Production A) (tree : A → ExprTree) (level 
   pub before_is : before ≡ p.tokens written ++ after
   pub tree_is : expr_of part.expr ≡ tree written
   pub height_is : part.height ≡ p.depth written
+  pub deepest_is : p.lies written part.deepest ≡ p.depth written
   pub form_is : is_none part.wrong ≡ p.form written
   pub fits : part.height ≤ room
   pub beyond : level < next_level after
 
--- there is no room over an expression of this height
-abbrev pub IsTooDeep : ℕ → ℕ → Stop → Type 0
-IsTooDeep height room (Here (TooDeep at)) = room ≤ height
-IsTooDeep height room stop = ⊥
+-- there is no room over an expression of this height, whose deepest begins here
+abbrev pub IsTooDeep : ℕ → Pos → ℕ → Stop → Type 0
+IsTooDeep height deepest room (Here (TooDeep at)) = (room ≤ height) × (at ≡ deepest)
+IsTooDeep height deepest room stop = ⊥
 
 -- ---- expressions in a row
 
@@ -185,6 +190,7 @@ pub record FoundRow (room : ℕ) (before : List Token) (part : Part) (after : Li
   pub before_is : before ≡ exprs_tokens written ++ after
   pub tree_is : expr_of part.expr ≡ exprs_tree written
   pub height_is : part.height ≡ exprs_depth written
+  pub deepest_is : exprs_lies written part.deepest ≡ exprs_depth written
   pub form_is : is_none part.wrong ≡ is_some (exprs_target written)
   pub fits : part.height ≤ room
   pub beyond : ends_open written ≡ false → 8 < next_level after

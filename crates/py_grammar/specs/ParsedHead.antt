@@ -27,6 +27,7 @@ use Rattle.py_grammar.specs.Written.{Simple, Names, Params, Naming, Kind, Base, 
 use Rattle.py_grammar.specs.StatementTokens.{simple_tokens, target_tokens, names_tokens, params_tokens, naming_tokens, kind_tokens, base_tokens}
 use Rattle.py_grammar.specs.StatementTrees.{simple_form, target_tree, names_list, params_list, naming_bound, kind_class, kind_bound, base_tree}
 use Rattle.py_grammar.specs.Depth.{expr_depth, exprs_depth, simple_depth, target_depth, kind_depth}
+use Rattle.py_grammar.specs.Lies.{expr_lies, exprs_lies, simple_lies, target_lies, kind_lies, base_lies}
 use Rattle.py_grammar.specs.WellPlaced.{Around, in_suite, in_loop_suite, in_handler_suite, in_def_suite, in_class_suite, simple_stands, def_stands, none_given}
 use Rattle.py_grammar.specs.LineReader.{Head, simple_head, if_head, elif_head, else_head, while_head, for_head, try_head, except_head, with_head, def_head, class_head, global_head, behind_tokens, colon_tokens, head_tokens, read_colon, read_head, read_target, read_names, read_params, read_naming, read_kind, read_base}
 use Rattle.py_grammar.specs.Parsed.{Production, Begins, IsAtFirst, ShowsAt}
@@ -36,25 +37,25 @@ use Rattle.py_grammar.specs.ParsedSimple.{around_of, leaving_none, BeginsSimple}
 -- ---- the parts of a line
 
 abbrev pub target_part : Production Target
-target_part = record { tokens = target_tokens; depth = target_depth; form = λ _. false; read = read_target }
+target_part = record { tokens = target_tokens; depth = target_depth; lies = target_lies; form = λ _. false; read = read_target }
 
 abbrev pub names_part : Production Names
-names_part = record { tokens = names_tokens; depth = λ _. 0; form = λ _. false; read = read_names }
+names_part = record { tokens = names_tokens; depth = λ _. 0; lies = λ _ at. 0; form = λ _. false; read = read_names }
 
 abbrev pub params_part : Production Params
-params_part = record { tokens = params_tokens; depth = λ _. 0; form = λ _. false; read = read_params }
+params_part = record { tokens = params_tokens; depth = λ _. 0; lies = λ _ at. 0; form = λ _. false; read = read_params }
 
 abbrev pub naming_part : Production Naming
-naming_part = record { tokens = naming_tokens; depth = λ _. 0; form = λ _. false; read = λ _ ts. read_naming ts }
+naming_part = record { tokens = naming_tokens; depth = λ _. 0; lies = λ _ at. 0; form = λ _. false; read = λ _ ts. read_naming ts }
 
 abbrev pub kind_part : Production Kind
-kind_part = record { tokens = kind_tokens; depth = kind_depth; form = λ _. false; read = read_kind }
+kind_part = record { tokens = kind_tokens; depth = kind_depth; lies = kind_lies; form = λ _. false; read = read_kind }
 
 abbrev pub base_part : Production Base
-base_part = record { tokens = base_tokens; depth = λ _. 0; form = λ _. false; read = λ _ ts. read_base ts }
+base_part = record { tokens = base_tokens; depth = λ _. 0; lies = λ _ at. 0; form = λ _. false; read = λ _ ts. read_base ts }
 
 abbrev pub head_part : Production Head
-head_part = record { tokens = head_tokens; depth = λ _. 0; form = λ _. false; read = λ n ts. leaving_none (read_head n ts) }
+head_part = record { tokens = head_tokens; depth = λ _. 0; lies = λ _ at. 0; form = λ _. false; read = λ n ts. leaving_none (read_head n ts) }
 
 -- such a part was read, which is this
 pub record Took {A V : Type 0} (p : Production A) (view : A → V) (before : List Token) (value : V) (after : List Token) : Type 0 where
@@ -145,6 +146,25 @@ head_depth (def_head at name_at bytes opening names closing colon behind) = max 
 head_depth (class_head at name_at bytes of colon behind) = max 1 (behind_depth behind)
 head_depth (global_head at names) = 0
 
+abbrev pub behind_lies : Option Simple → Pos → ℕ
+behind_lies None at = 0
+behind_lies (Some s) at = simple_lies s at
+
+-- how deep the deepest expression of a line lies that begins at a place
+abbrev pub head_lies : Head → Pos → ℕ
+head_lies (simple_head s) at = simple_lies s at
+head_lies (if_head word test colon behind) at = max (expr_lies test at) (behind_lies behind at)
+head_lies (elif_head word test colon behind) at = max (expr_lies test at) (behind_lies behind at)
+head_lies (else_head word colon behind) at = max 0 (behind_lies behind at)
+head_lies (while_head word test colon behind) at = max (expr_lies test at) (behind_lies behind at)
+head_lies (for_head word t in_word e colon behind) at = max (max (target_lies t at) (exprs_lies e at)) (behind_lies behind at)
+head_lies (try_head word colon behind) at = max 0 (behind_lies behind at)
+head_lies (except_head word kind colon behind) at = max (kind_lies kind at) (behind_lies behind at)
+head_lies (with_head word e called colon behind) at = max (expr_lies e at) (behind_lies behind at)
+head_lies (def_head word name_at bytes opening names closing colon behind) at = max 0 (behind_lies behind at)
+head_lies (class_head word name_at bytes of colon behind) at = max (base_lies of at) (behind_lies behind at)
+head_lies (global_head word names) at = 0
+
 -- the statement behind the `:`
 abbrev pub behind_in : Head → Option Simple
 behind_in (simple_head s) = None
@@ -233,13 +253,24 @@ pub record Opening (c : Context) (word : ℕ) (before : List Token) (what : What
   pub depth : ℕ
   pub low : depth ≤ 100
   pub depth_is : (colon : Spot) (behind : Option Simple) → head_depth (made colon behind) ≡ max depth (behind_depth behind)
+  pub lies_behind : (colon : Spot) (s : Simple) (at : Pos) → simple_lies s at ≤ head_lies (made colon (Some s)) at
   pub stands : (given : List (List ℕ)) (colon : Spot) (behind : Option Simple) → head_stands c given (made colon behind) ≡ word_may c word && behind_stands (inner_around word c.around) behind
 
 -- ---- what is refused
 
--- What has these tokens all the same: with TooDeep and TooMany what passes that limit, else what does not stand there.
+-- the first of these tokens stands at this place
+abbrev pub stands_first : List Token → Pos → Type 0
+stands_first [] at = ⊥
+stands_first (t ∷ ts) at = at ≡ t.at
+
+abbrev pub behind_first : Option Simple → Pos → Type 0
+behind_first None at = ⊥
+behind_first (Some s) at = stands_first (simple_tokens s) at
+
+-- What has these tokens all the same: with TooDeep what has an expression that begins at the place that it names and lies too
+-- deep, or passes the limit of suites, with TooMany what passes that of number, else what does not stand there.
 abbrev pub IsAmissPlaced : Around → (limit : Option Limit) → Stop → Simple → Type 0
-IsAmissPlaced around limit (Here (TooDeep at)) s = (100 < simple_depth s) ⊎ (limit ≡ Some Depth)
+IsAmissPlaced around limit (Here (TooDeep at)) s = (100 < simple_lies s at) ⊎ ((limit ≡ Some Depth) × stands_first (simple_tokens s) at)
 IsAmissPlaced around limit (Here (TooMany at)) s = limit ≡ Some Number
 IsAmissPlaced around limit (Here (Unexpected left)) s = simple_stands around s ≡ false
 IsAmissPlaced around limit End s = simple_stands around s ≡ false
@@ -250,7 +281,7 @@ abbrev pub passes : Limit → (limit : Option Limit) → Head → Type 0
 passes one limit h = (limit ≡ Some one) × (is_some (behind_in h) ≡ true)
 
 abbrev pub IsAmissHead : Context → List (List ℕ) → (limit : Option Limit) → Stop → Head → Type 0
-IsAmissHead c given limit (Here (TooDeep at)) h = (100 < head_depth h) ⊎ passes Depth limit h
+IsAmissHead c given limit (Here (TooDeep at)) h = (100 < head_lies h at) ⊎ ((limit ≡ Some Depth) × behind_first (behind_in h) at)
 IsAmissHead c given limit (Here (TooMany at)) h = passes Number limit h
 IsAmissHead c given limit (Here (Unexpected left)) h = head_stands c given h ≡ false
 IsAmissHead c given limit End h = head_stands c given h ≡ false

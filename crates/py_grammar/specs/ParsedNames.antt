@@ -18,6 +18,7 @@ use Rattle.py_grammar.specs.StatementTrees.{one_target_tree, target_rest_tree, n
 use Rattle.py_grammar.specs.Reader.{Read, go_on, next_level, read_sign}
 use Rattle.py_grammar.specs.Trees.{sum_tree}
 use Rattle.py_grammar.specs.Depth.{one_target_depth, target_rest_depth}
+use Rattle.py_grammar.specs.Lies.{one_target_lies, target_rest_lies}
 use Rattle.py_grammar.specs.StatementReader.{whole}
 use Rattle.py_grammar.specs.LineReader.{read_target_rest, read_names, read_params}
 use Rattle.py_grammar.specs.WellPlaced.{are_different, none_given}
@@ -47,7 +48,7 @@ RefusedAmiss p amiss before End = Begins p before × Finds (amiss End) p.read be
 
 -- names, which are all tokens
 abbrev pub all_names : Production Names
-all_names = record { tokens = names_tokens; depth = λ _. 0; form = λ _. false; read = λ n ts. leaving_none (whole (read_names n ts)) }
+all_names = record { tokens = names_tokens; depth = λ _. 0; lies = λ _ at. 0; form = λ _. false; read = λ n ts. leaving_none (whole (read_names n ts)) }
 
 -- with Unexpected, one of them is a parameter
 abbrev pub IsGiven : List (List ℕ) → Stop → Names → Type 0
@@ -88,7 +89,7 @@ abbrev pub read_bracket : ℕ → List Token → Read BracketNames
 read_bracket n ts = go_on (read_sign 0 ts) (λ opening more. go_on (read_params n more) (λ names more_2. go_on (read_sign 1 more_2) (λ closing rest. Some ((opening, names, closing), rest))))
 
 abbrev pub bracket_part : Production BracketNames
-bracket_part = record { tokens = bracket_tokens; depth = λ _. 0; form = λ _. false; read = read_bracket }
+bracket_part = record { tokens = bracket_tokens; depth = λ _. 0; lies = λ _ at. 0; form = λ _. false; read = read_bracket }
 
 pub record ParamsFound (before : List Token) (names : List (List ℕ)) (after : List Token) : Type 0 where
   pub written : BracketNames
@@ -103,7 +104,7 @@ IsRepeatedIn stop w = IsRepeated stop w.1
 -- ---- the target of a `for`, behind which its `in` stands
 
 abbrev pub target_rest_part : Production TargetRest
-target_rest_part = record { tokens = target_rest_tokens; depth = target_rest_depth; form = λ _. false; read = read_target_rest }
+target_rest_part = record { tokens = target_rest_tokens; depth = target_rest_depth; lies = target_rest_lies; form = λ _. false; read = read_target_rest }
 
 -- such a part with the `in` behind it, and what follows
 pub record Followed (A : Type 0) : Type 0 where
@@ -124,7 +125,7 @@ pub record BeginsThen {A : Type 0} (p : Production A) (front : List Token) : Typ
 
 -- no such part is written there with an `in` behind it that there is room for
 abbrev pub TargetsRefused : {A : Type 0} → Production A → ℕ → List Token → Stop → Type 0
-TargetsRefused p room before stop = LineRefused (BeginsThen p) (followed_tokens p) (λ why w. IsDeep why room (p.depth w.part)) before stop
+TargetsRefused p room before stop = LineRefused (BeginsThen p) (followed_tokens p) (λ why w. IsDeep why room (p.lies w.part)) before stop
 
 -- a target was read
 pub record ItemFound (room : ℕ) (before : List Token) (part : Part) (after : List Token) : Type 0 where
@@ -132,6 +133,7 @@ pub record ItemFound (room : ℕ) (before : List Token) (part : Part) (after : L
   pub before_is : before ≡ one_target_tokens target ++ after
   pub tree_is : target_form (expr_of part.expr) ≡ Some (one_target_tree target)
   pub height_is : part.height ≡ one_target_depth target
+  pub deepest_is : one_target_lies target part.deepest ≡ one_target_depth target
   pub fits : part.height ≤ room
   pub beyond : 3 < next_level after
 

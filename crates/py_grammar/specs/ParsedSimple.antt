@@ -21,6 +21,7 @@ use Rattle.py_grammar.specs.Tokens.{token, sign, expr_tokens}
 use Rattle.py_grammar.specs.StatementTokens.{aug_sign, simple_tokens}
 use Rattle.py_grammar.specs.StatementTrees.{aug_op, simple_form}
 use Rattle.py_grammar.specs.Depth.{simple_depth}
+use Rattle.py_grammar.specs.Lies.{simple_lies}
 use Rattle.py_grammar.specs.WellPlaced.{Around, form_stands}
 use Rattle.py_grammar.specs.Reader.{Read}
 use Rattle.py_grammar.specs.StatementReader.{aug_sign_of, exprs_target, read_simple}
@@ -36,7 +37,7 @@ leaving_none None = None
 leaving_none (Some value) = Some (value, [])
 
 abbrev pub simple_part : Production Simple
-simple_part = record { tokens = simple_tokens; depth = simple_depth; form = λ _. false; read = λ n ts. leaving_none (read_simple n ts) }
+simple_part = record { tokens = simple_tokens; depth = simple_depth; lies = simple_lies; form = λ _. false; read = λ n ts. leaving_none (read_simple n ts) }
 
 -- ---- what is read
 
@@ -50,9 +51,10 @@ pub record SimpleFound (around : Around) (before : List Token) (form : Form) : T
 
 -- ---- what is refused
 
--- What is read all the same where reading stopped: with TooDeep what goes too deep, else what does not stand there.
+-- What is read all the same where reading stopped: with TooDeep what has an expression that begins at the place that it names
+-- and lies too deep, else what does not stand there.
 abbrev pub IsAmiss : Around → Stop → Simple → Type 0
-IsAmiss around (Here (TooDeep at)) s = 100 < simple_depth s
+IsAmiss around (Here (TooDeep at)) s = 100 < simple_lies s at
 IsAmiss around (Here (Unexpected left)) s = form_stands around (simple_form s) ≡ false
 IsAmiss around End s = form_stands around (simple_form s) ≡ false
 IsAmiss around stop s = ⊥

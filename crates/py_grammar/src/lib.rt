@@ -24,6 +24,6 @@ pub use around::Around;
 pub use context::{Context, Last, Limit};
 pub use fault::{Fault, Stop};
 pub use head::{Behind, LineHead, What, read_head};
-pub use laws::{one_expression, one_script, one_simple_statement};
+pub use laws::{depth_is_reached, one_expression, one_script, one_simple_statement};
 pub use spelled::{Spelled, spelled_expr, spelled_row, spelled_sum};
 pub use words::{ELIF, ELSE, EXCEPT, GLOBAL, PASS};

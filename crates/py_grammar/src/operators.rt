@@ -21,7 +21,7 @@ use std::alloc::Global;
 /// There is room for an expression over this one.
 pub(crate) fn goes_above(part: &Part, room: u32) -> Result<(), Stop>
     ensures fits { IfOk result (λ _. part.now.height < room) }
-    ensures deep { IfErr result (IsTooDeep part.now.height room) }
+    ensures deep { IfErr result (IsTooDeep part.now.height part.now.deepest room) }
 {
     if part.height < room {
         Ok(())
@@ -33,7 +33,7 @@ pub(crate) fn goes_above(part: &Part, room: u32) -> Result<(), Stop>
 /// There is room for an expression that begins here.
 pub(crate) fn goes_here(at: Pos, room: u32) -> Result<(), Stop>
     ensures fits { IfOk result (λ _. 0 < room) }
-    ensures deep { IfErr result (IsTooDeep 0 room) }
+    ensures deep { IfErr result (IsTooDeep 0 at room) }
 {
     if 0 < room {
         Ok(())

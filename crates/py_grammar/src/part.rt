@@ -3,6 +3,7 @@ ghost use Rattle.std.specs.Prelude.{◌≡◌, ◌<◌, IfOk, IfErr, suc, max, f
 ghost use Rattle.py_tree.specs.Erasure.{expr_of};
 ghost use Rattle.py_tree.specs.Tree.{const_expr, unary_expr, binary_expr, compare_expr, logic_expr, choose_expr};
 ghost use Rattle.py_grammar.specs.Parsed.{IsMemory};
+ghost use Rattle.py_grammar.specs.Lies.{deeper_of};
 
 use crate::fault::Stop;
 use prov_base::Pos;
@@ -28,6 +29,7 @@ pub(crate) struct Part {
 pub(crate) fn literal(at: Pos, atom: Atom) -> Part
     ensures tree { expr_of result.expr ≡ const_expr at atom }
     ensures height { result.height ≡ 1 }
+    ensures deepest { result.deepest ≡ at }
     ensures other { is_none result.wrong ≡ false }
 {
     Part {
@@ -45,6 +47,7 @@ pub(crate) fn unary(alloc: Global, at: Pos, op: UnOp, operand: Part) -> Result<P
     requires operand_is_low { operand.height < 1000 }
     ensures tree { IfOk result (λ part. expr_of part.expr ≡ unary_expr at op (expr_of operand.expr)) }
     ensures height { IfOk result (λ part. part.height ≡ suc operand.height) }
+    ensures deepest { IfOk result (λ part. part.deepest ≡ operand.deepest) }
     ensures other { IfOk result (λ part. is_none part.wrong ≡ false) }
     ensures memory { IfErr result IsMemory }
 {
@@ -58,7 +61,9 @@ pub(crate) fn unary(alloc: Global, at: Pos, op: UnOp, operand: Part) -> Result<P
 }
 
 /// Where the first one that lies deepest among two neighbours begins.
-fn deepest(left: &Part, right: &Part) -> Pos {
+fn deepest(left: &Part, right: &Part) -> Pos
+    ensures { result ≡ deeper_of left.now.height left.now.deepest right.now.height right.now.deepest }
+{
     if left.height < right.height {
         right.deepest
     } else {
@@ -88,6 +93,7 @@ pub(crate) fn logic(
     requires right_is_low { right.height < 1000 }
     ensures tree { IfOk result (λ part. expr_of part.expr ≡ logic_expr at op (expr_of left.expr) (expr_of right.expr)) }
     ensures height { IfOk result (λ part. part.height ≡ suc (max left.height right.height)) }
+    ensures deepest { IfOk result (λ part. part.deepest ≡ deeper_of left.height left.deepest right.height right.deepest) }
     ensures other { IfOk result (λ part. is_none part.wrong ≡ false) }
     ensures memory { IfErr result IsMemory }
 {
@@ -118,6 +124,7 @@ pub(crate) fn binary(
     requires right_is_low { right.height < 1000 }
     ensures tree { IfOk result (λ part. expr_of part.expr ≡ binary_expr at op (expr_of left.expr) (expr_of right.expr)) }
     ensures height { IfOk result (λ part. part.height ≡ suc (max left.height right.height)) }
+    ensures deepest { IfOk result (λ part. part.deepest ≡ deeper_of left.height left.deepest right.height right.deepest) }
     ensures other { IfOk result (λ part. is_none part.wrong ≡ false) }
     ensures memory { IfErr result IsMemory }
 {
@@ -148,6 +155,7 @@ pub(crate) fn compare(
     requires right_is_low { right.height < 1000 }
     ensures tree { IfOk result (λ part. expr_of part.expr ≡ compare_expr at op (expr_of left.expr) (expr_of right.expr)) }
     ensures height { IfOk result (λ part. part.height ≡ suc (max left.height right.height)) }
+    ensures deepest { IfOk result (λ part. part.deepest ≡ deeper_of left.height left.deepest right.height right.deepest) }
     ensures other { IfOk result (λ part. is_none part.wrong ≡ false) }
     ensures memory { IfErr result IsMemory }
 {
@@ -179,17 +187,18 @@ pub(crate) fn choose(
     requires other_is_low { other.height < 1000 }
     ensures tree { IfOk result (λ part. expr_of part.expr ≡ choose_expr at (expr_of test.expr) (expr_of chosen.expr) (expr_of other.expr)) }
     ensures height { IfOk result (λ part. part.height ≡ suc (max chosen.height (max test.height other.height))) }
+    ensures deepest { IfOk result (λ part. part.deepest ≡ deeper_of chosen.height chosen.deepest (max test.height other.height) (deeper_of test.height test.deepest other.height other.deepest)) }
     ensures other { IfOk result (λ part. is_none part.wrong ≡ false) }
     ensures memory { IfErr result IsMemory }
 {
-    let height = chosen.height.max(test.height.max(other.height));
-    let deepest = if chosen.height == height {
-        chosen.deepest
-    } else {
+    let below = test.height.max(other.height);
+    let deepest = if chosen.height < below {
         deepest(&test, &other)
+    } else {
+        chosen.deepest
     };
     Ok(Part {
-        height: height + 1,
+        height: chosen.height.max(below) + 1,
         deepest,
         first: chosen.first,
         wrong: Some(chosen.first),

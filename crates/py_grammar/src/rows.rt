@@ -3,7 +3,8 @@ ghost use Rattle.std.specs.Prelude.{◌≡◌, ◌<◌, ◌++◌, ◌∷◌, [],
 ghost use Rattle.py_tree.specs.Erasure.{expr_of, exprs_list, pairs_list, maybe_tree};
 ghost use Rattle.py_tree.specs.Tree.{var_expr, attr_expr, call_expr, part_expr, range_expr, list_expr, dict_expr, tuple_expr, end_exprs};
 ghost use Rattle.py_grammar.specs.Parsed.{IsMemory};
-ghost use Rattle.py_grammar.specs.ParsedRows.{index_height, is_one, indexed, limit_height, limit_tree};
+ghost use Rattle.py_grammar.specs.ParsedRows.{index_deepest, index_height, is_one, indexed, limit_deepest, limit_height, limit_tree};
+ghost use Rattle.py_grammar.specs.Lies.{deeper_of};
 
 use crate::fault::Stop;
 use crate::part::Part;
@@ -28,6 +29,7 @@ impl Row {
     pub(crate) fn new(alloc: Global, at: Pos) -> Row
         ensures empty { result.list.items ≡ [] }
         ensures height { result.height ≡ 0 }
+        ensures deepest { result.deepest ≡ at }
         ensures form { is_none result.wrong ≡ true }
     {
         Row {
@@ -42,6 +44,7 @@ impl Row {
     pub(crate) fn push(&mut self, part: Part) -> Result<(), Stop>
         ensures list { OnOk result (self.new.list.items ≡ self.old.list.items ++ part.expr ∷ []) }
         ensures height { OnOk result (self.new.height ≡ max self.old.height part.height) }
+        ensures deepest { OnOk result (self.new.deepest ≡ deeper_of self.old.height self.old.deepest part.height part.deepest) }
         ensures form { OnOk result (is_none self.new.wrong ≡ (if is_none self.old.wrong then is_none part.wrong else false)) }
         ensures memory { IfErr result IsMemory }
     {
@@ -72,6 +75,7 @@ impl PairRow {
     pub(crate) fn new(alloc: Global, at: Pos) -> PairRow
         ensures empty { result.list.items ≡ [] }
         ensures height { result.height ≡ 0 }
+        ensures deepest { result.deepest ≡ at }
     {
         PairRow {
             list: Vec::new(alloc),
@@ -84,6 +88,7 @@ impl PairRow {
     fn note(&mut self, height: u32, deepest: Pos)
         ensures list { self.new.list ≡ self.old.list }
         ensures height { self.new.height ≡ max self.old.height height }
+        ensures deepest { self.new.deepest ≡ deeper_of self.old.height self.old.deepest height deepest }
     {
         if self.height < height {
             self.height = height;
@@ -95,6 +100,7 @@ impl PairRow {
     pub(crate) fn push(&mut self, key: Part, value: Part) -> Result<(), Stop>
         ensures list { OnOk result (self.new.list.items ≡ self.old.list.items ++ (key.expr, value.expr) ∷ []) }
         ensures height { OnOk result (self.new.height ≡ max (max self.old.height key.height) value.height) }
+        ensures deepest { OnOk result (self.new.deepest ≡ deeper_of (max self.old.height key.height) (deeper_of self.old.height self.old.deepest key.height key.deepest) value.height value.deepest) }
         ensures memory { IfErr result IsMemory }
     {
         self.note(key.height, key.deepest);
@@ -113,7 +119,8 @@ pub(crate) enum Index {
 
 /// The greater of two heights, with where what has it begins: the first where they are equal.
 fn deeper(left: (u32, Pos), right: (u32, Pos)) -> (u32, Pos)
-    ensures { result.0 ≡ max left.0 right.0 }
+    ensures height { result.0 ≡ max left.0 right.0 }
+    ensures deepest { result.1 ≡ deeper_of left.0 left.1 right.0 right.1 }
 {
     if left.0 < right.0 { right } else { left }
 }
@@ -123,6 +130,7 @@ fn deeper(left: (u32, Pos), right: (u32, Pos)) -> (u32, Pos)
 pub(crate) fn variable(at: Pos, name: Name) -> Part
     ensures tree { expr_of result.expr ≡ var_expr at name }
     ensures height { result.height ≡ 1 }
+    ensures deepest { result.deepest ≡ at }
     ensures form { is_none result.wrong ≡ true }
 {
     Part {
@@ -140,6 +148,7 @@ pub(crate) fn tuple(at: Pos, first: Pos, row: Row) -> Part
     requires is_low { row.height < 1000 }
     ensures tree { expr_of result.expr ≡ tuple_expr at (exprs_list (map expr_of row.list.items)) }
     ensures height { result.height ≡ suc row.height }
+    ensures deepest { result.deepest ≡ row.deepest }
     ensures form { is_none result.wrong ≡ is_none row.wrong }
 {
     Part {
@@ -156,6 +165,7 @@ pub(crate) fn grouped(at: Pos, inner: Part) -> Part
     requires is_low { inner.height < 1000 }
     ensures tree { expr_of result.expr ≡ expr_of inner.expr }
     ensures height { result.height ≡ suc inner.height }
+    ensures deepest { result.deepest ≡ inner.deepest }
     ensures form { is_none result.wrong ≡ false }
 {
     Part {
@@ -172,6 +182,7 @@ pub(crate) fn grouped(at: Pos, inner: Part) -> Part
 pub(crate) fn empty_tuple(alloc: Global, at: Pos) -> Part
     ensures tree { expr_of result.expr ≡ tuple_expr at end_exprs }
     ensures height { result.height ≡ 1 }
+    ensures deepest { result.deepest ≡ at }
     ensures form { is_none result.wrong ≡ false }
 {
     Part {
@@ -194,6 +205,7 @@ pub(crate) fn list(at: Pos, row: Row) -> Part
     requires is_low { row.height < 1000 }
     ensures tree { expr_of result.expr ≡ list_expr at (exprs_list (map expr_of row.list.items)) }
     ensures height { result.height ≡ suc row.height }
+    ensures deepest { result.deepest ≡ row.deepest }
     ensures form { is_none result.wrong ≡ false }
 {
     Part {
@@ -211,6 +223,7 @@ pub(crate) fn dict(at: Pos, row: PairRow) -> Part
     requires is_low { row.height < 1000 }
     ensures tree { expr_of result.expr ≡ dict_expr at (pairs_list (map (λ p. (expr_of p.0, expr_of p.1)) row.list.items)) }
     ensures height { result.height ≡ suc row.height }
+    ensures deepest { result.deepest ≡ row.deepest }
     ensures form { is_none result.wrong ≡ false }
 {
     Part {
@@ -229,6 +242,7 @@ pub(crate) fn call(alloc: Global, at: Pos, callee: Part, arguments: Row) -> Resu
     requires arguments_are_low { arguments.height < 1000 }
     ensures tree { IfOk result (λ part. expr_of part.expr ≡ call_expr at (expr_of callee.expr) (exprs_list (map expr_of arguments.list.items))) }
     ensures height { IfOk result (λ part. part.height ≡ suc (max callee.height arguments.height)) }
+    ensures deepest { IfOk result (λ part. part.deepest ≡ deeper_of callee.height callee.deepest arguments.height arguments.deepest) }
     ensures form { IfOk result (λ part. is_none part.wrong ≡ false) }
     ensures memory { IfErr result IsMemory }
 {
@@ -257,6 +271,7 @@ pub(crate) fn attribute(alloc: Global, at: Pos, object: Part, name: Name) -> Res
     requires is_low { object.height < 1000 }
     ensures tree { IfOk result (λ part. expr_of part.expr ≡ attr_expr at (expr_of object.expr) name) }
     ensures height { IfOk result (λ part. part.height ≡ suc object.height) }
+    ensures deepest { IfOk result (λ part. part.deepest ≡ object.deepest) }
     ensures form { IfOk result (λ part. is_none part.wrong ≡ true) }
     ensures memory { IfErr result IsMemory }
 {
@@ -275,6 +290,7 @@ pub(crate) fn subscript(alloc: Global, at: Pos, object: Part, index: Index) -> R
     requires index_is_low { index_height index < 1000 }
     ensures tree { IfOk result (λ part. expr_of part.expr ≡ indexed at (expr_of object.expr) index) }
     ensures height { IfOk result (λ part. part.height ≡ suc (max object.height (index_height index))) }
+    ensures deepest { IfOk result (λ part. part.deepest ≡ deeper_of object.height object.deepest (index_height index) (index_deepest at index)) }
     ensures form { IfOk result (λ part. is_none part.wrong ≡ is_one index) }
     ensures memory { IfErr result IsMemory }
 {
@@ -291,6 +307,7 @@ fn element(alloc: Global, at: Pos, object: Part, index: Part) -> Result<Part, St
     requires index_is_low { index.height < 1000 }
     ensures tree { IfOk result (λ part. expr_of part.expr ≡ part_expr at (expr_of object.expr) (expr_of index.expr)) }
     ensures height { IfOk result (λ part. part.height ≡ suc (max object.height index.height)) }
+    ensures deepest { IfOk result (λ part. part.deepest ≡ deeper_of object.height object.deepest index.height index.deepest) }
     ensures form { IfOk result (λ part. is_none part.wrong ≡ true) }
     ensures memory { IfErr result IsMemory }
 {
@@ -324,6 +341,7 @@ fn slice(
     requires limits_are_low { max (limit_height low) (limit_height high) < 1000 }
     ensures tree { IfOk result (λ part. expr_of part.expr ≡ range_expr at (expr_of object.expr) (limit_tree low) (limit_tree high)) }
     ensures height { IfOk result (λ part. part.height ≡ suc (max object.height (max (limit_height low) (limit_height high)))) }
+    ensures deepest { IfOk result (λ part. part.deepest ≡ deeper_of object.height object.deepest (max (limit_height low) (limit_height high)) (deeper_of (limit_height low) (limit_deepest at low) (limit_height high) (limit_deepest at high))) }
     ensures form { IfOk result (λ part. is_none part.wrong ≡ false) }
     ensures memory { IfErr result IsMemory }
 {
@@ -344,7 +362,8 @@ fn slice(
 
 /// The height of a bound, with where what has it begins; 0 where there is none.
 fn top(limit: &Option<Part>, at: Pos) -> (u32, Pos)
-    ensures { result.0 ≡ limit_height limit.now }
+    ensures height { result.0 ≡ limit_height limit.now }
+    ensures deepest { result.1 ≡ limit_deepest at limit.now }
 {
     match limit {
         Some(part) => (part.height, part.deepest),

@@ -1,5 +1,5 @@
 -- What is read of a line of a suite: what the first token tells, the limits, and what is refused.
-use Rattle.std.proofs.Common.{◌≡◌, inl, inr, ℕ, ◌+◌, ◌<◌, ◌≤◌, suc, nat_le, Bool, true, false, not, ◌&&◌, ◌||◌, ◌==◌, List, [], ◌∷◌, ◌++◌, length, Option, Some, None, is_some, is_none, if◌then◌else◌, refl, ap, sym, ◌∙◌, arith, subst}
+use Rattle.std.proofs.Common.{◌≡◌, inl, inr, ℕ, ◌+◌, ◌<◌, ◌≤◌, suc, nat_le, Bool, true, false, not, ◌&&◌, ◌||◌, ◌==◌, List, [], ◌∷◌, ◌++◌, length, Option, Some, None, is_some, is_none, if◌then◌else◌, refl, ap, sym, ◌∙◌, arith, subst, ◌⊎◌}
 use Rattle.std.specs.Prelude.{slice_get}
 use Rattle.std.specs.Int.{from_bool}
 use Rattle.std.proofs.lemmas.Bool.{eqb-true, leb-true, leb-false, le-leb, false≢true}
@@ -13,7 +13,7 @@ use Rattle.py_grammar.specs.declared.context.Limit.{Limit}
 use Rattle.py_grammar.specs.declared.context.Limit.TheVariants.{Number, Depth}
 use Rattle.py_grammar.specs.declared.fault.Fault.{Fault}
 use Rattle.py_grammar.specs.declared.fault.Fault.TheVariants.{Unexpected, TooDeep, TooMany, Memory}
-use Rattle.py_parser.specs.declared.fault.Halt.TheVariants.{AtEnd, TooMany as ManyHalt}
+use Rattle.py_parser.specs.declared.fault.Halt.TheVariants.{AtEnd, TooMany as ManyHalt, AtToken}
 use Rattle.py_grammar.specs.declared.fault.Stop.{Stop}
 use Rattle.py_grammar.specs.declared.fault.Stop.TheVariants.{Here, End}
 use Rattle.py_grammar.specs.declared.head.LineHead.{LineHead}
@@ -21,12 +21,13 @@ use Rattle.py_grammar.specs.Concrete.{Spot}
 use Rattle.py_grammar.specs.Tokens.{token}
 use Rattle.py_grammar.specs.Written.{Simple}
 use Rattle.py_grammar.specs.LineReader.{Head, simple_head, if_head, elif_head, else_head, while_head, for_head, try_head, except_head, with_head, def_head, class_head, global_head, head_tokens}
-use Rattle.py_grammar.specs.ParsedHead.{Context, lacks_handler, word_may, is_compound, is_compound_kind, head_stands, head_depth, behind_in, HeadFound, HeadRefused, IsAmissHead, ShownBy, BeginsHead, kind_may, may_begin, FirstMay, ShowsOnLine}
+use Rattle.py_grammar.specs.ParsedHead.{Context, lacks_handler, word_may, is_compound, is_compound_kind, head_stands, head_depth, behind_in, HeadFound, HeadRefused, IsAmissHead, ShownBy, BeginsHead, kind_may, may_begin, FirstMay, ShowsOnLine, head_lies, stands_first, behind_first}
 use Rattle.py_grammar.specs.Parsed.{IsAtFirst}
 use Rattle.py_parser.specs.Limits.{Limits, profile}
 use Rattle.py_parser.specs.Rows.{Level, Begun, is_stmt, is_every, counted, follows, may}
 use Rattle.py_parser.specs.Faults.{last_place, at_token, at_end, shows, Opens}
-use Rattle.py_parser.specs.ParsedBlocks.{limit_by, limit_at, is_stmt_kind, RowsBegin, LineRead, RefusedLine, LineStopped, Asks, MarksToken, halt_of}
+use Rattle.py_parser.specs.ParsedBlocks.{limit_by, limit_at, is_stmt_kind, RowsBegin, LineRead, RefusedLine, LineStopped, Asks, MarksToken, halt_of, MarksDeep}
+use Rattle.py_grammar.proofs.LyingLines.{head_low}
 use Rattle.py_grammar.proofs.LineFirsts.{same_first, head_some, simple_not_compound, may_as_word, may_as_simple, misplaced_head}
 use Rattle.py_parser.proofs.Endings.{begins_here, begins_with, begins_line}
 
@@ -253,6 +254,10 @@ front_first : (front : List Token) (shown : Token) (behind more : List Token) (t
 front_first [] shown behind more t rest is = (more, ap (λ (u : Token). u ∷ more) (same_first shown t behind rest is))
 front_first (f ∷ fs) shown behind more t rest is = (fs ++ shown ∷ more, ap (λ (u : Token). u ∷ (fs ++ shown ∷ more)) (same_first f t (fs ++ shown ∷ behind) rest is))
 
+some_behind : (b : Option Simple) (at : Pos) → behind_first b at → is_some b ≡ true
+some_behind None at first = absurd first
+some_behind (Some s) at first = refl
+
 -- what is amiss of a line is no line that may stand there
 amiss : (q : Limits) (m : Level) (n : ℕ) (begins : Bool) (limit : Option Limit) (h : Head) (k : ℕ) (fault : Fault) → Asks (halt_of k fault) q → begins ≡ is_stmt h → limit ≡ limit_at (n + from_bool begins) m.depth → may q m n h ≡ true
     → IsAmissHead m.context m.given limit (Here fault) h → ⊥
@@ -265,8 +270,8 @@ amiss q m n begins limit h k fault asks same is fine bad = by fault asks bad
     limit_now = is ∙ ap (λ b. limit_at (n + from_bool b) m.depth) same
 
     by : (fault : Fault) → Asks (halt_of k fault) q → IsAmissHead m.context m.given limit (Here fault) h → ⊥
-    by (TooDeep at) asks (inl deep) = let most = asks.0 in omega (arith, most, deep, leb-true (head_depth h) q.height parts.1)
-    by (TooDeep at) asks (inr over) = depth_passed q (n + from_bool (is_stmt h)) m.depth (behind_in h) asks.1 (sym limit_now ∙ over.0) over.1 parts.3
+    by (TooDeep at) asks (inl deep) = let most = asks.0 in let low = head_low h at in omega (arith, most, deep, low, leb-true (head_depth h) q.height parts.1)
+    by (TooDeep at) asks (inr over) = depth_passed q (n + from_bool (is_stmt h)) m.depth (behind_in h) asks.1 (sym limit_now ∙ over.0) (some_behind (behind_in h) at over.1) parts.3
     by (TooMany at) asks over = number_passed q n m.depth (is_stmt h) (behind_in h) asks (sym limit_now ∙ over.0) over.1 parts.2
     by (Unexpected at) asks no_place = false≢true (sym no_place ∙ parts.0)
     by Memory asks bad = bad
@@ -301,6 +306,18 @@ marked_shown line lines front t behind (TooDeep place) tokens is = tt
 marked_shown line lines front t behind (TooMany place) tokens is = is
 marked_shown line lines front t behind Memory tokens is = absurd is
 
+-- with TooDeep, what begins at the place
+deep_shown : (c : Context) (given : List (List ℕ)) (limit : Option Limit) (k d : ℕ) (front : List Token) (t : Token) (fault : Fault)
+    → ((h : Head) (more : List Token) → head_tokens h ≡ front ++ t ∷ more → IsAmissHead c given limit (Here fault) h) → MarksDeep (halt_of k fault) (at_token d front t)
+deep_shown c given limit k d front t (Unexpected left) none = tt
+deep_shown c given limit k d front t (TooMany place) none = tt
+deep_shown c given limit k d front t Memory none = tt
+deep_shown c given limit k d front t (TooDeep place) none = record { there = λ line more h shows_it tokens_are. by line h (none h shows_it.1.more (sym tokens_are ∙ shows_it.1.tokens_are)) }
+  where
+    by : (line : Line) (h : Head) → IsAmissHead c given limit (Here (TooDeep place)) h → (100 < head_lies h place) ⊎ (stands_first line.tokens place ⊎ behind_first (behind_in h) place)
+    by line h (inl lies) = inl lies
+    by line h (inr passed) = inr (inr passed.1)
+
 shown_line : (m : Level) (n : ℕ) (at : Pos) (line : Line) (lines : List Line) (t : Token) (begins : Bool) (limit : Option Limit) (fault : Fault) → Opened m n line t begins limit → (m.context.may_declare ≡ true → m.of_def ≡ true) → kind_may m.context t.kind ≡ true
     → ShownBy BeginsHead head_tokens (λ fault h. IsAmissHead m.context m.given limit (Here fault) h) line.tokens fault → RefusedLine m n at line lines (halt_of (length lines) fault)
 shown_line m n at line lines t begins limit fault o declares may s = record {
@@ -308,6 +325,7 @@ shown_line m n at line lines t begins limit fault o declares may s = record {
   on_line = tt;
   shown = (refl, record { more = s.behind; tokens_are = s.before_is });
   marked = marked_shown line lines s.front s.shown_by s.behind fault s.before_is s.left_is;
+  deep = deep_shown m.context m.given limit (length lines) line.indent s.front s.shown_by fault s.none;
   begun = begun_token line.indent s.front s.shown_by;
   begins = begins_token m line t o.rest s.front s.shown_by s.behind declares may o.tokens_are s.before_is s.begun;
   none = λ q asks other more h there tokens_are goes_on fine.
@@ -329,12 +347,13 @@ line_never : (m : Level) (n : ℕ) (at : Pos) (line : Line) (lines : List Line) 
     → LineStopped m n at line lines (halt_of (length lines) fault)
 line_never m n at line lines t rest fault tokens absent first = by fault first
   where
-    refused : (fault : Fault) → ShowsOnLine t rest fault → RefusedLine m n at line lines (halt_of (length lines) fault)
-    refused fault shows_it = record {
+    refused : (left : ℕ) → left ≡ length rest → RefusedLine m n at line lines (AtToken (length lines) left)
+    refused left left_is = record {
       point = at_token line.indent [] t;
       on_line = tt;
       shown = (refl, record { more = rest; tokens_are = tokens });
-      marked = marked_shown line lines [] t rest fault tokens shows_it;
+      marked = marked_shown line lines [] t rest (Unexpected left) tokens left_is;
+      deep = tt;
       begun = begun_token line.indent [] t;
       begins = λ same. begins_here m (at_token line.indent [] t) refl;
       none = λ q asks other more h there tokens_are goes_on fine.
@@ -343,7 +362,7 @@ line_never m n at line lines t rest fault tokens absent first = by fault first
     }
 
     by : (fault : Fault) → IsAtFirst (t ∷ rest) (Here fault) → LineStopped m n at line lines (halt_of (length lines) fault)
-    by (Unexpected left) first = refused (Unexpected left) first
+    by (Unexpected left) first = refused left first
     by (TooDeep place) first = absurd first
     by (TooMany place) first = absurd first
     by Memory first = absurd first
@@ -366,6 +385,7 @@ line_ends m n at place line lines t begins limit o declares named first e = reco
   on_line = tt;
   shown = (refl, refl);
   marked = (refl, named);
+  deep = tt;
   begun = begun_end line.indent line.tokens;
   begins = begins_ended m line.indent t o.rest line.tokens declares (ends_may m.context t o.rest line.tokens o.tokens_are first) o.tokens_are e.begun;
   none = λ q asks other more h there tokens_are goes_on fine.
@@ -386,6 +406,7 @@ line_is_empty m n at line lines empty = record {
   on_line = tt;
   shown = (refl, empty);
   marked = (refl, refl);
+  deep = tt;
   begun = begun_end line.indent [];
   begins = λ same. begins_here m (at_end line.indent []) refl;
   none = λ q asks other more h there tokens_are goes_on fine. head_some h (sym tokens_are ∙ there.1);
@@ -398,6 +419,7 @@ one_too_many m n at line lines t rest tokens begins many = record {
   on_line = tt;
   shown = (refl, record { more = rest; tokens_are = tokens });
   marked = refl;
+  deep = tt;
   begun = begun_token line.indent [] t;
   begins = λ same. begins_here m (at_token line.indent [] t) refl;
   none = λ q asks other more h there tokens_are goes_on fine. no_more q asks h there.1.more (sym tokens_are ∙ there.1.tokens_are) fine;

@@ -18,7 +18,7 @@ use Rattle.py_grammar.specs.ParsedSimple.{around_of}
 use Rattle.py_grammar.specs.ParsedHead.{IsBehind, behind_in}
 use Rattle.py_parser.specs.declared.blocks.Place.{Place}
 use Rattle.py_parser.specs.declared.blocks.Built.{Built}
-use Rattle.py_parser.specs.Faults.{last_place}
+use Rattle.py_parser.specs.Faults.{last_place, first_place}
 use Rattle.py_parser.specs.Rows.{inside, Level, counted, is_global, is_def, head_around, head_given, opens, last_after, lets_declare, rows_lines}
 use Rattle.py_parser.specs.RowForms.{suite_list, grown, declared}
 use Rattle.py_parser.specs.ParsedBlocks.{level_of, level_at, is_here, trees_of, IsUnderOf, Standing, RowsRead, LineRead, UnderRead, RowRead, RowsStopped, RefusedUnder, UnderStopped, LineStopped, IsHead}
@@ -126,11 +126,11 @@ pub not_below : (cs : List ℕ) (p : Place) (count : ℕ) (m : Level) (n : ℕ) 
 not_below cs p count m n h at line rest lines is u low open_is =
     no_suite cs m (n + counted h) h at lines open_is (subst (Below (suc m.indent)) (sym is) (let same = u.indent_is in omega (arith, low, same)))
 
-pub too_deep_below : (cs : List ℕ) (p : Place) (count : ℕ) (m : Level) (n : ℕ) (h : Head) (at place : Pos) (line : Line) (rest lines : List Line) → lines ≡ line ∷ rest → IsUnderOf p count m n h → p.indent < line.indent → 50 ≤ p.depth → opens h ≡ true
+pub too_deep_below : (cs : List ℕ) (p : Place) (count : ℕ) (m : Level) (n : ℕ) (h : Head) (at place : Pos) (line : Line) (rest lines : List Line) → lines ≡ line ∷ rest → IsUnderOf p count m n h → p.indent < line.indent → 50 ≤ p.depth → opens h ≡ true → place ≡ first_place at line.tokens
     → RefusedUnder cs m (n + counted h) h at lines (TooDeep place)
-too_deep_below cs p count m n h at place line rest lines is u deeper deep open_is =
+too_deep_below cs p count m n h at place line rest lines is u deeper deep open_is first =
     subst (λ (ls : List Line). RefusedUnder cs m (n + counted h) h at ls (TooDeep place)) (sym is)
-    (too_deep_at cs m (n + counted h) h at place line rest open_is (let same = u.indent_is in omega (arith, deeper, same)) (let same = u.depth_is in omega (arith, deep, same)))
+    (too_deep_at cs m (n + counted h) h at place line rest open_is (let same = u.indent_is in omega (arith, deeper, same)) (let same = u.depth_is in omega (arith, deep, same)) first)
 
 -- where the lines of the suite stand
 abbrev pub inner_place : ℕ → ℕ → Around → Bool → Place

@@ -147,6 +147,7 @@ first_halt lines halt r = record {
   lines_are = r.lines_are;
   shown = r.shown;
   marked = r.marked;
+  deep = r.deep;
   column = in_column r.front r.point r.placed;
   begins = script_begins r.front r.point r.begins;
   none = λ limits asks s fits fine rest shown_it same.
@@ -183,6 +184,7 @@ indented_first line lines all is other = record {
   lines_are = refl;
   shown = subst (shows (at_line line.indent)) (sym is) refl;
   named = sym (ap (first_token origin) is);
+  deep = tt;
   column = record { none = λ g. never g.some (g.line ∷ g.more) g.fits g.lines_are g.line_is; no_suite = none_open line.indent; complete = inl (script_goes_on (IsPassBefore line.indent) [] (pass_before start line.indent refl (positive line.indent other))) };
   begins = record { some = empty_script; fits = tt; more = []; lines_are = refl; next = tt };
   none = λ limits asks s fits fine rest shown_it same. never s rest fits same (begun rest shown_it);

@@ -11,12 +11,13 @@ use Rattle.py_grammar.specs.Layout.{IsLine}
 use Rattle.py_grammar.specs.Follows.{Below}
 use Rattle.py_parser.specs.Limits.{Limits}
 use Rattle.py_parser.specs.Rows.{Rows, end_rows, row, Under, nothing, block, rows_lines, under_lines, Level, counted, opens, after, inside, is_done, follows, Leads, FitsUnder, FitsRows, may, rows_may, under_may, rows_size, Edge, LastEdge, Begun}
-use Rattle.py_grammar.specs.ParsedHead.{lacks_handler}
+use Rattle.py_grammar.specs.ParsedHead.{lacks_handler, stands_first}
 use Rattle.py_parser.specs.Faults.{NoLess, Point, at_token, at_end, at_line, below, no_line, shows, first_place, last_place, last_token, IsAt, IsPass, IsPassBefore, IsHandler, IsOpenAt}
 use Rattle.py_parser.specs.ParsedBlocks.{is_column, columns_under, RowsGoOn, UnderGoesOn, NoRows, NoUnder, MayStand, MayStandUnder, Placed, PlacedUnder, IsOnLine, UnderBegins, Refused, RefusedHere, RefusedUnder, RefusedLine, Asks, marks, MarksFirst}
 use Rattle.py_parser.proofs.Columns.{leads_low, under_low, less_in, all_front, open_behind, open_first, none_open, open_split, open_apart, open_low, no_open_rows, column_inside, own_column, column_here}
 use Rattle.py_parser.proofs.Endings.{begins_here, begins_behind, begins_end, begins_under, begins_inside, begins_suite, handler_next, pass_next, pass_before, line_next, goes_behind, goes_end, goes_under, goes_inside}
 use Rattle.py_parser.proofs.Peeled.{begun_rows, one_indent, edge_under, head_is, left_over, peeled}
+use Rattle.py_grammar.proofs.LineFirsts.{head_some}
 
 first_line : (a b : Line) (x y : List Line) → a ∷ x ≡ b ∷ y → a ≡ b
 first_line a b x y is = cc
@@ -109,6 +110,7 @@ refused_behind cs l m n k at now before left rows fault is leads count_is now_is
   lines_are = is ∙ ap (λ ls. rows_lines rows ++ ls) r.lines_are ∙ sym (append_assoc (rows_lines rows) r.front r.behind);
   shown = r.shown;
   marked = subst (λ p. marks p r.behind r.point fault) (ap (λ p. last_token p r.front) now_is ∙ sym (tokens_append at (rows_lines rows) r.front)) r.marked;
+  deep = r.deep;
   placed = placed_behind cs l m rows r.front r.behind r.point leads r.shown r.begun r.placed;
   begun = λ rest shows_it. subst (Begun l.indent) (sym (append_assoc (rows_lines rows) r.front rest)) (begun_first l m rows (r.front ++ rest) leads (r.begun rest shows_it));
   begins = begins_behind l m rows r.front r.point leads r.begins;
@@ -160,6 +162,7 @@ refused_end cs l m n k at now before left rows fault is leads count_is now_is ed
   lines_are = is;
   shown = r.shown;
   marked = subst (λ p. marks p left r.point fault) now_is r.marked;
+  deep = r.deep;
   placed = placed_end cs l m rows left r.point leads r.shown edge (λ rest shows_it. r.edge rows rest shows_it l (sym (indent_stays l m rows leads)) leads edge) r.placed;
   begun = λ rest shows_it. begun rest;
   begins = begins_end l m rows r.point leads (begins_here m r.point r.before);
@@ -242,6 +245,7 @@ refused_under cs m n h at line lines fault is may_follow r = record {
   lines_are = ap (λ ls. line ∷ ls) r.lines_are;
   shown = r.shown;
   marked = r.marked;
+  deep = r.deep;
   placed = placed_under cs m h line r.front r.point is may_follow (further_in m h r.front r.point r.begins) r.placed;
   begun = λ rest shows_it. is.indent_is;
   begins = begins_under m h line r.front r.point is may_follow r.begins;
@@ -282,6 +286,7 @@ refused_line cs m n at line lines fault is r = record {
   lines_are = refl;
   shown = more_lines r.point line lines r.shown;
   marked = r.marked;
+  deep = r.deep;
   placed = placed_line cs m line r.point is r.on_line r.shown;
   begun = λ rest shows_it. subst (λ d. Begun d rest) is (r.begun rest shows_it);
   begins = r.begins is;
@@ -328,6 +333,7 @@ refused_inside cs m n k h at lines fault open_is deeper r = record {
   lines_are = r.lines_are;
   shown = r.shown;
   marked = r.marked;
+  deep = r.deep;
   placed = placed_inside (columns_under cs m) m h k r.front r.point open_is deeper r.begun r.placed;
   begins = begins_inside m h k r.front r.point open_is deeper r.begins;
   none = none;
@@ -352,6 +358,7 @@ no_suite cs m n h at lines open_is low = record {
   lines_are = refl;
   shown = low;
   marked = refl;
+  deep = tt;
   placed = goes_inside m h (suc m.indent) (IsPass (suc m.indent)) [] open_is (omega arith) (pass_next (inside m h (suc m.indent)) (suc m.indent) refl (omega arith));
   begins = begins_suite m h (below (suc m.indent)) open_is refl;
   none = none;
@@ -366,8 +373,8 @@ none_deeper : (q : Limits) (m : Level) (n : ℕ) (h : Head) (under : Under) → 
 none_deeper q m n h nothing few open_is deep fits may_be = absurd (false≢true (sym fits ∙ open_is))
 none_deeper q m n h (block j rows) few open_is deep fits may_be = let low = leb-true (suc m.depth) q.suites (first (nat_le (suc m.depth) q.suites) _ may_be) in absurd (omega (arith, few, deep, low))
 
-pub too_deep_at : (cs : List ℕ) (m : Level) (n : ℕ) (h : Head) (at place : Pos) (line : Line) (lines : List Line) → opens h ≡ true → m.indent < line.indent → 50 ≤ m.depth → RefusedUnder cs m n h at (line ∷ lines) (TooDeep place)
-too_deep_at cs m n h at place line lines open_is deeper deep = by line.tokens refl
+pub too_deep_at : (cs : List ℕ) (m : Level) (n : ℕ) (h : Head) (at place : Pos) (line : Line) (lines : List Line) → opens h ≡ true → m.indent < line.indent → 50 ≤ m.depth → place ≡ first_place at line.tokens → RefusedUnder cs m n h at (line ∷ lines) (TooDeep place)
+too_deep_at cs m n h at place line lines open_is deeper deep first = by line.tokens refl
   where
     next : UnderGoesOn m h (IsAt line.indent) []
     next = goes_inside m h line.indent (IsAt line.indent) [] open_is deeper (line_next (inside m h line.indent))
@@ -380,6 +387,7 @@ too_deep_at cs m n h at place line lines open_is deeper deep = by line.tokens re
       lines_are = refl;
       shown = (refl, is);
       marked = tt;
+      deep = record { there = λ other more k shows_it tokens_are. absurd (head_some k (sym tokens_are ∙ shows_it.1)) };
       placed = inl next;
       begins = begins_suite m h (at_end line.indent []) open_is refl;
       none = λ q asks rest under s shows_it fits may_be edge same. none_deeper q m n h under asks.1 open_is deep fits may_be;
@@ -391,6 +399,7 @@ too_deep_at cs m n h at place line lines open_is deeper deep = by line.tokens re
       lines_are = refl;
       shown = (refl, record { more = ts; tokens_are = is });
       marked = tt;
+      deep = record { there = λ other more k shows_it tokens_are. inr (inl (subst (λ (us : List Token). stands_first us place) (sym shows_it.1.tokens_are) (first ∙ ap (first_place at) is))) };
       placed = inl next;
       begins = begins_suite m h (at_token line.indent [] t) open_is refl;
       none = λ q asks rest under s shows_it fits may_be edge same. none_deeper q m n h under asks.1 open_is deep fits may_be;
@@ -445,6 +454,7 @@ refused_indent cs m n at line lines column further other ends = record {
   point = at_line line.indent;
   shown = refl;
   marked = refl;
+  deep = tt;
   placed = record {
     around = λ is. false≢true (sym column ∙ is);
     here = other;
@@ -480,6 +490,7 @@ refused_first cs m n at line lines halt marked column lacks other ends = by line
       point = at_end line.indent [];
       shown = (refl, is);
       marked = mark;
+      deep = tt;
       placed = inr (inl column, handler_next m lacks);
       before = refl;
       edge = λ rows rest shows_it l indent leads edge. edge_1 rows rest shows_it edge;
@@ -497,6 +508,7 @@ refused_first cs m n at line lines halt marked column lacks other ends = by line
       point = at_token line.indent [] t;
       shown = (refl, record { more = ts; tokens_are = is });
       marked = (mark.0, let counted = ap length is in let left_is = mark.1 in omega (arith, counted, left_is));
+      deep = tt;
       placed = inr (inl column, handler_next m lacks);
       before = refl;
       edge = λ rows rest shows_it l indent leads edge. edge_1 rows rest shows_it edge;
@@ -529,6 +541,7 @@ refused_nothing cs m n at lacks ends = record {
   point = no_line;
   shown = tt;
   marked = refl;
+  deep = tt;
   placed = handler_next m lacks;
   before = refl;
   edge = λ rows rest shows_it l indent leads edge. edge_1 rows rest shows_it;
@@ -549,6 +562,7 @@ refused_empty cs m n at lines low lacks ends = record {
   point = below m.indent;
   shown = low;
   marked = refl;
+  deep = tt;
   placed = pass_next m m.indent lacks (omega arith);
   before = refl;
   edge = λ rows rest shows_it l indent leads edge. edge_below l m rows rest leads (subst (λ d. Below d rest) (sym indent) shows_it);

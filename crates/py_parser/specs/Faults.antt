@@ -8,7 +8,8 @@ use Rattle.py_parser.specs.declared.fault.ParseFault.TheVariants.{Unexpected, Un
 use Rattle.py_grammar.specs.Concrete.{Spot}
 use Rattle.py_grammar.specs.Tokens.{keyword}
 use Rattle.py_grammar.specs.Follows.{Below}
-use Rattle.py_grammar.specs.ParsedHead.{BeginsReading}
+use Rattle.py_grammar.specs.LineReader.{Head, head_tokens}
+use Rattle.py_grammar.specs.ParsedHead.{BeginsReading, behind_in, head_lies, stands_first, behind_first}
 use Rattle.py_grammar.specs.Written.{Script}
 use Rattle.py_grammar.specs.Grammar.{script_lines, FitsScript}
 use Rattle.refused_forms.specs.declared.standing.Standing.{Standing}
@@ -66,8 +67,8 @@ shows no_line [] = ⊤
 shows no_line (line ∷ lines) = ⊥
 
 -- The fault at a token behind which a line does not go on. `front` stands before it, and `rest` are the tokens from it on. It is Unsupported
--- where the table of refused forms has a row for it, at the place that the table names, and else Unexpected there. Of the place that TooDeep
--- names nothing is said here.
+-- where the table of refused forms has a row for it, at the place that the table names, and else Unexpected there. What begins at the place that
+-- TooDeep names is said by `NamesDeep`.
 abbrev pub NamesToken : Standing → List Token → List Token → Token → ParseFault → Type 0
 NamesToken s front rest t (Unexpected place) = (place ≡ t.at) × ((other : Pos) → IsRefusedForm s front rest other → ⊥)
 NamesToken s front rest t (Unsupported place) = IsRefusedForm s front rest place
@@ -210,6 +211,18 @@ InColumn front (at_line indent) = NoneStandsAt indent front
 InColumn front (below indent) = MayFollow (IsPass indent) front
 InColumn front no_line = MayFollow IsHandler front
 
+-- ---- what lies too deep
+
+-- Every line of the grammar that goes on so has an expression that begins at this place and lies deeper than 100, or its first statement
+-- begins there, or the one behind its `:`.
+pub record LiesDeep (at : Pos) (point : Point) : Type 0 where
+  pub there : (line : Line) (more : List Line) (h : Head) → shows point (line ∷ more) → line.tokens ≡ head_tokens h → (100 < head_lies h at) ⊎ (stands_first line.tokens at ⊎ behind_first (behind_in h) at)
+
+-- with TooDeep, what the place says
+abbrev pub NamesDeep : ParseFault → Point → Type 0
+NamesDeep (TooDeep at) point = LiesDeep at point
+NamesDeep fault point = ⊤
+
 -- ---- the first fault
 
 -- What stands before the fault begins a script, and these lines up to and with what is shown begin no script whose statements stand
@@ -222,6 +235,7 @@ pub record FirstFault (lines : List Line) (fault : ParseFault) : Type 0 where
   pub lines_are : lines ≡ front ++ behind
   pub shown : shows point behind
   pub named : names front behind point fault
+  pub deep : NamesDeep fault point
   pub column : InColumn front point
   pub begins : BeginsScript front point
   pub none : (limits : Limits) → Asks fault limits → (s : Script) → FitsScript s → IsFine limits s → (rest : List Line) → shows point rest → script_lines s ≡ front ++ rest → ⊥

@@ -28,7 +28,7 @@ use Rattle.py_grammar.specs.Grammar.{script_lines, FitsScript}
 use Rattle.py_grammar.specs.ParsedSimple.{around_of}
 use Rattle.py_grammar.specs.ParsedHead.{IsWhat, IsBehind, behind_in}
 use Rattle.py_parser.specs.Limits.{Limits, IsFine, profile}
-use Rattle.py_parser.specs.Faults.{last_token, Point, at_token, at_end, at_line, below, no_line, IsAt, IsPass, IsPassBefore, IsHandler, IsOpenAt, InColumn, BeginsScript, shows, first_place, first_token, last_place, origin, tokens_before, Next}
+use Rattle.py_parser.specs.Faults.{last_token, Point, at_token, at_end, at_line, below, no_line, IsAt, IsPass, IsPassBefore, IsHandler, IsOpenAt, InColumn, BeginsScript, LiesDeep, shows, first_place, first_token, last_place, origin, tokens_before, Next}
 use Rattle.py_parser.specs.Rows.{Begun, Rows, Under, rows_lines, under_lines, Level, counted, after, is_done, follows, Leads, FitsUnder, FitsRows, may, rows_may, under_may, rows_size, under_size, Edge, LastEdge}
 use Rattle.py_parser.specs.RowForms.{suite_list, grown, inner_number, declared, row_globals, under_globals, grow, below_tree}
 
@@ -273,6 +273,11 @@ halt_of lines_left (FaultDeep place) = TooDeep place
 halt_of lines_left (FaultMany place) = TooMany place
 halt_of lines_left FaultMemory = Memory
 
+-- with TooDeep, what the place says
+abbrev pub MarksDeep : Halt → Point → Type 0
+MarksDeep (TooDeep at) point = LiesDeep at point
+MarksDeep halt point = ⊤
+
 -- the limits that it speaks of: TooDeep of depth, TooMany of number, and the others of none
 abbrev pub Asks : Halt → Limits → Type 0
 Asks (TooDeep at) q = (q.height ≤ 100) × (q.suites ≤ 50)
@@ -304,6 +309,7 @@ pub record Refused (cs : List ℕ) (l : Level) (n : ℕ) (at : Pos) (lines : Lis
   pub lines_are : lines ≡ front ++ behind
   pub shown : shows point behind
   pub marked : marks (last_token at front) behind point fault
+  pub deep : MarksDeep fault point
   pub placed : Placed cs l front point
   pub begun : (rest : List Line) → shows point rest → Begun l.indent (front ++ rest)
   pub begins : RowsBegin l front point
@@ -318,6 +324,7 @@ pub record RefusedHere (cs : List ℕ) (m : Level) (n : ℕ) (at : Pos) (lines :
   pub point : Point
   pub shown : shows point lines
   pub marked : marks at lines point fault
+  pub deep : MarksDeep fault point
   pub placed : Placed cs m [] point
   pub before : tokens_before point ≡ []
   pub edge : (rows : Rows) (rest : List Line) → shows point rest → (l : Level) → l.indent ≡ m.indent → Leads l rows m → LastEdge rows lines → LastEdge rows rest
@@ -331,6 +338,7 @@ pub record RefusedUnder (cs : List ℕ) (m : Level) (n : ℕ) (h : Head) (at : P
   pub lines_are : lines ≡ front ++ behind
   pub shown : shows point behind
   pub marked : marks (last_token at front) behind point fault
+  pub deep : MarksDeep fault point
   pub placed : PlacedUnder (columns_under cs m) m h front point
   pub begins : UnderBegins m h front point
   pub none : (q : Limits) → Asks fault q → (rest : List Line) (under : Under) (r : List Line) → shows point rest → FitsUnder m h under → under_may q m n h under ≡ true → Edge under r → under_lines under ++ r ≡ front ++ rest → ⊥
@@ -345,6 +353,7 @@ pub record RefusedLine (m : Level) (n : ℕ) (at : Pos) (line : Line) (lines : L
   pub on_line : IsOnLine point
   pub shown : shows point (line ∷ [])
   pub marked : marks at (line ∷ lines) point fault
+  pub deep : MarksDeep fault point
   pub begun : (rest : List Line) → shows point rest → Begun line.indent rest
   pub begins : line.indent ≡ m.indent → RowsBegin m [] point
   pub none : (q : Limits) → Asks fault q → (other : Line) (more : List Line) (h : Head) → shows point (other ∷ more) → other.tokens ≡ head_tokens h → follows m h ≡ true → may q m n h ≡ true → ⊥
@@ -383,6 +392,7 @@ pub record FirstHalt (lines : List Line) (halt : Halt) : Type 0 where
   pub lines_are : lines ≡ front ++ behind
   pub shown : shows point behind
   pub marked : marks (last_token origin front) behind point halt
+  pub deep : MarksDeep halt point
   pub column : InColumn front point
   pub begins : BeginsScript front point
   pub none : (limits : Limits) → Asks halt limits → (s : Script) → FitsScript s → IsFine limits s → (rest : List Line) → shows point rest → script_lines s ≡ front ++ rest → ⊥

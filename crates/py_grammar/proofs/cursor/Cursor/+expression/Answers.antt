@@ -4,6 +4,7 @@ use Rattle.py_grammar.proofs.Choices.{expr_one, expr_choice, chosen_refused, cho
 use Rattle.py_grammar.proofs.Prefixes.{not_one, not_next, not_cmp_refused, not_here, not_operand_refused, unary_one, unary_next, unary_prim_refused, unary_here, unary_operand_refused}
 use Rattle.py_grammar.proofs.Compared.{cmp_one, cmp_next, cmp_left_refused, cmp_full, cmp_sign_refused, cmp_right_refused, cmp_second_refused}
 use Rattle.py_grammar.specs.ParsedRows.{items_part, index_part, pairs_part}
+use Rattle.py_grammar.proofs.BracketParts.{call_closed, part_closed, list_closed, dict_closed}
 use Rattle.py_grammar.proofs.ClosedParts.{closed_first, closed_last}
 use Rattle.py_grammar.proofs.PrimParts.{prim_one, prim_next, prim_end, prim_first, prim_right, prim_full, trailer_dot, trailer_dot_refused, trailer_name_refused}
 use Rattle.py_grammar.proofs.AtomParts.{opening_full, group_none, group_some, group_first, group_last}
@@ -144,7 +145,7 @@ pub unary-returns-in_err-operand-clause-refused : goal.unary-returns-in_err-oper
 unary-returns-in_err-operand-clause-refused t c = let is = unary_operand_refused c.args.room _ _ _ _ _ _ c.in-Some.ensures.taken (omega arith) c.in_err-operand.ensures.refused in search (rules, is)
 
 pub unary-returns-clause-found : goal.unary-returns-clause-found
-unary-returns-clause-found t c = unary_next c.args.room _ _ _ _ _ _ _ _ _ c.in-Some.ensures.taken c.sign_of.ensures (omega (arith, c.in_ok-goes_here.ensures.fits)) c.in_ok-operand.ensures.found c.in_ok-part.ensures.tree c.in_ok-part.ensures.height c.in_ok-part.ensures.other
+unary-returns-clause-found t c = unary_next c.args.room _ _ _ _ _ _ _ _ _ c.in-Some.ensures.taken c.sign_of.ensures (omega (arith, c.in_ok-goes_here.ensures.fits)) c.in_ok-operand.ensures.found c.in_ok-part.ensures.tree c.in_ok-part.ensures.height c.in_ok-part.ensures.deepest c.in_ok-part.ensures.other
 
 pub prim-returns-in_err-left-clause-refused : goal.prim-returns-in_err-left-clause-refused
 prim-returns-in_err-left-clause-refused t c = search (rules, prim_first)
@@ -245,7 +246,7 @@ atom-returns-in-Some-take_sign-2-clause-refused t c =
     dict_err _ _ _ _ _ _ (taken_twice _ _ _ _ _ _ c.in_default-take_sign.ensures.kept c.in_default.ensures.kept c.in-Some-take_sign-2.ensures.taken) (omega arith) c.dict.ensures.refused
 
 pub group-returns-in-Some-clause-found : goal.group-returns-in-Some-clause-found
-group-returns-in-Some-clause-found t c = group_none _ _ _ _ _ _ c.in-Some.ensures.taken c.empty_tuple.ensures.tree c.empty_tuple.ensures.height c.empty_tuple.ensures.form
+group-returns-in-Some-clause-found t c = group_none _ _ _ _ _ _ c.in-Some.ensures.taken c.empty_tuple.ensures.tree c.empty_tuple.ensures.height c.empty_tuple.ensures.deepest c.empty_tuple.ensures.form
 
 pub group-returns-in_err-inner-clause-refused : goal.group-returns-in_err-inner-clause-refused
 group-returns-in_err-inner-clause-refused t c = let is = group_first _ _ _ c.in_default.ensures.absent (refused_kept _ _ _ _ _ c.in_default.ensures.kept c.in_err-inner.ensures.refused) in search (rules, is)
@@ -255,7 +256,7 @@ group-returns-in_err-sign-clause-refused t c =
     let is = refused_kept _ _ _ _ _ c.in_default.ensures.kept (group_last c.args.room _ _ _ _ c.in_ok-inner.ensures.found c.in_err-sign.ensures.refused) in search (rules, is)
 
 pub group-returns-clause-found : goal.group-returns-clause-found
-group-returns-clause-found t c = group_some _ _ _ _ _ _ _ _ (row_kept _ _ _ _ _ c.in_default.ensures.kept c.in_ok-inner.ensures.found) c.in_ok-sign.ensures.taken c.grouped.ensures.tree c.grouped.ensures.height c.grouped.ensures.form
+group-returns-clause-found t c = group_some _ _ _ _ _ _ _ _ (row_kept _ _ _ _ _ c.in_default.ensures.kept c.in_ok-inner.ensures.found) c.in_ok-sign.ensures.taken c.grouped.ensures.tree c.grouped.ensures.height c.grouped.ensures.deepest c.grouped.ensures.form
 
 pub list-returns-in_err-items-clause-refused : goal.list-returns-in_err-items-clause-refused
 list-returns-in_err-items-clause-refused t c = let is = closed_first (items_part 3) 3 _ _ _ c.in_err-items.ensures.refused in search (rules, is)
@@ -272,6 +273,18 @@ pub dict-returns-in_err-sign-clause-refused : goal.dict-returns-in_err-sign-clau
 dict-returns-in_err-sign-clause-refused t c =
     let f = c.in_ok-pairs.ensures.found in
     let is = closed_last pairs_part 5 c.args.room _ _ _ _ f.before_is f.is_read c.in_err-sign.ensures.refused in search (rules, is)
+
+pub arguments-returns-clause-found : goal.arguments-returns-clause-found
+arguments-returns-clause-found t c = call_closed _ _ _ _ _ _ _ c.args.callee _ c.in_ok-arguments.ensures.found c.in_ok-sign.ensures.taken c.call.ensures.tree c.call.ensures.height c.call.ensures.deepest c.call.ensures.form
+
+pub subscription-returns-clause-found : goal.subscription-returns-clause-found
+subscription-returns-clause-found t c = part_closed _ _ _ _ _ _ _ c.args.object _ c.in_ok-index.ensures.found c.in_ok-sign.ensures.taken c.subscript.ensures.tree c.subscript.ensures.height c.subscript.ensures.deepest c.subscript.ensures.form
+
+pub list-returns-clause-found : goal.list-returns-clause-found
+list-returns-clause-found t c = list_closed _ _ _ _ _ _ _ _ c.in_ok-items.ensures.found c.in_ok-sign.ensures.taken c.list.ensures.tree c.list.ensures.height c.list.ensures.deepest c.list.ensures.form
+
+pub dict-returns-clause-found : goal.dict-returns-clause-found
+dict-returns-clause-found t c = dict_closed _ _ _ _ _ _ _ _ c.in_ok-pairs.ensures.found c.in_ok-sign.ensures.taken c.dict.ensures.tree c.dict.ensures.height c.dict.ensures.deepest c.dict.ensures.form
 
 -- ---- rows
 
@@ -291,8 +304,8 @@ pub row-returns-clause-found : goal.row-returns-clause-found
 row-returns-clause-found t c =
     let fits = c.in_ok-goes_above.ensures.fits in
     row_several _ _ _ _ _ _ _ _ _ _ _ c.in_ok-first.ensures.found c.in-Some.ensures.taken fits (omega (arith, fits))
-    (first_pushed c.new-row.result _ _ c.new-row.ensures.empty c.new-row.ensures.height c.new-row.ensures.form c.in_ok-push.ensures.list c.in_ok-push.ensures.height c.in_ok-push.ensures.form)
-    c.in_ok-row.ensures.found c.tuple.ensures.tree c.tuple.ensures.height c.tuple.ensures.form
+    (first_pushed c.new-row.result _ _ c.new-row.ensures.empty c.new-row.ensures.height c.new-row.ensures.form c.in_ok-push.ensures.list c.in_ok-push.ensures.height c.in_ok-push.ensures.deepest c.in_ok-push.ensures.form)
+    c.in_ok-row.ensures.found c.tuple.ensures.tree c.tuple.ensures.height c.tuple.ensures.deepest c.tuple.ensures.form
 
 pub more_items-loop-alloc-init : goal.more_items-loop-alloc-init
 more_items-loop-alloc-init t c = rest_init _ _ _ c.requires.row_fits
@@ -302,34 +315,34 @@ more_items-returns-in_err-next-clause-refused t c = let is = rest_refused _ _ _ 
 
 pub more_items-loop-alloc-preserved : goal.more_items-loop-alloc-preserved
 more_items-loop-alloc-preserved t c =
-    rest_next _ _ _ _ _ _ _ _ _ _ c.loop-alloc.invariant c.in_ok-next.ensures.found c.in-Some.ensures.taken c.in_ok-push.ensures.list c.in_ok-push.ensures.height c.in_ok-push.ensures.form
+    rest_next _ _ _ _ _ _ _ _ _ _ c.loop-alloc.invariant c.in_ok-next.ensures.found c.in-Some.ensures.taken c.in_ok-push.ensures.list c.in_ok-push.ensures.height c.in_ok-push.ensures.deepest c.in_ok-push.ensures.form
 
 pub more_items-loop-alloc-smaller : goal.more_items-loop-alloc-smaller
 more_items-loop-alloc-smaller t c = row_shorter _ _ _ _ _ _ _ c.in_ok-next.ensures.found c.in-Some.ensures.taken
 
 pub more_items-returns-in_default-clause-found : goal.more_items-returns-in_default-clause-found
 more_items-returns-in_default-clause-found t c =
-    rest_kept _ _ _ _ _ _ c.in_default.ensures.kept (rest_last _ _ _ _ _ _ _ _ c.loop-alloc.invariant c.in_ok-next.ensures.found c.in_default.ensures.absent c.in_ok-push.ensures.list c.in_ok-push.ensures.height c.in_ok-push.ensures.form)
+    rest_kept _ _ _ _ _ _ c.in_default.ensures.kept (rest_last _ _ _ _ _ _ _ _ c.loop-alloc.invariant c.in_ok-next.ensures.found c.in_default.ensures.absent c.in_ok-push.ensures.list c.in_ok-push.ensures.height c.in_ok-push.ensures.deepest c.in_ok-push.ensures.form)
 
 pub more_items-returns-clause-found : goal.more_items-returns-clause-found
 more_items-returns-clause-found t c = rest_end _ _ _ _ _ c.loop-alloc.invariant (sym c.at_expr.ensures ∙ c.loop-alloc-test.false)
 
 pub items-returns-then-at_sign-clause-found : goal.items-returns-then-at_sign-clause-found
-items-returns-then-at_sign-clause-found t c = items_none _ _ _ _ c.new-row.ensures.empty c.new-row.ensures.height (sym c.at_sign.ensures ∙ c.if-at_sign.true)
+items-returns-then-at_sign-clause-found t c = items_none _ _ _ _ _ c.new-row.ensures.empty c.new-row.ensures.height c.new-row.ensures.deepest (sym c.at_sign.ensures ∙ c.if-at_sign.true)
 
 pub items-returns-in_err-first-clause-refused : goal.items-returns-in_err-first-clause-refused
 items-returns-in_err-first-clause-refused t c = let is = items_first _ _ _ _ (sym c.at_sign.ensures ∙ c.if-at_sign.false) c.in_err-first.ensures.refused in search (rules, is)
 
 pub items-returns-in-Some-clause-found : goal.items-returns-in-Some-clause-found
-items-returns-in-Some-clause-found t c = items_ok _ _ _ _ _ _ _ _ _ _ c.requires.closes c.in_ok-first.ensures.found c.in-Some.ensures.taken
-    (first_pushed c.new-row.result _ _ c.new-row.ensures.empty c.new-row.ensures.height c.new-row.ensures.form c.in_ok-push.ensures.list c.in_ok-push.ensures.height c.in_ok-push.ensures.form) c.more_items.ensures.found
+items-returns-in-Some-clause-found t c = items_ok _ _ _ _ _ _ _ _ _ _ _ c.requires.closes c.in_ok-first.ensures.found c.in-Some.ensures.taken
+    (first_pushed c.new-row.result _ _ c.new-row.ensures.empty c.new-row.ensures.height c.new-row.ensures.form c.in_ok-push.ensures.list c.in_ok-push.ensures.height c.in_ok-push.ensures.deepest c.in_ok-push.ensures.form) c.more_items.ensures.found
 
 pub items-returns-in-Some-clause-refused : goal.items-returns-in-Some-clause-refused
 items-returns-in-Some-clause-refused t c = items_err _ _ _ _ _ _ _ _ c.requires.closes c.in_ok-first.ensures.found c.in-Some.ensures.taken c.more_items.ensures.refused
 
 pub items-returns-in-None-clause-found : goal.items-returns-in-None-clause-found
-items-returns-in-None-clause-found t c = items_kept _ _ _ _ _ _ c.in-None.ensures.kept (items_one _ _ _ _ _ _ c.requires.closes c.in_ok-first.ensures.found
-    (first_pushed c.new-row.result _ _ c.new-row.ensures.empty c.new-row.ensures.height c.new-row.ensures.form c.in_ok-push.ensures.list c.in_ok-push.ensures.height c.in_ok-push.ensures.form) c.in-None.ensures.absent)
+items-returns-in-None-clause-found t c = items_kept _ _ _ _ _ _ _ c.in-None.ensures.kept (items_one _ _ _ _ _ _ _ c.requires.closes c.in_ok-first.ensures.found
+    (first_pushed c.new-row.result _ _ c.new-row.ensures.empty c.new-row.ensures.height c.new-row.ensures.form c.in_ok-push.ensures.list c.in_ok-push.ensures.height c.in_ok-push.ensures.deepest c.in_ok-push.ensures.form) c.in-None.ensures.absent)
 
 -- ---- what stands in the brackets of a subscription
 
@@ -368,26 +381,26 @@ index-returns-clause-found t c = index_range _ _ _ _ _ _ _ _ (single _ _ _ _ _ _
 -- ---- pairs
 
 pub pairs-loop-alloc-init : goal.pairs-loop-alloc-init
-pairs-loop-alloc-init t c = pairs_init _ _ _ c.new-row.ensures.empty c.new-row.ensures.height
+pairs-loop-alloc-init t c = pairs_init _ _ _ _ c.new-row.ensures.empty c.new-row.ensures.height c.new-row.ensures.deepest
 
 pub pairs-returns-in_err-key-clause-refused : goal.pairs-returns-in_err-key-clause-refused
-pairs-returns-in_err-key-clause-refused t c = let is = key_refused _ _ _ _ _ c.loop-alloc.invariant (sym c.at_sign.ensures ∙ c.loop-alloc-test.true) c.in_err-key.ensures.refused in search (rules, is)
+pairs-returns-in_err-key-clause-refused t c = let is = key_refused _ _ _ _ _ _ c.loop-alloc.invariant (sym c.at_sign.ensures ∙ c.loop-alloc-test.true) c.in_err-key.ensures.refused in search (rules, is)
 
 pub pairs-returns-in_err-sign-clause-refused : goal.pairs-returns-in_err-sign-clause-refused
-pairs-returns-in_err-sign-clause-refused t c = let is = colon_refused _ _ _ _ _ _ _ c.loop-alloc.invariant c.in_ok-key.ensures.found c.in_err-sign.ensures.refused in search (rules, is)
+pairs-returns-in_err-sign-clause-refused t c = let is = colon_refused _ _ _ _ _ _ _ _ c.loop-alloc.invariant c.in_ok-key.ensures.found c.in_err-sign.ensures.refused in search (rules, is)
 
 pub pairs-returns-in_err-value-clause-refused : goal.pairs-returns-in_err-value-clause-refused
-pairs-returns-in_err-value-clause-refused t c = let is = value_refused _ _ _ _ _ _ _ _ _ c.loop-alloc.invariant c.in_ok-key.ensures.found c.in_ok-sign.ensures.taken c.in_err-value.ensures.refused in search (rules, is)
+pairs-returns-in_err-value-clause-refused t c = let is = value_refused _ _ _ _ _ _ _ _ _ _ c.loop-alloc.invariant c.in_ok-key.ensures.found c.in_ok-sign.ensures.taken c.in_err-value.ensures.refused in search (rules, is)
 
 pub pairs-loop-alloc-preserved : goal.pairs-loop-alloc-preserved
-pairs-loop-alloc-preserved t c = pairs_next _ _ _ _ _ _ _ _ _ _ _ _ _ c.loop-alloc.invariant c.in_ok-key.ensures.found c.in_ok-sign.ensures.taken c.in_ok-value.ensures.found c.in-Some.ensures.taken c.in_ok-push.ensures.list c.in_ok-push.ensures.height
+pairs-loop-alloc-preserved t c = pairs_next _ _ _ _ _ _ _ _ _ _ _ _ _ _ c.loop-alloc.invariant c.in_ok-key.ensures.found c.in_ok-sign.ensures.taken c.in_ok-value.ensures.found c.in-Some.ensures.taken c.in_ok-push.ensures.list c.in_ok-push.ensures.height c.in_ok-push.ensures.deepest
 
 pub pairs-loop-alloc-smaller : goal.pairs-loop-alloc-smaller
 pairs-loop-alloc-smaller t c = pair_shorter _ _ _ _ _ _ _ _ _ _ c.in_ok-key.ensures.found c.in_ok-sign.ensures.taken c.in_ok-value.ensures.found c.in-Some.ensures.taken
 
 pub pairs-returns-in_default-clause-found : goal.pairs-returns-in_default-clause-found
-pairs-returns-in_default-clause-found t c = pairs_kept _ _ _ _ _ c.in_default.ensures.kept
-    (pairs_last _ _ _ _ _ _ _ _ _ _ _ c.loop-alloc.invariant c.in_ok-key.ensures.found c.in_ok-sign.ensures.taken c.in_ok-value.ensures.found c.in_default.ensures.absent c.in_ok-push.ensures.list c.in_ok-push.ensures.height)
+pairs-returns-in_default-clause-found t c = pairs_kept _ _ _ _ _ _ c.in_default.ensures.kept
+    (pairs_last _ _ _ _ _ _ _ _ _ _ _ _ c.loop-alloc.invariant c.in_ok-key.ensures.found c.in_ok-sign.ensures.taken c.in_ok-value.ensures.found c.in_default.ensures.absent c.in_ok-push.ensures.list c.in_ok-push.ensures.height c.in_ok-push.ensures.deepest)
 
 pub pairs-returns-clause-found : goal.pairs-returns-clause-found
-pairs-returns-clause-found t c = pairs_end _ _ _ _ c.loop-alloc.invariant (sym c.at_sign.ensures ∙ c.loop-alloc-test.false)
+pairs-returns-clause-found t c = pairs_end _ _ _ _ _ c.loop-alloc.invariant (sym c.at_sign.ensures ∙ c.loop-alloc-test.false)

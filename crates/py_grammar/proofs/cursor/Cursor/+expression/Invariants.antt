@@ -114,4 +114,4 @@ abbrev pub decreases-pairs-loop-alloc : goal.decreases-pairs-loop-alloc
 decreases-pairs-loop-alloc l = length l.self.rest.now
 
 abbrev pub invariant-pairs-loop-alloc : goal.invariant-pairs-loop-alloc
-invariant-pairs-loop-alloc l = PairsGo l.fn.room l.fn.self.rest.now l.self.rest.now l.row
+invariant-pairs-loop-alloc l = PairsGo l.fn.room l.fn.at l.fn.self.rest.now l.self.rest.now l.row

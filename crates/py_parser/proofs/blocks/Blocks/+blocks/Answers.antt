@@ -1,6 +1,6 @@
 use Rattle.std.proofs.Common.{rules, ◌+◌, ◌++◌, ◌∷◌, [], ap, sym, ◌∙◌, refl}
 use Rattle.py_grammar.specs.ParsedHead.{behind_in}
-use Rattle.py_parser.specs.Faults.{last_place}
+use Rattle.py_parser.specs.Faults.{first_place, last_place}
 use Rattle.py_parser.specs.ParsedBlocks.{level_of, level_at}
 use Rattle.py_parser.proofs.RowsStanding.{standing_start, standing_more, stopped_behind_there, stopped_end_there, still_below, rows_read, standing_declares}
 use Rattle.py_parser.proofs.Columns.{below_inside}
@@ -88,6 +88,7 @@ pub suite-returns-then-place-ge-SUITES-clause-refused : goal.suite-returns-then-
 suite-returns-then-place-ge-SUITES-clause-refused t c m n h u what open_is =
     let there = some_first c.args.self.now.rest.now c.in-Some.next.now c.in-Some.ensures.value in
     too_deep_below c.args.self.now.columns.items c.args.place c.args.self.now.count m n h c.args.self.now.before _ c.in-Some.next.now there.0 c.args.self.now.rest.now there.1 u c.if-next-place.false c.if-place-ge-SUITES.true open_is
+    (c.first_of-at.ensures ∙ ap (first_place c.args.self.now.before) c.as_slice.ensures)
 
 -- src/blocks.rt
 pub suite-returns-in_err-built-clause-refused : goal.suite-returns-in_err-built-clause-refused

@@ -1,0 +1,142 @@
+-- How deep the expressions that begin at a place lie (this project's profile), for the place that a fault of depth names.
+use Rattle.std.specs.Prelude.{◌≡◌, ℕ, zero, suc, max, Bool, false, List, [], ◌∷◌, ◌==◌, ◌&&◌, nat_lt, if◌then◌else◌}
+use Rattle.prov_base.specs.declared.place.Pos.{Pos}
+use Rattle.py_lines.specs.declared.parts.Token.{Token}
+use Rattle.py_grammar.specs.Concrete.{Expr, plain_expr, choice, Or, plain_or, or_more, And, plain_and, and_more, Not, plain_not, not_of, Cmp, plain_cmp, compared, Sum, plain_sum, sum_more, Term, plain_term, term_more, Unary, plain_unary, signed, Prim, plain_prim, call, part, attribute, Index, one_index, range_index, Bound, no_bound, bound, Atom, group, list, dict, Exprs, one_expr, several, Rest, end_rest, last_rest, more_rest, Items, no_items, items, Pairs, no_pairs, last_pair, more_pairs}
+use Rattle.py_grammar.specs.Written.{OneTarget, named, item, field, TargetRest, end_rest_target, last_target, more_target, Target, one_target, several_targets, Simple, expression, assign, augmented, del, return_value, raise_value, assert, assert_message, Kind, every_kind, one_kind, Base, base}
+use Rattle.py_grammar.specs.StatementTokens.{one_target_tokens}
+use Rattle.py_grammar.specs.Tokens.{or_tokens, and_tokens, sum_tokens, term_tokens, prim_tokens, atom_tokens, expr_tokens}
+
+abbrev pub is_place : Pos → Pos → Bool
+is_place one other = (one.line == other.line) && (one.col == other.col)
+
+-- the first of these tokens stands at this place
+abbrev pub begins : List Token → Pos → Bool
+begins [] at = false
+begins (t ∷ ts) at = is_place t.at at
+
+-- An expression and its parts: what lies in a part lies one deeper in the whole. Where nothing in the parts begins at the
+-- place, the expression itself may: it lies at depth 1.
+abbrev pub over : Bool → ℕ → ℕ
+over here zero = if here then 1 else 0
+over here (suc depth) = suc (suc depth)
+
+abbrev mutual
+  -- The greatest depth, counted from the whole, of an expression in it that begins at this place; 0 where none does. Depth is
+  -- counted as in `Depth`.
+  pub expr_lies : Expr → Pos → ℕ
+  expr_lies (plain_expr e) at = or_lies e at
+  expr_lies (choice chosen if_word test else_word other) at = over (begins (or_tokens chosen) at) (max (or_lies chosen at) (max (or_lies test at) (expr_lies other at)))
+
+  pub or_lies : Or → Pos → ℕ
+  or_lies (plain_or e) at = and_lies e at
+  or_lies (or_more left word right) at = over (begins (or_tokens left) at) (max (or_lies left at) (and_lies right at))
+
+  pub and_lies : And → Pos → ℕ
+  and_lies (plain_and e) at = not_lies e at
+  and_lies (and_more left word right) at = over (begins (and_tokens left) at) (max (and_lies left at) (not_lies right at))
+
+  pub not_lies : Not → Pos → ℕ
+  not_lies (plain_not e) at = cmp_lies e at
+  not_lies (not_of word e) at = over (is_place word.at at) (not_lies e at)
+
+  pub cmp_lies : Cmp → Pos → ℕ
+  cmp_lies (plain_cmp e) at = sum_lies e at
+  cmp_lies (compared left op right) at = over (begins (sum_tokens left) at) (max (sum_lies left at) (sum_lies right at))
+
+  pub sum_lies : Sum → Pos → ℕ
+  sum_lies (plain_sum e) at = term_lies e at
+  sum_lies (sum_more left sign op right) at = over (begins (sum_tokens left) at) (max (sum_lies left at) (term_lies right at))
+
+  pub term_lies : Term → Pos → ℕ
+  term_lies (plain_term e) at = unary_lies e at
+  term_lies (term_more left sign op right) at = over (begins (term_tokens left) at) (max (term_lies left at) (unary_lies right at))
+
+  pub unary_lies : Unary → Pos → ℕ
+  unary_lies (plain_unary e) at = prim_lies e at
+  unary_lies (signed sign op e) at = over (is_place sign.at at) (unary_lies e at)
+
+  pub prim_lies : Prim → Pos → ℕ
+  prim_lies (plain_prim e) at = atom_lies e at
+  prim_lies (call callee opening arguments closing) at = over (begins (prim_tokens callee) at) (max (prim_lies callee at) (items_lies arguments at))
+  prim_lies (part e opening index closing) at = over (begins (prim_tokens e) at) (max (prim_lies e at) (index_lies index at))
+  prim_lies (attribute e dot name_at bytes) at = over (begins (prim_tokens e) at) (prim_lies e at)
+
+  pub index_lies : Index → Pos → ℕ
+  index_lies (one_index e) at = exprs_lies e at
+  index_lies (range_index low colon high) at = max (bound_lies low at) (bound_lies high at)
+
+  pub bound_lies : Bound → Pos → ℕ
+  bound_lies no_bound at = 0
+  bound_lies (bound e) at = expr_lies e at
+
+  pub atom_lies : Atom → Pos → ℕ
+  atom_lies (group opening e closing) at = over (is_place opening.at at) (exprs_lies e at)
+  atom_lies (list opening e closing) at = over (is_place opening.at at) (items_lies e at)
+  atom_lies (dict opening pairs closing) at = over (is_place opening.at at) (pairs_lies pairs at)
+  atom_lies leaf at = over (begins (atom_tokens leaf) at) 0
+
+  -- with a comma it is a tuple, which begins where its first item does
+  pub exprs_lies : Exprs → Pos → ℕ
+  exprs_lies (one_expr e) at = expr_lies e at
+  exprs_lies (several e comma rest) at = over (begins (expr_tokens e) at) (max (expr_lies e at) (rest_lies rest at))
+
+  pub rest_lies : Rest → Pos → ℕ
+  rest_lies end_rest at = 0
+  rest_lies (last_rest e) at = expr_lies e at
+  rest_lies (more_rest e comma rest) at = max (expr_lies e at) (rest_lies rest at)
+
+  -- arguments or items, which are no tuple
+  pub items_lies : Items → Pos → ℕ
+  items_lies no_items at = 0
+  items_lies (items (one_expr e)) at = expr_lies e at
+  items_lies (items (several e comma rest)) at = max (expr_lies e at) (rest_lies rest at)
+
+  pub pairs_lies : Pairs → Pos → ℕ
+  pairs_lies no_pairs at = 0
+  pairs_lies (last_pair key colon value) at = max (expr_lies key at) (expr_lies value at)
+  pairs_lies (more_pairs key colon value comma rest) at = max (max (expr_lies key at) (expr_lies value at)) (pairs_lies rest at)
+
+-- a target counts as the expression of its form, and several as a tuple of them
+abbrev pub one_target_lies : OneTarget → Pos → ℕ
+one_target_lies (named spot bytes) at = over (is_place spot.at at) 0
+one_target_lies (item e opening index closing) at = over (begins (prim_tokens e) at) (max (prim_lies e at) (exprs_lies index at))
+one_target_lies (field e dot name_at bytes) at = over (begins (prim_tokens e) at) (prim_lies e at)
+
+abbrev pub target_rest_lies : TargetRest → Pos → ℕ
+target_rest_lies end_rest_target at = 0
+target_rest_lies (last_target t) at = one_target_lies t at
+target_rest_lies (more_target t comma rest) at = max (one_target_lies t at) (target_rest_lies rest at)
+
+abbrev pub target_lies : Target → Pos → ℕ
+target_lies (one_target t) at = one_target_lies t at
+target_lies (several_targets t comma rest) at = over (begins (one_target_tokens t) at) (max (one_target_lies t at) (target_rest_lies rest at))
+
+abbrev pub simple_lies : Simple → Pos → ℕ
+simple_lies (expression e) at = exprs_lies e at
+simple_lies (assign t equals e) at = max (target_lies t at) (exprs_lies e at)
+simple_lies (augmented t op sign e) at = max (one_target_lies t at) (exprs_lies e at)
+simple_lies (del word t) at = one_target_lies t at
+simple_lies (return_value word e) at = exprs_lies e at
+simple_lies (raise_value word e) at = expr_lies e at
+simple_lies (assert word e) at = expr_lies e at
+simple_lies (assert_message word e comma message) at = max (expr_lies e at) (expr_lies message at)
+simple_lies _ at = 0
+
+abbrev pub kind_lies : Kind → Pos → ℕ
+kind_lies every_kind at = 0
+kind_lies (one_kind e called) at = expr_lies e at
+
+-- the class that another is made of
+abbrev pub base_lies : Base → Pos → ℕ
+base_lies (base opening name_at bytes closing) at = over (is_place name_at.at at) 0
+base_lies _ at = 0
+
+-- an expression that lies at this depth begins somewhere
+pub record IsReached (lies : Pos → ℕ) (depth : ℕ) : Type 0 where
+  pub at : Pos
+  pub lies_at : lies at ≡ depth
+
+-- of two neighbours the place of the one that goes deeper, and of the first where they go as deep
+abbrev pub deeper_of : ℕ → Pos → ℕ → Pos → Pos
+deeper_of left_depth left right_depth right = if nat_lt left_depth right_depth then right else left
