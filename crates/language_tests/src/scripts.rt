@@ -545,5 +545,11 @@ fn number_of_statements(rt: HostRuntime) -> Result<(), Fail> {
     check_repeated(&rt, alloc, ("x\n", 20000, "= 1"), "TooMany 20001:1")?;
     check_repeated(&rt, alloc, ("x\n", 20000, " y"), "BadIndent 20001:2")?;
     check_repeated(&rt, alloc, ("x\n", 19999, "if x: y"), "TooMany 20000:7")?;
+    check_repeated(
+        &rt,
+        alloc,
+        ("x\n", 19998, "try:\n y\nz"),
+        "Unexpected 20001:1",
+    )?;
     check_repeated(&rt, alloc, ("x\n", 19998, "if x: y"), "20000 statements")
 }

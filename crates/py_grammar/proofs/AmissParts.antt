@@ -8,20 +8,21 @@ use Rattle.py_grammar.specs.declared.fault.Stop.{Stop}
 use Rattle.py_grammar.specs.declared.fault.Stop.TheVariants.{Here, End}
 use Rattle.py_grammar.specs.Parsed.{Production, IsAtFirst, IsDeep, Finds, Begins, Refused}
 use Rattle.py_grammar.specs.ParsedRows.{first_token}
-use Rattle.py_grammar.specs.ParsedHead.{Context, IsAmissHead, BeginsHead, ShownBy, HeadRefused}
+use Rattle.py_grammar.specs.ParsedHead.{Context, IsAmissHead, BeginsHead, IsAheadOnLine, ShownBy, HeadRefused}
 use Rattle.py_grammar.specs.LineReader.{Head, head_tokens}
 use Rattle.py_grammar.specs.ParsedNames.{ShownAmiss, RefusedAmiss}
-use Rattle.py_grammar.proofs.Refusals.{finds_same, finds_weaker}
+use Rattle.py_grammar.proofs.Refusals.{finds_same, finds_weaker, goes_inside}
 use Rattle.py_grammar.proofs.Stops.{shows_on_line}
-use Rattle.py_grammar.proofs.HeadParts.{OnlyHead, HeadTurns, turned_head, shown_head, ended_line, finds_head_same, first_shown}
+use Rattle.py_grammar.proofs.Unread.{PassesFor}
+use Rattle.py_grammar.proofs.HeadParts.{OnlyHead, HeadTurns, turned_head, BeginsOpening, shown_head, ahead_of_part, ended_line, finds_head_same, first_shown}
 
 -- ---- refusals as such
 
 -- a part that is refused because nothing is read
 pub amiss_of_refused : {A : Type 0} (p : Production A) (room : ℕ) (amiss : Stop → A → Type 0) (before : List Token) (stop : Stop) → ((why : Stop) (a : A) → IsDeep why room (p.lies a) → amiss why a) → Refused p room before stop → RefusedAmiss p amiss before stop
 amiss_of_refused p room amiss before (Here Memory) weaker is = tt
-amiss_of_refused p room amiss before (Here (Unexpected at)) weaker is = record { front = is.front; shown_by = is.shown_by; behind = is.behind; before_is = is.before_is; left_is = is.left_is; begins = is.begins; none = λ more. finds_weaker _ _ p.read _ (weaker (Here (Unexpected at))) (is.none more) }
-amiss_of_refused p room amiss before (Here (TooDeep at)) weaker is = record { front = is.front; shown_by = is.shown_by; behind = is.behind; before_is = is.before_is; left_is = is.left_is; begins = is.begins; none = λ more. finds_weaker _ _ p.read _ (weaker (Here (TooDeep at))) (is.none more) }
+amiss_of_refused p room amiss before (Here (Unexpected at)) weaker is = record { front = is.front; shown_by = is.shown_by; behind = is.behind; before_is = is.before_is; left_is = is.left_is; begins = is.begins; goes_on = tt; none = λ more. finds_weaker _ _ p.read _ (weaker (Here (Unexpected at))) (is.none more) }
+amiss_of_refused p room amiss before (Here (TooDeep at)) weaker is = record { front = is.front; shown_by = is.shown_by; behind = is.behind; before_is = is.before_is; left_is = is.left_is; begins = is.begins; goes_on = is.goes_on; none = λ more. finds_weaker _ _ p.read _ (weaker (Here (TooDeep at))) (is.none more) }
 amiss_of_refused p room amiss before (Here (TooMany at)) weaker is = absurd is.left_is
 amiss_of_refused p room amiss before End weaker is = (is.0, finds_weaker _ _ p.read _ (weaker End) is.1)
 
@@ -42,6 +43,7 @@ shown_inside p amiss q inner front rest fault inside s = record {
   before_is = ap (λ ts. front ++ ts) s.before_is ∙ sym (append_assoc front s.front (s.shown_by ∷ s.behind));
   left_is = s.left_is;
   begins = inside.begins s.front s.begins;
+  goes_on = goes_inside (Begins q) (Begins p) front s.front s.shown_by fault inside.begins s.goes_on;
   none = λ more. finds_same _ p.read _ _ (append_assoc front s.front (s.shown_by ∷ more))
       (inside.finds (Here fault) (s.front ++ s.shown_by ∷ more) (first_shown s.front s.shown_by more s.behind ∙ sym (ap first_token s.before_is)) (s.none more));
 }
@@ -70,7 +72,7 @@ pub amiss_here : {A : Type 0} (p : Production A) (amiss : Stop → A → Type 0)
 amiss_here p amiss before front [] End is at begins none_end none_there =
     (subst (Begins p) (sym (is ∙ append-nil front)) begins, subst (Finds (amiss End) p.read) (sym is) (finds_weaker _ _ p.read _ (λ a no. absurd no) (none_end refl)))
 amiss_here p amiss before front [] (Here fault) is at begins none_end none_there = cc
-amiss_here p amiss before front (t ∷ ts) (Here (Unexpected place)) is at begins none_end none_there = record { front = front; shown_by = t; behind = ts; before_is = is; left_is = at; begins = begins; none = λ more. finds_weaker _ _ p.read _ (λ a no. absurd no) (none_there t ts more refl) }
+amiss_here p amiss before front (t ∷ ts) (Here (Unexpected place)) is at begins none_end none_there = record { front = front; shown_by = t; behind = ts; before_is = is; left_is = at; begins = begins; goes_on = tt; none = λ more. finds_weaker _ _ p.read _ (λ a no. absurd no) (none_there t ts more refl) }
 amiss_here p amiss before front (t ∷ ts) (Here (TooDeep place)) is at begins none_end none_there = absurd at
 amiss_here p amiss before front (t ∷ ts) (Here (TooMany place)) is at begins none_end none_there = absurd at
 amiss_here p amiss before front (t ∷ ts) (Here Memory) is at begins none_end none_there = absurd at
@@ -80,15 +82,17 @@ amiss_here p amiss before front (t ∷ ts) End is at begins none_end none_there 
 
 -- a part of a line stands behind these tokens: how it begins, and what is read there
 record StandsSo {B : Type 0} (c : Context) (given : List (List ℕ)) (limit : Option Limit) (q : Production B) (inner : Stop → B → Type 0) (front rest : List Token) : Type 0 where
-  begins : (tokens : List Token) → Begins q tokens → BeginsHead (front ++ tokens)
+  begins : (tokens : List Token) → Begins q tokens → BeginsOpening (front ++ tokens)
+  other : PassesFor front rest
   g : ℕ → B → List Token → Option Head
   turns : HeadTurns q front rest g
   each : (why : Stop) (n : ℕ) (b : B) (left : List Token) → inner why b → OnlyHead (IsAmissHead c given limit why) (g n b left)
 
 shown_so : {B : Type 0} (c : Context) (given : List (List ℕ)) (limit : Option Limit) (q : Production B) (inner : Stop → B → Type 0) (front rest before : List Token) (fault : Fault) → before ≡ front ++ rest → StandsSo c given limit q inner front rest
-    → ShownAmiss q inner rest fault → ShownBy BeginsHead head_tokens (λ fault a. IsAmissHead c given limit (Here fault) a) before fault
+    → ShownAmiss q inner rest fault → ShownBy BeginsHead (IsAheadOnLine limit) head_tokens (λ fault a. IsAmissHead c given limit (Here fault) a) before fault
 shown_so c given limit q inner front rest before fault is part s = shown_head c given limit (front ++ s.front) s.shown_by s.behind before fault
-    (is ∙ ap (λ ts. front ++ ts) s.before_is ∙ sym (append_assoc front s.front (s.shown_by ∷ s.behind))) (shows_on_line s.shown_by s.behind fault s.left_is) (part.begins s.front s.begins)
+    (is ∙ ap (λ ts. front ++ ts) s.before_is ∙ sym (append_assoc front s.front (s.shown_by ∷ s.behind))) (shows_on_line s.shown_by s.behind fault s.left_is) (part.begins s.front s.begins).begun
+    (ahead_of_part limit q front rest s.front s.shown_by s.behind fault part.begins part.other (sym (ap first_token s.before_is)) s.begins s.left_is s.goes_on)
     (λ more. finds_head_same _ _ _ (append_assoc front s.front (s.shown_by ∷ more))
     (turned_head _ _ q front rest (s.front ++ s.shown_by ∷ more) part.g part.turns (first_shown s.front s.shown_by more s.behind ∙ sym (ap first_token s.before_is)) (part.each (Here fault)) (s.none more)))
 
@@ -98,12 +102,12 @@ refused_so c given limit q inner front rest before (Here (Unexpected at)) is par
 refused_so c given limit q inner front rest before (Here (TooDeep at)) is part refused = shown_so c given limit q inner front rest before (TooDeep at) is part refused
 refused_so c given limit q inner front rest before (Here (TooMany at)) is part refused = absurd refused.left_is
 refused_so c given limit q inner front rest before End is part refused =
-    ended_line c given limit (front ++ rest) before End is (part.begins rest refused.0) (turned_head _ _ q front rest rest part.g part.turns refl (part.each End) refused.1)
+    ended_line c given limit (front ++ rest) before End is (part.begins rest refused.0).begun (turned_head _ _ q front rest rest part.g part.turns refl (part.each End) refused.1)
 
 -- a part is refused behind these tokens
 pub amiss_head : {B : Type 0} (c : Context) (given : List (List ℕ)) (limit : Option Limit) (q : Production B) (inner : Stop → B → Type 0) (front rest before : List Token) (stop : Stop) (g : ℕ → B → List Token → Option Head) → before ≡ front ++ rest
-    → ((tokens : List Token) → Begins q tokens → BeginsHead (front ++ tokens)) → HeadTurns q front rest g
+    → ((tokens : List Token) → Begins q tokens → BeginsOpening (front ++ tokens)) → PassesFor front rest → HeadTurns q front rest g
     → ((why : Stop) (n : ℕ) (b : B) (left : List Token) → inner why b → OnlyHead (IsAmissHead c given limit why) (g n b left))
     → RefusedAmiss q inner rest stop → HeadRefused c given limit before stop
-amiss_head c given limit q inner front rest before stop g is begins turns each refused = refused_so c given limit q inner front rest before stop is
-    (record { begins = begins; g = g; turns = turns; each = each }) refused
+amiss_head c given limit q inner front rest before stop g is begins other turns each refused = refused_so c given limit q inner front rest before stop is
+    (record { begins = begins; other = other; g = g; turns = turns; each = each }) refused

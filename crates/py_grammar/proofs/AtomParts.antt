@@ -11,7 +11,7 @@ use Rattle.py_tree.specs.Tree.{tuple_expr, list_expr, dict_expr, end_exprs}
 use Rattle.py_tree.specs.Erasure.{expr_of}
 use Rattle.py_grammar.specs.declared.fault.Stop.{Stop}
 use Rattle.py_grammar.specs.declared.part.Part.{Part}
-use Rattle.py_grammar.specs.Concrete.{Spot, plain_prim, Atom, name, none, true_word, false_word, list, dict, Items, no_items, items}
+use Rattle.py_grammar.specs.Concrete.{Spot, plain_prim, Atom, name, none, true_word, false_word, list, dict, Items, no_items, items, no_pairs}
 use Rattle.py_grammar.specs.Tokens.{token, word, atom_tokens, exprs_tokens, items_tokens, pairs_tokens}
 use Rattle.py_grammar.specs.Trees.{atom_tree, items_tree, pairs_tree}
 use Rattle.py_grammar.specs.Depth.{atom_depth, exprs_depth, items_depth, pairs_depth}
@@ -151,11 +151,28 @@ atom_here (suc n) (Sign sign) t ts at is =
     (only_if _ (sign == 4) _ _ (only_any _ (read_pairs n ts) _ (λ found more. only_any _ (read_sign 5 more) _ (λ closing rest. some_here (spot_of t) at (pairs_lies found at) is)))
     tt))
 
-pub atom_full : (room : ℕ) (before : List Token) (t : Token) (ts : List Token) (at : Pos) (stop : Stop) → before ≡ t ∷ ts → t.at ≡ at → IsTooDeep 0 at room stop → Refused atom_part room before stop
-atom_full room before t ts at stop is place deep = full atom_part room before [] t ts 0 at stop deep is atom_begins (λ more. finds_at_once _ read_atom (t ∷ more) (λ n. atom_here n t.kind t more at place))
+atom_full : (room : ℕ) (before : List Token) (t : Token) (ts : List Token) (at : Pos) (stop : Stop) → before ≡ t ∷ ts → t.at ≡ at → Begins atom_part (t ∷ []) → IsTooDeep 0 at room stop → Refused atom_part room before stop
+atom_full room before t ts at stop is place begins deep = full atom_part room before [] t ts 0 at stop deep is atom_begins begins (λ more. finds_at_once _ read_atom (t ∷ more) (λ n. atom_here n t.kind t more at place))
 
-pub opening_full : (k room : ℕ) (before after : List Token) (at : Pos) (stop : Stop) → Taken (Sign k) before at after → IsTooDeep 0 at room stop → Refused atom_part room before stop
-opening_full k room before after at stop taken deep = atom_full room before (token (Sign k) taken.spot) after at stop taken.before_is taken.at_is deep
+pub leaf_full : (room : ℕ) (before : List Token) (t : Token) (ts : List Token) (found : Option Part) (part : Part) (stop : Stop) → before ≡ t ∷ ts → IsLeaf t.at (leaf_atom t) found → found ≡ Some part → IsTooDeep 0 t.at room stop → Refused atom_part room before stop
+leaf_full room before t ts found part stop is leaf some_there deep = atom_full room before t ts t.at stop is refl (by (leaf_atom t) (leaf_all t.kind (spot_of t)) (subst (IsLeaf t.at (leaf_atom t)) some_there leaf)) deep
+  where
+    by : (o : Option Atom) → Leaf t.kind (spot_of t) o → IsLeaf t.at o (Some part) → Begins atom_part (t ∷ [])
+    by None all is = absurd is
+    by (Some a) all is = record { some = a; more = []; tokens_are = all.0 }
+
+-- the signs that open an atom
+pub round_opens : (spot : Spot) → Begins atom_part (token (Sign 0) spot ∷ [])
+round_opens spot = record { some = grouped spot no_items no_spot; more = token (Sign 1) no_spot ∷ []; tokens_are = refl }
+
+pub square_opens : (spot : Spot) → Begins atom_part (token (Sign 2) spot ∷ [])
+square_opens spot = record { some = list spot no_items no_spot; more = token (Sign 3) no_spot ∷ []; tokens_are = refl }
+
+pub curly_opens : (spot : Spot) → Begins atom_part (token (Sign 4) spot ∷ [])
+curly_opens spot = record { some = dict spot no_pairs no_spot; more = token (Sign 5) no_spot ∷ []; tokens_are = refl }
+
+pub opening_full : (k room : ℕ) (before after : List Token) (at : Pos) (stop : Stop) → ((spot : Spot) → Begins atom_part (token (Sign k) spot ∷ [])) → Taken (Sign k) before at after → IsTooDeep 0 at room stop → Refused atom_part room before stop
+opening_full k room before after at stop opens taken deep = atom_full room before (token (Sign k) taken.spot) after at stop taken.before_is taken.at_is (opens taken.spot) deep
 
 -- ---- brackets are read
 

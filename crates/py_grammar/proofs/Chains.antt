@@ -13,13 +13,14 @@ use Rattle.py_grammar.specs.declared.part.Part.{Part}
 use Rattle.py_grammar.specs.Parsed.{Production, Found, IsDeep, Only, Refused, IsTooDeep}
 use Rattle.py_grammar.specs.Reader.{Read, go_on, kind_level, next_level}
 use Rattle.py_grammar.proofs.Leading.{Leads}
-use Rattle.py_grammar.proofs.Refusals.{Inside, finds_first, finds_lead, finds_same, finds_anything, deeper, deep_same, refused_inside, refused_same, one_behind, full, over_both, fits_above}
+use Rattle.py_grammar.proofs.Refusals.{Inside, finds_first, finds_lead, finds_same, finds_anything, deeper, deep_same, refused_inside, refused_same, one_behind, begins_up_to, full, over_both, fits_above}
 use Rattle.py_grammar.specs.Lies.{begins, over, deeper_of}
 use Rattle.py_grammar.proofs.Lying.{deepest_node, over_left, over_right}
 
 -- A level `p` of operators over the level `q`: one of `q`, or one of `p`, an operator and one of `q`.
 pub record Chain {C S O : Type 0} (p : Production C) (q : Production S) (tree : C → ExprTree) (part_tree : S → ExprTree) (level : ℕ) (one : S → C) (next : C → O → S → C) (token_of : O → Token)
     (node : O → ExprTree → ExprTree → ExprTree) (rest : ℕ → C → List Token → Read C) : Type 0 where
+  pub some : S
   pub read_is : (n : ℕ) (ts : List Token) → p.read (suc n) ts ≡ go_on (q.read n ts) (λ s more. rest n (one s) more)
   pub step_is : (n : ℕ) (left : C) (o : O) (more : List Token) → rest (suc n) left (token_of o ∷ more) ≡ go_on (q.read n more) (λ s behind. rest n (next left o s) behind)
   pub tokens_one : (s : S) → p.tokens (one s) ≡ q.tokens s
@@ -109,6 +110,7 @@ module _ {C S O : Type 0} (p : Production C) (q : Production S) (tree : C → Ex
       → Refused p room before stop
   too_deep room before middle behind o left stop l taken deep = full p room before (p.tokens l.written) (token_of o) behind left.height left.deepest stop deep
       (l.before_is ∙ ap (λ ts. p.tokens l.written ++ ts) taken) (record { some = l.written; more = []; tokens_are = sym (append-nil (p.tokens l.written)) })
+      (begins_up_to p (next l.written o chain.some) (p.tokens l.written) (token_of o) (q.tokens chain.some) (chain.tokens_next l.written o chain.some))
       (λ more. finds_lead _ p.read rest level (p.tokens l.written) l.written (token_of o ∷ more) (chain.leads l.written) (chain.above o)
       (finds_first (λ s. ⊤) _ (λ n ts. rest n l.written ts) q.read (λ n s ts. rest n (next l.written o s) ts) (token_of o ∷ more) more (λ n. chain.step_is n l.written o more)
       (λ n b ts any. chain.rest_deep (Here (TooDeep left.deepest)) left.height n (next l.written o b) ts

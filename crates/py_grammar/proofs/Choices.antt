@@ -11,7 +11,7 @@ use Rattle.py_grammar.specs.declared.fault.Fault.TheVariants.{Unexpected, TooDee
 use Rattle.py_grammar.specs.declared.fault.Stop.{Stop}
 use Rattle.py_grammar.specs.declared.fault.Stop.TheVariants.{Here, End}
 use Rattle.py_grammar.specs.declared.part.Part.{Part}
-use Rattle.py_grammar.specs.Concrete.{Spot, Expr, plain_expr, choice, Or, plain_or, plain_and, plain_not, plain_cmp, plain_sum, plain_term, plain_unary, plain_prim, name}
+use Rattle.py_grammar.specs.Concrete.{Spot, Expr, plain_expr, choice, Or, plain_or, plain_and}
 use Rattle.py_grammar.specs.Tokens.{token, expr_tokens, or_tokens}
 use Rattle.py_grammar.specs.Trees.{expr_tree, or_tree}
 use Rattle.py_grammar.specs.Depth.{expr_depth, or_depth}
@@ -22,12 +22,16 @@ use Rattle.py_grammar.specs.Parsed.{expr_part, or_part, one_keyword, Taken, Foun
 use Rattle.py_grammar.proofs.Leading.{Reads}
 use Rattle.py_grammar.proofs.Reading.{or_leads, or_stops}
 use Rattle.py_grammar.proofs.Levels.{beyond_if}
-use Rattle.py_grammar.proofs.Refusals.{Inside, only_any, only_if, finds_first, finds_behind, finds_after, finds_now, finds_anything, finds_same, deep_left, deep_right, deep_beside_left, deep_beside_right, refused_inside, refused_same, full, two_behind, one_between, last_behind, next_level_same, max_below}
+use Rattle.py_grammar.proofs.Refusals.{Inside, only_any, only_if, finds_first, finds_behind, finds_after, finds_now, finds_anything, finds_same, deep_left, deep_right, deep_beside_left, deep_beside_right, refused_inside, refused_same, begins_up_to, full, two_behind, one_between, last_behind, next_level_same, max_below}
 use Rattle.py_grammar.proofs.Stops.{some_spot}
+use Rattle.py_grammar.proofs.Prefixes.{some_not}
 
--- an expression, where any will do
+-- expressions, where any will do
+some_or : Or
+some_or = plain_or (plain_and some_not)
+
 pub some_expr : Expr
-some_expr = plain_expr (plain_or (plain_and (plain_not (plain_cmp (plain_sum (plain_term (plain_unary (plain_prim (name some_spot [])))))))))
+some_expr = plain_expr some_or
 
 reads_or : (e : Or) → Reads read_or 6 (or_tokens e) e
 reads_or e = or_stops e (or_leads e)
@@ -110,6 +114,7 @@ pub choice_full : (room : ℕ) (before middle behind : List Token) (at : Pos) (c
     → Refused expr_part room before stop
 choice_full room before middle behind at chosen stop c i deep = full expr_part room before (or_tokens c.written) (token (Keyword 20) i.spot) behind chosen.height chosen.deepest stop deep
     (c.before_is ∙ ap (λ ts. or_tokens c.written ++ ts) i.before_is) (record { some = plain_expr c.written; more = []; tokens_are = sym (append-nil (or_tokens c.written)) })
+    (begins_up_to expr_part (choice c.written i.spot some_or some_spot some_expr) (or_tokens c.written) (token (Keyword 20) i.spot) (or_tokens some_or ++ token (Keyword 14) some_spot ∷ expr_tokens some_expr) refl)
     (λ more. finds_behind _ read_expr read_or choice_rest 6 (or_tokens c.written) c.written (token (Keyword 20) i.spot ∷ more) (λ n. refl) (reads_or c.written) (omega arith)
     (finds_first _ _ (λ n ts. choice_rest n c.written ts) read_or (after_test c.written i.spot) (token (Keyword 20) i.spot ∷ more) more (λ n. refl)
     (λ n test ts any. only_any _ (read_keyword 14 ts) _ (λ else_word more_3. only_any _ (read_expr n more_3) _

@@ -98,7 +98,7 @@ refused_at_first p room [] stop begins none is = refused_same_stop is (begins, n
   where
     refused_same_stop : stop ≡ End → Refused p room [] End → Refused p room [] stop
     refused_same_stop is refused = subst (Refused p room []) (sym is) refused
-refused_at_first p room (t ∷ ts) (Here (Unexpected at)) begins none is = record { front = []; shown_by = t; behind = ts; before_is = refl; left_is = is; begins = begins; none = λ more. none (t ∷ more) refl }
+refused_at_first p room (t ∷ ts) (Here (Unexpected at)) begins none is = record { front = []; shown_by = t; behind = ts; before_is = refl; left_is = is; begins = begins; goes_on = tt; none = λ more. none (t ∷ more) refl }
 refused_at_first p room (t ∷ ts) (Here (TooDeep at)) begins none is = absurd is
 refused_at_first p room (t ∷ ts) (Here (TooMany at)) begins none is = absurd is
 refused_at_first p room (t ∷ ts) (Here Memory) begins none is = absurd is

@@ -3,7 +3,7 @@ use Rattle.std.proofs.Common.{◌≡◌, inl, inr, ℕ, ◌+◌, ◌≤◌, max,
 use Rattle.std.proofs.lemmas.List.{append_cancel_left}
 use Rattle.std.proofs.lemmas.Option.{same_Some}
 use Rattle.py_lines.specs.declared.parts.Token.{Token}
-use Rattle.py_lines.specs.declared.parts.TokenKind.TheVariants.{Keyword, Sign}
+use Rattle.py_lines.specs.declared.parts.TokenKind.TheVariants.{Sign}
 use Rattle.py_grammar.specs.declared.context.Limit.{Limit}
 use Rattle.py_grammar.specs.declared.fault.Fault.{Fault}
 use Rattle.py_grammar.specs.declared.fault.Fault.TheVariants.{Unexpected, TooDeep, TooMany, Memory}
@@ -12,20 +12,21 @@ use Rattle.py_grammar.specs.declared.fault.Stop.TheVariants.{Here, End}
 use Rattle.py_grammar.specs.declared.head.What.{What}
 use Rattle.py_grammar.specs.declared.head.LineHead.{LineHead}
 use Rattle.py_grammar.specs.Concrete.{Spot}
-use Rattle.py_grammar.specs.Tokens.{token, word as word_tokens, expr_tokens}
-use Rattle.py_grammar.specs.Written.{Simple, del, named}
+use Rattle.py_grammar.specs.Tokens.{token}
+use Rattle.py_grammar.specs.Written.{Simple}
 use Rattle.py_grammar.specs.StatementTokens.{simple_tokens}
 use Rattle.py_grammar.specs.LineReader.{Head, behind_tokens, head_tokens, then_read, read_colon, read_behind, read_head}
 use Rattle.py_grammar.specs.Reader.{is_sign, spot_of, read_sign}
 use Rattle.py_grammar.specs.Parsed.{Refused, one_sign}
 use Rattle.py_grammar.specs.ParsedRows.{first_token}
 use Rattle.py_grammar.specs.ParsedSimple.{BeginsSimple}
-use Rattle.py_grammar.specs.ParsedHead.{Context, word_may, inner_around, behind_depth, IsBehind, BehindFound, HeadFound, Opening, IsAmissPlaced, IsAmissHead, BeginsHead, ShownBy, EndedBy, BehindRefused, HeadRefused, behind_first}
-use Rattle.py_grammar.proofs.Stops.{some_spot}
+use Rattle.py_grammar.specs.ParsedHead.{Context, word_may, inner_around, behind_depth, IsBehind, BehindFound, HeadFound, Opening, IsAmissPlaced, IsAmissHead, BeginsHead, StartsBehind, GoesOnPlaced, IsAheadPlaced, GoesOnLine, IsAheadOnLine, ShownBy, EndedBy, BehindRefused, HeadRefused, behind_first}
 use Rattle.py_grammar.proofs.Refusals.{max_below}
 use Rattle.py_grammar.proofs.SimpleParts.{not_deeper}
 use Rattle.py_grammar.proofs.HeadReading.{head_reads}
-use Rattle.py_grammar.proofs.HeadParts.{begins_part_head, refused_part_head}
+use Rattle.py_grammar.proofs.HeadParts.{spelled_head, spelled_part, refused_part_head}
+use Rattle.py_grammar.proofs.NoDel.{has_del, without, no_del_front}
+use Rattle.py_grammar.proofs.Unread.{past_clear, passes_past, unread_behind}
 use Rattle.py_grammar.proofs.LineFirsts.{and_false, both_true, not_nothing, same_behind}
 
 -- ---- the `:`
@@ -42,7 +43,11 @@ colon_turn n made (t ∷ ts) = by (is_sign 7 t.kind)
 pub colon_refused : (c : Context) (given : List (List ℕ)) (limit : Option Limit) (word : ℕ) (before after : List Token) (what : What) (stop : Stop) → Opening c word before what after → Refused (one_sign 7) 0 after stop → HeadRefused c given limit before stop
 colon_refused c given limit word before after what stop o refused =
     refused_part_head c given limit (one_sign 7) 0 o.front after before stop (λ n colon rest. option_map (o.made colon) (read_behind (n + o.left) rest)) o.before_is
-    (begins_part_head (one_sign 7) o.front (λ colon. o.made colon None) (λ colon. []) (λ colon. o.tokens_are colon None))
+    (λ tokens b. record {
+      begun = spelled_head (o.made b.some None) (o.front ++ tokens) (b.more ++ []) (spelled_part (one_sign 7) o.front (λ colon. o.made colon None) (λ colon. []) (λ colon. o.tokens_are colon None) tokens b);
+      clear = without o.front tokens (past_clear o.front o.past) (no_del_front tokens b.more (subst (λ (ts : List Token). has_del ts ≡ false) b.tokens_are refl));
+    })
+    (passes_past o.front after o.past)
     (record { before = o.steps; behind = 0; turns = λ n more first. o.reads n more first ∙ colon_turn (n + o.left) o.made more })
     (λ why n colon left deep. absurd (not_deeper why 0 deep)) refused
 
@@ -102,6 +107,14 @@ amiss_line c given limit word before after what spot o (Here (Unexpected at)) s 
 amiss_line c given limit word before after what spot o (Here Memory) s amiss = absurd amiss
 amiss_line c given limit word before after what spot o End s amiss = o.stands given spot (Some s) ∙ and_false (word_may c word) _ amiss
 
+-- behind the `:` any statement may stand
+starts_behind : (c : Context) (word : ℕ) (before after : List Token) (what : What) (spot : Spot) → (o : Opening c word before what after) → StartsBehind (o.front ++ token (Sign 7) spot ∷ [])
+starts_behind c word before after what spot o = record {
+  made = λ s. o.made spot (Some s);
+  tokens_are = λ s. o.tokens_are spot (Some s) ∙ sym (append_assoc o.front (token (Sign 7) spot ∷ []) (simple_tokens s));
+  behind_is = λ s. o.behind_is spot (Some s);
+}
+
 -- a statement begins behind the `:`, and so does the line
 begins_line : (c : Context) (word : ℕ) (before after : List Token) (what : What) (spot : Spot) → (o : Opening c word before what after) → (tokens : List Token) → BeginsSimple tokens → BeginsHead (o.front ++ token (Sign 7) spot ∷ tokens)
 begins_line c word before after what spot o tokens (inl b) = inl (record {
@@ -109,21 +122,28 @@ begins_line c word before after what spot o tokens (inl b) = inl (record {
   more = b.more;
   tokens_are = o.tokens_are spot (Some b.some) ∙ ap (λ ts. o.front ++ token (Sign 7) spot ∷ ts) b.tokens_are ∙ sym (append_assoc o.front (token (Sign 7) spot ∷ tokens) b.more);
 })
-begins_line c word before after what spot o tokens (inr b) = inr (record {
-  opened = o.front ++ token (Sign 7) spot ∷ token (Keyword 12) b.spot ∷ [];
-  begins = record {
-    some = o.made spot (Some (del b.spot (named some_spot [])));
-    more = word_tokens [] some_spot;
-    tokens_are = o.tokens_are spot (Some (del b.spot (named some_spot []))) ∙ sym (append_assoc o.front (token (Sign 7) spot ∷ token (Keyword 12) b.spot ∷ []) (word_tokens [] some_spot));
-  };
-  some = b.some;
-  more = b.more;
-  tokens_are = append_assoc o.front (token (Sign 7) spot ∷ token (Keyword 12) b.spot ∷ []) (expr_tokens b.some)
-      ∙ ap (λ ts. o.front ++ token (Sign 7) spot ∷ ts) b.tokens_are ∙ sym (append_assoc o.front (token (Sign 7) spot ∷ tokens) b.more);
-})
+begins_line c word before after what spot o tokens (inr b) = inr (inl (record {
+  opened = o.front ++ token (Sign 7) spot ∷ [];
+  starts = inr (starts_behind c word before after what spot o);
+  inside = tokens;
+  begins = b;
+  front_is = sym (append_assoc o.front (token (Sign 7) spot ∷ []) tokens);
+}))
+
+-- a statement goes on behind the `:`, and so does the line; where a limit is passed, any may stand there
+goes_behind : (c : Context) (limit : Option Limit) (word : ℕ) (before after : List Token) (what : What) (spot : Spot) → (o : Opening c word before what after) → (tokens : List Token) (t : Token) (fault : Fault)
+    → GoesOnPlaced limit tokens t fault → GoesOnLine limit (o.front ++ token (Sign 7) spot ∷ tokens) t fault
+goes_behind c limit word before after what spot o tokens t (TooDeep at) (inl b) =
+    inl (subst BeginsHead (sym (append_assoc o.front (token (Sign 7) spot ∷ tokens) (t ∷ []))) (begins_line c word before after what spot o (tokens ++ t ∷ []) b))
+goes_behind c limit word before after what spot o tokens t (TooDeep at) (inr passed) =
+    inr (passed.0, subst (λ (ts : List Token). StartsBehind (o.front ++ token (Sign 7) spot ∷ ts)) (sym passed.1) (starts_behind c word before after what spot o), passed.2)
+goes_behind c limit word before after what spot o tokens t (TooMany at) passed =
+    (passed.0, subst (λ (ts : List Token). StartsBehind (o.front ++ token (Sign 7) spot ∷ ts)) (sym passed.1) (starts_behind c word before after what spot o))
+goes_behind c limit word before after what spot o tokens t (Unexpected left) goes = tt
+goes_behind c limit word before after what spot o tokens t Memory goes = tt
 
 behind_shown : (c : Context) (given : List (List ℕ)) (limit : Option Limit) (word : ℕ) (before after rest : List Token) (what : What) (spot : Spot) → (o : Opening c word before what after) → after ≡ token (Sign 7) spot ∷ rest → (fault : Fault)
-    → ShownBy BeginsSimple simple_tokens (λ fault a. IsAmissPlaced (inner_around word c.around) limit (Here fault) a) rest fault → ShownBy BeginsHead head_tokens (λ fault a. IsAmissHead c given limit (Here fault) a) before fault
+    → ShownBy BeginsSimple (IsAheadPlaced limit) simple_tokens (λ fault a. IsAmissPlaced (inner_around word c.around) limit (Here fault) a) rest fault → ShownBy BeginsHead (IsAheadOnLine limit) head_tokens (λ fault a. IsAmissHead c given limit (Here fault) a) before fault
 behind_shown c given limit word before after rest what spot o is fault s = record {
   front = o.front ++ token (Sign 7) spot ∷ s.front;
   shown_by = s.shown_by;
@@ -131,6 +151,10 @@ behind_shown c given limit word before after rest what spot o is fault s = recor
   before_is = o.before_is ∙ ap (λ ts. o.front ++ ts) (is ∙ ap (λ ts. token (Sign 7) spot ∷ ts) s.before_is) ∙ sym (append_assoc o.front (token (Sign 7) spot ∷ s.front) (s.shown_by ∷ s.behind));
   left_is = s.left_is;
   begun = begins_line c word before after what spot o s.front s.begun;
+  goes_on = (
+    goes_behind c limit word before after what spot o s.front s.shown_by fault s.goes_on.0,
+    unread_behind o.front (token (Sign 7) spot) s.front s.shown_by fault o.past refl s.begun s.goes_on.1,
+  );
   none = λ h more same. none_there h more same;
 }
   where

@@ -22,9 +22,10 @@ use Rattle.py_grammar.specs.Reader.{go_on, next_level, no_second, read_cmp_sign,
 use Rattle.py_grammar.specs.Parsed.{cmp_part, sum_part, one_cmp_sign, TakenCmp, Found, IsAtFirst, IsDeep, Only, Finds, Refused, IsTooDeep}
 use Rattle.py_grammar.proofs.Leading.{Reads}
 use Rattle.py_grammar.proofs.Reading.{if_true, sum_leads, sum_stops, cmp_level}
-use Rattle.py_grammar.proofs.Refusals.{first_of, Inside, only_any, only_if, only_is, finds_first, finds_step, finds_behind, finds_behind_now, first_alike, finds_now, finds_anything, finds_same, deep_left, deep_right, refused_inside, refused_same, full, over_both, fits_above, next_level_same, keyword_next_same}
+use Rattle.py_grammar.proofs.Refusals.{first_of, Inside, only_any, only_if, only_is, finds_first, finds_step, finds_behind, finds_behind_now, first_alike, finds_now, finds_anything, finds_same, deep_left, deep_right, refused_inside, refused_same, begins_inside, full, over_both, fits_above, next_level_same, keyword_next_same}
 use Rattle.py_grammar.proofs.Stops.{some_spot, here}
 use Rattle.py_grammar.proofs.Choices.{no_depth}
+use Rattle.py_grammar.proofs.Comparisons.{cmp_begins}
 
 some_sum : Sum
 some_sum = plain_sum (plain_term (plain_unary (plain_prim (name some_spot []))))
@@ -89,15 +90,6 @@ behind_left n left ts level = if_true (next_level ts == 4) _ _ (ap (λ l. l == 4
 at_level : (ts : List Token) → (next_level ts == 4) ≡ true → next_level ts ≡ 4
 at_level ts is = eqb-true (next_level ts) 4 is
 
-pub cmp_full : (room : ℕ) (before middle : List Token) (left : Part) (stop : Stop) → Found sum_part sum_tree 3 room before left middle → (next_level middle == 4) ≡ true → IsTooDeep left.height left.deepest room stop → Refused cmp_part room before stop
-cmp_full room before [] left stop l level deep = cc
-cmp_full room before (t ∷ ts) left stop l level deep = full cmp_part room before (sum_tokens l.written) t ts left.height left.deepest stop deep l.before_is (record { some = plain_cmp l.written; more = []; tokens_are = sym (append-nil (sum_tokens l.written)) })
-    (λ more. let four = at_level (t ∷ more) level in finds_behind _ read_cmp read_sum cmp_rest 3 (sum_tokens l.written) l.written (t ∷ more) (λ n. refl) (reads_sum l.written) (omega (arith, four))
-    (finds_first (λ o. ⊤) _ (λ n us. cmp_rest n l.written us) (λ n us. read_cmp_sign us) (λ n op us. go_on (read_sum n us) (λ right rest. no_second (compared l.written op right) rest)) (t ∷ more) (t ∷ more) (λ n. behind_left n l.written (t ∷ more) four)
-    (λ n op us any. only_any _ (read_sum n us) _ (λ right rest. no_second_deep (Here (TooDeep left.deepest)) left.height (compared l.written op right) rest
-    (above_left (begins (sum_tokens l.written) left.deepest) (sum_lies l.written left.deepest) (sum_lies right left.deepest) left.height (sum_depth l.written) l.height_is l.deepest_is (sum_above l.written))))
-    (finds_anything (λ n us. read_cmp_sign us) (t ∷ more))))
-
 sign_inside : (room : ℕ) (left : Sum) (behind : List Token) → next_level behind ≡ 4 → Inside cmp_part room one_cmp_sign 0 (sum_tokens left) behind
 sign_inside room left behind level = record {
   begins = λ b. record { some = compared left b some_sum; more = sum_tokens some_sum; tokens_are = sym (append_assoc (sum_tokens left) (cmp_tokens b) (sum_tokens some_sum)) };
@@ -106,6 +98,16 @@ sign_inside room left behind level = record {
       (finds_first _ _ (λ n us. cmp_rest n left us) (λ n us. read_cmp_sign us) (λ n op us. go_on (read_sum n us) (λ right rest. no_second (compared left op right) rest)) more more (λ n. behind_left n left more four)
       (λ n op us deep. no_depth stop deep) finds);
 }
+
+pub cmp_full : (room : ℕ) (before middle : List Token) (left : Part) (stop : Stop) → Found sum_part sum_tree 3 room before left middle → (next_level middle == 4) ≡ true → IsTooDeep left.height left.deepest room stop → Refused cmp_part room before stop
+cmp_full room before [] left stop l level deep = cc
+cmp_full room before (t ∷ ts) left stop l level deep = full cmp_part room before (sum_tokens l.written) t ts left.height left.deepest stop deep l.before_is (record { some = plain_cmp l.written; more = []; tokens_are = sym (append-nil (sum_tokens l.written)) })
+    (begins_inside cmp_part one_cmp_sign (sum_tokens l.written) (t ∷ []) (sign_inside room l.written (t ∷ ts) (at_level (t ∷ ts) level)).begins (cmp_begins t level))
+    (λ more. let four = at_level (t ∷ more) level in finds_behind _ read_cmp read_sum cmp_rest 3 (sum_tokens l.written) l.written (t ∷ more) (λ n. refl) (reads_sum l.written) (omega (arith, four))
+    (finds_first (λ o. ⊤) _ (λ n us. cmp_rest n l.written us) (λ n us. read_cmp_sign us) (λ n op us. go_on (read_sum n us) (λ right rest. no_second (compared l.written op right) rest)) (t ∷ more) (t ∷ more) (λ n. behind_left n l.written (t ∷ more) four)
+    (λ n op us any. only_any _ (read_sum n us) _ (λ right rest. no_second_deep (Here (TooDeep left.deepest)) left.height (compared l.written op right) rest
+    (above_left (begins (sum_tokens l.written) left.deepest) (sum_lies l.written left.deepest) (sum_lies right left.deepest) left.height (sum_depth l.written) l.height_is l.deepest_is (sum_above l.written))))
+    (finds_anything (λ n us. read_cmp_sign us) (t ∷ more))))
 
 pub cmp_sign_refused : (room : ℕ) (before middle : List Token) (left : Part) (stop : Stop) → Found sum_part sum_tree 3 room before left middle → (next_level middle == 4) ≡ true → Refused one_cmp_sign 0 middle stop → Refused cmp_part room before stop
 cmp_sign_refused room before middle left stop l level is =

@@ -1,25 +1,26 @@
 -- Comparisons that are taken, and those that are refused.
-use Rattle.std.proofs.Common.{◌≡◌, ℕ, Bool, true, false, List, [], ◌∷◌, ◌++◌, Some, None, is_some, refl, ap, sym, ◌∙◌, if◌then◌else◌}
+use Rattle.std.proofs.Common.{◌≡◌, ℕ, Bool, true, false, ◌||◌, List, [], ◌∷◌, ◌++◌, Some, None, is_some, refl, ap, sym, ◌∙◌, if◌then◌else◌}
 use Rattle.std.specs.Prelude.{◌==◌}
 use Rattle.prov_base.specs.declared.place.Pos.{Pos}
 use Rattle.std.proofs.lemmas.Bool.{eqb-true, false≢true}
 use Rattle.py_lines.specs.declared.parts.Token.{Token}
-use Rattle.py_lines.specs.declared.parts.TokenKind.TheVariants.{Keyword, Sign}
+use Rattle.py_lines.specs.declared.parts.TokenKind.{TokenKind}
+use Rattle.py_lines.specs.declared.parts.TokenKind.TheVariants.{Word, Keyword, Number, Text, Sign}
 use Rattle.py_tree.specs.declared.expr.CmpOp.{CmpOp}
 use Rattle.py_tree.specs.declared.expr.CmpOp.TheVariants.{Eq, Ne, Lt, Le, Gt, Ge, In, NotIn, Is, IsNot}
 use Rattle.py_grammar.specs.declared.fault.Stop.{Stop}
 use Rattle.py_grammar.specs.Concrete.{Spot, CmpSign, equal, unequal, less, less_equal, greater, greater_equal, within, not_within, same, not_same}
 use Rattle.py_grammar.specs.Tokens.{token, cmp_tokens}
 use Rattle.py_grammar.specs.Trees.{cmp_op, cmp_at}
-use Rattle.py_grammar.specs.Reader.{spot_of, is_or_is_not, is_sign, is_keyword, read_keyword, read_cmp_sign}
-use Rattle.py_grammar.specs.Parsed.{Taken, TakenCmp, one_keyword, one_cmp_sign, cmp_sign_op, cmp_sign_next, kind_cmp_op, is_keyword_next, IsAtFirst, Refused}
+use Rattle.py_grammar.specs.Reader.{spot_of, is_or_is_not, is_sign, is_keyword, keyword_level, sign_level, kind_level, read_keyword, read_cmp_sign}
+use Rattle.py_grammar.specs.Parsed.{Taken, TakenCmp, one_keyword, one_cmp_sign, cmp_sign_op, cmp_sign_next, kind_cmp_op, is_keyword_next, IsAtFirst, Begins, Refused}
 use Rattle.py_grammar.proofs.Refusals.{Inside, refused_inside, refused_same, finds_first}
 use Rattle.py_grammar.proofs.Firsts.{not_sign}
 use Rattle.py_grammar.proofs.Reading.{if_false}
 use Rattle.py_grammar.proofs.Stops.{at_first, finds_none, some_spot}
 
 -- a token of this sign
-one_token : (t : Token) (n : ℕ) → t.kind ≡ Sign n → t ≡ token (Sign n) (spot_of t)
+pub one_token : (t : Token) (n : ℕ) → t.kind ≡ Sign n → t ≡ token (Sign n) (spot_of t)
 one_token t n is = ap (λ k. record { at = t.at; span = t.span; kind = k }) is
 
 some_op : (a b : CmpOp) → Some a ≡ Some b → a ≡ b
@@ -64,6 +65,56 @@ is_taken before after rest at k eq other = record { which = same k.spot; before_
 
 pub is_not_taken : (before middle after : List Token) (at not_at : Pos) → Taken (Keyword 23) before at middle → Taken (Keyword 26) middle not_at after → TakenCmp before at IsNot after
 is_not_taken before middle after at not_at k more = record { which = not_same k.spot more.spot; before_is = k.before_is ∙ ap (λ ts. token (Keyword 23) k.spot ∷ ts) more.before_is; alone = λ more next. refl; at_is = k.at_is; op_is = refl }
+
+-- ---- a token with which an operand goes on begins a comparison
+
+begins_so : (which : CmpSign) (t : Token) (kind : TokenKind) (more : List Token) → t.kind ≡ kind → cmp_tokens which ≡ token kind (spot_of t) ∷ more → Begins one_cmp_sign (t ∷ [])
+begins_so which t kind more is spells = record { some = which; more = more; tokens_are = spells ∙ ap (λ k. record { at = t.at; span = t.span; kind = k } ∷ more) (sym is) }
+
+word_begins : (n : ℕ) (t : Token) → t.kind ≡ Keyword n → (keyword_level n == 4) ≡ true → Begins one_cmp_sign (t ∷ [])
+word_begins n t is level = by (n == 22) (n == 23) (n == 26) (n == 3) (n == 27) (n == 20) refl refl refl level
+  where
+    of : (k : ℕ) (which : CmpSign) (more : List Token) → (n == k) ≡ true → cmp_tokens which ≡ token (Keyword k) (spot_of t) ∷ more → Begins one_cmp_sign (t ∷ [])
+    of k which more eq spells = begins_so which t (Keyword k) more (is ∙ ap Keyword (eqb-true n k eq)) spells
+
+    by : (a b c d e f : Bool) → (n == 22) ≡ a → (n == 23) ≡ b → (n == 26) ≡ c → ((if a || b || c then 4 else (if d then 5 else (if e then 6 else (if f then 7 else 9)))) == 4) ≡ true → Begins one_cmp_sign (t ∷ [])
+    by true b c d e f one two three level = of 22 (within (spot_of t)) [] one refl
+    by false true c d e f one two three level = of 23 (same (spot_of t)) [] two refl
+    by false false true d e f one two three level = of 26 (not_within (spot_of t) some_spot) (token (Keyword 22) some_spot ∷ []) three refl
+    by false false false true e f one two three level = cc
+    by false false false false true f one two three level = cc
+    by false false false false false true one two three level = cc
+    by false false false false false false one two three level = cc
+
+sign_begins : (n : ℕ) (t : Token) → t.kind ≡ Sign n → (sign_level n == 4) ≡ true → Begins one_cmp_sign (t ∷ [])
+sign_begins n t is level = by ((n == 0) || (n == 2) || (n == 8)) ((n == 12) || (n == 13) || (n == 14)) ((n == 10) || (n == 11)) (n == 15) (n == 16) (n == 17) (n == 18) (n == 19) (n == 20) (n == 6) refl refl refl refl refl refl level
+  where
+    of : (k : ℕ) (which : CmpSign) → (n == k) ≡ true → cmp_tokens which ≡ token (Sign k) (spot_of t) ∷ [] → Begins one_cmp_sign (t ∷ [])
+    of k which eq spells = begins_so which t (Sign k) [] (is ∙ ap Sign (eqb-true n k eq)) spells
+
+    by : (x y z a b c d e f g : Bool) → (n == 15) ≡ a → (n == 16) ≡ b → (n == 17) ≡ c → (n == 18) ≡ d → (n == 19) ≡ e → (n == 20) ≡ f
+        → ((if x then 1 else (if y then 2 else (if z then 3 else (if a || b || c || d || e || f then 4 else (if g then 8 else 9))))) == 4) ≡ true → Begins one_cmp_sign (t ∷ [])
+    by true y z a b c d e f g e1 e2 e3 e4 e5 e6 level = cc
+    by false true z a b c d e f g e1 e2 e3 e4 e5 e6 level = cc
+    by false false true a b c d e f g e1 e2 e3 e4 e5 e6 level = cc
+    by false false false true b c d e f g e1 e2 e3 e4 e5 e6 level = of 15 (equal (spot_of t)) e1 refl
+    by false false false false true c d e f g e1 e2 e3 e4 e5 e6 level = of 16 (unequal (spot_of t)) e2 refl
+    by false false false false false true d e f g e1 e2 e3 e4 e5 e6 level = of 17 (less (spot_of t)) e3 refl
+    by false false false false false false true e f g e1 e2 e3 e4 e5 e6 level = of 18 (less_equal (spot_of t)) e4 refl
+    by false false false false false false false true f g e1 e2 e3 e4 e5 e6 level = of 19 (greater (spot_of t)) e5 refl
+    by false false false false false false false false true g e1 e2 e3 e4 e5 e6 level = of 20 (greater_equal (spot_of t)) e6 refl
+    by false false false false false false false false false true e1 e2 e3 e4 e5 e6 level = cc
+    by false false false false false false false false false false e1 e2 e3 e4 e5 e6 level = cc
+
+pub cmp_begins : (t : Token) → (kind_level t.kind == 4) ≡ true → Begins one_cmp_sign (t ∷ [])
+cmp_begins t level = by t.kind refl level
+  where
+    by : (kind : TokenKind) → t.kind ≡ kind → (kind_level kind == 4) ≡ true → Begins one_cmp_sign (t ∷ [])
+    by (Keyword n) is level = word_begins n t is level
+    by (Sign n) is level = sign_begins n t is level
+    by (Word bytes) is level = cc
+    by (Number value) is level = cc
+    by (Text bytes) is level = cc
 
 -- ---- what is refused
 

@@ -20,6 +20,7 @@ use Rattle.py_grammar.specs.Parsed.{or_part, and_part, not_part, sum_part, term_
 use Rattle.py_grammar.proofs.Reading.{or_leads, and_leads, sum_leads, term_leads}
 use Rattle.py_grammar.proofs.Levels.{beyond_or, beyond_and, beyond_sum, beyond_term}
 use Rattle.py_grammar.proofs.Refusals.{only_any, only_if, only_map_or, deep_left}
+use Rattle.py_grammar.proofs.Prefixes.{some_unary, some_not}
 use Rattle.py_grammar.proofs.Chains.{Chain, first_found, next_found, last_found, first_refused, next_refused, too_deep}
 
 -- ---- `or`
@@ -36,6 +37,7 @@ or_node spot left right = logic_expr spot.at Either left right
 
 or_chain : Chain or_part and_part or_tree and_tree 5 plain_or or_more (token (Keyword 27)) or_node or_rest
 or_chain = record {
+  some = plain_and some_not;
   read_is = λ n ts. refl;
   step_is = λ n left o more. refl;
   tokens_one = λ s. refl;
@@ -97,6 +99,7 @@ and_node spot left right = logic_expr spot.at Both left right
 
 and_chain : Chain and_part not_part and_tree not_tree 4 plain_and and_more (token (Keyword 3)) and_node and_rest
 and_chain = record {
+  some = some_not;
   read_is = λ n ts. refl;
   step_is = λ n left o more. refl;
   tokens_one = λ s. refl;
@@ -166,6 +169,7 @@ sum_node o left right = binary_expr o.1.at (add_op o.0) left right
 
 sum_chain : Chain sum_part term_part sum_tree term_tree 2 plain_sum sum_next_of sum_token sum_node sum_rest
 sum_chain = record {
+  some = plain_term some_unary;
   read_is = λ n ts. refl;
   step_is = step;
   tokens_one = λ s. refl;
@@ -252,6 +256,7 @@ term_node o left right = binary_expr o.1.at (mul_op o.0) left right
 
 term_chain : Chain term_part unary_part term_tree unary_tree 1 plain_term term_next_of term_token term_node term_rest
 term_chain = record {
+  some = some_unary;
   read_is = λ n ts. refl;
   step_is = step;
   tokens_one = λ s. refl;

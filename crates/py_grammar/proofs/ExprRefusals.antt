@@ -1,5 +1,5 @@
 -- Expressions that are a statement, and assignments: what is read, and how it is refused.
-use Rattle.std.proofs.Common.{◌≡◌, ℕ, suc, ◌+◌, ◌≤◌, ◌<◌, Bool, true, false, List, [], ◌∷◌, ◌++◌, Option, Some, None, option_map, option_and_then, is_none, is_some, refl, ap, sym, ◌∙◌, arith, subst, append_assoc, length}
+use Rattle.std.proofs.Common.{◌≡◌, inl, inr, ℕ, suc, ◌+◌, ◌≤◌, ◌<◌, Bool, true, false, List, [], ◌∷◌, ◌++◌, Option, Some, None, option_map, option_and_then, is_none, is_some, refl, ap, sym, ◌∙◌, arith, subst, append_assoc, length}
 use Rattle.std.specs.Prelude.{◌==◌}
 use Rattle.std.proofs.Math.Nat.{le-max_right}
 use Rattle.std.proofs.lemmas.Bool.{eqb-true}
@@ -26,15 +26,15 @@ use Rattle.py_grammar.specs.StatementTrees.{target_tree, simple_form}
 use Rattle.py_grammar.specs.WellPlaced.{Around, form_stands}
 use Rattle.py_grammar.specs.Reader.{is_sign, is_keyword, spot_of, kind_level, start_class, next_level, starts, read_exprs}
 use Rattle.py_grammar.specs.StatementReader.{exprs_target, single_target, aug_sign_of, whole, behind_exprs, read_simple}
-use Rattle.py_grammar.specs.Parsed.{IsDeep, Only, FoundRow, Refused, ends_open, is_sign_next, exprs_part}
+use Rattle.py_grammar.specs.Parsed.{IsDeep, Only, FoundRow, Refused, ends_open, is_keyword_next, is_sign_next, exprs_part}
 use Rattle.py_grammar.specs.ParsedSimple.{leaving_none, IsRow, SimpleFound, SimpleRefused, FoundAnywhere, RefusedAnywhere, FoundAfter, RefusedAfter, aug_sign_next, is_word, is_word_kind, begins_word, IsMore, all_target_form}
-use Rattle.py_grammar.proofs.Firsts.{exprs_starts}
+use Rattle.py_grammar.proofs.Firsts.{IsStart, exprs_starts}
 use Rattle.py_grammar.proofs.Reading.{if_false}
 use Rattle.py_grammar.proofs.RowReads.{row_reads}
 use Rattle.py_grammar.proofs.Refusals.{first_of, deeper, deep_same, deep_beside_left, max_below}
 use Rattle.py_grammar.proofs.SimpleReading.{by_exprs, begins_with_exprs}
 use Rattle.py_grammar.proofs.TargetForms.{target_lies_so, targets_deep, targets_lie_so, targets_spelled, targets_tree_is}
-use Rattle.py_grammar.proofs.SimpleParts.{ReadsNone, Turns, turned_none, turns_same, as_whole, map_whole, only_whole, only_map, only_if_simple, begins_part, refused_part, at_token, ended, row_all, row_goes}
+use Rattle.py_grammar.proofs.SimpleParts.{ReadsNone, Turns, turned_none, turns_same, as_whole, map_whole, only_whole, only_map, only_if_simple, begins_part, other_statement, refused_part, at_token, ended, row_all, row_goes}
 
 -- ---- the expressions with which it begins
 
@@ -69,6 +69,34 @@ no_statement_word n t ts other =
     ∙ if_false (is_keyword 29 t.kind) _ _ (no_word 29 t.kind refl other)
     ∙ if_false (is_keyword 5 t.kind) _ _ (no_word 5 t.kind refl other)
     ∙ if_false (is_keyword 21 t.kind) _ _ (no_word 21 t.kind refl other)
+
+-- expressions do not begin with `del`
+starts_no_del : (ts : List Token) → IsStart (starts ts) → is_keyword_next 12 ts ≡ false
+starts_no_del [] is = refl
+starts_no_del (t ∷ ts) is = by t.kind is
+  where
+    no_start : IsStart 0 → ⊥
+    no_start (inl (inl is)) = cc
+    no_start (inl (inr is)) = cc
+    no_start (inr is) = cc
+
+    number : (n : ℕ) (b : Bool) → (n == 12) ≡ b → IsStart (start_class (Keyword n)) → b ≡ false
+    number n false same is = refl
+    number n true same is = absurd (no_start (subst (λ m. IsStart (start_class (Keyword m))) (eqb-true n 12 same) is))
+
+    by : (kind : TokenKind) → IsStart (start_class kind) → is_keyword 12 kind ≡ false
+    by (Keyword n) is = number n (n == 12) refl is
+    by (Word bytes) is = refl
+    by (Sign n) is = refl
+    by (Number value) is = refl
+    by (Text bytes) is = refl
+
+exprs_no_del : (e : Exprs) (rest : List Token) → is_keyword_next 12 (exprs_tokens e ++ rest) ≡ false
+exprs_no_del e rest = starts_no_del (exprs_tokens e ++ rest) (exprs_starts e rest)
+
+no_del_word : (before : List Token) → begins_word before ≡ false → is_keyword_next 12 before ≡ false
+no_del_word [] other = refl
+no_del_word (t ∷ ts) other = no_word 12 t.kind refl other
 
 abbrev row_turn : ℕ → Exprs → List Token → Option Simple
 row_turn n e rest = behind_exprs (n + 12) e rest
@@ -109,7 +137,7 @@ row_deep why n e (t ∷ ts) deep = only_if_simple _ (is_sign 9 t.kind) _ _ (assi
 
 pub row_refused : (before : List Token) (stop : Stop) → begins_word before ≡ false → Refused exprs_part 100 before stop → RefusedAnywhere before stop
 row_refused before stop other is = record {
-  there = λ around. refused_part around exprs_part 100 [] before before stop row_turn refl
+  there = λ around. refused_part around exprs_part 100 [] before before stop row_turn (no_del_word before other) refl
       (begins_part exprs_part [] expression (λ e. refl)) (λ more first. row_turns more (same_first more before first other)) (λ why n e left deep. row_deep why (n + 12) e left deep) is;
 }
 
@@ -122,7 +150,7 @@ start_next f t ts is ends = subst (λ (ts : List Token). starts ts ≡ 0) is (f.
 
 pub row_more : (before after : List Token) (part : Part) (stop : Stop) → FoundRow 100 before part after → is_sign_next 9 after ≡ false → aug_sign_next after ≡ None → IsMore after stop → RefusedAnywhere before stop
 row_more before after part stop f other none more = record {
-  there = λ around. ended around (exprs_tokens f.written) after before stop (expression f.written) f.before_is refl more
+  there = λ around. ended around (exprs_tokens f.written) after before stop (expression f.written) (ap (is_keyword_next 12) f.before_is ∙ exprs_no_del f.written after) f.before_is refl more
       (λ t ts rest is. row_none f.written t rest (beyond_next f t ts is) (start_next f t ts is)
       (λ n. if_false (is_sign 9 t.kind) _ _ (subst (λ (ts : List Token). is_sign_next 9 ts ≡ false) is other)
       ∙ ap (option_and_then (λ op. option_and_then (λ target. option_map (augmented target op (spot_of t)) (whole (read_exprs n rest))) (single_target f.written))) (subst (λ (ts : List Token). aug_sign_next ts ≡ None) is none)));
@@ -163,7 +191,7 @@ value_turns e c build b more = record {
 
 pub value_refused : (around : Around) (e : Exprs) (c : Token) (build : Exprs → Simple) (before after : List Token) (stop : Stop) → Builds e c build → before ≡ exprs_tokens e ++ c ∷ after → Refused exprs_part 100 after stop → SimpleRefused around before stop
 value_refused around e c build before after stop b is refused = refused_part around exprs_part 100 (exprs_tokens e ++ c ∷ []) after before stop (value_turn build)
-    (is ∙ sym (append_assoc (exprs_tokens e) (c ∷ []) after))
+    (ap (is_keyword_next 12) is ∙ exprs_no_del e (c ∷ after)) (is ∙ sym (append_assoc (exprs_tokens e) (c ∷ []) after))
     (begins_part exprs_part (exprs_tokens e ++ c ∷ []) build (λ v. b.spells v ∙ sym (append_assoc (exprs_tokens e) (c ∷ []) (exprs_tokens v))))
     (λ more first. turns_same exprs_part _ (exprs_tokens e ++ c ∷ more) more _ (append_assoc (exprs_tokens e) (c ∷ []) more) (value_turns e c build b more))
     (λ why n v left deep. only_whole _ (λ v. Some (build v)) n v left (deeper why 100 (exprs_lies v) 100 (simple_lies (build v)) deep (λ at some. let high = b.deep v at in omega (arith, high))))
@@ -172,7 +200,7 @@ value_refused around e c build before after stop b is refused = refused_part aro
 pub value_more : (around : Around) (e : Exprs) (c : Token) (build : Exprs → Simple) (before after last : List Token) (value : Part) (stop : Stop) → Builds e c build → before ≡ exprs_tokens e ++ c ∷ after → FoundRow 100 after value last
     → IsMore last stop → SimpleRefused around before stop
 value_more around e c build before after last value stop b is v more = ended around (exprs_tokens e ++ (c ∷ exprs_tokens v.written)) last before stop (build v.written)
-    (is ∙ ap (λ ts. exprs_tokens e ++ c ∷ ts) v.before_is ∙ sym (append_assoc (exprs_tokens e) (c ∷ exprs_tokens v.written) last)) (b.spells v.written) more
+    (ap (is_keyword_next 12) is ∙ exprs_no_del e (c ∷ after)) (is ∙ ap (λ ts. exprs_tokens e ++ c ∷ ts) v.before_is ∙ sym (append_assoc (exprs_tokens e) (c ∷ exprs_tokens v.written) last)) (b.spells v.written) more
     (λ t ts rest last_is. turned_none exprs_part _ (exprs_tokens v.written ++ t ∷ rest) (t ∷ rest) (value_turn build) v.written (row_reads v.written).steps
     (turns_same exprs_part _ _ _ _ (append_assoc (exprs_tokens e) (c ∷ exprs_tokens v.written) (t ∷ rest)) (value_turns e c build b (exprs_tokens v.written ++ t ∷ rest)))
     (row_goes v t ts rest last_is) (λ n. refl))
@@ -195,7 +223,8 @@ behind_sign f is = f.before_is ∙ ap (λ ts. exprs_tokens f.written ++ ts) is
 pub sign_wrong : (around : Around) (e : Exprs) (c : Token) (before after : List Token) (left : ℕ) → left ≡ length after → 8 < kind_level c.kind → start_class c.kind ≡ 0 → ((n : ℕ) (more : List Token) → behind_exprs n e (c ∷ more) ≡ None)
     → before ≡ exprs_tokens e ++ c ∷ after → SimpleRefused around before (Here (Unexpected left))
 sign_wrong around e c before after left counted level no_start none is =
-    at_token around (exprs_tokens e) c after before (Unexpected left) (expression e) is refl counted (λ more. row_none e c more (λ ends. level) (λ ends. no_start) (λ n. none n more))
+    at_token around (exprs_tokens e) c after before left (expression e)
+    (other_statement before (exprs_tokens e) c after (Unexpected left) (ap (is_keyword_next 12) is ∙ exprs_no_del e (c ∷ after)) is) is refl counted (λ more. row_none e c more (λ ends. level) (λ ends. no_start) (λ n. none n more))
 
 -- ---- assignments
 

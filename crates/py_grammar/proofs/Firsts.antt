@@ -10,7 +10,7 @@ use Rattle.py_grammar.specs.Concrete.{plus, minus, times, floor, modulo, Expr, p
 use Rattle.py_grammar.specs.Tokens.{keyword, sign, word, add_sign, mul_sign, cmp_tokens, items_tokens, index_tokens, rest_tokens, expr_tokens, or_tokens, and_tokens, not_tokens, cmp_tokens_of, sum_tokens, term_tokens, unary_tokens, prim_tokens, atom_tokens, exprs_tokens}
 use Rattle.py_grammar.specs.Reader.{go_on, next_level, kind_level, start_class, starts, is_sign, is_keyword, read_keyword, add_sign_of, mul_sign_of, spot_of, read_term, read_unary, read_prim, read_not, read_cmp, read_items, read_exprs, read_rest, read_expr, rest_rest, sum_rest, term_rest, prim_rest}
 
-sign_is : (k : ℕ) (kind : TokenKind) → is_sign k kind ≡ true → kind ≡ Sign k
+pub sign_is : (k : ℕ) (kind : TokenKind) → is_sign k kind ≡ true → kind ≡ Sign k
 sign_is k (Sign n) is = ap Sign (eqb-true n k is)
 sign_is k (Word bytes) is = cc
 sign_is k (Keyword n) is = cc

@@ -1,9 +1,9 @@
 -- The line of a `for`: what is read of it, and how it is refused.
-use Rattle.std.proofs.Common.{◌≡◌, inl, inr, ℕ, ◌+◌, max, ◌≤◌, List, [], ◌∷◌, ◌++◌, Option, None, refl, ap, sym, ◌∙◌, arith, append_assoc}
+use Rattle.std.proofs.Common.{◌≡◌, inl, inr, ℕ, ◌+◌, max, ◌≤◌, false, List, [], ◌∷◌, ◌++◌, Option, None, refl, ap, sym, ◌∙◌, arith, subst, append_assoc}
 use Rattle.std.proofs.Math.Nat.{le-max_left, le-max_right}
 use Rattle.prov_base.specs.declared.place.Pos.{Pos}
 use Rattle.py_lines.specs.declared.parts.Token.{Token}
-use Rattle.py_lines.specs.declared.parts.TokenKind.TheVariants.{Keyword}
+use Rattle.py_lines.specs.declared.parts.TokenKind.TheVariants.{Keyword, Sign}
 use Rattle.py_tree.specs.declared.expr.Target.{Target as TargetRead}
 use Rattle.py_tree.specs.Erasure.{target_of}
 use Rattle.py_grammar.specs.declared.context.Limit.{Limit}
@@ -13,26 +13,28 @@ use Rattle.py_grammar.specs.declared.fault.Stop.{Stop}
 use Rattle.py_grammar.specs.declared.fault.Stop.TheVariants.{Here, End}
 use Rattle.py_grammar.specs.declared.head.What.TheVariants.{For}
 use Rattle.py_grammar.specs.declared.part.Part.{Part}
-use Rattle.py_grammar.specs.Concrete.{Spot, Exprs, one_expr}
-use Rattle.py_grammar.specs.Tokens.{token, exprs_tokens}
+use Rattle.py_grammar.specs.Concrete.{Spot, Sum, Exprs, one_expr}
+use Rattle.py_grammar.specs.Tokens.{token, sum_tokens, exprs_tokens}
 use Rattle.py_grammar.specs.Depth.{target_depth, exprs_depth}
 use Rattle.py_grammar.specs.Lies.{target_lies, exprs_lies, simple_lies}
-use Rattle.py_grammar.specs.Written.{Simple, Target, named}
-use Rattle.py_grammar.specs.StatementTokens.{target_tokens}
+use Rattle.py_grammar.specs.Written.{Simple, OneTarget, Target, named}
+use Rattle.py_grammar.specs.StatementTokens.{one_target_tokens, target_tokens}
 use Rattle.py_grammar.specs.StatementTrees.{target_tree}
 use Rattle.py_grammar.specs.LineReader.{Head, for_head, head_tokens, colon_tokens, then_read, read_colon, read_head, read_target}
 use Rattle.py_grammar.specs.Reader.{read_keyword, read_exprs}
 use Rattle.py_grammar.specs.Parsed.{IsDeep, Refused, FoundRow, Taken, one_keyword, exprs_part}
-use Rattle.py_grammar.specs.ParsedRows.{IsRead}
-use Rattle.py_grammar.specs.ParsedHead.{Took, target_part, Context, head_lies, behind_lies, IsAmissHead, BeginsHead, ShownBy, EndedBy, HeadRefused, head_part, OpeningFound, OpeningRefused}
-use Rattle.py_grammar.specs.ParsedNames.{Followed, followed_tokens, BeginsThen, TargetsRefused}
+use Rattle.py_grammar.specs.ParsedRows.{first_token, IsRead}
+use Rattle.py_grammar.specs.ParsedHead.{Took, target_part, Context, head_lies, behind_lies, IsAmissHead, BeginsHead, passed_tokens, BeginsTargets, GoesOnLine, UnreadTargets, UnreadLine, IsAheadOnLine, ShownBy, EndedBy, HeadRefused, OpeningFound, OpeningRefused}
+use Rattle.py_grammar.specs.ParsedNames.{Followed, followed_tokens, GoesOnTargets, IsAheadOfTargets, TargetsRefused, TargetsEnd, TargetFound}
 use Rattle.py_grammar.proofs.Stops.{some_spot}
 use Rattle.py_grammar.proofs.SimpleReading.{target_expr}
 use Rattle.py_grammar.proofs.Refusals.{deep_beside_left, deep_beside_right}
 use Rattle.py_grammar.proofs.RowParts.{more_steps}
 use Rattle.py_grammar.proofs.ClosedParts.{not_deep}
-use Rattle.py_grammar.proofs.HeadParts.{FindsHead, HeadTurns, finds_written, begins_part_head, refused_part_head, turns_on, ColonReads, colon_on, row_is_read}
-use Rattle.py_grammar.proofs.AmissParts.{begins_with}
+use Rattle.py_grammar.proofs.LineFirsts.{same_behind}
+use Rattle.py_grammar.proofs.NoDel.{has_del, without, no_del_front, del_absent, no_del_one_target, no_del_sum}
+use Rattle.py_grammar.proofs.Unread.{PassesFor, unread_clear}
+use Rattle.py_grammar.proofs.HeadParts.{clear_before, FindsHead, HeadTurns, finds_written, begins_part_head, refused_part_head, turns_on, ColonReads, colon_on, row_is_read}
 use Rattle.py_grammar.proofs.NameHeads.{only_then, only_colon}
 
 abbrev for_target_of : Spot → ℕ → Target → List Token → Option Head
@@ -94,20 +96,49 @@ for_amiss c given limit (Here (TooMany at)) lies h deep higher = absurd deep
 for_amiss c given limit (Here Memory) lies h deep higher = absurd deep
 for_amiss c given limit End lies h deep higher = absurd deep
 
-for_begins : (spot : Spot) (ts : List Token) → BeginsThen target_part ts → BeginsHead (token (Keyword 17) spot ∷ ts)
-for_begins spot ts b = inr (record {
-  opened = token (Keyword 17) spot ∷ b.opened;
-  begins = begins_with head_part target_part (token (Keyword 17) spot ∷ []) (λ t. for_head spot t some_spot some_exprs some_spot None) (λ t. token (Keyword 22) some_spot ∷ (exprs_tokens some_exprs ++ colon_tokens some_spot None)) (λ t. refl) b.opened b.begins;
-  some = b.some;
-  more = b.more;
-  tokens_are = ap (λ ts. token (Keyword 17) spot ∷ ts) b.tokens_are;
-})
+for_begins : (spot : Spot) (ts : List Token) → BeginsTargets ts → BeginsHead (token (Keyword 17) spot ∷ ts)
+for_begins spot ts b = inr (inr (record { spot = spot; inside = ts; begins = b; front_is = refl }))
+
+goes_for : (limit : Option Limit) (spot : Spot) (tokens : List Token) (t : Token) (fault : Fault) → GoesOnTargets tokens t fault → GoesOnLine limit (token (Keyword 17) spot ∷ tokens) t fault
+goes_for limit spot tokens t (TooDeep at) b = inl (for_begins spot (tokens ++ t ∷ []) b)
+goes_for limit spot tokens t (TooMany at) goes = absurd goes
+goes_for limit spot tokens t (Unexpected left) goes = tt
+goes_for limit spot tokens t Memory goes = tt
+
+-- no `del` stands in targets
+no_del_passed : (passed : List (OneTarget × Spot)) → has_del (passed_tokens passed) ≡ false
+no_del_passed [] = refl
+no_del_passed (p ∷ passed) = without (one_target_tokens p.0) (token (Sign 6) p.1 ∷ passed_tokens passed) (no_del_one_target p.0) (no_del_passed passed)
+
+targets_clear : (tokens : List Token) → BeginsTargets tokens → has_del tokens ≡ false
+targets_clear tokens b = no_del_front tokens b.more (subst (λ (ts : List Token). has_del ts ≡ false) b.tokens_are (without (passed_tokens b.passed) (sum_tokens b.some) (no_del_passed b.passed) (no_del_sum b.some)))
+
+unread_for : (spot : Spot) (tokens : List Token) (t : Token) (fault : Fault) → BeginsTargets tokens → UnreadTargets 100 tokens t fault → UnreadLine (token (Keyword 17) spot ∷ tokens) t fault
+unread_for spot tokens t fault begun unread = unread_clear (token (Keyword 17) spot ∷ tokens) t fault (targets_clear tokens begun)
+    (λ at inside is passed s more same. unread.there passed s more (same ∙ ap (λ ts. ts ++ t ∷ more) (sym (same_behind (token (Keyword 17) spot) (token (Keyword 17) at) tokens inside is))))
+
+-- behind the whole target nothing that is read as targets goes on
+passes_target : (spot : Spot) (tokens rest : List Token) → TargetsEnd tokens rest → PassesFor (token (Keyword 17) spot ∷ tokens) rest
+passes_target spot tokens rest ends [] t behind fault first at inside is passed s more same =
+    absurd (ends.none t more first passed s (same ∙ ap (λ ts. ts ++ t ∷ more) (sym (same_behind (token (Keyword 17) spot) (token (Keyword 17) at) (tokens ++ []) inside is)) ∙ append_assoc tokens [] (t ∷ more)))
+passes_target spot tokens rest ends (u ∷ us) t behind fault first at inside is passed s more same =
+    absurd (ends.none u (us ++ t ∷ more) first passed s (same ∙ ap (λ ts. ts ++ t ∷ more) (sym (same_behind (token (Keyword 17) spot) (token (Keyword 17) at) (tokens ++ u ∷ us) inside is)) ∙ append_assoc tokens (u ∷ us) (t ∷ more)))
+
+-- nor behind its `in`
+none_behind_in : (spot at in_at : Spot) (tokens rest behind inside : List Token) → TargetsEnd tokens rest → first_token (token (Keyword 22) in_at ∷ behind) ≡ first_token rest
+    → token (Keyword 17) spot ∷ (tokens ++ token (Keyword 22) in_at ∷ behind) ≡ token (Keyword 17) at ∷ inside → (passed : List (OneTarget × Spot)) (s : Sum) (more : List Token) → passed_tokens passed ++ sum_tokens s ≡ inside ++ more → ⊥
+none_behind_in spot at in_at tokens rest behind inside ends first is passed s more same = ends.none (token (Keyword 22) in_at) (behind ++ more) first passed s
+    (same ∙ ap (λ ts. ts ++ more) (sym (same_behind (token (Keyword 17) spot) (token (Keyword 17) at) (tokens ++ token (Keyword 22) in_at ∷ behind) inside is)) ∙ append_assoc tokens (token (Keyword 22) in_at ∷ behind) more)
+
+passes_in : (spot in_at : Spot) (tokens rest behind : List Token) → TargetsEnd tokens rest → first_token (token (Keyword 22) in_at ∷ behind) ≡ first_token rest → PassesFor ((token (Keyword 17) spot ∷ tokens) ++ token (Keyword 22) in_at ∷ []) behind
+passes_in spot in_at tokens rest behind ends first us t left fault next at inside is passed s more same =
+    absurd (none_behind_in spot at in_at tokens rest us inside ends first (sym (append_assoc (token (Keyword 17) spot ∷ tokens) (token (Keyword 22) in_at ∷ []) us) ∙ is) passed s (t ∷ more) same)
 
 -- ---- the target is refused
 
 module _ (c : Context) (given : List (List ℕ)) (limit : Option Limit) (spot : Spot) (before : List Token) where
-  shown_for : (fault : Fault) → ShownBy (BeginsThen target_part) (followed_tokens target_part) (λ fault w. IsDeep (Here fault) 100 (target_lies w.part)) before fault
-      → ShownBy BeginsHead head_tokens (λ fault h. IsAmissHead c given limit (Here fault) h) (token (Keyword 17) spot ∷ before) fault
+  shown_for : (fault : Fault) → ShownBy BeginsTargets (IsAheadOfTargets 100) (followed_tokens target_part) (λ fault w. IsDeep (Here fault) 100 (target_lies w.part)) before fault
+      → ShownBy BeginsHead (IsAheadOnLine limit) head_tokens (λ fault h. IsAmissHead c given limit (Here fault) h) (token (Keyword 17) spot ∷ before) fault
   shown_for fault s = record {
     front = token (Keyword 17) spot ∷ s.front;
     shown_by = s.shown_by;
@@ -115,12 +146,13 @@ module _ (c : Context) (given : List (List ℕ)) (limit : Option Limit) (spot : 
     before_is = ap (λ ts. token (Keyword 17) spot ∷ ts) s.before_is;
     left_is = s.left_is;
     begun = for_begins spot s.front s.begun;
+    goes_on = (goes_for limit spot s.front s.shown_by fault s.goes_on.0, unread_for spot s.front s.shown_by fault s.begun s.goes_on.1);
     none = λ h more is.
         let f = for_there spot h (s.front ++ s.shown_by ∷ more) is in
         for_amiss c given limit (Here fault) (target_lies f.part.part) h (s.none f.part more f.tokens_are) f.higher;
   }
 
-  ended_for : (stop : Stop) → EndedBy (BeginsThen target_part) (followed_tokens target_part) (λ w. IsDeep stop 100 (target_lies w.part)) before → EndedBy BeginsHead head_tokens (IsAmissHead c given limit stop) (token (Keyword 17) spot ∷ before)
+  ended_for : (stop : Stop) → EndedBy BeginsTargets (followed_tokens target_part) (λ w. IsDeep stop 100 (target_lies w.part)) before → EndedBy BeginsHead head_tokens (IsAmissHead c given limit stop) (token (Keyword 17) spot ∷ before)
   ended_for stop e = record {
     begun = for_begins spot before e.begun;
     none = λ h is. let f = for_there spot h before is in for_amiss c given limit stop (target_lies f.part.part) h (e.none f.part f.tokens_are) f.higher;
@@ -148,13 +180,14 @@ for_turns spot next = record {
 in_turns : {tree : _} {before middle : List Token} (spot : Spot) → (t : Took target_part target_tree before tree middle) → HeadTurns (one_keyword 22) (token (Keyword 17) spot ∷ target_tokens t.written) middle (λ n. for_in spot t.written (n + t.is_read.steps))
 in_turns {before = before} {middle = middle} spot t = turns_on target_part (one_keyword 22) (token (Keyword 17) spot ∷ []) before middle (for_target_of spot) 0 (for_in spot t.written) t.written (for_turns spot before) t.is_read t.before_is (λ n more first. refl)
 
-pub for_in_refused : (c : Context) (tree : _) (before middle : List Token) (stop : Stop) → Took target_part target_tree before tree middle → Refused (one_keyword 22) 0 middle stop → OpeningRefused c 17 before stop
-for_in_refused c tree before middle stop t is = record {
+pub for_in_refused : (c : Context) (tree : _) (before middle : List Token) (stop : Stop) → TargetFound before tree middle → Refused (one_keyword 22) 0 middle stop → OpeningRefused c 17 before stop
+for_in_refused c tree before middle stop found is = record {
   there = λ given limit spot.
+      let t = found.took in
       refused_part_head c given limit (one_keyword 22) 0 (token (Keyword 17) spot ∷ target_tokens t.written) middle (token (Keyword 17) spot ∷ before) stop (λ n. for_in spot t.written (n + t.is_read.steps))
       (ap (λ ts. token (Keyword 17) spot ∷ ts) t.before_is)
-      (begins_part_head (one_keyword 22) (token (Keyword 17) spot ∷ target_tokens t.written) (λ b. for_head spot t.written b some_exprs some_spot None) (λ b. exprs_tokens some_exprs ++ colon_tokens some_spot None) (λ b. refl))
-      (in_turns spot t) (λ why n b left deep. absurd (not_deep why deep)) is;
+      (begins_part_head (one_keyword 22) (token (Keyword 17) spot ∷ target_tokens t.written) (λ b. for_head spot t.written b some_exprs some_spot None) (λ b. exprs_tokens some_exprs ++ colon_tokens some_spot None) (λ b. refl) (λ b. refl) (λ b. refl))
+      (passes_target spot (target_tokens t.written) middle found.ends) (in_turns spot t) (λ why n b left deep. absurd (not_deep why deep)) is;
 }
 
 abbrev in_read : (spot : Spot) (after : List Token) → IsRead (one_keyword 22) spot after
@@ -169,23 +202,25 @@ for_before : {tree : _} {before middle behind : List Token} {at : Pos} (spot : S
     → token (Keyword 17) spot ∷ before ≡ ((token (Keyword 17) spot ∷ target_tokens t.written) ++ token (Keyword 22) k.spot ∷ []) ++ behind
 for_before {behind = behind} spot t k = ap (λ ts. token (Keyword 17) spot ∷ ts) (t.before_is ∙ ap (λ ts. target_tokens t.written ++ ts) k.before_is) ∙ sym (append_assoc (token (Keyword 17) spot ∷ target_tokens t.written) (token (Keyword 22) k.spot ∷ []) behind)
 
-pub for_items_refused : (c : Context) (tree : _) (before middle behind : List Token) (at : Pos) (stop : Stop) → Took target_part target_tree before tree middle → Taken (Keyword 22) middle at behind → Refused exprs_part 100 behind stop → OpeningRefused c 17 before stop
-for_items_refused c tree before middle behind at stop t k is = record {
+pub for_items_refused : (c : Context) (tree : _) (before middle behind : List Token) (at : Pos) (stop : Stop) → TargetFound before tree middle → Taken (Keyword 22) middle at behind → Refused exprs_part 100 behind stop → OpeningRefused c 17 before stop
+for_items_refused c tree before middle behind at stop found k is = record {
   there = λ given limit spot.
+      let t = found.took in
       refused_part_head c given limit exprs_part 100 ((token (Keyword 17) spot ∷ target_tokens t.written) ++ token (Keyword 22) k.spot ∷ []) behind (token (Keyword 17) spot ∷ before) stop
       (λ n. for_exprs spot t.written k.spot ((n + 0) + t.is_read.steps)) (for_before spot t k)
       (begins_part_head exprs_part ((token (Keyword 17) spot ∷ target_tokens t.written) ++ token (Keyword 22) k.spot ∷ []) (λ e. for_head spot t.written k.spot e some_spot None) (λ e. colon_tokens some_spot None)
-      (λ e. sym (append_assoc (token (Keyword 17) spot ∷ target_tokens t.written) (token (Keyword 22) k.spot ∷ []) (exprs_tokens e ++ colon_tokens some_spot None))))
-      (items_turns spot t k)
+      (λ e. refl) (λ e. refl) (λ e. sym (append_assoc (token (Keyword 17) spot ∷ target_tokens t.written) (token (Keyword 22) k.spot ∷ []) (exprs_tokens e ++ colon_tokens some_spot None))))
+      (passes_in spot k.spot (target_tokens t.written) middle behind found.ends (sym (ap first_token k.before_is))) (items_turns spot t k)
       (λ why n e left deep. only_colon (λ h. IsDeep why 100 (head_lies h)) ((n + 0) + t.is_read.steps) (for_head spot t.written k.spot e) left (λ colon behind. items_deep why (target_lies t.written) (exprs_lies e) (behind_lies behind) deep)) is;
 }
   where
     items_deep : (why : Stop) (a b c : Pos → ℕ) → IsDeep why 100 b → IsDeep why 100 (λ at. max (max (a at) (b at)) (c at))
     items_deep why a b c deep = deep_beside_left why 100 (λ at. max (a at) (b at)) c (deep_beside_right why 100 a b deep)
 
-pub for_found : (c : Context) (target : TargetRead) (items : Part) (before middle behind after : List Token) (at : Pos) → Took target_part target_tree before (target_of target) middle → Taken (Keyword 22) middle at behind → FoundRow 100 behind items after
+pub for_found : (c : Context) (target : TargetRead) (items : Part) (before middle behind after : List Token) (at : Pos) → TargetFound before (target_of target) middle → Taken (Keyword 22) middle at behind → FoundRow 100 behind items after
     → OpeningFound c 17 before (For target items.expr) after
-for_found c target items before middle behind after at t k e spot =
+for_found c target items before middle behind after at found k e spot =
+    let t = found.took in
     let front : List Token = (token (Keyword 17) spot ∷ target_tokens t.written) ++ token (Keyword 22) k.spot ∷ [] in
     let reads : ColonReads (front ++ exprs_tokens e.written) after (for_head spot t.written k.spot e.written) =
     colon_on exprs_part front behind after (λ n. for_exprs spot t.written k.spot ((n + 0) + t.is_read.steps)) t.is_read.steps (for_head spot t.written k.spot e.written) e.written
@@ -201,6 +236,13 @@ for_found c target items before middle behind after at t k e spot =
       reads = reads.reads;
       what_is = λ colon behind_it. (t.value_is, e.tree_is);
       behind_is = λ colon behind_it. refl;
+      past = record {
+        no_del = λ opened del_at inside there. del_absent (front ++ exprs_tokens e.written) opened del_at inside
+            (clear_before (for_head spot t.written k.spot e.written some_spot None) (front ++ exprs_tokens e.written) (colon_tokens some_spot None) refl refl
+            (sym (append_assoc (token (Keyword 17) spot ∷ target_tokens t.written) (token (Keyword 22) k.spot ∷ []) (exprs_tokens e.written ++ colon_tokens some_spot None)) ∙ sym (append_assoc front (exprs_tokens e.written) (colon_tokens some_spot None)))) there;
+        no_for = λ for_at us inside there passed s more same. none_behind_in spot for_at k.spot (target_tokens t.written) middle (exprs_tokens e.written ++ us) inside found.ends (sym (ap first_token k.before_is))
+            (sym (append_assoc (token (Keyword 17) spot ∷ target_tokens t.written) (token (Keyword 22) k.spot ∷ []) (exprs_tokens e.written ++ us)) ∙ sym (append_assoc front (exprs_tokens e.written) us) ∙ there) passed s more same;
+      };
       depth = max (target_depth t.written) (exprs_depth e.written);
       low = let one = t.fits in let two = e.fits in let same = e.height_is in omega (arith, one, two, same);
       depth_is = λ colon behind_it. refl;

@@ -16,10 +16,10 @@ use Rattle.py_grammar.specs.declared.fault.Stop.{Stop}
 use Rattle.py_grammar.specs.declared.fault.Stop.TheVariants.{Here, End}
 use Rattle.py_grammar.specs.declared.part.Part.{Part}
 use Rattle.py_grammar.specs.declared.rows.Row.{Row}
-use Rattle.py_grammar.specs.Concrete.{Spot, Expr, plain_expr, plain_or, plain_and, plain_not, plain_cmp, Sum, plain_sum, plain_term, plain_unary}
-use Rattle.py_grammar.specs.Tokens.{token, expr_tokens, sum_tokens}
+use Rattle.py_grammar.specs.Concrete.{Spot, Sum}
+use Rattle.py_grammar.specs.Tokens.{token, sum_tokens}
 use Rattle.py_grammar.specs.Trees.{sum_tree}
-use Rattle.py_grammar.specs.Depth.{sum_depth, one_target_depth, target_rest_depth}
+use Rattle.py_grammar.specs.Depth.{one_target_depth, target_rest_depth}
 use Rattle.py_grammar.specs.Lies.{begins, sum_lies, one_target_lies, target_rest_lies, target_lies}
 use Rattle.py_grammar.proofs.Lying.{above_left, over_least, over_right}
 use Rattle.py_grammar.specs.Reader.{Read, go_on, next_level, kind_level, starts, begins_expr, is_sign, read_sign, read_sum}
@@ -28,52 +28,23 @@ use Rattle.py_grammar.specs.StatementTokens.{one_target_tokens, target_rest_toke
 use Rattle.py_grammar.specs.StatementTrees.{one_target_tree, target_rest_tree, target_tree}
 use Rattle.py_grammar.specs.StatementReader.{expr_target}
 use Rattle.py_grammar.specs.LineReader.{read_one_target, read_target_rest, target_rest_after, read_target}
-use Rattle.py_grammar.specs.Parsed.{Production, sum_part, is_form, IsDeep, Only, Finds, Begins, Shown, Refused, Found, Taken, is_sign_next, IsAtFirst, IsTooDeep}
+use Rattle.py_grammar.specs.Parsed.{Production, sum_part, is_form, ShowsAt, GoesOn, IsDeep, Only, Finds, Begins, Shown, Refused, Found, Taken, is_sign_next, IsAtFirst, IsTooDeep}
 use Rattle.py_grammar.specs.ParsedRows.{first_token}
 use Rattle.py_grammar.specs.ParsedSimple.{target_form, targets_form, all_target_form}
-use Rattle.py_grammar.specs.ParsedHead.{Took, target_part, ShownBy, EndedBy}
-use Rattle.py_grammar.specs.ParsedNames.{target_rest_part, Followed, followed_tokens, BeginsThen, TargetsRefused, ItemFound, WrongItem, ItemRefused, FoundTargets}
+use Rattle.py_grammar.specs.ParsedHead.{Took, target_part, passed_tokens, BeginsTargets, UnreadTargets, ShownBy, EndedBy}
+use Rattle.py_grammar.specs.ParsedNames.{target_rest_part, Followed, followed_tokens, GoesOnTargets, IsAheadOfTargets, TargetsRefused, TargetFound, TargetsEnd, ItemFound, WrongItem, ItemRefused, FoundTargets}
 use Rattle.py_grammar.proofs.Leading.{Reads}
-use Rattle.py_grammar.proofs.Reading.{if_false, sum_leads, sum_stops}
+use Rattle.py_grammar.proofs.Reading.{if_false}
 use Rattle.py_grammar.proofs.Refusals.{deeper, max_below}
 use Rattle.py_grammar.proofs.Stops.{some_spot, shows_on_line}
 use Rattle.py_grammar.proofs.TargetForms.{target_spelled, target_deep, target_lies_so, target_tree_is}
-use Rattle.py_grammar.proofs.SimpleReading.{target_expr}
 use Rattle.py_grammar.proofs.PrimParts.{go_on_once}
 use Rattle.py_grammar.proofs.RowParts.{more_steps, sign_first, no_start}
-use Rattle.py_grammar.proofs.HeadReading.{ReadsTargets, target_prim, one_target_reads, target_rest_reads, begins_target}
+use Rattle.py_grammar.proofs.HeadReading.{ReadsTargets, one_target_reads, target_rest_reads, begins_target}
+use Rattle.py_grammar.proofs.TargetSums.{lift, target_sum, sum_spells, sum_lies_so, sum_form, sum_reads, same_sum, same_target, Unread, unread_sum, unread_wrong, unread_one, unread_passed, unread_full, ends_one, ends_none}
 use Rattle.py_grammar.proofs.HeadParts.{first_same, first_shown, level_same, starts_same}
 
--- ---- a target is read as a sum
-
-abbrev lift : Sum → Expr
-lift s = plain_expr (plain_or (plain_and (plain_not (plain_cmp s))))
-
-abbrev target_sum : OneTarget → Sum
-target_sum t = plain_sum (plain_term (plain_unary (target_prim t)))
-
-sum_spells : (t : OneTarget) → one_target_tokens t ≡ sum_tokens (target_sum t)
-sum_spells (named at bytes) = refl
-sum_spells (item p opening index closing) = refl
-sum_spells (field p dot name_at bytes) = refl
-
-sum_deep : (t : OneTarget) → sum_depth (target_sum t) ≡ one_target_depth t
-sum_deep (named at bytes) = refl
-sum_deep (item p opening index closing) = refl
-sum_deep (field p dot name_at bytes) = refl
-
-sum_lies_so : (t : OneTarget) (at : Pos) → sum_lies (target_sum t) at ≡ one_target_lies t at
-sum_lies_so (named spot bytes) at = refl
-sum_lies_so (item p opening index closing) at = refl
-sum_lies_so (field p dot name_at bytes) at = refl
-
-sum_form : (t : OneTarget) → is_form (expr_target (lift (target_sum t))) ≡ true
-sum_form (named at bytes) = refl
-sum_form (item p opening index closing) = refl
-sum_form (field p dot name_at bytes) = refl
-
-sum_reads : (s : Sum) → Reads read_sum 3 (sum_tokens s) s
-sum_reads s = sum_stops s (sum_leads s)
+-- ---- a target was read
 
 a_form : (o : Option OneTarget) → is_form o ≡ true → (t : OneTarget) × (o ≡ Some t)
 a_form None is = absurd (let no : false ≡ true = is in cc)
@@ -97,26 +68,6 @@ item_unread room before stop is = record { why = inl is }
 
 pub item_wrong : (room : ℕ) (before after : List Token) (part : Part) (stop : Stop) → Found sum_part sum_tree 3 room before part after → is_none part.wrong ≡ false → IsAtFirst after stop → ItemRefused room before stop
 item_wrong room before after part stop f other first = record { why = inr (record { part = part; after = after; stop_is = first; found = f; form = other }) }
-
--- two readings of the same tokens
-same_read : {A : Type 0} (a b : A) (x y : List Token) (p : A × List Token) (q : A × List Token) → p ≡ (a, x) → q ≡ (b, y) → p ≡ q → (a ≡ b) × (x ≡ y)
-same_read a b x y p q one other is = (ap (λ (v : _ × List Token). v.0) (sym one ∙ is ∙ other), ap (λ (v : _ × List Token). v.1) (sym one ∙ is ∙ other))
-
-same_sum : (s r : Sum) (a b : List Token) → 3 < next_level a → 3 < next_level b → sum_tokens s ++ a ≡ sum_tokens r ++ b → (s ≡ r) × (a ≡ b)
-same_sum s r a b above high is =
-    let one = sum_reads s in
-    let other = sum_reads r in
-    let both : Some (s, a) ≡ Some (r, b) =
-    sym (one.reads other.steps a above) ∙ more_steps (λ n. read_sum n (sum_tokens s ++ a)) (other.steps + one.steps) (one.steps + other.steps) (omega arith) ∙ ap (read_sum (one.steps + other.steps)) is ∙ other.reads one.steps b high in
-    same_read s r a b (s, a) (r, b) refl refl (same_Some _ _ both)
-
-same_target : (t u : OneTarget) (a b : List Token) → 1 < next_level a → 1 < next_level b → one_target_tokens t ++ a ≡ one_target_tokens u ++ b → (t ≡ u) × (a ≡ b)
-same_target t u a b above high is =
-    let one = one_target_reads t in
-    let other = one_target_reads u in
-    let both : Some (t, a) ≡ Some (u, b) =
-    sym (one.reads other.steps a above) ∙ more_steps (λ n. read_one_target n (one_target_tokens t ++ a)) (other.steps + one.steps) (one.steps + other.steps) (omega arith) ∙ ap (read_one_target (one.steps + other.steps)) is ∙ other.reads one.steps b high in
-    same_read t u a b (t, a) (u, b) refl refl (same_Some _ _ both)
 
 -- ---- how a target is refused where one stands
 
@@ -143,25 +94,39 @@ no_target s lies rest more other above is i =
     let no : true ≡ false = sym (sum_form i.target) ∙ ap (λ s. is_form (expr_target (lift s))) (sym same.0) ∙ other in
     cc
 
-begins_sum : {A : Type 0} (p : Production A) (front tokens : List Token) → Begins p front → Begins sum_part tokens → BeginsThen p (front ++ tokens)
-begins_sum p front tokens opens b = record {
-  opened = front;
-  begins = opens;
-  some = lift b.some;
+begins_sum : (passed : List (OneTarget × Spot)) (front tokens : List Token) → passed_tokens passed ≡ front → Begins sum_part tokens → BeginsTargets (front ++ tokens)
+begins_sum passed front tokens is b = record {
+  passed = passed;
+  some = b.some;
   more = b.more;
-  tokens_are = ap (λ ts. front ++ ts) b.tokens_are ∙ sym (append_assoc front tokens b.more);
+  tokens_are = ap (λ ts. ts ++ sum_tokens b.some) is ∙ ap (λ ts. front ++ ts) b.tokens_are ∙ sym (append_assoc front tokens b.more);
 }
 
-module _ {A : Type 0} (p : Production A) (room : ℕ) (front rest before : List Token) (before_is : before ≡ front ++ rest) (opens : Begins p front)
+goes_sum : (passed : List (OneTarget × Spot)) (front tokens : List Token) (t : Token) (behind : List Token) (fault : Fault) → passed_tokens passed ≡ front → ShowsAt behind fault → GoesOn (Begins sum_part) tokens t fault → GoesOnTargets (front ++ tokens) t fault
+goes_sum passed front tokens t behind (TooDeep at) is shows b = subst BeginsTargets (sym (append_assoc front tokens (t ∷ []))) (begins_sum passed front (tokens ++ t ∷ []) is b)
+goes_sum passed front tokens t behind (Unexpected left) is shows goes = tt
+goes_sum passed front tokens t behind (TooMany at) is shows goes = absurd shows
+goes_sum passed front tokens t behind Memory is shows goes = tt
+
+module _ {A : Type 0} (p : Production A) (room : ℕ) (front rest before : List Token) (before_is : before ≡ front ++ rest) (passed : List (OneTarget × Spot)) (passed_is : passed_tokens passed ≡ front) (low : 99 ≤ room)
     (there : (w : Followed A) (more : List Token) → followed_tokens p w ≡ front ++ more → first_token more ≡ first_token rest → ItemThere (p.lies w.part) more) where
-  shown_item : (fault : Fault) → Shown sum_part room rest fault → ShownBy (BeginsThen p) (followed_tokens p) (λ fault w. IsDeep (Here fault) room (p.lies w.part)) before fault
+  unread_there : (tokens : List Token) (t : Token) (fault : Fault) → ((more : List Token) → Unread (Here fault) room (tokens ++ t ∷ more)) → UnreadTargets room (front ++ tokens) t fault
+  unread_there tokens t fault unread = record {
+    there = λ ps s more is. unread_passed (Here fault) room passed (tokens ++ t ∷ more) low (unread more) ps s (is ∙ append_assoc front tokens (t ∷ more) ∙ ap (λ ts. ts ++ (tokens ++ t ∷ more)) (sym passed_is));
+  }
+
+  shown_item : (fault : Fault) → Shown sum_part room rest fault → ShownBy BeginsTargets (IsAheadOfTargets room) (followed_tokens p) (λ fault w. IsDeep (Here fault) room (p.lies w.part)) before fault
   shown_item fault s = record {
     front = front ++ s.front;
     shown_by = s.shown_by;
     behind = s.behind;
     before_is = before_is ∙ ap (λ ts. front ++ ts) s.before_is ∙ sym (append_assoc front s.front (s.shown_by ∷ s.behind));
     left_is = shows_on_line s.shown_by s.behind fault s.left_is;
-    begun = begins_sum p front s.front opens s.begins;
+    begun = begins_sum passed front s.front passed_is s.begins;
+    goes_on = (
+      goes_sum passed front s.front s.shown_by s.behind fault passed_is s.left_is s.goes_on,
+      unread_there s.front s.shown_by fault (λ more. unread_sum (Here fault) room (s.front ++ s.shown_by ∷ more) low (s.none more)),
+    );
     none = λ w more is. found_deep (Here fault) room (p.lies w.part) (s.front ++ s.shown_by ∷ more) (s.none more)
         (there w (s.front ++ s.shown_by ∷ more) (is ∙ append_assoc front s.front (s.shown_by ∷ more)) (first_shown s.front s.shown_by more s.behind ∙ sym (ap first_token s.before_is)));
   }
@@ -172,14 +137,14 @@ module _ {A : Type 0} (p : Production A) (room : ℕ) (front rest before : List 
   read_refused (Here (TooDeep at)) is = shown_item (TooDeep at) is
   read_refused (Here (TooMany at)) is = absurd is.left_is
   read_refused End is = record {
-    begun = subst (BeginsThen p) (sym before_is) (begins_sum p front rest opens is.0);
+    begun = subst BeginsTargets (sym before_is) (begins_sum passed front rest passed_is is.0);
     none = λ w same. found_deep End room (p.lies w.part) rest is.1 (there w rest (same ∙ before_is) refl);
   }
 
   wrong_at : (part : Part) (after : List Token) → (f : Found sum_part sum_tree 3 room rest part after) → is_none part.wrong ≡ false → (ts : List Token) (stop : Stop) → after ≡ ts → IsAtFirst ts stop → TargetsRefused p room before stop
   wrong_at part after f other [] (Here fault) is first = absurd (let no : Here fault ≡ End = first in cc)
   wrong_at part after f other [] End is first = record {
-    begun = subst (BeginsThen p) (sym (before_is ∙ ap (λ ts. front ++ ts) f.before_is)) (begins_sum p front (sum_tokens f.written ++ after) opens
+    begun = subst BeginsTargets (sym (before_is ∙ ap (λ ts. front ++ ts) f.before_is)) (begins_sum passed front (sum_tokens f.written ++ after) passed_is
         (record { some = f.written; more = []; tokens_are = sym (append-nil (sum_tokens f.written ++ after) ∙ ap (λ ts. sum_tokens f.written ++ ts) is ∙ append-nil (sum_tokens f.written)) }));
     none = λ w same. absurd (no_target f.written (p.lies w.part) after rest (sym f.form_is ∙ other) f.beyond (sym f.before_is) (there w rest (same ∙ before_is) refl));
   }
@@ -189,7 +154,8 @@ module _ {A : Type 0} (p : Production A) (room : ℕ) (front rest before : List 
     behind = ts;
     before_is = before_is ∙ ap (λ ts. front ++ ts) (f.before_is ∙ ap (λ ts. sum_tokens f.written ++ ts) is) ∙ sym (append_assoc front (sum_tokens f.written) (t ∷ ts));
     left_is = first;
-    begun = begins_sum p front (sum_tokens f.written) opens (record { some = f.written; more = []; tokens_are = sym (append-nil (sum_tokens f.written)) });
+    begun = begins_sum passed front (sum_tokens f.written) passed_is (record { some = f.written; more = []; tokens_are = sym (append-nil (sum_tokens f.written)) });
+    goes_on = (tt, unread_there (sum_tokens f.written) t (Unexpected left) (λ more. unread_wrong (Here (Unexpected left)) room f.written t more (sym f.form_is ∙ other) (subst (λ (ts : List Token). 3 < next_level ts) is f.beyond)));
     none = λ w more same. absurd (no_target f.written (p.lies w.part) (t ∷ more) (sum_tokens f.written ++ t ∷ more) (sym f.form_is ∙ other) (subst (λ (ts : List Token). 3 < next_level ts) is f.beyond) refl
         (there w (sum_tokens f.written ++ t ∷ more) (same ∙ append_assoc front (sum_tokens f.written) (t ∷ more))
         (first_shown (sum_tokens f.written) t more ts ∙ sym (ap first_token (f.before_is ∙ ap (λ ts. sum_tokens f.written ++ ts) is)))));
@@ -214,9 +180,16 @@ pub record Inner {B : Type 0} (q : Production B) (inner room : ℕ) (lies : Pos 
   pub tokens_are : followed_tokens q part ≡ more
   pub higher : (at : Pos) → 1 ≤ q.lies part.part at → room + q.lies part.part at ≤ inner + lies at
 
-module _ {A B : Type 0} (p : Production A) (room : ℕ) (q : Production B) (inner : ℕ) (front rest before : List Token) (before_is : before ≡ front ++ rest) (opens : (ts : List Token) → BeginsThen q ts → BeginsThen p (front ++ ts))
+module _ {A B : Type 0} (p : Production A) (room : ℕ) (q : Production B) (inner : ℕ) (front rest before : List Token) (before_is : before ≡ front ++ rest) (opens : (ts : List Token) → BeginsTargets ts → BeginsTargets (front ++ ts))
+    (unread : (ts : List Token) (t : Token) (fault : Fault) → UnreadTargets inner ts t fault → UnreadTargets room (front ++ ts) t fault)
     (there : (w : Followed A) (more : List Token) → followed_tokens p w ≡ front ++ more → Inner q inner room (p.lies w.part) more) where
-  shown_rest : (fault : Fault) → ShownBy (BeginsThen q) (followed_tokens q) (λ fault w. IsDeep (Here fault) inner (q.lies w.part)) rest fault → ShownBy (BeginsThen p) (followed_tokens p) (λ fault w. IsDeep (Here fault) room (p.lies w.part)) before fault
+  goes_rest : (tokens : List Token) (t : Token) (fault : Fault) → GoesOnTargets tokens t fault → GoesOnTargets (front ++ tokens) t fault
+  goes_rest tokens t (TooDeep at) b = subst BeginsTargets (sym (append_assoc front tokens (t ∷ []))) (opens (tokens ++ t ∷ []) b)
+  goes_rest tokens t (TooMany at) goes = goes
+  goes_rest tokens t (Unexpected left) goes = tt
+  goes_rest tokens t Memory goes = tt
+
+  shown_rest : (fault : Fault) → ShownBy BeginsTargets (IsAheadOfTargets inner) (followed_tokens q) (λ fault w. IsDeep (Here fault) inner (q.lies w.part)) rest fault → ShownBy BeginsTargets (IsAheadOfTargets room) (followed_tokens p) (λ fault w. IsDeep (Here fault) room (p.lies w.part)) before fault
   shown_rest fault s = record {
     front = front ++ s.front;
     shown_by = s.shown_by;
@@ -224,14 +197,15 @@ module _ {A B : Type 0} (p : Production A) (room : ℕ) (q : Production B) (inne
     before_is = before_is ∙ ap (λ ts. front ++ ts) s.before_is ∙ sym (append_assoc front s.front (s.shown_by ∷ s.behind));
     left_is = s.left_is;
     begun = opens s.front s.begun;
+    goes_on = (goes_rest s.front s.shown_by fault s.goes_on.0, unread s.front s.shown_by fault s.goes_on.1);
     none = λ w more is.
         let i = there w (s.front ++ s.shown_by ∷ more) (is ∙ append_assoc front s.front (s.shown_by ∷ more)) in
         deeper (Here fault) inner (q.lies i.part.part) room (p.lies w.part) (s.none i.part more i.tokens_are) i.higher;
   }
 
-  ended_rest : (stop : Stop) → EndedBy (BeginsThen q) (followed_tokens q) (λ w. IsDeep stop inner (q.lies w.part)) rest → EndedBy (BeginsThen p) (followed_tokens p) (λ w. IsDeep stop room (p.lies w.part)) before
+  ended_rest : (stop : Stop) → EndedBy BeginsTargets (followed_tokens q) (λ w. IsDeep stop inner (q.lies w.part)) rest → EndedBy BeginsTargets (followed_tokens p) (λ w. IsDeep stop room (p.lies w.part)) before
   ended_rest stop e = record {
-    begun = subst (BeginsThen p) (sym before_is) (opens rest e.begun);
+    begun = subst BeginsTargets (sym before_is) (opens rest e.begun);
     none = λ w is.
         let i = there w rest (is ∙ before_is) in
         deeper stop inner (q.lies i.part.part) room (p.lies w.part) (e.none i.part i.tokens_are) i.higher;
@@ -260,12 +234,9 @@ first_there w more is = by w.part is
       higher = λ at. let high = le-max_left (one_target_lies t at) (target_rest_lies r at) in let more_deep = over_least (begins (one_target_tokens t) at) (max (one_target_lies t at) (target_rest_lies r at)) in omega (arith, high, more_deep);
     }
 
-begins_first : Begins target_part []
-begins_first = record { some = one_target some_target; more = one_target_tokens some_target; tokens_are = refl }
-
 -- the first target is refused
 pub first_refused : (before : List Token) (stop : Stop) → ItemRefused 100 before stop → TargetsRefused target_part 100 before stop
-first_refused before stop is = item_refused target_part 100 [] before before refl begins_first (λ w more same first. first_there w more same) stop is
+first_refused before stop is = item_refused target_part 100 [] before before refl [] refl (omega arith) (λ w more same first. first_there w more same) stop is
 
 -- behind a target and a comma several are written
 record Several (w : Followed Target) (t : OneTarget) (more : List Token) : Type 0 where
@@ -311,7 +282,11 @@ first_full before middle behind at first (Here (TooDeep place)) f k deep = recor
   behind = behind;
   before_is = f.before_is ∙ ap (λ ts. one_target_tokens f.target ++ ts) k.before_is;
   left_is = tt;
-  begun = record { opened = one_target_tokens f.target; begins = record { some = one_target f.target; more = []; tokens_are = sym (append-nil (one_target_tokens f.target)) }; some = target_expr some_target; more = expr_tokens (target_expr some_target); tokens_are = refl };
+  begun = record { passed = []; some = target_sum f.target; more = []; tokens_are = sym (sum_spells f.target) ∙ sym (append-nil (one_target_tokens f.target)) };
+  goes_on = (
+    record { passed = (f.target, k.spot) ∷ []; some = target_sum some_target; more = sum_tokens (target_sum some_target); tokens_are = refl },
+    record { there = λ passed s more is. unread_full 100 place f.target k.spot more (first_deep place deep.0 deep.1) passed s is },
+  );
   none = λ w more is.
       let s = several_there w f.target k.spot more is in
       let there : target_lies w.part place ≡ target_lies (several_targets f.target s.comma s.rest) place = ap (λ t. target_lies t place) s.part_is in
@@ -320,6 +295,9 @@ first_full before middle behind at first (Here (TooDeep place)) f k deep = recor
       let more_deep = above_left (begins (one_target_tokens f.target) first.deepest) (one_target_lies f.target first.deepest) (target_rest_lies s.rest first.deepest) first.height (one_target_depth f.target) f.height_is f.deepest_is (some_target_depth f.target) in
       omega (arith, low, there, same, more_deep);
 }
+  where
+    first_deep : (place : Pos) → 100 ≤ first.height → place ≡ first.deepest → 99 < one_target_lies f.target place
+    first_deep place low same = let there = ap (one_target_lies f.target) same in let high = f.height_is in let deepest = f.deepest_is in omega (arith, low, there, high, deepest)
 first_full before middle behind at first (Here (Unexpected place)) f k deep = absurd deep
 first_full before middle behind at first (Here (TooMany place)) f k deep = absurd deep
 first_full before middle behind at first (Here Memory) f k deep = absurd deep
@@ -334,17 +312,15 @@ others_refused before middle behind at first stop f k is =
     rest_refused target_part 100 target_rest_part 99 (one_target_tokens f.target ++ token (Sign 6) k.spot ∷ []) behind before
     (f.before_is ∙ ap (λ ts. one_target_tokens f.target ++ ts) k.before_is ∙ sym (comma_behind (one_target_tokens f.target) (token (Sign 6) k.spot) behind))
     (λ ts b. record {
-      opened = (one_target_tokens f.target ++ token (Sign 6) k.spot ∷ []) ++ b.opened;
-      begins = record {
-        some = several_targets f.target k.spot b.begins.some;
-        more = b.begins.more;
-        tokens_are = ap (λ ts. one_target_tokens f.target ++ token (Sign 6) k.spot ∷ ts) b.begins.tokens_are
-            ∙ sym (comma_behind (one_target_tokens f.target) (token (Sign 6) k.spot) (b.opened ++ b.begins.more)) ∙ sym (append_assoc (one_target_tokens f.target ++ token (Sign 6) k.spot ∷ []) b.opened b.begins.more);
-      };
+      passed = (f.target, k.spot) ∷ b.passed;
       some = b.some;
       more = b.more;
-      tokens_are = append_assoc (one_target_tokens f.target ++ token (Sign 6) k.spot ∷ []) b.opened (expr_tokens b.some) ∙ ap (λ ts. (one_target_tokens f.target ++ token (Sign 6) k.spot ∷ []) ++ ts) b.tokens_are
-          ∙ sym (append_assoc (one_target_tokens f.target ++ token (Sign 6) k.spot ∷ []) ts b.more);
+      tokens_are = append_assoc (one_target_tokens f.target) (token (Sign 6) k.spot ∷ passed_tokens b.passed) (sum_tokens b.some) ∙ ap (λ ts. one_target_tokens f.target ++ token (Sign 6) k.spot ∷ ts) b.tokens_are
+          ∙ sym (comma_behind (one_target_tokens f.target) (token (Sign 6) k.spot) (ts ++ b.more)) ∙ sym (append_assoc (one_target_tokens f.target ++ token (Sign 6) k.spot ∷ []) ts b.more);
+    })
+    (λ ts t fault u. record {
+      there = λ passed s more same. unread_one (Here fault) 99 100 f.target k.spot (ts ++ t ∷ more) (omega arith) (λ ps s is. u.there ps s more is) passed s
+          (same ∙ append_assoc (one_target_tokens f.target ++ token (Sign 6) k.spot ∷ []) ts (t ∷ more) ∙ comma_behind (one_target_tokens f.target) (token (Sign 6) k.spot) (ts ++ t ∷ more));
     })
     (λ w more same.
     let s = several_there w f.target k.spot more (same ∙ comma_behind (one_target_tokens f.target) (token (Sign 6) k.spot) more) in
@@ -366,6 +342,8 @@ pub record TargetsGo (room : ℕ) (before : List Token) (old : Row) (after : Lis
   pub front : List Token
   pub before_is : before ≡ front ++ after
   pub tokens_are : (r : TargetRest) → target_rest_tokens (put r) ≡ front ++ target_rest_tokens r
+  pub passed : List (OneTarget × Spot)
+  pub passed_is : passed_tokens passed ≡ front
   pub trees : List ExprTree
   pub row_is : map expr_of row.list.items ≡ map expr_of old.list.items ++ trees
   pub forms : (es : List ExprTree) (r : TargetRest) → targets_form (exprs_list es) ≡ Some (target_rest_tree r) → targets_form (exprs_list (trees ++ es)) ≡ Some (target_rest_tree (put r))
@@ -389,6 +367,8 @@ targets_init room before row fits = record {
   front = [];
   before_is = refl;
   tokens_are = λ r. refl;
+  passed = [];
+  passed_is = refl;
   trees = [];
   row_is = sym (append-nil (map expr_of row.list.items));
   forms = λ es r is. is;
@@ -449,6 +429,10 @@ targets_lead put front steps behind leads t comma is n tail =
     ∙ go_on_once (read_target_rest ((n + behind) + is.steps) tail) (more_target t comma) (λ r rest. Some (put r, rest))
     ∙ more_steps (λ k. go_on (read_target_rest k tail) (λ r rest. Some (put (more_target t comma r), rest))) ((n + behind) + is.steps) (n + (behind + is.steps)) (omega arith)
 
+one_passed : (passed : List (OneTarget × Spot)) (t : OneTarget) (comma : Spot) → passed_tokens (passed ++ (t, comma) ∷ []) ≡ passed_tokens passed ++ (one_target_tokens t ++ token (Sign 6) comma ∷ [])
+one_passed [] t comma = refl
+one_passed (p ∷ passed) t comma = ap (λ ts. one_target_tokens p.0 ++ token (Sign 6) p.1 ∷ ts) (one_passed passed t comma) ∙ sym (append_assoc (one_target_tokens p.0) (token (Sign 6) p.1 ∷ passed_tokens passed) (one_target_tokens t ++ token (Sign 6) comma ∷ []))
+
 pub targets_next : (room : ℕ) (before after middle behind : List Token) (at : Pos) (old row row_2 : Row) (part : Part) → TargetsGo room before old after row → ItemFound room after part middle
     → Taken (Sign 6) middle at behind → row_2.list.items ≡ row.list.items ++ part.expr ∷ [] → row_2.height ≡ max row.height part.height → TargetsGo room before old behind row_2
 targets_next room before after middle behind at old row row_2 part g f k items_are higher = record {
@@ -456,6 +440,8 @@ targets_next room before after middle behind at old row row_2 part g f k items_a
   front = g.front ++ (one_target_tokens f.target ++ token (Sign 6) k.spot ∷ []);
   before_is = g.before_is ∙ ap (λ ts. g.front ++ ts) (f.before_is ∙ ap (λ ts. one_target_tokens f.target ++ ts) k.before_is) ∙ behind_comma g.front (one_target_tokens f.target) (token (Sign 6) k.spot) behind;
   tokens_are = λ r. g.tokens_are (more_target f.target k.spot r) ∙ behind_comma g.front (one_target_tokens f.target) (token (Sign 6) k.spot) (target_rest_tokens r);
+  passed = g.passed ++ (f.target, k.spot) ∷ [];
+  passed_is = one_passed g.passed f.target k.spot ∙ ap (λ ts. ts ++ (one_target_tokens f.target ++ token (Sign 6) k.spot ∷ [])) g.passed_is;
   trees = g.trees ++ expr_of part.expr ∷ [];
   row_is = pushed_trees row.list.items row_2.list.items part.expr (map expr_of old.list.items) g.trees items_are g.row_is;
   forms = λ es r is. ap (λ xs. targets_form (exprs_list xs)) (append_assoc g.trees (expr_of part.expr ∷ []) es)
@@ -527,6 +513,11 @@ targets_last room before after middle old row row_2 part g f other items_are hig
         ∙ ap (λ r. go_on r (λ r rest. Some (g.put r, rest)))
         (last_step f.target (n + g.behind) more is (let level = level_same more middle first in let high = f.beyond in omega (arith, level, high)) (no_comma more (sign_first 6 middle more (first_same more middle first) ∙ other)));
   };
+  ends = record {
+    none = λ t more first passed s is. unread_passed End 99 g.passed (one_target_tokens f.target ++ t ∷ more) (omega arith)
+        (ends_one f.target t more (let level = level_same (t ∷ more) middle first in let high = f.beyond in omega (arith, level, high)) (sign_first 6 middle (t ∷ more) (first_same (t ∷ more) middle first) ∙ other)) passed s
+        (is ∙ ap (λ ts. ts ++ t ∷ more) (g.tokens_are (last_target f.target)) ∙ append_assoc g.front (one_target_tokens f.target) (t ∷ more) ∙ ap (λ ts. ts ++ (one_target_tokens f.target ++ t ∷ more)) (sym g.passed_is));
+  };
 }
 
 end_step : (m : ℕ) (more : List Token) → starts more ≡ 0 → read_target_rest (suc m) more ≡ Some (end_rest_target, more)
@@ -549,6 +540,10 @@ targets_end room before after old row g other = record {
         ∙ g.leads (n + 1) more
         ∙ more_steps (λ k. go_on (read_target_rest k more) (λ r rest. Some (g.put r, rest))) ((n + 1) + g.behind) (suc (n + g.behind)) (omega arith)
         ∙ ap (λ r. go_on r (λ r rest. Some (g.put r, rest))) (end_step (n + g.behind) more (starts_same more after first ∙ no_start after other));
+  };
+  ends = record {
+    none = λ t more first passed s is. unread_passed End 99 g.passed (t ∷ more) (omega arith) (ends_none (t ∷ more) (starts_same (t ∷ more) after first ∙ no_start after other)) passed s
+        (is ∙ ap (λ ts. ts ++ t ∷ more) (g.tokens_are end_rest_target ∙ append-nil g.front ∙ sym g.passed_is));
   };
 }
   where
@@ -615,10 +610,10 @@ target_there room before after old row g start w more is first = by p.rest refl 
       higher = λ at. let deep = low (more_target t comma r) same at in let high = le-max_left (one_target_lies t at) (target_rest_lies r at) in omega (arith, deep, high);
     }
 
-pub next_refused : (room : ℕ) (before after : List Token) (old row : Row) (stop : Stop) → TargetsGo room before old after row → begins_expr after ≡ true → ItemRefused room after stop → TargetsRefused target_rest_part room before stop
-next_refused room before after old row stop g start is =
-    item_refused target_rest_part room g.front after before g.before_is (record { some = g.put end_rest_target; more = []; tokens_are = g.tokens_are end_rest_target })
-    (λ w more same first. target_there room before after old row g start w more same first) stop is
+pub next_refused : (before after : List Token) (old row : Row) (stop : Stop) → TargetsGo 99 before old after row → begins_expr after ≡ true → ItemRefused 99 after stop → TargetsRefused target_rest_part 99 before stop
+next_refused before after old row stop g start is =
+    item_refused target_rest_part 99 g.front after before g.before_is g.passed g.passed_is (omega arith)
+    (λ w more same first. target_there 99 before after old row g start w more same first) stop is
 
 -- ---- the whole target
 
@@ -628,17 +623,25 @@ target_is t n more is beyond other =
     then go_on (read_sign 6 rest) (λ comma more. go_on (read_target_rest (n + is.steps) more) (λ found left. Some (several_targets t comma found, left))) else Some (one_target t, rest))) (is.reads n more beyond)
     ∙ if_false (next_level more == 8) _ _ other
 
-pub one_found : (before after : List Token) (first : Part) (tree : TargetTree) → ItemFound 100 before first after → is_sign_next 6 after ≡ false → target_form (expr_of first.expr) ≡ Some tree → Took target_part target_tree before tree after
-one_found before after first tree f other built = record {
-  written = one_target f.target;
-  before_is = f.before_is;
-  value_is = same_Some _ _ (sym built ∙ f.tree_is);
-  fits = let high = f.height_is in let low = f.fits in omega (arith, high, low);
-  is_read = record {
-    steps = (one_target_reads f.target).steps;
-    reads = λ n more first. target_is f.target n more (one_target_reads f.target) (let level = level_same more after first in let high = f.beyond in omega (arith, level, high)) (no_comma more (sign_first 6 after more (first_same more after first) ∙ other));
-  };
-}
+pub one_found : (before after : List Token) (first : Part) (tree : TargetTree) → ItemFound 100 before first after → is_sign_next 6 after ≡ false → target_form (expr_of first.expr) ≡ Some tree → TargetFound before tree after
+one_found before after first tree f other built = record { took = took; ends = ends }
+  where
+    took : Took target_part target_tree before tree after
+    took = record {
+      written = one_target f.target;
+      before_is = f.before_is;
+      value_is = same_Some _ _ (sym built ∙ f.tree_is);
+      fits = let high = f.height_is in let low = f.fits in omega (arith, high, low);
+      is_read = record {
+        steps = (one_target_reads f.target).steps;
+        reads = λ n more first. target_is f.target n more (one_target_reads f.target) (let level = level_same more after first in let high = f.beyond in omega (arith, level, high)) (no_comma more (sign_first 6 after more (first_same more after first) ∙ other));
+      };
+    }
+
+    ends : TargetsEnd (one_target_tokens f.target) after
+    ends = record {
+      none = λ t more first_is passed s is. ends_one f.target t more (let level = level_same (t ∷ more) after first_is in let high = f.beyond in omega (arith, level, high)) (sign_first 6 after (t ∷ more) (first_same (t ∷ more) after first_is) ∙ other) passed s is;
+    }
 
 pub one_is_target : (room : ℕ) (before after : List Token) (first : Part) → ItemFound room before first after → is_some (target_form (expr_of first.expr)) ≡ true
 one_is_target room before after first f = ap is_some f.tree_is
@@ -667,23 +670,32 @@ all_form before middle behind after at first part row more f one r tree =
     ∙ tuple_form at (expr_of first.expr) r.trees (one_target_tree f.target) (target_rest_tree r.written) f.tree_is r.trees_are
 
 pub several_found : (before middle behind after : List Token) (at place : Pos) (first part : Part) (row more : Row) (tree : TargetTree) → ItemFound 100 before first middle → Taken (Sign 6) middle at behind → first.height < 100 → row.list.items ≡ first.expr ∷ []
-    → row.height ≡ first.height → FoundTargets 99 behind row more after → expr_of part.expr ≡ tuple_expr place (exprs_list (map expr_of more.list.items)) → all_target_form (expr_of part.expr) ≡ Some tree → Took target_part target_tree before tree after
-several_found before middle behind after at place first part row more tree f k less one height r tuple built = record {
-  written = several_targets f.target k.spot r.written;
-  before_is = f.before_is ∙ ap (λ ts. one_target_tokens f.target ++ ts) (k.before_is ∙ ap (λ ts. token (Sign 6) k.spot ∷ ts) r.before_is) ∙ sym (append_assoc (one_target_tokens f.target) (token (Sign 6) k.spot ∷ target_rest_tokens r.written) after);
-  value_is = same_Some _ _ (sym built ∙ all_form before middle behind after place first part row more f one r tuple);
-  fits =
-      let high = r.height_is in let low = r.fits in let same = f.height_is in
-      let inner = max_below (one_target_depth f.target) (target_rest_depth r.written) 99 (omega (arith, less, same)) (rest_low more.height row.height (target_rest_depth r.written) high low) in
-      omega (arith, inner);
-  is_read = record {
-    steps = (one_target_reads f.target).steps + r.is_read.steps;
-    reads = λ n more first. several_is f.target k.spot r.written n r.is_read.steps more (one_target_reads f.target) (λ n. r.is_read.reads n more first);
-  };
-}
+    → row.height ≡ first.height → FoundTargets 99 behind row more after → expr_of part.expr ≡ tuple_expr place (exprs_list (map expr_of more.list.items)) → all_target_form (expr_of part.expr) ≡ Some tree → TargetFound before tree after
+several_found before middle behind after at place first part row more tree f k less one height r tuple built = record { took = took; ends = ends }
   where
     rest_low : (a b c : ℕ) → a ≡ max b c → a ≤ 99 → c ≤ 99
     rest_low a b c is low = let high = le-max_right b c in omega (arith, is, low, high)
+
+    took : Took target_part target_tree before tree after
+    took = record {
+      written = several_targets f.target k.spot r.written;
+      before_is = f.before_is ∙ ap (λ ts. one_target_tokens f.target ++ ts) (k.before_is ∙ ap (λ ts. token (Sign 6) k.spot ∷ ts) r.before_is) ∙ sym (append_assoc (one_target_tokens f.target) (token (Sign 6) k.spot ∷ target_rest_tokens r.written) after);
+      value_is = same_Some _ _ (sym built ∙ all_form before middle behind after place first part row more f one r tuple);
+      fits =
+          let high = r.height_is in let low = r.fits in let same = f.height_is in
+          let inner = max_below (one_target_depth f.target) (target_rest_depth r.written) 99 (omega (arith, less, same)) (rest_low more.height row.height (target_rest_depth r.written) high low) in
+          omega (arith, inner);
+      is_read = record {
+        steps = (one_target_reads f.target).steps + r.is_read.steps;
+        reads = λ n more first. several_is f.target k.spot r.written n r.is_read.steps more (one_target_reads f.target) (λ n. r.is_read.reads n more first);
+      };
+    }
+
+    ends : TargetsEnd (one_target_tokens f.target ++ token (Sign 6) k.spot ∷ target_rest_tokens r.written) after
+    ends = record {
+      none = λ t more first_is passed s is. unread_one End 99 99 f.target k.spot (target_rest_tokens r.written ++ t ∷ more) (omega arith) (λ ps s same. r.ends.none t more first_is ps s same) passed s
+          (is ∙ append_assoc (one_target_tokens f.target) (token (Sign 6) k.spot ∷ target_rest_tokens r.written) (t ∷ more));
+    }
 
 -- ---- steps of the loop
 
@@ -709,5 +721,5 @@ row_is_first empty row first none_there list_is = list_is ∙ ap (λ xs. xs ++ f
 pub row_height : (empty row : Row) (first : Part) → empty.height ≡ 0 → row.height ≡ max empty.height first.height → row.height ≡ first.height
 row_height empty row first low height_is = omega (arith, low, height_is)
 
-pub took_kept : (before : List Token) (tree : TargetTree) (after kept : List Token) → after ≡ kept → Took target_part target_tree before tree kept → Took target_part target_tree before tree after
-took_kept before tree after kept is took = subst (λ (ts : List Token). Took target_part target_tree before tree ts) (sym is) took
+pub target_kept : (before : List Token) (tree : TargetTree) (after kept : List Token) → after ≡ kept → TargetFound before tree kept → TargetFound before tree after
+target_kept before tree after kept is found = subst (λ (ts : List Token). TargetFound before tree ts) (sym is) found

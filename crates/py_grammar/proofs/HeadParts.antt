@@ -1,5 +1,5 @@
 -- The lines that begin compound statements: how what is read of a part, or not, tells what is read of the line.
-use Rattle.std.proofs.Common.{◌≡◌, inl, ℕ, ◌+◌, true, List, [], ◌∷◌, ◌++◌, Option, Some, None, refl, ap, sym, ◌∙◌, arith, subst, append_assoc, append-nil, if◌then◌else◌}
+use Rattle.std.proofs.Common.{◌≡◌, inl, ℕ, ◌+◌, true, false, List, [], ◌∷◌, ◌++◌, Option, Some, None, refl, ap, sym, ◌∙◌, arith, subst, append_assoc, if◌then◌else◌}
 use Rattle.std.specs.Bool.{⊤}
 use Rattle.py_lines.specs.declared.parts.Token.{Token}
 use Rattle.py_lines.specs.declared.parts.TokenKind.TheVariants.{Keyword, Sign}
@@ -10,18 +10,21 @@ use Rattle.py_grammar.specs.declared.fault.Stop.{Stop}
 use Rattle.py_grammar.specs.declared.fault.Stop.TheVariants.{Here, End}
 use Rattle.py_grammar.specs.declared.part.Part.{Part}
 use Rattle.py_grammar.specs.Concrete.{Spot}
+use Rattle.py_grammar.specs.Tokens.{token}
 use Rattle.py_grammar.specs.Trees.{expr_tree}
 use Rattle.py_grammar.specs.Written.{Simple}
-use Rattle.py_grammar.specs.LineReader.{Head, head_tokens, then_read, read_colon, read_head}
+use Rattle.py_grammar.specs.LineReader.{Head, colon_tokens, head_tokens, then_read, read_colon, read_head}
 use Rattle.py_grammar.specs.Reader.{Read, next_level, starts, is_keyword, is_sign}
-use Rattle.py_grammar.specs.Parsed.{Production, IsAtFirst, IsDeep, Only, Finds, Begins, Shown, Refused, Found, FoundRow, one_keyword, one_sign, one_name, expr_part, exprs_part}
+use Rattle.py_grammar.specs.Parsed.{Production, GoesOn, ShowsAt, IsDeep, Only, Finds, Begins, Shown, Refused, Found, FoundRow, one_keyword, one_sign, one_name, expr_part, exprs_part}
 use Rattle.py_grammar.specs.ParsedRows.{first_token, IsRead}
-use Rattle.py_grammar.specs.ParsedHead.{Context, head_lies, IsAmissHead, ShowsOnLine, BeginsHead, ShownBy, EndedBy, HeadRefused}
+use Rattle.py_grammar.specs.ParsedHead.{Context, head_lies, behind_in, IsPast, IsAmissHead, ShowsOnLine, BeginsHead, GoesOnLine, IsAheadOnLine, ShownBy, EndedBy, HeadRefused}
 use Rattle.py_grammar.proofs.Reading.{expr_reads}
 use Rattle.py_grammar.proofs.RowReads.{row_reads}
 use Rattle.py_grammar.proofs.Refusals.{first_of, next_level_same}
 use Rattle.py_grammar.proofs.HeadReading.{head_reads}
 use Rattle.py_grammar.proofs.Stops.{shows_on_line}
+use Rattle.py_grammar.proofs.NoDel.{has_del, no_del_front, del_absent, is_simple_head, no_del_head}
+use Rattle.py_grammar.proofs.Unread.{PassesFor, other_word, unread_clear}
 
 -- ---- what the reader gives
 
@@ -200,15 +203,37 @@ pub spelled_head : (h : Head) (front more : List Token) → head_tokens h ≡ fr
 spelled_head h front more is = inl (record { some = h; more = more; tokens_are = is })
 
 -- a part begins, behind these tokens, and so does a line
-pub begins_part_head : {B : Type 0} (q : Production B) (front : List Token) (h : B → Head) (tail : B → List Token) → ((b : B) → head_tokens (h b) ≡ front ++ (q.tokens b ++ tail b)) → (tokens : List Token) → Begins q tokens → BeginsHead (front ++ tokens)
-begins_part_head q front h tail spells tokens b = inl (record {
-  some = h b.some;
-  more = b.more ++ tail b.some;
-  tokens_are = spells b.some ∙ ap (λ ts. front ++ (ts ++ tail b.some)) b.tokens_are ∙ regroup front tokens b.more (tail b.some);
-})
+pub spelled_part : {B : Type 0} (q : Production B) (front : List Token) (h : B → Head) (tail : B → List Token) → ((b : B) → head_tokens (h b) ≡ front ++ (q.tokens b ++ tail b)) → (tokens : List Token) → (b : Begins q tokens) → head_tokens (h b.some) ≡ (front ++ tokens) ++ (b.more ++ tail b.some)
+spelled_part q front h tail spells tokens b = spells b.some ∙ ap (λ ts. front ++ (ts ++ tail b.some)) b.tokens_are ∙ regroup front tokens b.more (tail b.some)
   where
     regroup : (w x y z : List Token) → w ++ ((x ++ y) ++ z) ≡ (w ++ x) ++ (y ++ z)
     regroup w x y z = ap (λ ts. w ++ ts) (append_assoc x y z) ∙ sym (append_assoc w x (y ++ z))
+
+-- a line begins so, and no `del` stands there
+pub record BeginsOpening (front : List Token) : Type 0 where
+  pub begun : BeginsHead front
+  pub clear : has_del front ≡ false
+
+-- what begins a compound statement, a part of one or a `global` line, with nothing behind its `:`
+pub clear_before : (h : Head) (front more : List Token) → is_simple_head h ≡ false → behind_in h ≡ None → head_tokens h ≡ front ++ more → has_del front ≡ false
+clear_before h front more compound empty is = no_del_front front more (subst (λ (ts : List Token). has_del ts ≡ false) is (no_del_head h compound empty))
+
+pub begins_part_head : {B : Type 0} (q : Production B) (front : List Token) (h : B → Head) (tail : B → List Token) → ((b : B) → is_simple_head (h b) ≡ false) → ((b : B) → behind_in (h b) ≡ None)
+    → ((b : B) → head_tokens (h b) ≡ front ++ (q.tokens b ++ tail b)) → (tokens : List Token) → Begins q tokens → BeginsOpening (front ++ tokens)
+begins_part_head q front h tail compound empty spells tokens b =
+    let is = spelled_part q front h tail spells tokens b in
+    record {
+      begun = spelled_head (h b.some) (front ++ tokens) (b.more ++ tail b.some) is;
+      clear = clear_before (h b.some) (front ++ tokens) (b.more ++ tail b.some) (compound b.some) (empty b.some) is;
+    }
+
+-- what begins so up to its `:`, with another keyword than `for`
+pub past_opening : (word : ℕ) (spot : Spot) (tokens : List Token) (h : Head) (colon : Spot) → is_keyword 17 (Keyword word) ≡ false → is_simple_head h ≡ false → behind_in h ≡ None → head_tokens h ≡ (token (Keyword word) spot ∷ tokens) ++ colon_tokens colon None
+    → IsPast (token (Keyword word) spot ∷ tokens)
+past_opening word spot tokens h colon other compound empty is = record {
+  no_del = λ opened at inside there. del_absent (token (Keyword word) spot ∷ tokens) opened at inside (clear_before h (token (Keyword word) spot ∷ tokens) (colon_tokens colon None) compound empty is) there;
+  no_for = λ at behind inside there passed s more same. other_word word spot at (tokens ++ behind) inside other there;
+}
 
 -- ---- how it is refused
 
@@ -220,15 +245,16 @@ amiss_deep c given limit (Here Memory) h deep = absurd deep
 amiss_deep c given limit End h deep = absurd deep
 
 -- the tokens begin a line, and those up to and with the next one none that may stand there
-pub shown_head : (c : Context) (given : List (List ℕ)) (limit : Option Limit) (front : List Token) (t : Token) (behind before : List Token) (fault : Fault) → before ≡ front ++ t ∷ behind → ShowsOnLine t behind fault → BeginsHead front
-    → ((more : List Token) → FindsHead (IsAmissHead c given limit (Here fault)) (front ++ t ∷ more)) → ShownBy BeginsHead head_tokens (λ fault a. IsAmissHead c given limit (Here fault) a) before fault
-shown_head c given limit front t behind before fault is named begun finds = record {
+pub shown_head : (c : Context) (given : List (List ℕ)) (limit : Option Limit) (front : List Token) (t : Token) (behind before : List Token) (fault : Fault) → before ≡ front ++ t ∷ behind → ShowsOnLine t behind fault → BeginsHead front → IsAheadOnLine limit front t fault
+    → ((more : List Token) → FindsHead (IsAmissHead c given limit (Here fault)) (front ++ t ∷ more)) → ShownBy BeginsHead (IsAheadOnLine limit) head_tokens (λ fault a. IsAmissHead c given limit (Here fault) a) before fault
+shown_head c given limit front t behind before fault is named begun goes finds = record {
   front = front;
   shown_by = t;
   behind = behind;
   before_is = is;
   left_is = named;
   begun = begun;
+  goes_on = goes;
   none = λ h more same. finds_written _ (front ++ t ∷ more) h (finds more) same;
 }
 
@@ -237,15 +263,30 @@ pub ended_line : (c : Context) (given : List (List ℕ)) (limit : Option Limit) 
 ended_line c given limit tokens before stop is begun finds = subst (λ (ts : List Token). EndedBy BeginsHead head_tokens (IsAmissHead c given limit stop) ts) (sym is)
     (record { begun = begun; none = λ h same. finds_written _ tokens h finds same })
 
+-- a part goes on with this token, and so does the line
+pub goes_on_line : {B : Type 0} (limit : Option Limit) (q : Production B) (front tokens : List Token) (t : Token) (behind : List Token) (fault : Fault) → ((ts : List Token) → Begins q ts → BeginsHead (front ++ ts)) → ShowsAt behind fault
+    → GoesOn (Begins q) tokens t fault → GoesOnLine limit (front ++ tokens) t fault
+goes_on_line limit q front tokens t behind (Unexpected left) begins shows goes = tt
+goes_on_line limit q front tokens t behind (TooDeep at) begins shows goes = inl (subst BeginsHead (sym (append_assoc front tokens (t ∷ []))) (begins (tokens ++ t ∷ []) goes))
+goes_on_line limit q front tokens t behind (TooMany at) begins shows goes = absurd shows
+goes_on_line limit q front tokens t behind Memory begins shows goes = absurd shows
+
+pub ahead_of_part : {B : Type 0} (limit : Option Limit) (q : Production B) (front rest tokens : List Token) (t : Token) (behind : List Token) (fault : Fault) → ((ts : List Token) → Begins q ts → BeginsOpening (front ++ ts)) → PassesFor front rest
+    → first_token (tokens ++ t ∷ behind) ≡ first_token rest → Begins q tokens → ShowsAt behind fault → GoesOn (Begins q) tokens t fault → IsAheadOnLine limit (front ++ tokens) t fault
+ahead_of_part limit q front rest tokens t behind fault begins other first b shows goes =
+    (goes_on_line limit q front tokens t behind fault (λ ts b. (begins ts b).begun) shows goes, unread_clear (front ++ tokens) t fault (begins tokens b).clear (other tokens t behind fault first))
+
 -- a part stands behind these tokens: how it begins, and what is read there
 record StandsThere {B : Type 0} (q : Production B) (inner : ℕ) (front rest : List Token) : Type 0 where
-  begins : (tokens : List Token) → Begins q tokens → BeginsHead (front ++ tokens)
+  begins : (tokens : List Token) → Begins q tokens → BeginsOpening (front ++ tokens)
+  other : PassesFor front rest
   finds : (why : Stop) (more : List Token) → first_token more ≡ first_token rest → Finds (λ b. IsDeep why inner (q.lies b)) q.read more → FindsHead (λ h. IsDeep why 100 (head_lies h)) (front ++ more)
 
 shown_there : {B : Type 0} (c : Context) (given : List (List ℕ)) (limit : Option Limit) (q : Production B) (inner : ℕ) (front rest before : List Token) (fault : Fault) → before ≡ front ++ rest → StandsThere q inner front rest
-    → Shown q inner rest fault → ShownBy BeginsHead head_tokens (λ fault a. IsAmissHead c given limit (Here fault) a) before fault
+    → Shown q inner rest fault → ShownBy BeginsHead (IsAheadOnLine limit) head_tokens (λ fault a. IsAmissHead c given limit (Here fault) a) before fault
 shown_there c given limit q inner front rest before fault is part s = shown_head c given limit (front ++ s.front) s.shown_by s.behind before fault
-    (is ∙ ap (λ ts. front ++ ts) s.before_is ∙ sym (append_assoc front s.front (s.shown_by ∷ s.behind))) (shows_on_line s.shown_by s.behind fault s.left_is) (part.begins s.front s.begins)
+    (is ∙ ap (λ ts. front ++ ts) s.before_is ∙ sym (append_assoc front s.front (s.shown_by ∷ s.behind))) (shows_on_line s.shown_by s.behind fault s.left_is) (part.begins s.front s.begins).begun
+    (ahead_of_part limit q front rest s.front s.shown_by s.behind fault part.begins part.other (sym (ap first_token s.before_is)) s.begins s.left_is s.goes_on)
     (λ more. finds_head_same _ _ _ (append_assoc front s.front (s.shown_by ∷ more))
     (finds_head_weaker _ _ _ (amiss_deep c given limit (Here fault)) (part.finds (Here fault) (s.front ++ s.shown_by ∷ more) (first_shown s.front s.shown_by more s.behind ∙ sym (ap first_token s.before_is)) (s.none more))))
 
@@ -255,34 +296,13 @@ refused_there c given limit q inner front rest before (Here (Unexpected at)) is 
 refused_there c given limit q inner front rest before (Here (TooDeep at)) is part refused = shown_there c given limit q inner front rest before (TooDeep at) is part refused
 refused_there c given limit q inner front rest before (Here (TooMany at)) is part refused = absurd refused.left_is
 refused_there c given limit q inner front rest before End is part refused =
-    ended_line c given limit (front ++ rest) before End is (part.begins rest refused.0) (finds_head_weaker _ _ _ (amiss_deep c given limit End) (part.finds End rest refl refused.1))
+    ended_line c given limit (front ++ rest) before End is (part.begins rest refused.0).begun (finds_head_weaker _ _ _ (amiss_deep c given limit End) (part.finds End rest refl refused.1))
 
 -- a part is refused behind these tokens
 pub refused_part_head : {B : Type 0} (c : Context) (given : List (List ℕ)) (limit : Option Limit) (q : Production B) (inner : ℕ) (front rest before : List Token) (stop : Stop) (g : ℕ → B → List Token → Option Head) → before ≡ front ++ rest
-    → ((tokens : List Token) → Begins q tokens → BeginsHead (front ++ tokens)) → HeadTurns q front rest g
+    → ((tokens : List Token) → Begins q tokens → BeginsOpening (front ++ tokens)) → PassesFor front rest → HeadTurns q front rest g
     → ((why : Stop) (n : ℕ) (b : B) (left : List Token) → IsDeep why inner (q.lies b) → OnlyHead (λ h. IsDeep why 100 (head_lies h)) (g n b left))
     → Refused q inner rest stop → HeadRefused c given limit before stop
-refused_part_head c given limit q inner front rest before stop g is begins turns deep refused = refused_there c given limit q inner front rest before stop is
-    (record { begins = begins; finds = λ why more first finds. turned_head _ _ q front rest more g turns first (deep why) finds })
+refused_part_head c given limit q inner front rest before stop g is begins other turns deep refused = refused_there c given limit q inner front rest before stop is
+    (record { begins = begins; other = other; finds = λ why more first finds. turned_head _ _ q front rest more g turns first (deep why) finds })
     refused
-
--- the tokens begin a line, and the next one fits nothing: this is how it is refused
-pub at_token_head : (c : Context) (given : List (List ℕ)) (limit : Option Limit) (front : List Token) (t : Token) (ts before : List Token) (fault : Fault) → before ≡ front ++ t ∷ ts → BeginsHead front → ShowsOnLine t ts fault
-    → ((more : List Token) → FindsHead (λ h. ⊥) (front ++ t ∷ more)) → ShownBy BeginsHead head_tokens (λ fault a. IsAmissHead c given limit (Here fault) a) before fault
-at_token_head c given limit front t ts before fault is begun named none =
-    shown_head c given limit front t ts before fault is named begun (λ more. finds_head_weaker _ _ _ (λ h no. absurd no) (none more))
-
--- reading stops behind these tokens, where nothing fits that stands there
-pub ended_head : (c : Context) (given : List (List ℕ)) (limit : Option Limit) (front rest before : List Token) (stop : Stop) → before ≡ front ++ rest → BeginsHead front → IsAtFirst rest stop
-    → (rest ≡ [] → FindsHead (λ h. ⊥) front) → ((t : Token) (ts more : List Token) → rest ≡ t ∷ ts → FindsHead (λ h. ⊥) (front ++ t ∷ more)) → HeadRefused c given limit before stop
-ended_head c given limit front [] before (Here fault) is begun at none_end none = absurd (not_end fault at)
-  where
-    not_end : (fault : Fault) → Here fault ≡ End → ⊥
-    not_end fault same = cc
-ended_head c given limit front [] before End is begun at none_end none =
-    ended_line c given limit front before End (is ∙ append-nil front) begun (finds_head_weaker _ _ _ (λ h no. absurd no) (none_end refl))
-ended_head c given limit front (t ∷ ts) before (Here (Unexpected place)) is begun at none_end none = at_token_head c given limit front t ts before (Unexpected place) is begun at (λ more. none t ts more refl)
-ended_head c given limit front (t ∷ ts) before (Here (TooDeep place)) is begun at none_end none = absurd at
-ended_head c given limit front (t ∷ ts) before (Here (TooMany place)) is begun at none_end none = absurd at
-ended_head c given limit front (t ∷ ts) before (Here Memory) is begun at none_end none = absurd at
-ended_head c given limit front (t ∷ ts) before End is begun at none_end none = absurd at

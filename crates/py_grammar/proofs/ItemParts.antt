@@ -24,7 +24,7 @@ use Rattle.py_grammar.specs.Parsed.{expr_part, exprs_part, Taken, Found, IsDeep,
 use Rattle.py_grammar.specs.ParsedRows.{IsDeepestWith, IsRead, items_part, rest_part, rest_trees, FoundList, FoundRest, FoundItems}
 use Rattle.py_grammar.proofs.Firsts.{IsStart, expr_starts, exprs_starts, items_is}
 use Rattle.py_grammar.proofs.Reading.{if_false, if_true, expr_reads}
-use Rattle.py_grammar.proofs.Refusals.{Inside, only_any, only_go_on, only_if, only_is, finds_first, finds_behind, finds_at_once, finds_same, deep_left, deep_right, deep_beside_left, deep_beside_right, refused_inside, refused_same, one_behind, full}
+use Rattle.py_grammar.proofs.Refusals.{Inside, only_any, only_go_on, only_if, only_is, finds_first, finds_behind, finds_at_once, finds_same, deep_left, deep_right, deep_beside_left, deep_beside_right, refused_inside, refused_same, one_behind, begins_up_to, full}
 use Rattle.py_grammar.proofs.ClosedParts.{first_is}
 use Rattle.py_grammar.proofs.RowParts.{beyond_comma, sign_first, some_several, some_one, more_steps}
 use Rattle.py_grammar.proofs.SharpReads.{exprs_is_read}
@@ -153,6 +153,7 @@ pub row_full : (room : ℕ) (before middle behind : List Token) (at : Pos) (firs
     → IsTooDeep first.height first.deepest room stop → Refused exprs_part room before stop
 row_full room before middle behind at first stop f k deep = full exprs_part room before (expr_tokens f.written) (token (Sign 6) k.spot) behind first.height first.deepest stop deep
     (f.before_is ∙ ap (λ ts. expr_tokens f.written ++ ts) k.before_is) (record { some = one_expr f.written; more = []; tokens_are = sym (append-nil (expr_tokens f.written)) })
+    (begins_up_to exprs_part (several f.written k.spot end_rest) (expr_tokens f.written) (token (Sign 6) k.spot) [] refl)
     (λ more. finds_behind _ read_exprs read_expr (λ n e ts. exprs_rest n e ts) 7 (expr_tokens f.written) f.written (token (Sign 6) k.spot ∷ more) (λ n. refl) (expr_reads f.written) (omega arith)
     (finds_at_once _ (λ n ts. exprs_rest n f.written ts) (token (Sign 6) k.spot ∷ more)
     (λ n. only_any _ (read_rest n more) _ (λ r rest. above_left (begins (expr_tokens f.written) first.deepest) (expr_lies f.written first.deepest) (rest_lies r first.deepest) first.height (expr_depth f.written) f.height_is f.deepest_is (expr_above f.written)))))

@@ -28,6 +28,7 @@ pub mod LineForms
 pub mod NameHeads
 pub mod NameLists
 pub mod NameParts
+pub mod NoDel
 pub mod OneReading
 pub mod OneScript
 pub mod PairParts
@@ -52,7 +53,9 @@ pub mod Stops
 pub mod Taking
 pub mod TargetForms
 pub mod TargetLists
+pub mod TargetSums
 pub mod TestOpenings
+pub mod Unread
 pub mod WordRefusals
 mod Worked
 mod WorkedLies

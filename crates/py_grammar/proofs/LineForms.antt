@@ -15,38 +15,40 @@ use Rattle.py_grammar.specs.declared.head.What.{What}
 use Rattle.py_grammar.specs.declared.head.What.TheVariants.{Simple as SimpleIs, Else, Try, Global}
 use Rattle.py_grammar.specs.declared.head.Behind.{Behind}
 use Rattle.py_grammar.specs.Concrete.{Spot}
-use Rattle.py_grammar.specs.Tokens.{token, word as word_tokens}
-use Rattle.py_grammar.specs.Written.{Simple, pass, del, named}
+use Rattle.py_grammar.specs.Tokens.{token}
+use Rattle.py_grammar.specs.Written.{Simple, pass}
 use Rattle.py_grammar.specs.StatementTokens.{simple_tokens}
 use Rattle.py_grammar.specs.WellPlaced.{Around, simple_stands}
 use Rattle.py_grammar.specs.LineReader.{Head, simple_head, else_head, try_head, global_head, head_tokens}
 use Rattle.py_grammar.specs.Lies.{simple_lies}
 use Rattle.py_grammar.specs.Parsed.{IsAtFirst, Taken, Refused, one_sign}
 use Rattle.py_grammar.specs.ParsedSimple.{BeginsSimple}
-use Rattle.py_grammar.specs.ParsedHead.{Context, lacks_handler, kind_may, may_begin, is_compound_kind, begins_compound, PlacedFound, HeadFound, OpeningFound, OpeningRefused, BehindFound, BehindRefused, inner_around, is_compound, IsAmissPlaced, IsAmissHead, ShowsOnLine, BeginsHead, ShownBy, EndedBy, PlacedRefused, HeadRefused, IsFirstRefused, GlobalFound, GlobalRefused, word_may, Misplaced}
+use Rattle.py_grammar.specs.ParsedHead.{Context, lacks_handler, kind_may, may_begin, is_compound_kind, begins_compound, PlacedFound, HeadFound, OpeningFound, OpeningRefused, BehindFound, BehindRefused, inner_around, is_compound, IsAmissPlaced, IsAmissHead, BeginsHead, GoesOnPlaced, IsAheadPlaced, GoesOnLine, IsAheadOnLine, ShownBy, EndedBy, PlacedRefused, HeadRefused, IsFirstRefused, GlobalFound, GlobalRefused, word_may, Misplaced}
 use Rattle.py_grammar.proofs.Stops.{some_spot}
-use Rattle.py_grammar.proofs.HeadParts.{spelled_head}
+use Rattle.py_grammar.proofs.HeadParts.{spelled_head, past_opening}
+use Rattle.py_grammar.proofs.Unread.{unread_at_first, unread_simple}
 use Rattle.py_grammar.proofs.ColonParts.{colon_refused, behind_refused, line_found}
 use Rattle.py_grammar.proofs.PlacedParts.{none_there}
 use Rattle.py_grammar.proofs.LineFirsts.{and_false, both_true, simple_some, head_some, head_simple, may_as_simple, may_as_word, misplaced_head}
-use Rattle.py_grammar.specs.declared.context.Limit.TheVariants.{Depth}
+use Rattle.py_grammar.specs.declared.context.Limit.TheVariants.{Number as ByNumber, Depth}
 
 -- ---- where no line may begin
 
-at_first_token : (c : Context) (given : List (List ℕ)) (limit : Option Limit) (t : Token) (behind : List Token) (fault : Fault) → ShowsOnLine t behind fault → ((h : Head) (more : List Token) → head_tokens h ≡ t ∷ more → IsAmissHead c given limit (Here fault) h)
-    → ShownBy BeginsHead head_tokens (λ fault a. IsAmissHead c given limit (Here fault) a) (t ∷ behind) fault
-at_first_token c given limit t behind fault at_it none = record {
+at_first_token : (c : Context) (given : List (List ℕ)) (limit : Option Limit) (t : Token) (behind : List Token) (left : ℕ) → left ≡ length behind → ((h : Head) (more : List Token) → head_tokens h ≡ t ∷ more → IsAmissHead c given limit (Here (Unexpected left)) h)
+    → ShownBy BeginsHead (IsAheadOnLine limit) head_tokens (λ fault a. IsAmissHead c given limit (Here fault) a) (t ∷ behind) (Unexpected left)
+at_first_token c given limit t behind left at_it none = record {
   front = [];
   shown_by = t;
   behind = behind;
   before_is = refl;
   left_is = at_it;
   begun = spelled_head (simple_head (pass some_spot)) [] (simple_tokens (pass some_spot)) refl;
+  goes_on = (tt, unread_at_first t (Unexpected left));
   none = none;
 }
 
 pub misplaced_refused : (c : Context) (t : Token) (behind : List Token) (stop : Stop) → kind_may c t.kind ≡ false → IsAtFirst (t ∷ behind) stop → Misplaced c (t ∷ behind) stop
-misplaced_refused c t behind (Here (Unexpected place)) absent at = record { there = λ given limit. at_first_token c given limit t behind (Unexpected place) at (λ h more same. misplaced_head c given h t more same absent) }
+misplaced_refused c t behind (Here (Unexpected place)) absent at = record { there = λ given limit. at_first_token c given limit t behind place at (λ h more same. misplaced_head c given h t more same absent) }
 misplaced_refused c t behind (Here (TooDeep place)) absent at = absurd at
 misplaced_refused c t behind (Here (TooMany place)) absent at = absurd at
 misplaced_refused c t behind (Here Memory) absent at = absurd at
@@ -84,13 +86,14 @@ amiss_simple c given limit End s amiss = and_false _ (simple_stands c.around s) 
 
 begins_simple_line : (tokens : List Token) → BeginsSimple tokens → BeginsHead tokens
 begins_simple_line tokens (inl b) = inl (record { some = simple_head b.some; more = b.more; tokens_are = b.tokens_are })
-begins_simple_line tokens (inr b) = inr (record {
-  opened = token (Keyword 12) b.spot ∷ [];
-  begins = record { some = simple_head (del b.spot (named some_spot [])); more = word_tokens [] some_spot; tokens_are = refl };
-  some = b.some;
-  more = b.more;
-  tokens_are = b.tokens_are;
-})
+begins_simple_line tokens (inr b) = inr (inl (record { opened = []; starts = inl refl; inside = tokens; begins = b; front_is = refl }))
+
+goes_simple : (limit : Option Limit) (tokens : List Token) (t : Token) (fault : Fault) → GoesOnPlaced None tokens t fault → GoesOnLine limit tokens t fault
+goes_simple limit tokens t (TooDeep at) (inl b) = inl (begins_simple_line (tokens ++ t ∷ []) b)
+goes_simple limit tokens t (TooDeep at) (inr passed) = absurd (let no : None ≡ Some Depth = passed.0 in cc)
+goes_simple limit tokens t (TooMany at) passed = absurd (let no : None ≡ Some ByNumber = passed.0 in cc)
+goes_simple limit tokens t (Unexpected left) goes = tt
+goes_simple limit tokens t Memory goes = tt
 
 -- a line with these tokens is a simple statement
 only_simple : (P : Head → Type 0) (before : List Token) (h : Head) → begins_compound before ≡ false → head_tokens h ≡ before → ((s : Simple) → simple_tokens s ≡ before → P (simple_head s)) → P h
@@ -103,8 +106,8 @@ same_begins : (front : List Token) (t : Token) (a b : List Token) → begins_com
 same_begins [] t a b = refl
 same_begins (first ∷ front) t a b = refl
 
-simple_shown : (c : Context) (given : List (List ℕ)) (limit : Option Limit) (before : List Token) (fault : Fault) → begins_compound before ≡ false → ShownBy BeginsSimple simple_tokens (λ fault a. IsAmissPlaced c.around None (Here fault) a) before fault
-    → ShownBy BeginsHead head_tokens (λ fault a. IsAmissHead c given limit (Here fault) a) before fault
+simple_shown : (c : Context) (given : List (List ℕ)) (limit : Option Limit) (before : List Token) (fault : Fault) → begins_compound before ≡ false → ShownBy BeginsSimple (IsAheadPlaced None) simple_tokens (λ fault a. IsAmissPlaced c.around None (Here fault) a) before fault
+    → ShownBy BeginsHead (IsAheadOnLine limit) head_tokens (λ fault a. IsAmissHead c given limit (Here fault) a) before fault
 simple_shown c given limit before fault absent s = record {
   front = s.front;
   shown_by = s.shown_by;
@@ -112,9 +115,13 @@ simple_shown c given limit before fault absent s = record {
   before_is = s.before_is;
   left_is = s.left_is;
   begun = begins_simple_line s.front s.begun;
+  goes_on = (goes_simple limit s.front s.shown_by fault s.goes_on.0, unread_simple s.front s.shown_by fault s.begun s.goes_on.1 (λ spot inside is. no_for spot inside is));
   none = λ h more same. only_simple (IsAmissHead c given limit (Here fault)) (s.front ++ s.shown_by ∷ more) h (same_begins s.front s.shown_by more s.behind ∙ sym (ap begins_compound s.before_is) ∙ absent) same
       (λ a is. amiss_simple c given limit (Here fault) a (s.none a more is));
 }
+  where
+    no_for : (spot : Spot) (inside : List Token) → s.front ≡ token (Keyword 17) spot ∷ inside → ⊥
+    no_for spot inside is = let no : true ≡ false = sym (ap (λ (ts : List Token). begins_compound (ts ++ s.shown_by ∷ s.behind)) is) ∙ sym (ap begins_compound s.before_is) ∙ absent in cc
 
 simple_ended : (c : Context) (given : List (List ℕ)) (limit : Option Limit) (before : List Token) (stop : Stop) → begins_compound before ≡ false → EndedBy BeginsSimple simple_tokens (IsAmissPlaced c.around None stop) before
     → EndedBy BeginsHead head_tokens (IsAmissHead c given limit stop) before
@@ -157,6 +164,7 @@ else_found c before spot = record {
   reads = λ n more first. refl;
   what_is = λ colon behind. tt;
   behind_is = λ colon behind. refl;
+  past = past_opening 14 spot [] (else_head spot some_spot None) some_spot refl refl refl refl;
   depth = 0;
   low = omega arith;
   depth_is = λ colon behind. refl;
@@ -175,6 +183,7 @@ try_found c before spot = record {
   reads = λ n more first. refl;
   what_is = λ colon behind. tt;
   behind_is = λ colon behind. refl;
+  past = past_opening 31 spot [] (try_head spot some_spot None) some_spot refl refl refl refl;
   depth = 0;
   low = omega arith;
   depth_is = λ colon behind. refl;

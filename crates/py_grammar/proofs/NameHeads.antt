@@ -27,7 +27,8 @@ use Rattle.py_grammar.specs.ParsedNames.{RefusedAmiss, BracketNames, bracket_tok
 use Rattle.py_grammar.proofs.Stops.{some_spot}
 use Rattle.py_grammar.proofs.RowParts.{more_steps}
 use Rattle.py_grammar.proofs.ClosedParts.{not_deep}
-use Rattle.py_grammar.proofs.HeadParts.{OnlyHead, HeadTurns, shown_head, spelled_head, begins_part_head, refused_part_head}
+use Rattle.py_grammar.proofs.HeadParts.{OnlyHead, HeadTurns, shown_head, spelled_head, begins_part_head, refused_part_head, past_opening}
+use Rattle.py_grammar.proofs.Unread.{unread_clear, unread_word, passes_word}
 use Rattle.py_grammar.proofs.AmissParts.{amiss_head}
 
 -- ---- what is read up to the end of the line
@@ -67,8 +68,8 @@ pub class_name_refused : (c : Context) (before : List Token) (stop : Stop) → R
 class_name_refused c before stop is = record {
   there = λ given limit spot.
       refused_part_head c given limit one_name 0 (token (Keyword 9) spot ∷ []) before (token (Keyword 9) spot ∷ before) stop (class_named spot) refl
-      (begins_part_head one_name (token (Keyword 9) spot ∷ []) (λ found. class_head spot found.0 found.1 no_base some_spot None) (λ found. colon_tokens some_spot None) (λ found. refl))
-      (class_turns spot before) (λ why n found left deep. absurd (not_deep why deep)) is;
+      (begins_part_head one_name (token (Keyword 9) spot ∷ []) (λ found. class_head spot found.0 found.1 no_base some_spot None) (λ found. colon_tokens some_spot None) (λ found. refl) (λ found. refl) (λ found. refl))
+      (passes_word 9 spot [] before refl) (class_turns spot before) (λ why n found left deep. absurd (not_deep why deep)) is;
 }
 
 pub class_base_refused : (c : Context) (place : Pos) (name : List ℕ) (before after : List Token) (stop : Stop) → TakenName before place name after → Refused base_part 100 after stop → OpeningRefused c 9 before stop
@@ -76,8 +77,8 @@ class_base_refused c place name before after stop f is = record {
   there = λ given limit spot.
       refused_part_head c given limit base_part 100 (token (Keyword 9) spot ∷ word name f.spot) after (token (Keyword 9) spot ∷ before) stop (λ n of rest. read_colon n (class_head spot f.spot name of) rest)
       (ap (λ ts. token (Keyword 9) spot ∷ ts) f.before_is)
-      (begins_part_head base_part (token (Keyword 9) spot ∷ word name f.spot) (λ of. class_head spot f.spot name of some_spot None) (λ of. colon_tokens some_spot None) (λ of. refl))
-      (base_turns spot f.spot name after) (λ why n of left deep. absurd (not_deep_there why deep)) is;
+      (begins_part_head base_part (token (Keyword 9) spot ∷ word name f.spot) (λ of. class_head spot f.spot name of some_spot None) (λ of. colon_tokens some_spot None) (λ of. refl) (λ of. refl) (λ of. refl))
+      (passes_word 9 spot (word name f.spot) after refl) (base_turns spot f.spot name after) (λ why n of left deep. absurd (not_deep_there why deep)) is;
 }
 
 pub class_found : (c : Context) (place : Pos) (name : List ℕ) (base : Option ExprRead) (before middle after : List Token) → TakenName before place name middle → Took base_part base_tree middle (option_map expr_of base) after → OpeningFound c 9 before (Class name base) after
@@ -91,6 +92,7 @@ class_found c place name base before middle after f b spot = record {
   reads = λ n more first. ap (λ r. then_read r (λ of rest. read_colon (n + 0) (class_head spot f.spot name of) rest)) (b.is_read.reads n more first);
   what_is = λ colon behind. (refl, b.value_is);
   behind_is = λ colon behind. refl;
+  past = past_opening 9 spot (word name f.spot ++ base_tokens b.written) (class_head spot f.spot name b.written some_spot None) some_spot refl refl refl refl;
   depth = 1;
   low = omega arith;
   depth_is = λ colon behind. refl;
@@ -138,8 +140,8 @@ pub def_name_refused : (c : Context) (before : List Token) (stop : Stop) → Ref
 def_name_refused c before stop is = record {
   there = λ given limit spot.
       refused_part_head c given limit one_name 0 (token (Keyword 11) spot ∷ []) before (token (Keyword 11) spot ∷ before) stop (def_named spot) refl
-      (begins_part_head one_name (token (Keyword 11) spot ∷ []) (λ found. def_head spot found.0 found.1 some_spot no_params some_spot some_spot None) (λ found. token (Sign 0) some_spot ∷ token (Sign 1) some_spot ∷ colon_tokens some_spot None) (λ found. refl))
-      (def_turns spot before) (λ why n found left deep. absurd (not_deep why deep)) is;
+      (begins_part_head one_name (token (Keyword 11) spot ∷ []) (λ found. def_head spot found.0 found.1 some_spot no_params some_spot some_spot None) (λ found. token (Sign 0) some_spot ∷ token (Sign 1) some_spot ∷ colon_tokens some_spot None) (λ found. refl) (λ found. refl) (λ found. refl))
+      (passes_word 11 spot [] before refl) (def_turns spot before) (λ why n found left deep. absurd (not_deep why deep)) is;
 }
 
 -- a method may not have this name
@@ -155,6 +157,7 @@ def_no_method c place name before after left f inner other counted = record {
   there = λ given limit spot. shown_head c given limit (token (Keyword 11) spot ∷ []) (token (Word name) f.spot) after (token (Keyword 11) spot ∷ before) (Unexpected left)
       (ap (λ ts. token (Keyword 11) spot ∷ ts) f.before_is) counted
       (spelled_head (def_head spot f.spot name some_spot no_params some_spot some_spot None) (token (Keyword 11) spot ∷ []) _ refl)
+      (tt, unread_clear (token (Keyword 11) spot ∷ []) (token (Word name) f.spot) (Unexpected left) refl (unread_word 11 spot [] (token (Word name) f.spot) (Unexpected left) refl))
       (λ more. record {
         steps = 0;
         only = λ n. only_then _ (read_sign 0 more) _ (λ opening more_2. only_then _ (read_params (n + 0) more_2) _ (λ names more_3. only_then _ (read_sign 1 more_3) _ (λ closing rest.
@@ -190,8 +193,8 @@ def_params_refused c place name before after stop f is = record {
   there = λ given limit spot.
       amiss_head c given limit bracket_part IsRepeatedIn (token (Keyword 11) spot ∷ word name f.spot) after (token (Keyword 11) spot ∷ before) stop (def_bracket spot f.spot name)
       (ap (λ ts. token (Keyword 11) spot ∷ ts) f.before_is)
-      (begins_part_head bracket_part (token (Keyword 11) spot ∷ word name f.spot) (λ w. def_head spot f.spot name w.0 w.1 w.2 some_spot None) (λ w. colon_tokens some_spot None) (λ w. def_spells spot f.spot name w some_spot None))
-      (bracket_turns spot f.spot name after) (λ why n w left is. repeated_amiss c given limit spot f.spot name why n w left is) is;
+      (begins_part_head bracket_part (token (Keyword 11) spot ∷ word name f.spot) (λ w. def_head spot f.spot name w.0 w.1 w.2 some_spot None) (λ w. colon_tokens some_spot None) (λ w. refl) (λ w. refl) (λ w. def_spells spot f.spot name w some_spot None))
+      (passes_word 11 spot (word name f.spot) after refl) (bracket_turns spot f.spot name after) (λ why n w left is. repeated_amiss c given limit spot f.spot name why n w left is) is;
 }
 
 method_there : (l m i o d x : Bool) → (not m && not o) ≡ false → d ≡ true → ((not l && (m || i)) && ((m || (i && o)) && d) && x) ≡ ((not l && (m || i)) && x)
@@ -223,6 +226,7 @@ def_found c place name params before middle after f p method spot = record {
   reads = λ n more first. bracket_is spot f.spot name (n + p.is_read.steps) (bracket_tokens p.written ++ more) ∙ ap (λ r. then_read r (def_bracket spot f.spot name (n + p.is_read.steps))) (p.is_read.reads n more first);
   what_is = λ colon behind. (refl, p.names_are);
   behind_is = λ colon behind. refl;
+  past = past_opening 11 spot (word name f.spot ++ bracket_tokens p.written) (def_head spot f.spot name p.written.0 p.written.1 p.written.2 some_spot None) some_spot refl refl refl (def_spells spot f.spot name p.written some_spot None);
   depth = 0;
   low = omega arith;
   depth_is = λ colon behind. refl;

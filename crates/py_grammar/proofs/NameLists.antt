@@ -35,6 +35,7 @@ use Rattle.py_grammar.proofs.ClosedParts.{not_deep}
 use Rattle.py_grammar.proofs.PrimParts.{go_on_once}
 use Rattle.py_grammar.proofs.RowParts.{more_steps, sign_first}
 use Rattle.py_grammar.proofs.HeadParts.{HeadTurns, first_same, begins_part_head}
+use Rattle.py_grammar.proofs.Unread.{passes_word}
 use Rattle.py_grammar.proofs.AmissParts.{amiss_of_refused, amiss_here, amiss_head}
 
 -- ---- whether a name is among others
@@ -303,6 +304,7 @@ others_given given before after middle list place name left g f there counted = 
   before_is = g.go.before_is ∙ ap (λ ts. g.go.front ++ ts) f.before_is;
   left_is = counted;
   begins = begins_front before after list g.go f.spot name;
+  goes_on = tt;
   none = λ more. record {
     steps = 1 + g.go.steps;
     only = λ n. only_whole (IsGiven given (Here (Unexpected left))) (read_names (n + (1 + g.go.steps)) (g.go.front ++ token (Word name) f.spot ∷ more))
@@ -356,8 +358,8 @@ given_amiss c given limit spot End names is = absurd is
 pub global_refused : (given : List (List ℕ)) (before : List Token) (stop : Stop) → RefusedAmiss all_names (IsGiven given) before stop → GlobalRefused given before stop
 global_refused given before stop is = record {
   there = λ c limit spot. amiss_head c given limit all_names (IsGiven given) (token (Keyword 19) spot ∷ []) before (token (Keyword 19) spot ∷ before) stop (λ n names rest. Some (global_head spot names)) refl
-      (begins_part_head all_names (token (Keyword 19) spot ∷ []) (global_head spot) (λ names. []) (λ names. ap (λ ts. token (Keyword 19) spot ∷ ts) (sym (append-nil (names_tokens names)))))
-      (global_turns spot before) (λ why n names left is. given_amiss c given limit spot why names is) is;
+      (begins_part_head all_names (token (Keyword 19) spot ∷ []) (global_head spot) (λ names. []) (λ names. refl) (λ names. refl) (λ names. ap (λ ts. token (Keyword 19) spot ∷ ts) (sym (append-nil (names_tokens names)))))
+      (passes_word 19 spot [] before refl) (global_turns spot before) (λ why n names left is. given_amiss c given limit spot why names is) is;
 }
 
 more_at : (rest : List Token) (stop : Stop) → IsMore rest stop → IsAtFirst rest stop
@@ -507,6 +509,7 @@ different_repeated before after middle list place name left g f there counted = 
   before_is = g.go.before_is ∙ ap (λ ts. g.go.front ++ ts) f.before_is;
   left_is = counted;
   begins = record { some = params (g.go.put (last_name f.spot name)); more = word name f.spot; tokens_are = g.go.tokens_are (last_name f.spot name) };
+  goes_on = tt;
   none = λ more. record {
     steps = 1 + g.go.steps;
     only = λ n. only_is (IsRepeated (Here (Unexpected left))) _ _

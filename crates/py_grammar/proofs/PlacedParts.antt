@@ -17,11 +17,12 @@ use Rattle.py_grammar.specs.Written.{Simple, expression, pass}
 use Rattle.py_grammar.specs.StatementTokens.{simple_tokens}
 use Rattle.py_grammar.specs.StatementTrees.{simple_form}
 use Rattle.py_grammar.specs.WellPlaced.{Around, form_stands, simple_stands, are_alone, alone_kind}
-use Rattle.py_grammar.specs.Reader.{spot_of}
+use Rattle.py_grammar.specs.Reader.{spot_of, is_keyword}
 use Rattle.py_grammar.specs.StatementReader.{read_simple}
-use Rattle.py_grammar.specs.Parsed.{Only, Finds}
+use Rattle.py_grammar.specs.Parsed.{ShowsAt, GoesOn, Only, Finds}
 use Rattle.py_grammar.specs.ParsedSimple.{leaving_none, simple_part, SimpleFound, IsAmiss, BeginsSimple, SimpleShown, SimpleEnds, SimpleRefused}
-use Rattle.py_grammar.specs.ParsedHead.{PlacedFound, IsAmissPlaced, begins_at, ShownBy, EndedBy, PlacedRefused, BehindRefused, BehindFound, is_compound_kind, may_be_alone, is_refused_kind, is_text_kind, limit_fault, IsRefusedInClass, ShowsOnLine, left_in_class, stands_first}
+use Rattle.py_grammar.specs.ParsedHead.{PlacedFound, IsAmissPlaced, GoesOnPlaced, IsAheadPlaced, begins_at, ShownBy, EndedBy, PlacedRefused, BehindRefused, BehindFound, is_compound_kind, may_be_alone, is_refused_kind, is_text_kind, limit_fault, IsRefusedInClass, ShowsOnLine, left_in_class, stands_first}
+use Rattle.py_grammar.proofs.NoDel.{no_del_unread}
 use Rattle.py_grammar.proofs.Stops.{some_spot, shows_on_line}
 use Rattle.py_grammar.proofs.SimpleReading.{simple_reads}
 use Rattle.py_grammar.proofs.SimpleParts.{nothing_there}
@@ -43,7 +44,14 @@ amiss_placed around limit (Here (TooMany at)) s amiss = absurd amiss
 amiss_placed around limit (Here Memory) s amiss = absurd amiss
 amiss_placed around limit End s amiss = and_false _ (form_stands around (simple_form s)) amiss
 
-placed_shown : (around : Around) (limit : Option Limit) (before : List Token) (fault : Fault) → SimpleShown around before fault → ShownBy BeginsSimple simple_tokens (λ fault a. IsAmissPlaced around limit (Here fault) a) before fault
+-- a limit is none of the grammar's faults
+goes_placed : (limit : Option Limit) (front : List Token) (t : Token) (behind : List Token) (fault : Fault) → ShowsAt behind fault → GoesOn BeginsSimple front t fault → GoesOnPlaced limit front t fault
+goes_placed limit front t behind (TooDeep at) named goes = inl goes
+goes_placed limit front t behind (Unexpected left) named goes = tt
+goes_placed limit front t behind (TooMany at) named goes = absurd named
+goes_placed limit front t behind Memory named goes = tt
+
+placed_shown : (around : Around) (limit : Option Limit) (before : List Token) (fault : Fault) → SimpleShown around before fault → ShownBy BeginsSimple (IsAheadPlaced limit) simple_tokens (λ fault a. IsAmissPlaced around limit (Here fault) a) before fault
 placed_shown around limit before fault s = record {
   front = s.front;
   shown_by = s.shown_by;
@@ -51,6 +59,7 @@ placed_shown around limit before fault s = record {
   before_is = s.before_is;
   left_is = shows_on_line s.shown_by s.behind fault s.left_is;
   begun = s.begins;
+  goes_on = (goes_placed limit s.front s.shown_by s.behind fault s.left_is s.goes_on, s.unread);
   none = λ a more same. amiss_placed around limit (Here fault) a (finds_simple _ (s.front ++ s.shown_by ∷ more) a (s.none more) same);
 }
 
@@ -70,14 +79,23 @@ placed_end around limit before is = subst (λ (ts : List Token). PlacedRefused a
     (record { begun = inl (record { some = pass some_spot; more = simple_tokens (pass some_spot); tokens_are = refl }); none = λ s same. absurd (simple_some s same) })
 
 -- the first token shows it
-at_first_token : (around : Around) (limit : Option Limit) (t : Token) (behind : List Token) (fault : Fault) → ShowsOnLine t behind fault → ((s : Simple) (more : List Token) → simple_tokens s ≡ t ∷ more → IsAmissPlaced around limit (Here fault) s)
-    → ShownBy BeginsSimple simple_tokens (λ fault a. IsAmissPlaced around limit (Here fault) a) (t ∷ behind) fault
-at_first_token around limit t behind fault named none = record { front = []; shown_by = t; behind = behind; before_is = refl; left_is = named; begun = inl (record { some = pass some_spot; more = simple_tokens (pass some_spot); tokens_are = refl }); none = none }
+at_first_token : (around : Around) (limit : Option Limit) (t : Token) (behind : List Token) (fault : Fault) → ShowsOnLine t behind fault → GoesOnPlaced limit [] t fault
+    → ((s : Simple) (more : List Token) → simple_tokens s ≡ t ∷ more → IsAmissPlaced around limit (Here fault) s) → ShownBy BeginsSimple (IsAheadPlaced limit) simple_tokens (λ fault a. IsAmissPlaced around limit (Here fault) a) (t ∷ behind) fault
+at_first_token around limit t behind fault named goes none = record {
+  front = [];
+  shown_by = t;
+  behind = behind;
+  before_is = refl;
+  left_is = named;
+  begun = inl (record { some = pass some_spot; more = simple_tokens (pass some_spot); tokens_are = refl });
+  goes_on = (goes, no_del_unread [] t fault refl);
+  none = none;
+}
 
 -- a limit is passed
 pub placed_limited : (around : Around) (l : Limit) (t : Token) (behind : List Token) → PlacedRefused around (Some l) (t ∷ behind) (Here (limit_fault l t.at))
-placed_limited around ByNumber t behind = at_first_token around (Some ByNumber) t behind (TooMany t.at) refl (λ s more same. refl)
-placed_limited around ByDepth t behind = at_first_token around (Some ByDepth) t behind (TooDeep t.at) tt (λ s more same. inr (refl, subst (λ (ts : List Token). stands_first ts t.at) (sym same) refl))
+placed_limited around ByNumber t behind = at_first_token around (Some ByNumber) t behind (TooMany t.at) refl (refl, refl) (λ s more same. refl)
+placed_limited around ByDepth t behind = at_first_token around (Some ByDepth) t behind (TooDeep t.at) tt (inr (refl, refl, refl)) (λ s more same. inr (refl, subst (λ (ts : List Token). stands_first ts t.at) (sym same) refl))
 
 -- `def`, `class` and `global`
 refused_is_compound : (kind : TokenKind) → is_refused_kind kind ≡ true → is_compound_kind kind ≡ true
@@ -94,7 +112,7 @@ refused_is_compound (Keyword n) is = by (n == 11) refl (n == 9) refl (n == 19) r
     by false one false other false last any = cc
 
 pub placed_word : (around : Around) (limit : Option Limit) (t : Token) (behind : List Token) (left : ℕ) → is_refused_kind t.kind ≡ true → left ≡ length behind → PlacedRefused around limit (t ∷ behind) (Here (Unexpected left))
-placed_word around limit t behind left is counted = at_first_token around limit t behind (Unexpected left) counted (λ s more same. absurd (no_such s more same))
+placed_word around limit t behind left is counted = at_first_token around limit t behind (Unexpected left) counted tt (λ s more same. absurd (no_such s more same))
   where
     no_such : (s : Simple) (more : List Token) → simple_tokens s ≡ t ∷ more → ⊥
     no_such s more same = let absent : true ≡ false = sym (refused_is_compound t.kind is) ∙ simple_not_compound s t more same in cc
@@ -137,6 +155,13 @@ begins_text t is = by t.kind is refl
     by (Keyword n) is same = cc
     by (Sign n) is same = cc
 
+text_no_del : (kind : TokenKind) → is_text_kind kind ≡ true → (is_keyword 12 kind || false) ≡ false
+text_no_del (Text bytes) is = refl
+text_no_del (Word bytes) is = cc
+text_no_del (Number value) is = cc
+text_no_del (Keyword n) is = cc
+text_no_del (Sign n) is = cc
+
 text_behind : (kind : TokenKind) → is_text_kind kind ≡ true → may_be_alone kind [] ≡ false → ⊥
 text_behind (Text bytes) is absent = cc
 text_behind (Word bytes) is absent = cc
@@ -145,12 +170,13 @@ text_behind (Keyword n) is absent = cc
 text_behind (Sign n) is absent = cc
 
 text_in_class : (around : Around) (limit : Option Limit) (t : Token) (behind : List Token) (left : ℕ) → around.in_class ≡ true → may_be_alone t.kind behind ≡ false → is_text_kind t.kind ≡ true → left ≡ left_in_class true behind
-    → ShownBy BeginsSimple simple_tokens (λ fault a. IsAmissPlaced around limit (Here fault) a) (t ∷ behind) (Unexpected left)
+    → ShownBy BeginsSimple (IsAheadPlaced limit) simple_tokens (λ fault a. IsAmissPlaced around limit (Here fault) a) (t ∷ behind) (Unexpected left)
 text_in_class around limit t [] left inside absent is counted = absurd (text_behind t.kind is absent)
 text_in_class around limit t (u ∷ us) left inside absent is counted = record {
   front = t ∷ [];
   shown_by = u;
   behind = us;
+  goes_on = (tt, no_del_unread (t ∷ []) u (Unexpected left) (text_no_del t.kind is));
   before_is = refl;
   left_is = counted;
   begun = begins_text t is;
@@ -158,9 +184,9 @@ text_in_class around limit t (u ∷ us) left inside absent is counted = record {
 }
 
 other_in_class : (around : Around) (limit : Option Limit) (t : Token) (behind : List Token) (left : ℕ) → around.in_class ≡ true → may_be_alone t.kind behind ≡ false → (b : Bool) → is_text_kind t.kind ≡ b → left ≡ left_in_class b behind
-    → ShownBy BeginsSimple simple_tokens (λ fault a. IsAmissPlaced around limit (Here fault) a) (t ∷ behind) (Unexpected left)
+    → ShownBy BeginsSimple (IsAheadPlaced limit) simple_tokens (λ fault a. IsAmissPlaced around limit (Here fault) a) (t ∷ behind) (Unexpected left)
 other_in_class around limit t behind left inside absent true is counted = text_in_class around limit t behind left inside absent is counted
-other_in_class around limit t behind left inside absent false is counted = at_first_token around limit t behind (Unexpected left) counted (λ s more same. amiss_in_class around t behind inside absent is s more same)
+other_in_class around limit t behind left inside absent false is counted = at_first_token around limit t behind (Unexpected left) counted tt (λ s more same. amiss_in_class around t behind inside absent is s more same)
 
 pub placed_in_class : (around : Around) (limit : Option Limit) (t : Token) (behind : List Token) (stop : Stop) → around.in_class ≡ true → may_be_alone t.kind behind ≡ false → IsRefusedInClass (t ∷ behind) stop → PlacedRefused around limit (t ∷ behind) stop
 placed_in_class around limit t behind (Here (Unexpected left)) inside absent is = other_in_class around limit t behind left inside absent (is_text_kind t.kind) refl is

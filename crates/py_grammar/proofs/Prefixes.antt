@@ -20,13 +20,13 @@ use Rattle.py_grammar.specs.Lies.{is_place, not_lies, unary_lies, prim_lies}
 use Rattle.py_grammar.proofs.Lying.{over_is, over_here, is_here, not_above, unary_above}
 use Rattle.py_grammar.specs.Reader.{go_on, spot_of, add_sign_of, read_keyword, read_not, read_cmp, read_unary, read_prim}
 use Rattle.py_grammar.specs.Parsed.{not_part, cmp_part, unary_part, prim_part, Taken, TakenAdd, Found, IsDeep, Finds, Refused, IsTooDeep, is_keyword_next, add_sign_next, sign_of}
-use Rattle.py_grammar.proofs.Refusals.{first_of, Inside, finds_first, finds_anything, deep_over, refused_inside, refused_same, full, keyword_next_same, one_behind}
+use Rattle.py_grammar.proofs.Refusals.{first_of, Inside, finds_first, finds_anything, deep_over, refused_inside, refused_same, begins_up_to, full, keyword_next_same, one_behind}
 use Rattle.py_grammar.proofs.Stops.{some_spot, finds_none}
 
-some_unary : Unary
+pub some_unary : Unary
 some_unary = plain_unary (plain_prim (name some_spot []))
 
-some_not : Not
+pub some_not : Not
 some_not = plain_not (plain_cmp (plain_sum (plain_term some_unary)))
 
 one_more : (n : ℕ) → suc n ≡ 1 + n
@@ -67,6 +67,7 @@ not_cmp_refused room before stop absent is = refused_inside not_part room cmp_pa
 
 pub not_here : (room : ℕ) (before behind : List Token) (at : Pos) (stop : Stop) → Taken (Keyword 26) before at behind → IsTooDeep 0 at room stop → Refused not_part room before stop
 not_here room before behind at stop k deep = full not_part room before [] (token (Keyword 26) k.spot) behind 0 at stop deep k.before_is (record { some = some_not; more = _; tokens_are = refl })
+    (begins_up_to not_part (not_of k.spot some_not) [] (token (Keyword 26) k.spot) (not_tokens some_not) refl)
     (λ more. finds_first _ _ read_not read_not (λ n e rest. Some (not_of k.spot e, rest)) (token (Keyword 26) k.spot ∷ more) more (λ n. refl) (λ n e ts any. let one = over_here (is_place k.spot.at at) (not_lies e at) (is_here k.spot.at at k.at_is) in omega (arith, one)) (finds_anything read_not more))
 
 operand_inside : (room inner : ℕ) (spot : Spot) (behind : List Token) → room ≤ suc inner → Inside not_part room not_part inner (token (Keyword 26) spot ∷ []) behind
@@ -142,6 +143,7 @@ unary_prim_refused room before stop absent is = refused_inside unary_part room p
 
 pub unary_here : (room : ℕ) (before behind : List Token) (at : Pos) (op : BinOp) (stop : Stop) → TakenAdd before at op behind → IsTooDeep 0 at room stop → Refused unary_part room before stop
 unary_here room before behind at op stop k deep = full unary_part room before [] (sign_token k.which k.spot) behind 0 at stop deep (k.before_is ∙ sign_same k.which k.spot behind) (record { some = some_unary; more = _; tokens_are = refl })
+    (begins_up_to unary_part (signed k.spot k.which some_unary) [] (sign_token k.which k.spot) (unary_tokens some_unary) (sign_same k.which k.spot (unary_tokens some_unary)))
     (λ more. finds_first _ _ read_unary read_unary (λ n e rest. Some (signed k.spot k.which e, rest)) (sign_token k.which k.spot ∷ more) more (λ n. unary_sign k.which k.spot n more) (λ n e ts any. let one = over_here (is_place k.spot.at at) (unary_lies e at) (is_here k.spot.at at k.at_is) in omega (arith, one)) (finds_anything read_unary more))
 
 signed_inside : (room inner : ℕ) (which : AddSign) (spot : Spot) (behind : List Token) → room ≤ suc inner → Inside unary_part room unary_part inner (sign_token which spot ∷ []) behind

@@ -14,7 +14,7 @@ use Rattle.py_grammar.specs.declared.fault.Fault.TheVariants.{TooDeep}
 use Rattle.py_grammar.specs.declared.fault.Stop.{Stop}
 use Rattle.py_grammar.specs.declared.fault.Stop.TheVariants.{Here}
 use Rattle.py_grammar.specs.declared.part.Part.{Part}
-use Rattle.py_grammar.specs.Concrete.{Spot, Prim, plain_prim, call, part, attribute, one_index, range_index}
+use Rattle.py_grammar.specs.Concrete.{Spot, Prim, plain_prim, call, part, attribute, one_index, range_index, no_bound, no_items}
 use Rattle.py_grammar.specs.Tokens.{token, word, prim_tokens, items_tokens, index_tokens}
 use Rattle.py_grammar.specs.Trees.{prim_tree, atom_tree, items_tree}
 use Rattle.py_grammar.specs.Depth.{prim_depth, items_depth, index_depth}
@@ -22,11 +22,14 @@ use Rattle.py_grammar.specs.Lies.{begins, over, index_lies, items_lies, prim_lie
 use Rattle.py_grammar.proofs.Lying.{above_left, over_is, over_right, prim_above, prim_low}
 use Rattle.py_grammar.specs.Reader.{Read, go_on, spot_of, next_level, kind_level, is_sign, keyword_level, read_sign, read_name, read_items, read_index, read_prim, prim_rest, read_atom}
 use Rattle.py_grammar.specs.StatementReader.{prim_target}
-use Rattle.py_grammar.specs.Parsed.{prim_part, atom_part, is_form, Taken, TakenName, Found, IsDeep, Only, Refused, IsTooDeep, one_sign, one_name, is_sign_next}
+use Rattle.py_grammar.specs.Parsed.{prim_part, atom_part, is_form, Taken, TakenName, Found, IsDeep, Only, Begins, Refused, IsTooDeep, one_sign, one_name, is_sign_next}
 use Rattle.py_grammar.specs.ParsedRows.{IsDeepestWith, closed, read_closed, items_part, index_part, index_form, Trailer, called, parted, dotted, with_trailer, trailer_tokens, trailer_depth, trailer_lies, trailer_form, trailer_tree, index_tree, read_trailer, trailer_part, FoundClosed, FoundTrailer}
 use Rattle.py_grammar.proofs.Reading.{prim_leads}
-use Rattle.py_grammar.proofs.Refusals.{Inside, first_of, only_any, only_go_on, only_if, only_is, finds_first, finds_lead, finds_at_once, deeper, deep_left, deep_over, refused_inside, refused_same, full, fits_above}
+use Rattle.py_grammar.proofs.Refusals.{Inside, first_of, only_any, only_go_on, only_if, only_is, finds_first, finds_lead, finds_at_once, deeper, deep_left, deep_over, refused_inside, refused_same, begins_inside, full, fits_above}
 use Rattle.py_grammar.proofs.ClosedParts.{not_deep}
+use Rattle.py_grammar.proofs.Comparisons.{one_token}
+use Rattle.py_grammar.proofs.Firsts.{sign_is}
+use Rattle.py_grammar.proofs.Stops.{some_spot}
 
 -- ---- what goes on with a primary is read
 
@@ -344,9 +347,23 @@ pub prim_right : (room inner : ℕ) (before middle : List Token) (left : Part) (
 prim_right room inner before middle left stop l level less is =
     refused_same prim_part room before _ stop l.before_is (refused_inside prim_part room trailer_part inner (prim_tokens l.written) middle stop (prim_goes_on room inner l.written middle less level) is)
 
+-- a token with which a primary goes on begins what goes on with it
+trailer_begins : (t : Token) → (kind_level t.kind == 1) ≡ true → Begins trailer_part (t ∷ [])
+trailer_begins t level = by (is_sign 0 t.kind) (is_sign 2 t.kind) (is_sign 8 t.kind) refl refl refl
+  where
+    of : (k : ℕ) (some : Trailer) (more : List Token) → is_sign k t.kind ≡ true → trailer_tokens some ≡ token (Sign k) (spot_of t) ∷ more → Begins trailer_part (t ∷ [])
+    of k some more is spells = record { some = some; more = more; tokens_are = spells ∙ ap (λ u. u ∷ more) (sym (one_token t k (sign_is k t.kind is))) }
+
+    by : (a b c : Bool) → is_sign 0 t.kind ≡ a → is_sign 2 t.kind ≡ b → is_sign 8 t.kind ≡ c → Begins trailer_part (t ∷ [])
+    by true b c one two three = of 0 (called (spot_of t) no_items some_spot) (token (Sign 1) some_spot ∷ []) one refl
+    by false true c one two three = of 2 (parted (spot_of t) (range_index no_bound some_spot no_bound) some_spot) (token (Sign 7) some_spot ∷ token (Sign 3) some_spot ∷ []) two refl
+    by false false true one two three = of 8 (dotted (spot_of t) some_spot []) (word [] some_spot) three refl
+    by false false false one two three = absurd (three_signs t.kind level one two three)
+
 pub prim_full : (room : ℕ) (before middle : List Token) (left : Part) (stop : Stop) → Found prim_part prim_tree 0 room before left middle → (next_level middle == 1) ≡ true → IsTooDeep left.height left.deepest room stop → Refused prim_part room before stop
 prim_full room before [] left stop l level deep = cc
 prim_full room before (t ∷ ts) left stop l level deep = full prim_part room before (prim_tokens l.written) t ts left.height left.deepest stop deep l.before_is (record { some = l.written; more = []; tokens_are = sym (append-nil (prim_tokens l.written)) })
+    (begins_inside prim_part trailer_part (prim_tokens l.written) (t ∷ []) (prim_goes_on room room l.written (t ∷ ts) (omega arith) level).begins (trailer_begins t level))
     (λ more. finds_lead _ read_prim prim_rest 0 (prim_tokens l.written) l.written (t ∷ more) (prim_leads l.written) (above_zero (t ∷ more))
     (finds_at_once _ (λ n ts. prim_rest n l.written ts) (t ∷ more)
     (λ n. only_is _ _ _ (rest_is n l.written (t ∷ more) level) (only_any _ (read_trailer n (t ∷ more)) _ (λ tr rest. prim_deep (Here (TooDeep left.deepest)) left.height n (with_trailer l.written tr) rest

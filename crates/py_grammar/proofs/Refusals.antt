@@ -10,7 +10,7 @@ use Rattle.py_grammar.specs.declared.fault.Fault.{Fault}
 use Rattle.py_grammar.specs.declared.fault.Fault.TheVariants.{Unexpected, TooDeep, TooMany, Memory}
 use Rattle.py_grammar.specs.declared.fault.Stop.{Stop}
 use Rattle.py_grammar.specs.declared.fault.Stop.TheVariants.{Here, End}
-use Rattle.py_grammar.specs.Parsed.{Production, IsDeep, Only, Finds, Begins, Shown, Refused, IsTooDeep, is_keyword_next}
+use Rattle.py_grammar.specs.Parsed.{Production, IsDeep, Only, Finds, Begins, GoesOn, Shown, Refused, IsTooDeep, is_keyword_next}
 use Rattle.py_grammar.specs.Lies.{over}
 use Rattle.py_grammar.proofs.Lying.{over_more}
 use Rattle.py_grammar.specs.Reader.{Read, go_on, next_level, kind_level, is_keyword}
@@ -130,7 +130,7 @@ pub first_alike : (f : List Token) (t : Token) (more behind : List Token) → fi
 first_alike [] t more behind = refl
 first_alike (first ∷ f) t more behind = refl
 
-begins_inside : {A B : Type 0} (p : Production A) (q : Production B) (front part : List Token) → ((b : B) → Begins p (front ++ q.tokens b)) → Begins q part → Begins p (front ++ part)
+pub begins_inside : {A B : Type 0} (p : Production A) (q : Production B) (front part : List Token) → ((b : B) → Begins p (front ++ q.tokens b)) → Begins q part → Begins p (front ++ part)
 begins_inside p q front part begins b =
     let whole = begins b.some in
     record {
@@ -142,6 +142,13 @@ begins_inside p q front part begins b =
     regroup : (w x y z : List Token) → (w ++ (x ++ y)) ++ z ≡ (w ++ x) ++ (y ++ z)
     regroup w x y z = append_assoc w (x ++ y) z ∙ ap (λ ts. w ++ ts) (append_assoc x y z) ∙ sym (append_assoc w x (y ++ z))
 
+-- what goes on with a token there goes on with it behind other tokens too
+pub goes_inside : (inner outer : List Token → Type 0) (front part : List Token) (t : Token) (fault : Fault) → ((tokens : List Token) → inner tokens → outer (front ++ tokens)) → GoesOn inner part t fault → GoesOn outer (front ++ part) t fault
+goes_inside inner outer front part t (TooDeep at) begins goes = subst outer (sym (append_assoc front part (t ∷ []))) (begins (part ++ t ∷ []) goes)
+goes_inside inner outer front part t (Unexpected left) begins goes = tt
+goes_inside inner outer front part t (TooMany at) begins goes = tt
+goes_inside inner outer front part t Memory begins goes = tt
+
 shown_inside : {A B : Type 0} (p : Production A) (room : ℕ) (q : Production B) (inner : ℕ) (front rest : List Token) (fault : Fault) → Inside p room q inner front rest → Shown q inner rest fault → Shown p room (front ++ rest) fault
 shown_inside p room q inner front rest fault inside s = record {
   front = front ++ s.front;
@@ -150,6 +157,7 @@ shown_inside p room q inner front rest fault inside s = record {
   before_is = ap (λ ts. front ++ ts) s.before_is ∙ sym (append_assoc front s.front (s.shown_by ∷ s.behind));
   left_is = s.left_is;
   begins = begins_inside p q front s.front inside.begins s.begins;
+  goes_on = goes_inside (Begins q) (Begins p) front s.front s.shown_by fault (λ tokens b. begins_inside p q front tokens inside.begins b) s.goes_on;
   none = λ more. finds_same _ p.read _ _ (append_assoc front s.front (s.shown_by ∷ more))
       (inside.finds (Here fault) (s.front ++ s.shown_by ∷ more) (first_alike s.front s.shown_by more s.behind ∙ sym (ap first_of s.before_is)) (s.none more));
 }
@@ -174,25 +182,30 @@ finds_weaker P Q read ts weaker finds = record { steps = finds.steps; only = λ 
     weaken None only = tt
     weaken (Some (a, rest)) only = weaker a only
 
--- there is no room over what was read, and the next token begins something over it
-pub full : {A : Type 0} (p : Production A) (room : ℕ) (before front : List Token) (t : Token) (behind : List Token) (height : ℕ) (deepest : Pos) (stop : Stop) → IsTooDeep height deepest room stop → before ≡ front ++ t ∷ behind → Begins p front
+-- what is written begins with all tokens up to one of its own
+pub begins_up_to : {A : Type 0} (p : Production A) (some : A) (front : List Token) (t : Token) (more : List Token) → p.tokens some ≡ front ++ t ∷ more → Begins p (front ++ t ∷ [])
+begins_up_to p some front t more is = record { some = some; more = more; tokens_are = is ∙ sym (append_assoc front (t ∷ []) more) }
+
+-- there is no room over what was read, and the next token goes on with something over it
+pub full : {A : Type 0} (p : Production A) (room : ℕ) (before front : List Token) (t : Token) (behind : List Token) (height : ℕ) (deepest : Pos) (stop : Stop) → IsTooDeep height deepest room stop → before ≡ front ++ t ∷ behind → Begins p front → Begins p (front ++ t ∷ [])
     → ((more : List Token) → Finds (λ a. height < p.lies a deepest) p.read (front ++ t ∷ more)) → Refused p room before stop
-full p room before front t behind height deepest (Here (TooDeep at)) deep before_is begins over_it = record {
+full p room before front t behind height deepest (Here (TooDeep at)) deep before_is begins goes over_it = record {
   front = front;
   shown_by = t;
   behind = behind;
   before_is = before_is;
   left_is = tt;
   begins = begins;
+  goes_on = goes;
   none = λ more. finds_weaker _ _ p.read (front ++ t ∷ more) (λ a higher. there (p.lies a) deep.0 deep.1 higher) (over_it more);
 }
   where
     there : (f : Pos → ℕ) → room ≤ height → at ≡ deepest → height < f deepest → room < f at
     there f low same higher = let is = ap f same in omega (arith, low, higher, is)
-full p room before front t behind height deepest (Here (Unexpected at)) deep before_is begins over_it = absurd deep
-full p room before front t behind height deepest (Here (TooMany at)) deep before_is begins over_it = absurd deep
-full p room before front t behind height deepest (Here Memory) deep before_is begins over_it = absurd deep
-full p room before front t behind height deepest End deep before_is begins over_it = absurd deep
+full p room before front t behind height deepest (Here (Unexpected at)) deep before_is begins goes over_it = absurd deep
+full p room before front t behind height deepest (Here (TooMany at)) deep before_is begins goes over_it = absurd deep
+full p room before front t behind height deepest (Here Memory) deep before_is begins goes over_it = absurd deep
+full p room before front t behind height deepest End deep before_is begins goes over_it = absurd deep
 
 -- ---- heights
 

@@ -3,12 +3,14 @@ use Rattle.std.proofs.Common.{◌≡◌, inl, ℕ, suc, ◌+◌, ◌<◌, Bool, 
 use Rattle.std.specs.Prelude.{◌==◌}
 use Rattle.std.proofs.lemmas.Bool.{eqb-true}
 use Rattle.py_lines.specs.declared.parts.Token.{Token}
+use Rattle.py_lines.specs.declared.parts.TokenKind.TheVariants.{Keyword}
 use Rattle.py_grammar.specs.declared.fault.Fault.{Fault}
 use Rattle.py_grammar.specs.declared.fault.Fault.TheVariants.{Unexpected, TooDeep, TooMany, Memory}
 use Rattle.py_grammar.specs.declared.fault.Stop.{Stop}
 use Rattle.py_grammar.specs.declared.fault.Stop.TheVariants.{Here, End}
 use Rattle.py_grammar.specs.declared.part.Part.{Part}
-use Rattle.py_grammar.specs.Tokens.{expr_tokens, exprs_tokens}
+use Rattle.py_grammar.specs.Concrete.{Spot}
+use Rattle.py_grammar.specs.Tokens.{token, expr_tokens, exprs_tokens}
 use Rattle.py_grammar.specs.Trees.{expr_tree}
 use Rattle.py_grammar.specs.Written.{Simple, pass}
 use Rattle.py_grammar.specs.StatementTokens.{simple_tokens}
@@ -16,8 +18,8 @@ use Rattle.py_grammar.specs.Lies.{simple_lies}
 use Rattle.py_grammar.specs.WellPlaced.{Around}
 use Rattle.py_grammar.specs.Reader.{Read, spot_of, next_level, starts, read_expr, read_exprs}
 use Rattle.py_grammar.specs.StatementReader.{whole, alone, read_simple}
-use Rattle.py_grammar.specs.Parsed.{Production, ShowsAt, IsDeep, Only, Finds, Begins, Shown, Refused, Found, FoundRow, expr_part}
-use Rattle.py_grammar.specs.ParsedSimple.{leaving_none, simple_part, BeginsSimple, IsAmiss, SimpleShown, SimpleEnds, SimpleRefused, IsMore}
+use Rattle.py_grammar.specs.Parsed.{Production, GoesOn, IsDeep, Only, Finds, Begins, Shown, is_keyword_next, Refused, Found, FoundRow, expr_part}
+use Rattle.py_grammar.specs.ParsedSimple.{leaving_none, simple_part, BeginsSimple, UnreadDel, IsAmiss, SimpleShown, SimpleEnds, SimpleRefused, IsMore}
 use Rattle.py_grammar.proofs.Reading.{expr_reads}
 use Rattle.py_grammar.proofs.RowReads.{row_reads}
 use Rattle.py_grammar.proofs.Refusals.{first_of, only_is, finds_same, finds_weaker}
@@ -120,6 +122,20 @@ first_alike : (f : List Token) (t : Token) (more behind : List Token) → first_
 first_alike [] t more behind = refl
 first_alike (first ∷ f) t more behind = refl
 
+-- a statement that does not begin with `del`
+pub other_statement : (before front : List Token) (t : Token) (behind : List Token) (fault : Fault) → is_keyword_next 12 before ≡ false → before ≡ front ++ t ∷ behind → UnreadDel front t fault
+other_statement before front t behind fault other is = record {
+  there = λ spot inside at e more same. absurd (let no : true ≡ false = sym (ap (λ ts. is_keyword_next 12 (ts ++ t ∷ behind)) at) ∙ sym (ap (is_keyword_next 12) is) ∙ other in cc);
+}
+
+-- with TooDeep, what begins a part that is refused goes on behind these tokens too
+goes_behind : {B : Type 0} (q : Production B) (front inside : List Token) (t : Token) (fault : Fault) → ((tokens : List Token) → Begins q tokens → BeginsSimple (front ++ tokens)) → GoesOn (Begins q) inside t fault
+    → GoesOn BeginsSimple (front ++ inside) t fault
+goes_behind q front inside t (TooDeep at) begins goes = subst BeginsSimple (sym (append_assoc front inside (t ∷ []))) (begins (inside ++ t ∷ []) goes)
+goes_behind q front inside t (Unexpected left) begins goes = tt
+goes_behind q front inside t (TooMany at) begins goes = tt
+goes_behind q front inside t Memory begins goes = tt
+
 abbrev IsWeaker : Around → Stop → Type 0
 IsWeaker around stop = (s : Simple) → IsDeep stop 100 (simple_lies s) → IsAmiss around stop s
 
@@ -127,6 +143,7 @@ IsWeaker around stop = (s : Simple) → IsDeep stop 100 (simple_lies s) → IsAm
 record Stands {B : Type 0} (q : Production B) (inner : ℕ) (front rest : List Token) : Type 0 where
   begins : (tokens : List Token) → Begins q tokens → BeginsSimple (front ++ tokens)
   finds : (why : Stop) (more : List Token) → first_of more ≡ first_of rest → Finds (λ b. IsDeep why inner (q.lies b)) q.read more → Finds (λ s. IsDeep why 100 (simple_lies s)) simple_part.read (front ++ more)
+  unread : (fault : Fault) (s : Shown q inner rest fault) → UnreadDel (front ++ s.front) s.shown_by fault
 
 shown_part : {B : Type 0} (around : Around) (q : Production B) (inner : ℕ) (front rest before : List Token) (fault : Fault) → before ≡ front ++ rest → Stands q inner front rest → IsWeaker around (Here fault)
     → Shown q inner rest fault → SimpleShown around before fault
@@ -137,6 +154,8 @@ shown_part around q inner front rest before fault is part weaker s = record {
   before_is = is ∙ ap (λ ts. front ++ ts) s.before_is ∙ sym (append_assoc front s.front (s.shown_by ∷ s.behind));
   left_is = s.left_is;
   begins = part.begins s.front s.begins;
+  goes_on = goes_behind q front s.front s.shown_by fault part.begins s.goes_on;
+  unread = part.unread fault s;
   none = λ more. finds_same _ simple_part.read _ _ (append_assoc front s.front (s.shown_by ∷ more))
       (finds_weaker _ _ simple_part.read _ weaker (part.finds (Here fault) (s.front ++ s.shown_by ∷ more) (first_alike s.front s.shown_by more s.behind ∙ sym (ap first_of s.before_is)) (s.none more)));
 }
@@ -151,48 +170,69 @@ refused_there around q inner front rest before End is part refused =
     (record { begins = part.begins rest refused.0; none = finds_weaker _ _ simple_part.read _ (λ s deep. absurd deep) (part.finds End rest refl refused.1) })
 
 -- a part is refused behind these tokens
-pub refused_part : {B : Type 0} (around : Around) (q : Production B) (inner : ℕ) (front rest before : List Token) (stop : Stop) (g : ℕ → B → List Token → Option Simple) → before ≡ front ++ rest
+pub refused_behind : {B : Type 0} (around : Around) (q : Production B) (inner : ℕ) (front rest before : List Token) (stop : Stop) (g : ℕ → B → List Token → Option Simple) → before ≡ front ++ rest
+    → ((fault : Fault) (s : Shown q inner rest fault) → UnreadDel (front ++ s.front) s.shown_by fault)
     → ((tokens : List Token) → Begins q tokens → BeginsSimple (front ++ tokens)) → ((more : List Token) → first_of more ≡ first_of rest → Turns q (front ++ more) more g)
     → ((why : Stop) (n : ℕ) (b : B) (left : List Token) → IsDeep why inner (q.lies b) → Only (λ s. IsDeep why 100 (simple_lies s)) (leaving_none (g n b left)))
     → Refused q inner rest stop → SimpleRefused around before stop
-refused_part around q inner front rest before stop g is begins turns deep refused = refused_there around q inner front rest before stop is
-    (record { begins = begins; finds = λ why more first finds. turned_found _ _ q (front ++ more) more g (turns more first) (deep why) finds })
+refused_behind around q inner front rest before stop g is unread begins turns deep refused = refused_there around q inner front rest before stop is
+    (record { begins = begins; finds = λ why more first finds. turned_found _ _ q (front ++ more) more g (turns more first) (deep why) finds; unread = unread })
     refused
 
+pub refused_part : {B : Type 0} (around : Around) (q : Production B) (inner : ℕ) (front rest before : List Token) (stop : Stop) (g : ℕ → B → List Token → Option Simple) → is_keyword_next 12 before ≡ false → before ≡ front ++ rest
+    → ((tokens : List Token) → Begins q tokens → BeginsSimple (front ++ tokens)) → ((more : List Token) → first_of more ≡ first_of rest → Turns q (front ++ more) more g)
+    → ((why : Stop) (n : ℕ) (b : B) (left : List Token) → IsDeep why inner (q.lies b) → Only (λ s. IsDeep why 100 (simple_lies s)) (leaving_none (g n b left)))
+    → Refused q inner rest stop → SimpleRefused around before stop
+refused_part around q inner front rest before stop g other is begins turns deep refused = refused_behind around q inner front rest before stop g is
+    (λ fault s. other_statement before (front ++ s.front) s.shown_by s.behind fault other (is ∙ ap (λ ts. front ++ ts) s.before_is ∙ sym (append_assoc front s.front (s.shown_by ∷ s.behind))))
+    begins turns deep refused
+
 -- the tokens are a statement, and something stands behind them
-pub at_token : (around : Around) (tokens : List Token) (t : Token) (ts before : List Token) (fault : Fault) (s : Simple) → before ≡ tokens ++ t ∷ ts → simple_tokens s ≡ tokens → ShowsAt ts fault
-    → ((more : List Token) → ReadsNone (tokens ++ t ∷ more)) → SimpleShown around before fault
-at_token around tokens t ts before fault s is spells named none = record {
+pub at_token : (around : Around) (tokens : List Token) (t : Token) (ts before : List Token) (left : ℕ) (s : Simple) → UnreadDel tokens t (Unexpected left) → before ≡ tokens ++ t ∷ ts → simple_tokens s ≡ tokens → left ≡ length ts
+    → ((more : List Token) → ReadsNone (tokens ++ t ∷ more)) → SimpleShown around before (Unexpected left)
+at_token around tokens t ts before left s unread is spells named none = record {
   front = tokens;
   shown_by = t;
   behind = ts;
   before_is = is;
   left_is = named;
   begins = spelled s tokens spells;
+  goes_on = tt;
+  unread = unread;
   none = λ more. none_found _ (tokens ++ t ∷ more) (none more);
 }
 
-pub ended : (around : Around) (tokens behind before : List Token) (stop : Stop) (s : Simple) → before ≡ tokens ++ behind → simple_tokens s ≡ tokens → IsMore behind stop
+pub ended_behind : (around : Around) (tokens behind before : List Token) (stop : Stop) (s : Simple) → ((t : Token) (ts : List Token) (left : ℕ) → behind ≡ t ∷ ts → UnreadDel tokens t (Unexpected left)) → before ≡ tokens ++ behind → simple_tokens s ≡ tokens
+    → IsMore behind stop → ((t : Token) (ts more : List Token) → behind ≡ t ∷ ts → ReadsNone (tokens ++ t ∷ more)) → SimpleRefused around before stop
+ended_behind around tokens [] before stop s unread is spells more none = absurd more
+ended_behind around tokens (t ∷ ts) before (Here (Unexpected left)) s unread is spells more none = at_token around tokens t ts before left s (unread t ts left refl) is spells more (λ rest. none t ts rest refl)
+ended_behind around tokens (t ∷ ts) before (Here (TooDeep at)) s unread is spells more none = absurd more
+ended_behind around tokens (t ∷ ts) before (Here (TooMany at)) s unread is spells more none = absurd more
+ended_behind around tokens (t ∷ ts) before (Here Memory) s unread is spells more none = absurd more
+ended_behind around tokens (t ∷ ts) before End s unread is spells more none = absurd more
+
+pub ended : (around : Around) (tokens behind before : List Token) (stop : Stop) (s : Simple) → is_keyword_next 12 before ≡ false → before ≡ tokens ++ behind → simple_tokens s ≡ tokens → IsMore behind stop
     → ((t : Token) (ts more : List Token) → behind ≡ t ∷ ts → ReadsNone (tokens ++ t ∷ more)) → SimpleRefused around before stop
-ended around tokens [] before stop s is spells more none = absurd more
-ended around tokens (t ∷ ts) before (Here (Unexpected at)) s is spells more none = at_token around tokens t ts before (Unexpected at) s is spells more (λ rest. none t ts rest refl)
-ended around tokens (t ∷ ts) before (Here (TooDeep at)) s is spells more none = absurd more
-ended around tokens (t ∷ ts) before (Here (TooMany at)) s is spells more none = absurd more
-ended around tokens (t ∷ ts) before (Here Memory) s is spells more none = absurd more
-ended around tokens (t ∷ ts) before End s is spells more none = absurd more
+ended around tokens behind before stop s other is spells more none = ended_behind around tokens behind before stop s
+    (λ t ts left next. other_statement before tokens t ts (Unexpected left) other (is ∙ ap (λ us. tokens ++ us) next)) is spells more none
 
 -- a word that no statement may begin with there
-pub misplaced : (around : Around) (t : Token) (behind : List Token) (fault : Fault) → ShowsAt behind fault
-    → ((n : ℕ) (more : List Token) → Only (IsAmiss around (Here fault)) (leaving_none (read_simple n (t ∷ more)))) → SimpleShown around (t ∷ behind) fault
-misplaced around t behind fault named amiss = record {
+pub misplaced : (around : Around) (t : Token) (behind : List Token) (left : ℕ) → left ≡ length behind
+    → ((n : ℕ) (more : List Token) → Only (IsAmiss around (Here (Unexpected left))) (leaving_none (read_simple n (t ∷ more)))) → SimpleShown around (t ∷ behind) (Unexpected left)
+misplaced around t behind left named amiss = record {
   front = [];
   shown_by = t;
   behind = behind;
   before_is = refl;
   left_is = named;
   begins = nothing_yet t;
+  goes_on = tt;
+  unread = record { there = λ spot inside at e more same. absurd (nothing_first spot inside at) };
   none = λ more. record { steps = 0; only = λ n. amiss (n + 0) more };
 }
+  where
+    nothing_first : (spot : Spot) (inside : List Token) → [] ≡ token (Keyword 12) spot ∷ inside → ⊥
+    nothing_first spot inside is = cc
 
 -- ---- expressions that were read
 

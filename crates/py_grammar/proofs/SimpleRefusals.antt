@@ -8,6 +8,7 @@ use Rattle.py_tree.specs.declared.expr.Target.{Target as BuiltTarget}
 use Rattle.py_tree.specs.declared.stmt.Form.{Form}
 use Rattle.py_tree.specs.Erasure.{expr_of, form_of, target_of}
 use Rattle.py_tree.specs.Tree.{ExprTree, assert_form, del_form, field_target, attr_expr}
+use Rattle.py_grammar.specs.declared.fault.Fault.{Fault}
 use Rattle.py_grammar.specs.declared.fault.Fault.TheVariants.{Unexpected, TooDeep, TooMany, Memory}
 use Rattle.py_grammar.specs.declared.fault.Stop.{Stop}
 use Rattle.py_grammar.specs.declared.fault.Stop.TheVariants.{Here, End}
@@ -21,13 +22,13 @@ use Rattle.py_grammar.specs.StatementTrees.{one_target_tree, simple_form}
 use Rattle.py_grammar.specs.WellPlaced.{Around, may_go, form_stands}
 use Rattle.py_grammar.specs.Reader.{Read, is_sign, spot_of, read_expr}
 use Rattle.py_grammar.specs.StatementReader.{expr_target, whole, after_test}
-use Rattle.py_grammar.specs.Parsed.{IsDeep, Only, Begins, Found, Refused, Taken, is_sign_next, is_form, expr_part, IsAtFirst}
-use Rattle.py_grammar.specs.ParsedSimple.{leaving_none, BeginsSimple, SimpleEnds, SimpleRefused, FoundBehindAny, RefusedBehindAny, IsMore, target_form}
+use Rattle.py_grammar.specs.Parsed.{IsDeep, Only, Finds, Begins, Shown, Found, Refused, Taken, is_sign_next, is_form, expr_part, IsAtFirst}
+use Rattle.py_grammar.specs.ParsedSimple.{leaving_none, BeginsSimple, UnreadDel, SimpleEnds, SimpleRefused, FoundBehindAny, RefusedBehindAny, IsMore, target_form}
 use Rattle.py_grammar.proofs.Reading.{expr_reads, if_false}
 use Rattle.py_grammar.proofs.Refusals.{only_is, deep_same, deep_beside_left, deep_beside_right, max_below}
 use Rattle.py_grammar.proofs.TargetForms.{target_is, target_deep, target_lies_so, target_spelled, target_tree_is}
 use Rattle.py_grammar.proofs.ExprForms.{is_attr_tree}
-use Rattle.py_grammar.proofs.SimpleParts.{Turns, turned_none, turns_same, as_whole, map_whole, only_whole, only_map, only_if_simple, none_found, begins_part, refused_part, ended, expr_all, expr_goes}
+use Rattle.py_grammar.proofs.SimpleParts.{Turns, turned_none, turns_same, as_whole, map_whole, only_whole, only_map, only_if_simple, none_found, begins_part, refused_part, refused_behind, ended, ended_behind, expr_all, expr_goes}
 
 -- ---- `assert`
 
@@ -45,7 +46,7 @@ assert_deep why n spot e (t ∷ ts) deep = only_if_simple _ (is_sign 6 t.kind) _
 pub assert_refused : (behind : List Token) (stop : Stop) → Refused expr_part 100 behind stop → RefusedBehindAny 5 behind stop
 assert_refused behind stop is = record {
   there = λ around spot.
-      refused_part around expr_part 100 (token (Keyword 5) spot ∷ []) behind (token (Keyword 5) spot ∷ behind) stop (assert_turn spot) refl
+      refused_part around expr_part 100 (token (Keyword 5) spot ∷ []) behind (token (Keyword 5) spot ∷ behind) stop (assert_turn spot) refl refl
       (begins_part expr_part (token (Keyword 5) spot ∷ []) (assert spot) (λ e. refl)) (λ more first. assert_turns spot more)
       (λ why n e left deep. assert_deep why (n + 0) spot e left deep) is;
 }
@@ -53,7 +54,7 @@ assert_refused behind stop is = record {
 pub assert_more : (behind after : List Token) (part : Part) (stop : Stop) → Found expr_part expr_tree 7 100 behind part after → is_sign_next 6 after ≡ false → IsMore after stop → RefusedBehindAny 5 behind stop
 assert_more behind after part stop f other more = record {
   there = λ around spot.
-      ended around (token (Keyword 5) spot ∷ expr_tokens f.written) after (token (Keyword 5) spot ∷ behind) stop (assert spot f.written) (ap (λ ts. token (Keyword 5) spot ∷ ts) f.before_is) refl more
+      ended around (token (Keyword 5) spot ∷ expr_tokens f.written) after (token (Keyword 5) spot ∷ behind) stop (assert spot f.written) refl (ap (λ ts. token (Keyword 5) spot ∷ ts) f.before_is) refl more
       (λ t ts rest is. turned_none expr_part _ (expr_tokens f.written ++ t ∷ rest) (t ∷ rest) (assert_turn spot) f.written (expr_reads f.written).steps (assert_turns spot _) (expr_goes f t ts rest is)
       (λ n. if_false (is_sign 6 t.kind) _ _ (subst (λ (ts : List Token). is_sign_next 6 ts ≡ false) is other)));
 }
@@ -88,7 +89,7 @@ message_refused comma_at behind middle after part stop f k is = record {
       let e = f.written in
       let c : Token = token (Sign 6) k.spot in
       let w : Token = token (Keyword 5) spot in
-      refused_part around expr_part 100 (w ∷ (expr_tokens e ++ c ∷ [])) after (w ∷ behind) stop (message_turn spot e k.spot)
+      refused_part around expr_part 100 (w ∷ (expr_tokens e ++ c ∷ [])) after (w ∷ behind) stop (message_turn spot e k.spot) refl
       (ap (λ ts. w ∷ ts) (f.before_is ∙ ap (λ ts. expr_tokens e ++ ts) k.before_is ∙ sym (append_assoc (expr_tokens e) (c ∷ []) after)))
       (begins_part expr_part (w ∷ (expr_tokens e ++ c ∷ [])) (assert_message spot e k.spot) (λ m. ap (λ ts. w ∷ ts) (sym (append_assoc (expr_tokens e) (c ∷ []) (expr_tokens m)))))
       (λ more first. turns_same expr_part _ (w ∷ (expr_tokens e ++ c ∷ more)) more _ (ap (λ ts. w ∷ ts) (append_assoc (expr_tokens e) (c ∷ []) more)) (message_turns spot e k.spot more))
@@ -103,7 +104,7 @@ message_more comma_at behind middle after last part message stop f k m more = re
       let e = f.written in
       let c : Token = token (Sign 6) k.spot in
       let w : Token = token (Keyword 5) spot in
-      ended around (w ∷ (expr_tokens e ++ (c ∷ expr_tokens m.written))) last (w ∷ behind) stop (assert_message spot e k.spot m.written)
+      ended around (w ∷ (expr_tokens e ++ (c ∷ expr_tokens m.written))) last (w ∷ behind) stop (assert_message spot e k.spot m.written) refl
       (ap (λ ts. w ∷ ts) (f.before_is ∙ ap (λ ts. expr_tokens e ++ ts) (k.before_is ∙ ap (λ ts. c ∷ ts) m.before_is) ∙ sym (append_assoc (expr_tokens e) (c ∷ expr_tokens m.written) last))) refl more
       (λ t ts rest is. turned_none expr_part _ (expr_tokens m.written ++ t ∷ rest) (t ∷ rest) (message_turn spot e k.spot) m.written (expr_reads m.written).steps
       (turns_same expr_part _ _ _ _ (ap (λ ts. w ∷ ts) (append_assoc (expr_tokens e) (c ∷ expr_tokens m.written) (t ∷ rest))) (message_turns spot e k.spot (expr_tokens m.written ++ t ∷ rest)))
@@ -146,10 +147,41 @@ del_deep why spot e deep = by (expr_target e) refl
     by None is = tt
     by (Some t) is = deep_same why 100 (expr_lies e) (one_target_lies t) (target_lies_so e t is) deep
 
+finds_expr : (P : Expr → Type 0) (ts : List Token) (e : Expr) → Finds P read_expr ts → expr_tokens e ≡ ts → P e
+finds_expr P ts e finds is =
+    let r = expr_reads e in
+    let sum : r.steps + finds.steps ≡ finds.steps + r.steps = omega arith in
+    subst (Only P) (ap (read_expr (r.steps + finds.steps)) (sym is ∙ sym (append-nil (expr_tokens e))) ∙ ap (λ m. read_expr m (expr_tokens e ++ [])) sum ∙ r.reads finds.steps [] (omega arith)) (finds.only r.steps)
+
+behind_del : (one other : Spot) (front inside : List Token) → token (Keyword 12) one ∷ front ≡ token (Keyword 12) other ∷ inside → inside ≡ front
+behind_del one other front inside is = cc
+
+-- no expression goes on with the token that is refused
+del_unread : {behind : List Token} {fault : Fault} (spot : Spot) → (s : Shown expr_part 100 behind fault) → UnreadDel (token (Keyword 12) spot ∷ s.front) s.shown_by fault
+del_unread {fault = fault} spot s = record {
+  there = λ other inside at e more same. finds_expr _ (s.front ++ s.shown_by ∷ more) e (s.none more) (same ∙ ap (λ ts. ts ++ s.shown_by ∷ more) (behind_del spot other s.front inside at));
+}
+
+-- an expression that was read goes no further
+goes_no_further : {before after : List Token} {part : Part} → (f : Found expr_part expr_tree 7 100 before part after) → (t : Token) (ts : List Token) → after ≡ t ∷ ts → (e : Expr) (more : List Token) → expr_tokens e ≡ expr_tokens f.written ++ t ∷ more → ⊥
+goes_no_further f t ts is e more same =
+    let r = expr_reads e in
+    let q = expr_reads f.written in
+    let sum : q.steps + r.steps ≡ r.steps + q.steps = omega arith in
+    differs (sym (r.reads q.steps [] (omega arith)) ∙ ap (λ m. read_expr m (expr_tokens e ++ [])) sum ∙ ap (read_expr (r.steps + q.steps)) (append-nil (expr_tokens e) ∙ same) ∙ expr_goes f t ts more is r.steps)
+  where
+    differs : ◌≡◌ {A = Option (Expr × List Token)} (Some (e, [])) (Some (f.written, t ∷ more)) → ⊥
+    differs alike = let left : [] ≡ t ∷ more = ap (λ (p : Expr × List Token). p.1) (same_Some _ _ alike) in cc
+
+del_goes : {behind after : List Token} {part : Part} (spot : Spot) → (f : Found expr_part expr_tree 7 100 behind part after) → (t : Token) (ts : List Token) (fault : Fault) → after ≡ t ∷ ts → UnreadDel (token (Keyword 12) spot ∷ expr_tokens f.written) t fault
+del_goes spot f t ts fault is = record {
+  there = λ other inside at e more same. absurd (goes_no_further f t ts is e more (same ∙ ap (λ us. us ++ t ∷ more) (behind_del spot other (expr_tokens f.written) inside at)));
+}
+
 pub del_refused : (behind : List Token) (stop : Stop) → Refused expr_part 100 behind stop → RefusedBehindAny 12 behind stop
 del_refused behind stop is = record {
   there = λ around spot.
-      refused_part around expr_part 100 (token (Keyword 12) spot ∷ []) behind (token (Keyword 12) spot ∷ behind) stop (del_turn spot) refl
+      refused_behind around expr_part 100 (token (Keyword 12) spot ∷ []) behind (token (Keyword 12) spot ∷ behind) stop (del_turn spot) refl (λ fault s. del_unread spot s)
       (del_begins spot) (λ more first. del_turns spot more) (λ why n e left deep. only_whole _ (del_of spot) n e left (del_deep why spot e deep)) is;
 }
 
@@ -179,6 +211,8 @@ del_stops behind after part stop f first amiss = record { there = λ around spot
       before_is = ap (λ us. token (Keyword 12) spot ∷ us) (f.before_is ∙ ap (λ us. expr_tokens f.written ++ us) is);
       left_is = first;
       begins = begins spot;
+      goes_on = tt;
+      unread = del_goes spot f t ts (Unexpected left) is;
       none = λ more. none_found _ _ (turned_none expr_part _ (expr_tokens f.written ++ t ∷ more) (t ∷ more) (del_turn spot) f.written (expr_reads f.written).steps (del_turns spot _) (expr_goes f t ts more is) (λ n. refl));
     }
     by around spot (t ∷ ts) (Here (TooDeep place)) is first = absurd first
@@ -219,7 +253,7 @@ del_is_target behind after part f fine = let t = del_target f fine in ap (λ e. 
 pub del_more : (behind after : List Token) (part : Part) (stop : Stop) → Found expr_part expr_tree 7 100 behind part after → is_none part.wrong ≡ true → IsMore after stop → RefusedBehindAny 12 behind stop
 del_more behind after part stop f fine more = let t = del_target f fine in record {
   there = λ around spot.
-      ended around (token (Keyword 12) spot ∷ expr_tokens f.written) after (token (Keyword 12) spot ∷ behind) stop (del spot t.0) (ap (λ ts. token (Keyword 12) spot ∷ ts) f.before_is)
+      ended_behind around (token (Keyword 12) spot ∷ expr_tokens f.written) after (token (Keyword 12) spot ∷ behind) stop (del spot t.0) (λ t ts left is. del_goes spot f t ts (Unexpected left) is) (ap (λ ts. token (Keyword 12) spot ∷ ts) f.before_is)
       (ap (λ ts. token (Keyword 12) spot ∷ ts) (sym (target_spelled f.written t.0 t.1))) more
       (λ t ts rest is. turned_none expr_part _ (expr_tokens f.written ++ t ∷ rest) (t ∷ rest) (del_turn spot) f.written (expr_reads f.written).steps (del_turns spot _) (expr_goes f t ts rest is) (λ n. refl));
 }

@@ -38,7 +38,7 @@ pub here : {A : Type 0} (p : Production A) (room : ℕ) (before front rest : Lis
 here p room before front [] End is at begins none_end none_there =
     (subst (Begins p) (sym (is ∙ append-nil front)) begins, subst (Finds (λ a. ⊥) p.read) (sym is) (none_end refl))
 here p room before front [] (Here fault) is at begins none_end none_there = cc
-here p room before front (t ∷ ts) (Here (Unexpected place)) is at begins none_end none_there = record { front = front; shown_by = t; behind = ts; before_is = is; left_is = at; begins = begins; none = λ more. none_there t ts more refl }
+here p room before front (t ∷ ts) (Here (Unexpected place)) is at begins none_end none_there = record { front = front; shown_by = t; behind = ts; before_is = is; left_is = at; begins = begins; goes_on = tt; none = λ more. none_there t ts more refl }
 here p room before front (t ∷ ts) (Here (TooDeep place)) is at begins none_end none_there = absurd at
 here p room before front (t ∷ ts) (Here (TooMany place)) is at begins none_end none_there = absurd at
 here p room before front (t ∷ ts) (Here Memory) is at begins none_end none_there = absurd at

@@ -21,13 +21,15 @@ use Rattle.py_grammar.specs.Written.{Simple, Naming, no_naming, every_kind, one_
 use Rattle.py_grammar.specs.StatementTokens.{naming_tokens}
 use Rattle.py_grammar.specs.StatementTrees.{naming_bound}
 use Rattle.py_grammar.specs.LineReader.{Head, if_head, elif_head, while_head, except_head, with_head, colon_tokens, head_tokens, then_read, read_colon, read_behind, read_naming, read_head}
-use Rattle.py_grammar.specs.Reader.{Read, go_on, is_sign, spot_of, begins_expr, read_expr}
+use Rattle.py_grammar.specs.Reader.{Read, go_on, is_keyword, is_sign, spot_of, begins_expr, read_expr}
 use Rattle.py_grammar.specs.Parsed.{IsDeep, Refused, Found, expr_part}
 use Rattle.py_grammar.specs.ParsedHead.{Context, Took, naming_part, word_may, inner_around, behind_stands, head_stands, behind_depth, behind_lies, head_depth, head_lies, behind_in, IsWhat, OpeningFound, OpeningRefused}
 use Rattle.py_grammar.proofs.Stops.{some_spot}
 use Rattle.py_grammar.proofs.Reading.{if_true, if_false}
 use Rattle.py_grammar.proofs.Refusals.{deeper}
-use Rattle.py_grammar.proofs.HeadParts.{OnlyHead, HeadTurns, turns_on, colon_on, expr_is_read, starts_same, begins_part_head, refused_part_head}
+use Rattle.py_grammar.proofs.HeadParts.{OnlyHead, HeadTurns, turns_on, colon_on, expr_is_read, starts_same, begins_part_head, refused_part_head, past_opening}
+use Rattle.py_grammar.proofs.NoDel.{is_simple_head}
+use Rattle.py_grammar.proofs.Unread.{passes_word}
 
 -- ---- what stands behind the `:`
 
@@ -53,6 +55,8 @@ deep_colon why n made ts inner lies before lies_is less deep = only_colon _ n ma
 -- ---- `if`, `elif`, `while`: an expression
 
 record Tested (word : ℕ) (head : Spot → Expr → Spot → Option Simple → Head) (what : BuiltExpr → What) : Type 0 where
+  other : is_keyword 17 (Keyword word) ≡ false
+  compound : (spot : Spot) (e : Expr) (colon : Spot) (behind : Option Simple) → is_simple_head (head spot e colon behind) ≡ false
   tokens_are : (spot : Spot) (e : Expr) (colon : Spot) (behind : Option Simple) → head_tokens (head spot e colon behind) ≡ token (Keyword word) spot ∷ (expr_tokens e ++ colon_tokens colon behind)
   reads : (n : ℕ) (spot : Spot) (more : List Token) → read_head n (token (Keyword word) spot ∷ more) ≡ then_read (read_expr n more) (λ e rest. read_colon n (head spot e) rest)
   what_is : (built : BuiltExpr) (spot : Spot) (e : Expr) (colon : Spot) (behind : Option Simple) → expr_of built ≡ expr_tree e → IsWhat (what built) (head spot e colon behind)
@@ -62,13 +66,13 @@ record Tested (word : ℕ) (head : Spot → Expr → Spot → Option Simple → 
   stands : (c : Context) (given : List (List ℕ)) (spot : Spot) (e : Expr) (colon : Spot) (behind : Option Simple) → head_stands c given (head spot e colon behind) ≡ word_may c word && behind_stands (inner_around word c.around) behind
 
 if_tested : Tested 20 if_head If
-if_tested = record { tokens_are = λ spot e colon behind. refl; reads = λ n spot more. refl; what_is = λ built spot e colon behind is. is; behind_is = λ spot e colon behind. refl; depth_is = λ spot e colon behind. refl; lies_is = λ spot e colon behind at. refl; stands = λ c given spot e colon behind. refl }
+if_tested = record { other = refl; compound = λ spot e colon behind. refl; tokens_are = λ spot e colon behind. refl; reads = λ n spot more. refl; what_is = λ built spot e colon behind is. is; behind_is = λ spot e colon behind. refl; depth_is = λ spot e colon behind. refl; lies_is = λ spot e colon behind at. refl; stands = λ c given spot e colon behind. refl }
 
 elif_tested : Tested 13 elif_head Elif
-elif_tested = record { tokens_are = λ spot e colon behind. refl; reads = λ n spot more. refl; what_is = λ built spot e colon behind is. is; behind_is = λ spot e colon behind. refl; depth_is = λ spot e colon behind. refl; lies_is = λ spot e colon behind at. refl; stands = λ c given spot e colon behind. refl }
+elif_tested = record { other = refl; compound = λ spot e colon behind. refl; tokens_are = λ spot e colon behind. refl; reads = λ n spot more. refl; what_is = λ built spot e colon behind is. is; behind_is = λ spot e colon behind. refl; depth_is = λ spot e colon behind. refl; lies_is = λ spot e colon behind at. refl; stands = λ c given spot e colon behind. refl }
 
 while_tested : Tested 32 while_head While
-while_tested = record { tokens_are = λ spot e colon behind. refl; reads = λ n spot more. refl; what_is = λ built spot e colon behind is. is; behind_is = λ spot e colon behind. refl; depth_is = λ spot e colon behind. refl; lies_is = λ spot e colon behind at. refl; stands = λ c given spot e colon behind. refl }
+while_tested = record { other = refl; compound = λ spot e colon behind. refl; tokens_are = λ spot e colon behind. refl; reads = λ n spot more. refl; what_is = λ built spot e colon behind is. is; behind_is = λ spot e colon behind. refl; depth_is = λ spot e colon behind. refl; lies_is = λ spot e colon behind at. refl; stands = λ c given spot e colon behind. refl }
 
 abbrev test_turn : (Spot → Expr → Spot → Option Simple → Head) → Spot → ℕ → Expr → List Token → Option Head
 test_turn head spot n e rest = read_colon (n + 0) (head spot e) rest
@@ -90,6 +94,7 @@ test_found word head what is c before after part f spot =
       reads = r.reads;
       what_is = λ colon behind. is.what_is part.expr spot f.written colon behind f.tree_is;
       behind_is = λ colon behind. is.behind_is spot f.written colon behind;
+      past = past_opening word spot (expr_tokens f.written) (head spot f.written some_spot None) some_spot is.other (is.compound spot f.written some_spot None) (is.behind_is spot f.written some_spot None) (is.tokens_are spot f.written some_spot None);
       depth = expr_depth f.written;
       low = let high = f.height_is in let low = f.fits in omega (arith, high, low);
       depth_is = λ colon behind. is.depth_is spot f.written colon behind;
@@ -102,7 +107,8 @@ test_refused : (word : ℕ) (head : Spot → Expr → Spot → Option Simple →
 test_refused word head what is c before stop refused = record {
   there = λ given limit spot.
       refused_part_head c given limit expr_part 100 (token (Keyword word) spot ∷ []) before (token (Keyword word) spot ∷ before) stop (test_turn head spot) refl
-      (begins_part_head expr_part (token (Keyword word) spot ∷ []) (λ e. head spot e some_spot None) (λ e. colon_tokens some_spot None) (λ e. is.tokens_are spot e some_spot None))
+      (begins_part_head expr_part (token (Keyword word) spot ∷ []) (λ e. head spot e some_spot None) (λ e. colon_tokens some_spot None) (λ e. is.compound spot e some_spot None) (λ e. is.behind_is spot e some_spot None) (λ e. is.tokens_are spot e some_spot None))
+      (passes_word word spot [] before is.other)
       (test_turns word head what is spot before)
       (λ why n e left deep. deep_colon why (n + 0) (head spot e) left 100 (expr_lies e) (expr_lies e) (λ colon behind at. is.lies_is spot e colon behind at) (λ at some. omega arith) deep) refused;
 }
@@ -137,8 +143,8 @@ pub with_refused : (c : Context) (before : List Token) (stop : Stop) → Refused
 with_refused c before stop refused = record {
   there = λ given limit spot.
       refused_part_head c given limit expr_part 100 (token (Keyword 33) spot ∷ []) before (token (Keyword 33) spot ∷ before) stop (with_turn spot) refl
-      (begins_part_head expr_part (token (Keyword 33) spot ∷ []) (λ e. with_head spot e no_naming some_spot None) (λ e. colon_tokens some_spot None) (λ e. refl))
-      (with_turns spot before) (λ why n e left deep. deep_naming why n spot e left deep) refused;
+      (begins_part_head expr_part (token (Keyword 33) spot ∷ []) (λ e. with_head spot e no_naming some_spot None) (λ e. colon_tokens some_spot None) (λ e. refl) (λ e. refl) (λ e. refl))
+      (passes_word 33 spot [] before refl) (with_turns spot before) (λ why n e left deep. deep_naming why n spot e left deep) refused;
 }
   where
     deep_naming : (why : Stop) (n : ℕ) (spot : Spot) (e : Expr) (left : List Token) → IsDeep why 100 (expr_lies e) → OnlyHead (λ h. IsDeep why 100 (head_lies h)) (with_turn spot n e left)
@@ -161,7 +167,8 @@ with_name_refused c before after part stop f refused = record {
   there = λ given limit spot.
       refused_part_head c given limit naming_part 100 (token (Keyword 33) spot ∷ expr_tokens f.written) after (token (Keyword 33) spot ∷ before) stop (λ n. called_turn spot f.written (n + (expr_is_read f).steps))
       (ap (λ ts. token (Keyword 33) spot ∷ ts) f.before_is)
-      (begins_part_head naming_part (token (Keyword 33) spot ∷ expr_tokens f.written) (λ called. with_head spot f.written called some_spot None) (λ called. colon_tokens some_spot None) (λ called. refl))
+      (begins_part_head naming_part (token (Keyword 33) spot ∷ expr_tokens f.written) (λ called. with_head spot f.written called some_spot None) (λ called. colon_tokens some_spot None) (λ called. refl) (λ called. refl) (λ called. refl))
+      (passes_word 33 spot (expr_tokens f.written) after refl)
       (called_turns spot before after part f)
       (λ why n called left deep. deep_colon why ((n + (expr_is_read f).steps) + 0) (with_head spot f.written called) left 100 (λ at. 0) (expr_lies f.written) (λ colon behind at. refl) (λ at some. omega arith) deep) refused;
 }
@@ -180,6 +187,8 @@ with_found c before middle after part bound f took spot =
       reads = r.reads;
       what_is = λ colon behind. (f.tree_is, took.value_is);
       behind_is = λ colon behind. refl;
+      past = past_opening 33 spot (expr_tokens f.written ++ naming_tokens took.written) (with_head spot f.written took.written some_spot None) some_spot refl refl refl
+          (ap (λ ts. token (Keyword 33) spot ∷ ts) (sym (append_assoc (expr_tokens f.written) (naming_tokens took.written) (colon_tokens some_spot None))));
       depth = expr_depth f.written;
       low = let high = f.height_is in let low = f.fits in omega (arith, high, low);
       depth_is = λ colon behind. refl;
@@ -201,6 +210,7 @@ except_every c before other spot = record {
   reads = λ n more first. ap (λ r. then_read r (λ kind rest. read_colon (n + 0) (except_head spot kind) rest)) (if_false (begins_expr more) _ _ (ap (λ m. nat_lt 0 m) (starts_same more before first) ∙ other));
   what_is = λ colon behind. (refl, refl);
   behind_is = λ colon behind. refl;
+  past = past_opening 15 spot [] (except_head spot every_kind some_spot None) some_spot refl refl refl refl;
   depth = 0;
   low = omega arith;
   depth_is = λ colon behind. refl;
@@ -229,8 +239,8 @@ except_refused c before stop begins refused = record {
   there = λ given limit spot.
       refused_part_head c given limit expr_part 100 (token (Keyword 15) spot ∷ []) before (token (Keyword 15) spot ∷ before) stop (except_turn spot) refl
       (begins_part_head expr_part (token (Keyword 15) spot ∷ []) (λ e. except_head spot (one_kind e no_naming) some_spot None) (λ e. colon_tokens some_spot None)
-      (λ e. ap (λ ts. token (Keyword 15) spot ∷ ts) (append_assoc (expr_tokens e) [] (colon_tokens some_spot None))))
-      (except_turns spot before begins) (λ why n e left deep. deep_naming why n spot e left deep) refused;
+      (λ e. refl) (λ e. refl) (λ e. ap (λ ts. token (Keyword 15) spot ∷ ts) (append_assoc (expr_tokens e) [] (colon_tokens some_spot None))))
+      (passes_word 15 spot [] before refl) (except_turns spot before begins) (λ why n e left deep. deep_naming why n spot e left deep) refused;
 }
   where
     deep_naming : (why : Stop) (n : ℕ) (spot : Spot) (e : Expr) (left : List Token) → IsDeep why 100 (expr_lies e) → OnlyHead (λ h. IsDeep why 100 (head_lies h)) (except_turn spot n e left)
@@ -255,7 +265,8 @@ except_name_refused c before after part stop begins f refused = record {
       refused_part_head c given limit naming_part 100 (token (Keyword 15) spot ∷ expr_tokens f.written) after (token (Keyword 15) spot ∷ before) stop (λ n. class_turn spot f.written (n + (expr_is_read f).steps))
       (ap (λ ts. token (Keyword 15) spot ∷ ts) f.before_is)
       (begins_part_head naming_part (token (Keyword 15) spot ∷ expr_tokens f.written) (λ called. except_head spot (one_kind f.written called) some_spot None) (λ called. colon_tokens some_spot None)
-      (λ called. ap (λ ts. token (Keyword 15) spot ∷ ts) (append_assoc (expr_tokens f.written) (naming_tokens called) (colon_tokens some_spot None))))
+      (λ called. refl) (λ called. refl) (λ called. ap (λ ts. token (Keyword 15) spot ∷ ts) (append_assoc (expr_tokens f.written) (naming_tokens called) (colon_tokens some_spot None))))
+      (passes_word 15 spot (expr_tokens f.written) after refl)
       (class_turns spot before after part begins f)
       (λ why n called left deep. deep_colon why ((n + (expr_is_read f).steps) + 0) (except_head spot (one_kind f.written called)) left 100 (λ at. 0) (expr_lies f.written) (λ colon behind at. refl) (λ at some. omega arith) deep) refused;
 }
@@ -275,6 +286,7 @@ except_found c before middle after part bound begins f took spot =
       reads = r.reads;
       what_is = λ colon behind. (ap Some f.tree_is, took.value_is);
       behind_is = λ colon behind. refl;
+      past = past_opening 15 spot (expr_tokens f.written ++ naming_tokens took.written) (except_head spot (one_kind f.written took.written) some_spot None) some_spot refl refl refl refl;
       depth = expr_depth f.written;
       low = let high = f.height_is in let low = f.fits in omega (arith, high, low);
       depth_is = λ colon behind. refl;

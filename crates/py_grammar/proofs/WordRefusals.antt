@@ -1,6 +1,7 @@
 -- Simple statements that are a keyword alone, or a keyword with one expression or name: what is read, and how it is refused.
 use Rattle.std.proofs.Common.{◌≡◌, inl, ℕ, ◌+◌, true, false, List, [], ◌∷◌, ◌++◌, Option, Some, None, option_map, refl, ap, sym, ◌∙◌, arith, subst, length}
 use Rattle.prov_base.specs.declared.place.Pos.{Pos}
+use Rattle.std.specs.Prelude.{◌==◌}
 use Rattle.py_lines.specs.declared.parts.Token.{Token}
 use Rattle.py_lines.specs.declared.parts.TokenKind.TheVariants.{Word, Keyword}
 use Rattle.py_tree.specs.declared.stmt.Form.{Form}
@@ -23,14 +24,14 @@ use Rattle.py_grammar.specs.ParsedSimple.{leaving_none, IsAmiss, SimpleEnds, Fou
 use Rattle.py_grammar.proofs.Reading.{expr_reads}
 use Rattle.py_grammar.proofs.RowReads.{row_reads}
 use Rattle.py_grammar.proofs.Refusals.{first_of}
-use Rattle.py_grammar.proofs.SimpleParts.{Turns, turned_none, one_found, as_whole, map_whole, only_whole, only_map, only_alone, spelled, begins_part, refused_part, ended, misplaced, row_all, row_goes, expr_all, expr_goes, not_deeper}
+use Rattle.py_grammar.proofs.SimpleParts.{Turns, turned_none, one_found, as_whole, map_whole, only_whole, only_map, only_alone, spelled, begins_part, refused_part, ended, misplaced, other_statement, row_all, row_goes, expr_all, expr_goes, not_deeper}
 
 -- a token that a keyword alone does not have behind it
-none_behind : (around : Around) (word : ℕ) (s : Spot → Simple) (behind : List Token) (stop : Stop) → ((spot : Spot) → simple_tokens (s spot) ≡ token (Keyword word) spot ∷ [])
+none_behind : (around : Around) (word : ℕ) (s : Spot → Simple) (behind : List Token) (stop : Stop) → (word == 12) ≡ false → ((spot : Spot) → simple_tokens (s spot) ≡ token (Keyword word) spot ∷ [])
     → ((spot : Spot) (n : ℕ) (more : List Token) → read_simple n (token (Keyword word) spot ∷ more) ≡ alone (s spot) more) → IsMore behind stop → RefusedBehind word around behind stop
-none_behind around word s behind stop spells reads more = record {
+none_behind around word s behind stop other spells reads more = record {
   there = λ spot.
-      ended around (token (Keyword word) spot ∷ []) behind (token (Keyword word) spot ∷ behind) stop (s spot) refl (spells spot) more (λ t ts rest is. record { steps = 0; none = λ n. reads spot (n + 0) (t ∷ rest) });
+      ended around (token (Keyword word) spot ∷ []) behind (token (Keyword word) spot ∷ behind) stop (s spot) other refl (spells spot) more (λ t ts rest is. record { steps = 0; none = λ n. reads spot (n + 0) (t ∷ rest) });
 }
 
 -- ---- `pass`, `break`, `continue`
@@ -39,25 +40,25 @@ pub pass_found : (behind : List Token) (form : Form) → behind ≡ [] → form_
 pass_found behind form is tree around spot = record { written = pass spot; before_is = ap (λ ts. token (Keyword 28) spot ∷ ts) is; tree_is = tree; fits = omega arith; stands = refl }
 
 pub pass_more : (behind : List Token) (stop : Stop) → IsMore behind stop → RefusedBehindAny 28 behind stop
-pass_more behind stop more = record { there = λ around spot. (none_behind around 28 pass behind stop (λ spot. refl) (λ spot n ts. refl) more).there spot }
+pass_more behind stop more = record { there = λ around spot. (none_behind around 28 pass behind stop refl (λ spot. refl) (λ spot n ts. refl) more).there spot }
 
 pub break_found : (around : Around) (behind : List Token) (form : Form) → around.in_loop ≡ true → behind ≡ [] → form_of form ≡ break_form → FoundBehind 8 around behind form
 break_found around behind form inside is tree spot = record { written = break spot; before_is = ap (λ ts. token (Keyword 8) spot ∷ ts) is; tree_is = tree; fits = omega arith; stands = inside }
 
 pub break_more : (around : Around) (behind : List Token) (stop : Stop) → IsMore behind stop → RefusedBehind 8 around behind stop
-break_more around behind stop more = none_behind around 8 break behind stop (λ spot. refl) (λ spot n ts. refl) more
+break_more around behind stop more = none_behind around 8 break behind stop refl (λ spot. refl) (λ spot n ts. refl) more
 
 pub break_outside : (around : Around) (behind : List Token) (left : ℕ) → around.in_loop ≡ false → left ≡ length behind → RefusedBehind 8 around behind (Here (Unexpected left))
-break_outside around behind left outside is = record { there = λ spot. misplaced around (token (Keyword 8) spot) behind (Unexpected left) is (λ n more. only_alone _ (break spot) more outside) }
+break_outside around behind left outside is = record { there = λ spot. misplaced around (token (Keyword 8) spot) behind left is (λ n more. only_alone _ (break spot) more outside) }
 
 pub continue_found : (around : Around) (behind : List Token) (form : Form) → around.in_loop ≡ true → behind ≡ [] → form_of form ≡ continue_form → FoundBehind 10 around behind form
 continue_found around behind form inside is tree spot = record { written = continue spot; before_is = ap (λ ts. token (Keyword 10) spot ∷ ts) is; tree_is = tree; fits = omega arith; stands = inside }
 
 pub continue_more : (around : Around) (behind : List Token) (stop : Stop) → IsMore behind stop → RefusedBehind 10 around behind stop
-continue_more around behind stop more = none_behind around 10 continue behind stop (λ spot. refl) (λ spot n ts. refl) more
+continue_more around behind stop more = none_behind around 10 continue behind stop refl (λ spot. refl) (λ spot n ts. refl) more
 
 pub continue_outside : (around : Around) (behind : List Token) (left : ℕ) → around.in_loop ≡ false → left ≡ length behind → RefusedBehind 10 around behind (Here (Unexpected left))
-continue_outside around behind left outside is = record { there = λ spot. misplaced around (token (Keyword 10) spot) behind (Unexpected left) is (λ n more. only_alone _ (continue spot) more outside) }
+continue_outside around behind left outside is = record { there = λ spot. misplaced around (token (Keyword 10) spot) behind left is (λ n more. only_alone _ (continue spot) more outside) }
 
 -- ---- `return`
 
@@ -90,7 +91,7 @@ return_value_found around behind after part form inside f is tree spot = record 
 }
 
 pub return_outside : (around : Around) (behind : List Token) (left : ℕ) → around.in_function ≡ false → left ≡ length behind → RefusedBehind 30 around behind (Here (Unexpected left))
-return_outside around behind left outside is = record { there = λ spot. misplaced around (token (Keyword 30) spot) behind (Unexpected left) is (amiss spot) }
+return_outside around behind left outside is = record { there = λ spot. misplaced around (token (Keyword 30) spot) behind left is (amiss spot) }
   where
     amiss : (spot : Spot) (n : ℕ) (more : List Token) → Only (IsAmiss around (Here (Unexpected left))) (leaving_none (read_simple n (token (Keyword 30) spot ∷ more)))
     amiss spot n [] = outside
@@ -99,7 +100,7 @@ return_outside around behind left outside is = record { there = λ spot. misplac
 pub return_refused : (around : Around) (behind : List Token) (stop : Stop) → (behind ≡ [] → ⊥) → Refused exprs_part 100 behind stop → RefusedBehind 30 around behind stop
 return_refused around behind stop some is = record {
   there = λ spot.
-      refused_part around exprs_part 100 (token (Keyword 30) spot ∷ []) behind (token (Keyword 30) spot ∷ behind) stop (return_turn spot) refl
+      refused_part around exprs_part 100 (token (Keyword 30) spot ∷ []) behind (token (Keyword 30) spot ∷ behind) stop (return_turn spot) refl refl
       (begins_part exprs_part (token (Keyword 30) spot ∷ []) (return_value spot) (λ e. refl)) (λ more first. return_turns spot more (not_empty more behind first some))
       (λ why n e left deep. only_whole _ (λ e. Some (return_value spot e)) n e left deep) is;
 }
@@ -107,7 +108,7 @@ return_refused around behind stop some is = record {
 pub return_more : (around : Around) (behind after : List Token) (part : Part) (stop : Stop) → FoundRow 100 behind part after → IsMore after stop → RefusedBehind 30 around behind stop
 return_more around behind after part stop f more = record {
   there = λ spot.
-      ended around (token (Keyword 30) spot ∷ exprs_tokens f.written) after (token (Keyword 30) spot ∷ behind) stop (return_value spot f.written) (ap (λ ts. token (Keyword 30) spot ∷ ts) f.before_is) refl more
+      ended around (token (Keyword 30) spot ∷ exprs_tokens f.written) after (token (Keyword 30) spot ∷ behind) stop (return_value spot f.written) refl (ap (λ ts. token (Keyword 30) spot ∷ ts) f.before_is) refl more
       (λ t ts rest is. turned_none exprs_part _ (exprs_tokens f.written ++ t ∷ rest) (t ∷ rest) (return_turn spot) f.written (row_reads f.written).steps (return_turns spot _ (behind_none (exprs_tokens f.written) t rest)) (row_goes f t ts rest is) (λ n. refl));
 }
 
@@ -142,7 +143,7 @@ raise_outside around behind outside is = record {
 pub raise_refused : (around : Around) (behind : List Token) (stop : Stop) → (behind ≡ [] → ⊥) → Refused expr_part 100 behind stop → RefusedBehind 29 around behind stop
 raise_refused around behind stop some is = record {
   there = λ spot.
-      refused_part around expr_part 100 (token (Keyword 29) spot ∷ []) behind (token (Keyword 29) spot ∷ behind) stop (raise_turn spot) refl
+      refused_part around expr_part 100 (token (Keyword 29) spot ∷ []) behind (token (Keyword 29) spot ∷ behind) stop (raise_turn spot) refl refl
       (begins_part expr_part (token (Keyword 29) spot ∷ []) (raise_value spot) (λ e. refl)) (λ more first. raise_turns spot more (not_empty more behind first some))
       (λ why n e left deep. only_whole _ (λ e. Some (raise_value spot e)) n e left deep) is;
 }
@@ -150,7 +151,7 @@ raise_refused around behind stop some is = record {
 pub raise_more : (around : Around) (behind after : List Token) (part : Part) (stop : Stop) → Found expr_part expr_tree 7 100 behind part after → IsMore after stop → RefusedBehind 29 around behind stop
 raise_more around behind after part stop f more = record {
   there = λ spot.
-      ended around (token (Keyword 29) spot ∷ expr_tokens f.written) after (token (Keyword 29) spot ∷ behind) stop (raise_value spot f.written) (ap (λ ts. token (Keyword 29) spot ∷ ts) f.before_is) refl more
+      ended around (token (Keyword 29) spot ∷ expr_tokens f.written) after (token (Keyword 29) spot ∷ behind) stop (raise_value spot f.written) refl (ap (λ ts. token (Keyword 29) spot ∷ ts) f.before_is) refl more
       (λ t ts rest is. turned_none expr_part _ (expr_tokens f.written ++ t ∷ rest) (t ∷ rest) (raise_turn spot) f.written (expr_reads f.written).steps (raise_turns spot _ (behind_none (expr_tokens f.written) t rest)) (expr_goes f t ts rest is) (λ n. refl));
 }
 
@@ -180,6 +181,8 @@ import_other name_at name behind after left f unknown is = record {
     before_is = ap (λ ts. token (Keyword 21) spot ∷ ts) f.before_is;
     left_is = is;
     begins = inl (record { some = import_module spot f.spot name; more = word name f.spot; tokens_are = refl });
+    goes_on = tt;
+    unread = other_statement (token (Keyword 21) spot ∷ behind) (token (Keyword 21) spot ∷ []) (token (Word name) f.spot) after (Unexpected left) refl (ap (λ ts. token (Keyword 21) spot ∷ ts) f.before_is);
     none = λ more. record { steps = 0; only = λ n. amiss around spot more };
   };
 }
@@ -191,7 +194,7 @@ import_other name_at name behind after left f unknown is = record {
 pub import_refused : (behind : List Token) (stop : Stop) → Refused one_name 0 behind stop → RefusedBehindAny 21 behind stop
 import_refused behind stop is = record {
   there = λ around spot.
-      refused_part around one_name 0 (token (Keyword 21) spot ∷ []) behind (token (Keyword 21) spot ∷ behind) stop (import_turn spot) refl
+      refused_part around one_name 0 (token (Keyword 21) spot ∷ []) behind (token (Keyword 21) spot ∷ behind) stop (import_turn spot) refl refl
       (begins_part one_name (token (Keyword 21) spot ∷ []) (λ found. import_module spot found.0 found.1) (λ found. refl)) (λ more first. import_turns spot more)
       (λ why n found left deep. absurd (not_deeper why 0 deep)) is;
 }
@@ -199,6 +202,6 @@ import_refused behind stop is = record {
 pub import_more : (name_at : Pos) (name : List ℕ) (behind after : List Token) (stop : Stop) → TakenName behind name_at name after → IsMore after stop → RefusedBehindAny 21 behind stop
 import_more name_at name behind after stop f more = record {
   there = λ around spot.
-      ended around (token (Keyword 21) spot ∷ word name f.spot) after (token (Keyword 21) spot ∷ behind) stop (import_module spot f.spot name) (ap (λ ts. token (Keyword 21) spot ∷ ts) f.before_is) refl more
+      ended around (token (Keyword 21) spot ∷ word name f.spot) after (token (Keyword 21) spot ∷ behind) stop (import_module spot f.spot name) refl (ap (λ ts. token (Keyword 21) spot ∷ ts) f.before_is) refl more
       (λ t ts rest is. record { steps = 0; none = λ n. refl });
 }

@@ -138,7 +138,12 @@ pub record Begins {A : Type 0} (p : Production A) (front : List Token) : Type 0 
   pub more : List Token
   pub tokens_are : p.tokens some ≡ front ++ more
 
--- The tokens before this one begin such a part, and those up to and with it begin none: with TooDeep, none that there is
+-- with TooDeep, what is asked for goes on with the token that shows it
+abbrev pub GoesOn : (begins : List Token → Type 0) → List Token → Token → Fault → Type 0
+GoesOn begins front t (TooDeep place) = begins (front ++ t ∷ [])
+GoesOn begins front t fault = ⊤
+
+-- The tokens before this one begin such a part, and those up to and with it begin none: with TooDeep, some that there is no
 -- room for.
 pub record Shown {A : Type 0} (p : Production A) (room : ℕ) (before : List Token) (fault : Fault) : Type 0 where
   pub front : List Token
@@ -147,6 +152,7 @@ pub record Shown {A : Type 0} (p : Production A) (room : ℕ) (before : List Tok
   pub before_is : before ≡ front ++ shown_by ∷ behind
   pub left_is : ShowsAt behind fault
   pub begins : Begins p front
+  pub goes_on : GoesOn (Begins p) front shown_by fault
   pub none : (more : List Token) → Finds (λ a. IsDeep (Here fault) room (p.lies a)) p.read (front ++ shown_by ∷ more)
 
 -- no such part was read

@@ -3,7 +3,7 @@ use Rattle.std.specs.Prelude.{◌≡◌, ⊤, ◌⊎◌, ℕ, ◌+◌, ◌<◌, 
 use Rattle.prov_base.specs.declared.place.Pos.{Pos}
 use Rattle.py_lines.specs.declared.parts.Token.{Token}
 use Rattle.py_lines.specs.declared.parts.TokenKind.{TokenKind}
-use Rattle.py_lines.specs.declared.parts.TokenKind.TheVariants.{Keyword, Text}
+use Rattle.py_lines.specs.declared.parts.TokenKind.TheVariants.{Keyword, Text, Sign}
 use Rattle.py_tree.specs.declared.stmt.Form.{Form}
 use Rattle.py_tree.specs.declared.stmt.Globals.{Globals}
 use Rattle.py_tree.specs.Erasure.{expr_of, target_of, form_of}
@@ -20,19 +20,19 @@ use Rattle.py_grammar.specs.declared.head.What.{What}
 use Rattle.py_grammar.specs.declared.head.What.TheVariants.{Simple as SimpleIs, If, Elif, Else, While, For, Try, Except, With, Def, Class, Global}
 use Rattle.py_grammar.specs.declared.head.LineHead.{LineHead}
 use Rattle.py_grammar.specs.declared.head.Behind.{Behind}
-use Rattle.py_grammar.specs.Concrete.{Spot, Expr}
-use Rattle.py_grammar.specs.Tokens.{token, expr_tokens}
+use Rattle.py_grammar.specs.Concrete.{Spot, Expr, Sum}
+use Rattle.py_grammar.specs.Tokens.{token, expr_tokens, sum_tokens}
 use Rattle.py_grammar.specs.Trees.{expr_tree, exprs_tree}
-use Rattle.py_grammar.specs.Written.{Simple, Names, Params, Naming, Kind, Base, Target}
-use Rattle.py_grammar.specs.StatementTokens.{simple_tokens, target_tokens, names_tokens, params_tokens, naming_tokens, kind_tokens, base_tokens}
+use Rattle.py_grammar.specs.Written.{OneTarget, Simple, Names, Params, Naming, Kind, Base, Target}
+use Rattle.py_grammar.specs.StatementTokens.{simple_tokens, one_target_tokens, target_tokens, names_tokens, params_tokens, naming_tokens, kind_tokens, base_tokens}
 use Rattle.py_grammar.specs.StatementTrees.{simple_form, target_tree, names_list, params_list, naming_bound, kind_class, kind_bound, base_tree}
 use Rattle.py_grammar.specs.Depth.{expr_depth, exprs_depth, simple_depth, target_depth, kind_depth}
-use Rattle.py_grammar.specs.Lies.{expr_lies, exprs_lies, simple_lies, target_lies, kind_lies, base_lies}
+use Rattle.py_grammar.specs.Lies.{expr_lies, exprs_lies, sum_lies, one_target_lies, simple_lies, target_lies, kind_lies, base_lies}
 use Rattle.py_grammar.specs.WellPlaced.{Around, in_suite, in_loop_suite, in_handler_suite, in_def_suite, in_class_suite, simple_stands, def_stands, none_given}
 use Rattle.py_grammar.specs.LineReader.{Head, simple_head, if_head, elif_head, else_head, while_head, for_head, try_head, except_head, with_head, def_head, class_head, global_head, behind_tokens, colon_tokens, head_tokens, read_colon, read_head, read_target, read_names, read_params, read_naming, read_kind, read_base}
-use Rattle.py_grammar.specs.Parsed.{Production, Begins, IsAtFirst, ShowsAt}
+use Rattle.py_grammar.specs.Parsed.{Production, Begins, IsAtFirst, IsDeep, ShowsAt}
 use Rattle.py_grammar.specs.ParsedRows.{first_token, IsRead}
-use Rattle.py_grammar.specs.ParsedSimple.{around_of, leaving_none, BeginsSimple}
+use Rattle.py_grammar.specs.ParsedSimple.{around_of, leaving_none, BeginsDel, BeginsSimple, UnreadDel}
 
 -- ---- the parts of a line
 
@@ -239,6 +239,16 @@ pub record HeadFound (c : Context) (given : List (List ℕ)) (limit : Option Lim
   pub stands : head_stands c given written ≡ true
   pub within : is_some limit ≡ true → behind_in written ≡ None
 
+-- targets with a comma behind each
+abbrev pub passed_tokens : List (OneTarget × Spot) → List Token
+passed_tokens [] = []
+passed_tokens (p ∷ passed) = one_target_tokens p.0 ++ token (Sign 6) p.1 ∷ passed_tokens passed
+
+-- No `del` stands in these tokens, and behind the `for` with which they begin no targets and sum have all of them.
+pub record IsPast (front : List Token) : Type 0 where
+  pub no_del : (opened : List Token) (spot : Spot) (inside : List Token) → front ≡ opened ++ token (Keyword 12) spot ∷ inside → ⊥
+  pub no_for : (spot : Spot) (tokens inside : List Token) → front ++ tokens ≡ token (Keyword 17) spot ∷ inside → (passed : List (OneTarget × Spot)) (s : Sum) (more : List Token) → passed_tokens passed ++ sum_tokens s ≡ inside ++ more → ⊥
+
 -- What begins a line up to its `:` was read: every line with these tokens is this one. `word` is its keyword.
 pub record Opening (c : Context) (word : ℕ) (before : List Token) (what : What) (after : List Token) : Type 0 where
   pub front : List Token
@@ -250,6 +260,7 @@ pub record Opening (c : Context) (word : ℕ) (before : List Token) (what : What
   pub reads : (n : ℕ) (more : List Token) → first_token more ≡ first_token after → read_head (n + steps) (front ++ more) ≡ read_colon (n + left) made more
   pub what_is : (colon : Spot) (behind : Option Simple) → IsWhat what (made colon behind)
   pub behind_is : (colon : Spot) (behind : Option Simple) → behind_in (made colon behind) ≡ behind
+  pub past : IsPast front
   pub depth : ℕ
   pub low : depth ≤ 100
   pub depth_is : (colon : Spot) (behind : Option Simple) → head_depth (made colon behind) ≡ max depth (behind_depth behind)
@@ -292,25 +303,89 @@ abbrev pub ShowsOnLine : Token → List Token → Fault → Type 0
 ShowsOnLine t behind (TooMany place) = place ≡ t.at
 ShowsOnLine t behind fault = ShowsAt behind fault
 
--- tokens that begin a line, and then the first tokens of an expression, which is read before it is asked whether it is a target
-pub record BeginsReading (front : List Token) : Type 0 where
+-- behind these tokens of a line, up to the `:` of a compound statement, any simple one may stand
+pub record StartsBehind (front : List Token) : Type 0 where
+  pub made : Simple → Head
+  pub tokens_are : (s : Simple) → head_tokens (made s) ≡ front ++ simple_tokens s
+  pub behind_is : (s : Simple) → behind_in (made s) ≡ Some s
+
+-- `del` and the first tokens of an expression, which is read before it is asked whether it is a target: at the start of a line, or behind a `:`
+pub record ReadsDel (front : List Token) : Type 0 where
   pub opened : List Token
-  pub begins : Begins head_part opened
-  pub some : Expr
+  pub starts : (opened ≡ []) ⊎ StartsBehind opened
+  pub inside : List Token
+  pub begins : BeginsDel inside
+  pub front_is : front ≡ opened ++ inside
+
+-- targets with a comma behind each, and the first tokens of a sum, which is read before it is asked whether it is a target
+pub record BeginsTargets (front : List Token) : Type 0 where
+  pub passed : List (OneTarget × Spot)
+  pub some : Sum
   pub more : List Token
-  pub tokens_are : opened ++ expr_tokens some ≡ front ++ more
+  pub tokens_are : passed_tokens passed ++ sum_tokens some ≡ front ++ more
+
+-- the same behind `for`
+pub record ReadsFor (front : List Token) : Type 0 where
+  pub spot : Spot
+  pub inside : List Token
+  pub begins : BeginsTargets inside
+  pub front_is : front ≡ token (Keyword 17) spot ∷ inside
+
+abbrev pub BeginsReading : List Token → Type 0
+BeginsReading front = ReadsDel front ⊎ ReadsFor front
 
 abbrev pub BeginsHead : List Token → Type 0
 BeginsHead front = Begins head_part front ⊎ BeginsReading front
 
+-- With TooDeep, a simple statement goes on with the token that shows it, or a limit is passed: then whatever stands first shows it.
+abbrev pub GoesOnPlaced : (limit : Option Limit) → List Token → Token → Fault → Type 0
+GoesOnPlaced limit front t (TooDeep at) = BeginsSimple (front ++ t ∷ []) ⊎ ((limit ≡ Some Depth) × (front ≡ []) × (at ≡ t.at))
+GoesOnPlaced limit front t (TooMany at) = (limit ≡ Some Number) × (front ≡ [])
+GoesOnPlaced limit front t fault = ⊤
+
+-- of a statement, what stands ahead of the token that shows it
+abbrev pub IsAheadPlaced : (limit : Option Limit) → List Token → Token → Fault → Type 0
+IsAheadPlaced limit front t fault = GoesOnPlaced limit front t fault × UnreadDel front t fault
+
+-- the same of a line, where a limit is that of the statement behind the `:`
+abbrev pub GoesOnLine : (limit : Option Limit) → List Token → Token → Fault → Type 0
+GoesOnLine limit front t (TooDeep at) = BeginsHead (front ++ t ∷ []) ⊎ ((limit ≡ Some Depth) × StartsBehind front × (at ≡ t.at))
+GoesOnLine limit front t (TooMany at) = (limit ≡ Some Number) × StartsBehind front
+GoesOnLine limit front t fault = ⊤
+
+-- how deep what begins at a place lies in targets with a comma behind each
+abbrev pub passed_lies : List (OneTarget × Spot) → Pos → ℕ
+passed_lies [] at = 0
+passed_lies (p ∷ passed) at = max (one_target_lies p.0 at) (passed_lies passed at)
+
+-- several targets lie one deeper
+abbrev pub room_behind : ℕ → List (OneTarget × Spot) → ℕ
+room_behind room [] = room
+room_behind room (p ∷ passed) = 99
+
+-- no sum goes on with this token behind targets with a comma each, but where something lies too deep
+pub record UnreadTargets (room : ℕ) (front : List Token) (t : Token) (fault : Fault) : Type 0 where
+  pub there : (passed : List (OneTarget × Spot)) (s : Sum) (more : List Token) → passed_tokens passed ++ sum_tokens s ≡ front ++ t ∷ more → IsDeep (Here fault) (room_behind room passed) (λ at. max (passed_lies passed at) (sum_lies s at))
+
+-- what is read behind `del` and `for`, as far as no line of the grammar has it, goes on with this token only where it lies too deep
+pub record UnreadLine (front : List Token) (t : Token) (fault : Fault) : Type 0 where
+  pub del_unread : (opened : List Token) (spot : Spot) (inside : List Token) → front ≡ opened ++ token (Keyword 12) spot ∷ inside → (e : Expr) (more : List Token) → expr_tokens e ≡ inside ++ t ∷ more → IsDeep (Here fault) 100 (expr_lies e)
+  pub for_unread : (spot : Spot) (inside : List Token) → front ≡ token (Keyword 17) spot ∷ inside → (passed : List (OneTarget × Spot)) (s : Sum) (more : List Token) → passed_tokens passed ++ sum_tokens s ≡ inside ++ t ∷ more
+      → IsDeep (Here fault) (room_behind 100 passed) (λ at. max (passed_lies passed at) (sum_lies s at))
+
+-- of a line, what stands ahead of the token that shows it
+abbrev pub IsAheadOnLine : (limit : Option Limit) → List Token → Token → Fault → Type 0
+IsAheadOnLine limit front t fault = GoesOnLine limit front t fault × UnreadLine front t fault
+
 -- The tokens before this one begin what is asked for, and those up to and with it begin nothing that may stand there.
-pub record ShownBy {A : Type 0} (begins : List Token → Type 0) (tokens : A → List Token) (amiss : Fault → A → Type 0) (before : List Token) (fault : Fault) : Type 0 where
+pub record ShownBy {A : Type 0} (begins : List Token → Type 0) (goes : List Token → Token → Fault → Type 0) (tokens : A → List Token) (amiss : Fault → A → Type 0) (before : List Token) (fault : Fault) : Type 0 where
   pub front : List Token
   pub shown_by : Token
   pub behind : List Token
   pub before_is : before ≡ front ++ shown_by ∷ behind
   pub left_is : ShowsOnLine shown_by behind fault
   pub begun : begins front
+  pub goes_on : goes front shown_by fault
   pub none : (a : A) (more : List Token) → tokens a ≡ front ++ shown_by ∷ more → amiss fault a
 
 -- The tokens begin what is asked for, and are nothing that may stand there.
@@ -319,13 +394,13 @@ pub record EndedBy {A : Type 0} (begins : List Token → Type 0) (tokens : A →
   pub none : (a : A) → tokens a ≡ before → amiss a
 
 -- nothing was read that may stand there
-abbrev pub LineRefused : {A : Type 0} → (List Token → Type 0) → (A → List Token) → (Stop → A → Type 0) → List Token → Stop → Type 0
-LineRefused begins tokens amiss before (Here Memory) = ⊤
-LineRefused begins tokens amiss before (Here fault) = ShownBy begins tokens (λ fault a. amiss (Here fault) a) before fault
-LineRefused begins tokens amiss before End = EndedBy begins tokens (amiss End) before
+abbrev pub LineRefused : {A : Type 0} → (List Token → Type 0) → (List Token → Token → Fault → Type 0) → (A → List Token) → (Stop → A → Type 0) → List Token → Stop → Type 0
+LineRefused begins goes tokens amiss before (Here Memory) = ⊤
+LineRefused begins goes tokens amiss before (Here fault) = ShownBy begins goes tokens (λ fault a. amiss (Here fault) a) before fault
+LineRefused begins goes tokens amiss before End = EndedBy begins tokens (amiss End) before
 
 abbrev pub PlacedRefused : Around → (limit : Option Limit) → List Token → Stop → Type 0
-PlacedRefused around limit before stop = LineRefused BeginsSimple simple_tokens (IsAmissPlaced around limit) before stop
+PlacedRefused around limit before stop = LineRefused BeginsSimple (IsAheadPlaced limit) simple_tokens (IsAmissPlaced around limit) before stop
 
 -- what stands behind a `:` is refused: something does stand there
 pub record BehindRefused (around : Around) (limit : Option Limit) (before : List Token) (stop : Stop) : Type 0 where
@@ -333,7 +408,7 @@ pub record BehindRefused (around : Around) (limit : Option Limit) (before : List
   pub some : before ≡ [] → ⊥
 
 abbrev pub HeadRefused : Context → List (List ℕ) → (limit : Option Limit) → List Token → Stop → Type 0
-HeadRefused c given limit before stop = LineRefused BeginsHead head_tokens (IsAmissHead c given limit) before stop
+HeadRefused c given limit before stop = LineRefused BeginsHead (IsAheadOnLine limit) head_tokens (IsAmissHead c given limit) before stop
 
 -- behind this keyword
 abbrev pub OpeningFound : Context → ℕ → List Token → What → List Token → Type 0

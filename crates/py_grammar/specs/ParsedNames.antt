@@ -2,19 +2,19 @@
 use Rattle.std.specs.Prelude.{◌≡◌, ⊤, ◌⊎◌, ℕ, ◌<◌, ◌≤◌, max, true, false, List, [], ◌∷◌, ◌++◌, map, Some, is_none}
 use Rattle.py_lines.specs.declared.parts.Token.{Token}
 use Rattle.py_lines.specs.declared.parts.TokenKind.TheVariants.{Keyword, Sign}
-use Rattle.py_tree.specs.Tree.{ExprTree}
+use Rattle.py_tree.specs.Tree.{ExprTree, TargetTree}
 use Rattle.py_tree.specs.Erasure.{expr_of, exprs_list}
 use Rattle.py_grammar.specs.declared.part.Part.{Part}
 use Rattle.py_grammar.specs.declared.rows.Row.{Row}
 use Rattle.py_grammar.specs.declared.fault.Fault.{Fault}
-use Rattle.py_grammar.specs.declared.fault.Fault.TheVariants.{Unexpected, Memory}
+use Rattle.py_grammar.specs.declared.fault.Fault.TheVariants.{Unexpected, TooDeep, TooMany, Memory}
 use Rattle.py_grammar.specs.declared.fault.Stop.{Stop}
 use Rattle.py_grammar.specs.declared.fault.Stop.TheVariants.{Here, End}
-use Rattle.py_grammar.specs.Concrete.{Spot, Expr}
-use Rattle.py_grammar.specs.Tokens.{token, expr_tokens}
+use Rattle.py_grammar.specs.Concrete.{Spot, Sum}
+use Rattle.py_grammar.specs.Tokens.{token, sum_tokens}
 use Rattle.py_grammar.specs.Written.{OneTarget, TargetRest, Names, Params}
-use Rattle.py_grammar.specs.StatementTokens.{one_target_tokens, target_rest_tokens, names_tokens, params_tokens}
-use Rattle.py_grammar.specs.StatementTrees.{one_target_tree, target_rest_tree, names_list, params_list}
+use Rattle.py_grammar.specs.StatementTokens.{one_target_tokens, target_rest_tokens, target_tokens, names_tokens, params_tokens}
+use Rattle.py_grammar.specs.StatementTrees.{one_target_tree, target_rest_tree, target_tree, names_list, params_list}
 use Rattle.py_grammar.specs.Reader.{Read, go_on, next_level, read_sign}
 use Rattle.py_grammar.specs.Trees.{sum_tree}
 use Rattle.py_grammar.specs.Depth.{one_target_depth, target_rest_depth}
@@ -22,10 +22,10 @@ use Rattle.py_grammar.specs.Lies.{one_target_lies, target_rest_lies}
 use Rattle.py_grammar.specs.StatementReader.{whole}
 use Rattle.py_grammar.specs.LineReader.{read_target_rest, read_names, read_params}
 use Rattle.py_grammar.specs.WellPlaced.{are_different, none_given}
-use Rattle.py_grammar.specs.Parsed.{Production, ShowsAt, IsAtFirst, IsDeep, Finds, Begins, Refused, Found, sum_part}
-use Rattle.py_grammar.specs.ParsedRows.{IsRead}
+use Rattle.py_grammar.specs.Parsed.{Production, ShowsAt, GoesOn, IsAtFirst, IsDeep, Finds, Begins, Refused, Found, sum_part}
+use Rattle.py_grammar.specs.ParsedRows.{first_token, IsRead}
 use Rattle.py_grammar.specs.ParsedSimple.{leaving_none, target_form, targets_form}
-use Rattle.py_grammar.specs.ParsedHead.{names_part, params_part, LineRefused}
+use Rattle.py_grammar.specs.ParsedHead.{Took, target_part, names_part, params_part, passed_tokens, BeginsTargets, UnreadTargets, LineRefused}
 
 -- ---- refused, where something may be read all the same
 
@@ -37,6 +37,7 @@ pub record ShownAmiss {A : Type 0} (p : Production A) (amiss : Stop → A → Ty
   pub before_is : before ≡ front ++ shown_by ∷ behind
   pub left_is : ShowsAt behind fault
   pub begins : Begins p front
+  pub goes_on : GoesOn (Begins p) front shown_by fault
   pub none : (more : List Token) → Finds (amiss (Here fault)) p.read (front ++ shown_by ∷ more)
 
 abbrev pub RefusedAmiss : {A : Type 0} → Production A → (Stop → A → Type 0) → List Token → Stop → Type 0
@@ -115,17 +116,19 @@ pub record Followed (A : Type 0) : Type 0 where
 abbrev pub followed_tokens : {A : Type 0} → Production A → Followed A → List Token
 followed_tokens p w = p.tokens w.part ++ token (Keyword 22) w.in_word ∷ w.behind
 
--- tokens that begin such a part, and then the first tokens of an expression, which is read before it is asked whether it is a target
-pub record BeginsThen {A : Type 0} (p : Production A) (front : List Token) : Type 0 where
-  pub opened : List Token
-  pub begins : Begins p opened
-  pub some : Expr
-  pub more : List Token
-  pub tokens_are : opened ++ expr_tokens some ≡ front ++ more
+-- With TooDeep, targets go on with the token that shows it, as far as they are read as sums.
+abbrev pub GoesOnTargets : List Token → Token → Fault → Type 0
+GoesOnTargets front t (TooDeep at) = BeginsTargets (front ++ t ∷ [])
+GoesOnTargets front t (TooMany at) = ⊥
+GoesOnTargets front t fault = ⊤
+
+-- of targets, what stands ahead of the token that shows it
+abbrev pub IsAheadOfTargets : ℕ → List Token → Token → Fault → Type 0
+IsAheadOfTargets room front t fault = GoesOnTargets front t fault × UnreadTargets room front t fault
 
 -- no such part is written there with an `in` behind it that there is room for
 abbrev pub TargetsRefused : {A : Type 0} → Production A → ℕ → List Token → Stop → Type 0
-TargetsRefused p room before stop = LineRefused (BeginsThen p) (followed_tokens p) (λ why w. IsDeep why room (p.lies w.part)) before stop
+TargetsRefused p room before stop = LineRefused BeginsTargets (IsAheadOfTargets room) (followed_tokens p) (λ why w. IsDeep why room (p.lies w.part)) before stop
 
 -- a target was read
 pub record ItemFound (room : ℕ) (before : List Token) (part : Part) (after : List Token) : Type 0 where
@@ -148,6 +151,15 @@ pub record WrongItem (room : ℕ) (before : List Token) (stop : Stop) : Type 0 w
 pub record ItemRefused (room : ℕ) (before : List Token) (stop : Stop) : Type 0 where
   pub why : Refused sum_part room before stop ⊎ WrongItem room before stop
 
+-- with the token that stands here no targets and sum go on that have all these tokens
+pub record TargetsEnd (tokens after : List Token) : Type 0 where
+  pub none : (t : Token) (more : List Token) → first_token (t ∷ more) ≡ first_token after → (passed : List (OneTarget × Spot)) (s : Sum) → passed_tokens passed ++ sum_tokens s ≡ tokens ++ t ∷ more → ⊥
+
+-- the whole target was read
+pub record TargetFound (before : List Token) (tree : TargetTree) (after : List Token) : Type 0 where
+  pub took : Took target_part target_tree before tree after
+  pub ends : TargetsEnd (target_tokens took.written) after
+
 -- what stands behind a comma was added to a row of targets
 pub record FoundTargets (room : ℕ) (before : List Token) (old row : Row) (after : List Token) : Type 0 where
   pub written : TargetRest
@@ -158,3 +170,4 @@ pub record FoundTargets (room : ℕ) (before : List Token) (old row : Row) (afte
   pub height_is : row.height ≡ max old.height (target_rest_depth written)
   pub fits : row.height ≤ room
   pub is_read : IsRead target_rest_part written after
+  pub ends : TargetsEnd (target_rest_tokens written) after

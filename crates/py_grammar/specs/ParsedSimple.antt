@@ -21,11 +21,11 @@ use Rattle.py_grammar.specs.Tokens.{token, sign, expr_tokens}
 use Rattle.py_grammar.specs.StatementTokens.{aug_sign, simple_tokens}
 use Rattle.py_grammar.specs.StatementTrees.{aug_op, simple_form}
 use Rattle.py_grammar.specs.Depth.{simple_depth}
-use Rattle.py_grammar.specs.Lies.{simple_lies}
+use Rattle.py_grammar.specs.Lies.{expr_lies, simple_lies}
 use Rattle.py_grammar.specs.WellPlaced.{Around, form_stands}
 use Rattle.py_grammar.specs.Reader.{Read}
 use Rattle.py_grammar.specs.StatementReader.{aug_sign_of, exprs_target, read_simple}
-use Rattle.py_grammar.specs.Parsed.{ShowsAt, Production, Finds, Begins, Taken, FoundRow}
+use Rattle.py_grammar.specs.Parsed.{ShowsAt, GoesOn, IsDeep, Production, Finds, Begins, Taken, FoundRow}
 
 -- where the code is, in the words of the grammar
 abbrev pub around_of : Standing → Around
@@ -69,6 +69,10 @@ pub record BeginsDel (front : List Token) : Type 0 where
 abbrev pub BeginsSimple : List Token → Type 0
 BeginsSimple front = Begins simple_part front ⊎ BeginsDel front
 
+-- behind the `del` that a statement begins with no expression goes on with this token, but one that lies too deep
+pub record UnreadDel (front : List Token) (t : Token) (fault : Fault) : Type 0 where
+  pub there : (spot : Spot) (inside : List Token) → front ≡ token (Keyword 12) spot ∷ inside → (e : Expr) (more : List Token) → expr_tokens e ≡ inside ++ t ∷ more → IsDeep (Here fault) 100 (expr_lies e)
+
 -- The tokens before this one begin a simple statement, and those up to and with it begin none that may stand there.
 pub record SimpleShown (around : Around) (before : List Token) (fault : Fault) : Type 0 where
   pub front : List Token
@@ -77,6 +81,8 @@ pub record SimpleShown (around : Around) (before : List Token) (fault : Fault) :
   pub before_is : before ≡ front ++ shown_by ∷ behind
   pub left_is : ShowsAt behind fault
   pub begins : BeginsSimple front
+  pub goes_on : GoesOn BeginsSimple front shown_by fault
+  pub unread : UnreadDel front shown_by fault
   pub none : (more : List Token) → Finds (IsAmiss around (Here fault)) simple_part.read (front ++ shown_by ∷ more)
 
 -- The tokens begin a simple statement, and are none that may stand there.

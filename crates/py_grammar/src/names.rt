@@ -5,8 +5,8 @@ ghost use Rattle.py_tree.specs.Erasure.{expr_of, target_of as target_tree_of};
 ghost use Rattle.py_grammar.specs.LineReader.{begins_name};
 ghost use Rattle.py_grammar.specs.Parsed.{Refused, Taken, one_keyword, IsAtFirst};
 ghost use Rattle.py_grammar.specs.ParsedHead.{Took, target_part, params_part, naming_part, base_part, GlobalFound, GlobalRefused};
-ghost use Rattle.py_grammar.specs.ParsedNames.{RefusedAmiss, all_names, IsGiven, OthersFound, IsRepeated, DifferentFound, bracket_part, ParamsFound, IsRepeatedIn, target_rest_part, TargetsRefused, ItemFound, ItemRefused, FoundTargets};
-ghost use Rattle.py_grammar.specs.StatementTrees.{target_tree, naming_bound, base_tree};
+ghost use Rattle.py_grammar.specs.ParsedNames.{RefusedAmiss, all_names, IsGiven, OthersFound, IsRepeated, DifferentFound, bracket_part, ParamsFound, IsRepeatedIn, target_rest_part, TargetsRefused, TargetFound, ItemFound, ItemRefused, FoundTargets};
+ghost use Rattle.py_grammar.specs.StatementTrees.{naming_bound, base_tree};
 ghost use Rattle.py_grammar.specs.WellPlaced.{is_in, is_special as special_name, may_be_method as method_name};
 
 use crate::cursor::Cursor;
@@ -25,7 +25,7 @@ use std::alloc::Global;
 impl<'a> Cursor<'a> {
     /// `target = target1 { "," target1 } [","]`, each of which is read as a sum.
     pub(crate) fn for_target(&mut self, alloc: Global) -> Result<Target, Stop>
-        ensures found { IfOk result (λ target. Took target_part target_tree self.old.rest.now (target_tree_of target) self.new.rest.now) }
+        ensures found { IfOk result (λ target. TargetFound self.old.rest.now (target_tree_of target) self.new.rest.now) }
         ensures refused { IfErr result (TargetsRefused target_part 100 self.old.rest.now) }
     {
         let first = self.target_item(alloc, ROOM)?;

@@ -1,5 +1,5 @@
 -- What is read of a line of a suite: what the first token tells, the limits, and what is refused.
-use Rattle.std.proofs.Common.{◌≡◌, inl, inr, ℕ, ◌+◌, ◌<◌, ◌≤◌, suc, nat_le, Bool, true, false, not, ◌&&◌, ◌||◌, ◌==◌, List, [], ◌∷◌, ◌++◌, length, Option, Some, None, is_some, is_none, if◌then◌else◌, refl, ap, sym, ◌∙◌, arith, subst, ◌⊎◌}
+use Rattle.std.proofs.Common.{◌≡◌, inl, inr, ℕ, ◌+◌, ◌<◌, ◌≤◌, suc, nat_le, Bool, true, false, not, ◌&&◌, ◌||◌, ◌==◌, List, [], ◌∷◌, ◌++◌, length, Option, Some, None, is_some, is_none, if◌then◌else◌, refl, ap, sym, ◌∙◌, arith, subst, ◌⊎◌, codes}
 use Rattle.std.specs.Prelude.{slice_get}
 use Rattle.std.specs.Int.{from_bool}
 use Rattle.std.proofs.lemmas.Bool.{eqb-true, leb-true, leb-false, le-leb, false≢true}
@@ -18,18 +18,23 @@ use Rattle.py_grammar.specs.declared.fault.Stop.{Stop}
 use Rattle.py_grammar.specs.declared.fault.Stop.TheVariants.{Here, End}
 use Rattle.py_grammar.specs.declared.head.LineHead.{LineHead}
 use Rattle.py_grammar.specs.Concrete.{Spot}
-use Rattle.py_grammar.specs.Tokens.{token}
-use Rattle.py_grammar.specs.Written.{Simple}
+use Rattle.py_grammar.specs.Tokens.{token, keyword}
+use Rattle.py_grammar.specs.Layout.{IsLine}
+use Rattle.py_grammar.specs.StatementTokens.{simple_tokens}
+use Rattle.py_grammar.specs.Written.{Simple, pass}
 use Rattle.py_grammar.specs.LineReader.{Head, simple_head, if_head, elif_head, else_head, while_head, for_head, try_head, except_head, with_head, def_head, class_head, global_head, head_tokens}
-use Rattle.py_grammar.specs.ParsedHead.{Context, lacks_handler, word_may, is_compound, is_compound_kind, head_stands, head_depth, behind_in, HeadFound, HeadRefused, IsAmissHead, ShownBy, BeginsHead, kind_may, may_begin, FirstMay, ShowsOnLine, head_lies, stands_first, behind_first}
+use Rattle.py_grammar.specs.ParsedHead.{Context, lacks_handler, word_may, is_compound, is_compound_kind, head_stands, head_depth, behind_in, HeadFound, HeadRefused, IsAmissHead, ShownBy, GoesOnLine, BeginsHead, kind_may, may_begin, FirstMay, ShowsOnLine, head_lies, behind_first, StartsBehind, IsAheadOnLine, UnreadLine}
 use Rattle.py_grammar.specs.Parsed.{IsAtFirst}
 use Rattle.py_parser.specs.Limits.{Limits, profile}
 use Rattle.py_parser.specs.Rows.{Level, Begun, is_stmt, is_every, counted, follows, may}
-use Rattle.py_parser.specs.Faults.{last_place, at_token, at_end, shows, Opens}
-use Rattle.py_parser.specs.ParsedBlocks.{limit_by, limit_at, is_stmt_kind, RowsBegin, LineRead, RefusedLine, LineStopped, Asks, MarksToken, halt_of, MarksDeep}
+use Rattle.py_parser.specs.Faults.{last_place, at_token, at_end, shows, Opens, few_suites, few_statements, line_fault}
+use Rattle.py_parser.specs.ParsedBlocks.{limit_by, limit_at, is_stmt_kind, RowsBegin, LineRead, RefusedLine, LineStopped, Asks, MarksToken, halt_of, RowsFollow, NoneRows, Passes, RowsLimit, deep_at}
 use Rattle.py_grammar.proofs.LyingLines.{head_low}
 use Rattle.py_grammar.proofs.LineFirsts.{same_first, head_some, simple_not_compound, may_as_word, may_as_simple, misplaced_head}
-use Rattle.py_parser.proofs.Endings.{begins_here, begins_with, begins_line}
+use Rattle.py_parser.specs.Grouped.{no_spot}
+use Rattle.py_grammar.proofs.HeadReading.{same_head}
+use Rattle.py_parser.proofs.Endings.{begins_here, begins_with, begins_line, follows_line, follows_pass}
+use Rattle.py_parser.proofs.RowRefusals.{none_line, ends_begun, first_reads}
 
 -- ---- truth values
 
@@ -58,6 +63,14 @@ each_true false b c d is = absurd (false≢true is)
 each_true true false c d is = absurd (false≢true is)
 each_true true true false d is = absurd (false≢true is)
 each_true true true true false is = absurd (false≢true is)
+
+pub none_lacks : (lacks a : Bool) → a ≡ not lacks → a ≡ true → lacks ≡ false
+none_lacks false a is one = refl
+none_lacks true a is one = absurd (false≢true (sym is ∙ one))
+
+pub not_false : (a b : Bool) → a ≡ not b → a ≡ false → b ≡ true
+not_false a true is none = refl
+not_false a false is none = absurd (false≢true (sym none ∙ is))
 
 -- ---- the first token
 
@@ -208,14 +221,39 @@ pub record Opened (m : Level) (n : ℕ) (line : Line) (t : Token) (begins : Bool
 begins_as : (m : Level) (n : ℕ) (line : Line) (t : Token) (begins : Bool) (limit : Option Limit) (o : Opened m n line t begins limit) (h : Head) (more : List Token) → head_tokens h ≡ t ∷ more → begins ≡ is_stmt h
 begins_as m n line t begins limit o h more is = o.begins_is ∙ kind_tells h t more is
 
+-- a statement stands only where no handler is missing
+stmt_finished : (m : Level) (h : Head) → is_stmt h ≡ true → follows m h ≡ true → not (lacks_handler m.context.last) ≡ true
+stmt_finished m (simple_head s) is may_follow = may_follow
+stmt_finished m (if_head at test colon b) is may_follow = may_follow
+stmt_finished m (elif_head at test colon b) is may_follow = absurd (false≢true is)
+stmt_finished m (else_head at colon b) is may_follow = absurd (false≢true is)
+stmt_finished m (while_head at test colon b) is may_follow = may_follow
+stmt_finished m (for_head at target in_word e colon b) is may_follow = may_follow
+stmt_finished m (try_head at colon b) is may_follow = may_follow
+stmt_finished m (except_head at kind colon b) is may_follow = absurd (false≢true is)
+stmt_finished m (with_head at e called colon b) is may_follow = may_follow
+stmt_finished m (def_head at name_at bytes opening given closing colon b) is may_follow = may_follow
+stmt_finished m (class_head at name_at bytes of colon b) is may_follow = may_follow
+stmt_finished m (global_head at names) is may_follow = absurd (false≢true is)
+
+never_both : (b : Bool) → b ≡ true → not b ≡ true → ⊥
+never_both true one other = false≢true other
+never_both false one other = false≢true one
+
+-- a line that begins a statement was read, so there may be one more
+fewer_there : (m : Level) (n : ℕ) (h : Head) (begins : Bool) → begins ≡ is_stmt h → (m.context.may_declare ≡ true → m.of_def ≡ true) → head_stands m.context m.given h ≡ true → (begins ≡ true → (n < 20000) ⊎ (lacks_handler m.context.last ≡ true))
+    → begins ≡ true → n < 20000
+fewer_there m n h begins same declares stands few is = elim (few is) [ inl less ↦ less | inr lacks ↦ absurd (never_both (lacks_handler m.context.last) lacks (stmt_finished m h (sym same ∙ is) (follows_there m h declares stands))) ]
+
 few_now : (n : ℕ) (begins : Bool) → n ≤ 20000 → (begins ≡ true → n < 20000) → n + from_bool begins ≤ 20000
 few_now n true few fewer = let less = fewer refl in omega (arith, less)
 few_now n false few fewer = omega (arith, few)
 
-line_found : (m : Level) (n : ℕ) (line : Line) (head : LineHead) (t : Token) (begins : Bool) (limit : Option Limit) → Opened m n line t begins limit → (m.context.may_declare ≡ true → m.of_def ≡ true) → n ≤ 20000 → (begins ≡ true → n < 20000)
+line_found : (m : Level) (n : ℕ) (line : Line) (head : LineHead) (t : Token) (begins : Bool) (limit : Option Limit) → Opened m n line t begins limit → (m.context.may_declare ≡ true → m.of_def ≡ true) → n ≤ 20000 → (begins ≡ true → (n < 20000) ⊎ (lacks_handler m.context.last ≡ true))
     → HeadFound m.context m.given limit line.tokens head → LineRead m n line head (n + from_bool begins)
-line_found m n line head t begins limit o declares few fewer found =
+line_found m n line head t begins limit o declares few unless_lacking found =
     let same : begins ≡ is_stmt found.written = begins_as m n line t begins limit o found.written o.rest (sym found.before_is ∙ o.tokens_are) in
+    let fewer = fewer_there m n found.written begins same declares found.stands unless_lacking in
     let fits = within_limits n m.depth (is_stmt found.written) (behind_in found.written) limit few (λ is. fewer (same ∙ is)) (o.limit_is ∙ ap (λ b. limit_at (n + from_bool b) m.depth) same) found.within in
     record {
       written = found.written;
@@ -234,7 +272,7 @@ opened m n line tokens t begins limit k same first begins_is one is =
     let there = first_there tokens t first in
     record { rest = there.0; tokens_are = sym same ∙ there.1; begins_is = begins_is; limit_is = is ∙ ap (λ k. limit_at (n + k) m.depth) one }
 
-pub found_there : (m : Level) (n : ℕ) (line : Line) (head : LineHead) (tokens : List Token) (t : Token) (begins : Bool) (limit : Option Limit) (k : ℕ) → Opened m n line t begins limit → (m.context.may_declare ≡ true → m.of_def ≡ true) → n ≤ 20000 → (begins ≡ true → n < 20000)
+pub found_there : (m : Level) (n : ℕ) (line : Line) (head : LineHead) (tokens : List Token) (t : Token) (begins : Bool) (limit : Option Limit) (k : ℕ) → Opened m n line t begins limit → (m.context.may_declare ≡ true → m.of_def ≡ true) → n ≤ 20000 → (begins ≡ true → (n < 20000) ⊎ (lacks_handler m.context.last ≡ true))
     → k ≡ from_bool begins → tokens ≡ line.tokens → HeadFound m.context m.given limit tokens head → LineRead m n line head (n + k)
 found_there m n line head tokens t begins limit k o declares few fewer one same found =
     subst (λ k. LineRead m n line head (n + k)) (sym one) (line_found m n line head t begins limit o declares few fewer (subst (λ (ts : List Token). HeadFound m.context m.given limit ts head) same found))
@@ -306,28 +344,101 @@ marked_shown line lines front t behind (TooDeep place) tokens is = tt
 marked_shown line lines front t behind (TooMany place) tokens is = is
 marked_shown line lines front t behind Memory tokens is = absurd is
 
--- with TooDeep, what begins at the place
-deep_shown : (c : Context) (given : List (List ℕ)) (limit : Option Limit) (k d : ℕ) (front : List Token) (t : Token) (fault : Fault)
-    → ((h : Head) (more : List Token) → head_tokens h ≡ front ++ t ∷ more → IsAmissHead c given limit (Here fault) h) → MarksDeep (halt_of k fault) (at_token d front t)
-deep_shown c given limit k d front t (Unexpected left) none = tt
-deep_shown c given limit k d front t (TooMany place) none = tt
-deep_shown c given limit k d front t Memory none = tt
-deep_shown c given limit k d front t (TooDeep place) none = record { there = λ line more h shows_it tokens_are. by line h (none h shows_it.1.more (sym tokens_are ∙ shows_it.1.tokens_are)) }
+-- ---- what passes a limit
+
+-- tokens behind which a simple statement stands behind a `:` are not none
+starts_some : (front : List Token) → StartsBehind front → front ≡ [] → ⊥
+starts_some front b none =
+    let one = same_head (b.made (pass no_spot)) (simple_head (pass no_spot)) (b.tokens_are (pass no_spot) ∙ ap (λ ts. ts ++ simple_tokens (pass no_spot)) none) in
+    never (behind_in (b.made (pass no_spot))) (b.behind_is (pass no_spot)) (ap behind_in one)
   where
-    by : (line : Line) (h : Head) → IsAmissHead c given limit (Here (TooDeep place)) h → (100 < head_lies h place) ⊎ (stands_first line.tokens place ⊎ behind_first (behind_in h) place)
-    by line h (inl lies) = inl lies
-    by line h (inr passed) = inr (inr passed.1)
+    never : (o : Option Simple) → o ≡ Some (pass no_spot) → o ≡ None → ⊥
+    never None is none = cc
+    never (Some s) is none = cc
+
+first_kept : (front ts behind : List Token) (shown t : Token) (rest : List Token) → (front ≡ [] → ⊥) → front ++ shown ∷ behind ≡ t ∷ rest → (r : List Token) × (front ++ ts ≡ t ∷ r)
+first_kept [] ts behind shown t rest some is = absurd (some refl)
+first_kept (f ∷ fs) ts behind shown t rest some is = (fs ++ ts, ap (λ (u : Token). u ∷ (fs ++ ts)) (same_first f t (fs ++ shown ∷ behind) rest is))
+
+-- a line passes a limit where a statement stands behind its `:`
+suites_passing : (m : Level) (n : ℕ) (line : Line) (t : Token) (begins : Bool) (limit : Option Limit) → Opened m n line t begins limit → limit ≡ Some Depth → (q : Limits) → q.suites ≤ 50 → (h : Head) (more : List Token) → head_tokens h ≡ t ∷ more
+    → is_some (behind_in h) ≡ true → may q m n h ≡ true → ⊥
+suites_passing m n line t begins limit o passed q few h more is some fine =
+    let parts = each_true (head_stands m.context m.given h) (nat_le (head_depth h) q.height) (nat_le (n + counted h) q.number) (is_none (behind_in h) || nat_le (suc m.depth) q.suites) fine in
+    depth_passed q (n + from_bool begins) m.depth (behind_in h) few (sym o.limit_is ∙ passed) some parts.3
+
+number_passing : (m : Level) (n : ℕ) (line : Line) (t : Token) (begins : Bool) (limit : Option Limit) → Opened m n line t begins limit → limit ≡ Some Number → (q : Limits) → q.number ≤ 20000 → (h : Head) (more : List Token) → head_tokens h ≡ t ∷ more
+    → is_some (behind_in h) ≡ true → may q m n h ≡ true → ⊥
+number_passing m n line t begins limit o passed q few h more is some fine =
+    let parts = each_true (head_stands m.context m.given h) (nat_le (head_depth h) q.height) (nat_le (n + counted h) q.number) (is_none (behind_in h) || nat_le (suc m.depth) q.suites) fine in
+    number_passed q n m.depth (is_stmt h) (behind_in h) few (sym (o.limit_is ∙ ap (λ b. limit_at (n + from_bool b) m.depth) (begins_as m n line t begins limit o h more is)) ∙ passed) some parts.2
+
+-- no line goes on so, at this indentation
+none_ends : (within : Limits → Type 0) (m : Level) (n d : ℕ) (tokens : List Token) → d ≡ m.indent → ((q : Limits) → within q → (h : Head) → head_tokens h ≡ tokens → may q m n h ≡ true → ⊥) → NoneRows within m n [] (at_end d tokens)
+none_ends within m n d tokens same none =
+    none_line within m n (at_end d tokens) (λ rest shown. subst (λ e. Begun e rest) same (ends_begun d tokens rest shown)) (λ q asks other more h there tokens_are may_follow fine. none q asks h (sym tokens_are ∙ there.1) fine)
+
+-- the statement behind the `:` passes a limit
+passes_there : (within : Limits → Type 0) (m : Level) (n : ℕ) (line : Line) (t : Token) (rest front : List Token) (shown : Token) (behind : List Token) → (m.context.may_declare ≡ true → m.of_def ≡ true) → kind_may m.context t.kind ≡ true → line.tokens ≡ t ∷ rest
+    → line.tokens ≡ front ++ shown ∷ behind → StartsBehind front → line.indent ≡ m.indent
+    → ((q : Limits) → within q → (h : Head) (more : List Token) → head_tokens h ≡ t ∷ more → is_some (behind_in h) ≡ true → may q m n h ≡ true → ⊥)
+    → Passes (λ is. RowsFollow m is []) (λ d tokens. NoneRows within m n [] (at_end d tokens)) line.indent front
+passes_there within m n line t rest front shown behind declares allowed tokens before b same passing =
+    let first_is = first_kept front (keyword (codes "pass") no_spot) behind shown t rest (starts_some front b) (sym before ∙ tokens) in
+    record {
+      at = no_spot;
+      goes_on = follows_line m (b.made (pass no_spot)) (λ other. IsLine other line.indent (front ++ keyword (codes "pass") no_spot))
+          (kind_follows m (b.made (pass no_spot)) t first_is.0 (b.tokens_are (pass no_spot) ∙ first_is.1) declares allowed) (record { indent_is = sym same; tokens_are = b.tokens_are (pass no_spot) });
+      none_so = none_ends within m n line.indent (front ++ keyword (codes "pass") no_spot) same (λ q asks h is fine.
+          let one : h ≡ b.made (pass no_spot) = same_head h (b.made (pass no_spot)) (is ∙ sym (b.tokens_are (pass no_spot))) in
+          passing q asks h first_is.0 (is ∙ first_is.1) (ap (λ g. is_some (behind_in g)) one ∙ ap is_some (b.behind_is (pass no_spot))) fine);
+    }
+
+-- with TooDeep and TooMany, what passes the limit
+limit_shown : (m : Level) (n : ℕ) (line : Line) (t : Token) (begins : Bool) (limit : Option Limit) (k : ℕ) (front : List Token) (shown : Token) (behind : List Token) (fault : Fault) → Opened m n line t begins limit
+    → (m.context.may_declare ≡ true → m.of_def ≡ true) → kind_may m.context t.kind ≡ true → line.tokens ≡ front ++ shown ∷ behind → GoesOnLine limit front shown fault
+    → ((h : Head) (more : List Token) → head_tokens h ≡ front ++ shown ∷ more → IsAmissHead m.context m.given limit (Here fault) h) → line.indent ≡ m.indent → RowsLimit m n [] (halt_of k fault) (at_token line.indent front shown)
+limit_shown m n line t begins limit k front shown behind (Unexpected left) o declares allowed before goes none same = tt
+limit_shown m n line t begins limit k front shown behind Memory o declares allowed before goes none same = tt
+limit_shown m n line t begins limit k front shown behind (TooMany place) o declares allowed before goes none same =
+    passes_there few_statements m n line t o.rest front shown behind declares allowed o.tokens_are before goes.1 same (number_passing m n line t begins limit o goes.0)
+limit_shown m n line t begins limit k front shown behind (TooDeep place) o declares allowed before (inr goes) none same =
+    inr (goes.2, passes_there few_suites m n line t o.rest front shown behind declares allowed o.tokens_are before goes.1 same (suites_passing m n line t begins limit o goes.0))
+limit_shown m n line t begins limit k front shown behind (TooDeep place) o declares allowed before (inl begun) none same =
+    let first_is = front_first front shown behind [] t o.rest (sym before ∙ o.tokens_are) in
+    inl (record {
+      goes_on = begins_ended m line.indent t first_is.0 (front ++ shown ∷ []) declares allowed first_is.1 begun same;
+      there = λ h more is. by h more is (none h more is);
+    })
+  where
+    by : (h : Head) (more : List Token) → head_tokens h ≡ front ++ shown ∷ more → IsAmissHead m.context m.given limit (Here (TooDeep place)) h → (100 < head_lies h place) ⊎ (behind_first (behind_in h) place × NoneRows few_suites m n [] (at_end line.indent (head_tokens h)))
+    by h more is (inl lies) = inl lies
+    by h more is (inr passed) =
+        let next = front_first front shown behind more t o.rest (sym before ∙ o.tokens_are) in
+        inr (
+          passed.1,
+          none_ends few_suites m n line.indent (head_tokens h) same (λ q few g same_tokens fine.
+              suites_passing m n line t begins limit o passed.0 q few g next.0 (same_tokens ∙ is ∙ next.1) (ap (λ f. is_some (behind_in f)) (same_head g h same_tokens) ∙ some_behind (behind_in h) place passed.1) fine),
+        )
+
+-- what is read behind `del` and `for`
+line_reads : (k : ℕ) (front : List Token) (t : Token) (fault : Fault) → UnreadLine front t fault → UnreadLine front t (line_fault (deep_at (halt_of k fault)))
+line_reads k front t (Unexpected left) u = record { del_unread = u.del_unread; for_unread = u.for_unread }
+line_reads k front t (TooDeep place) u = u
+line_reads k front t (TooMany place) u = record { del_unread = u.del_unread; for_unread = u.for_unread }
+line_reads k front t Memory u = record { del_unread = u.del_unread; for_unread = u.for_unread }
 
 shown_line : (m : Level) (n : ℕ) (at : Pos) (line : Line) (lines : List Line) (t : Token) (begins : Bool) (limit : Option Limit) (fault : Fault) → Opened m n line t begins limit → (m.context.may_declare ≡ true → m.of_def ≡ true) → kind_may m.context t.kind ≡ true
-    → ShownBy BeginsHead head_tokens (λ fault h. IsAmissHead m.context m.given limit (Here fault) h) line.tokens fault → RefusedLine m n at line lines (halt_of (length lines) fault)
+    → ShownBy BeginsHead (IsAheadOnLine limit) head_tokens (λ fault h. IsAmissHead m.context m.given limit (Here fault) h) line.tokens fault → RefusedLine m n at line lines (halt_of (length lines) fault)
 shown_line m n at line lines t begins limit fault o declares may s = record {
   point = at_token line.indent s.front s.shown_by;
   on_line = tt;
   shown = (refl, record { more = s.behind; tokens_are = s.before_is });
   marked = marked_shown line lines s.front s.shown_by s.behind fault s.before_is s.left_is;
-  deep = deep_shown m.context m.given limit (length lines) line.indent s.front s.shown_by fault s.none;
+  limit = limit_shown m n line t begins limit (length lines) s.front s.shown_by s.behind fault o declares may s.before_is s.goes_on.0 s.none;
   begun = begun_token line.indent s.front s.shown_by;
   begins = begins_token m line t o.rest s.front s.shown_by s.behind declares may o.tokens_are s.before_is s.begun;
+  reads = line_reads (length lines) s.front s.shown_by fault s.goes_on.1;
   none = λ q asks other more h there tokens_are goes_on fine.
       let is = sym tokens_are ∙ there.1.tokens_are in
       let opens = front_first s.front s.shown_by s.behind there.1.more t o.rest (sym s.before_is ∙ o.tokens_are) in
@@ -353,9 +464,10 @@ line_never m n at line lines t rest fault tokens absent first = by fault first
       on_line = tt;
       shown = (refl, record { more = rest; tokens_are = tokens });
       marked = marked_shown line lines [] t rest (Unexpected left) tokens left_is;
-      deep = tt;
+      limit = λ same. tt;
       begun = begun_token line.indent [] t;
       begins = λ same. begins_here m (at_token line.indent [] t) refl;
+      reads = first_reads None (at_token line.indent [] t) refl;
       none = λ q asks other more h there tokens_are goes_on fine.
           false≢true (sym (misplaced_head m.context m.given h t there.1.more (sym tokens_are ∙ there.1.tokens_are) absent)
           ∙ (each_true (head_stands m.context m.given h) (nat_le (head_depth h) q.height) (nat_le (n + counted h) q.number) (is_none (behind_in h) || nat_le (suc m.depth) q.suites) fine).0);
@@ -385,9 +497,10 @@ line_ends m n at place line lines t begins limit o declares named first e = reco
   on_line = tt;
   shown = (refl, refl);
   marked = (refl, named);
-  deep = tt;
+  limit = λ same. tt;
   begun = begun_end line.indent line.tokens;
   begins = begins_ended m line.indent t o.rest line.tokens declares (ends_may m.context t o.rest line.tokens o.tokens_are first) o.tokens_are e.begun;
+  reads = tt;
   none = λ q asks other more h there tokens_are goes_on fine.
       false≢true (sym (e.none h (sym tokens_are ∙ there.1))
       ∙ (each_true (head_stands m.context m.given h) (nat_le (head_depth h) q.height) (nat_le (n + counted h) q.number) (is_none (behind_in h) || nat_le (suc m.depth) q.suites) fine).0);
@@ -406,31 +519,41 @@ line_is_empty m n at line lines empty = record {
   on_line = tt;
   shown = (refl, empty);
   marked = (refl, refl);
-  deep = tt;
+  limit = λ same. tt;
   begun = begun_end line.indent [];
   begins = λ same. begins_here m (at_end line.indent []) refl;
+  reads = tt;
   none = λ q asks other more h there tokens_are goes_on fine. head_some h (sym tokens_are ∙ there.1);
 }
 
 -- a statement more than there may be
-pub one_too_many : (m : Level) (n : ℕ) (at : Pos) (line : Line) (lines : List Line) (t : Token) (rest : List Token) → line.tokens ≡ t ∷ rest → true ≡ is_stmt_kind t.kind → 20000 ≤ n → RefusedLine m n at line lines (ManyHalt t.at)
-one_too_many m n at line lines t rest tokens begins many = record {
+pub one_too_many : (m : Level) (n : ℕ) (at : Pos) (line : Line) (lines : List Line) (t : Token) (rest : List Token) → line.tokens ≡ t ∷ rest → true ≡ is_stmt_kind t.kind → lacks_handler m.context.last ≡ false → 20000 ≤ n
+    → RefusedLine m n at line lines (ManyHalt t.at)
+one_too_many m n at line lines t rest tokens begins lacks many = record {
   point = at_token line.indent [] t;
   on_line = tt;
   shown = (refl, record { more = rest; tokens_are = tokens });
   marked = refl;
-  deep = tt;
+  limit = λ same. record {
+    at = no_spot;
+    goes_on = follows_pass m (λ other. IsLine other line.indent (keyword (codes "pass") no_spot)) lacks (record { indent_is = sym same; tokens_are = refl });
+    none_so = none_ends few_statements m n line.indent (keyword (codes "pass") no_spot) same (λ q most h is fine. no_more q most h pass_token [] refl is fine);
+  };
   begun = begun_token line.indent [] t;
   begins = λ same. begins_here m (at_token line.indent [] t) refl;
-  none = λ q asks other more h there tokens_are goes_on fine. no_more q asks h there.1.more (sym tokens_are ∙ there.1.tokens_are) fine;
+  reads = first_reads None (at_token line.indent [] t) refl;
+  none = λ q asks other more h there tokens_are goes_on fine. no_more q asks h t there.1.more begins (sym tokens_are ∙ there.1.tokens_are) fine;
 }
   where
+    pass_token : Token
+    pass_token = token (Keyword 28) no_spot
+
     over : (q : Limits) → q.number ≤ 20000 → (s : Bool) (b : Option Simple) → true ≡ s → number_fits q n s b ≡ true → ⊥
     over q most false b is low = false≢true (sym is)
     over q most true None is low = omega (arith, most, many, leb-true (n + (1 + 0)) q.number low)
     over q most true (Some s) is low = omega (arith, most, many, leb-true (n + (1 + 1)) q.number low)
 
-    no_more : (q : Limits) → q.number ≤ 20000 → (h : Head) (more : List Token) → head_tokens h ≡ t ∷ more → may q m n h ≡ true → ⊥
-    no_more q most h more is fine =
+    no_more : (q : Limits) → q.number ≤ 20000 → (h : Head) (u : Token) (more : List Token) → true ≡ is_stmt_kind u.kind → head_tokens h ≡ u ∷ more → may q m n h ≡ true → ⊥
+    no_more q most h u more begins_it is fine =
         let parts = each_true (head_stands m.context m.given h) (nat_le (head_depth h) q.height) (nat_le (n + counted h) q.number) (is_none (behind_in h) || nat_le (suc m.depth) q.suites) fine in
-        over q most (is_stmt h) (behind_in h) (begins ∙ kind_tells h t more is) parts.2
+        over q most (is_stmt h) (behind_in h) (begins_it ∙ kind_tells h u more is) parts.2

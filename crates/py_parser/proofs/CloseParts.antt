@@ -33,7 +33,7 @@ lacks p b given is = ap lacks_handler is
 
 pub lacks_end : (cs : List ℕ) (p : Place) (b : Built) (at : Pos) (lines : List Line) → lines ≡ [] → b.last ≡ Try → NotClosed cs p b at lines (NoLine at)
 lacks_end cs p b at lines is last = record {
-  there = λ given n. subst (λ ls. RefusedHere cs (level_at p given b) n at ls (NoLine at)) (sym is) (refused_nothing cs (level_at p given b) n at (lacks p b given last) (lacks_done p b given last));
+  there = λ given n within. subst (λ ls. RefusedHere cs (level_at p given b) n at ls (NoLine at)) (sym is) (refused_nothing cs (level_at p given b) n at within (lacks p b given last) (lacks_done p b given last));
   other = λ same. cc;
 }
 
@@ -48,14 +48,14 @@ no_try Every other = refl
 
 pub empty_end : (cs : List ℕ) (p : Place) (b : Built) (at : Pos) (lines : List Line) → Below p.indent lines → (b.last ≡ Try → ⊥) → b.has_stmt ≡ false → NotClosed cs p b at lines (BadIndent at)
 empty_end cs p b at lines low other is = record {
-  there = λ given n. refused_empty cs (level_at p given b) n at lines low (no_try b.last other) (empty_done p b given is);
+  there = λ given n within. refused_empty cs (level_at p given b) n at lines low (no_try b.last other) (empty_done p b given is);
   other = λ same. cc;
 }
 
 pub deeper : (cs : List ℕ) (p : Place) (b : Built) (at : Pos) (line : Line) (lines all : List Line) → AreBelow p.indent cs → all ≡ line ∷ lines → p.indent < line.indent → NotClosed cs p b at all (BadIndent (first_place at line.tokens))
 deeper cs p b at line lines all columns is less = record {
-  there = λ given n. subst (λ ls. RefusedHere cs (level_at p given b) n at ls (BadIndent (first_place at line.tokens))) (sym is)
-      (refused_indent cs (level_at p given b) n at line lines (not_column p.indent line.indent cs (omega (arith, less)) columns) (inl less) (λ same. absurd (omega (arith, less, same))) (λ done lower. absurd (omega (arith, less, lower))));
+  there = λ given n within. subst (λ ls. RefusedHere cs (level_at p given b) n at ls (BadIndent (first_place at line.tokens))) (sym is)
+      (refused_indent cs (level_at p given b) n at line lines within (not_column p.indent line.indent cs (omega (arith, less)) columns) (inl less) (λ same. absurd (omega (arith, less, same))) (λ done lower. absurd (omega (arith, less, lower))));
   other = λ same. cc;
 }
 
@@ -87,19 +87,19 @@ never_first (t ∷ ts) lines at Memory no_token no_end first = first
 pub no_handler_at : (cs : List ℕ) (p : Place) (b : Built) (at : Pos) (line : Line) (lines all : List Line) (fault : Halt) → all ≡ line ∷ lines → is_here p.indent all ≡ false → b.last ≡ Try
     → IsNoHandler cs line lines at fault → NotClosed cs p b at all fault
 no_handler_at cs p b at line lines all (AtToken lines_left left) is other last marked = record {
-  there = λ given n. subst (λ ls. RefusedHere cs (level_at p given b) n at ls (AtToken lines_left left)) (sym is)
-      (refused_first cs (level_at p given b) n at line lines (AtToken lines_left left) marked.0 marked.1 (lacks p b given last) (elsewhere p.indent line lines all is other) (λ done lower. lacks_done p b given last done));
+  there = λ given n within. subst (λ ls. RefusedHere cs (level_at p given b) n at ls (AtToken lines_left left)) (sym is)
+      (refused_first cs (level_at p given b) n at line lines (AtToken lines_left left) within marked.0 marked.1 (lacks p b given last) (elsewhere p.indent line lines all is other) (λ done lower. lacks_done p b given last done));
   other = λ same. cc;
 }
 no_handler_at cs p b at line lines all (AtEnd lines_left place) is other last marked = record {
-  there = λ given n. subst (λ ls. RefusedHere cs (level_at p given b) n at ls (AtEnd lines_left place)) (sym is)
-      (refused_first cs (level_at p given b) n at line lines (AtEnd lines_left place) marked.0 marked.1 (lacks p b given last) (elsewhere p.indent line lines all is other) (λ done lower. lacks_done p b given last done));
+  there = λ given n within. subst (λ ls. RefusedHere cs (level_at p given b) n at ls (AtEnd lines_left place)) (sym is)
+      (refused_first cs (level_at p given b) n at line lines (AtEnd lines_left place) within marked.0 marked.1 (lacks p b given last) (elsewhere p.indent line lines all is other) (λ done lower. lacks_done p b given last done));
   other = λ same. cc;
 }
 no_handler_at cs p b at line lines all (BadIndent place) is other last marked = record {
-  there = λ given n. subst (λ ls. RefusedHere cs (level_at p given b) n at ls (BadIndent place)) (sym is)
+  there = λ given n within. subst (λ ls. RefusedHere cs (level_at p given b) n at ls (BadIndent place)) (sym is)
       (subst (λ q. RefusedHere cs (level_at p given b) n at (line ∷ lines) (BadIndent q)) (sym marked.0)
-      (refused_indent cs (level_at p given b) n at line lines marked.1 (inr (lacks p b given last)) (elsewhere p.indent line lines all is other) (λ done lower. lacks_done p b given last done)));
+      (refused_indent cs (level_at p given b) n at line lines within marked.1 (inr (lacks p b given last)) (elsewhere p.indent line lines all is other) (λ done lower. lacks_done p b given last done)));
   other = λ same. cc;
 }
 no_handler_at cs p b at line lines all (NoLine place) is other last marked = absurd (never_first line.tokens lines at (NoLine place) (λ k l same. cc) (λ k q same. cc) marked.0)

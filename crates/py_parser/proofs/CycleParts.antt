@@ -23,27 +23,27 @@ use Rattle.py_parser.specs.Rows.{inside, Level, counted, is_global, is_def, head
 use Rattle.py_parser.specs.RowForms.{suite_list, grown, declared}
 use Rattle.py_parser.specs.ParsedBlocks.{level_of, level_at, is_here, trees_of, IsUnderOf, Standing, RowsRead, LineRead, UnderRead, RowRead, RowsStopped, RefusedUnder, UnderStopped, LineStopped, IsHead}
 use Rattle.py_parser.proofs.RowRefusals.{no_suite, too_deep_at}
-use Rattle.py_parser.proofs.UnderParts.{line_stopped, row_stopped, row_read, inner_level, suite_read, suite_stopped}
+use Rattle.py_parser.proofs.UnderParts.{few_of, line_stopped, row_stopped, row_read, inner_level, suite_read, suite_stopped}
 
 -- the next line stands here
 here_is : (d : ℕ) (before : List Line) (line : Line) (lines : List Line) → before ≡ line ∷ lines → is_here d before ≡ true → line.indent ≡ d
 here_is d before line lines is here = eqb-true line.indent d (sym (ap (is_here d) is) ∙ here)
 
-pub line_stopped_there : (cs : List ℕ) (m : Level) (n : ℕ) (at : Pos) (before : List Line) (line : Line) (lines : List Line) (fault : Halt) → before ≡ line ∷ lines → is_here m.indent before ≡ true → LineStopped m n at line lines fault → RowsStopped cs m n at before fault
-line_stopped_there cs m n at before line lines fault is here stopped =
-    subst (λ (ls : List Line). RowsStopped cs m n at ls fault) (sym is) (line_stopped cs m n at line lines fault (here_is m.indent before line lines is here) stopped)
+pub line_stopped_there : (cs : List ℕ) (m : Level) (n : ℕ) (at : Pos) (before : List Line) (line : Line) (lines : List Line) (fault : Halt) → m.depth ≤ 50 → n ≤ 20000 → before ≡ line ∷ lines → is_here m.indent before ≡ true → LineStopped m n at line lines fault → RowsStopped cs m n at before fault
+line_stopped_there cs m n at before line lines fault deep few is here stopped =
+    subst (λ (ls : List Line). RowsStopped cs m n at ls fault) (sym is) (line_stopped cs m n at line lines fault deep few (here_is m.indent before line lines is here) stopped)
 
 -- what stands under a line is read where the line stands
 under_of : (p : Place) (given : List (List ℕ)) (n middle : ℕ) (line : Line) (built : Built) (head : LineHead) → (l : LineRead (level_at p given built) n line head middle) → IsUnderOf p middle (level_at p given built) n l.written
 under_of p given n middle line built head l = record { indent_is = refl; depth_is = refl; around_is = refl; count_is = l.count_is; may_be = l.may_be }
 
-pub under_stopped_there : (cs ds : List ℕ) (p : Place) (given : List (List ℕ)) (n middle : ℕ) (at there : Pos) (before : List Line) (line : Line) (lines : List Line) (built : Built) (head : LineHead) (fault : Halt) → ds ≡ cs → before ≡ line ∷ lines
+pub under_stopped_there : (cs ds : List ℕ) (p : Place) (given : List (List ℕ)) (n middle : ℕ) (at there : Pos) (before : List Line) (line : Line) (lines : List Line) (built : Built) (head : LineHead) (fault : Halt) → p.depth ≤ 50 → ds ≡ cs → before ≡ line ∷ lines
     → is_here p.indent before ≡ true → there ≡ last_place at line.tokens → LineRead (level_at p given built) n line head middle
     → ((m : Level) (k : ℕ) (h : Head) → IsUnderOf p middle m k h → IsHead head.what line h → IsBehind head.behind (behind_in h) → UnderStopped ds m (k + counted h) h there lines fault)
     → RowsStopped cs (level_at p given built) n at before fault
-under_stopped_there cs ds p given n middle at there before line lines built head fault columns is here there_is l stopped =
+under_stopped_there cs ds p given n middle at there before line lines built head fault deep columns is here there_is l stopped =
     subst (λ (ls : List Line). RowsStopped cs (level_at p given built) n at ls fault) (sym is)
-    (row_stopped cs (level_at p given built) n l.written at line lines fault (record { indent_is = here_is p.indent before line lines is here; tokens_are = l.tokens_are }) l.follows_is
+    (row_stopped cs (level_at p given built) n l.written at line lines fault (record { indent_is = here_is p.indent before line lines is here; tokens_are = l.tokens_are }) l.follows_is l.may_be deep
     (subst (λ (q : Pos). UnderStopped cs (level_at p given built) (n + counted l.written) l.written q lines fault) there_is
     (subst (λ (xs : List ℕ). UnderStopped xs (level_at p given built) (n + counted l.written) l.written there lines fault) columns
     (stopped (level_at p given built) n l.written (under_of p given n middle line built head l) (l.what_is, l.tokens_are) l.behind_is))))
@@ -116,31 +116,34 @@ none_behind (def_head at name_at bytes opening names closing colon b) is = nothi
 none_behind (class_head at name_at bytes of colon b) is = nothing_behind b is
 none_behind (global_head at names) is = absurd (false≢true is)
 
+within : (p : Place) (count : ℕ) (m : Level) (n : ℕ) (h : Head) → p.depth ≤ 50 → IsUnderOf p count m n h → m.depth ≤ 50
+within p count m n h low u = subst (λ d. d ≤ 50) (sym u.depth_is) low
+
 -- no line follows
-pub no_line_below : (cs : List ℕ) (p : Place) (count : ℕ) (m : Level) (n : ℕ) (h : Head) (at : Pos) (lines : List Line) → lines ≡ [] → opens h ≡ true → RefusedUnder cs m (n + counted h) h at lines (BadIndent at)
-no_line_below cs p count m n h at lines none open_is = no_suite cs m (n + counted h) h at lines open_is (subst (Below (suc m.indent)) (sym none) tt)
+pub no_line_below : (cs : List ℕ) (p : Place) (count : ℕ) (m : Level) (n : ℕ) (h : Head) (at : Pos) (lines : List Line) → p.depth ≤ 50 → lines ≡ [] → IsUnderOf p count m n h → opens h ≡ true → RefusedUnder cs m (n + counted h) h at lines (BadIndent at)
+no_line_below cs p count m n h at lines low none u open_is = no_suite cs m (n + counted h) h at lines open_is (within p count m n h low u) (few_of m n h u.may_be) (subst (Below (suc m.indent)) (sym none) tt)
 
 -- the next line is indented no more than the one before
-pub not_below : (cs : List ℕ) (p : Place) (count : ℕ) (m : Level) (n : ℕ) (h : Head) (at : Pos) (line : Line) (rest lines : List Line) → lines ≡ line ∷ rest → IsUnderOf p count m n h → line.indent ≤ p.indent → opens h ≡ true
+pub not_below : (cs : List ℕ) (p : Place) (count : ℕ) (m : Level) (n : ℕ) (h : Head) (at : Pos) (line : Line) (rest lines : List Line) → p.depth ≤ 50 → lines ≡ line ∷ rest → IsUnderOf p count m n h → line.indent ≤ p.indent → opens h ≡ true
     → RefusedUnder cs m (n + counted h) h at lines (BadIndent at)
-not_below cs p count m n h at line rest lines is u low open_is =
-    no_suite cs m (n + counted h) h at lines open_is (subst (Below (suc m.indent)) (sym is) (let same = u.indent_is in omega (arith, low, same)))
+not_below cs p count m n h at line rest lines shallow is u low open_is =
+    no_suite cs m (n + counted h) h at lines open_is (within p count m n h shallow u) (few_of m n h u.may_be) (subst (Below (suc m.indent)) (sym is) (let same = u.indent_is in omega (arith, low, same)))
 
-pub too_deep_below : (cs : List ℕ) (p : Place) (count : ℕ) (m : Level) (n : ℕ) (h : Head) (at place : Pos) (line : Line) (rest lines : List Line) → lines ≡ line ∷ rest → IsUnderOf p count m n h → p.indent < line.indent → 50 ≤ p.depth → opens h ≡ true → place ≡ first_place at line.tokens
+pub too_deep_below : (cs : List ℕ) (p : Place) (count : ℕ) (m : Level) (n : ℕ) (h : Head) (at place : Pos) (line : Line) (rest lines : List Line) → p.depth ≤ 50 → lines ≡ line ∷ rest → IsUnderOf p count m n h → p.indent < line.indent → 50 ≤ p.depth → opens h ≡ true → place ≡ first_place at line.tokens
     → RefusedUnder cs m (n + counted h) h at lines (TooDeep place)
-too_deep_below cs p count m n h at place line rest lines is u deeper deep open_is first =
+too_deep_below cs p count m n h at place line rest lines low is u deeper deep open_is first =
     subst (λ (ls : List Line). RefusedUnder cs m (n + counted h) h at ls (TooDeep place)) (sym is)
-    (too_deep_at cs m (n + counted h) h at place line rest open_is (let same = u.indent_is in omega (arith, deeper, same)) (let same = u.depth_is in omega (arith, deep, same)) first)
+    (too_deep_at cs m (n + counted h) h at place line rest open_is (let same = u.indent_is in omega (arith, deeper, same)) (within p count m n h low u) (few_of m n h u.may_be) (let same = u.depth_is in omega (arith, deep, same)) first)
 
 -- where the lines of the suite stand
 abbrev pub inner_place : ℕ → ℕ → Around → Bool → Place
 inner_place indent depth around def = record { indent = indent; depth = depth; around = around; of_def = def }
 
-pub suite_stopped_there : (cs ds : List ℕ) (p q : Place) (given : List (List ℕ)) (count : ℕ) (m : Level) (n : ℕ) (h : Head) (at : Pos) (lines : List Line) (fault : Halt) → IsUnderOf p count m n h → opens h ≡ true → q.depth ≡ p.depth + 1
+pub suite_stopped_there : (cs ds : List ℕ) (p q : Place) (given : List (List ℕ)) (count : ℕ) (m : Level) (n : ℕ) (h : Head) (at : Pos) (lines : List Line) (fault : Halt) → p.depth ≤ 50 → IsUnderOf p count m n h → opens h ≡ true → q.depth ≡ p.depth + 1
     → around_of q.around ≡ head_around (around_of p.around) h → q.of_def ≡ is_def h → given ≡ head_given h → p.indent < q.indent → ds ≡ cs ++ p.indent ∷ [] → RowsStopped ds (level_of q given) count at lines fault
     → UnderStopped cs m (n + counted h) h at lines fault
-suite_stopped_there cs ds p q given count m n h at lines fault u open_is depth around def params deeper columns stopped =
-    suite_stopped cs p q.indent n count m h at lines fault u (none_behind h open_is) open_is (let same = u.indent_is in omega (arith, deeper, same))
+suite_stopped_there cs ds p q given count m n h at lines fault low u open_is depth around def params deeper columns stopped =
+    suite_stopped cs p q.indent n count m h at lines fault u (none_behind h open_is) open_is (let same = u.indent_is in omega (arith, deeper, same)) (within p count m n h low u)
     (subst (λ (xs : List ℕ). RowsStopped xs (inside m h q.indent) count at lines fault) (columns ∙ ap (λ d. cs ++ d ∷ []) (sym u.indent_is))
     (subst (λ (l : Level). RowsStopped ds l count at lines fault) (inner_level p q given m n count h u depth around def params) stopped))
 

@@ -1,5 +1,5 @@
 -- How rows that have begun may go on to their end, so that the lines before a fault are those of some script.
-use Rattle.std.proofs.Common.{◌≡◌, inl, inr, ℕ, ◌<◌, ◌≤◌, suc, Bool, true, false, ◌&&◌, ◌||◌, not, List, [], ◌∷◌, ◌++◌, Some, refl, ap, sym, ◌∙◌, subst, arith, append_assoc, append-nil}
+use Rattle.std.proofs.Common.{◌≡◌, inl, inr, ℕ, ◌+◌, ◌<◌, ◌≤◌, suc, nat_le, Bool, true, false, ◌&&◌, ◌||◌, not, List, [], ◌∷◌, ◌++◌, Some, is_none, refl, ap, sym, ◌∙◌, subst, arith, append_assoc, append-nil, le-leb, leb-true}
 use Rattle.std.proofs.lemmas.Bool.{false≢true}
 use Rattle.py_lines.specs.declared.parts.Line.{Line}
 use Rattle.py_lines.specs.declared.parts.Token.{Token}
@@ -8,22 +8,24 @@ use Rattle.py_grammar.specs.declared.context.Last.TheVariants.{Nothing, Loop, If
 use Rattle.py_grammar.specs.Written.{pass, every_kind}
 use Rattle.py_grammar.specs.LineReader.{Head, simple_head, except_head, head_tokens}
 use Rattle.py_grammar.specs.Layout.{IsLine}
-use Rattle.py_grammar.specs.ParsedHead.{takes_handler, lacks_handler}
+use Rattle.py_grammar.specs.ParsedHead.{takes_handler, lacks_handler, head_stands, head_depth, behind_in}
+use Rattle.py_parser.specs.Limits.{Limits, profile}
 use Rattle.py_parser.specs.Faults.{Opens, Point, at_token, at_end, at_line, below, no_line, tokens_before, Next, IsAt, IsPass, IsPassBefore, IsHandler}
-use Rattle.py_parser.specs.Rows.{Rows, end_rows, row, Under, nothing, block, rows_lines, under_lines, Level, is_every, opens, after, inside, follows, Leads, FitsUnder, FitsRows}
+use Rattle.py_parser.specs.Rows.{Rows, end_rows, row, Under, nothing, block, rows_lines, under_lines, Level, is_every, counted, opens, after, inside, follows, Leads, FitsUnder, FitsRows, may, rows_may, under_may, rows_size, under_size}
 use Rattle.py_parser.specs.Grouped.{no_spot}
-use Rattle.py_parser.specs.ParsedBlocks.{RowsBegin, UnderBegins, RowsGoOn, UnderGoesOn}
+use Rattle.py_parser.specs.ParsedBlocks.{wide, RowsBegin, UnderBegins, RowsGoOn, UnderGoesOn, RowsFollow, UnderFollows}
 use Rattle.py_parser.proofs.Peeled.{join}
+use Rattle.py_parser.proofs.RowLimits.{both, first, second, all_three, all_four, three_of, four_of}
 
 -- ---- the shortest end of a suite
 
-abbrev pass_head : Head
+abbrev pub pass_head : Head
 pass_head = simple_head (pass no_spot)
 
 abbrev handler : Head
 handler = except_head no_spot every_kind no_spot (Some (pass no_spot))
 
-abbrev line_of : ℕ → Head → Line
+abbrev pub line_of : ℕ → Head → Line
 line_of indent h = record { indent = indent; span = record { from = 0; to = 0 }; tokens = head_tokens h }
 
 abbrev ending_by : (lacks has_stmt : Bool) → ℕ → Rows
@@ -155,6 +157,66 @@ begins_inside m h k front p open_is deeper b = record { under = block k b.rows; 
 pub begins_suite : (m : Level) (h : Head) (p : Point) → opens h ≡ true → tokens_before p ≡ [] → UnderBegins m h [] p
 begins_suite m h p open_is is = begins_inside m h (suc m.indent) [] p open_is (omega arith) (begins_here (inside m h (suc m.indent)) p is)
 
+-- ---- what may stand there
+
+-- what keeps the limits keeps wider ones
+wider : (a : Bool) (d : ℕ) → (a || nat_le (suc d) 50) ≡ true → (a || nat_le (suc d) 51) ≡ true
+wider true d is = refl
+wider false d is = let low = leb-true (suc d) 50 is in le-leb (suc d) 51 (omega (arith, low))
+
+may_wide : (l : Level) (n : ℕ) (h : Head) (k : ℕ) → may profile l n h ≡ true → n + counted h ≤ k → may (wide k) l n h ≡ true
+may_wide l n h k is room =
+    let p = four_of (head_stands l.context l.given h) (nat_le (head_depth h) 100) (nat_le (n + counted h) 20000) (is_none (behind_in h) || nat_le (suc l.depth) 50) is in
+    all_four (head_stands l.context l.given h) (nat_le (head_depth h) 100) (nat_le (n + counted h) k) _ p.one p.two (le-leb (n + counted h) k room) (wider (is_none (behind_in h)) l.depth p.four)
+
+mutual
+  rows_wide : (l : Level) (n : ℕ) (rows : Rows) (k : ℕ) → rows_may profile l n rows ≡ true → n + rows_size rows ≤ k → rows_may (wide k) l n rows ≡ true
+  rows_wide l n end_rows k is room = refl
+  rows_wide l n (row line h under rest) k is room =
+      let p = three_of (may profile l n h) (under_may profile l (n + counted h) h under) _ is in
+      all_three (may (wide k) l n h) _ _ (may_wide l n h k p.one (omega (arith, room))) (under_wide l (n + counted h) h under k p.two (omega (arith, room)))
+      (rows_wide (after l h) (n + counted h + under_size under) rest k p.three (omega (arith, room)))
+
+  under_wide : (l : Level) (n : ℕ) (h : Head) (under : Under) (k : ℕ) → under_may profile l n h under ≡ true → n + under_size under ≤ k → under_may (wide k) l n h under ≡ true
+  under_wide l n h nothing k is room = refl
+  under_wide l n h (block indent rows) k is room =
+      let low = leb-true (suc l.depth) 50 (first (nat_le (suc l.depth) 50) _ is) in
+      both _ _ (le-leb (suc l.depth) 51 (omega (arith, low))) (rows_wide (inside l h indent) n rows k (second (nat_le (suc l.depth) 50) _ is) room)
+
+join_may : (q : Limits) (l m : Level) (n : ℕ) (a b : Rows) → Leads l a m → rows_may q l n a ≡ true → rows_may q m (n + rows_size a) b ≡ true → rows_may q l n (join a b) ≡ true
+join_may q l m n end_rows b leads one other = subst (λ (k : Level). rows_may q k n b ≡ true) leads (subst (λ j. rows_may q m j b ≡ true) (omega arith) other)
+join_may q l m n (row line h under rest) b leads one other =
+    let p = three_of (may q l n h) (under_may q l (n + counted h) h under) _ one in
+    all_three (may q l n h) _ _ p.one p.two (join_may q (after l h) m (n + counted h + under_size under) rest b leads.3 p.three (subst (λ j. rows_may q m j b ≡ true) (omega arith) other))
+
+join_size : (a b : Rows) → rows_size (join a b) ≡ rows_size a + rows_size b
+join_size end_rows b = omega arith
+join_size (row line h under rest) b = let more = join_size rest b in omega (arith, more)
+
+takes_handler_there : (last : Last) → lacks_handler last ≡ true → takes_handler last ≡ true
+takes_handler_there Nothing is = absurd (false≢true is)
+takes_handler_there Loop is = absurd (false≢true is)
+takes_handler_there If is = absurd (false≢true is)
+takes_handler_there Try is = refl
+takes_handler_there Handler is = refl
+takes_handler_there Every is = absurd (false≢true is)
+
+handler_may : (l : Level) (n k : ℕ) → lacks_handler l.context.last ≡ true → l.depth ≤ 50 → n + 1 ≤ k → may (wide k) l n handler ≡ true
+handler_may l n k lacks deep room =
+    all_four (takes_handler l.context.last && true) true (nat_le (n + 1) k) (nat_le (suc l.depth) 51) (both _ _ (takes_handler_there l.context.last lacks) refl) refl (le-leb (n + 1) k room) (le-leb (suc l.depth) 51 (omega (arith, deep)))
+
+pass_may : (l : Level) (n k : ℕ) → lacks_handler l.context.last ≡ false → n + 1 ≤ k → may (wide k) l n pass_head ≡ true
+pass_may l n k lacks room =
+    all_four (head_stands l.context l.given pass_head) true (nat_le (n + 1) k) true (both _ _ (fine (lacks_handler l.context.last) lacks) (or_true (not l.context.around.in_class))) refl (le-leb (n + 1) k room) refl
+
+ending_may : (l : Level) (n k : ℕ) → l.depth ≤ 50 → n + rows_size (ending l) ≤ k → rows_may (wide k) l n (ending l) ≡ true
+ending_may l n k deep room = by (lacks_handler l.context.last) refl l.has_stmt refl room
+  where
+    by : (lacks : Bool) → lacks_handler l.context.last ≡ lacks → (has : Bool) → l.has_stmt ≡ has → n + rows_size (ending_by lacks has l.indent) ≤ k → rows_may (wide k) l n (ending_by lacks has l.indent) ≡ true
+    by true lacks has is room = all_three (may (wide k) l n handler) true true (handler_may l n k lacks deep (omega (arith, room))) refl refl
+    by false lacks true is room = refl
+    by false lacks false is room = all_three (may (wide k) l n pass_head) true true (pass_may l n k lacks (omega (arith, room))) refl refl
+
 -- ---- a line that stands next
 
 abbrev handled : Level → Rows
@@ -169,24 +231,99 @@ handled_fits l lacks = (record { indent_is = refl; tokens_are = refl }, takes_th
 passed_fits : (l : Level) → lacks_handler l.context.last ≡ false → FitsRows l (passed l)
 passed_fits l lacks = (record { indent_is = refl; tokens_are = refl }, fine (lacks_handler l.context.last) lacks, refl, or_true l.has_stmt)
 
-pub handler_next : (m : Level) → lacks_handler m.context.last ≡ true → RowsGoOn m IsHandler []
-handler_next m lacks = record { rows = handled m; fits = handled_fits m lacks; line = line_of m.indent handler; more = []; lines_are = refl; line_is = record { at = no_spot; more = _; tokens_are = refl } }
+handled_may : (l : Level) (n : ℕ) → l.depth ≤ 50 → lacks_handler l.context.last ≡ true → (k : ℕ) → n + rows_size (handled l) ≤ k → rows_may (wide k) l n (handled l) ≡ true
+handled_may l n deep lacks k room = all_three (may (wide k) l n handler) true true (handler_may l n k lacks deep (omega (arith, room))) refl refl
 
-pub pass_next : (m : Level) (d : ℕ) → lacks_handler m.context.last ≡ false → d ≤ m.indent → RowsGoOn m (IsPass d) []
-pass_next m d lacks low = record { rows = passed m; fits = passed_fits m lacks; line = line_of m.indent pass_head; more = []; lines_are = refl; line_is = (low, record { at = no_spot; more = []; tokens_are = refl }) }
+passed_may : (l : Level) (n : ℕ) → lacks_handler l.context.last ≡ false → (k : ℕ) → n + rows_size (passed l) ≤ k → rows_may (wide k) l n (passed l) ≡ true
+passed_may l n lacks k room = all_three (may (wide k) l n pass_head) true true (pass_may l n k lacks (omega (arith, room))) refl refl
 
-pub pass_before : (m : Level) (d : ℕ) → lacks_handler m.context.last ≡ false → m.indent < d → RowsGoOn m (IsPassBefore d) []
-pass_before m d lacks less = record { rows = passed m; fits = passed_fits m lacks; line = line_of m.indent pass_head; more = []; lines_are = refl; line_is = (less, record { at = no_spot; more = []; tokens_are = refl }) }
+pub handler_next : (m : Level) (n : ℕ) → m.depth ≤ 50 → lacks_handler m.context.last ≡ true → RowsGoOn m n IsHandler []
+handler_next m n deep lacks = record {
+  rows = handled m;
+  fits = handled_fits m lacks;
+  may_be = handled_may m n deep lacks;
+  line = line_of m.indent handler;
+  more = [];
+  lines_are = refl;
+  line_is = record { at = no_spot; more = _; tokens_are = refl };
+}
 
-pub line_next : (m : Level) → RowsGoOn m (IsAt m.indent) []
-line_next m = by (lacks_handler m.context.last) refl
+pub pass_next : (m : Level) (n d : ℕ) → lacks_handler m.context.last ≡ false → d ≤ m.indent → RowsGoOn m n (IsPass d) []
+pass_next m n d lacks low = record {
+  rows = passed m;
+  fits = passed_fits m lacks;
+  may_be = passed_may m n lacks;
+  line = line_of m.indent pass_head;
+  more = [];
+  lines_are = refl;
+  line_is = (low, record { at = no_spot; more = []; tokens_are = refl });
+}
+
+pub pass_before : (m : Level) (n d : ℕ) → lacks_handler m.context.last ≡ false → m.indent < d → RowsGoOn m n (IsPassBefore d) []
+pass_before m n d lacks less = record {
+  rows = passed m;
+  fits = passed_fits m lacks;
+  may_be = passed_may m n lacks;
+  line = line_of m.indent pass_head;
+  more = [];
+  lines_are = refl;
+  line_is = (less, record { at = no_spot; more = []; tokens_are = refl });
+}
+
+-- a line at this level: a handler where one is missing, and else `pass`
+pub line_next : (m : Level) (n : ℕ) → ((lacks_handler m.context.last ≡ true) → m.depth ≤ 50) → RowsGoOn m n (IsAt m.indent) []
+line_next m n deep = by (lacks_handler m.context.last) refl
   where
-    by : (b : Bool) → lacks_handler m.context.last ≡ b → RowsGoOn m (IsAt m.indent) []
-    by true lacks = record { rows = handled m; fits = handled_fits m lacks; line = line_of m.indent handler; more = []; lines_are = refl; line_is = refl }
-    by false lacks = record { rows = passed m; fits = passed_fits m lacks; line = line_of m.indent pass_head; more = []; lines_are = refl; line_is = refl }
+    by : (b : Bool) → lacks_handler m.context.last ≡ b → RowsGoOn m n (IsAt m.indent) []
+    by true lacks = record { rows = handled m; fits = handled_fits m lacks; may_be = handled_may m n (deep lacks) lacks; line = line_of m.indent handler; more = []; lines_are = refl; line_is = refl }
+    by false lacks = record { rows = passed m; fits = passed_fits m lacks; may_be = passed_may m n lacks; line = line_of m.indent pass_head; more = []; lines_are = refl; line_is = refl }
 
-pub goes_behind : (l m : Level) (rows : Rows) (is : Line → Type 0) (front : List Line) → Leads l rows m → RowsGoOn m is front → RowsGoOn l is (rows_lines rows ++ front)
-goes_behind l m rows is front leads g = record {
+pub goes_behind : (l m : Level) (n : ℕ) (rows : Rows) (is : Line → Type 0) (front : List Line) → Leads l rows m → rows_may profile l n rows ≡ true → RowsGoOn m (n + rows_size rows) is front → RowsGoOn l n is (rows_lines rows ++ front)
+goes_behind l m n rows is front leads may_be g = record {
+  rows = join rows g.rows;
+  fits = join_fits l m rows g.rows leads g.fits;
+  may_be = may_now;
+  line = g.line;
+  more = g.more;
+  lines_are = join_lines rows g.rows ∙ ap (λ ls. rows_lines rows ++ ls) g.lines_are ∙ sym (append_assoc (rows_lines rows) front (g.line ∷ g.more));
+  line_is = g.line_is;
+}
+  where
+    may_now : (k : ℕ) → n + rows_size (join rows g.rows) ≤ k → rows_may (wide k) l n (join rows g.rows) ≡ true
+    may_now k room =
+        let size = join_size rows g.rows in
+        join_may (wide k) l m n rows g.rows leads (rows_wide l n rows k may_be (omega (arith, size, room))) (g.may_be k (omega (arith, size, room)))
+
+pub goes_end : (l m : Level) (n : ℕ) (rows : Rows) (is : Line → Type 0) → Leads l rows m → rows_may profile l n rows ≡ true → RowsGoOn m (n + rows_size rows) is [] → RowsGoOn l n is (rows_lines rows)
+goes_end l m n rows is leads may_be g = subst (RowsGoOn l n is) (append-nil (rows_lines rows)) (goes_behind l m n rows is [] leads may_be g)
+
+pub goes_under : (m : Level) (n : ℕ) (h : Head) (line : Line) (is : Line → Type 0) (front : List Line) → IsLine line m.indent (head_tokens h) → follows m h ≡ true → may profile m n h ≡ true → m.depth ≤ 50 → UnderGoesOn m (n + counted h) h is front
+    → RowsGoOn m n is (line ∷ front)
+goes_under m n h line is front this may_follow may_be deep g = record {
+  rows = row line h g.under (ending (after m h));
+  fits = (this, may_follow, g.fits, ending_fits (after m h));
+  may_be = λ k room. all_three (may (wide k) m n h) _ _ (may_wide m n h k may_be (omega (arith, room))) (g.may_be k (omega (arith, room))) (ending_may (after m h) (n + counted h + under_size g.under) k deep (omega (arith, room)));
+  line = g.line;
+  more = g.more ++ rows_lines (ending (after m h));
+  lines_are = ap (λ ls. line ∷ ls ++ rows_lines (ending (after m h))) g.lines_are ∙ ap (λ ls. line ∷ ls) (append_assoc front (g.line ∷ g.more) (rows_lines (ending (after m h))));
+  line_is = g.line_is;
+}
+
+pub goes_inside : (m : Level) (n : ℕ) (h : Head) (d : ℕ) (is : Line → Type 0) (front : List Line) → opens h ≡ true → m.indent < d → m.depth ≤ 50 → RowsGoOn (inside m h d) n is front → UnderGoesOn m n h is front
+goes_inside m n h d is front open_is deeper deep g = record {
+  under = block d g.rows;
+  fits = (open_is, deeper, g.fits);
+  may_be = λ k room. both (nat_le (suc m.depth) 51) _ (le-leb (suc m.depth) 51 (omega (arith, deep))) (g.may_be k room);
+  line = g.line;
+  more = g.more;
+  lines_are = g.lines_are;
+  line_is = g.line_is;
+}
+
+-- ---- what follows, whether it may stand there or not
+
+pub follows_behind : (l m : Level) (rows : Rows) (is : Line → Type 0) (front : List Line) → Leads l rows m → RowsFollow m is front → RowsFollow l is (rows_lines rows ++ front)
+follows_behind l m rows is front leads g = record {
   rows = join rows g.rows;
   fits = join_fits l m rows g.rows leads g.fits;
   line = g.line;
@@ -195,11 +332,8 @@ goes_behind l m rows is front leads g = record {
   line_is = g.line_is;
 }
 
-pub goes_end : (l m : Level) (rows : Rows) (is : Line → Type 0) → Leads l rows m → RowsGoOn m is [] → RowsGoOn l is (rows_lines rows)
-goes_end l m rows is leads g = subst (RowsGoOn l is) (append-nil (rows_lines rows)) (goes_behind l m rows is [] leads g)
-
-pub goes_under : (m : Level) (h : Head) (line : Line) (is : Line → Type 0) (front : List Line) → IsLine line m.indent (head_tokens h) → follows m h ≡ true → UnderGoesOn m h is front → RowsGoOn m is (line ∷ front)
-goes_under m h line is front this may_follow g = record {
+pub follows_under : (m : Level) (h : Head) (line : Line) (is : Line → Type 0) (front : List Line) → IsLine line m.indent (head_tokens h) → follows m h ≡ true → UnderFollows m h is front → RowsFollow m is (line ∷ front)
+follows_under m h line is front this may_follow g = record {
   rows = row line h g.under (ending (after m h));
   fits = (this, may_follow, g.fits, ending_fits (after m h));
   line = g.line;
@@ -208,5 +342,20 @@ goes_under m h line is front this may_follow g = record {
   line_is = g.line_is;
 }
 
-pub goes_inside : (m : Level) (h : Head) (k : ℕ) (is : Line → Type 0) (front : List Line) → opens h ≡ true → m.indent < k → RowsGoOn (inside m h k) is front → UnderGoesOn m h is front
-goes_inside m h k is front open_is deeper g = record { under = block k g.rows; fits = (open_is, deeper, g.fits); line = g.line; more = g.more; lines_are = g.lines_are; line_is = g.line_is }
+pub follows_inside : (m : Level) (h : Head) (d : ℕ) (is : Line → Type 0) (front : List Line) → opens h ≡ true → m.indent < d → RowsFollow (inside m h d) is front → UnderFollows m h is front
+follows_inside m h d is front open_is deeper g = record { under = block d g.rows; fits = (open_is, deeper, g.fits); line = g.line; more = g.more; lines_are = g.lines_are; line_is = g.line_is }
+
+-- a line that begins this
+pub follows_line : (m : Level) (h : Head) (is : Line → Type 0) → follows m h ≡ true → is (line_of m.indent h) → RowsFollow m is []
+follows_line m h is may_follow so = record {
+  rows = row (line_of m.indent h) h (under_by (opens h) m h) (ending (after m h));
+  fits = (record { indent_is = refl; tokens_are = refl }, may_follow, under_fits m h, ending_fits (after m h));
+  line = line_of m.indent h;
+  more = under_lines (under_by (opens h) m h) ++ rows_lines (ending (after m h));
+  lines_are = refl;
+  line_is = so;
+}
+
+-- the statement `pass`
+pub follows_pass : (m : Level) (is : Line → Type 0) → lacks_handler m.context.last ≡ false → is (line_of m.indent pass_head) → RowsFollow m is []
+follows_pass m is lacks so = record { rows = passed m; fits = passed_fits m lacks; line = line_of m.indent pass_head; more = []; lines_are = refl; line_is = so }

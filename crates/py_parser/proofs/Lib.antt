@@ -4,6 +4,7 @@ pub mod BlockLines
 pub mod BlockPlaces
 pub mod CloseParts
 pub mod Columns
+pub mod Counting
 pub mod CycleParts
 pub mod Endings
 pub mod FirstFaults

@@ -1,5 +1,5 @@
 -- A whole script: what is read of all its lines, and what is refused.
-use Rattle.std.proofs.Common.{◌≡◌, inl, inr, ◌⊎◌, ℕ, ◌<◌, ◌+◌, true, List, [], ◌∷◌, ◌++◌, refl, ap, sym, ◌∙◌, subst, arith, append-nil, map, Vec, Global}
+use Rattle.std.proofs.Common.{◌≡◌, inl, inr, ◌⊎◌, ℕ, ◌<◌, ◌+◌, true, List, [], ◌∷◌, ◌++◌, refl, ap, sym, ◌∙◌, subst, arith, append-nil, map, codes, Vec, Global}
 use Rattle.std.proofs.lemmas.Bool.{false≢true}
 use Rattle.prov_base.specs.declared.place.Pos.{Pos}
 use Rattle.py_lines.specs.declared.parts.Line.{Line}
@@ -17,13 +17,17 @@ use Rattle.py_grammar.specs.Grammar.{script_lines, FitsScript}
 use Rattle.py_grammar.specs.StatementTrees.{script_body}
 use Rattle.py_grammar.specs.Follows.{Below}
 use Rattle.py_parser.specs.declared.blocks.Built.{Built}
-use Rattle.py_parser.specs.Limits.{profile}
+use Rattle.py_parser.specs.Limits.{Limits, profile}
+use Rattle.py_lines.specs.declared.parts.Token.{Token}
+use Rattle.py_grammar.specs.Tokens.{keyword}
+use Rattle.py_grammar.specs.LineReader.{head_tokens}
+use Rattle.py_grammar.specs.Layout.{IsLine}
 use Rattle.py_parser.specs.Script.{IsScript}
-use Rattle.py_parser.specs.Faults.{Point, at_token, at_end, at_line, below, no_line, shows, first_place, first_token, Asks, origin, BeginsScript, MayFollow, IsAt, IsPass, IsPassBefore, IsHandler, MayStandAt, InColumn, FirstFault, IsFault}
+use Rattle.py_parser.specs.Faults.{Point, at_token, at_end, at_line, below, no_line, shows, first_place, first_token, Asks, origin, BeginsScript, SomeFollows, MayFollow, IsAt, IsPass, IsPassBefore, IsHandler, MayStandAt, InColumn, FirstFault, IsFault, NoneWithin, few_suites, few_statements, PassesLimit, LiesDeep}
 use Rattle.py_parser.specs.Rows.{Rows, end_rows, row, rows_lines, rows_size, rows_may, start, Level, FitsRows, FitsStart, Begun}
 use Rattle.py_parser.specs.Grouped.{script_rows, script_of}
 use Rattle.py_parser.specs.RowForms.{suite_list, grow}
-use Rattle.py_parser.specs.ParsedBlocks.{trees_of, RowsBegin, RowsGoOn, NoRows, MayStand, Placed, Refused, RowsStopped, RowsRead, FirstHalt, IsHalt}
+use Rattle.py_parser.specs.ParsedBlocks.{RowsFollow, NoneRows, Passes, Deep, RowsLimit, ScriptLimit, Asks as AsksHalt, wide, trees_of, RowsBegin, RowsGoOn, NoRows, MayStand, Placed, Refused, RowsStopped, RowsRead, FirstHalt, IsHalt}
 use Rattle.py_parser.proofs.RowLines.{script_same}
 use Rattle.py_parser.proofs.RowFits.{script_fits}
 use Rattle.py_parser.proofs.RowStatements.{script_is}
@@ -34,6 +38,7 @@ use Rattle.py_tree.proofs.DeletionLaws.{suite_again, suite_size}
 use Rattle.py_parser.proofs.BlockForms.{rolled}
 use Rattle.py_parser.proofs.Peeled.{one_indent}
 use Rattle.py_parser.proofs.Columns.{none_open}
+use Rattle.py_parser.proofs.Counting.{more_room}
 use Rattle.py_parser.proofs.Endings.{pass_before}
 
 abbrev pub tree_of : SuiteTree → ℕ → ScriptTree
@@ -110,12 +115,23 @@ script_begins front p b =
     record { some = script_of b.rows; fits = s.fits; more = b.more; lines_are = sym (script_same (script_of b.rows)) ∙ ap rows_lines s.rows_are ∙ b.lines_are; next = b.next }
 
 -- rows that go on so are those of a script
-script_goes_on : (is : Line → Type 0) (front : List Line) → RowsGoOn start is front → MayFollow is front
+script_goes_on : (is : Line → Type 0) (front : List Line) → RowsGoOn start 0 is front → MayFollow is front
 script_goes_on is front g =
     let s = script_is g.rows (starts g.rows g.fits) in
-    record { some = script_of g.rows; fits = s.fits; line = g.line; more = g.more; lines_are = sym (script_same (script_of g.rows)) ∙ ap rows_lines s.rows_are ∙ g.lines_are; line_is = g.line_is }
+    let fine = script_fine (wide (rows_size g.rows)) (script_of g.rows) (ap (rows_may (wide (rows_size g.rows)) start 0) s.rows_are ∙ g.may_be (rows_size g.rows) (omega arith)) in
+    record {
+      some = script_of g.rows;
+      fits = s.fits;
+      line = g.line;
+      more = g.more;
+      lines_are = sym (script_same (script_of g.rows)) ∙ ap rows_lines s.rows_are ∙ g.lines_are;
+      line_is = g.line_is;
+      stands = fine.stands;
+      low = fine.low;
+      deep = fine.deep;
+    }
 
-may_stand_at : (d : ℕ) (front : List Line) → MayStand [] start d front → MayStandAt d front
+may_stand_at : (d : ℕ) (front : List Line) → MayStand [] start 0 d front → MayStandAt d front
 may_stand_at d front (inl g) = inl (script_goes_on (IsAt d) front g)
 may_stand_at d front (inr (inl c, g)) = absurd (false≢true c)
 may_stand_at d front (inr (inr o, g)) = inr (o, script_goes_on IsHandler front g)
@@ -124,20 +140,66 @@ not_empty : (front : List Line) (line : Line) (more : List Line) → front ++ li
 not_empty [] line more is = cc
 not_empty (first ∷ front) line more is = cc
 
-never_there : (d : ℕ) (front : List Line) → NoRows [] start d front → MayFollow (IsAt d) front → ⊥
+never_there : (d : ℕ) (front : List Line) → NoRows [] start 0 d front → SomeFollows (IsAt d) front → ⊥
 never_there d front absent g = absent.none g.line g.more (script_rows g.some) [] g.line_is (fits_start g.some (front ++ g.line ∷ g.more) g.fits g.lines_are (not_empty front g.line g.more)) tt
     (append-nil (rows_lines (script_rows g.some)) ∙ script_same g.some ∙ g.lines_are)
 
-complete_at : (d : ℕ) (front : List Line) → RowsGoOn start (IsPassBefore d) front ⊎ RowsGoOn start IsHandler front → MayFollow (IsPassBefore d) front ⊎ MayFollow IsHandler front
+complete_at : (d : ℕ) (front : List Line) → RowsGoOn start 0 (IsPassBefore d) front ⊎ RowsGoOn start 0 IsHandler front → MayFollow (IsPassBefore d) front ⊎ MayFollow IsHandler front
 complete_at d front (inl g) = inl (script_goes_on (IsPassBefore d) front g)
 complete_at d front (inr g) = inr (script_goes_on IsHandler front g)
 
-in_column : (front : List Line) (p : Point) → Placed [] start front p → InColumn front p
+in_column : (front : List Line) (p : Point) → Placed [] start 0 front p → InColumn front p
 in_column front (at_token d tokens t) placed = may_stand_at d front placed
 in_column front (at_end d tokens) placed = may_stand_at d front placed
 in_column front (at_line d) placed = record { none = never_there d front placed; no_suite = placed.inside; complete = complete_at d front placed.complete }
 in_column front (below d) placed = script_goes_on (IsPass d) front placed
 in_column front no_line placed = script_goes_on IsHandler front placed
+
+-- none of these rows is no script
+none_script : (within : Limits → Type 0) (front : List Line) (p : Point) → ((rest : List Line) → shows p rest → front ++ rest ≡ [] → ⊥) → NoneRows within start 0 front p → NoneWithin within front p
+none_script within front p some none limits asks s fits fine rest shown_it same =
+    none limits asks rest (script_rows s) [] shown_it (fits_start s (front ++ rest) fits same (some rest shown_it)) (script_may limits s fine) tt (append-nil (rows_lines (script_rows s)) ∙ script_same s ∙ same)
+
+ends_some : (front : List Line) (d : ℕ) (tokens : List Token) (rest : List Line) → shows (at_end d tokens) rest → front ++ rest ≡ [] → ⊥
+ends_some front d tokens [] shown is = shown
+ends_some front d tokens (line ∷ rest) shown is = not_empty front line rest is
+
+script_follows : (is : Line → Type 0) (front : List Line) → RowsFollow start is front → SomeFollows is front
+script_follows is front g =
+    let s = script_is g.rows (starts g.rows g.fits) in
+    record { some = script_of g.rows; fits = s.fits; line = g.line; more = g.more; lines_are = sym (script_same (script_of g.rows)) ∙ ap rows_lines s.rows_are ∙ g.lines_are; line_is = g.line_is }
+
+-- what passes a limit, said of a script
+passes_limit : (within : Limits → Type 0) (front : List Line) (d : ℕ) (tokens : List Token) → Passes (λ is. RowsFollow start is front) (λ d ts. NoneRows within start 0 front (at_end d ts)) d tokens → PassesLimit within front d tokens
+passes_limit within front d tokens s = record {
+  at = s.at;
+  goes_on = script_follows (λ line. IsLine line d (tokens ++ keyword (codes "pass") s.at)) front s.goes_on;
+  none = none_script within front (at_end d (tokens ++ keyword (codes "pass") s.at)) (ends_some front d (tokens ++ keyword (codes "pass") s.at)) s.none_so;
+}
+
+lies_deep : (place : Pos) (front : List Line) (d : ℕ) (tokens : List Token) (next : Token) → Deep (RowsBegin start front) (λ d ts. NoneRows few_suites start 0 front (at_end d ts)) place d tokens next → LiesDeep place front d tokens next
+lies_deep place front d tokens next s = record {
+  goes_on = script_begins front (at_end d (tokens ++ next ∷ [])) s.goes_on;
+  there = λ h more is. elim (s.there h more is) [ inl lies ↦ inl lies | inr far ↦ inr (far.0, none_script few_suites front (at_end d (head_tokens h)) (ends_some front d (head_tokens h)) far.1) ];
+}
+
+script_limit : (front : List Line) (halt : Halt) (p : Point) → RowsLimit start 0 front halt p → ScriptLimit halt front p
+script_limit front (DeepHalt place) (at_token d tokens t) (inl s) = inl (lies_deep place front d tokens t s)
+script_limit front (DeepHalt place) (at_token d tokens t) (inr (at, s)) = inr (at, passes_limit few_suites front d tokens s)
+script_limit front (DeepHalt place) (at_end d tokens) (none, s) = (none, passes_limit few_suites front d [] s)
+script_limit front (DeepHalt place) (at_line d) limit = limit
+script_limit front (DeepHalt place) (below d) limit = limit
+script_limit front (DeepHalt place) no_line limit = limit
+script_limit front (ManyHalt place) (at_token d tokens t) s = passes_limit few_statements front d tokens s
+script_limit front (ManyHalt place) (at_end d tokens) limit = limit
+script_limit front (ManyHalt place) (at_line d) limit = limit
+script_limit front (ManyHalt place) (below d) limit = limit
+script_limit front (ManyHalt place) no_line limit = limit
+script_limit front (AtToken lines_left left) p limit = tt
+script_limit front (AtEnd lines_left place) p limit = tt
+script_limit front (NoLine place) p limit = tt
+script_limit front (IndentHalt place) p limit = tt
+script_limit front MemoryHalt p limit = tt
 
 first_halt : (lines : List Line) (halt : Halt) → Refused [] start 0 origin lines halt → FirstHalt lines halt
 first_halt lines halt r = record {
@@ -147,12 +209,12 @@ first_halt lines halt r = record {
   lines_are = r.lines_are;
   shown = r.shown;
   marked = r.marked;
-  deep = r.deep;
+  limit = script_limit r.front halt r.point r.limit;
   column = in_column r.front r.point r.placed;
   begins = script_begins r.front r.point r.begins;
-  none = λ limits asks s fits fine rest shown_it same.
-      r.none limits asks rest (script_rows s) [] shown_it (fits_start s (r.front ++ rest) fits same (some_lines 0 (r.front ++ rest) (r.begun rest shown_it))) (script_may limits s fine) tt
-      (append-nil (rows_lines (script_rows s)) ∙ script_same s ∙ same);
+  reads = r.reads;
+  few = more_room r.few.room 20000 r.front (let low = r.few.within in omega (arith, low)) r.few.at_most;
+  none = none_script (AsksHalt halt) r.front r.point (λ rest shown_it. some_lines 0 (r.front ++ rest) (r.begun rest shown_it)) r.none;
 }
 
 stopped_script : (lines : List Line) (l : Level) (halt : Halt) → l ≡ start → RowsStopped [] l 0 origin lines halt → IsHalt lines halt
@@ -184,9 +246,11 @@ indented_first line lines all is other = record {
   lines_are = refl;
   shown = subst (shows (at_line line.indent)) (sym is) refl;
   named = sym (ap (first_token origin) is);
-  deep = tt;
-  column = record { none = λ g. never g.some (g.line ∷ g.more) g.fits g.lines_are g.line_is; no_suite = none_open line.indent; complete = inl (script_goes_on (IsPassBefore line.indent) [] (pass_before start line.indent refl (positive line.indent other))) };
+  limit = tt;
+  column = record { none = λ g. never g.some (g.line ∷ g.more) g.fits g.lines_are g.line_is; no_suite = none_open line.indent; complete = inl (script_goes_on (IsPassBefore line.indent) [] (pass_before start 0 line.indent refl (positive line.indent other))) };
   begins = record { some = empty_script; fits = tt; more = []; lines_are = refl; next = tt };
+  reads = tt;
+  few = tt;
   none = λ limits asks s fits fine rest shown_it same. never s rest fits same (begun rest shown_it);
 }
   where

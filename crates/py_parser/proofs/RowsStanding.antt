@@ -138,12 +138,12 @@ fewer_lines m k n next at then_at left rest built more r =
 
 stopped_behind : (cs : List ℕ) (l m : Level) (n count : ℕ) (at now : Pos) (before left : List Line) (built : Built) (fault : Halt) → Standing l n at before m built count now left → RowsStopped cs m count now left fault → RowsStopped cs l n at before fault
 stopped_behind cs l m n count at now before left built Memory s r = tt
-stopped_behind cs l m n count at now before left built (AtToken lines_left tokens_left) s r = refused_behind cs l m n count at now before left s.rows (AtToken lines_left tokens_left) s.lines_are s.leads s.count_is s.now_is r
-stopped_behind cs l m n count at now before left built (AtEnd lines_left place) s r = refused_behind cs l m n count at now before left s.rows (AtEnd lines_left place) s.lines_are s.leads s.count_is s.now_is r
-stopped_behind cs l m n count at now before left built (NoLine place) s r = refused_behind cs l m n count at now before left s.rows (NoLine place) s.lines_are s.leads s.count_is s.now_is r
-stopped_behind cs l m n count at now before left built (BadIndent place) s r = refused_behind cs l m n count at now before left s.rows (BadIndent place) s.lines_are s.leads s.count_is s.now_is r
-stopped_behind cs l m n count at now before left built (TooDeep place) s r = refused_behind cs l m n count at now before left s.rows (TooDeep place) s.lines_are s.leads s.count_is s.now_is r
-stopped_behind cs l m n count at now before left built (TooMany place) s r = refused_behind cs l m n count at now before left s.rows (TooMany place) s.lines_are s.leads s.count_is s.now_is r
+stopped_behind cs l m n count at now before left built (AtToken lines_left tokens_left) s r = refused_behind cs l m n count at now before left s.rows (AtToken lines_left tokens_left) s.lines_are s.leads s.may_be s.count_is s.now_is r
+stopped_behind cs l m n count at now before left built (AtEnd lines_left place) s r = refused_behind cs l m n count at now before left s.rows (AtEnd lines_left place) s.lines_are s.leads s.may_be s.count_is s.now_is r
+stopped_behind cs l m n count at now before left built (NoLine place) s r = refused_behind cs l m n count at now before left s.rows (NoLine place) s.lines_are s.leads s.may_be s.count_is s.now_is r
+stopped_behind cs l m n count at now before left built (BadIndent place) s r = refused_behind cs l m n count at now before left s.rows (BadIndent place) s.lines_are s.leads s.may_be s.count_is s.now_is r
+stopped_behind cs l m n count at now before left built (TooDeep place) s r = refused_behind cs l m n count at now before left s.rows (TooDeep place) s.lines_are s.leads s.may_be s.count_is s.now_is r
+stopped_behind cs l m n count at now before left built (TooMany place) s r = refused_behind cs l m n count at now before left s.rows (TooMany place) s.lines_are s.leads s.may_be s.count_is s.now_is r
 
 -- rows were read, since the first line stands here and the next one does not
 begun_behind : (l m : Level) (rows : Rows) (before left : List Line) → before ≡ rows_lines rows ++ left → Leads l rows m → is_here l.indent before ≡ true → is_here l.indent left ≡ false → (x : List Line) → Begun l.indent (rows_lines rows ++ x)
@@ -159,12 +159,12 @@ as_stopped cs l n at lines (BadIndent place) other r = r
 as_stopped cs l n at lines (TooDeep place) other r = r
 as_stopped cs l n at lines (TooMany place) other r = r
 
-stopped_end : (cs : List ℕ) (p : Place) (given : List (List ℕ)) (n count : ℕ) (at now : Pos) (before left : List Line) (built : Built) (fault : Halt) → is_here p.indent before ≡ true → is_here p.indent left ≡ false
+stopped_end : (cs : List ℕ) (p : Place) (given : List (List ℕ)) (n count : ℕ) (at now : Pos) (before left : List Line) (built : Built) (fault : Halt) → p.depth ≤ 50 → is_here p.indent before ≡ true → is_here p.indent left ≡ false
     → Standing (level_of p given) n at before (level_at p given built) built count now left → NotClosed cs p built now left fault → RowsStopped cs (level_of p given) n at before fault
-stopped_end cs p given n count at now before left built fault here gone s r =
+stopped_end cs p given n count at now before left built fault deep here gone s r =
     as_stopped cs (level_of p given) n at before fault r.other
-    (refused_end cs (level_of p given) (level_at p given built) n count at now before left s.rows fault s.lines_are s.leads s.count_is s.now_is s.edge
-    (begun_behind (level_of p given) (level_at p given built) s.rows before left s.lines_are s.leads here gone) (r.there given count))
+    (refused_end cs (level_of p given) (level_at p given built) n count at now before left s.rows fault s.lines_are s.leads s.may_be s.count_is s.now_is s.few s.edge
+    (begun_behind (level_of p given) (level_at p given built) s.rows before left s.lines_are s.leads here gone) (r.there given count deep))
 
 pub rows_read : (p : Place) (given : List (List ℕ)) (n count : ℕ) (at now : Pos) (before left : List Line) (built : Built) → Standing (level_of p given) n at before (level_at p given built) built count now left → IsClosed p built left
     → RowsRead (level_of p given) n at before built count now left
@@ -197,10 +197,10 @@ pub stopped_behind_there : (cs ds : List ℕ) (l m : Level) (n count : ℕ) (at 
 stopped_behind_there cs ds l m n count at now before left built fault columns s r =
     stopped_behind cs l m n count at now before left built fault s (subst (λ (xs : List ℕ). RowsStopped xs m count now left fault) columns r)
 
-pub stopped_end_there : (cs ds : List ℕ) (p : Place) (given : List (List ℕ)) (n count : ℕ) (at now : Pos) (before left : List Line) (built : Built) (fault : Halt) → ds ≡ cs → is_here p.indent before ≡ true → is_here p.indent left ≡ false
+pub stopped_end_there : (cs ds : List ℕ) (p : Place) (given : List (List ℕ)) (n count : ℕ) (at now : Pos) (before left : List Line) (built : Built) (fault : Halt) → p.depth ≤ 50 → ds ≡ cs → is_here p.indent before ≡ true → is_here p.indent left ≡ false
     → Standing (level_of p given) n at before (level_at p given built) built count now left → NotClosed ds p built now left fault → RowsStopped cs (level_of p given) n at before fault
-stopped_end_there cs ds p given n count at now before left built fault columns here gone s r =
-    stopped_end cs p given n count at now before left built fault here gone s (subst (λ (xs : List ℕ). NotClosed xs p built now left fault) columns r)
+stopped_end_there cs ds p given n count at now before left built fault deep columns here gone s r =
+    stopped_end cs p given n count at now before left built fault deep here gone s (subst (λ (xs : List ℕ). NotClosed xs p built now left fault) columns r)
 
 pub still_below : (d : ℕ) (cs ds : List ℕ) → ds ≡ cs → AreBelow d cs → AreBelow d ds
 still_below d cs ds same all = subst (AreBelow d) (sym same) all

@@ -65,7 +65,7 @@ none_behind h is = by (behind_in h) refl is
     by (Some s) same there = absurd there
 
 -- the statements that begin on a line are within the limit
-few_of : (m : Level) (n : ℕ) (h : Head) → may profile m n h ≡ true → n + counted h ≤ 20000
+pub few_of : (m : Level) (n : ℕ) (h : Head) → may profile m n h ≡ true → n + counted h ≤ 20000
 few_of m n h is = leb-true (n + counted h) 20000 (four_of (head_stands m.context m.given h) (nat_le (head_depth h) 100) (nat_le (n + counted h) 20000) _ is).three
 
 counted_behind : (n : ℕ) (h : Head) (s : Simple) → behind_in h ≡ Some s → n + counted h ≡ inner_number n h + 1
@@ -172,18 +172,18 @@ suite_read p k n count next to m h at now lines left built u is open_is deeper d
     both true false one other = absurd (false≢true other)
     both false b one other = absurd (false≢true one)
 
-pub suite_stopped : (cs : List ℕ) (p : Place) (k n count : ℕ) (m : Level) (h : Head) (at : Pos) (lines : List Line) (fault : Halt) → IsUnderOf p count m n h → IsBehind None (behind_in h) → opens h ≡ true → m.indent < k
+pub suite_stopped : (cs : List ℕ) (p : Place) (k n count : ℕ) (m : Level) (h : Head) (at : Pos) (lines : List Line) (fault : Halt) → IsUnderOf p count m n h → IsBehind None (behind_in h) → opens h ≡ true → m.indent < k → m.depth ≤ 50
     → RowsStopped (columns_under cs m) (inside m h k) count at lines fault → UnderStopped cs m (n + counted h) h at lines fault
-suite_stopped cs p k n count m h at lines fault u is open_is deeper r = by fault (subst (λ j. RowsStopped (columns_under cs m) (inside m h k) j at lines fault) (u.count_is ∙ sym (counted_alone n h (none_behind h is))) r)
+suite_stopped cs p k n count m h at lines fault u is open_is deeper low r = by fault (subst (λ j. RowsStopped (columns_under cs m) (inside m h k) j at lines fault) (u.count_is ∙ sym (counted_alone n h (none_behind h is))) r)
   where
     by : (f : Halt) → RowsStopped (columns_under cs m) (inside m h k) (n + counted h) at lines f → UnderStopped cs m (n + counted h) h at lines f
     by Memory r = tt
-    by (AtToken lines_left tokens_left) r = refused_inside cs m (n + counted h) k h at lines (AtToken lines_left tokens_left) open_is deeper r
-    by (AtEnd lines_left place) r = refused_inside cs m (n + counted h) k h at lines (AtEnd lines_left place) open_is deeper r
-    by (NoLine place) r = refused_inside cs m (n + counted h) k h at lines (NoLine place) open_is deeper r
-    by (BadIndent place) r = refused_inside cs m (n + counted h) k h at lines (BadIndent place) open_is deeper r
-    by (TooDeep place) r = refused_inside cs m (n + counted h) k h at lines (TooDeep place) open_is deeper r
-    by (TooMany place) r = refused_inside cs m (n + counted h) k h at lines (TooMany place) open_is deeper r
+    by (AtToken lines_left tokens_left) r = refused_inside cs m (n + counted h) k h at lines (AtToken lines_left tokens_left) open_is deeper low r
+    by (AtEnd lines_left place) r = refused_inside cs m (n + counted h) k h at lines (AtEnd lines_left place) open_is deeper low r
+    by (NoLine place) r = refused_inside cs m (n + counted h) k h at lines (NoLine place) open_is deeper low r
+    by (BadIndent place) r = refused_inside cs m (n + counted h) k h at lines (BadIndent place) open_is deeper low r
+    by (TooDeep place) r = refused_inside cs m (n + counted h) k h at lines (TooDeep place) open_is deeper low r
+    by (TooMany place) r = refused_inside cs m (n + counted h) k h at lines (TooMany place) open_is deeper low r
 
 -- ---- a whole row
 
@@ -214,21 +214,21 @@ row_read p given n middle next at now line rest left old more built head l inden
   edge = u.edge;
 }
 
-pub row_stopped : (cs : List ℕ) (m : Level) (n : ℕ) (h : Head) (at : Pos) (line : Line) (lines : List Line) (fault : Halt) → IsLine line m.indent (head_tokens h) → follows m h ≡ true
+pub row_stopped : (cs : List ℕ) (m : Level) (n : ℕ) (h : Head) (at : Pos) (line : Line) (lines : List Line) (fault : Halt) → IsLine line m.indent (head_tokens h) → follows m h ≡ true → may profile m n h ≡ true → m.depth ≤ 50
     → UnderStopped cs m (n + counted h) h (last_place at line.tokens) lines fault → RowsStopped cs m n at (line ∷ lines) fault
-row_stopped cs m n h at line lines Memory is may_follow r = tt
-row_stopped cs m n h at line lines (AtToken lines_left tokens_left) is may_follow r = refused_under cs m n h at line lines (AtToken lines_left tokens_left) is may_follow r
-row_stopped cs m n h at line lines (AtEnd lines_left place) is may_follow r = refused_under cs m n h at line lines (AtEnd lines_left place) is may_follow r
-row_stopped cs m n h at line lines (NoLine place) is may_follow r = refused_under cs m n h at line lines (NoLine place) is may_follow r
-row_stopped cs m n h at line lines (BadIndent place) is may_follow r = refused_under cs m n h at line lines (BadIndent place) is may_follow r
-row_stopped cs m n h at line lines (TooDeep place) is may_follow r = refused_under cs m n h at line lines (TooDeep place) is may_follow r
-row_stopped cs m n h at line lines (TooMany place) is may_follow r = refused_under cs m n h at line lines (TooMany place) is may_follow r
+row_stopped cs m n h at line lines Memory is may_follow kept deep r = tt
+row_stopped cs m n h at line lines (AtToken lines_left tokens_left) is may_follow kept deep r = refused_under cs m n h at line lines (AtToken lines_left tokens_left) is may_follow kept deep r
+row_stopped cs m n h at line lines (AtEnd lines_left place) is may_follow kept deep r = refused_under cs m n h at line lines (AtEnd lines_left place) is may_follow kept deep r
+row_stopped cs m n h at line lines (NoLine place) is may_follow kept deep r = refused_under cs m n h at line lines (NoLine place) is may_follow kept deep r
+row_stopped cs m n h at line lines (BadIndent place) is may_follow kept deep r = refused_under cs m n h at line lines (BadIndent place) is may_follow kept deep r
+row_stopped cs m n h at line lines (TooDeep place) is may_follow kept deep r = refused_under cs m n h at line lines (TooDeep place) is may_follow kept deep r
+row_stopped cs m n h at line lines (TooMany place) is may_follow kept deep r = refused_under cs m n h at line lines (TooMany place) is may_follow kept deep r
 
-pub line_stopped : (cs : List ℕ) (m : Level) (n : ℕ) (at : Pos) (line : Line) (lines : List Line) (fault : Halt) → line.indent ≡ m.indent → LineStopped m n at line lines fault → RowsStopped cs m n at (line ∷ lines) fault
-line_stopped cs m n at line lines Memory is r = tt
-line_stopped cs m n at line lines (AtToken lines_left tokens_left) is r = refused_line cs m n at line lines (AtToken lines_left tokens_left) is r
-line_stopped cs m n at line lines (AtEnd lines_left place) is r = refused_line cs m n at line lines (AtEnd lines_left place) is r
-line_stopped cs m n at line lines (NoLine place) is r = refused_line cs m n at line lines (NoLine place) is r
-line_stopped cs m n at line lines (BadIndent place) is r = refused_line cs m n at line lines (BadIndent place) is r
-line_stopped cs m n at line lines (TooDeep place) is r = refused_line cs m n at line lines (TooDeep place) is r
-line_stopped cs m n at line lines (TooMany place) is r = refused_line cs m n at line lines (TooMany place) is r
+pub line_stopped : (cs : List ℕ) (m : Level) (n : ℕ) (at : Pos) (line : Line) (lines : List Line) (fault : Halt) → m.depth ≤ 50 → n ≤ 20000 → line.indent ≡ m.indent → LineStopped m n at line lines fault → RowsStopped cs m n at (line ∷ lines) fault
+line_stopped cs m n at line lines Memory deep few is r = tt
+line_stopped cs m n at line lines (AtToken lines_left tokens_left) deep few is r = refused_line cs m n at line lines (AtToken lines_left tokens_left) deep few is r
+line_stopped cs m n at line lines (AtEnd lines_left place) deep few is r = refused_line cs m n at line lines (AtEnd lines_left place) deep few is r
+line_stopped cs m n at line lines (NoLine place) deep few is r = refused_line cs m n at line lines (NoLine place) deep few is r
+line_stopped cs m n at line lines (BadIndent place) deep few is r = refused_line cs m n at line lines (BadIndent place) deep few is r
+line_stopped cs m n at line lines (TooDeep place) deep few is r = refused_line cs m n at line lines (TooDeep place) deep few is r
+line_stopped cs m n at line lines (TooMany place) deep few is r = refused_line cs m n at line lines (TooMany place) deep few is r

@@ -1,21 +1,26 @@
 -- The first fault of lines that are no script: where it is shown, and which scripts it rules out.
-use Rattle.std.specs.Prelude.{◌≡◌, ⊤, ◌⊎◌, ℕ, suc, ◌<◌, ◌≤◌, List, [], ◌∷◌, ◌++◌, length, drop, codes}
+use Rattle.std.specs.Prelude.{◌≡◌, true, ⊤, ◌⊎◌, ℕ, suc, ◌+◌, ◌<◌, ◌≤◌, List, [], ◌∷◌, ◌++◌, length, drop, codes, Option, Some, None}
 use Rattle.prov_base.specs.declared.place.Pos.{Pos}
 use Rattle.py_lines.specs.declared.parts.Line.{Line}
 use Rattle.py_lines.specs.declared.parts.Token.{Token}
 use Rattle.py_parser.specs.declared.fault.ParseFault.{ParseFault}
 use Rattle.py_parser.specs.declared.fault.ParseFault.TheVariants.{Unexpected, Unsupported, BadIndent, TooDeep, TooMany, Memory}
+use Rattle.py_grammar.specs.declared.fault.Fault.{Fault as LineFault}
+use Rattle.py_grammar.specs.declared.fault.Fault.TheVariants.{Unexpected as OnLine, TooDeep as DeepOnLine}
 use Rattle.py_grammar.specs.Concrete.{Spot}
 use Rattle.py_grammar.specs.Tokens.{keyword}
 use Rattle.py_grammar.specs.Follows.{Below}
 use Rattle.py_grammar.specs.LineReader.{Head, head_tokens}
-use Rattle.py_grammar.specs.ParsedHead.{BeginsReading, behind_in, head_lies, stands_first, behind_first}
+use Rattle.py_grammar.specs.Layout.{IsLine}
+use Rattle.py_grammar.specs.ParsedHead.{BeginsReading, UnreadLine, behind_in, head_lies, behind_first}
 use Rattle.py_grammar.specs.Written.{Script}
 use Rattle.py_grammar.specs.Grammar.{script_lines, FitsScript}
+use Rattle.py_grammar.specs.WellPlaced.{script_stands}
 use Rattle.refused_forms.specs.declared.standing.Standing.{Standing}
 use Rattle.refused_forms.specs.LineForms.{standing}
 use Rattle.refused_forms.specs.RefusedForms.{IsRefusedForm}
-use Rattle.py_parser.specs.Limits.{Limits, IsFine}
+use Rattle.py_parser.specs.Rows.{counted}
+use Rattle.py_parser.specs.Limits.{Limits, IsFine, script_expr_depth, script_suites}
 
 -- where a text begins
 abbrev pub origin : Pos
@@ -68,7 +73,7 @@ shows no_line (line ∷ lines) = ⊥
 
 -- The fault at a token behind which a line does not go on. `front` stands before it, and `rest` are the tokens from it on. It is Unsupported
 -- where the table of refused forms has a row for it, at the place that the table names, and else Unexpected there. What begins at the place that
--- TooDeep names is said by `NamesDeep`.
+-- TooDeep names is said by `NamesLimit`.
 abbrev pub NamesToken : Standing → List Token → List Token → Token → ParseFault → Type 0
 NamesToken s front rest t (Unexpected place) = (place ≡ t.at) × ((other : Pos) → IsRefusedForm s front rest other → ⊥)
 NamesToken s front rest t (Unsupported place) = IsRefusedForm s front rest place
@@ -80,7 +85,7 @@ NamesToken s front rest t fault = ⊥
 abbrev pub NamesEnd : Standing → List Token → Pos → ParseFault → Type 0
 NamesEnd s tokens last (Unexpected place) = (place ≡ last) × ((other : Pos) → IsRefusedForm s tokens [] other → ⊥)
 NamesEnd s tokens last (Unsupported place) = IsRefusedForm s tokens [] place
-NamesEnd s tokens last (TooDeep place) = ⊤
+NamesEnd s tokens last (TooDeep place) = place ≡ last
 NamesEnd s tokens last fault = ⊥
 
 abbrev pub NamesLast : Pos → ParseFault → Type 0
@@ -151,6 +156,16 @@ pub record BeginsScript (front : List Line) (point : Point) : Type 0 where
 -- ---- at which indentation
 
 -- some script of the grammar goes on behind these lines with one that is so
+pub record SomeFollows (is : Line → Type 0) (front : List Line) : Type 0 where
+  pub some : Script
+  pub fits : FitsScript some
+  pub line : Line
+  pub more : List Line
+  pub lines_are : script_lines some ≡ front ++ line ∷ more
+  pub line_is : is line
+
+-- The same of a script whose statements stand where they may, with expressions at most 100 deep and at most 51 suites in one another: one more
+-- than there may be, since the line that goes on may begin that one.
 pub record MayFollow (is : Line → Type 0) (front : List Line) : Type 0 where
   pub some : Script
   pub fits : FitsScript some
@@ -158,6 +173,9 @@ pub record MayFollow (is : Line → Type 0) (front : List Line) : Type 0 where
   pub more : List Line
   pub lines_are : script_lines some ≡ front ++ line ∷ more
   pub line_is : is line
+  pub stands : script_stands some ≡ true
+  pub low : script_expr_depth some ≤ 100
+  pub deep : script_suites some ≤ 51
 
 abbrev pub IsAt : ℕ → Line → Type 0
 IsAt indent line = line.indent ≡ indent
@@ -198,7 +216,7 @@ MayStandAt indent front = MayFollow (IsAt indent) front ⊎ (IsOpenAt indent fro
 
 -- No script goes on at this indentation and no open suite has it, and no statement is missing further in.
 pub record NoneStandsAt (indent : ℕ) (front : List Line) : Type 0 where
-  pub none : MayFollow (IsAt indent) front → ⊥
+  pub none : SomeFollows (IsAt indent) front → ⊥
   pub no_suite : IsOpenAt indent front → ⊥
   pub complete : MayFollow (IsPassBefore indent) front ⊎ MayFollow IsHandler front
 
@@ -211,21 +229,74 @@ InColumn front (at_line indent) = NoneStandsAt indent front
 InColumn front (below indent) = MayFollow (IsPass indent) front
 InColumn front no_line = MayFollow IsHandler front
 
--- ---- what lies too deep
+-- ---- what passes a limit
 
--- Every line of the grammar that goes on so has an expression that begins at this place and lies deeper than 100, or its first statement
--- begins there, or the one behind its `:`.
-pub record LiesDeep (at : Pos) (point : Point) : Type 0 where
-  pub there : (line : Line) (more : List Line) (h : Head) → shows point (line ∷ more) → line.tokens ≡ head_tokens h → (100 < head_lies h at) ⊎ (stands_first line.tokens at ⊎ behind_first (behind_in h) at)
+-- No script of the grammar goes on so behind these lines whose statements stand where they may, within such limits.
+abbrev pub NoneWithin : (Limits → Type 0) → List Line → Point → Type 0
+NoneWithin within front point = (limits : Limits) → within limits → (s : Script) → FitsScript s → IsFine limits s → (rest : List Line) → shows point rest → script_lines s ≡ front ++ rest → ⊥
 
--- with TooDeep, what the place says
-abbrev pub NamesDeep : ParseFault → Point → Type 0
-NamesDeep (TooDeep at) point = LiesDeep at point
-NamesDeep fault point = ⊤
+abbrev pub few_suites : Limits → Type 0
+few_suites q = q.suites ≤ 50
+
+abbrev pub few_statements : Limits → Type 0
+few_statements q = q.number ≤ 20000
+
+-- Some script of the grammar goes on with a line of these tokens and `pass`, and none within the limits: whatever statement begins there passes them.
+pub record PassesLimit (within : Limits → Type 0) (front : List Line) (indent : ℕ) (tokens : List Token) : Type 0 where
+  pub at : Spot
+  pub goes_on : SomeFollows (λ line. IsLine line indent (tokens ++ keyword (codes "pass") at)) front
+  pub none : NoneWithin within front (at_end indent (tokens ++ keyword (codes "pass") at))
+
+-- Some script of the grammar goes on with these tokens and the next one, and every line of the grammar that does has an expression that begins at this place
+-- and lies deeper than 100, or the statement behind its `:` begins there and lies in more than 50 suites.
+pub record LiesDeep (at : Pos) (front : List Line) (indent : ℕ) (tokens : List Token) (next : Token) : Type 0 where
+  pub goes_on : BeginsScript front (at_end indent (tokens ++ next ∷ []))
+  pub there : (h : Head) (more : List Token) → head_tokens h ≡ tokens ++ next ∷ more → (100 < head_lies h at) ⊎ (behind_first (behind_in h) at × NoneWithin few_suites front (at_end indent (head_tokens h)))
+
+-- What TooDeep says: an expression lies too deep that begins at this place, or the statement does that the token begins which shows it (a line without tokens, where
+-- one has to stand, begins no statement).
+abbrev pub IsDeepAt : Pos → List Line → Point → Type 0
+IsDeepAt at front (at_token indent tokens t) = LiesDeep at front indent tokens t ⊎ ((at ≡ t.at) × PassesLimit few_suites front indent tokens)
+IsDeepAt at front (at_end indent tokens) = (tokens ≡ []) × PassesLimit few_suites front indent []
+IsDeepAt at front point = ⊥
+
+-- what TooMany says: the statement that the token begins which shows it is one too many
+abbrev pub IsOneMore : List Line → Point → Type 0
+IsOneMore front (at_token indent tokens t) = PassesLimit few_statements front indent tokens
+IsOneMore front point = ⊥
+
+abbrev pub NamesLimit : ParseFault → List Line → Point → Type 0
+NamesLimit (TooDeep at) front point = IsDeepAt at front point
+NamesLimit (TooMany at) front point = IsOneMore front point
+NamesLimit fault front point = ⊤
+
+-- ---- how many statements
+
+-- at most so many statements begin on these lines
+abbrev pub BeginAtMost : ℕ → List Line → Type 0
+BeginAtMost n [] = ⊤
+BeginAtMost n (line ∷ lines) = (h : Head) × (line.tokens ≡ head_tokens h) × (left : ℕ) × (counted h + left ≤ n) × BeginAtMost left lines
+
+-- ---- what is read behind `del` and `for`
+
+-- the place that TooDeep names
+abbrev pub deep_place : ParseFault → Option Pos
+deep_place (TooDeep at) = Some at
+deep_place fault = None
+
+abbrev pub line_fault : Option Pos → LineFault
+line_fault None = OnLine 0
+line_fault (Some at) = DeepOnLine at
+
+-- An expression behind `del`, and sums behind `for`, are read before they are asked for a target's form: what was read there goes on with the token
+-- that is shown only where that is too deep.
+abbrev pub ReadsNoFurther : (deep : Option Pos) → Point → Type 0
+ReadsNoFurther deep (at_token indent tokens t) = UnreadLine tokens t (line_fault deep)
+ReadsNoFurther deep point = ⊤
 
 -- ---- the first fault
 
--- What stands before the fault begins a script, and these lines up to and with what is shown begin no script whose statements stand
+-- What stands before the fault begins a script, the lines before it have at most 20,000 statements, and these lines up to and with what is shown begin no script whose statements stand
 -- where they may: with TooDeep none that keeps the limits of depth, with TooMany none that keeps the limit of number, and else none
 -- whatever its depth and number. What shows it is a line's indentation alone where no line may stand at it.
 pub record FirstFault (lines : List Line) (fault : ParseFault) : Type 0 where
@@ -235,10 +306,12 @@ pub record FirstFault (lines : List Line) (fault : ParseFault) : Type 0 where
   pub lines_are : lines ≡ front ++ behind
   pub shown : shows point behind
   pub named : names front behind point fault
-  pub deep : NamesDeep fault point
+  pub limit : NamesLimit fault front point
   pub column : InColumn front point
   pub begins : BeginsScript front point
-  pub none : (limits : Limits) → Asks fault limits → (s : Script) → FitsScript s → IsFine limits s → (rest : List Line) → shows point rest → script_lines s ≡ front ++ rest → ⊥
+  pub reads : ReadsNoFurther (deep_place fault) point
+  pub few : BeginAtMost 20000 front
+  pub none : NoneWithin (Asks fault) front point
 
 abbrev pub IsFault : List Line → ParseFault → Type 0
 IsFault lines Memory = ⊤

@@ -1,5 +1,5 @@
 -- What the parser answers of the lines of a script. No public clause speaks of it.
-use Rattle.std.specs.Prelude.{◌≡◌, ⊤, ◌⊎◌, ℕ, suc, length, ◌+◌, ◌<◌, ◌≤◌, nat_le, Bool, true, false, ◌==◌, ◌||◌, not, List, [], ◌∷◌, ◌++◌, map, Option, Some, None}
+use Rattle.std.specs.Prelude.{◌≡◌, ⊤, ◌⊎◌, ℕ, suc, length, ◌+◌, ◌<◌, ◌≤◌, nat_le, Bool, true, false, ◌==◌, ◌||◌, not, List, [], ◌∷◌, ◌++◌, map, codes, Option, Some, None}
 use Rattle.std.specs.List.{list_any}
 use Rattle.prov_base.specs.declared.place.Pos.{Pos}
 use Rattle.py_lines.specs.declared.parts.Line.{Line}
@@ -23,12 +23,12 @@ use Rattle.py_grammar.specs.LineReader.{Head, head_tokens}
 use Rattle.py_grammar.specs.Layout.{IsLine}
 use Rattle.py_grammar.specs.Follows.{Below}
 use Rattle.py_grammar.specs.StatementTrees.{end_of}
-use Rattle.py_grammar.specs.Written.{Script}
-use Rattle.py_grammar.specs.Grammar.{script_lines, FitsScript}
 use Rattle.py_grammar.specs.ParsedSimple.{around_of}
-use Rattle.py_grammar.specs.ParsedHead.{IsWhat, IsBehind, behind_in}
-use Rattle.py_parser.specs.Limits.{Limits, IsFine, profile}
-use Rattle.py_parser.specs.Faults.{last_token, Point, at_token, at_end, at_line, below, no_line, IsAt, IsPass, IsPassBefore, IsHandler, IsOpenAt, InColumn, BeginsScript, LiesDeep, shows, first_place, first_token, last_place, origin, tokens_before, Next}
+use Rattle.py_grammar.specs.Concrete.{Spot}
+use Rattle.py_grammar.specs.Tokens.{keyword}
+use Rattle.py_grammar.specs.ParsedHead.{IsWhat, IsBehind, behind_in, behind_first, head_lies}
+use Rattle.py_parser.specs.Limits.{Limits, profile}
+use Rattle.py_parser.specs.Faults.{last_token, Point, at_token, at_end, at_line, below, no_line, IsAt, IsPass, IsPassBefore, IsHandler, IsOpenAt, InColumn, BeginsScript, ReadsNoFurther, NoneWithin, few_suites, few_statements, BeginAtMost, IsDeepAt, IsOneMore, shows, first_place, first_token, last_place, origin, tokens_before, Next}
 use Rattle.py_parser.specs.Rows.{Begun, Rows, Under, rows_lines, under_lines, Level, counted, after, is_done, follows, Leads, FitsUnder, FitsRows, may, rows_may, under_may, rows_size, under_size, Edge, LastEdge}
 use Rattle.py_parser.specs.RowForms.{suite_list, grown, inner_number, declared, row_globals, under_globals, grow, below_tree}
 
@@ -166,56 +166,62 @@ abbrev pub AreBelow : ℕ → List ℕ → Type 0
 AreBelow d [] = ⊤
 AreBelow d (c ∷ columns) = (c < d) × AreBelow d columns
 
--- Some rows at this level begin with these lines and go on with one that is so.
-pub record RowsGoOn (l : Level) (is : Line → Type 0) (front : List Line) : Type 0 where
+-- the limits of this profile, with one suite more and so many statements
+abbrev pub wide : ℕ → Limits
+wide number = record { height = 100; suites = 51; number = number }
+
+-- Some rows at this level behind so many statements begin with these lines and go on with one that is so. They may stand there, whatever their number.
+pub record RowsGoOn (l : Level) (n : ℕ) (is : Line → Type 0) (front : List Line) : Type 0 where
   pub rows : Rows
   pub fits : FitsRows l rows
+  pub may_be : (k : ℕ) → n + rows_size rows ≤ k → rows_may (wide k) l n rows ≡ true
   pub line : Line
   pub more : List Line
   pub lines_are : rows_lines rows ≡ front ++ line ∷ more
   pub line_is : is line
 
-pub record UnderGoesOn (m : Level) (h : Head) (is : Line → Type 0) (front : List Line) : Type 0 where
+pub record UnderGoesOn (m : Level) (n : ℕ) (h : Head) (is : Line → Type 0) (front : List Line) : Type 0 where
   pub under : Under
   pub fits : FitsUnder m h under
+  pub may_be : (k : ℕ) → n + under_size under ≤ k → under_may (wide k) m n h under ≡ true
   pub line : Line
   pub more : List Line
   pub lines_are : under_lines under ≡ front ++ line ∷ more
   pub line_is : is line
 
 -- No suite at this level goes on behind these lines with one at this indentation, and no open one has it.
-pub record NoRows (cs : List ℕ) (l : Level) (d : ℕ) (front : List Line) : Type 0 where
+pub record NoRows (cs : List ℕ) (l : Level) (n d : ℕ) (front : List Line) : Type 0 where
   pub around : is_column d cs ≡ true → ⊥
   pub here : d ≡ l.indent → ⊥
   pub inside : IsOpenAt d front → ⊥
-  pub complete : RowsGoOn l (IsPassBefore d) front ⊎ RowsGoOn l IsHandler front
+  pub complete : RowsGoOn l n (IsPassBefore d) front ⊎ RowsGoOn l n IsHandler front
   pub none : (line : Line) (more : List Line) (rows : Rows) (r : List Line) → line.indent ≡ d → FitsRows l rows → Below l.indent r → rows_lines rows ++ r ≡ front ++ line ∷ more → ⊥
 
-pub record NoUnder (cs : List ℕ) (m : Level) (h : Head) (d : ℕ) (front : List Line) : Type 0 where
+pub record NoUnder (cs : List ℕ) (m : Level) (n : ℕ) (h : Head) (d : ℕ) (front : List Line) : Type 0 where
   pub around : is_column d cs ≡ true → ⊥
   pub inside : IsOpenAt d front → ⊥
-  pub complete : UnderGoesOn m h (IsPassBefore d) front ⊎ UnderGoesOn m h IsHandler front
+  pub complete : UnderGoesOn m n h (IsPassBefore d) front ⊎ UnderGoesOn m n h IsHandler front
   pub none : (line : Line) (more : List Line) (under : Under) (r : List Line) → line.indent ≡ d → FitsUnder m h under → Edge under r → under_lines under ++ r ≡ front ++ line ∷ more → ⊥
 
-abbrev pub MayStand : List ℕ → Level → ℕ → List Line → Type 0
-MayStand cs l d front = RowsGoOn l (IsAt d) front ⊎ (((is_column d cs ≡ true) ⊎ IsOpenAt d front) × RowsGoOn l IsHandler front)
+abbrev pub MayStand : List ℕ → Level → ℕ → ℕ → List Line → Type 0
+MayStand cs l n d front = RowsGoOn l n (IsAt d) front ⊎ (((is_column d cs ≡ true) ⊎ IsOpenAt d front) × RowsGoOn l n IsHandler front)
 
-abbrev pub Placed : List ℕ → Level → List Line → Point → Type 0
-Placed cs l front (at_token d tokens t) = MayStand cs l d front
-Placed cs l front (at_end d tokens) = MayStand cs l d front
-Placed cs l front (at_line d) = NoRows cs l d front
-Placed cs l front (below d) = RowsGoOn l (IsPass d) front
-Placed cs l front no_line = RowsGoOn l IsHandler front
+abbrev pub Placed : List ℕ → Level → ℕ → List Line → Point → Type 0
+Placed cs l n front (at_token d tokens t) = MayStand cs l n d front
+Placed cs l n front (at_end d tokens) = MayStand cs l n d front
+Placed cs l n front (at_line d) = NoRows cs l n d front
+Placed cs l n front (below d) = RowsGoOn l n (IsPass d) front
+Placed cs l n front no_line = RowsGoOn l n IsHandler front
 
-abbrev pub MayStandUnder : List ℕ → Level → Head → ℕ → List Line → Type 0
-MayStandUnder cs m h d front = UnderGoesOn m h (IsAt d) front ⊎ (((is_column d cs ≡ true) ⊎ IsOpenAt d front) × UnderGoesOn m h IsHandler front)
+abbrev pub MayStandUnder : List ℕ → Level → ℕ → Head → ℕ → List Line → Type 0
+MayStandUnder cs m n h d front = UnderGoesOn m n h (IsAt d) front ⊎ (((is_column d cs ≡ true) ⊎ IsOpenAt d front) × UnderGoesOn m n h IsHandler front)
 
-abbrev pub PlacedUnder : List ℕ → Level → Head → List Line → Point → Type 0
-PlacedUnder cs m h front (at_token d tokens t) = MayStandUnder cs m h d front
-PlacedUnder cs m h front (at_end d tokens) = MayStandUnder cs m h d front
-PlacedUnder cs m h front (at_line d) = NoUnder cs m h d front
-PlacedUnder cs m h front (below d) = UnderGoesOn m h (IsPass d) front
-PlacedUnder cs m h front no_line = UnderGoesOn m h IsHandler front
+abbrev pub PlacedUnder : List ℕ → Level → ℕ → Head → List Line → Point → Type 0
+PlacedUnder cs m n h front (at_token d tokens t) = MayStandUnder cs m n h d front
+PlacedUnder cs m n h front (at_end d tokens) = MayStandUnder cs m n h d front
+PlacedUnder cs m n h front (at_line d) = NoUnder cs m n h d front
+PlacedUnder cs m n h front (below d) = UnderGoesOn m n h (IsPass d) front
+PlacedUnder cs m n h front no_line = UnderGoesOn m n h IsHandler front
 
 -- the columns around what stands under a line at this level
 abbrev pub columns_under : List ℕ → Level → List ℕ
@@ -241,7 +247,7 @@ MarksToken front t (line ∷ lines) halt = ⊥
 abbrev pub MarksEnd : Pos → List Line → Halt → Type 0
 MarksEnd last [] halt = ⊥
 MarksEnd last (line ∷ lines) (AtEnd lines_left place) = (lines_left ≡ length lines) × (place ≡ last)
-MarksEnd last (line ∷ lines) (TooDeep place) = ⊤
+MarksEnd last (line ∷ lines) (TooDeep place) = place ≡ last
 MarksEnd last (line ∷ lines) halt = ⊥
 
 abbrev pub MarksIndent : Pos → Halt → Type 0
@@ -273,11 +279,6 @@ halt_of lines_left (FaultDeep place) = TooDeep place
 halt_of lines_left (FaultMany place) = TooMany place
 halt_of lines_left FaultMemory = Memory
 
--- with TooDeep, what the place says
-abbrev pub MarksDeep : Halt → Point → Type 0
-MarksDeep (TooDeep at) point = LiesDeep at point
-MarksDeep halt point = ⊤
-
 -- the limits that it speaks of: TooDeep of depth, TooMany of number, and the others of none
 abbrev pub Asks : Halt → Limits → Type 0
 Asks (TooDeep at) q = (q.height ≤ 100) × (q.suites ≤ 50)
@@ -301,6 +302,88 @@ pub record UnderBegins (m : Level) (h : Head) (front : List Line) (point : Point
   pub lines_are : under_lines under ≡ front ++ more
   pub next : Next point more
 
+-- ---- what passes a limit
+
+-- some rows at this level begin with these lines and go on with one that is so, whether they may stand there or not
+pub record RowsFollow (l : Level) (is : Line → Type 0) (front : List Line) : Type 0 where
+  pub rows : Rows
+  pub fits : FitsRows l rows
+  pub line : Line
+  pub more : List Line
+  pub lines_are : rows_lines rows ≡ front ++ line ∷ more
+  pub line_is : is line
+
+pub record UnderFollows (m : Level) (h : Head) (is : Line → Type 0) (front : List Line) : Type 0 where
+  pub under : Under
+  pub fits : FitsUnder m h under
+  pub line : Line
+  pub more : List Line
+  pub lines_are : under_lines under ≡ front ++ line ∷ more
+  pub line_is : is line
+
+-- no suite at this level has these first lines and then what is shown, within such limits
+abbrev pub NoneRows : (Limits → Type 0) → Level → ℕ → List Line → Point → Type 0
+NoneRows within l n front point =
+    (q : Limits) → within q → (rest : List Line) (rows : Rows) (r : List Line) → shows point rest → FitsRows l rows → rows_may q l n rows ≡ true → Below l.indent r → rows_lines rows ++ r ≡ front ++ rest → ⊥
+
+abbrev pub NoneUnder : (Limits → Type 0) → Level → ℕ → Head → List Line → Point → Type 0
+NoneUnder within m n h front point =
+    (q : Limits) → within q → (rest : List Line) (under : Under) (r : List Line) → shows point rest → FitsUnder m h under → under_may q m n h under ≡ true → Edge under r → under_lines under ++ r ≡ front ++ rest → ⊥
+
+-- `begins`, `follows` and `none` say how lines may begin, how they may go on, and that none go on with a line of some tokens: those of a suite, or those under a line.
+pub record Passes (follows : (Line → Type 0) → Type 0) (none : ℕ → List Token → Type 0) (indent : ℕ) (tokens : List Token) : Type 0 where
+  pub at : Spot
+  pub goes_on : follows (λ line. IsLine line indent (tokens ++ keyword (codes "pass") at))
+  pub none_so : none indent (tokens ++ keyword (codes "pass") at)
+
+pub record Deep (begins : Point → Type 0) (none : ℕ → List Token → Type 0) (place : Pos) (indent : ℕ) (tokens : List Token) (next : Token) : Type 0 where
+  pub goes_on : begins (at_end indent (tokens ++ next ∷ []))
+  pub there : (h : Head) (more : List Token) → head_tokens h ≡ tokens ++ next ∷ more → (100 < head_lies h place) ⊎ (behind_first (behind_in h) place × none indent (head_tokens h))
+
+abbrev pub DeepBy : (Point → Type 0) → ((Line → Type 0) → Type 0) → (ℕ → List Token → Type 0) → Pos → Point → Type 0
+DeepBy begins follows none place (at_token indent tokens t) = Deep begins none place indent tokens t ⊎ ((place ≡ t.at) × Passes follows none indent tokens)
+DeepBy begins follows none place (at_end indent tokens) = (tokens ≡ []) × Passes follows none indent []
+DeepBy begins follows none place point = ⊥
+
+abbrev pub ManyBy : ((Line → Type 0) → Type 0) → (ℕ → List Token → Type 0) → Point → Type 0
+ManyBy follows none (at_token indent tokens t) = Passes follows none indent tokens
+ManyBy follows none point = ⊥
+
+-- with TooDeep and TooMany, what passes the limit
+abbrev pub LimitBy : (Point → Type 0) → ((Line → Type 0) → Type 0) → ((Limits → Type 0) → ℕ → List Token → Type 0) → Halt → Point → Type 0
+LimitBy begins follows none (TooDeep place) point = DeepBy begins follows (none few_suites) place point
+LimitBy begins follows none (TooMany place) point = ManyBy follows (none few_statements) point
+LimitBy begins follows none halt point = ⊤
+
+abbrev pub RowsLimit : Level → ℕ → List Line → Halt → Point → Type 0
+RowsLimit l n front halt point = LimitBy (RowsBegin l front) (λ is. RowsFollow l is front) (λ within indent tokens. NoneRows within l n front (at_end indent tokens)) halt point
+
+abbrev pub UnderLimit : Level → ℕ → Head → List Line → Halt → Point → Type 0
+UnderLimit m n h front halt point = LimitBy (UnderBegins m h front) (λ is. UnderFollows m h is front) (λ within indent tokens. NoneUnder within m n h front (at_end indent tokens)) halt point
+
+-- the place that TooDeep names
+abbrev pub deep_at : Halt → Option Pos
+deep_at (TooDeep at) = Some at
+deep_at halt = None
+
+-- it names no limit
+abbrev pub NoLimit : Halt → Type 0
+NoLimit (TooDeep place) = ⊥
+NoLimit (TooMany place) = ⊥
+NoLimit halt = ⊤
+
+-- what TooDeep and TooMany say of the lines of a script
+abbrev pub ScriptLimit : Halt → List Line → Point → Type 0
+ScriptLimit (TooDeep place) front point = IsDeepAt place front point
+ScriptLimit (TooMany place) front point = IsOneMore front point
+ScriptLimit halt front point = ⊤
+
+-- behind so many statements there is room for those of these lines
+pub record Few (n : ℕ) (front : List Line) : Type 0 where
+  pub room : ℕ
+  pub within : n + room ≤ 20000
+  pub at_most : BeginAtMost room front
+
 -- No suite at this level has these first lines up to and with what is shown.
 pub record Refused (cs : List ℕ) (l : Level) (n : ℕ) (at : Pos) (lines : List Line) (fault : Halt) : Type 0 where
   pub front : List Line
@@ -309,11 +392,13 @@ pub record Refused (cs : List ℕ) (l : Level) (n : ℕ) (at : Pos) (lines : Lis
   pub lines_are : lines ≡ front ++ behind
   pub shown : shows point behind
   pub marked : marks (last_token at front) behind point fault
-  pub deep : MarksDeep fault point
-  pub placed : Placed cs l front point
+  pub limit : RowsLimit l n front fault point
+  pub placed : Placed cs l n front point
   pub begun : (rest : List Line) → shows point rest → Begun l.indent (front ++ rest)
   pub begins : RowsBegin l front point
-  pub none : (q : Limits) → Asks fault q → (rest : List Line) (rows : Rows) (r : List Line) → shows point rest → FitsRows l rows → rows_may q l n rows ≡ true → Below l.indent r → rows_lines rows ++ r ≡ front ++ rest → ⊥
+  pub reads : ReadsNoFurther (deep_at fault) point
+  pub few : Few n front
+  pub none : NoneRows (Asks fault) l n front point
 
 abbrev pub RowsStopped : List ℕ → Level → ℕ → Pos → List Line → Halt → Type 0
 RowsStopped cs l n at lines Memory = ⊤
@@ -324,8 +409,8 @@ pub record RefusedHere (cs : List ℕ) (m : Level) (n : ℕ) (at : Pos) (lines :
   pub point : Point
   pub shown : shows point lines
   pub marked : marks at lines point fault
-  pub deep : MarksDeep fault point
-  pub placed : Placed cs m [] point
+  pub limit : NoLimit fault
+  pub placed : Placed cs m n [] point
   pub before : tokens_before point ≡ []
   pub edge : (rows : Rows) (rest : List Line) → shows point rest → (l : Level) → l.indent ≡ m.indent → Leads l rows m → LastEdge rows lines → LastEdge rows rest
   pub none : (q : Limits) → Asks fault q → (rest : List Line) (rows : Rows) (r : List Line) → shows point rest → FitsRows m rows → rows_may q m n rows ≡ true → Below m.indent r → rows_lines rows ++ r ≡ rest → ⊥
@@ -338,10 +423,12 @@ pub record RefusedUnder (cs : List ℕ) (m : Level) (n : ℕ) (h : Head) (at : P
   pub lines_are : lines ≡ front ++ behind
   pub shown : shows point behind
   pub marked : marks (last_token at front) behind point fault
-  pub deep : MarksDeep fault point
-  pub placed : PlacedUnder (columns_under cs m) m h front point
+  pub limit : UnderLimit m n h front fault point
+  pub placed : PlacedUnder (columns_under cs m) m n h front point
   pub begins : UnderBegins m h front point
-  pub none : (q : Limits) → Asks fault q → (rest : List Line) (under : Under) (r : List Line) → shows point rest → FitsUnder m h under → under_may q m n h under ≡ true → Edge under r → under_lines under ++ r ≡ front ++ rest → ⊥
+  pub reads : ReadsNoFurther (deep_at fault) point
+  pub few : Few n front
+  pub none : NoneUnder (Asks fault) m n h front point
 
 abbrev pub UnderStopped : List ℕ → Level → ℕ → Head → Pos → List Line → Halt → Type 0
 UnderStopped cs m n h at lines Memory = ⊤
@@ -353,9 +440,10 @@ pub record RefusedLine (m : Level) (n : ℕ) (at : Pos) (line : Line) (lines : L
   pub on_line : IsOnLine point
   pub shown : shows point (line ∷ [])
   pub marked : marks at (line ∷ lines) point fault
-  pub deep : MarksDeep fault point
+  pub limit : line.indent ≡ m.indent → RowsLimit m n [] fault point
   pub begun : (rest : List Line) → shows point rest → Begun line.indent rest
   pub begins : line.indent ≡ m.indent → RowsBegin m [] point
+  pub reads : ReadsNoFurther (deep_at fault) point
   pub none : (q : Limits) → Asks fault q → (other : Line) (more : List Line) (h : Head) → shows point (other ∷ more) → other.tokens ≡ head_tokens h → follows m h ≡ true → may q m n h ≡ true → ⊥
 
 abbrev pub LineStopped : Level → ℕ → Pos → Line → List Line → Halt → Type 0
@@ -374,7 +462,7 @@ pub record IsClosed (p : Place) (b : Built) (lines : List Line) : Type 0 where
   pub done : (given : List (List ℕ)) → is_done (level_at p given b) ≡ true
 
 pub record NotClosed (cs : List ℕ) (p : Place) (b : Built) (at : Pos) (lines : List Line) (fault : Halt) : Type 0 where
-  pub there : (given : List (List ℕ)) (n : ℕ) → RefusedHere cs (level_at p given b) n at lines fault
+  pub there : (given : List (List ℕ)) (n : ℕ) → p.depth ≤ 50 → RefusedHere cs (level_at p given b) n at lines fault
   pub other : fault ≡ Memory → ⊥
 
 -- a line stands where a handler has to, and it is at the column of a suite around or not
@@ -392,10 +480,12 @@ pub record FirstHalt (lines : List Line) (halt : Halt) : Type 0 where
   pub lines_are : lines ≡ front ++ behind
   pub shown : shows point behind
   pub marked : marks (last_token origin front) behind point halt
-  pub deep : MarksDeep halt point
+  pub limit : ScriptLimit halt front point
   pub column : InColumn front point
   pub begins : BeginsScript front point
-  pub none : (limits : Limits) → Asks halt limits → (s : Script) → FitsScript s → IsFine limits s → (rest : List Line) → shows point rest → script_lines s ≡ front ++ rest → ⊥
+  pub reads : ReadsNoFurther (deep_at halt) point
+  pub few : BeginAtMost 20000 front
+  pub none : NoneWithin (Asks halt) front point
 
 abbrev pub IsHalt : List Line → Halt → Type 0
 IsHalt lines Memory = ⊤

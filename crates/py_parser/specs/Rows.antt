@@ -1,4 +1,4 @@
--- A script as rows: each line with what it begins, and under it the lines of its suite. No public clause speaks of it.
+-- A script as rows: each line with what it begins, and under it the lines of its suite. No public clause speaks of it, but for `counted`.
 use Rattle.std.specs.Prelude.{◌≡◌, ⊤, ℕ, ◌+◌, ◌<◌, suc, Bool, true, false, ◌&&◌, ◌||◌, not, nat_le, List, [], ◌∷◌, ◌++◌, is_none, if◌then◌else◌}
 use Rattle.py_lines.specs.declared.parts.Line.{Line}
 use Rattle.py_grammar.specs.declared.context.Last.{Last}

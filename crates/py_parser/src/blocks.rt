@@ -10,7 +10,7 @@ ghost use Rattle.py_grammar.specs.StatementTrees.{simple_form};
 ghost use Rattle.py_grammar.specs.WellPlaced.{are_alone as alone, alone_kind};
 ghost use Rattle.py_parser.specs.declared.fault.Halt.TheVariants.{Memory};
 ghost use Rattle.py_grammar.specs.ParsedSimple.{around_of};
-ghost use Rattle.py_grammar.specs.ParsedHead.{IsWhat, IsBehind, IsThere, behind_in};
+ghost use Rattle.py_grammar.specs.ParsedHead.{IsWhat, IsBehind, IsThere, behind_in, lacks_handler};
 ghost use Rattle.py_parser.specs.Rows.{start, Level, counted, is_global, is_def as def_begins, is_stmt, opens as head_opens, after, head_around, head_given, last_after, lets_declare};
 ghost use Rattle.py_parser.specs.RowForms.{begun, form_begun, suite_list, grown as grown_trees, below_tree, declared, with_elif as with_elif_tree, with_else as with_else_tree, with_handler as with_handler_tree, with_part as with_part_tree, longer};
 ghost use Rattle.py_parser.specs.Faults.{first_place, last_place};
@@ -146,7 +146,8 @@ impl<'a> Blocks<'a> {
             return Err(Halt::AtEnd(lines.len(), self.before));
         };
         let begins = begins_stmt(&first.kind);
-        if begins && STATEMENTS <= self.count {
+        let finished = is_finished(built.last);
+        if begins && finished && STATEMENTS <= self.count {
             return Err(Halt::TooMany(first.at));
         }
         let count = self.count + u32::from(begins);
@@ -641,6 +642,13 @@ fn limit_of(count: u32, depth: u32) -> Option<Limit>
     } else {
         None
     }
+}
+
+/// No handler is missing behind what the line before began.
+fn is_finished(last: Last) -> bool
+    ensures { result ≡ not (lacks_handler last) }
+{
+    last != Last::Try
 }
 
 /// A statement begins with such a token, and no part of one or `global` line.

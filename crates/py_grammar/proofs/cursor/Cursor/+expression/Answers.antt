@@ -7,7 +7,7 @@ use Rattle.py_grammar.specs.ParsedRows.{items_part, index_part, pairs_part}
 use Rattle.py_grammar.proofs.BracketParts.{call_closed, part_closed, list_closed, dict_closed}
 use Rattle.py_grammar.proofs.ClosedParts.{closed_first, closed_last}
 use Rattle.py_grammar.proofs.PrimParts.{prim_one, prim_next, prim_end, prim_first, prim_right, prim_full, trailer_dot, trailer_dot_refused, trailer_name_refused}
-use Rattle.py_grammar.proofs.AtomParts.{opening_full, group_none, group_some, group_first, group_last}
+use Rattle.py_grammar.proofs.AtomParts.{round_opens, square_opens, curly_opens, opening_full, group_none, group_some, group_first, group_last}
 use Rattle.py_grammar.proofs.RowParts.{rest_init, rest_next, rest_last, rest_end, rest_refused}
 use Rattle.py_grammar.proofs.ItemParts.{row_one, row_several, row_first, row_rest, row_full, first_pushed, items_none, items_one, items_first}
 use Rattle.py_grammar.proofs.IndexParts.{bound_none, bound_some, bound_refused, index_one, index_from_start, index_range, index_start_refused, index_row_refused, index_end_refused}
@@ -214,7 +214,7 @@ subscription-returns-in_err-sign-clause-refused t c =
 -- ---- atoms
 
 pub atom-returns-in_err-goes_here-clause-refused : goal.atom-returns-in_err-goes_here-clause-refused
-atom-returns-in_err-goes_here-clause-refused t c = let is = opening_full _ _ _ _ _ _ c.in-Some.ensures.taken c.in_err-goes_here.ensures.deep in search (rules, is)
+atom-returns-in_err-goes_here-clause-refused t c = let is = opening_full _ _ _ _ _ _ round_opens c.in-Some.ensures.taken c.in_err-goes_here.ensures.deep in search (rules, is)
 
 pub atom-returns-in-Some-clause-found : goal.atom-returns-in-Some-clause-found
 atom-returns-in-Some-clause-found t c = group_ok _ _ _ _ _ _ _ c.in-Some.ensures.taken (let fits = c.in_ok-goes_here.ensures.fits in omega (arith, fits)) c.group.ensures.found
@@ -224,7 +224,7 @@ atom-returns-in-Some-clause-refused t c = group_err _ _ _ _ _ _ c.in-Some.ensure
 
 pub atom-returns-in_err-goes_here-2-clause-refused : goal.atom-returns-in_err-goes_here-2-clause-refused
 atom-returns-in_err-goes_here-2-clause-refused t c =
-    let is = opening_full _ _ _ _ _ _ (taken_kept _ _ _ _ _ c.in_default.ensures.kept c.in-Some-take_sign.ensures.taken) c.in_err-goes_here-2.ensures.deep in search (rules, is)
+    let is = opening_full _ _ _ _ _ _ square_opens (taken_kept _ _ _ _ _ c.in_default.ensures.kept c.in-Some-take_sign.ensures.taken) c.in_err-goes_here-2.ensures.deep in search (rules, is)
 
 pub atom-returns-in-Some-take_sign-clause-found : goal.atom-returns-in-Some-take_sign-clause-found
 atom-returns-in-Some-take_sign-clause-found t c =
@@ -235,7 +235,7 @@ atom-returns-in-Some-take_sign-clause-refused t c = list_err _ _ _ _ _ _ (taken_
 
 pub atom-returns-in_err-goes_here-3-clause-refused : goal.atom-returns-in_err-goes_here-3-clause-refused
 atom-returns-in_err-goes_here-3-clause-refused t c =
-    let is = opening_full _ _ _ _ _ _ (taken_twice _ _ _ _ _ _ c.in_default-take_sign.ensures.kept c.in_default.ensures.kept c.in-Some-take_sign-2.ensures.taken) c.in_err-goes_here-3.ensures.deep in search (rules, is)
+    let is = opening_full _ _ _ _ _ _ curly_opens (taken_twice _ _ _ _ _ _ c.in_default-take_sign.ensures.kept c.in_default.ensures.kept c.in-Some-take_sign-2.ensures.taken) c.in_err-goes_here-3.ensures.deep in search (rules, is)
 
 pub atom-returns-in-Some-take_sign-2-clause-found : goal.atom-returns-in-Some-take_sign-2-clause-found
 atom-returns-in-Some-take_sign-2-clause-found t c =

@@ -1,5 +1,5 @@
 use Rattle.std.proofs.Common.{rules, is_some, ap}
-use Rattle.py_grammar.proofs.ForTargets.{first_refused, first_full, others_refused, one_found, one_is_target, several_found, all_form, row_is_first, row_height, took_kept}
+use Rattle.py_grammar.proofs.ForTargets.{first_refused, first_full, others_refused, one_found, one_is_target, several_found, all_form, row_is_first, row_height, target_kept}
 use Rattle.py_grammar.proofs.cursor.Cursor.for_target.Goals as goal
 
 -- src/names.rt
@@ -13,7 +13,7 @@ one_target-requires c = record { form = one_is_target _ _ _ _ c.in_ok-first.ensu
 -- src/names.rt
 pub returns-in_default-clause-found : goal.returns-in_default-clause-found
 returns-in_default-clause-found c =
-    took_kept c.args.self.now.rest.now _ _ _ c.in_default.ensures.kept (one_found _ _ _ _ c.in_ok-first.ensures.found c.in_default.ensures.absent c.one_target.ensures)
+    target_kept c.args.self.now.rest.now _ _ _ c.in_default.ensures.kept (one_found _ _ _ _ c.in_ok-first.ensures.found c.in_default.ensures.absent c.one_target.ensures)
 
 -- src/names.rt
 pub returns-in_err-goes_above-clause-refused : goal.returns-in_err-goes_above-clause-refused

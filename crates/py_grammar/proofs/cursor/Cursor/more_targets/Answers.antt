@@ -8,7 +8,7 @@ loop-alloc-init c = targets_init _ _ _ c.requires.row_fits
 
 -- src/names.rt
 pub returns-in_err-next-clause-refused : goal.returns-in_err-next-clause-refused
-returns-in_err-next-clause-refused c = let is = next_refused _ _ _ _ _ _ c.loop-alloc.invariant (sym c.at_expr.ensures ∙ c.loop-alloc-test.true) c.in_err-next.ensures.refused in search (rules, is)
+returns-in_err-next-clause-refused c = let is = next_refused _ _ _ _ _ c.loop-alloc.invariant (sym c.at_expr.ensures ∙ c.loop-alloc-test.true) c.in_err-next.ensures.refused in search (rules, is)
 
 -- src/names.rt
 pub loop-alloc-preserved : goal.loop-alloc-preserved

@@ -11,13 +11,13 @@ use Rattle.py_parser.proofs.blocks.Blocks.+blocks.Goals as goal
 -- src/blocks.rt
 pub row-returns-in_err-what-clause-refused : goal.row-returns-in_err-what-clause-refused
 row-returns-in_err-what-clause-refused t c =
-    let is = line_stopped_there c.args.self.now.columns.items (level_at c.args.place c.args.given.now c.args.built) c.args.self.now.count c.args.self.now.before c.args.self.now.rest.now c.in-Some.line.now _ _ c.in-Some.ensures.cases.0 c.requires.here c.in_err-what.ensures.refused in
+    let is = line_stopped_there c.args.self.now.columns.items (level_at c.args.place c.args.given.now c.args.built) c.args.self.now.count c.args.self.now.before c.args.self.now.rest.now c.in-Some.line.now _ _ c.requires.deep c.requires.few c.in-Some.ensures.cases.0 c.requires.here c.in_err-what.ensures.refused in
     search (rules, is)
 
 -- src/blocks.rt
 pub row-returns-in_err-under-clause-refused : goal.row-returns-in_err-under-clause-refused
 row-returns-in_err-under-clause-refused t c =
-    let is = under_stopped_there c.args.self.now.columns.items _ c.args.place c.args.given.now c.args.self.now.count c.line.new.self.count c.args.self.now.before c.last_of-self.result c.args.self.now.rest.now c.in-Some.line.now _ c.args.built _ _ (ap (λ v. v.items) c.in_ok-what.ensures.columns) c.in-Some.ensures.cases.0 c.requires.here
+    let is = under_stopped_there c.args.self.now.columns.items _ c.args.place c.args.given.now c.args.self.now.count c.line.new.self.count c.args.self.now.before c.last_of-self.result c.args.self.now.rest.now c.in-Some.line.now _ c.args.built _ _ c.requires.deep (ap (λ v. v.items) c.in_ok-what.ensures.columns) c.in-Some.ensures.cases.0 c.requires.here
     (c.last_of-self.ensures ∙ ap (λ at. last_place at c.as_slice.result.now) c.in_ok-what.ensures.before ∙ ap (last_place c.args.self.now.before) c.as_slice.ensures) c.in_ok-what.ensures.found c.in_err-under.ensures.refused in
     search (rules, is)
 
@@ -64,7 +64,7 @@ rows-loop-alloc-preserved t c = (
 pub rows-returns-in_err-close-clause-refused : goal.rows-returns-in_err-close-clause-refused
 rows-returns-in_err-close-clause-refused t c =
     let is = stopped_end_there c.args.self.now.columns.items _ c.args.place c.args.given.now c.args.self.now.count c.loop-alloc.self.count c.args.self.now.before c.loop-alloc.self.before c.args.self.now.rest.now c.loop-alloc.self.rest.now c.loop-alloc.built _
-    c.loop-alloc.invariant.1 c.requires.here (sym c.is_here.ensures ∙ c.loop-alloc-test.false) c.loop-alloc.invariant.0 c.in_err-close.ensures.refused in
+    c.requires.deep c.loop-alloc.invariant.1 c.requires.here (sym c.is_here.ensures ∙ c.loop-alloc-test.false) c.loop-alloc.invariant.0 c.in_err-close.ensures.refused in
     search (rules, is)
 
 -- src/blocks.rt
@@ -75,25 +75,25 @@ rows-returns-clause-found t c =
 -- src/blocks.rt
 pub suite-returns-in_default-clause-refused : goal.suite-returns-in_default-clause-refused
 suite-returns-in_default-clause-refused t c m n h u what open_is =
-    no_line_below c.args.self.now.columns.items c.args.place c.args.self.now.count m n h c.args.self.now.before c.args.self.now.rest.now (no_first _ c.in_default.ensures.value) open_is
+    no_line_below c.args.self.now.columns.items c.args.place c.args.self.now.count m n h c.args.self.now.before c.args.self.now.rest.now c.requires.deep (no_first _ c.in_default.ensures.value) u open_is
 
 -- src/blocks.rt
 pub suite-returns-then-next-place-clause-refused : goal.suite-returns-then-next-place-clause-refused
 suite-returns-then-next-place-clause-refused t c m n h u what open_is =
     let there = some_first c.args.self.now.rest.now c.in-Some.next.now c.in-Some.ensures.value in
-    not_below c.args.self.now.columns.items c.args.place c.args.self.now.count m n h c.args.self.now.before c.in-Some.next.now there.0 c.args.self.now.rest.now there.1 u c.if-next-place.true open_is
+    not_below c.args.self.now.columns.items c.args.place c.args.self.now.count m n h c.args.self.now.before c.in-Some.next.now there.0 c.args.self.now.rest.now c.requires.deep there.1 u c.if-next-place.true open_is
 
 -- src/blocks.rt
 pub suite-returns-then-place-ge-SUITES-clause-refused : goal.suite-returns-then-place-ge-SUITES-clause-refused
 suite-returns-then-place-ge-SUITES-clause-refused t c m n h u what open_is =
     let there = some_first c.args.self.now.rest.now c.in-Some.next.now c.in-Some.ensures.value in
-    too_deep_below c.args.self.now.columns.items c.args.place c.args.self.now.count m n h c.args.self.now.before _ c.in-Some.next.now there.0 c.args.self.now.rest.now there.1 u c.if-next-place.false c.if-place-ge-SUITES.true open_is
+    too_deep_below c.args.self.now.columns.items c.args.place c.args.self.now.count m n h c.args.self.now.before _ c.in-Some.next.now there.0 c.args.self.now.rest.now c.requires.deep there.1 u c.if-next-place.false c.if-place-ge-SUITES.true open_is
     (c.first_of-at.ensures ∙ ap (first_place c.args.self.now.before) c.as_slice.ensures)
 
 -- src/blocks.rt
 pub suite-returns-in_err-built-clause-refused : goal.suite-returns-in_err-built-clause-refused
 suite-returns-in_err-built-clause-refused t c m n h u what open_is =
-    let is = suite_stopped_there c.args.self.now.columns.items _ c.args.place (inner_place c.in-Some.next.now.indent (c.args.place.depth + 1) c.inner_around.result c.is_def.result) c.given_of.result.now c.args.self.now.count m n h c.args.self.now.before c.args.self.now.rest.now _ u open_is refl
+    let is = suite_stopped_there c.args.self.now.columns.items _ c.args.place (inner_place c.in-Some.next.now.indent (c.args.place.depth + 1) c.inner_around.result c.is_def.result) c.given_of.result.now c.args.self.now.count m n h c.args.self.now.before c.args.self.now.rest.now _ c.requires.deep u open_is refl
     (c.inner_around.ensures h what) (c.is_def.ensures h what) (c.given_of.ensures h what) c.if-next-place.false c.in_ok-push.ensures.items c.in_err-built.ensures.refused in
     search (rules, is)
 
