@@ -512,7 +512,9 @@ fn depth_of_suites(rt: HostRuntime) -> Result<(), Fail> {
     check_nested(&rt, alloc, 51, "pass", "TooDeep 52:52")?;
     check_nested(&rt, alloc, 50, "if x: pass", "TooDeep 51:57")?;
     check_nested(&rt, alloc, 51, "", "BadIndent 51:55")?;
-    check_nested(&rt, alloc, 51, "x = = 1", "TooDeep 52:52")
+    check_nested(&rt, alloc, 51, "x = = 1", "TooDeep 52:52")?;
+    check_nested(&rt, alloc, 51, "else: y", "Unexpected 52:52")?;
+    check_nested(&rt, alloc, 51, "global y", "Unsupported 52:52")
 }
 
 // The deepest script that is read: its innermost statement is an expression of the greatest depth.
@@ -552,4 +554,20 @@ fn number_of_statements(rt: HostRuntime) -> Result<(), Fail> {
         "Unexpected 20001:1",
     )?;
     check_repeated(&rt, alloc, ("x\n", 19998, "if x: y"), "20000 statements")
+}
+
+// So many statements, and then one in a suite too many.
+fn check_both(rt: &impl Abort, alloc: Global, times: u32, expected: &str) -> Result<(), Fail> {
+    let mut text = String::new(alloc);
+    repeated(&mut text, "x\n", times)?;
+    nested(&mut text, 51, "pass")?;
+    check_text(rt, alloc, &text, expected)
+}
+
+// At one token a statement one too many comes before one that lies too deep.
+#[test]
+fn both_limits(rt: HostRuntime) -> Result<(), Fail> {
+    let alloc = rt.alloc();
+    check_both(&rt, alloc, 19948, "TooDeep 20000:52")?;
+    check_both(&rt, alloc, 19949, "TooMany 20001:52")
 }

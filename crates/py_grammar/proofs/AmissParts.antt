@@ -1,5 +1,5 @@
 -- Refusals where something may be read all the same: how one of a part is one of what it stands in, and one of a line.
-use Rattle.std.proofs.Common.{◌≡◌, ℕ, List, [], ◌∷◌, ◌++◌, Option, refl, ap, sym, ◌∙◌, subst, append_assoc, append-nil}
+use Rattle.std.proofs.Common.{◌≡◌, ℕ, ◌≤◌, true, false, List, [], ◌∷◌, ◌++◌, Option, None, refl, ap, sym, ◌∙◌, subst, append_assoc, append-nil}
 use Rattle.py_lines.specs.declared.parts.Token.{Token}
 use Rattle.py_grammar.specs.declared.context.Limit.{Limit}
 use Rattle.py_grammar.specs.declared.fault.Fault.{Fault}
@@ -8,23 +8,31 @@ use Rattle.py_grammar.specs.declared.fault.Stop.{Stop}
 use Rattle.py_grammar.specs.declared.fault.Stop.TheVariants.{Here, End}
 use Rattle.py_grammar.specs.Parsed.{Production, IsAtFirst, IsDeep, Finds, Begins, Refused}
 use Rattle.py_grammar.specs.ParsedRows.{first_token}
-use Rattle.py_grammar.specs.ParsedHead.{Context, IsAmissHead, BeginsHead, IsAheadOnLine, ShownBy, HeadRefused}
+use Rattle.py_grammar.specs.ParsedHead.{Context, head_stands, head_depth, behind_in, IsAmissHead, BeginsHead, IsAheadOnLine, ShownBy, HeadRefused}
 use Rattle.py_grammar.specs.LineReader.{Head, head_tokens}
-use Rattle.py_grammar.specs.ParsedNames.{ShownAmiss, RefusedAmiss}
-use Rattle.py_grammar.proofs.Refusals.{finds_same, finds_weaker, goes_inside}
+use Rattle.py_grammar.specs.ParsedNames.{BeginsFine, ShownAmiss, RefusedAmiss}
+use Rattle.py_grammar.proofs.Refusals.{begins_so, finds_same, finds_weaker, goes_inside}
 use Rattle.py_grammar.proofs.Stops.{shows_on_line}
+use Rattle.py_grammar.proofs.NoDel.{is_simple_head}
 use Rattle.py_grammar.proofs.Unread.{PassesFor}
-use Rattle.py_grammar.proofs.HeadParts.{OnlyHead, HeadTurns, turned_head, BeginsOpening, shown_head, ahead_of_part, ended_line, finds_head_same, first_shown}
+use Rattle.py_grammar.proofs.HeadParts.{OnlyHead, HeadTurns, turned_head, BeginsOpening, opening_so, begins_opening, shown_head, ahead_of_part, ended_line, finds_head_same, first_shown}
 
 -- ---- refusals as such
 
--- a part that is refused because nothing is read
-pub amiss_of_refused : {A : Type 0} (p : Production A) (room : ℕ) (amiss : Stop → A → Type 0) (before : List Token) (stop : Stop) → ((why : Stop) (a : A) → IsDeep why room (p.lies a) → amiss why a) → Refused p room before stop → RefusedAmiss p amiss before stop
-amiss_of_refused p room amiss before (Here Memory) weaker is = tt
-amiss_of_refused p room amiss before (Here (Unexpected at)) weaker is = record { front = is.front; shown_by = is.shown_by; behind = is.behind; before_is = is.before_is; left_is = is.left_is; begins = is.begins; goes_on = tt; none = λ more. finds_weaker _ _ p.read _ (weaker (Here (Unexpected at))) (is.none more) }
-amiss_of_refused p room amiss before (Here (TooDeep at)) weaker is = record { front = is.front; shown_by = is.shown_by; behind = is.behind; before_is = is.before_is; left_is = is.left_is; begins = is.begins; goes_on = is.goes_on; none = λ more. finds_weaker _ _ p.read _ (weaker (Here (TooDeep at))) (is.none more) }
-amiss_of_refused p room amiss before (Here (TooMany at)) weaker is = absurd is.left_is
-amiss_of_refused p room amiss before End weaker is = (is.0, finds_weaker _ _ p.read _ (weaker End) is.1)
+-- nothing is amiss of any
+abbrev pub NoneAmiss : {A : Type 0} → Stop → A → Type 0
+NoneAmiss stop a = ⊥
+
+all_fine : {A : Type 0} (p : Production A) (tokens : List Token) → Begins p tokens → BeginsFine p NoneAmiss tokens
+all_fine p tokens b = record { some = b.some; fine = λ stop no. no; more = b.more; tokens_are = b.tokens_are }
+
+-- a part without depth that is refused because nothing is read
+pub amiss_of_refused : {A : Type 0} (p : Production A) (before : List Token) (stop : Stop) → ((why : Stop) (a : A) → IsDeep why 0 (p.lies a) → ⊥) → Refused p 0 before stop → RefusedAmiss p NoneAmiss before stop
+amiss_of_refused p before (Here Memory) low is = tt
+amiss_of_refused p before (Here (Unexpected at)) low is = record { front = is.front; shown_by = is.shown_by; behind = is.behind; before_is = is.before_is; left_is = is.left_is; begins = all_fine p is.front (begins_so p 0 is.front is.begins); goes_on = tt; none = λ more. finds_weaker _ _ p.read _ (low (Here (Unexpected at))) (is.none more) }
+amiss_of_refused p before (Here (TooDeep at)) low is = record { front = is.front; shown_by = is.shown_by; behind = is.behind; before_is = is.before_is; left_is = is.left_is; begins = all_fine p is.front (begins_so p 0 is.front is.begins); goes_on = all_fine p (is.front ++ is.shown_by ∷ []) is.goes_on; none = λ more. finds_weaker _ _ p.read _ (low (Here (TooDeep at))) (is.none more) }
+amiss_of_refused p before (Here (TooMany at)) low is = absurd is.left_is
+amiss_of_refused p before End low is = (all_fine p before (begins_so p 0 before is.0), is.1)
 
 pub amiss_same : {A : Type 0} (p : Production A) (amiss : Stop → A → Type 0) (before other : List Token) (stop : Stop) → before ≡ other → RefusedAmiss p amiss other stop → RefusedAmiss p amiss before stop
 amiss_same p amiss before other stop is refused = subst (λ (ts : List Token). RefusedAmiss p amiss ts stop) (sym is) refused
@@ -32,7 +40,7 @@ amiss_same p amiss before other stop is refused = subst (λ (ts : List Token). R
 -- A part stands in another behind these tokens: any such part is the beginning of one there, and where only what is amiss is
 -- read that begins with the same token, so it is of the other.
 pub record AmissInside {A B : Type 0} (p : Production A) (amiss : Stop → A → Type 0) (q : Production B) (inner : Stop → B → Type 0) (front rest : List Token) : Type 0 where
-  pub begins : (tokens : List Token) → Begins q tokens → Begins p (front ++ tokens)
+  pub begins : (tokens : List Token) → BeginsFine q inner tokens → BeginsFine p amiss (front ++ tokens)
   pub finds : (stop : Stop) (more : List Token) → first_token more ≡ first_token rest → Finds (inner stop) q.read more → Finds (amiss stop) p.read (front ++ more)
 
 shown_inside : {A B : Type 0} (p : Production A) (amiss : Stop → A → Type 0) (q : Production B) (inner : Stop → B → Type 0) (front rest : List Token) (fault : Fault) → AmissInside p amiss q inner front rest → ShownAmiss q inner rest fault → ShownAmiss p amiss (front ++ rest) fault
@@ -43,7 +51,7 @@ shown_inside p amiss q inner front rest fault inside s = record {
   before_is = ap (λ ts. front ++ ts) s.before_is ∙ sym (append_assoc front s.front (s.shown_by ∷ s.behind));
   left_is = s.left_is;
   begins = inside.begins s.front s.begins;
-  goes_on = goes_inside (Begins q) (Begins p) front s.front s.shown_by fault inside.begins s.goes_on;
+  goes_on = goes_inside (BeginsFine q inner) (BeginsFine p amiss) front s.front s.shown_by fault inside.begins s.goes_on;
   none = λ more. finds_same _ p.read _ _ (append_assoc front s.front (s.shown_by ∷ more))
       (inside.finds (Here fault) (s.front ++ s.shown_by ∷ more) (first_shown s.front s.shown_by more s.behind ∙ sym (ap first_token s.before_is)) (s.none more));
 }
@@ -56,9 +64,11 @@ amiss_inside p amiss q inner front rest (Here (TooMany at)) inside is = shown_in
 amiss_inside p amiss q inner front rest End inside is = (inside.begins rest is.0, inside.finds End rest refl is.1)
 
 -- a part begins behind these tokens, and so does what it stands in
-pub begins_with : {A B : Type 0} (p : Production A) (q : Production B) (front : List Token) (whole : B → A) (tail : B → List Token) → ((b : B) → p.tokens (whole b) ≡ front ++ (q.tokens b ++ tail b)) → (tokens : List Token) → Begins q tokens → Begins p (front ++ tokens)
-begins_with p q front whole tail spells tokens b = record {
+pub begins_with : {A B : Type 0} (p : Production A) (amiss : Stop → A → Type 0) (q : Production B) (inner : Stop → B → Type 0) (front : List Token) (whole : B → A) (tail : B → List Token) → ((stop : Stop) (b : B) → amiss stop (whole b) → inner stop b)
+    → ((b : B) → p.tokens (whole b) ≡ front ++ (q.tokens b ++ tail b)) → (tokens : List Token) → BeginsFine q inner tokens → BeginsFine p amiss (front ++ tokens)
+begins_with p amiss q inner front whole tail fine spells tokens b = record {
   some = whole b.some;
+  fine = λ stop is. b.fine stop (fine stop b.some is);
   more = b.more ++ tail b.some;
   tokens_are = spells b.some ∙ ap (λ ts. front ++ (ts ++ tail b.some)) b.tokens_are ∙ regroup front tokens b.more (tail b.some);
 }
@@ -67,10 +77,10 @@ begins_with p q front whole tail spells tokens b = record {
     regroup w x y z = ap (λ ts. w ++ ts) (append_assoc x y z) ∙ sym (append_assoc w x (y ++ z))
 
 -- reading stops behind these tokens, where nothing fits that stands there
-pub amiss_here : {A : Type 0} (p : Production A) (amiss : Stop → A → Type 0) (before front rest : List Token) (stop : Stop) → before ≡ front ++ rest → IsAtFirst rest stop → Begins p front → (rest ≡ [] → Finds (λ a. ⊥) p.read (front ++ []))
+pub amiss_here : {A : Type 0} (p : Production A) (amiss : Stop → A → Type 0) (before front rest : List Token) (stop : Stop) → before ≡ front ++ rest → IsAtFirst rest stop → BeginsFine p amiss front → (rest ≡ [] → Finds (λ a. ⊥) p.read (front ++ []))
     → ((t : Token) (ts more : List Token) → rest ≡ t ∷ ts → Finds (λ a. ⊥) p.read (front ++ t ∷ more)) → RefusedAmiss p amiss before stop
 amiss_here p amiss before front [] End is at begins none_end none_there =
-    (subst (Begins p) (sym (is ∙ append-nil front)) begins, subst (Finds (amiss End) p.read) (sym is) (finds_weaker _ _ p.read _ (λ a no. absurd no) (none_end refl)))
+    (subst (BeginsFine p amiss) (sym (is ∙ append-nil front)) begins, subst (Finds (amiss End) p.read) (sym is) (finds_weaker _ _ p.read _ (λ a no. absurd no) (none_end refl)))
 amiss_here p amiss before front [] (Here fault) is at begins none_end none_there = cc
 amiss_here p amiss before front (t ∷ ts) (Here (Unexpected place)) is at begins none_end none_there = record { front = front; shown_by = t; behind = ts; before_is = is; left_is = at; begins = begins; goes_on = tt; none = λ more. finds_weaker _ _ p.read _ (λ a no. absurd no) (none_there t ts more refl) }
 amiss_here p amiss before front (t ∷ ts) (Here (TooDeep place)) is at begins none_end none_there = absurd at
@@ -80,19 +90,27 @@ amiss_here p amiss before front (t ∷ ts) End is at begins none_end none_there 
 
 -- ---- refusals of a line
 
+-- a part of which nothing is amiss begins behind these tokens, and so does a line that may stand there
+pub begins_fine_head : {B : Type 0} (c : Context) (given : List (List ℕ)) (q : Production B) (inner : Stop → B → Type 0) (front : List Token) (h : B → Head) (tail : B → List Token)
+    → ((b : B) → ((stop : Stop) → inner stop b → ⊥) → head_stands c given (h b) ≡ true) → ((b : B) → is_simple_head (h b) ≡ false) → ((b : B) → behind_in (h b) ≡ None) → ((b : B) → head_tokens (h b) ≡ front ++ (q.tokens b ++ tail b))
+    → ((b : B) → head_depth (h b) ≤ 100)
+    → (tokens : List Token) → BeginsFine q inner tokens → BeginsOpening c given (front ++ tokens)
+begins_fine_head c given q inner front h tail stands compound empty spells fits tokens b =
+    begins_opening c given q front h tail b.some (stands b.some b.fine) (compound b.some) (empty b.some) (spells b.some) (fits b.some) tokens b.more b.tokens_are
+
 -- a part of a line stands behind these tokens: how it begins, and what is read there
 record StandsSo {B : Type 0} (c : Context) (given : List (List ℕ)) (limit : Option Limit) (q : Production B) (inner : Stop → B → Type 0) (front rest : List Token) : Type 0 where
-  begins : (tokens : List Token) → Begins q tokens → BeginsOpening (front ++ tokens)
+  begins : (tokens : List Token) → BeginsFine q inner tokens → BeginsOpening c given (front ++ tokens)
   other : PassesFor front rest
   g : ℕ → B → List Token → Option Head
   turns : HeadTurns q front rest g
   each : (why : Stop) (n : ℕ) (b : B) (left : List Token) → inner why b → OnlyHead (IsAmissHead c given limit why) (g n b left)
 
 shown_so : {B : Type 0} (c : Context) (given : List (List ℕ)) (limit : Option Limit) (q : Production B) (inner : Stop → B → Type 0) (front rest before : List Token) (fault : Fault) → before ≡ front ++ rest → StandsSo c given limit q inner front rest
-    → ShownAmiss q inner rest fault → ShownBy BeginsHead (IsAheadOnLine limit) head_tokens (λ fault a. IsAmissHead c given limit (Here fault) a) before fault
+    → ShownAmiss q inner rest fault → ShownBy (BeginsHead c given) (IsAheadOnLine c given limit) head_tokens (λ fault a. IsAmissHead c given limit (Here fault) a) before fault
 shown_so c given limit q inner front rest before fault is part s = shown_head c given limit (front ++ s.front) s.shown_by s.behind before fault
     (is ∙ ap (λ ts. front ++ ts) s.before_is ∙ sym (append_assoc front s.front (s.shown_by ∷ s.behind))) (shows_on_line s.shown_by s.behind fault s.left_is) (part.begins s.front s.begins).begun
-    (ahead_of_part limit q front rest s.front s.shown_by s.behind fault part.begins part.other (sym (ap first_token s.before_is)) s.begins s.left_is s.goes_on)
+    (ahead_of_part c given limit (BeginsFine q inner) front rest s.front s.shown_by s.behind fault (λ ts b. opening_so c given (front ++ ts) (part.begins ts b)) part.other (sym (ap first_token s.before_is)) s.begins s.left_is s.goes_on)
     (λ more. finds_head_same _ _ _ (append_assoc front s.front (s.shown_by ∷ more))
     (turned_head _ _ q front rest (s.front ++ s.shown_by ∷ more) part.g part.turns (first_shown s.front s.shown_by more s.behind ∙ sym (ap first_token s.before_is)) (part.each (Here fault)) (s.none more)))
 
@@ -106,7 +124,7 @@ refused_so c given limit q inner front rest before End is part refused =
 
 -- a part is refused behind these tokens
 pub amiss_head : {B : Type 0} (c : Context) (given : List (List ℕ)) (limit : Option Limit) (q : Production B) (inner : Stop → B → Type 0) (front rest before : List Token) (stop : Stop) (g : ℕ → B → List Token → Option Head) → before ≡ front ++ rest
-    → ((tokens : List Token) → Begins q tokens → BeginsOpening (front ++ tokens)) → PassesFor front rest → HeadTurns q front rest g
+    → ((tokens : List Token) → BeginsFine q inner tokens → BeginsOpening c given (front ++ tokens)) → PassesFor front rest → HeadTurns q front rest g
     → ((why : Stop) (n : ℕ) (b : B) (left : List Token) → inner why b → OnlyHead (IsAmissHead c given limit why) (g n b left))
     → RefusedAmiss q inner rest stop → HeadRefused c given limit before stop
 amiss_head c given limit q inner front rest before stop g is begins other turns each refused = refused_so c given limit q inner front rest before stop is

@@ -16,14 +16,15 @@ use Rattle.py_grammar.specs.Tokens.{token, word, atom_tokens, exprs_tokens, item
 use Rattle.py_grammar.specs.Trees.{atom_tree, items_tree, pairs_tree}
 use Rattle.py_grammar.specs.Depth.{atom_depth, exprs_depth, items_depth, pairs_depth}
 use Rattle.py_grammar.specs.Lies.{is_place, over, atom_lies, exprs_lies, items_lies, pairs_lies}
-use Rattle.py_grammar.proofs.Lying.{alone_here, exprs_above, is_here, over_here, over_is}
+use Rattle.py_grammar.proofs.Lying.{alone_here, exprs_above, exprs_low, is_here, over_here, over_is}
 use Rattle.py_grammar.specs.Reader.{Read, go_on, spot_of, is_sign, grouped, read_sign, read_items, read_pairs, read_atom, atom_of}
 use Rattle.py_grammar.specs.StatementReader.{prim_target}
-use Rattle.py_grammar.specs.Parsed.{Production, atom_part, exprs_part, is_form, Taken, Found, FoundRow, IsDeep, Only, Finds, Begins, Refused, IsTooDeep, IsAtFirst, one_sign, is_sign_next}
+use Rattle.py_grammar.specs.Parsed.{Production, atom_part, exprs_part, is_form, Taken, Found, FoundRow, IsDeep, Only, Finds, Begins, BeginsWithin, Refused, IsTooDeep, IsAtFirst, one_sign, is_sign_next}
 use Rattle.py_grammar.specs.ParsedRows.{IsDeepestIn, closed, read_closed, items_part, group_part, group_depth, group_lies, group_tree, pairs_part, leaf_kind, leaf_atom, IsLeaf, FoundClosed}
-use Rattle.py_grammar.proofs.Refusals.{only_any, only_if, Inside, first_of, only_go_on, only_is, finds_at_once, deep_same, deep_over, refused_inside, refused_same, full}
-use Rattle.py_grammar.proofs.ClosedParts.{no_spot, closed_first, closed_last, closed_of, closed_once, refused_at_first}
+use Rattle.py_grammar.proofs.Refusals.{only_any, only_if, Inside, alone_elsewhere, begins_new, over_within, first_of, only_go_on, only_is, finds_at_once, deep_same, deep_over, refused_inside, refused_same, full}
+use Rattle.py_grammar.proofs.ClosedParts.{closed_first, closed_last, closed_of, closed_once, refused_at_first}
 use Rattle.py_grammar.proofs.PrimParts.{above_zero}
+use Rattle.py_grammar.proofs.Stops.{some_spot, spot_at}
 use Rattle.py_grammar.proofs.RowParts.{sign_first, more_steps}
 use Rattle.py_grammar.proofs.ItemParts.{items_finds, items_is_read}
 use Rattle.py_grammar.proofs.SharpReads.{exprs_is_read}
@@ -103,8 +104,8 @@ no_leaf t is = by (leaf_atom t) is
     by None is = refl
     by (Some a) is = absurd is
 
-atom_begins : Begins atom_part []
-atom_begins = record { some = name no_spot []; more = word [] no_spot; tokens_are = refl }
+atom_begins : (room : ℕ) → BeginsWithin atom_part room []
+atom_begins room = begins_new atom_part room (λ at. name (spot_at at) []) (λ at other apart. alone_elsewhere at other apart)
 
 nothing_finds : (t : Token) (ts more : List Token) → is_sign 0 t.kind ≡ false → is_sign 2 t.kind ≡ false → is_sign 4 t.kind ≡ false → IsLeaf t.at (leaf_atom t) None → first_of more ≡ Some t → Finds (λ a. ⊥) read_atom more
 unfolding leaf_read
@@ -119,10 +120,10 @@ nothing_finds t ts (u ∷ more) one two three other first = subst (λ v. Finds (
 
 pub leaf_refused : (room : ℕ) (t : Token) (ts : List Token) (stop : Stop) → is_sign_next 0 (t ∷ ts) ≡ false → is_sign_next 2 (t ∷ ts) ≡ false → is_sign_next 4 (t ∷ ts) ≡ false → IsLeaf t.at (leaf_atom t) None → IsAtFirst (t ∷ ts) stop
     → Refused atom_part room (t ∷ ts) stop
-leaf_refused room t ts stop one two three other is = refused_at_first atom_part room (t ∷ ts) stop atom_begins (λ more first. nothing_finds t ts more one two three other first) is
+leaf_refused room t ts stop one two three other is = refused_at_first atom_part room (t ∷ ts) stop (atom_begins room) (λ more first. nothing_finds t ts more one two three other first) is
 
 pub no_token : (room : ℕ) (stop : Stop) → IsAtFirst [] stop → Refused atom_part room [] stop
-no_token room stop is = refused_at_first atom_part room [] stop atom_begins (λ more first. by more first) is
+no_token room stop is = refused_at_first atom_part room [] stop (atom_begins room) (λ more first. by more first) is
   where
     by : (more : List Token) → first_of more ≡ first_of [] → Finds (λ a. ⊥) read_atom more
     by [] first = finds_at_once _ read_atom [] (λ n. tt)
@@ -152,7 +153,7 @@ atom_here (suc n) (Sign sign) t ts at is =
     tt))
 
 atom_full : (room : ℕ) (before : List Token) (t : Token) (ts : List Token) (at : Pos) (stop : Stop) → before ≡ t ∷ ts → t.at ≡ at → Begins atom_part (t ∷ []) → IsTooDeep 0 at room stop → Refused atom_part room before stop
-atom_full room before t ts at stop is place begins deep = full atom_part room before [] t ts 0 at stop deep is atom_begins begins (λ more. finds_at_once _ read_atom (t ∷ more) (λ n. atom_here n t.kind t more at place))
+atom_full room before t ts at stop is place begins deep = full atom_part room before [] t ts 0 at stop deep is (atom_begins room) begins (λ more. finds_at_once _ read_atom (t ∷ more) (λ n. atom_here n t.kind t more at place))
 
 pub leaf_full : (room : ℕ) (before : List Token) (t : Token) (ts : List Token) (found : Option Part) (part : Part) (stop : Stop) → before ≡ t ∷ ts → IsLeaf t.at (leaf_atom t) found → found ≡ Some part → IsTooDeep 0 t.at room stop → Refused atom_part room before stop
 leaf_full room before t ts found part stop is leaf some_there deep = atom_full room before t ts t.at stop is refl (by (leaf_atom t) (leaf_all t.kind (spot_of t)) (subst (IsLeaf t.at (leaf_atom t)) some_there leaf)) deep
@@ -163,13 +164,13 @@ leaf_full room before t ts found part stop is leaf some_there deep = atom_full r
 
 -- the signs that open an atom
 pub round_opens : (spot : Spot) → Begins atom_part (token (Sign 0) spot ∷ [])
-round_opens spot = record { some = grouped spot no_items no_spot; more = token (Sign 1) no_spot ∷ []; tokens_are = refl }
+round_opens spot = record { some = grouped spot no_items some_spot; more = token (Sign 1) some_spot ∷ []; tokens_are = refl }
 
 pub square_opens : (spot : Spot) → Begins atom_part (token (Sign 2) spot ∷ [])
-square_opens spot = record { some = list spot no_items no_spot; more = token (Sign 3) no_spot ∷ []; tokens_are = refl }
+square_opens spot = record { some = list spot no_items some_spot; more = token (Sign 3) some_spot ∷ []; tokens_are = refl }
 
 pub curly_opens : (spot : Spot) → Begins atom_part (token (Sign 4) spot ∷ [])
-curly_opens spot = record { some = dict spot no_pairs no_spot; more = token (Sign 5) no_spot ∷ []; tokens_are = refl }
+curly_opens spot = record { some = dict spot no_pairs some_spot; more = token (Sign 5) some_spot ∷ []; tokens_are = refl }
 
 pub opening_full : (k room : ℕ) (before after : List Token) (at : Pos) (stop : Stop) → ((spot : Spot) → Begins atom_part (token (Sign k) spot ∷ [])) → Taken (Sign k) before at after → IsTooDeep 0 at room stop → Refused atom_part room before stop
 opening_full k room before after at stop opens taken deep = atom_full room before (token (Sign k) taken.spot) after at stop taken.before_is taken.at_is (opens taken.spot) deep
@@ -251,9 +252,14 @@ module _ {A : Type 0} (q : Production A) (opening closing : ℕ) (make : Spot �
     (tokens_are : (spot : Spot) (w : A × Spot) → atom_tokens (make spot w) ≡ token (Sign opening) spot ∷ q.tokens w.0 ++ token (Sign closing) w.1 ∷ [])
     (lies_is : (spot : Spot) (w : A × Spot) (at : Pos) → atom_lies (make spot w) at ≡ over (is_place spot.at at) (q.lies w.0 at))
     (reads_is : (n : ℕ) (spot : Spot) (ts : List Token) → read_atom (suc (suc n)) (token (Sign opening) spot ∷ ts) ≡ go_on (read_closed q.read closing n ts) (λ w rest. Some (make spot w, rest))) where
-  in_atom : (room inner : ℕ) (spot : Spot) (rest : List Token) → room ≤ suc inner → Inside atom_part room (closed q closing) inner (token (Sign opening) spot ∷ []) rest
-  in_atom room inner spot rest less = record {
-    begins = λ w. record { some = make spot w; more = []; tokens_are = tokens_are spot w ∙ behind_sign (token (Sign opening) spot) (q.tokens w.0 ++ token (Sign closing) w.1 ∷ []) };
+  in_atom : (room inner : ℕ) (spot : Spot) (rest : List Token) → room ≤ suc inner → inner < room → Inside atom_part room (closed q closing) inner (token (Sign opening) spot ∷ []) rest
+  in_atom room inner spot rest less smaller = record {
+    begins = λ at w. record {
+      some = make spot w;
+      more = [];
+      tokens_are = tokens_are spot w ∙ behind_sign (token (Sign opening) spot) (q.tokens w.0 ++ token (Sign closing) w.1 ∷ []);
+      within = λ other apart low. let is = lies_is spot w other in let whole = over_within (is_place spot.at other) (q.lies w.0 other) inner room smaller low in omega (arith, is, whole);
+    };
     finds = λ stop more first finds. record {
       steps = suc (suc finds.steps);
       only = λ n. only_is _ _ _ (more_steps (λ m. read_atom m (token (Sign opening) spot ∷ more)) (n + suc (suc finds.steps)) (suc (suc (n + finds.steps))) (omega arith) ∙ reads_is (n + finds.steps) spot more)
@@ -261,21 +267,21 @@ module _ {A : Type 0} (q : Production A) (opening closing : ℕ) (make : Spot �
     };
   }
 
-  pub atom_refused : (room inner : ℕ) (before middle : List Token) (at : Pos) (stop : Stop) → Taken (Sign opening) before at middle → room ≤ suc inner → Refused (closed q closing) inner middle stop → Refused atom_part room before stop
-  atom_refused room inner before middle at stop k less is = refused_same atom_part room before _ stop k.before_is
-      (refused_inside atom_part room (closed q closing) inner (token (Sign opening) k.spot ∷ []) middle stop (in_atom room inner k.spot middle less) is)
+  pub atom_refused : (room inner : ℕ) (before middle : List Token) (at : Pos) (stop : Stop) → Taken (Sign opening) before at middle → room ≤ suc inner → inner < room → Refused (closed q closing) inner middle stop → Refused atom_part room before stop
+  atom_refused room inner before middle at stop k less smaller is = refused_same atom_part room before _ stop k.before_is
+      (refused_inside atom_part room (closed q closing) inner (token (Sign opening) k.spot ∷ []) middle stop (in_atom room inner k.spot middle less smaller) is)
 
-pub group_refused : (room inner : ℕ) (before middle : List Token) (at : Pos) (stop : Stop) → Taken (Sign 0) before at middle → room ≤ suc inner → Refused (closed group_part 1) inner middle stop → Refused atom_part room before stop
-group_refused room inner before middle at stop k less is = atom_refused group_part 0 1 (λ spot w. grouped spot w.0 w.1) (λ spot w. grouped_tokens spot w.0 w.1) (λ spot w place. grouped_lies spot w.0 w.1 place)
-    (λ n spot ts. closed_once (read_items n 1 ts) (read_sign 1) (λ w. grouped spot w.0 w.1)) room inner before middle at stop k less is
+pub group_refused : (room inner : ℕ) (before middle : List Token) (at : Pos) (stop : Stop) → Taken (Sign 0) before at middle → room ≤ suc inner → inner < room → Refused (closed group_part 1) inner middle stop → Refused atom_part room before stop
+group_refused room inner before middle at stop k less smaller is = atom_refused group_part 0 1 (λ spot w. grouped spot w.0 w.1) (λ spot w. grouped_tokens spot w.0 w.1) (λ spot w place. grouped_lies spot w.0 w.1 place)
+    (λ n spot ts. closed_once (read_items n 1 ts) (read_sign 1) (λ w. grouped spot w.0 w.1)) room inner before middle at stop k less smaller is
 
-pub list_refused : (room inner : ℕ) (before middle : List Token) (at : Pos) (stop : Stop) → Taken (Sign 2) before at middle → room ≤ suc inner → Refused (closed (items_part 3) 3) inner middle stop → Refused atom_part room before stop
-list_refused room inner before middle at stop k less is = atom_refused (items_part 3) 2 3 (λ spot w. list spot w.0 w.1) (λ spot w. refl) (λ spot w place. refl)
-    (λ n spot ts. closed_once (read_items n 3 ts) (read_sign 3) (λ w. list spot w.0 w.1)) room inner before middle at stop k less is
+pub list_refused : (room inner : ℕ) (before middle : List Token) (at : Pos) (stop : Stop) → Taken (Sign 2) before at middle → room ≤ suc inner → inner < room → Refused (closed (items_part 3) 3) inner middle stop → Refused atom_part room before stop
+list_refused room inner before middle at stop k less smaller is = atom_refused (items_part 3) 2 3 (λ spot w. list spot w.0 w.1) (λ spot w. refl) (λ spot w place. refl)
+    (λ n spot ts. closed_once (read_items n 3 ts) (read_sign 3) (λ w. list spot w.0 w.1)) room inner before middle at stop k less smaller is
 
-pub dict_refused : (room inner : ℕ) (before middle : List Token) (at : Pos) (stop : Stop) → Taken (Sign 4) before at middle → room ≤ suc inner → Refused (closed pairs_part 5) inner middle stop → Refused atom_part room before stop
-dict_refused room inner before middle at stop k less is = atom_refused pairs_part 4 5 (λ spot w. dict spot w.0 w.1) (λ spot w. refl) (λ spot w place. refl)
-    (λ n spot ts. closed_once (read_pairs n ts) (read_sign 5) (λ w. dict spot w.0 w.1)) room inner before middle at stop k less is
+pub dict_refused : (room inner : ℕ) (before middle : List Token) (at : Pos) (stop : Stop) → Taken (Sign 4) before at middle → room ≤ suc inner → inner < room → Refused (closed pairs_part 5) inner middle stop → Refused atom_part room before stop
+dict_refused room inner before middle at stop k less smaller is = atom_refused pairs_part 4 5 (λ spot w. dict spot w.0 w.1) (λ spot w. refl) (λ spot w place. refl)
+    (λ n spot ts. closed_once (read_pairs n ts) (read_sign 5) (λ w. dict spot w.0 w.1)) room inner before middle at stop k less smaller is
 
 -- ---- what round brackets group
 
@@ -291,7 +297,7 @@ group_some room before middle after at closing inside part r k tree height deepe
 
 group_inside : (room : ℕ) (rest : List Token) → is_sign_next 1 rest ≡ false → Inside group_part room exprs_part room [] rest
 group_inside room rest other = record {
-  begins = λ b. record { some = items b; more = []; tokens_are = sym (append-nil (exprs_tokens b)) };
+  begins = λ at b. record { some = items b; more = []; tokens_are = sym (append-nil (exprs_tokens b)); within = λ other apart low. low };
   finds = λ stop more first finds. items_finds 1 _ more (sign_first 1 rest more first ∙ other) finds;
 }
 
@@ -300,4 +306,5 @@ group_first room before stop other is = closed_first group_part 1 room before st
 
 pub group_last : (room : ℕ) (before middle : List Token) (inside : Part) (stop : Stop) → FoundRow room before inside middle → Refused (one_sign 1) 0 middle stop → Refused (closed group_part 1) room before stop
 group_last room before middle inside stop r is = closed_last group_part 1 room (items r.written) before middle stop r.before_is
-    (let read = items_is_read 1 r.written middle refl (exprs_is_read r.written middle r.beyond r.no_more) in record { steps = read.steps; reads = read.reads }) is
+    (let read = items_is_read 1 r.written middle refl (exprs_is_read r.written middle r.beyond r.no_more) in record { steps = read.steps; reads = read.reads })
+    (λ at. let low = exprs_low r.written at in let same = r.height_is in let fits = r.fits in omega (arith, low, same, fits)) is

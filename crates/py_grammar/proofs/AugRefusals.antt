@@ -1,5 +1,5 @@
 -- Augmented assignments: what is read, and how it is refused.
-use Rattle.std.proofs.Common.{◌≡◌, ℕ, ◌<◌, true, false, List, [], ◌∷◌, ◌++◌, Option, Some, None, option_map, option_and_then, is_none, is_some, refl, ap, sym, ◌∙◌, arith, length}
+use Rattle.std.proofs.Common.{◌≡◌, ℕ, ◌≤◌, ◌<◌, true, false, List, [], ◌∷◌, ◌++◌, Option, Some, None, option_map, option_and_then, is_none, is_some, refl, ap, sym, ◌∙◌, arith, length}
 use Rattle.std.proofs.Math.Nat.{le-max_right}
 use Rattle.std.proofs.lemmas.Option.{same_Some}
 use Rattle.prov_base.specs.declared.place.Pos.{Pos}
@@ -31,6 +31,8 @@ use Rattle.py_grammar.proofs.Refusals.{max_below}
 use Rattle.py_grammar.proofs.SimpleReading.{target_expr}
 use Rattle.py_grammar.proofs.TargetForms.{target_is, target_deep, target_spelled, target_tree_is}
 use Rattle.py_grammar.proofs.AugForms.{aug_number}
+use Rattle.py_grammar.proofs.LyingLines.{one_target_low}
+use Rattle.py_grammar.proofs.SimpleParts.{row_fits}
 use Rattle.py_grammar.proofs.ExprRefusals.{Builds, value_refused, value_more, value_found, behind_sign, sign_wrong}
 
 -- ---- the operator
@@ -102,30 +104,33 @@ single_tree (several e comma rest) t is = absurd (let no : None ≡ Some t = is 
 
 -- ---- what is read and refused
 
-aug_builds : (e : Exprs) (which : AugSign) (spot : Spot) (t : OneTarget) → single_target e ≡ Some t → Builds e (token (Sign (aug_number which)) spot) (augmented t which spot)
-aug_builds e which spot t is = record {
+aug_builds : (e : Exprs) (which : AugSign) (spot : Spot) (t : OneTarget) → single_target e ≡ Some t → exprs_depth e ≤ 100 → Builds e (token (Sign (aug_number which)) spot) (augmented t which spot)
+aug_builds e which spot t is low = record {
   level = aug_level which;
   no_start = aug_starts which;
   reads = λ n more. aug_reads which e spot n more ∙ ap (option_and_then (λ target. option_map (augmented target which spot) (whole (read_exprs n more)))) is;
   spells = λ v. ap (λ ts. ts ++ (token (Sign (aug_number which)) spot ∷ exprs_tokens v)) (sym (single_spelled e t is));
+  stands = λ around v. refl;
   deep = λ v at. le-max_right (one_target_lies t at) (exprs_lies v at);
+  within = λ v at inner. let deep = single_deep e t is in let high = one_target_low t at in max_below _ _ 100 (omega (arith, deep, high, low)) inner;
+  fits = λ v inner. let deep = single_deep e t is in max_below _ _ 100 (omega (arith, deep, low)) inner;
 }
 
-aug_none : (around : Around) (e : Exprs) (which : AugSign) (spot : Spot) (before after : List Token) (left : ℕ) → single_target e ≡ None → left ≡ length after → before ≡ exprs_tokens e ++ token (Sign (aug_number which)) spot ∷ after
+aug_none : (around : Around) (e : Exprs) (which : AugSign) (spot : Spot) (before after : List Token) (left : ℕ) → single_target e ≡ None → exprs_depth e ≤ 100 → left ≡ length after → before ≡ exprs_tokens e ++ token (Sign (aug_number which)) spot ∷ after
     → SimpleRefused around before (Here (Unexpected left))
-aug_none around e which spot before after left none counted is = sign_wrong around e (token (Sign (aug_number which)) spot) before after left counted (aug_level which) (aug_starts which)
+aug_none around e which spot before after left none fits counted is = sign_wrong around e (token (Sign (aug_number which)) spot) before after left fits counted (aug_level which) (aug_starts which)
     (λ n more. aug_reads which e spot n more ∙ ap (option_and_then (λ target. option_map (augmented target which spot) (whole (read_exprs n more)))) none) is
 
 pub aug_tuple : (first : Part) (at : Pos) (op : BinOp) (behind : List Token) (left : ℕ) → is_tuple_tree (expr_of first.expr) ≡ true → left ≡ length behind → RefusedAfterOp first at op behind (Here (Unexpected left))
 aug_tuple first at op behind left tuple counted = record {
   there = λ around before middle f k.
-      aug_none around f.written k.which k.spot before behind left (tuple_no_single f.written (ap is_tuple_tree (sym f.tree_is) ∙ tuple)) counted (behind_sign f k.before_is);
+      aug_none around f.written k.which k.spot before behind left (tuple_no_single f.written (ap is_tuple_tree (sym f.tree_is) ∙ tuple)) (row_fits f) counted (behind_sign f k.before_is);
 }
 
 pub aug_wrong : (first : Part) (at : Pos) (op : BinOp) (behind : List Token) (left : ℕ) → is_none first.wrong ≡ false → left ≡ length behind → RefusedAfterOp first at op behind (Here (Unexpected left))
 aug_wrong first at op behind left other counted = record {
   there = λ around before middle f k.
-      aug_none around f.written k.which k.spot before behind left (no_single f.written (sym f.form_is ∙ other)) counted (behind_sign f k.before_is);
+      aug_none around f.written k.which k.spot before behind left (no_single f.written (sym f.form_is ∙ other)) (row_fits f) counted (behind_sign f k.before_is);
 }
 
 first_single : {before middle : List Token} {first : Part} → (f : FoundRow 100 before first middle) → is_tuple_tree (expr_of first.expr) ≡ false → is_none first.wrong ≡ true → (t : OneTarget) × (single_target f.written ≡ Some t)
@@ -141,7 +146,7 @@ pub aug_refused : (first : Part) (at : Pos) (op : BinOp) (behind : List Token) (
 aug_refused first at op behind stop single fine refused = record {
   there = λ around before middle f k.
       let t = first_single f single fine in
-      value_refused around f.written (token (Sign (aug_number k.which)) k.spot) (augmented t.0 k.which k.spot) before behind stop (aug_builds f.written k.which k.spot t.0 t.1) (behind_sign f k.before_is) refused;
+      value_refused around f.written (token (Sign (aug_number k.which)) k.spot) (augmented t.0 k.which k.spot) before behind stop (aug_builds f.written k.which k.spot t.0 t.1 (row_fits f)) (behind_sign f k.before_is) refused;
 }
 
 pub aug_more : (first : Part) (at : Pos) (op : BinOp) (behind last : List Token) (value : Part) (stop : Stop) → is_tuple_tree (expr_of first.expr) ≡ false → is_none first.wrong ≡ true → FoundRow 100 behind value last
@@ -149,7 +154,7 @@ pub aug_more : (first : Part) (at : Pos) (op : BinOp) (behind last : List Token)
 aug_more first at op behind last value stop single fine v more = record {
   there = λ around before middle f k.
       let t = first_single f single fine in
-      value_more around f.written (token (Sign (aug_number k.which)) k.spot) (augmented t.0 k.which k.spot) before behind last value stop (aug_builds f.written k.which k.spot t.0 t.1) (behind_sign f k.before_is) v more;
+      value_more around f.written (token (Sign (aug_number k.which)) k.spot) (augmented t.0 k.which k.spot) before behind last value stop (aug_builds f.written k.which k.spot t.0 t.1 (row_fits f)) (behind_sign f k.before_is) v more;
 }
 
 pub aug_found : (first : Part) (at : Pos) (op : BinOp) (behind last : List Token) (target : BuiltTarget) (value : Part) (form : Form) → is_tuple_tree (expr_of first.expr) ≡ false → is_none first.wrong ≡ true
@@ -157,8 +162,7 @@ pub aug_found : (first : Part) (at : Pos) (op : BinOp) (behind last : List Token
 aug_found first at op behind last target value form single fine built v ends tree around before middle f k =
     let t = first_single f single fine in
     let same : target_of target ≡ one_target_tree t.0 = same_Some _ _ (sym built ∙ ap target_form f.tree_is ∙ single_tree f.written t.0 t.1) in
-    value_found around f.written (token (Sign (aug_number k.which)) k.spot) (augmented t.0 k.which k.spot) before behind last value form (aug_builds f.written k.which k.spot t.0 t.1) (behind_sign f k.before_is) v ends
+    value_found around f.written (token (Sign (aug_number k.which)) k.spot) (augmented t.0 k.which k.spot) before behind last value form (aug_builds f.written k.which k.spot t.0 t.1 (row_fits f)) (behind_sign f k.before_is) v ends
     (tree ∙ ap (λ t. aug_form t op at (expr_of value.expr)) same ∙ ap (λ o. aug_form (one_target_tree t.0) o at (expr_of value.expr)) k.op_is
     ∙ ap (λ p. aug_form (one_target_tree t.0) (aug_op k.which) p (expr_of value.expr)) (sym k.at_is) ∙ ap (aug_form (one_target_tree t.0) (aug_op k.which) k.spot.at) v.tree_is)
     (let high = f.height_is in let low = f.fits in let deep = single_deep f.written t.0 t.1 in let high_2 = v.height_is in let low_2 = v.fits in max_below _ _ 100 (omega (arith, high, low, deep)) (omega (arith, high_2, low_2)))
-    refl

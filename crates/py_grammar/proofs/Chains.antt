@@ -13,14 +13,14 @@ use Rattle.py_grammar.specs.declared.part.Part.{Part}
 use Rattle.py_grammar.specs.Parsed.{Production, Found, IsDeep, Only, Refused, IsTooDeep}
 use Rattle.py_grammar.specs.Reader.{Read, go_on, kind_level, next_level}
 use Rattle.py_grammar.proofs.Leading.{Leads}
-use Rattle.py_grammar.proofs.Refusals.{Inside, finds_first, finds_lead, finds_same, finds_anything, deeper, deep_same, refused_inside, refused_same, one_behind, begins_up_to, full, over_both, fits_above}
+use Rattle.py_grammar.proofs.Refusals.{Inside, finds_first, finds_lead, finds_same, finds_anything, deeper, deep_same, refused_inside, refused_same, one_behind, begins_up_to, begins_whole, node_within, full, over_both, fits_above}
 use Rattle.py_grammar.specs.Lies.{begins, over, deeper_of}
 use Rattle.py_grammar.proofs.Lying.{deepest_node, over_left, over_right}
 
 -- A level `p` of operators over the level `q`: one of `q`, or one of `p`, an operator and one of `q`.
 pub record Chain {C S O : Type 0} (p : Production C) (q : Production S) (tree : C → ExprTree) (part_tree : S → ExprTree) (level : ℕ) (one : S → C) (next : C → O → S → C) (token_of : O → Token)
     (node : O → ExprTree → ExprTree → ExprTree) (rest : ℕ → C → List Token → Read C) : Type 0 where
-  pub some : S
+  pub some : Pos → S
   pub read_is : (n : ℕ) (ts : List Token) → p.read (suc n) ts ≡ go_on (q.read n ts) (λ s more. rest n (one s) more)
   pub step_is : (n : ℕ) (left : C) (o : O) (more : List Token) → rest (suc n) left (token_of o ∷ more) ≡ go_on (q.read n more) (λ s behind. rest n (next left o s) behind)
   pub tokens_one : (s : S) → p.tokens (one s) ≡ q.tokens s
@@ -81,7 +81,7 @@ module _ {C S O : Type 0} (p : Production C) (q : Production S) (tree : C → Ex
 
   starts_inside : (room : ℕ) (behind : List Token) → Inside p room q room [] behind
   starts_inside room behind = record {
-    begins = λ b. record { some = one b; more = []; tokens_are = chain.tokens_one b ∙ sym (append-nil (q.tokens b)) };
+    begins = λ at b. record { some = one b; more = []; tokens_are = chain.tokens_one b ∙ sym (append-nil (q.tokens b)); within = λ other apart low. let is = chain.lies_one b other in omega (arith, is, low) };
     finds = λ stop more first finds. finds_first _ _ p.read q.read (λ n s ts. rest n (one s) ts) more more (λ n. chain.read_is n more)
         (λ n b ts deep. chain.rest_deep stop room n (one b) ts (deep_same stop room (q.lies b) (p.lies (one b)) (λ at. sym (chain.lies_one b at)) deep)) finds;
   }
@@ -89,9 +89,18 @@ module _ {C S O : Type 0} (p : Production C) (q : Production S) (tree : C → Ex
   pub first_refused : (room : ℕ) (before : List Token) (stop : Stop) → Refused q room before stop → Refused p room before stop
   first_refused room before stop is = refused_inside p room q room [] before stop (starts_inside room before) is
 
-  goes_on_inside : (room inner : ℕ) (left : C) (o : O) (behind : List Token) → room ≤ suc inner → Inside p room q inner (p.tokens left ++ token_of o ∷ []) behind
-  goes_on_inside room inner left o behind less = record {
-    begins = λ b. record { some = next left o b; more = []; tokens_are = chain.tokens_next left o b ∙ one_behind (p.tokens left) (token_of o) (q.tokens b) };
+  goes_on_inside : (room inner : ℕ) (left : C) (o : O) (behind : List Token) → room ≤ suc inner → inner < room → p.depth left ≤ inner → Inside p room q inner (p.tokens left ++ token_of o ∷ []) behind
+  goes_on_inside room inner left o behind less smaller fits = record {
+    begins = λ at b. record {
+      some = next left o b;
+      more = [];
+      tokens_are = chain.tokens_next left o b ∙ one_behind (p.tokens left) (token_of o) (q.tokens b);
+      within = λ other apart low.
+          let left_low = chain.low left other in
+          let is = chain.lies_next left o b other in
+          let whole = node_within (begins (p.tokens left) other) (p.lies left other) (q.lies b other) inner room smaller (omega (arith, left_low, fits)) low in
+          omega (arith, is, whole);
+    };
     finds = λ stop more first finds. finds_same _ p.read _ _ (append_assoc (p.tokens left) (token_of o ∷ []) more)
         (finds_lead _ p.read rest level (p.tokens left) left (token_of o ∷ more) (chain.leads left) (chain.above o)
         (finds_first _ _ (λ n ts. rest n left ts) q.read (λ n s ts. rest n (next left o s) ts) (token_of o ∷ more) more (λ n. chain.step_is n left o more)
@@ -100,17 +109,17 @@ module _ {C S O : Type 0} (p : Production C) (q : Production S) (tree : C → Ex
         finds));
   }
 
-  pub next_refused : (room inner : ℕ) (before middle behind : List Token) (o : O) (left : Part) (stop : Stop) → Found p tree level room before left middle → middle ≡ token_of o ∷ behind → room ≤ suc inner
-      → Refused q inner behind stop → Refused p room before stop
-  next_refused room inner before middle behind o left stop l taken less is =
+  pub next_refused : (room inner : ℕ) (before middle behind : List Token) (o : O) (left : Part) (stop : Stop) → Found p tree level room before left middle → middle ≡ token_of o ∷ behind → left.height < room → room ≤ suc inner
+      → inner < room → Refused q inner behind stop → Refused p room before stop
+  next_refused room inner before middle behind o left stop l taken fits less smaller is =
       refused_same p room _ _ stop (l.before_is ∙ ap (λ ts. p.tokens l.written ++ ts) taken ∙ sym (append_assoc (p.tokens l.written) (token_of o ∷ []) behind))
-      (refused_inside p room q inner (p.tokens l.written ++ token_of o ∷ []) behind stop (goes_on_inside room inner l.written o behind less) is)
+      (refused_inside p room q inner (p.tokens l.written ++ token_of o ∷ []) behind stop (goes_on_inside room inner l.written o behind less smaller (let same = l.height_is in omega (arith, fits, less, same))) is)
 
   pub too_deep : (room : ℕ) (before middle behind : List Token) (o : O) (left : Part) (stop : Stop) → Found p tree level room before left middle → middle ≡ token_of o ∷ behind → IsTooDeep left.height left.deepest room stop
       → Refused p room before stop
   too_deep room before middle behind o left stop l taken deep = full p room before (p.tokens l.written) (token_of o) behind left.height left.deepest stop deep
-      (l.before_is ∙ ap (λ ts. p.tokens l.written ++ ts) taken) (record { some = l.written; more = []; tokens_are = sym (append-nil (p.tokens l.written)) })
-      (begins_up_to p (next l.written o chain.some) (p.tokens l.written) (token_of o) (q.tokens chain.some) (chain.tokens_next l.written o chain.some))
+      (l.before_is ∙ ap (λ ts. p.tokens l.written ++ ts) taken) (begins_whole p room l.written (λ at. let low = chain.low l.written at in let is = l.height_is in let fits = l.fits in omega (arith, low, is, fits)))
+      (begins_up_to p (next l.written o (chain.some left.deepest)) (p.tokens l.written) (token_of o) (q.tokens (chain.some left.deepest)) (chain.tokens_next l.written o (chain.some left.deepest)))
       (λ more. finds_lead _ p.read rest level (p.tokens l.written) l.written (token_of o ∷ more) (chain.leads l.written) (chain.above o)
       (finds_first (λ s. ⊤) _ (λ n ts. rest n l.written ts) q.read (λ n s ts. rest n (next l.written o s) ts) (token_of o ∷ more) more (λ n. chain.step_is n l.written o more)
       (λ n b ts any. chain.rest_deep (Here (TooDeep left.deepest)) left.height n (next l.written o b) ts

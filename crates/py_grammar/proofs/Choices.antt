@@ -1,5 +1,5 @@
 -- Conditionals: what is read of them, and how they are refused.
-use Rattle.std.proofs.Common.{◌≡◌, ℕ, zero, suc, ◌+◌, max, ◌≤◌, ◌<◌, false, List, [], ◌∷◌, ◌++◌, Some, is_none, refl, ap, sym, ◌∙◌, arith, append_assoc}
+use Rattle.std.proofs.Common.{◌≡◌, ℕ, zero, suc, ◌+◌, max, ◌≤◌, ◌<◌, Bool, false, List, [], ◌∷◌, ◌++◌, Some, is_none, refl, ap, sym, ◌∙◌, arith, append_assoc}
 use Rattle.std.specs.Prelude.{◌==◌}
 use Rattle.std.proofs.lemmas.List.{append-nil}
 use Rattle.prov_base.specs.declared.place.Pos.{Pos}
@@ -15,23 +15,23 @@ use Rattle.py_grammar.specs.Concrete.{Spot, Expr, plain_expr, choice, Or, plain_
 use Rattle.py_grammar.specs.Tokens.{token, expr_tokens, or_tokens}
 use Rattle.py_grammar.specs.Trees.{expr_tree, or_tree}
 use Rattle.py_grammar.specs.Depth.{expr_depth, or_depth}
-use Rattle.py_grammar.specs.Lies.{begins, deeper_of, expr_lies, or_lies}
+use Rattle.py_grammar.specs.Lies.{begins, over, deeper_of, expr_lies, or_lies}
 use Rattle.py_grammar.proofs.Lying.{deepest_here, deepest_node, above_left, both_low, expr_low, or_low, or_above}
 use Rattle.py_grammar.specs.Reader.{Read, go_on, next_level, read_keyword, read_expr, choice_rest, read_or}
 use Rattle.py_grammar.specs.Parsed.{expr_part, or_part, one_keyword, Taken, Found, IsDeep, Only, Refused, IsTooDeep, is_keyword_next}
 use Rattle.py_grammar.proofs.Leading.{Reads}
 use Rattle.py_grammar.proofs.Reading.{or_leads, or_stops}
 use Rattle.py_grammar.proofs.Levels.{beyond_if}
-use Rattle.py_grammar.proofs.Refusals.{Inside, only_any, only_if, finds_first, finds_behind, finds_after, finds_now, finds_anything, finds_same, deep_left, deep_right, deep_beside_left, deep_beside_right, refused_inside, refused_same, begins_up_to, full, two_behind, one_between, last_behind, next_level_same, max_below}
-use Rattle.py_grammar.proofs.Stops.{some_spot}
+use Rattle.py_grammar.proofs.Refusals.{Inside, begins_whole, alone_elsewhere, node_within, only_any, only_if, finds_first, finds_behind, finds_after, finds_now, finds_anything, finds_same, deep_left, deep_right, deep_beside_left, deep_beside_right, refused_inside, refused_same, begins_up_to, full, two_behind, one_between, last_behind, next_level_same, max_below}
+use Rattle.py_grammar.proofs.Stops.{spot_at}
 use Rattle.py_grammar.proofs.Prefixes.{some_not}
 
--- expressions, where any will do
-some_or : Or
-some_or = plain_or (plain_and some_not)
+-- expressions at this place, where any will do
+abbrev some_or : Pos → Or
+some_or at = plain_or (plain_and (some_not at))
 
-pub some_expr : Expr
-some_expr = plain_expr some_or
+abbrev pub some_expr : Pos → Expr
+some_expr at = plain_expr (some_or at)
 
 reads_or : (e : Or) → Reads read_or 6 (or_tokens e) e
 reads_or e = or_stops e (or_leads e)
@@ -103,7 +103,7 @@ choice_deep stop room (suc n) chosen ts deep = only_if _ (next_level ts == 7) _ 
 
 chosen_inside : (room : ℕ) (behind : List Token) → Inside expr_part room or_part room [] behind
 chosen_inside room behind = record {
-  begins = λ b. record { some = plain_expr b; more = []; tokens_are = sym (append-nil (or_tokens b)) };
+  begins = λ at b. record { some = plain_expr b; more = []; tokens_are = sym (append-nil (or_tokens b)); within = λ other apart low. low };
   finds = λ stop more first finds. finds_first _ _ read_expr read_or choice_rest more more (λ n. refl) (λ n b ts deep. choice_deep stop room n b ts deep) finds;
 }
 
@@ -113,17 +113,28 @@ chosen_refused room before stop is = refused_inside expr_part room or_part room 
 pub choice_full : (room : ℕ) (before middle behind : List Token) (at : Pos) (chosen : Part) (stop : Stop) → Found or_part or_tree 6 room before chosen middle → Taken (Keyword 20) middle at behind → IsTooDeep chosen.height chosen.deepest room stop
     → Refused expr_part room before stop
 choice_full room before middle behind at chosen stop c i deep = full expr_part room before (or_tokens c.written) (token (Keyword 20) i.spot) behind chosen.height chosen.deepest stop deep
-    (c.before_is ∙ ap (λ ts. or_tokens c.written ++ ts) i.before_is) (record { some = plain_expr c.written; more = []; tokens_are = sym (append-nil (or_tokens c.written)) })
-    (begins_up_to expr_part (choice c.written i.spot some_or some_spot some_expr) (or_tokens c.written) (token (Keyword 20) i.spot) (or_tokens some_or ++ token (Keyword 14) some_spot ∷ expr_tokens some_expr) refl)
+    (c.before_is ∙ ap (λ ts. or_tokens c.written ++ ts) i.before_is) (begins_whole expr_part room (plain_expr c.written) (λ at. let low = or_low c.written at in let is = c.height_is in let fits = c.fits in omega (arith, low, is, fits)))
+    (begins_up_to expr_part (choice c.written i.spot (some_or at) (spot_at at) (some_expr at)) (or_tokens c.written) (token (Keyword 20) i.spot) (or_tokens (some_or at) ++ token (Keyword 14) (spot_at at) ∷ expr_tokens (some_expr at)) refl)
     (λ more. finds_behind _ read_expr read_or choice_rest 6 (or_tokens c.written) c.written (token (Keyword 20) i.spot ∷ more) (λ n. refl) (reads_or c.written) (omega arith)
     (finds_first _ _ (λ n ts. choice_rest n c.written ts) read_or (after_test c.written i.spot) (token (Keyword 20) i.spot ∷ more) more (λ n. refl)
     (λ n test ts any. only_any _ (read_keyword 14 ts) _ (λ else_word more_3. only_any _ (read_expr n more_3) _
     (λ other rest. above_left (begins (or_tokens c.written) chosen.deepest) (or_lies c.written chosen.deepest) (max (or_lies test chosen.deepest) (expr_lies other chosen.deepest)) chosen.height (or_depth c.written) c.height_is c.deepest_is (or_above c.written))))
     (finds_anything read_or more)))
 
-test_inside : (room inner : ℕ) (chosen : Or) (spot : Spot) (behind : List Token) → room ≤ suc inner → Inside expr_part room or_part inner (or_tokens chosen ++ token (Keyword 20) spot ∷ []) behind
-test_inside room inner chosen spot behind less = record {
-  begins = λ b. record { some = choice chosen spot b some_spot some_expr; more = _; tokens_are = two_behind (or_tokens chosen) (token (Keyword 20) spot) (or_tokens b) (token (Keyword 14) some_spot ∷ expr_tokens some_expr) };
+-- a choice lies within the room
+choice_within : (room inner : ℕ) (chosen : Or) (here : Bool) (test other : ℕ) (at : Pos) → inner < room → or_depth chosen ≤ inner → test ≤ inner → other ≤ inner → over here (max (or_lies chosen at) (max test other)) ≤ room
+choice_within room inner chosen here test other at smaller fits one two = let low = or_low chosen at in
+    node_within here (or_lies chosen at) (max test other) inner room smaller (omega (arith, low, fits)) (max_below test other inner one two)
+
+test_inside : (room inner : ℕ) (chosen : Or) (spot : Spot) (behind : List Token) → room ≤ suc inner → inner < room → or_depth chosen ≤ inner → Inside expr_part room or_part inner (or_tokens chosen ++ token (Keyword 20) spot ∷ []) behind
+test_inside room inner chosen spot behind less smaller fits = record {
+  begins = λ at b. record {
+    some = choice chosen spot b (spot_at at) (some_expr at);
+    more = _;
+    tokens_are = two_behind (or_tokens chosen) (token (Keyword 20) spot) (or_tokens b) (token (Keyword 14) (spot_at at) ∷ expr_tokens (some_expr at));
+    within = λ other apart low. let alone = alone_elsewhere at other apart in
+        choice_within room inner chosen (begins (or_tokens chosen) other) (or_lies b other) (expr_lies (some_expr at) other) other smaller fits low (omega (arith, alone));
+  };
   finds = λ stop more first finds. finds_same _ read_expr _ _ (append_assoc (or_tokens chosen) (token (Keyword 20) spot ∷ []) more)
       (finds_behind _ read_expr read_or choice_rest 6 (or_tokens chosen) chosen (token (Keyword 20) spot ∷ more) (λ n. refl) (reads_or chosen) (omega arith)
       (finds_first _ _ (λ n ts. choice_rest n chosen ts) read_or (after_test chosen spot) (token (Keyword 20) spot ∷ more) more (λ n. refl)
@@ -132,15 +143,22 @@ test_inside room inner chosen spot behind less = record {
       finds));
 }
 
-pub test_refused : (room inner : ℕ) (before middle behind : List Token) (at : Pos) (chosen : Part) (stop : Stop) → Found or_part or_tree 6 room before chosen middle → Taken (Keyword 20) middle at behind → room ≤ suc inner
-    → Refused or_part inner behind stop → Refused expr_part room before stop
-test_refused room inner before middle behind at chosen stop c i less is =
+pub test_refused : (room inner : ℕ) (before middle behind : List Token) (at : Pos) (chosen : Part) (stop : Stop) → Found or_part or_tree 6 room before chosen middle → Taken (Keyword 20) middle at behind → chosen.height < room → room ≤ suc inner
+    → inner < room → Refused or_part inner behind stop → Refused expr_part room before stop
+test_refused room inner before middle behind at chosen stop c i fits less smaller is =
     refused_same expr_part room _ _ stop (c.before_is ∙ ap (λ ts. or_tokens c.written ++ ts) i.before_is ∙ sym (append_assoc (or_tokens c.written) (token (Keyword 20) i.spot ∷ []) behind))
-    (refused_inside expr_part room or_part inner (or_tokens c.written ++ token (Keyword 20) i.spot ∷ []) behind stop (test_inside room inner c.written i.spot behind less) is)
+    (refused_inside expr_part room or_part inner (or_tokens c.written ++ token (Keyword 20) i.spot ∷ []) behind stop (test_inside room inner c.written i.spot behind less smaller (let same = c.height_is in omega (arith, fits, less, same))) is)
 
-else_inside : (room : ℕ) (chosen : Or) (spot : Spot) (test : Or) (behind : List Token) → 6 < next_level behind → Inside expr_part room (one_keyword 14) 0 (or_tokens chosen ++ token (Keyword 20) spot ∷ or_tokens test) behind
-else_inside room chosen spot test behind beyond = record {
-  begins = λ b. record { some = choice chosen spot test b some_expr; more = _; tokens_are = one_between (or_tokens chosen) (token (Keyword 20) spot) (or_tokens test) (token (Keyword 14) b) (expr_tokens some_expr) };
+else_inside : (room inner : ℕ) (chosen : Or) (spot : Spot) (test : Or) (behind : List Token) → 6 < next_level behind → inner < room → or_depth chosen ≤ inner → or_depth test ≤ inner
+    → Inside expr_part room (one_keyword 14) 0 (or_tokens chosen ++ token (Keyword 20) spot ∷ or_tokens test) behind
+else_inside room inner chosen spot test behind beyond smaller fits test_fits = record {
+  begins = λ at b. record {
+    some = choice chosen spot test b (some_expr at);
+    more = _;
+    tokens_are = one_between (or_tokens chosen) (token (Keyword 20) spot) (or_tokens test) (token (Keyword 14) b) (expr_tokens (some_expr at));
+    within = λ other apart any. let alone = alone_elsewhere at other apart in let low = or_low test other in
+        choice_within room inner chosen (begins (or_tokens chosen) other) (or_lies test other) (expr_lies (some_expr at) other) other smaller fits (omega (arith, low, test_fits)) (omega (arith, alone));
+  };
   finds = λ stop more first finds. finds_same _ read_expr _ _ (append_assoc (or_tokens chosen) (token (Keyword 20) spot ∷ or_tokens test) more)
       (finds_behind _ read_expr read_or choice_rest 6 (or_tokens chosen) chosen (token (Keyword 20) spot ∷ or_tokens test ++ more) (λ n. refl) (reads_or chosen) (omega arith)
       (finds_after _ (λ n ts. choice_rest n chosen ts) read_or (after_test chosen spot) 6 (token (Keyword 20) spot ∷ or_tokens test ++ more) (or_tokens test) test more (λ n. refl) (reads_or test)
@@ -151,15 +169,21 @@ else_inside room chosen spot test behind beyond = record {
 }
 
 pub else_refused : (room inner : ℕ) (before middle_1 behind_1 middle_2 : List Token) (at : Pos) (chosen test : Part) (stop : Stop) → Found or_part or_tree 6 room before chosen middle_1 → Taken (Keyword 20) middle_1 at behind_1
-    → Found or_part or_tree 6 inner behind_1 test middle_2 → Refused (one_keyword 14) 0 middle_2 stop → Refused expr_part room before stop
-else_refused room inner before middle_1 behind_1 middle_2 at chosen test stop c i t is =
+    → chosen.height < room → room ≤ suc inner → inner < room → Found or_part or_tree 6 inner behind_1 test middle_2 → Refused (one_keyword 14) 0 middle_2 stop → Refused expr_part room before stop
+else_refused room inner before middle_1 behind_1 middle_2 at chosen test stop c i fits less smaller t is =
     refused_same expr_part room _ _ stop (c.before_is ∙ ap (λ ts. or_tokens c.written ++ ts) (i.before_is ∙ ap (λ ts. token (Keyword 20) i.spot ∷ ts) t.before_is) ∙ sym (append_assoc (or_tokens c.written) (token (Keyword 20) i.spot ∷ or_tokens t.written) middle_2))
-    (refused_inside expr_part room (one_keyword 14) 0 (or_tokens c.written ++ token (Keyword 20) i.spot ∷ or_tokens t.written) middle_2 stop (else_inside room c.written i.spot t.written middle_2 t.beyond) is)
+    (refused_inside expr_part room (one_keyword 14) 0 (or_tokens c.written ++ token (Keyword 20) i.spot ∷ or_tokens t.written) middle_2 stop (else_inside room inner c.written i.spot t.written middle_2 t.beyond smaller (let same = c.height_is in omega (arith, fits, less, same)) (let same = t.height_is in let low = t.fits in omega (arith, low, same))) is)
 
-other_inside : (room inner : ℕ) (chosen : Or) (spot : Spot) (test : Or) (else_word : Spot) (behind : List Token) → room ≤ suc inner
+other_inside : (room inner : ℕ) (chosen : Or) (spot : Spot) (test : Or) (else_word : Spot) (behind : List Token) → room ≤ suc inner → inner < room → or_depth chosen ≤ inner → or_depth test ≤ inner
     → Inside expr_part room expr_part inner (or_tokens chosen ++ token (Keyword 20) spot ∷ (or_tokens test ++ token (Keyword 14) else_word ∷ [])) behind
-other_inside room inner chosen spot test else_word behind less = record {
-  begins = λ b. record { some = choice chosen spot test else_word b; more = []; tokens_are = last_behind (or_tokens chosen) (token (Keyword 20) spot) (or_tokens test) (token (Keyword 14) else_word) (expr_tokens b) };
+other_inside room inner chosen spot test else_word behind less smaller fits test_fits = record {
+  begins = λ at b. record {
+    some = choice chosen spot test else_word b;
+    more = [];
+    tokens_are = last_behind (or_tokens chosen) (token (Keyword 20) spot) (or_tokens test) (token (Keyword 14) else_word) (expr_tokens b);
+    within = λ other apart low. let test_low = or_low test other in
+        choice_within room inner chosen (begins (or_tokens chosen) other) (or_lies test other) (expr_lies b other) other smaller fits (omega (arith, test_low, test_fits)) low;
+  };
   finds = λ stop more first finds. finds_same _ read_expr _ _ (append_assoc (or_tokens chosen) (token (Keyword 20) spot ∷ (or_tokens test ++ token (Keyword 14) else_word ∷ [])) more ∙ ap (λ ts. or_tokens chosen ++ token (Keyword 20) spot ∷ ts) (append_assoc (or_tokens test) (token (Keyword 14) else_word ∷ []) more))
       (finds_behind _ read_expr read_or choice_rest 6 (or_tokens chosen) chosen (token (Keyword 20) spot ∷ or_tokens test ++ token (Keyword 14) else_word ∷ more) (λ n. refl) (reads_or chosen) (omega arith)
       (finds_after _ (λ n ts. choice_rest n chosen ts) read_or (after_test chosen spot) 6 (token (Keyword 20) spot ∷ or_tokens test ++ token (Keyword 14) else_word ∷ more) (or_tokens test) test (token (Keyword 14) else_word ∷ more) (λ n. refl) (reads_or test) (omega arith)
@@ -169,8 +193,8 @@ other_inside room inner chosen spot test else_word behind less = record {
 }
 
 pub other_refused : (room inner : ℕ) (before middle_1 behind_1 middle_2 behind_2 : List Token) (at else_at : Pos) (chosen test : Part) (stop : Stop) → Found or_part or_tree 6 room before chosen middle_1 → Taken (Keyword 20) middle_1 at behind_1
-    → Found or_part or_tree 6 inner behind_1 test middle_2 → Taken (Keyword 14) middle_2 else_at behind_2 → room ≤ suc inner → Refused expr_part inner behind_2 stop → Refused expr_part room before stop
-other_refused room inner before middle_1 behind_1 middle_2 behind_2 at else_at chosen test stop c i t e less is =
+    → Found or_part or_tree 6 inner behind_1 test middle_2 → Taken (Keyword 14) middle_2 else_at behind_2 → chosen.height < room → room ≤ suc inner → inner < room → Refused expr_part inner behind_2 stop → Refused expr_part room before stop
+other_refused room inner before middle_1 behind_1 middle_2 behind_2 at else_at chosen test stop c i t e fits less smaller is =
     refused_same expr_part room _ _ stop (c.before_is ∙ ap (λ ts. or_tokens c.written ++ ts) (i.before_is ∙ ap (λ ts. token (Keyword 20) i.spot ∷ ts) (t.before_is ∙ ap (λ ts. or_tokens t.written ++ ts) e.before_is
     ∙ sym (append_assoc (or_tokens t.written) (token (Keyword 14) e.spot ∷ []) behind_2))) ∙ sym (append_assoc (or_tokens c.written) (token (Keyword 20) i.spot ∷ (or_tokens t.written ++ token (Keyword 14) e.spot ∷ [])) behind_2))
-    (refused_inside expr_part room expr_part inner (or_tokens c.written ++ token (Keyword 20) i.spot ∷ (or_tokens t.written ++ token (Keyword 14) e.spot ∷ [])) behind_2 stop (other_inside room inner c.written i.spot t.written e.spot behind_2 less) is)
+    (refused_inside expr_part room expr_part inner (or_tokens c.written ++ token (Keyword 20) i.spot ∷ (or_tokens t.written ++ token (Keyword 14) e.spot ∷ [])) behind_2 stop (other_inside room inner c.written i.spot t.written e.spot behind_2 less smaller (let same = c.height_is in omega (arith, fits, less, same)) (let same = t.height_is in let low = t.fits in omega (arith, low, same))) is)

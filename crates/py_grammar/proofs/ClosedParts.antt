@@ -13,9 +13,10 @@ use Rattle.py_grammar.specs.declared.fault.Stop.TheVariants.{Here, End}
 use Rattle.py_grammar.specs.Concrete.{Spot}
 use Rattle.py_grammar.specs.Tokens.{token}
 use Rattle.py_grammar.specs.Reader.{Read, go_on, read_sign}
-use Rattle.py_grammar.specs.Parsed.{Production, IsDeep, Finds, Begins, Refused, one_sign, IsAtFirst, Taken}
+use Rattle.py_grammar.specs.Parsed.{Production, IsDeep, Finds, BeginsWithin, Refused, one_sign, IsAtFirst, Taken}
 use Rattle.py_grammar.specs.ParsedRows.{IsRead, closed, first_token, FoundClosed}
 use Rattle.py_grammar.proofs.Refusals.{Inside, first_of, only_any, only_go_on, only_is, refused_inside, refused_same}
+use Rattle.py_grammar.proofs.Stops.{spot_at}
 
 pub first_is : (ts : List Token) → first_token ts ≡ first_of ts
 first_is [] = refl
@@ -32,14 +33,11 @@ not_deep (Here (TooMany at)) deep = deep
 not_deep (Here Memory) deep = deep
 not_deep End deep = deep
 
-abbrev pub no_spot : Spot
-no_spot = record { at = record { line = 0; col = 0 }; span = record { from = 0; to = 0 } }
-
 -- ---- what stands inside is refused
 
 in_closed : {A : Type 0} (p : Production A) (closing room : ℕ) (before : List Token) → Inside (closed p closing) room p room [] before
 in_closed p closing room before = record {
-  begins = λ b. record { some = (b, no_spot); more = token (Sign closing) no_spot ∷ []; tokens_are = refl };
+  begins = λ at b. record { some = (b, spot_at at); more = token (Sign closing) (spot_at at) ∷ []; tokens_are = refl; within = λ other apart low. low };
   finds = λ stop more first finds. record {
     steps = finds.steps;
     only = λ n. only_go_on _ _ (p.read (n + finds.steps) more) _ (finds.only n) (λ a rest deep. only_any _ (read_sign closing rest) _ (λ at rest_2. deep));
@@ -51,9 +49,9 @@ closed_first p closing room before stop is = refused_inside (closed p closing) r
 
 -- ---- the closing sign is refused
 
-at_closing : {A : Type 0} (p : Production A) (closing room : ℕ) (a : A) (middle : List Token) → IsRead p a middle → Inside (closed p closing) room (one_sign closing) 0 (p.tokens a) middle
-at_closing p closing room a middle is = record {
-  begins = λ spot. record { some = (a, spot); more = []; tokens_are = sym (append-nil (p.tokens a ++ token (Sign closing) spot ∷ [])) };
+at_closing : {A : Type 0} (p : Production A) (closing room : ℕ) (a : A) (middle : List Token) → IsRead p a middle → ((at : Pos) → p.lies a at ≤ room) → Inside (closed p closing) room (one_sign closing) 0 (p.tokens a) middle
+at_closing p closing room a middle is low = record {
+  begins = λ at spot. record { some = (a, spot); more = []; tokens_are = sym (append-nil (p.tokens a ++ token (Sign closing) spot ∷ [])); within = λ other apart any. low other };
   finds = λ stop more first finds. record {
     steps = is.steps;
     only = λ n. only_is _ _ _ (ap (λ r. go_on r (λ a more. go_on (read_sign closing more) (λ at rest. Some ((a, at), rest)))) (is.reads n more (first_same more middle first)))
@@ -61,10 +59,10 @@ at_closing p closing room a middle is = record {
   };
 }
 
-pub closed_last : {A : Type 0} (p : Production A) (closing room : ℕ) (a : A) (before middle : List Token) (stop : Stop) → before ≡ p.tokens a ++ middle → IsRead p a middle → Refused (one_sign closing) 0 middle stop
-    → Refused (closed p closing) room before stop
-closed_last p closing room a before middle stop before_is is refused =
-    refused_same (closed p closing) room before (p.tokens a ++ middle) stop before_is (refused_inside (closed p closing) room (one_sign closing) 0 (p.tokens a) middle stop (at_closing p closing room a middle is) refused)
+pub closed_last : {A : Type 0} (p : Production A) (closing room : ℕ) (a : A) (before middle : List Token) (stop : Stop) → before ≡ p.tokens a ++ middle → IsRead p a middle → ((at : Pos) → p.lies a at ≤ room)
+    → Refused (one_sign closing) 0 middle stop → Refused (closed p closing) room before stop
+closed_last p closing room a before middle stop before_is is low refused =
+    refused_same (closed p closing) room before (p.tokens a ++ middle) stop before_is (refused_inside (closed p closing) room (one_sign closing) 0 (p.tokens a) middle stop (at_closing p closing room a middle is low) refused)
 
 -- ---- both are read
 
@@ -93,7 +91,7 @@ closed_once (Some (a, more)) s f = by (s more)
 
 -- ---- nothing of the kind begins here
 
-pub refused_at_first : {A : Type 0} (p : Production A) (room : ℕ) (before : List Token) (stop : Stop) → Begins p [] → ((more : List Token) → first_of more ≡ first_of before → Finds (λ a. ⊥) p.read more) → IsAtFirst before stop → Refused p room before stop
+pub refused_at_first : {A : Type 0} (p : Production A) (room : ℕ) (before : List Token) (stop : Stop) → BeginsWithin p room [] → ((more : List Token) → first_of more ≡ first_of before → Finds (λ a. ⊥) p.read more) → IsAtFirst before stop → Refused p room before stop
 refused_at_first p room [] stop begins none is = refused_same_stop is (begins, none [] refl)
   where
     refused_same_stop : stop ≡ End → Refused p room [] End → Refused p room [] stop

@@ -13,18 +13,20 @@ use Rattle.py_grammar.specs.declared.head.What.{What}
 use Rattle.py_grammar.specs.declared.head.LineHead.{LineHead}
 use Rattle.py_grammar.specs.Concrete.{Spot}
 use Rattle.py_grammar.specs.Tokens.{token}
-use Rattle.py_grammar.specs.Written.{Simple}
+use Rattle.py_grammar.specs.Written.{Simple, pass}
 use Rattle.py_grammar.specs.StatementTokens.{simple_tokens}
+use Rattle.py_grammar.specs.WellPlaced.{simple_stands}
 use Rattle.py_grammar.specs.LineReader.{Head, behind_tokens, head_tokens, then_read, read_colon, read_behind, read_head}
 use Rattle.py_grammar.specs.Reader.{is_sign, spot_of, read_sign}
 use Rattle.py_grammar.specs.Parsed.{Refused, one_sign}
 use Rattle.py_grammar.specs.ParsedRows.{first_token}
-use Rattle.py_grammar.specs.ParsedSimple.{BeginsSimple}
-use Rattle.py_grammar.specs.ParsedHead.{Context, word_may, inner_around, behind_depth, IsBehind, BehindFound, HeadFound, Opening, IsAmissPlaced, IsAmissHead, BeginsHead, StartsBehind, GoesOnPlaced, IsAheadPlaced, GoesOnLine, IsAheadOnLine, ShownBy, EndedBy, BehindRefused, HeadRefused, behind_first}
+use Rattle.py_grammar.specs.ParsedHead.{Context, word_may, inner_around, behind_depth, IsBehind, BehindFound, HeadFound, Opening, IsAmissPlaced, IsAmissHead, StartsPlaced, BeginsPlaced, StartsHead, BeginsHead, StartsBehind, del_name, GoesOnPlaced, IsAheadPlaced, GoesOnLine, IsAheadOnLine, ShownBy, EndedBy, BehindRefused, HeadRefused, behind_first}
 use Rattle.py_grammar.proofs.Refusals.{max_below}
 use Rattle.py_grammar.proofs.SimpleParts.{not_deeper}
+use Rattle.py_grammar.proofs.LyingLines.{head_low}
 use Rattle.py_grammar.proofs.HeadReading.{head_reads}
-use Rattle.py_grammar.proofs.HeadParts.{spelled_head, spelled_part, refused_part_head}
+use Rattle.py_grammar.proofs.HeadParts.{spelled_part, refused_part_head}
+use Rattle.py_grammar.proofs.PlacedParts.{pass_stands, del_stands}
 use Rattle.py_grammar.proofs.NoDel.{has_del, without, no_del_front}
 use Rattle.py_grammar.proofs.Unread.{past_clear, passes_past, unread_behind}
 use Rattle.py_grammar.proofs.LineFirsts.{and_false, both_true, not_nothing, same_behind}
@@ -40,12 +42,26 @@ colon_turn n made (t ∷ ts) = by (is_sign 7 t.kind)
     by false = refl
 
 -- no `:` stands where one has to
-pub colon_refused : (c : Context) (given : List (List ℕ)) (limit : Option Limit) (word : ℕ) (before after : List Token) (what : What) (stop : Stop) → Opening c word before what after → Refused (one_sign 7) 0 after stop → HeadRefused c given limit before stop
-colon_refused c given limit word before after what stop o refused =
+pub colon_refused : (c : Context) (given : List (List ℕ)) (limit : Option Limit) (word : ℕ) (before after : List Token) (what : What) (stop : Stop) → Opening c word before what after → word_may c word ≡ true → Refused (one_sign 7) 0 after stop → HeadRefused c given limit before stop
+colon_refused c given limit word before after what stop o may refused =
     refused_part_head c given limit (one_sign 7) 0 o.front after before stop (λ n colon rest. option_map (o.made colon) (read_behind (n + o.left) rest)) o.before_is
-    (λ tokens b. record {
-      begun = spelled_head (o.made b.some None) (o.front ++ tokens) (b.more ++ []) (spelled_part (one_sign 7) o.front (λ colon. o.made colon None) (λ colon. []) (λ colon. o.tokens_are colon None) tokens b);
-      clear = without o.front tokens (past_clear o.front o.past) (no_del_front tokens b.more (subst (λ (ts : List Token). has_del ts ≡ false) b.tokens_are refl));
+    (record {
+      within = λ tokens b. inl (λ at. let k = b at in record {
+        some = o.made k.some None;
+        is_so = o.stands given k.some None ∙ both_true (word_may c word) true may refl;
+        more = k.more ++ [];
+        tokens_are = spelled_part (one_sign 7) o.front (λ colon. o.made colon None) (λ colon. []) k.some (o.tokens_are k.some None) tokens k.more k.tokens_are;
+        within = λ other apart. let deep = o.depth_is k.some None in let low = head_low (o.made k.some None) other in let fits = o.low in omega (arith, deep, low, fits);
+      });
+      plain = λ tokens b. record {
+        begun = inl (record {
+          some = o.made b.some None;
+          is_so = o.stands given b.some None ∙ both_true (word_may c word) true may refl;
+          more = b.more ++ [];
+          tokens_are = spelled_part (one_sign 7) o.front (λ colon. o.made colon None) (λ colon. []) b.some (o.tokens_are b.some None) tokens b.more b.tokens_are;
+        });
+        clear = without o.front tokens (past_clear o.front o.past) (no_del_front tokens b.more (subst (λ (ts : List Token). has_del ts ≡ false) b.tokens_are refl));
+      };
     })
     (passes_past o.front after o.past)
     (record { before = o.steps; behind = 0; turns = λ n more first. o.reads n more first ∙ colon_turn (n + o.left) o.made more })
@@ -92,7 +108,7 @@ made_with made tail h some m = by m.behind m.tokens_are m.is
     by None tokens is = absurd (some (sym tokens))
     by (Some s) tokens is = record { s = s; tokens_are = tokens; is = is }
 
-shown_some : (front : List Token) (t : Token) (more : List Token) → front ++ t ∷ more ≡ [] → ⊥
+pub shown_some : (front : List Token) (t : Token) (more : List Token) → front ++ t ∷ more ≡ [] → ⊥
 shown_some [] t more is = not_nothing t more is
 shown_some (first ∷ front) t more is = not_nothing first _ is
 
@@ -107,53 +123,75 @@ amiss_line c given limit word before after what spot o (Here (Unexpected at)) s 
 amiss_line c given limit word before after what spot o (Here Memory) s amiss = absurd amiss
 amiss_line c given limit word before after what spot o End s amiss = o.stands given spot (Some s) ∙ and_false (word_may c word) _ amiss
 
--- behind the `:` any statement may stand
-starts_behind : (c : Context) (word : ℕ) (before after : List Token) (what : What) (spot : Spot) → (o : Opening c word before what after) → StartsBehind (o.front ++ token (Sign 7) spot ∷ [])
-starts_behind c word before after what spot o = record {
+-- behind the `:` the grammar has any statement
+starts_behind : (c : Context) (given : List (List ℕ)) (word : ℕ) (before after : List Token) (what : What) (spot : Spot) → (o : Opening c word before what after) → word_may c word ≡ true → (one : Spot → Simple)
+    → ((at : Spot) → simple_stands (inner_around word c.around) (one at) ≡ true) → StartsBehind c given one (o.front ++ token (Sign 7) spot ∷ [])
+starts_behind c given word before after what spot o may one stands = record {
   made = λ s. o.made spot (Some s);
   tokens_are = λ s. o.tokens_are spot (Some s) ∙ sym (append_assoc o.front (token (Sign 7) spot ∷ []) (simple_tokens s));
   behind_is = λ s. o.behind_is spot (Some s);
+  stands = λ at. o.stands given spot (Some (one at)) ∙ both_true (word_may c word) _ may (stands at);
+  within = λ s at. let high = o.lies_within spot s at in let fits = o.low in omega (arith, high, fits);
 }
 
 -- a statement begins behind the `:`, and so does the line
-begins_line : (c : Context) (word : ℕ) (before after : List Token) (what : What) (spot : Spot) → (o : Opening c word before what after) → (tokens : List Token) → BeginsSimple tokens → BeginsHead (o.front ++ token (Sign 7) spot ∷ tokens)
-begins_line c word before after what spot o tokens (inl b) = inl (record {
+begins_line : (c : Context) (given : List (List ℕ)) (word : ℕ) (before after : List Token) (what : What) (spot : Spot) → (o : Opening c word before what after) → word_may c word ≡ true → (tokens : List Token) → BeginsPlaced (inner_around word c.around) tokens
+    → BeginsHead c given (o.front ++ token (Sign 7) spot ∷ tokens)
+begins_line c given word before after what spot o may tokens (inl b) = inl (λ at. let k = b at in record {
+  some = o.made spot (Some k.some);
+  is_so = o.stands given spot (Some k.some) ∙ both_true (word_may c word) _ may k.is_so;
+  more = k.more;
+  tokens_are = o.tokens_are spot (Some k.some) ∙ ap (λ ts. o.front ++ token (Sign 7) spot ∷ ts) k.tokens_are ∙ sym (append_assoc o.front (token (Sign 7) spot ∷ tokens) k.more);
+  within = λ other apart. let high = o.lies_within spot k.some other in let fits = o.low in let low = k.within other apart in omega (arith, high, fits, low);
+})
+begins_line c given word before after what spot o may tokens (inr b) = inr (inl (record {
+  opened = o.front ++ token (Sign 7) spot ∷ [];
+  starts = inr (starts_behind c given word before after what spot o may del_name (del_stands (inner_around word c.around) b.0));
+  inside = tokens;
+  begins = b.1;
+  front_is = sym (append_assoc o.front (token (Sign 7) spot ∷ []) tokens);
+}))
+
+starts_line : (c : Context) (given : List (List ℕ)) (word : ℕ) (before after : List Token) (what : What) (spot : Spot) → (o : Opening c word before what after) → word_may c word ≡ true → (tokens : List Token) → StartsPlaced (inner_around word c.around) tokens
+    → StartsHead c given (o.front ++ token (Sign 7) spot ∷ tokens)
+starts_line c given word before after what spot o may tokens (inl b) = inl (record {
   some = o.made spot (Some b.some);
+  is_so = o.stands given spot (Some b.some) ∙ both_true (word_may c word) _ may b.is_so;
   more = b.more;
   tokens_are = o.tokens_are spot (Some b.some) ∙ ap (λ ts. o.front ++ token (Sign 7) spot ∷ ts) b.tokens_are ∙ sym (append_assoc o.front (token (Sign 7) spot ∷ tokens) b.more);
 })
-begins_line c word before after what spot o tokens (inr b) = inr (inl (record {
+starts_line c given word before after what spot o may tokens (inr b) = inr (inl (record {
   opened = o.front ++ token (Sign 7) spot ∷ [];
-  starts = inr (starts_behind c word before after what spot o);
+  starts = inr (starts_behind c given word before after what spot o may del_name (del_stands (inner_around word c.around) b.0));
   inside = tokens;
-  begins = b;
+  begins = b.1;
   front_is = sym (append_assoc o.front (token (Sign 7) spot ∷ []) tokens);
 }))
 
 -- a statement goes on behind the `:`, and so does the line; where a limit is passed, any may stand there
-goes_behind : (c : Context) (limit : Option Limit) (word : ℕ) (before after : List Token) (what : What) (spot : Spot) → (o : Opening c word before what after) → (tokens : List Token) (t : Token) (fault : Fault)
-    → GoesOnPlaced limit tokens t fault → GoesOnLine limit (o.front ++ token (Sign 7) spot ∷ tokens) t fault
-goes_behind c limit word before after what spot o tokens t (TooDeep at) (inl b) =
-    inl (subst BeginsHead (sym (append_assoc o.front (token (Sign 7) spot ∷ tokens) (t ∷ []))) (begins_line c word before after what spot o (tokens ++ t ∷ []) b))
-goes_behind c limit word before after what spot o tokens t (TooDeep at) (inr passed) =
-    inr (passed.0, subst (λ (ts : List Token). StartsBehind (o.front ++ token (Sign 7) spot ∷ ts)) (sym passed.1) (starts_behind c word before after what spot o), passed.2)
-goes_behind c limit word before after what spot o tokens t (TooMany at) passed =
-    (passed.0, subst (λ (ts : List Token). StartsBehind (o.front ++ token (Sign 7) spot ∷ ts)) (sym passed.1) (starts_behind c word before after what spot o))
-goes_behind c limit word before after what spot o tokens t (Unexpected left) goes = tt
-goes_behind c limit word before after what spot o tokens t Memory goes = tt
+goes_behind : (c : Context) (given : List (List ℕ)) (limit : Option Limit) (word : ℕ) (before after : List Token) (what : What) (spot : Spot) → (o : Opening c word before what after) → word_may c word ≡ true → (tokens : List Token) (t : Token) (fault : Fault)
+    → GoesOnPlaced (inner_around word c.around) limit tokens t fault → GoesOnLine c given limit (o.front ++ token (Sign 7) spot ∷ tokens) t fault
+goes_behind c given limit word before after what spot o may tokens t (TooDeep at) (inl b) =
+    inl (subst (StartsHead c given) (sym (append_assoc o.front (token (Sign 7) spot ∷ tokens) (t ∷ []))) (starts_line c given word before after what spot o may (tokens ++ t ∷ []) b))
+goes_behind c given limit word before after what spot o may tokens t (TooDeep at) (inr passed) =
+    inr (passed.0, subst (λ (ts : List Token). StartsBehind c given pass (o.front ++ token (Sign 7) spot ∷ ts)) (sym passed.1) (starts_behind c given word before after what spot o may pass (pass_stands (inner_around word c.around))), passed.2)
+goes_behind c given limit word before after what spot o may tokens t (TooMany at) passed =
+    (passed.0, subst (λ (ts : List Token). StartsBehind c given pass (o.front ++ token (Sign 7) spot ∷ ts)) (sym passed.1) (starts_behind c given word before after what spot o may pass (pass_stands (inner_around word c.around))))
+goes_behind c given limit word before after what spot o may tokens t (Unexpected left) goes = tt
+goes_behind c given limit word before after what spot o may tokens t Memory goes = tt
 
-behind_shown : (c : Context) (given : List (List ℕ)) (limit : Option Limit) (word : ℕ) (before after rest : List Token) (what : What) (spot : Spot) → (o : Opening c word before what after) → after ≡ token (Sign 7) spot ∷ rest → (fault : Fault)
-    → ShownBy BeginsSimple (IsAheadPlaced limit) simple_tokens (λ fault a. IsAmissPlaced (inner_around word c.around) limit (Here fault) a) rest fault → ShownBy BeginsHead (IsAheadOnLine limit) head_tokens (λ fault a. IsAmissHead c given limit (Here fault) a) before fault
-behind_shown c given limit word before after rest what spot o is fault s = record {
+behind_shown : (c : Context) (given : List (List ℕ)) (limit : Option Limit) (word : ℕ) (before after rest : List Token) (what : What) (spot : Spot) → (o : Opening c word before what after) → word_may c word ≡ true → after ≡ token (Sign 7) spot ∷ rest → (fault : Fault)
+    → ShownBy (BeginsPlaced (inner_around word c.around)) (IsAheadPlaced (inner_around word c.around) limit) simple_tokens (λ fault a. IsAmissPlaced (inner_around word c.around) limit (Here fault) a) rest fault → ShownBy (BeginsHead c given) (IsAheadOnLine c given limit) head_tokens (λ fault a. IsAmissHead c given limit (Here fault) a) before fault
+behind_shown c given limit word before after rest what spot o may is fault s = record {
   front = o.front ++ token (Sign 7) spot ∷ s.front;
   shown_by = s.shown_by;
   behind = s.behind;
   before_is = o.before_is ∙ ap (λ ts. o.front ++ ts) (is ∙ ap (λ ts. token (Sign 7) spot ∷ ts) s.before_is) ∙ sym (append_assoc o.front (token (Sign 7) spot ∷ s.front) (s.shown_by ∷ s.behind));
   left_is = s.left_is;
-  begun = begins_line c word before after what spot o s.front s.begun;
+  begun = begins_line c given word before after what spot o may s.front s.begun;
   goes_on = (
-    goes_behind c limit word before after what spot o s.front s.shown_by fault s.goes_on.0,
-    unread_behind o.front (token (Sign 7) spot) s.front s.shown_by fault o.past refl s.begun s.goes_on.1,
+    goes_behind c given limit word before after what spot o may s.front s.shown_by fault s.goes_on.0,
+    unread_behind (inner_around word c.around) o.front (token (Sign 7) spot) s.front s.shown_by fault o.past refl s.begun s.goes_on.1,
   );
   none = λ h more same. none_there h more same;
 }
@@ -164,10 +202,10 @@ behind_shown c given limit word before after rest what spot o is fault s = recor
         (made_of c word before after rest what spot o is (s.front ++ s.shown_by ∷ more) h (same ∙ append_assoc o.front (token (Sign 7) spot ∷ s.front) (s.shown_by ∷ more))) in
         subst (IsAmissHead c given limit (Here fault)) (sym m.is) (amiss_line c given limit word before after what spot o (Here fault) m.s (s.none m.s more m.tokens_are))
 
-behind_ended : (c : Context) (given : List (List ℕ)) (limit : Option Limit) (word : ℕ) (before after rest : List Token) (what : What) (spot : Spot) → (o : Opening c word before what after) → after ≡ token (Sign 7) spot ∷ rest → (stop : Stop) → (rest ≡ [] → ⊥)
-    → EndedBy BeginsSimple simple_tokens (IsAmissPlaced (inner_around word c.around) limit stop) rest → EndedBy BeginsHead head_tokens (IsAmissHead c given limit stop) before
-behind_ended c given limit word before after rest what spot o is stop some e = record {
-  begun = subst BeginsHead (sym (o.before_is ∙ ap (λ ts. o.front ++ ts) is)) (begins_line c word before after what spot o rest e.begun);
+behind_ended : (c : Context) (given : List (List ℕ)) (limit : Option Limit) (word : ℕ) (before after rest : List Token) (what : What) (spot : Spot) → (o : Opening c word before what after) → word_may c word ≡ true → after ≡ token (Sign 7) spot ∷ rest → (stop : Stop) → (rest ≡ [] → ⊥)
+    → EndedBy (BeginsPlaced (inner_around word c.around)) simple_tokens (IsAmissPlaced (inner_around word c.around) limit stop) rest → EndedBy (BeginsHead c given) head_tokens (IsAmissHead c given limit stop) before
+behind_ended c given limit word before after rest what spot o may is stop some e = record {
+  begun = subst (BeginsHead c given) (sym (o.before_is ∙ ap (λ ts. o.front ++ ts) is)) (begins_line c given word before after what spot o may rest e.begun);
   none = λ h same. none_there h same;
 }
   where
@@ -177,13 +215,13 @@ behind_ended c given limit word before after rest what spot o is stop some e = r
         subst (IsAmissHead c given limit stop) (sym m.is) (amiss_line c given limit word before after what spot o stop m.s (e.none m.s m.tokens_are))
 
 -- what stands behind the `:` is refused
-pub behind_refused : (c : Context) (given : List (List ℕ)) (limit : Option Limit) (word : ℕ) (before after rest : List Token) (what : What) (spot : Spot) (stop : Stop) → Opening c word before what after → after ≡ token (Sign 7) spot ∷ rest
+pub behind_refused : (c : Context) (given : List (List ℕ)) (limit : Option Limit) (word : ℕ) (before after rest : List Token) (what : What) (spot : Spot) (stop : Stop) → Opening c word before what after → word_may c word ≡ true → after ≡ token (Sign 7) spot ∷ rest
     → BehindRefused (inner_around word c.around) limit rest stop → HeadRefused c given limit before stop
-behind_refused c given limit word before after rest what spot (Here Memory) o is refused = tt
-behind_refused c given limit word before after rest what spot (Here (Unexpected at)) o is refused = behind_shown c given limit word before after rest what spot o is (Unexpected at) refused.placed
-behind_refused c given limit word before after rest what spot (Here (TooDeep at)) o is refused = behind_shown c given limit word before after rest what spot o is (TooDeep at) refused.placed
-behind_refused c given limit word before after rest what spot (Here (TooMany at)) o is refused = behind_shown c given limit word before after rest what spot o is (TooMany at) refused.placed
-behind_refused c given limit word before after rest what spot End o is refused = behind_ended c given limit word before after rest what spot o is End refused.some refused.placed
+behind_refused c given limit word before after rest what spot (Here Memory) o may is refused = tt
+behind_refused c given limit word before after rest what spot (Here (Unexpected at)) o may is refused = behind_shown c given limit word before after rest what spot o may is (Unexpected at) refused.placed
+behind_refused c given limit word before after rest what spot (Here (TooDeep at)) o may is refused = behind_shown c given limit word before after rest what spot o may is (TooDeep at) refused.placed
+behind_refused c given limit word before after rest what spot (Here (TooMany at)) o may is refused = behind_shown c given limit word before after rest what spot o may is (TooMany at) refused.placed
+behind_refused c given limit word before after rest what spot End o may is refused = behind_ended c given limit word before after rest what spot o may is End refused.some refused.placed
 
 -- ---- a line that may stand there
 

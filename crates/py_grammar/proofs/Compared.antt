@@ -12,23 +12,24 @@ use Rattle.py_grammar.specs.declared.fault.Fault.TheVariants.{TooDeep}
 use Rattle.py_grammar.specs.declared.fault.Stop.{Stop}
 use Rattle.py_grammar.specs.declared.fault.Stop.TheVariants.{Here}
 use Rattle.py_grammar.specs.declared.part.Part.{Part}
-use Rattle.py_grammar.specs.Concrete.{Cmp, plain_cmp, compared, Sum, plain_sum, plain_term, plain_unary, Prim, plain_prim, name}
+use Rattle.py_grammar.specs.Concrete.{Cmp, plain_cmp, compared, Sum, plain_sum, plain_term, Prim}
 use Rattle.py_grammar.specs.Tokens.{cmp_tokens, sum_tokens}
 use Rattle.py_grammar.specs.Trees.{cmp_tree, sum_tree, cmp_op, cmp_at}
 use Rattle.py_grammar.specs.Depth.{sum_depth}
 use Rattle.py_grammar.specs.Lies.{begins, deeper_of, cmp_lies, sum_lies}
 use Rattle.py_grammar.proofs.Lying.{deepest_node, above_left, sum_low, sum_above}
 use Rattle.py_grammar.specs.Reader.{go_on, next_level, no_second, read_cmp_sign, read_cmp, cmp_rest, read_sum}
-use Rattle.py_grammar.specs.Parsed.{cmp_part, sum_part, one_cmp_sign, TakenCmp, Found, IsAtFirst, IsDeep, Only, Finds, Refused, IsTooDeep}
+use Rattle.py_grammar.specs.Parsed.{cmp_part, sum_part, one_cmp_sign, TakenCmp, Found, IsAtFirst, IsDeep, Only, Finds, Begins, Refused, IsTooDeep}
 use Rattle.py_grammar.proofs.Leading.{Reads}
 use Rattle.py_grammar.proofs.Reading.{if_true, sum_leads, sum_stops, cmp_level}
-use Rattle.py_grammar.proofs.Refusals.{first_of, Inside, only_any, only_if, only_is, finds_first, finds_step, finds_behind, finds_behind_now, first_alike, finds_now, finds_anything, finds_same, deep_left, deep_right, refused_inside, refused_same, begins_inside, full, over_both, fits_above, next_level_same, keyword_next_same}
-use Rattle.py_grammar.proofs.Stops.{some_spot, here}
+use Rattle.py_grammar.proofs.Refusals.{first_of, Inside, only_any, only_if, only_is, finds_first, finds_step, finds_behind, finds_behind_now, first_alike, finds_now, finds_anything, finds_same, deep_left, deep_right, refused_inside, refused_same, begins_whole, node_within, fits_below, alone_elsewhere, full, over_both, fits_above, next_level_same, keyword_next_same}
+use Rattle.py_grammar.proofs.Stops.{here}
 use Rattle.py_grammar.proofs.Choices.{no_depth}
+use Rattle.py_grammar.proofs.Prefixes.{some_unary}
 use Rattle.py_grammar.proofs.Comparisons.{cmp_begins}
 
-some_sum : Sum
-some_sum = plain_sum (plain_term (plain_unary (plain_prim (name some_spot []))))
+abbrev some_sum : Pos → Sum
+some_sum at = plain_sum (plain_term (some_unary at))
 
 reads_sum : (e : Sum) → Reads read_sum 3 (sum_tokens e) e
 reads_sum e = sum_stops e (sum_leads e)
@@ -76,7 +77,7 @@ cmp_deep stop room (suc n) left ts deep = only_if _ (next_level ts == 4) _ _
 
 left_inside : (room : ℕ) (behind : List Token) → Inside cmp_part room sum_part room [] behind
 left_inside room behind = record {
-  begins = λ b. record { some = plain_cmp b; more = []; tokens_are = sym (append-nil (sum_tokens b)) };
+  begins = λ at b. record { some = plain_cmp b; more = []; tokens_are = sym (append-nil (sum_tokens b)); within = λ other apart low. low };
   finds = λ stop more first finds. finds_first _ _ read_cmp read_sum cmp_rest more more (λ n. refl) (λ n b ts deep. cmp_deep stop room n b ts deep) finds;
 }
 
@@ -90,28 +91,44 @@ behind_left n left ts level = if_true (next_level ts == 4) _ _ (ap (λ l. l == 4
 at_level : (ts : List Token) → (next_level ts == 4) ≡ true → next_level ts ≡ 4
 at_level ts is = eqb-true (next_level ts) 4 is
 
-sign_inside : (room : ℕ) (left : Sum) (behind : List Token) → next_level behind ≡ 4 → Inside cmp_part room one_cmp_sign 0 (sum_tokens left) behind
-sign_inside room left behind level = record {
-  begins = λ b. record { some = compared left b some_sum; more = sum_tokens some_sum; tokens_are = sym (append_assoc (sum_tokens left) (cmp_tokens b) (sum_tokens some_sum)) };
+sign_inside : (room : ℕ) (left : Sum) (behind : List Token) → next_level behind ≡ 4 → sum_depth left < room → Inside cmp_part room one_cmp_sign 0 (sum_tokens left) behind
+sign_inside room left behind level fits = record {
+  begins = λ at b. record {
+    some = compared left b (some_sum at);
+    more = sum_tokens (some_sum at);
+    tokens_are = sym (append_assoc (sum_tokens left) (cmp_tokens b) (sum_tokens (some_sum at)));
+    within = λ other apart any.
+        let low = sum_low left other in
+        let alone = alone_elsewhere at other apart in
+        node_within (begins (sum_tokens left) other) (sum_lies left other) (sum_lies (some_sum at) other) (sum_depth left) room fits low (omega (arith, alone));
+  };
   finds = λ stop more first finds. let four : next_level more ≡ 4 = next_level_same more behind first ∙ level in
       finds_behind _ read_cmp read_sum cmp_rest 3 (sum_tokens left) left more (λ n. refl) (reads_sum left) (omega (arith, four))
       (finds_first _ _ (λ n us. cmp_rest n left us) (λ n us. read_cmp_sign us) (λ n op us. go_on (read_sum n us) (λ right rest. no_second (compared left op right) rest)) more more (λ n. behind_left n left more four)
       (λ n op us deep. no_depth stop deep) finds);
 }
 
+-- a comparison goes on with a token that begins its sign
+sign_goes : (left : Sum) (t : Token) → Begins one_cmp_sign (t ∷ []) → Begins cmp_part (sum_tokens left ++ t ∷ [])
+sign_goes left t b = record {
+  some = compared left b.some (some_sum (cmp_at b.some));
+  more = b.more ++ sum_tokens (some_sum (cmp_at b.some));
+  tokens_are = ap (λ ts. sum_tokens left ++ (ts ++ sum_tokens (some_sum (cmp_at b.some)))) b.tokens_are ∙ sym (append_assoc (sum_tokens left) (t ∷ []) (b.more ++ sum_tokens (some_sum (cmp_at b.some))));
+}
+
 pub cmp_full : (room : ℕ) (before middle : List Token) (left : Part) (stop : Stop) → Found sum_part sum_tree 3 room before left middle → (next_level middle == 4) ≡ true → IsTooDeep left.height left.deepest room stop → Refused cmp_part room before stop
 cmp_full room before [] left stop l level deep = cc
-cmp_full room before (t ∷ ts) left stop l level deep = full cmp_part room before (sum_tokens l.written) t ts left.height left.deepest stop deep l.before_is (record { some = plain_cmp l.written; more = []; tokens_are = sym (append-nil (sum_tokens l.written)) })
-    (begins_inside cmp_part one_cmp_sign (sum_tokens l.written) (t ∷ []) (sign_inside room l.written (t ∷ ts) (at_level (t ∷ ts) level)).begins (cmp_begins t level))
+cmp_full room before (t ∷ ts) left stop l level deep = full cmp_part room before (sum_tokens l.written) t ts left.height left.deepest stop deep l.before_is (begins_whole cmp_part room (plain_cmp l.written) (λ at. let low = sum_low l.written at in let is = l.height_is in let fits = l.fits in omega (arith, low, is, fits)))
+    (sign_goes l.written t (cmp_begins t level))
     (λ more. let four = at_level (t ∷ more) level in finds_behind _ read_cmp read_sum cmp_rest 3 (sum_tokens l.written) l.written (t ∷ more) (λ n. refl) (reads_sum l.written) (omega (arith, four))
     (finds_first (λ o. ⊤) _ (λ n us. cmp_rest n l.written us) (λ n us. read_cmp_sign us) (λ n op us. go_on (read_sum n us) (λ right rest. no_second (compared l.written op right) rest)) (t ∷ more) (t ∷ more) (λ n. behind_left n l.written (t ∷ more) four)
     (λ n op us any. only_any _ (read_sum n us) _ (λ right rest. no_second_deep (Here (TooDeep left.deepest)) left.height (compared l.written op right) rest
     (above_left (begins (sum_tokens l.written) left.deepest) (sum_lies l.written left.deepest) (sum_lies right left.deepest) left.height (sum_depth l.written) l.height_is l.deepest_is (sum_above l.written))))
     (finds_anything (λ n us. read_cmp_sign us) (t ∷ more))))
 
-pub cmp_sign_refused : (room : ℕ) (before middle : List Token) (left : Part) (stop : Stop) → Found sum_part sum_tree 3 room before left middle → (next_level middle == 4) ≡ true → Refused one_cmp_sign 0 middle stop → Refused cmp_part room before stop
-cmp_sign_refused room before middle left stop l level is =
-    refused_same cmp_part room _ _ stop l.before_is (refused_inside cmp_part room one_cmp_sign 0 (sum_tokens l.written) middle stop (sign_inside room l.written middle (at_level middle level)) is)
+pub cmp_sign_refused : (room : ℕ) (before middle : List Token) (left : Part) (stop : Stop) → Found sum_part sum_tree 3 room before left middle → (next_level middle == 4) ≡ true → left.height < room → Refused one_cmp_sign 0 middle stop → Refused cmp_part room before stop
+cmp_sign_refused room before middle left stop l level fits is =
+    refused_same cmp_part room _ _ stop l.before_is (refused_inside cmp_part room one_cmp_sign 0 (sum_tokens l.written) middle stop (sign_inside room l.written middle (at_level middle level) (let same = l.height_is in omega (arith, fits, same))) is)
 
 -- the reader behind the left operand and the comparison
 behind_sign : {P : Cmp → Type 0} (left : Sum) (before behind : List Token) (at : Pos) (op : CmpOp) (k : TakenCmp before at op behind) (more : List Token) → first_of more ≡ first_of behind
@@ -123,26 +140,31 @@ behind_sign {P} left before behind at op k more first finds =
     (λ n. behind_left n left (cmp_tokens k.which ++ more) four ∙ ap (λ r. go_on r (λ o us. go_on (read_sum n us) (λ right rest. no_second (compared left o right) rest))) (k.alone more (keyword_next_same 26 more behind first)))
     finds)
 
-right_inside : (room inner : ℕ) (left : Sum) (before behind : List Token) (at : Pos) (op : CmpOp) (k : TakenCmp before at op behind) → room ≤ suc inner → Inside cmp_part room sum_part inner (sum_tokens left ++ cmp_tokens k.which) behind
-right_inside room inner left before behind at op k less = record {
-  begins = λ b. record { some = compared left k.which b; more = []; tokens_are = sym (append-nil ((sum_tokens left ++ cmp_tokens k.which) ++ sum_tokens b) ∙ append_assoc (sum_tokens left) (cmp_tokens k.which) (sum_tokens b)) };
+right_inside : (room inner : ℕ) (left : Sum) (before behind : List Token) (at : Pos) (op : CmpOp) (k : TakenCmp before at op behind) → room ≤ suc inner → inner < room → sum_depth left ≤ inner → Inside cmp_part room sum_part inner (sum_tokens left ++ cmp_tokens k.which) behind
+right_inside room inner left before behind at op k less smaller fits = record {
+  begins = λ at b. record {
+    some = compared left k.which b;
+    more = [];
+    tokens_are = sym (append-nil ((sum_tokens left ++ cmp_tokens k.which) ++ sum_tokens b) ∙ append_assoc (sum_tokens left) (cmp_tokens k.which) (sum_tokens b));
+    within = λ other apart low. let left_low = sum_low left other in node_within (begins (sum_tokens left) other) (sum_lies left other) (sum_lies b other) inner room smaller (omega (arith, left_low, fits)) low;
+  };
   finds = λ stop more first finds. finds_same _ read_cmp _ _ (append_assoc (sum_tokens left) (cmp_tokens k.which) more) (behind_sign left before behind at op k more first
       (finds_now _ _ (λ n us. go_on (read_sum n us) (λ right rest. no_second (compared left k.which right) rest)) read_sum (λ n right rest. no_second (compared left k.which right) rest) more more (λ n. refl)
       (λ n right rest deep. no_second_deep stop room (compared left k.which right) rest (deep_right stop inner room (begins (sum_tokens left)) (sum_lies left) (sum_lies right) less deep)) finds));
 }
 
-pub cmp_right_refused : (room inner : ℕ) (before middle behind : List Token) (at : Pos) (op : CmpOp) (left : Part) (stop : Stop) → Found sum_part sum_tree 3 room before left middle → TakenCmp middle at op behind → room ≤ suc inner
-    → Refused sum_part inner behind stop → Refused cmp_part room before stop
-cmp_right_refused room inner before middle behind at op left stop l k less is =
+pub cmp_right_refused : (room inner : ℕ) (before middle behind : List Token) (at : Pos) (op : CmpOp) (left : Part) (stop : Stop) → Found sum_part sum_tree 3 room before left middle → TakenCmp middle at op behind → left.height < room → room ≤ suc inner
+    → inner < room → Refused sum_part inner behind stop → Refused cmp_part room before stop
+cmp_right_refused room inner before middle behind at op left stop l k fits less smaller is =
     refused_same cmp_part room _ _ stop (l.before_is ∙ ap (λ ts. sum_tokens l.written ++ ts) k.before_is ∙ sym (append_assoc (sum_tokens l.written) (cmp_tokens k.which) behind))
-    (refused_inside cmp_part room sum_part inner (sum_tokens l.written ++ cmp_tokens k.which) behind stop (right_inside room inner l.written middle behind at op k less) is)
+    (refused_inside cmp_part room sum_part inner (sum_tokens l.written ++ cmp_tokens k.which) behind stop (right_inside room inner l.written middle behind at op k less smaller (let same = l.height_is in omega (arith, fits, less, same))) is)
 
-pub cmp_second_refused : (room inner : ℕ) (before middle behind after : List Token) (at : Pos) (op : CmpOp) (left right : Part) (stop : Stop) → Found sum_part sum_tree 3 room before left middle → TakenCmp middle at op behind
+pub cmp_second_refused : (room inner : ℕ) (before middle behind after : List Token) (at : Pos) (op : CmpOp) (left right : Part) (stop : Stop) → Found sum_part sum_tree 3 room before left middle → TakenCmp middle at op behind → left.height < room → inner < room
     → Found sum_part sum_tree 3 inner behind right after → (next_level after == 4) ≡ true → IsAtFirst after stop → Refused cmp_part room before stop
-cmp_second_refused room inner before middle behind after at op left right stop l k r level first = here cmp_part room before (sum_tokens l.written ++ (cmp_tokens k.which ++ sum_tokens r.written)) after stop
+cmp_second_refused room inner before middle behind after at op left right stop l k less smaller r level first = here cmp_part room before (sum_tokens l.written ++ (cmp_tokens k.which ++ sum_tokens r.written)) after stop
     (l.before_is ∙ ap (λ ts. sum_tokens l.written ++ ts) (k.before_is ∙ ap (λ ts. cmp_tokens k.which ++ ts) r.before_is ∙ sym (append_assoc (cmp_tokens k.which) (sum_tokens r.written) after))
     ∙ sym (append_assoc (sum_tokens l.written) (cmp_tokens k.which ++ sum_tokens r.written) after))
-    first (record { some = compared l.written k.which r.written; more = []; tokens_are = sym (append-nil (sum_tokens l.written ++ (cmp_tokens k.which ++ sum_tokens r.written))) })
+    first (begins_whole cmp_part room (compared l.written k.which r.written) low)
     (λ empty. absurd (nine_is_not (sym (ap (λ ts. next_level ts == 4) empty) ∙ level)))
     (λ t ts more is.
     let four : next_level (t ∷ more) ≡ 4 = at_level (t ∷ ts) (sym (ap (λ us. next_level us == 4) is) ∙ level) in
@@ -154,3 +176,12 @@ cmp_second_refused room inner before middle behind after at op left right stop l
   where
     nine_is_not : (9 == 4) ≡ true → ⊥
     nine_is_not is = cc
+
+    low : (at : Pos) → cmp_lies (compared l.written k.which r.written) at ≤ room
+    low at =
+        let left_low = sum_low l.written at in
+        let right_low = sum_low r.written at in
+        let left_is = l.height_is in
+        let right_is = r.height_is in
+        let fits = r.fits in
+        fits_below (begins (sum_tokens l.written) at) (sum_lies l.written at) (sum_lies r.written at) room (omega (arith, left_low, left_is, less)) (omega (arith, right_low, right_is, fits, smaller))

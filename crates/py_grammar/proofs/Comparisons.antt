@@ -14,10 +14,10 @@ use Rattle.py_grammar.specs.Tokens.{token, cmp_tokens}
 use Rattle.py_grammar.specs.Trees.{cmp_op, cmp_at}
 use Rattle.py_grammar.specs.Reader.{spot_of, is_or_is_not, is_sign, is_keyword, keyword_level, sign_level, kind_level, read_keyword, read_cmp_sign}
 use Rattle.py_grammar.specs.Parsed.{Taken, TakenCmp, one_keyword, one_cmp_sign, cmp_sign_op, cmp_sign_next, kind_cmp_op, is_keyword_next, IsAtFirst, Begins, Refused}
-use Rattle.py_grammar.proofs.Refusals.{Inside, refused_inside, refused_same, finds_first}
+use Rattle.py_grammar.proofs.Refusals.{Inside, begins_new, refused_inside, refused_same, finds_first}
 use Rattle.py_grammar.proofs.Firsts.{not_sign}
 use Rattle.py_grammar.proofs.Reading.{if_false}
-use Rattle.py_grammar.proofs.Stops.{at_first, finds_none, some_spot}
+use Rattle.py_grammar.proofs.Stops.{at_first, finds_none, some_spot, spot_at}
 
 -- a token of this sign
 pub one_token : (t : Token) (n : ℕ) → t.kind ≡ Sign n → t ≡ token (Sign n) (spot_of t)
@@ -128,14 +128,14 @@ none_there t more sign in_word not_word is_word =
     other k some_there = not_sign k t.kind (λ is. let gone = sym (ap is_some (sym sign ∙ ap kind_cmp_op is)) in absurd (false≢true (sym gone ∙ some_there)))
 
 pub cmp_refused : (before : List Token) (stop : Stop) → cmp_sign_next before ≡ None → is_keyword_next 22 before ≡ false → is_keyword_next 26 before ≡ false → is_keyword_next 23 before ≡ false → IsAtFirst before stop → Refused one_cmp_sign 0 before stop
-cmp_refused before stop sign in_word not_word is_word at = at_first one_cmp_sign 0 before stop at (record { some = within some_spot; more = _; tokens_are = refl })
+cmp_refused before stop sign in_word not_word is_word at = at_first one_cmp_sign 0 before stop at (begins_new one_cmp_sign 0 (λ at. within (spot_at at)) (λ at other apart. refl))
     (λ empty. finds_none _ _ [] (λ m. refl))
     (λ t ts more is. finds_none _ _ (t ∷ more) (λ m. none_there t more (sym (ap cmp_sign_next is) ∙ sign) (sym (ap (is_keyword_next 22) is) ∙ in_word) (sym (ap (is_keyword_next 26) is) ∙ not_word) (sym (ap (is_keyword_next 23) is) ∙ is_word)))
 
 -- behind `not` stands no `in`
 not_in : (spot : Spot) (rest : List Token) → Inside one_cmp_sign 0 (one_keyword 22) 0 (token (Keyword 26) spot ∷ []) rest
 not_in spot rest = record {
-  begins = λ b. record { some = not_within spot b; more = []; tokens_are = refl };
+  begins = λ at b. record { some = not_within spot b; more = []; tokens_are = refl; within = λ other apart low. low };
   finds = λ stop more first finds. finds_first _ _ (λ n ts. read_cmp_sign ts) (λ n ts. read_keyword 22 ts) (λ n in_at ts. Some (not_within spot in_at, ts)) (token (Keyword 26) spot ∷ more) more (λ n. refl) (λ n b ts deep. deep) finds;
 }
 

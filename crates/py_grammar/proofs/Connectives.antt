@@ -37,7 +37,7 @@ or_node spot left right = logic_expr spot.at Either left right
 
 or_chain : Chain or_part and_part or_tree and_tree 5 plain_or or_more (token (Keyword 27)) or_node or_rest
 or_chain = record {
-  some = plain_and some_not;
+  some = λ at. plain_and (some_not at);
   read_is = λ n ts. refl;
   step_is = λ n left o more. refl;
   tokens_one = λ s. refl;
@@ -75,8 +75,8 @@ or_end room before (t ∷ ts) part f other = last_found or_part and_part or_tree
 pub or_first : (room : ℕ) (before : List Token) (stop : Stop) → Refused and_part room before stop → Refused or_part room before stop
 or_first = first_refused or_part and_part or_tree and_tree 5 plain_or or_more (token (Keyword 27)) or_node or_rest or_chain
 
-pub or_right : (room inner : ℕ) (before middle behind : List Token) (at : Pos) (left : Part) (stop : Stop) → Found or_part or_tree 5 room before left middle → Taken (Keyword 27) middle at behind → room ≤ suc inner
-    → Refused and_part inner behind stop → Refused or_part room before stop
+pub or_right : (room inner : ℕ) (before middle behind : List Token) (at : Pos) (left : Part) (stop : Stop) → Found or_part or_tree 5 room before left middle → Taken (Keyword 27) middle at behind → left.height < room → room ≤ suc inner
+    → inner < room → Refused and_part inner behind stop → Refused or_part room before stop
 or_right room inner before middle behind at left stop l taken =
     next_refused or_part and_part or_tree and_tree 5 plain_or or_more (token (Keyword 27)) or_node or_rest or_chain room inner before middle behind taken.spot left stop l taken.before_is
 
@@ -137,8 +137,8 @@ and_end room before (t ∷ ts) part f other = last_found and_part not_part and_t
 pub and_first : (room : ℕ) (before : List Token) (stop : Stop) → Refused not_part room before stop → Refused and_part room before stop
 and_first = first_refused and_part not_part and_tree not_tree 4 plain_and and_more (token (Keyword 3)) and_node and_rest and_chain
 
-pub and_right : (room inner : ℕ) (before middle behind : List Token) (at : Pos) (left : Part) (stop : Stop) → Found and_part and_tree 4 room before left middle → Taken (Keyword 3) middle at behind → room ≤ suc inner
-    → Refused not_part inner behind stop → Refused and_part room before stop
+pub and_right : (room inner : ℕ) (before middle behind : List Token) (at : Pos) (left : Part) (stop : Stop) → Found and_part and_tree 4 room before left middle → Taken (Keyword 3) middle at behind → left.height < room → room ≤ suc inner
+    → inner < room → Refused not_part inner behind stop → Refused and_part room before stop
 and_right room inner before middle behind at left stop l taken =
     next_refused and_part not_part and_tree not_tree 4 plain_and and_more (token (Keyword 3)) and_node and_rest and_chain room inner before middle behind taken.spot left stop l taken.before_is
 
@@ -169,7 +169,7 @@ sum_node o left right = binary_expr o.1.at (add_op o.0) left right
 
 sum_chain : Chain sum_part term_part sum_tree term_tree 2 plain_sum sum_next_of sum_token sum_node sum_rest
 sum_chain = record {
-  some = plain_term some_unary;
+  some = λ at. plain_term (some_unary at);
   read_is = λ n ts. refl;
   step_is = step;
   tokens_one = λ s. refl;
@@ -223,8 +223,8 @@ sum_end room before (t ∷ ts) part f other = last_found sum_part term_part sum_
 pub sum_first : (room : ℕ) (before : List Token) (stop : Stop) → Refused term_part room before stop → Refused sum_part room before stop
 sum_first = first_refused sum_part term_part sum_tree term_tree 2 plain_sum sum_next_of sum_token sum_node sum_rest sum_chain
 
-pub sum_right : (room inner : ℕ) (before middle behind : List Token) (at : Pos) (op : BinOp) (left : Part) (stop : Stop) → Found sum_part sum_tree 2 room before left middle → TakenAdd middle at op behind → room ≤ suc inner
-    → Refused term_part inner behind stop → Refused sum_part room before stop
+pub sum_right : (room inner : ℕ) (before middle behind : List Token) (at : Pos) (op : BinOp) (left : Part) (stop : Stop) → Found sum_part sum_tree 2 room before left middle → TakenAdd middle at op behind → left.height < room → room ≤ suc inner
+    → inner < room → Refused term_part inner behind stop → Refused sum_part room before stop
 sum_right room inner before middle behind at op left stop l taken =
     next_refused sum_part term_part sum_tree term_tree 2 plain_sum sum_next_of sum_token sum_node sum_rest sum_chain room inner before middle behind (taken.which, taken.spot) left stop l (taken.before_is ∙ sum_same taken.which taken.spot behind)
 
@@ -314,8 +314,8 @@ term_end room before (t ∷ ts) part f other = last_found term_part unary_part t
 pub term_first : (room : ℕ) (before : List Token) (stop : Stop) → Refused unary_part room before stop → Refused term_part room before stop
 term_first = first_refused term_part unary_part term_tree unary_tree 1 plain_term term_next_of term_token term_node term_rest term_chain
 
-pub term_right : (room inner : ℕ) (before middle behind : List Token) (at : Pos) (op : BinOp) (left : Part) (stop : Stop) → Found term_part term_tree 1 room before left middle → TakenMul middle at op behind → room ≤ suc inner
-    → Refused unary_part inner behind stop → Refused term_part room before stop
+pub term_right : (room inner : ℕ) (before middle behind : List Token) (at : Pos) (op : BinOp) (left : Part) (stop : Stop) → Found term_part term_tree 1 room before left middle → TakenMul middle at op behind → left.height < room → room ≤ suc inner
+    → inner < room → Refused unary_part inner behind stop → Refused term_part room before stop
 term_right room inner before middle behind at op left stop l taken =
     next_refused term_part unary_part term_tree unary_tree 1 plain_term term_next_of term_token term_node term_rest term_chain room inner before middle behind (taken.which, taken.spot) left stop l (taken.before_is ∙ term_same taken.which taken.spot behind)
 

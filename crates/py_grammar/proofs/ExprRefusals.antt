@@ -18,23 +18,24 @@ use Rattle.py_grammar.specs.declared.fault.Stop.TheVariants.{Here}
 use Rattle.py_grammar.specs.declared.part.Part.{Part}
 use Rattle.py_grammar.specs.Concrete.{Spot, Exprs, one_expr, several}
 use Rattle.py_grammar.specs.Tokens.{token, exprs_tokens}
-use Rattle.py_grammar.specs.Depth.{simple_depth}
+use Rattle.py_grammar.specs.Depth.{exprs_depth, simple_depth}
 use Rattle.py_grammar.specs.Lies.{exprs_lies, one_target_lies, simple_lies, target_lies}
 use Rattle.py_grammar.specs.Written.{AugSign, OneTarget, Target, Simple, expression, assign, augmented}
 use Rattle.py_grammar.specs.StatementTokens.{simple_tokens}
 use Rattle.py_grammar.specs.StatementTrees.{target_tree, simple_form}
-use Rattle.py_grammar.specs.WellPlaced.{Around, form_stands}
+use Rattle.py_grammar.specs.WellPlaced.{Around}
 use Rattle.py_grammar.specs.Reader.{is_sign, is_keyword, spot_of, kind_level, start_class, next_level, starts, read_exprs}
 use Rattle.py_grammar.specs.StatementReader.{exprs_target, single_target, aug_sign_of, whole, behind_exprs, read_simple}
 use Rattle.py_grammar.specs.Parsed.{IsDeep, Only, FoundRow, Refused, ends_open, is_keyword_next, is_sign_next, exprs_part}
-use Rattle.py_grammar.specs.ParsedSimple.{leaving_none, IsRow, SimpleFound, SimpleRefused, FoundAnywhere, RefusedAnywhere, FoundAfter, RefusedAfter, aug_sign_next, is_word, is_word_kind, begins_word, IsMore, all_target_form}
+use Rattle.py_grammar.specs.ParsedSimple.{leaving_none, has_place, IsRow, SimpleFound, SimpleRefused, FoundAnywhere, RefusedAnywhere, FoundAfter, RefusedAfter, aug_sign_next, is_word, is_word_kind, begins_word, IsMore, all_target_form}
 use Rattle.py_grammar.proofs.Firsts.{IsStart, exprs_starts}
 use Rattle.py_grammar.proofs.Reading.{if_false}
 use Rattle.py_grammar.proofs.RowReads.{row_reads}
 use Rattle.py_grammar.proofs.Refusals.{first_of, deeper, deep_same, deep_beside_left, max_below}
 use Rattle.py_grammar.proofs.SimpleReading.{by_exprs, begins_with_exprs}
 use Rattle.py_grammar.proofs.TargetForms.{target_lies_so, targets_deep, targets_lie_so, targets_spelled, targets_tree_is}
-use Rattle.py_grammar.proofs.SimpleParts.{ReadsNone, Turns, turned_none, turns_same, as_whole, map_whole, only_whole, only_map, only_if_simple, begins_part, other_statement, refused_part, at_token, ended, row_all, row_goes}
+use Rattle.py_grammar.proofs.LyingLines.{target_low}
+use Rattle.py_grammar.proofs.SimpleParts.{ReadsNone, Turns, turned_none, turns_same, as_whole, map_whole, only_whole, only_map, only_if_simple, row_fits, spelled, begins_part, other_statement, refused_part, at_token, ended, row_all, row_goes}
 
 -- ---- the expressions with which it begins
 
@@ -138,7 +139,7 @@ row_deep why n e (t ∷ ts) deep = only_if_simple _ (is_sign 9 t.kind) _ _ (assi
 pub row_refused : (before : List Token) (stop : Stop) → begins_word before ≡ false → Refused exprs_part 100 before stop → RefusedAnywhere before stop
 row_refused before stop other is = record {
   there = λ around. refused_part around exprs_part 100 [] before before stop row_turn (no_del_word before other) refl
-      (begins_part exprs_part [] expression (λ e. refl)) (λ more first. row_turns more (same_first more before first other)) (λ why n e left deep. row_deep why (n + 12) e left deep) is;
+      (begins_part (has_place around) exprs_part 100 [] expression (λ e. refl) (λ e. refl) (λ e at low. low)) (λ more first. row_turns more (same_first more before first other)) (λ why n e left deep. row_deep why (n + 12) e left deep) is;
 }
 
 -- what is known of the next token
@@ -150,7 +151,7 @@ start_next f t ts is ends = subst (λ (ts : List Token). starts ts ≡ 0) is (f.
 
 pub row_more : (before after : List Token) (part : Part) (stop : Stop) → FoundRow 100 before part after → is_sign_next 9 after ≡ false → aug_sign_next after ≡ None → IsMore after stop → RefusedAnywhere before stop
 row_more before after part stop f other none more = record {
-  there = λ around. ended around (exprs_tokens f.written) after before stop (expression f.written) (ap (is_keyword_next 12) f.before_is ∙ exprs_no_del f.written after) f.before_is refl more
+  there = λ around. ended around (exprs_tokens f.written) after before stop (expression f.written) refl (row_fits f) (ap (is_keyword_next 12) f.before_is ∙ exprs_no_del f.written after) f.before_is refl more
       (λ t ts rest is. row_none f.written t rest (beyond_next f t ts is) (start_next f t ts is)
       (λ n. if_false (is_sign 9 t.kind) _ _ (subst (λ (ts : List Token). is_sign_next 9 ts ≡ false) is other)
       ∙ ap (option_and_then (λ op. option_and_then (λ target. option_map (augmented target op (spot_of t)) (whole (read_exprs n rest))) (single_target f.written))) (subst (λ (ts : List Token). aug_sign_next ts ≡ None) is none)));
@@ -173,7 +174,10 @@ pub record Builds (e : Exprs) (c : Token) (build : Exprs → Simple) : Type 0 wh
   pub no_start : start_class c.kind ≡ 0
   pub reads : (n : ℕ) (more : List Token) → behind_exprs n e (c ∷ more) ≡ option_map build (whole (read_exprs n more))
   pub spells : (v : Exprs) → simple_tokens (build v) ≡ exprs_tokens e ++ (c ∷ exprs_tokens v)
+  pub stands : (around : Around) (v : Exprs) → has_place around (build v) ≡ true
   pub deep : (v : Exprs) (at : Pos) → exprs_lies v at ≤ simple_lies (build v) at
+  pub within : (v : Exprs) (at : Pos) → exprs_lies v at ≤ 100 → simple_lies (build v) at ≤ 100
+  pub fits : (v : Exprs) → exprs_depth v ≤ 100 → simple_depth (build v) ≤ 100
 
 abbrev value_turn : (Exprs → Simple) → ℕ → Exprs → List Token → Option Simple
 value_turn build = as_whole (λ v. Some (build v))
@@ -192,27 +196,27 @@ value_turns e c build b more = record {
 pub value_refused : (around : Around) (e : Exprs) (c : Token) (build : Exprs → Simple) (before after : List Token) (stop : Stop) → Builds e c build → before ≡ exprs_tokens e ++ c ∷ after → Refused exprs_part 100 after stop → SimpleRefused around before stop
 value_refused around e c build before after stop b is refused = refused_part around exprs_part 100 (exprs_tokens e ++ c ∷ []) after before stop (value_turn build)
     (ap (is_keyword_next 12) is ∙ exprs_no_del e (c ∷ after)) (is ∙ sym (append_assoc (exprs_tokens e) (c ∷ []) after))
-    (begins_part exprs_part (exprs_tokens e ++ c ∷ []) build (λ v. b.spells v ∙ sym (append_assoc (exprs_tokens e) (c ∷ []) (exprs_tokens v))))
+    (begins_part (has_place around) exprs_part 100 (exprs_tokens e ++ c ∷ []) build (b.stands around) (λ v. b.spells v ∙ sym (append_assoc (exprs_tokens e) (c ∷ []) (exprs_tokens v))) (λ v at low. b.within v at low))
     (λ more first. turns_same exprs_part _ (exprs_tokens e ++ c ∷ more) more _ (append_assoc (exprs_tokens e) (c ∷ []) more) (value_turns e c build b more))
     (λ why n v left deep. only_whole _ (λ v. Some (build v)) n v left (deeper why 100 (exprs_lies v) 100 (simple_lies (build v)) deep (λ at some. let high = b.deep v at in omega (arith, high))))
     refused
 
 pub value_more : (around : Around) (e : Exprs) (c : Token) (build : Exprs → Simple) (before after last : List Token) (value : Part) (stop : Stop) → Builds e c build → before ≡ exprs_tokens e ++ c ∷ after → FoundRow 100 after value last
     → IsMore last stop → SimpleRefused around before stop
-value_more around e c build before after last value stop b is v more = ended around (exprs_tokens e ++ (c ∷ exprs_tokens v.written)) last before stop (build v.written)
+value_more around e c build before after last value stop b is v more = ended around (exprs_tokens e ++ (c ∷ exprs_tokens v.written)) last before stop (build v.written) (b.stands around v.written) (b.fits v.written (row_fits v))
     (ap (is_keyword_next 12) is ∙ exprs_no_del e (c ∷ after)) (is ∙ ap (λ ts. exprs_tokens e ++ c ∷ ts) v.before_is ∙ sym (append_assoc (exprs_tokens e) (c ∷ exprs_tokens v.written) last)) (b.spells v.written) more
     (λ t ts rest last_is. turned_none exprs_part _ (exprs_tokens v.written ++ t ∷ rest) (t ∷ rest) (value_turn build) v.written (row_reads v.written).steps
     (turns_same exprs_part _ _ _ _ (append_assoc (exprs_tokens e) (c ∷ exprs_tokens v.written) (t ∷ rest)) (value_turns e c build b (exprs_tokens v.written ++ t ∷ rest)))
     (row_goes v t ts rest last_is) (λ n. refl))
 
 pub value_found : (around : Around) (e : Exprs) (c : Token) (build : Exprs → Simple) (before after last : List Token) (value : Part) (form : Form) → Builds e c build → before ≡ exprs_tokens e ++ c ∷ after → (v : FoundRow 100 after value last)
-    → last ≡ [] → form_of form ≡ simple_form (build v.written) → simple_depth (build v.written) ≤ 100 → form_stands around (simple_form (build v.written)) ≡ true → SimpleFound around before form
-value_found around e c build before after last value form b is v ends tree low stands = record {
+    → last ≡ [] → form_of form ≡ simple_form (build v.written) → simple_depth (build v.written) ≤ 100 → SimpleFound around before form
+value_found around e c build before after last value form b is v ends tree low = record {
   written = build v.written;
   before_is = is ∙ ap (λ ts. exprs_tokens e ++ c ∷ ts) (row_all v ends) ∙ sym (b.spells v.written);
   tree_is = tree;
   fits = low;
-  stands = stands;
+  stands = b.stands around v.written;
 }
 
 -- behind these expressions and the sign
@@ -220,11 +224,11 @@ pub behind_sign : {before middle after : List Token} {first : Part} {c : Token} 
 behind_sign f is = f.before_is ∙ ap (λ ts. exprs_tokens f.written ++ ts) is
 
 -- no target stands before the sign
-pub sign_wrong : (around : Around) (e : Exprs) (c : Token) (before after : List Token) (left : ℕ) → left ≡ length after → 8 < kind_level c.kind → start_class c.kind ≡ 0 → ((n : ℕ) (more : List Token) → behind_exprs n e (c ∷ more) ≡ None)
+pub sign_wrong : (around : Around) (e : Exprs) (c : Token) (before after : List Token) (left : ℕ) → exprs_depth e ≤ 100 → left ≡ length after → 8 < kind_level c.kind → start_class c.kind ≡ 0 → ((n : ℕ) (more : List Token) → behind_exprs n e (c ∷ more) ≡ None)
     → before ≡ exprs_tokens e ++ c ∷ after → SimpleRefused around before (Here (Unexpected left))
-sign_wrong around e c before after left counted level no_start none is =
-    at_token around (exprs_tokens e) c after before left (expression e)
-    (other_statement before (exprs_tokens e) c after (Unexpected left) (ap (is_keyword_next 12) is ∙ exprs_no_del e (c ∷ after)) is) is refl counted (λ more. row_none e c more (λ ends. level) (λ ends. no_start) (λ n. none n more))
+sign_wrong around e c before after left fits counted level no_start none is =
+    at_token around (exprs_tokens e) c after before left (spelled (has_place around) (expression e) (exprs_tokens e) refl fits refl)
+    (other_statement before (exprs_tokens e) c after (Unexpected left) (ap (is_keyword_next 12) is ∙ exprs_no_del e (c ∷ after)) is) is counted (λ more. row_none e c more (λ ends. level) (λ ends. no_start) (λ n. none n more))
 
 -- ---- assignments
 
@@ -239,19 +243,22 @@ no_target (Some t) is = cc
 first_target : {before middle : List Token} {first : Part} → (f : FoundRow 100 before first middle) → is_none first.wrong ≡ true → (t : Target) × (exprs_target f.written ≡ Some t)
 first_target f fine = a_target (exprs_target f.written) (sym f.form_is ∙ fine)
 
-assign_builds : (e : Exprs) (spot : Spot) (t : Target) → exprs_target e ≡ Some t → Builds e (token (Sign 9) spot) (assign t spot)
-assign_builds e spot t is = record {
+assign_builds : (e : Exprs) (spot : Spot) (t : Target) → exprs_target e ≡ Some t → exprs_depth e ≤ 100 → Builds e (token (Sign 9) spot) (assign t spot)
+assign_builds e spot t is low = record {
   level = omega arith;
   no_start = refl;
   reads = λ n more. ap (option_and_then (λ target. option_map (assign target spot) (whole (read_exprs n more)))) is;
   spells = λ v. ap (λ ts. ts ++ (token (Sign 9) spot ∷ exprs_tokens v)) (sym (targets_spelled e t is));
+  stands = λ around v. refl;
   deep = λ v at. le-max_right (target_lies t at) (exprs_lies v at);
+  within = λ v at inner. let deep = targets_deep e t is in let high = target_low t at in max_below _ _ 100 (omega (arith, deep, high, low)) inner;
+  fits = λ v inner. let deep = targets_deep e t is in max_below _ _ 100 (omega (arith, deep, low)) inner;
 }
 
 pub assign_wrong : (first : Part) (left : ℕ) (behind : List Token) → is_none first.wrong ≡ false → left ≡ length behind → RefusedAfter first behind (Here (Unexpected left))
 assign_wrong first left behind other counted = record {
   there = λ around at before middle f k.
-      sign_wrong around f.written (token (Sign 9) k.spot) before behind left counted (omega arith) refl
+      sign_wrong around f.written (token (Sign 9) k.spot) before behind left (row_fits f) counted (omega arith) refl
       (λ n more. ap (option_and_then (λ target. option_map (assign target k.spot) (whole (read_exprs n more)))) (no_target (exprs_target f.written) (sym f.form_is ∙ other)))
       (behind_sign f k.before_is);
 }
@@ -260,14 +267,14 @@ pub assign_refused : (first : Part) (behind : List Token) (stop : Stop) → is_n
 assign_refused first behind stop fine refused = record {
   there = λ around at before middle f k.
       let t = first_target f fine in
-      value_refused around f.written (token (Sign 9) k.spot) (assign t.0 k.spot) before behind stop (assign_builds f.written k.spot t.0 t.1) (behind_sign f k.before_is) refused;
+      value_refused around f.written (token (Sign 9) k.spot) (assign t.0 k.spot) before behind stop (assign_builds f.written k.spot t.0 t.1 (row_fits f)) (behind_sign f k.before_is) refused;
 }
 
 pub assign_more : (first : Part) (behind last : List Token) (value : Part) (stop : Stop) → is_none first.wrong ≡ true → FoundRow 100 behind value last → IsMore last stop → RefusedAfter first behind stop
 assign_more first behind last value stop fine v more = record {
   there = λ around at before middle f k.
       let t = first_target f fine in
-      value_more around f.written (token (Sign 9) k.spot) (assign t.0 k.spot) before behind last value stop (assign_builds f.written k.spot t.0 t.1) (behind_sign f k.before_is) v more;
+      value_more around f.written (token (Sign 9) k.spot) (assign t.0 k.spot) before behind last value stop (assign_builds f.written k.spot t.0 t.1 (row_fits f)) (behind_sign f k.before_is) v more;
 }
 
 pub assign_found : (first : Part) (behind last : List Token) (target : BuiltTarget) (value : Part) (form : Form) → is_none first.wrong ≡ true → all_target_form (expr_of first.expr) ≡ Some (target_of target)
@@ -275,10 +282,9 @@ pub assign_found : (first : Part) (behind last : List Token) (target : BuiltTarg
 assign_found first behind last target value form fine built v ends tree around at before middle f k =
     let t = first_target f fine in
     let same : target_of target ≡ target_tree t.0 = same_Some _ _ (sym built ∙ ap all_target_form f.tree_is ∙ targets_tree_is f.written t.0 t.1) in
-    value_found around f.written (token (Sign 9) k.spot) (assign t.0 k.spot) before behind last value form (assign_builds f.written k.spot t.0 t.1) (behind_sign f k.before_is) v ends
+    value_found around f.written (token (Sign 9) k.spot) (assign t.0 k.spot) before behind last value form (assign_builds f.written k.spot t.0 t.1 (row_fits f)) (behind_sign f k.before_is) v ends
     (tree ∙ ap (λ t. assign_form t (expr_of value.expr)) same ∙ ap (assign_form (target_tree t.0)) v.tree_is)
     (let high = f.height_is in let low = f.fits in let deep = targets_deep f.written t.0 t.1 in let high_2 = v.height_is in let low_2 = v.fits in max_below _ _ 100 (omega (arith, high, low, deep)) (omega (arith, high_2, low_2)))
-    refl
 
 pub assign_is_target : (first : Part) → IsRow first → is_none first.wrong ≡ true → is_some (all_target_form (expr_of first.expr)) ≡ true
 assign_is_target first r fine =

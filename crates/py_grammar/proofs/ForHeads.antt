@@ -1,5 +1,5 @@
 -- The line of a `for`: what is read of it, and how it is refused.
-use Rattle.std.proofs.Common.{◌≡◌, inl, inr, ℕ, ◌+◌, max, ◌≤◌, false, List, [], ◌∷◌, ◌++◌, Option, None, refl, ap, sym, ◌∙◌, arith, subst, append_assoc}
+use Rattle.std.proofs.Common.{◌≡◌, inl, inr, ℕ, ◌+◌, max, ◌≤◌, true, false, List, [], ◌∷◌, ◌++◌, Option, None, refl, ap, sym, ◌∙◌, arith, subst, append_assoc}
 use Rattle.std.proofs.Math.Nat.{le-max_left, le-max_right}
 use Rattle.prov_base.specs.declared.place.Pos.{Pos}
 use Rattle.py_lines.specs.declared.parts.Token.{Token}
@@ -24,14 +24,16 @@ use Rattle.py_grammar.specs.LineReader.{Head, for_head, head_tokens, colon_token
 use Rattle.py_grammar.specs.Reader.{read_keyword, read_exprs}
 use Rattle.py_grammar.specs.Parsed.{IsDeep, Refused, FoundRow, Taken, one_keyword, exprs_part}
 use Rattle.py_grammar.specs.ParsedRows.{first_token, IsRead}
-use Rattle.py_grammar.specs.ParsedHead.{Took, target_part, Context, head_lies, behind_lies, IsAmissHead, BeginsHead, passed_tokens, BeginsTargets, GoesOnLine, UnreadTargets, UnreadLine, IsAheadOnLine, ShownBy, EndedBy, HeadRefused, OpeningFound, OpeningRefused}
+use Rattle.py_grammar.specs.ParsedHead.{Took, target_part, Context, word_may, head_lies, behind_lies, IsAmissHead, StartsHead, BeginsHead, passed_tokens, StartsTargets, BeginsTargets, GoesOnLine, UnreadTargets, UnreadLine, IsAheadOnLine, ShownBy, EndedBy, HeadRefused, OpeningFound, OpeningRefused}
 use Rattle.py_grammar.specs.ParsedNames.{Followed, followed_tokens, GoesOnTargets, IsAheadOfTargets, TargetsRefused, TargetsEnd, TargetFound}
-use Rattle.py_grammar.proofs.Stops.{some_spot}
+use Rattle.py_grammar.proofs.Stops.{some_spot, spot_at}
+use Rattle.py_grammar.proofs.Lying.{nowhere, exprs_low}
+use Rattle.py_grammar.proofs.LyingLines.{target_low}
 use Rattle.py_grammar.proofs.SimpleReading.{target_expr}
-use Rattle.py_grammar.proofs.Refusals.{deep_beside_left, deep_beside_right}
+use Rattle.py_grammar.proofs.Refusals.{alone_elsewhere, deep_beside_left, deep_beside_right}
 use Rattle.py_grammar.proofs.RowParts.{more_steps}
 use Rattle.py_grammar.proofs.ClosedParts.{not_deep}
-use Rattle.py_grammar.proofs.LineFirsts.{same_behind}
+use Rattle.py_grammar.proofs.LineFirsts.{same_behind, both_true}
 use Rattle.py_grammar.proofs.NoDel.{has_del, without, no_del_front, del_absent, no_del_one_target, no_del_sum}
 use Rattle.py_grammar.proofs.Unread.{PassesFor, unread_clear}
 use Rattle.py_grammar.proofs.HeadParts.{clear_before, FindsHead, HeadTurns, finds_written, begins_part_head, refused_part_head, turns_on, ColonReads, colon_on, row_is_read}
@@ -46,8 +48,11 @@ for_in spot t n in_word more = then_read (read_exprs n more) (λ e rest. read_co
 abbrev for_exprs : Spot → Target → Spot → ℕ → Exprs → List Token → Option Head
 for_exprs spot t in_word n e rest = read_colon n (for_head spot t in_word e) rest
 
-some_exprs : Exprs
-some_exprs = one_expr (target_expr (named some_spot []))
+abbrev some_exprs : Pos → Exprs
+some_exprs at = one_expr (target_expr (named (spot_at at) []))
+
+alone_exprs : (at other : Pos) → (other ≡ at → ⊥) → exprs_lies (some_exprs at) other ≡ 0
+alone_exprs at other apart = alone_elsewhere at other apart
 
 -- ---- what stands behind `for`
 
@@ -96,24 +101,27 @@ for_amiss c given limit (Here (TooMany at)) lies h deep higher = absurd deep
 for_amiss c given limit (Here Memory) lies h deep higher = absurd deep
 for_amiss c given limit End lies h deep higher = absurd deep
 
-for_begins : (spot : Spot) (ts : List Token) → BeginsTargets ts → BeginsHead (token (Keyword 17) spot ∷ ts)
-for_begins spot ts b = inr (inr (record { spot = spot; inside = ts; begins = b; front_is = refl }))
+for_begins : (c : Context) (given : List (List ℕ)) (spot : Spot) (ts : List Token) → word_may c 17 ≡ true → BeginsTargets 100 ts → BeginsHead c given (token (Keyword 17) spot ∷ ts)
+for_begins c given spot ts may b = inr (inr (record { may = may; spot = spot; inside = ts; begins = b; front_is = refl }))
 
-goes_for : (limit : Option Limit) (spot : Spot) (tokens : List Token) (t : Token) (fault : Fault) → GoesOnTargets tokens t fault → GoesOnLine limit (token (Keyword 17) spot ∷ tokens) t fault
-goes_for limit spot tokens t (TooDeep at) b = inl (for_begins spot (tokens ++ t ∷ []) b)
-goes_for limit spot tokens t (TooMany at) goes = absurd goes
-goes_for limit spot tokens t (Unexpected left) goes = tt
-goes_for limit spot tokens t Memory goes = tt
+for_starts : (c : Context) (given : List (List ℕ)) (spot : Spot) (ts : List Token) → word_may c 17 ≡ true → StartsTargets ts → StartsHead c given (token (Keyword 17) spot ∷ ts)
+for_starts c given spot ts may b = inr (inr (record { may = may; spot = spot; inside = ts; begins = b; front_is = refl }))
+
+goes_for : (c : Context) (given : List (List ℕ)) (limit : Option Limit) (spot : Spot) (tokens : List Token) (t : Token) (fault : Fault) → word_may c 17 ≡ true → GoesOnTargets tokens t fault → GoesOnLine c given limit (token (Keyword 17) spot ∷ tokens) t fault
+goes_for c given limit spot tokens t (TooDeep at) may b = inl (for_starts c given spot (tokens ++ t ∷ []) may b)
+goes_for c given limit spot tokens t (TooMany at) may goes = absurd goes
+goes_for c given limit spot tokens t (Unexpected left) may goes = tt
+goes_for c given limit spot tokens t Memory may goes = tt
 
 -- no `del` stands in targets
 no_del_passed : (passed : List (OneTarget × Spot)) → has_del (passed_tokens passed) ≡ false
 no_del_passed [] = refl
 no_del_passed (p ∷ passed) = without (one_target_tokens p.0) (token (Sign 6) p.1 ∷ passed_tokens passed) (no_del_one_target p.0) (no_del_passed passed)
 
-targets_clear : (tokens : List Token) → BeginsTargets tokens → has_del tokens ≡ false
-targets_clear tokens b = no_del_front tokens b.more (subst (λ (ts : List Token). has_del ts ≡ false) b.tokens_are (without (passed_tokens b.passed) (sum_tokens b.some) (no_del_passed b.passed) (no_del_sum b.some)))
+targets_clear : (tokens : List Token) → BeginsTargets 100 tokens → has_del tokens ≡ false
+targets_clear tokens b = let k = b nowhere in no_del_front tokens k.more (subst (λ (ts : List Token). has_del ts ≡ false) k.tokens_are (without (passed_tokens k.passed) (sum_tokens k.some) (no_del_passed k.passed) (no_del_sum k.some)))
 
-unread_for : (spot : Spot) (tokens : List Token) (t : Token) (fault : Fault) → BeginsTargets tokens → UnreadTargets 100 tokens t fault → UnreadLine (token (Keyword 17) spot ∷ tokens) t fault
+unread_for : (spot : Spot) (tokens : List Token) (t : Token) (fault : Fault) → BeginsTargets 100 tokens → UnreadTargets 100 tokens t fault → UnreadLine (token (Keyword 17) spot ∷ tokens) t fault
 unread_for spot tokens t fault begun unread = unread_clear (token (Keyword 17) spot ∷ tokens) t fault (targets_clear tokens begun)
     (λ at inside is passed s more same. unread.there passed s more (same ∙ ap (λ ts. ts ++ t ∷ more) (sym (same_behind (token (Keyword 17) spot) (token (Keyword 17) at) tokens inside is))))
 
@@ -136,25 +144,25 @@ passes_in spot in_at tokens rest behind ends first us t left fault next at insid
 
 -- ---- the target is refused
 
-module _ (c : Context) (given : List (List ℕ)) (limit : Option Limit) (spot : Spot) (before : List Token) where
-  shown_for : (fault : Fault) → ShownBy BeginsTargets (IsAheadOfTargets 100) (followed_tokens target_part) (λ fault w. IsDeep (Here fault) 100 (target_lies w.part)) before fault
-      → ShownBy BeginsHead (IsAheadOnLine limit) head_tokens (λ fault h. IsAmissHead c given limit (Here fault) h) (token (Keyword 17) spot ∷ before) fault
+module _ (c : Context) (given : List (List ℕ)) (limit : Option Limit) (spot : Spot) (before : List Token) (may : word_may c 17 ≡ true) where
+  shown_for : (fault : Fault) → ShownBy (BeginsTargets 100) (IsAheadOfTargets 100) (followed_tokens target_part) (λ fault w. IsDeep (Here fault) 100 (target_lies w.part)) before fault
+      → ShownBy (BeginsHead c given) (IsAheadOnLine c given limit) head_tokens (λ fault h. IsAmissHead c given limit (Here fault) h) (token (Keyword 17) spot ∷ before) fault
   shown_for fault s = record {
     front = token (Keyword 17) spot ∷ s.front;
     shown_by = s.shown_by;
     behind = s.behind;
     before_is = ap (λ ts. token (Keyword 17) spot ∷ ts) s.before_is;
     left_is = s.left_is;
-    begun = for_begins spot s.front s.begun;
-    goes_on = (goes_for limit spot s.front s.shown_by fault s.goes_on.0, unread_for spot s.front s.shown_by fault s.begun s.goes_on.1);
+    begun = for_begins c given spot s.front may s.begun;
+    goes_on = (goes_for c given limit spot s.front s.shown_by fault may s.goes_on.0, unread_for spot s.front s.shown_by fault s.begun s.goes_on.1);
     none = λ h more is.
         let f = for_there spot h (s.front ++ s.shown_by ∷ more) is in
         for_amiss c given limit (Here fault) (target_lies f.part.part) h (s.none f.part more f.tokens_are) f.higher;
   }
 
-  ended_for : (stop : Stop) → EndedBy BeginsTargets (followed_tokens target_part) (λ w. IsDeep stop 100 (target_lies w.part)) before → EndedBy BeginsHead head_tokens (IsAmissHead c given limit stop) (token (Keyword 17) spot ∷ before)
+  ended_for : (stop : Stop) → EndedBy (BeginsTargets 100) (followed_tokens target_part) (λ w. IsDeep stop 100 (target_lies w.part)) before → EndedBy (BeginsHead c given) head_tokens (IsAmissHead c given limit stop) (token (Keyword 17) spot ∷ before)
   ended_for stop e = record {
-    begun = for_begins spot before e.begun;
+    begun = for_begins c given spot before may e.begun;
     none = λ h is. let f = for_there spot h before is in for_amiss c given limit stop (target_lies f.part.part) h (e.none f.part f.tokens_are) f.higher;
   }
 
@@ -166,7 +174,7 @@ module _ (c : Context) (given : List (List ℕ)) (limit : Option Limit) (spot : 
   refused_for End is = ended_for End is
 
 pub for_target_refused : (c : Context) (before : List Token) (stop : Stop) → TargetsRefused target_part 100 before stop → OpeningRefused c 17 before stop
-for_target_refused c before stop is = record { there = λ given limit spot. refused_for c given limit spot before stop is }
+for_target_refused c before stop is = record { there = λ given limit spot may. refused_for c given limit spot before may stop is }
 
 -- ---- behind the target
 
@@ -182,11 +190,13 @@ in_turns {before = before} {middle = middle} spot t = turns_on target_part (one_
 
 pub for_in_refused : (c : Context) (tree : _) (before middle : List Token) (stop : Stop) → TargetFound before tree middle → Refused (one_keyword 22) 0 middle stop → OpeningRefused c 17 before stop
 for_in_refused c tree before middle stop found is = record {
-  there = λ given limit spot.
+  there = λ given limit spot may.
       let t = found.took in
       refused_part_head c given limit (one_keyword 22) 0 (token (Keyword 17) spot ∷ target_tokens t.written) middle (token (Keyword 17) spot ∷ before) stop (λ n. for_in spot t.written (n + t.is_read.steps))
       (ap (λ ts. token (Keyword 17) spot ∷ ts) t.before_is)
-      (begins_part_head (one_keyword 22) (token (Keyword 17) spot ∷ target_tokens t.written) (λ b. for_head spot t.written b some_exprs some_spot None) (λ b. exprs_tokens some_exprs ++ colon_tokens some_spot None) (λ b. refl) (λ b. refl) (λ b. refl))
+      (begins_part_head c given (one_keyword 22) 0 (token (Keyword 17) spot ∷ target_tokens t.written) (λ at b. for_head spot t.written b (some_exprs at) (spot_at at) None) (λ at b. exprs_tokens (some_exprs at) ++ colon_tokens (spot_at at) None)
+      (λ at b. both_true _ true may refl) (λ at b. refl) (λ at b. refl) (λ at b. refl)
+      (λ at other apart b any. let alone = alone_exprs at other apart in let low = target_low t.written other in let fits = t.fits in omega (arith, alone, low, fits)))
       (passes_target spot (target_tokens t.written) middle found.ends) (in_turns spot t) (λ why n b left deep. absurd (not_deep why deep)) is;
 }
 
@@ -204,12 +214,14 @@ for_before {behind = behind} spot t k = ap (λ ts. token (Keyword 17) spot ∷ t
 
 pub for_items_refused : (c : Context) (tree : _) (before middle behind : List Token) (at : Pos) (stop : Stop) → TargetFound before tree middle → Taken (Keyword 22) middle at behind → Refused exprs_part 100 behind stop → OpeningRefused c 17 before stop
 for_items_refused c tree before middle behind at stop found k is = record {
-  there = λ given limit spot.
+  there = λ given limit spot may.
       let t = found.took in
       refused_part_head c given limit exprs_part 100 ((token (Keyword 17) spot ∷ target_tokens t.written) ++ token (Keyword 22) k.spot ∷ []) behind (token (Keyword 17) spot ∷ before) stop
       (λ n. for_exprs spot t.written k.spot ((n + 0) + t.is_read.steps)) (for_before spot t k)
-      (begins_part_head exprs_part ((token (Keyword 17) spot ∷ target_tokens t.written) ++ token (Keyword 22) k.spot ∷ []) (λ e. for_head spot t.written k.spot e some_spot None) (λ e. colon_tokens some_spot None)
-      (λ e. refl) (λ e. refl) (λ e. sym (append_assoc (token (Keyword 17) spot ∷ target_tokens t.written) (token (Keyword 22) k.spot ∷ []) (exprs_tokens e ++ colon_tokens some_spot None))))
+      (begins_part_head c given exprs_part 100 ((token (Keyword 17) spot ∷ target_tokens t.written) ++ token (Keyword 22) k.spot ∷ []) (λ at e. for_head spot t.written k.spot e (spot_at at) None) (λ at e. colon_tokens (spot_at at) None)
+      (λ at e. both_true _ true may refl) (λ at e. refl) (λ at e. refl)
+      (λ at e. sym (append_assoc (token (Keyword 17) spot ∷ target_tokens t.written) (token (Keyword 22) k.spot ∷ []) (exprs_tokens e ++ colon_tokens (spot_at at) None)))
+      (λ at other apart e inner. let low = target_low t.written other in let fits = t.fits in omega (arith, inner, low, fits)))
       (passes_in spot k.spot (target_tokens t.written) middle behind found.ends (sym (ap first_token k.before_is))) (items_turns spot t k)
       (λ why n e left deep. only_colon (λ h. IsDeep why 100 (head_lies h)) ((n + 0) + t.is_read.steps) (for_head spot t.written k.spot e) left (λ colon behind. items_deep why (target_lies t.written) (exprs_lies e) (behind_lies behind) deep)) is;
 }
@@ -247,5 +259,6 @@ for_found c target items before middle behind after at found k e spot =
       low = let one = t.fits in let two = e.fits in let same = e.height_is in omega (arith, one, two, same);
       depth_is = λ colon behind_it. refl;
       lies_behind = λ colon s at. le-max_right _ (simple_lies s at);
+      lies_within = λ colon s at. let one = target_low t.written at in let two = exprs_low e.written at in omega (arith, one, two);
       stands = λ given colon behind_it. refl;
     }

@@ -21,21 +21,22 @@ use Rattle.py_grammar.specs.Tokens.{token, sum_tokens}
 use Rattle.py_grammar.specs.Trees.{sum_tree}
 use Rattle.py_grammar.specs.Depth.{one_target_depth, target_rest_depth}
 use Rattle.py_grammar.specs.Lies.{begins, sum_lies, one_target_lies, target_rest_lies, target_lies}
-use Rattle.py_grammar.proofs.Lying.{above_left, over_least, over_right}
+use Rattle.py_grammar.proofs.Lying.{above_left, over_least, over_right, sum_low}
+use Rattle.py_grammar.proofs.LyingLines.{one_target_low}
 use Rattle.py_grammar.specs.Reader.{Read, go_on, next_level, kind_level, starts, begins_expr, is_sign, read_sign, read_sum}
 use Rattle.py_grammar.specs.Written.{OneTarget, named, item, field, TargetRest, end_rest_target, last_target, more_target, Target, one_target, several_targets}
 use Rattle.py_grammar.specs.StatementTokens.{one_target_tokens, target_rest_tokens, target_tokens}
 use Rattle.py_grammar.specs.StatementTrees.{one_target_tree, target_rest_tree, target_tree}
 use Rattle.py_grammar.specs.StatementReader.{expr_target}
 use Rattle.py_grammar.specs.LineReader.{read_one_target, read_target_rest, target_rest_after, read_target}
-use Rattle.py_grammar.specs.Parsed.{Production, sum_part, is_form, ShowsAt, GoesOn, IsDeep, Only, Finds, Begins, Shown, Refused, Found, Taken, is_sign_next, IsAtFirst, IsTooDeep}
+use Rattle.py_grammar.specs.Parsed.{Production, sum_part, is_form, ShowsAt, GoesOn, IsDeep, Only, Finds, Begins, BeginsWithin, Shown, Refused, Found, Taken, is_sign_next, IsAtFirst, IsTooDeep}
 use Rattle.py_grammar.specs.ParsedRows.{first_token}
 use Rattle.py_grammar.specs.ParsedSimple.{target_form, targets_form, all_target_form}
-use Rattle.py_grammar.specs.ParsedHead.{Took, target_part, passed_tokens, BeginsTargets, UnreadTargets, ShownBy, EndedBy}
+use Rattle.py_grammar.specs.ParsedHead.{Took, target_part, passed_tokens, passed_lies, room_behind, StartsTargets, BeginsTargets, UnreadTargets, ShownBy, EndedBy}
 use Rattle.py_grammar.specs.ParsedNames.{target_rest_part, Followed, followed_tokens, GoesOnTargets, IsAheadOfTargets, TargetsRefused, TargetFound, TargetsEnd, ItemFound, WrongItem, ItemRefused, FoundTargets}
 use Rattle.py_grammar.proofs.Leading.{Reads}
 use Rattle.py_grammar.proofs.Reading.{if_false}
-use Rattle.py_grammar.proofs.Refusals.{deeper, max_below}
+use Rattle.py_grammar.proofs.Refusals.{begins_whole, deeper, max_below}
 use Rattle.py_grammar.proofs.Stops.{some_spot, shows_on_line}
 use Rattle.py_grammar.proofs.TargetForms.{target_spelled, target_deep, target_lies_so, target_tree_is}
 use Rattle.py_grammar.proofs.PrimParts.{go_on_once}
@@ -94,35 +95,56 @@ no_target s lies rest more other above is i =
     let no : true ≡ false = sym (sum_form i.target) ∙ ap (λ s. is_form (expr_target (lift s))) (sym same.0) ∙ other in
     cc
 
-begins_sum : (passed : List (OneTarget × Spot)) (front tokens : List Token) → passed_tokens passed ≡ front → Begins sum_part tokens → BeginsTargets (front ++ tokens)
-begins_sum passed front tokens is b = record {
+starts_sum : (passed : List (OneTarget × Spot)) (front tokens : List Token) → passed_tokens passed ≡ front → Begins sum_part tokens → StartsTargets (front ++ tokens)
+starts_sum passed front tokens is b = record {
   passed = passed;
   some = b.some;
   more = b.more;
   tokens_are = ap (λ ts. ts ++ sum_tokens b.some) is ∙ ap (λ ts. front ++ ts) b.tokens_are ∙ sym (append_assoc front tokens b.more);
 }
 
+-- a target was read within this room
+item_fits : {room : ℕ} {before after : List Token} {part : Part} → (f : ItemFound room before part after) → one_target_depth f.target ≤ room
+item_fits f = let high = f.height_is in let low = f.fits in omega (arith, high, low)
+
+target_within : (t : OneTarget) (room : ℕ) → one_target_depth t ≤ room → (at : Pos) → one_target_lies t at ≤ room
+target_within t room fits at = let low = one_target_low t at in omega (arith, low, fits)
+
+-- a sum was read within this room
+sum_within : {room : ℕ} {before after : List Token} {part : Part} → (f : Found sum_part sum_tree 3 room before part after) → (at : Pos) → sum_lies f.written at ≤ room
+sum_within f at = let low = sum_low f.written at in let high = f.height_is in let fits = f.fits in omega (arith, low, high, fits)
+
 goes_sum : (passed : List (OneTarget × Spot)) (front tokens : List Token) (t : Token) (behind : List Token) (fault : Fault) → passed_tokens passed ≡ front → ShowsAt behind fault → GoesOn (Begins sum_part) tokens t fault → GoesOnTargets (front ++ tokens) t fault
-goes_sum passed front tokens t behind (TooDeep at) is shows b = subst BeginsTargets (sym (append_assoc front tokens (t ∷ []))) (begins_sum passed front (tokens ++ t ∷ []) is b)
+goes_sum passed front tokens t behind (TooDeep at) is shows b = subst StartsTargets (sym (append_assoc front tokens (t ∷ []))) (starts_sum passed front (tokens ++ t ∷ []) is b)
 goes_sum passed front tokens t behind (Unexpected left) is shows goes = tt
 goes_sum passed front tokens t behind (TooMany at) is shows goes = absurd shows
 goes_sum passed front tokens t behind Memory is shows goes = tt
 
 module _ {A : Type 0} (p : Production A) (room : ℕ) (front rest before : List Token) (before_is : before ≡ front ++ rest) (passed : List (OneTarget × Spot)) (passed_is : passed_tokens passed ≡ front) (low : 99 ≤ room)
+    (above : room ≤ room_behind room passed) (passed_low : (at : Pos) → passed_lies passed at ≤ room)
     (there : (w : Followed A) (more : List Token) → followed_tokens p w ≡ front ++ more → first_token more ≡ first_token rest → ItemThere (p.lies w.part) more) where
   unread_there : (tokens : List Token) (t : Token) (fault : Fault) → ((more : List Token) → Unread (Here fault) room (tokens ++ t ∷ more)) → UnreadTargets room (front ++ tokens) t fault
   unread_there tokens t fault unread = record {
     there = λ ps s more is. unread_passed (Here fault) room passed (tokens ++ t ∷ more) low (unread more) ps s (is ∙ append_assoc front tokens (t ∷ more) ∙ ap (λ ts. ts ++ (tokens ++ t ∷ more)) (sym passed_is));
   }
 
-  shown_item : (fault : Fault) → Shown sum_part room rest fault → ShownBy BeginsTargets (IsAheadOfTargets room) (followed_tokens p) (λ fault w. IsDeep (Here fault) room (p.lies w.part)) before fault
+  begins_sum : (tokens : List Token) → BeginsWithin sum_part room tokens → BeginsTargets room (front ++ tokens)
+  begins_sum tokens b = λ at. let k = b at in record {
+    passed = passed;
+    some = k.some;
+    more = k.more;
+    tokens_are = ap (λ ts. ts ++ sum_tokens k.some) passed_is ∙ ap (λ ts. front ++ ts) k.tokens_are ∙ sym (append_assoc front tokens k.more);
+    within = λ other apart. max_below _ _ _ (let one = passed_low other in omega (arith, one, above)) (let two = k.within other apart in omega (arith, two, above));
+  }
+
+  shown_item : (fault : Fault) → Shown sum_part room rest fault → ShownBy (BeginsTargets room) (IsAheadOfTargets room) (followed_tokens p) (λ fault w. IsDeep (Here fault) room (p.lies w.part)) before fault
   shown_item fault s = record {
     front = front ++ s.front;
     shown_by = s.shown_by;
     behind = s.behind;
     before_is = before_is ∙ ap (λ ts. front ++ ts) s.before_is ∙ sym (append_assoc front s.front (s.shown_by ∷ s.behind));
     left_is = shows_on_line s.shown_by s.behind fault s.left_is;
-    begun = begins_sum passed front s.front passed_is s.begins;
+    begun = begins_sum s.front s.begins;
     goes_on = (
       goes_sum passed front s.front s.shown_by s.behind fault passed_is s.left_is s.goes_on,
       unread_there s.front s.shown_by fault (λ more. unread_sum (Here fault) room (s.front ++ s.shown_by ∷ more) low (s.none more)),
@@ -137,15 +159,15 @@ module _ {A : Type 0} (p : Production A) (room : ℕ) (front rest before : List 
   read_refused (Here (TooDeep at)) is = shown_item (TooDeep at) is
   read_refused (Here (TooMany at)) is = absurd is.left_is
   read_refused End is = record {
-    begun = subst BeginsTargets (sym before_is) (begins_sum passed front rest passed_is is.0);
+    begun = subst (BeginsTargets room) (sym before_is) (begins_sum rest is.0);
     none = λ w same. found_deep End room (p.lies w.part) rest is.1 (there w rest (same ∙ before_is) refl);
   }
 
   wrong_at : (part : Part) (after : List Token) → (f : Found sum_part sum_tree 3 room rest part after) → is_none part.wrong ≡ false → (ts : List Token) (stop : Stop) → after ≡ ts → IsAtFirst ts stop → TargetsRefused p room before stop
   wrong_at part after f other [] (Here fault) is first = absurd (let no : Here fault ≡ End = first in cc)
   wrong_at part after f other [] End is first = record {
-    begun = subst BeginsTargets (sym (before_is ∙ ap (λ ts. front ++ ts) f.before_is)) (begins_sum passed front (sum_tokens f.written ++ after) passed_is
-        (record { some = f.written; more = []; tokens_are = sym (append-nil (sum_tokens f.written ++ after) ∙ ap (λ ts. sum_tokens f.written ++ ts) is ∙ append-nil (sum_tokens f.written)) }));
+    begun = subst (BeginsTargets room) (sym (before_is ∙ ap (λ ts. front ++ ts) (f.before_is ∙ ap (λ ts. sum_tokens f.written ++ ts) is ∙ append-nil (sum_tokens f.written))))
+        (begins_sum (sum_tokens f.written) (begins_whole sum_part room f.written (sum_within f)));
     none = λ w same. absurd (no_target f.written (p.lies w.part) after rest (sym f.form_is ∙ other) f.beyond (sym f.before_is) (there w rest (same ∙ before_is) refl));
   }
   wrong_at part after f other (t ∷ ts) (Here (Unexpected left)) is first = record {
@@ -154,7 +176,7 @@ module _ {A : Type 0} (p : Production A) (room : ℕ) (front rest before : List 
     behind = ts;
     before_is = before_is ∙ ap (λ ts. front ++ ts) (f.before_is ∙ ap (λ ts. sum_tokens f.written ++ ts) is) ∙ sym (append_assoc front (sum_tokens f.written) (t ∷ ts));
     left_is = first;
-    begun = begins_sum passed front (sum_tokens f.written) passed_is (record { some = f.written; more = []; tokens_are = sym (append-nil (sum_tokens f.written)) });
+    begun = begins_sum (sum_tokens f.written) (begins_whole sum_part room f.written (sum_within f));
     goes_on = (tt, unread_there (sum_tokens f.written) t (Unexpected left) (λ more. unread_wrong (Here (Unexpected left)) room f.written t more (sym f.form_is ∙ other) (subst (λ (ts : List Token). 3 < next_level ts) is f.beyond)));
     none = λ w more same. absurd (no_target f.written (p.lies w.part) (t ∷ more) (sum_tokens f.written ++ t ∷ more) (sym f.form_is ∙ other) (subst (λ (ts : List Token). 3 < next_level ts) is f.beyond) refl
         (there w (sum_tokens f.written ++ t ∷ more) (same ∙ append_assoc front (sum_tokens f.written) (t ∷ more))
@@ -180,16 +202,17 @@ pub record Inner {B : Type 0} (q : Production B) (inner room : ℕ) (lies : Pos 
   pub tokens_are : followed_tokens q part ≡ more
   pub higher : (at : Pos) → 1 ≤ q.lies part.part at → room + q.lies part.part at ≤ inner + lies at
 
-module _ {A B : Type 0} (p : Production A) (room : ℕ) (q : Production B) (inner : ℕ) (front rest before : List Token) (before_is : before ≡ front ++ rest) (opens : (ts : List Token) → BeginsTargets ts → BeginsTargets (front ++ ts))
+module _ {A B : Type 0} (p : Production A) (room : ℕ) (q : Production B) (inner : ℕ) (front rest before : List Token) (before_is : before ≡ front ++ rest)
+    (opens : (ts : List Token) → BeginsTargets inner ts → BeginsTargets room (front ++ ts)) (plain : (ts : List Token) → StartsTargets ts → StartsTargets (front ++ ts))
     (unread : (ts : List Token) (t : Token) (fault : Fault) → UnreadTargets inner ts t fault → UnreadTargets room (front ++ ts) t fault)
     (there : (w : Followed A) (more : List Token) → followed_tokens p w ≡ front ++ more → Inner q inner room (p.lies w.part) more) where
   goes_rest : (tokens : List Token) (t : Token) (fault : Fault) → GoesOnTargets tokens t fault → GoesOnTargets (front ++ tokens) t fault
-  goes_rest tokens t (TooDeep at) b = subst BeginsTargets (sym (append_assoc front tokens (t ∷ []))) (opens (tokens ++ t ∷ []) b)
+  goes_rest tokens t (TooDeep at) b = subst StartsTargets (sym (append_assoc front tokens (t ∷ []))) (plain (tokens ++ t ∷ []) b)
   goes_rest tokens t (TooMany at) goes = goes
   goes_rest tokens t (Unexpected left) goes = tt
   goes_rest tokens t Memory goes = tt
 
-  shown_rest : (fault : Fault) → ShownBy BeginsTargets (IsAheadOfTargets inner) (followed_tokens q) (λ fault w. IsDeep (Here fault) inner (q.lies w.part)) rest fault → ShownBy BeginsTargets (IsAheadOfTargets room) (followed_tokens p) (λ fault w. IsDeep (Here fault) room (p.lies w.part)) before fault
+  shown_rest : (fault : Fault) → ShownBy (BeginsTargets inner) (IsAheadOfTargets inner) (followed_tokens q) (λ fault w. IsDeep (Here fault) inner (q.lies w.part)) rest fault → ShownBy (BeginsTargets room) (IsAheadOfTargets room) (followed_tokens p) (λ fault w. IsDeep (Here fault) room (p.lies w.part)) before fault
   shown_rest fault s = record {
     front = front ++ s.front;
     shown_by = s.shown_by;
@@ -203,9 +226,9 @@ module _ {A B : Type 0} (p : Production A) (room : ℕ) (q : Production B) (inne
         deeper (Here fault) inner (q.lies i.part.part) room (p.lies w.part) (s.none i.part more i.tokens_are) i.higher;
   }
 
-  ended_rest : (stop : Stop) → EndedBy BeginsTargets (followed_tokens q) (λ w. IsDeep stop inner (q.lies w.part)) rest → EndedBy BeginsTargets (followed_tokens p) (λ w. IsDeep stop room (p.lies w.part)) before
+  ended_rest : (stop : Stop) → EndedBy (BeginsTargets inner) (followed_tokens q) (λ w. IsDeep stop inner (q.lies w.part)) rest → EndedBy (BeginsTargets room) (followed_tokens p) (λ w. IsDeep stop room (p.lies w.part)) before
   ended_rest stop e = record {
-    begun = subst BeginsTargets (sym before_is) (opens rest e.begun);
+    begun = subst (BeginsTargets room) (sym before_is) (opens rest e.begun);
     none = λ w is.
         let i = there w rest (is ∙ before_is) in
         deeper stop inner (q.lies i.part.part) room (p.lies w.part) (e.none i.part i.tokens_are) i.higher;
@@ -236,7 +259,7 @@ first_there w more is = by w.part is
 
 -- the first target is refused
 pub first_refused : (before : List Token) (stop : Stop) → ItemRefused 100 before stop → TargetsRefused target_part 100 before stop
-first_refused before stop is = item_refused target_part 100 [] before before refl [] refl (omega arith) (λ w more same first. first_there w more same) stop is
+first_refused before stop is = item_refused target_part 100 [] before before refl [] refl (omega arith) (omega arith) (λ at. omega arith) (λ w more same first. first_there w more same) stop is
 
 -- behind a target and a comma several are written
 record Several (w : Followed Target) (t : OneTarget) (more : List Token) : Type 0 where
@@ -282,7 +305,13 @@ first_full before middle behind at first (Here (TooDeep place)) f k deep = recor
   behind = behind;
   before_is = f.before_is ∙ ap (λ ts. one_target_tokens f.target ++ ts) k.before_is;
   left_is = tt;
-  begun = record { passed = []; some = target_sum f.target; more = []; tokens_are = sym (sum_spells f.target) ∙ sym (append-nil (one_target_tokens f.target)) };
+  begun = λ at. record {
+    passed = [];
+    some = target_sum f.target;
+    more = [];
+    tokens_are = sym (sum_spells f.target) ∙ sym (append-nil (one_target_tokens f.target));
+    within = λ other apart. let same = sum_lies_so f.target other in let low = target_within f.target 100 (item_fits f) other in omega (arith, same, low);
+  };
   goes_on = (
     record { passed = (f.target, k.spot) ∷ []; some = target_sum some_target; more = sum_tokens (target_sum some_target); tokens_are = refl },
     record { there = λ passed s more is. unread_full 100 place f.target k.spot more (first_deep place deep.0 deep.1) passed s is },
@@ -306,18 +335,33 @@ first_full before middle behind at first End f k deep = absurd deep
 comma_behind : (tokens : List Token) (comma : Token) (more : List Token) → (tokens ++ comma ∷ []) ++ more ≡ tokens ++ comma ∷ more
 comma_behind tokens comma more = append_assoc tokens (comma ∷ []) more
 
+one_ahead : (t : OneTarget) (comma : Spot) (passed : List (OneTarget × Spot)) (s : Sum) (ts more : List Token) → passed_tokens passed ++ sum_tokens s ≡ ts ++ more
+    → (one_target_tokens t ++ token (Sign 6) comma ∷ passed_tokens passed) ++ sum_tokens s ≡ ((one_target_tokens t ++ token (Sign 6) comma ∷ []) ++ ts) ++ more
+one_ahead t comma passed s ts more is =
+    append_assoc (one_target_tokens t) (token (Sign 6) comma ∷ passed_tokens passed) (sum_tokens s) ∙ ap (λ ts. one_target_tokens t ++ token (Sign 6) comma ∷ ts) is
+    ∙ sym (comma_behind (one_target_tokens t) (token (Sign 6) comma) (ts ++ more)) ∙ sym (append_assoc (one_target_tokens t ++ token (Sign 6) comma ∷ []) ts more)
+
+-- in several targets there is the same room behind any of them
+same_room : (passed : List (OneTarget × Spot)) → room_behind 99 passed ≡ 99
+same_room [] = refl
+same_room (p ∷ passed) = refl
+
+first_within : (t : OneTarget) (passed : List (OneTarget × Spot)) (inner : ℕ) (at : Pos) → one_target_depth t ≤ 99 → max (passed_lies passed at) inner ≤ room_behind 99 passed → max (max (one_target_lies t at) (passed_lies passed at)) inner ≤ 99
+first_within t passed inner at fits low = let same = same_room passed in let one = target_within t 99 fits at in omega (arith, same, one, low)
+
 -- what stands behind the first comma is refused
-pub others_refused : (before middle behind : List Token) (at : Pos) (first : Part) (stop : Stop) → ItemFound 100 before first middle → Taken (Sign 6) middle at behind → TargetsRefused target_rest_part 99 behind stop → TargetsRefused target_part 100 before stop
-others_refused before middle behind at first stop f k is =
+pub others_refused : (before middle behind : List Token) (at : Pos) (first : Part) (stop : Stop) → ItemFound 100 before first middle → Taken (Sign 6) middle at behind → first.height < 100 → TargetsRefused target_rest_part 99 behind stop → TargetsRefused target_part 100 before stop
+others_refused before middle behind at first stop f k less is =
     rest_refused target_part 100 target_rest_part 99 (one_target_tokens f.target ++ token (Sign 6) k.spot ∷ []) behind before
     (f.before_is ∙ ap (λ ts. one_target_tokens f.target ++ ts) k.before_is ∙ sym (comma_behind (one_target_tokens f.target) (token (Sign 6) k.spot) behind))
-    (λ ts b. record {
-      passed = (f.target, k.spot) ∷ b.passed;
-      some = b.some;
-      more = b.more;
-      tokens_are = append_assoc (one_target_tokens f.target) (token (Sign 6) k.spot ∷ passed_tokens b.passed) (sum_tokens b.some) ∙ ap (λ ts. one_target_tokens f.target ++ token (Sign 6) k.spot ∷ ts) b.tokens_are
-          ∙ sym (comma_behind (one_target_tokens f.target) (token (Sign 6) k.spot) (ts ++ b.more)) ∙ sym (append_assoc (one_target_tokens f.target ++ token (Sign 6) k.spot ∷ []) ts b.more);
+    (λ ts b at. let c = b at in record {
+      passed = (f.target, k.spot) ∷ c.passed;
+      some = c.some;
+      more = c.more;
+      tokens_are = one_ahead f.target k.spot c.passed c.some ts c.more c.tokens_are;
+      within = λ other apart. first_within f.target c.passed (sum_lies c.some other) other (let same = f.height_is in omega (arith, less, same)) (c.within other apart);
     })
+    (λ ts b. record { passed = (f.target, k.spot) ∷ b.passed; some = b.some; more = b.more; tokens_are = one_ahead f.target k.spot b.passed b.some ts b.more b.tokens_are })
     (λ ts t fault u. record {
       there = λ passed s more same. unread_one (Here fault) 99 100 f.target k.spot (ts ++ t ∷ more) (omega arith) (λ ps s is. u.there ps s more is) passed s
           (same ∙ append_assoc (one_target_tokens f.target ++ token (Sign 6) k.spot ∷ []) ts (t ∷ more) ∙ comma_behind (one_target_tokens f.target) (token (Sign 6) k.spot) (ts ++ t ∷ more));
@@ -344,6 +388,7 @@ pub record TargetsGo (room : ℕ) (before : List Token) (old : Row) (after : Lis
   pub tokens_are : (r : TargetRest) → target_rest_tokens (put r) ≡ front ++ target_rest_tokens r
   pub passed : List (OneTarget × Spot)
   pub passed_is : passed_tokens passed ≡ front
+  pub passed_low : (at : Pos) → passed_lies passed at ≤ room
   pub trees : List ExprTree
   pub row_is : map expr_of row.list.items ≡ map expr_of old.list.items ++ trees
   pub forms : (es : List ExprTree) (r : TargetRest) → targets_form (exprs_list es) ≡ Some (target_rest_tree r) → targets_form (exprs_list (trees ++ es)) ≡ Some (target_rest_tree (put r))
@@ -369,6 +414,7 @@ targets_init room before row fits = record {
   tokens_are = λ r. refl;
   passed = [];
   passed_is = refl;
+  passed_low = λ at. omega arith;
   trees = [];
   row_is = sym (append-nil (map expr_of row.list.items));
   forms = λ es r is. is;
@@ -433,6 +479,16 @@ one_passed : (passed : List (OneTarget × Spot)) (t : OneTarget) (comma : Spot) 
 one_passed [] t comma = refl
 one_passed (p ∷ passed) t comma = ap (λ ts. one_target_tokens p.0 ++ token (Sign 6) p.1 ∷ ts) (one_passed passed t comma) ∙ sym (append_assoc (one_target_tokens p.0) (token (Sign 6) p.1 ∷ passed_tokens passed) (one_target_tokens t ++ token (Sign 6) comma ∷ []))
 
+one_within : (passed : List (OneTarget × Spot)) (t : OneTarget) (comma : Spot) (room : ℕ) (at : Pos) → passed_lies passed at ≤ room → one_target_lies t at ≤ room → passed_lies (passed ++ (t, comma) ∷ []) at ≤ room
+one_within [] t comma room at low one = omega (arith, one)
+one_within (p ∷ passed) t comma room at low one = max_below _ _ room (left_below _ _ room low) (one_within passed t comma room at (right_below _ _ room low) one)
+  where
+    left_below : (a b c : ℕ) → max a b ≤ c → a ≤ c
+    left_below a b c low = omega (arith, low)
+
+    right_below : (a b c : ℕ) → max a b ≤ c → b ≤ c
+    right_below a b c low = omega (arith, low)
+
 pub targets_next : (room : ℕ) (before after middle behind : List Token) (at : Pos) (old row row_2 : Row) (part : Part) → TargetsGo room before old after row → ItemFound room after part middle
     → Taken (Sign 6) middle at behind → row_2.list.items ≡ row.list.items ++ part.expr ∷ [] → row_2.height ≡ max row.height part.height → TargetsGo room before old behind row_2
 targets_next room before after middle behind at old row row_2 part g f k items_are higher = record {
@@ -442,6 +498,7 @@ targets_next room before after middle behind at old row row_2 part g f k items_a
   tokens_are = λ r. g.tokens_are (more_target f.target k.spot r) ∙ behind_comma g.front (one_target_tokens f.target) (token (Sign 6) k.spot) (target_rest_tokens r);
   passed = g.passed ++ (f.target, k.spot) ∷ [];
   passed_is = one_passed g.passed f.target k.spot ∙ ap (λ ts. ts ++ (one_target_tokens f.target ++ token (Sign 6) k.spot ∷ [])) g.passed_is;
+  passed_low = λ at. one_within g.passed f.target k.spot room at (g.passed_low at) (target_within f.target room (item_fits f) at);
   trees = g.trees ++ expr_of part.expr ∷ [];
   row_is = pushed_trees row.list.items row_2.list.items part.expr (map expr_of old.list.items) g.trees items_are g.row_is;
   forms = λ es r is. ap (λ xs. targets_form (exprs_list xs)) (append_assoc g.trees (expr_of part.expr ∷ []) es)
@@ -612,7 +669,7 @@ target_there room before after old row g start w more is first = by p.rest refl 
 
 pub next_refused : (before after : List Token) (old row : Row) (stop : Stop) → TargetsGo 99 before old after row → begins_expr after ≡ true → ItemRefused 99 after stop → TargetsRefused target_rest_part 99 before stop
 next_refused before after old row stop g start is =
-    item_refused target_rest_part 99 g.front after before g.before_is g.passed g.passed_is (omega arith)
+    item_refused target_rest_part 99 g.front after before g.before_is g.passed g.passed_is (omega arith) (let same = same_room g.passed in omega (arith, same)) g.passed_low
     (λ w more same first. target_there 99 before after old row g start w more same first) stop is
 
 -- ---- the whole target

@@ -1,6 +1,7 @@
 -- The lines that begin compound statements: how what is read of a part, or not, tells what is read of the line.
-use Rattle.std.proofs.Common.{◌≡◌, inl, ℕ, ◌+◌, true, false, List, [], ◌∷◌, ◌++◌, Option, Some, None, refl, ap, sym, ◌∙◌, arith, subst, append_assoc, if◌then◌else◌}
+use Rattle.std.proofs.Common.{◌≡◌, inl, inr, ℕ, ◌+◌, ◌≤◌, true, false, List, [], ◌∷◌, ◌++◌, Option, Some, None, refl, ap, sym, ◌∙◌, arith, subst, append_assoc, if◌then◌else◌}
 use Rattle.std.specs.Bool.{⊤}
+use Rattle.prov_base.specs.declared.place.Pos.{Pos}
 use Rattle.py_lines.specs.declared.parts.Token.{Token}
 use Rattle.py_lines.specs.declared.parts.TokenKind.TheVariants.{Keyword, Sign}
 use Rattle.py_grammar.specs.declared.context.Limit.{Limit}
@@ -15,12 +16,14 @@ use Rattle.py_grammar.specs.Trees.{expr_tree}
 use Rattle.py_grammar.specs.Written.{Simple}
 use Rattle.py_grammar.specs.LineReader.{Head, colon_tokens, head_tokens, then_read, read_colon, read_head}
 use Rattle.py_grammar.specs.Reader.{Read, next_level, starts, is_keyword, is_sign}
-use Rattle.py_grammar.specs.Parsed.{Production, GoesOn, ShowsAt, IsDeep, Only, Finds, Begins, Shown, Refused, Found, FoundRow, one_keyword, one_sign, one_name, expr_part, exprs_part}
+use Rattle.py_grammar.specs.Parsed.{Production, GoesOn, ShowsAt, IsDeep, Only, Finds, Begins, BeginsWithin, Shown, Refused, Found, FoundRow, one_keyword, one_sign, one_name, expr_part, exprs_part}
 use Rattle.py_grammar.specs.ParsedRows.{first_token, IsRead}
-use Rattle.py_grammar.specs.ParsedHead.{Context, head_lies, behind_in, IsPast, IsAmissHead, ShowsOnLine, BeginsHead, GoesOnLine, IsAheadOnLine, ShownBy, EndedBy, HeadRefused}
+use Rattle.py_grammar.specs.ParsedHead.{Context, head_stands, head_depth, head_lies, behind_in, IsPast, IsAmissHead, ShowsOnLine, StartsHead, BeginsHead, GoesOnLine, IsAheadOnLine, ShownBy, EndedBy, HeadRefused}
 use Rattle.py_grammar.proofs.Reading.{expr_reads}
 use Rattle.py_grammar.proofs.RowReads.{row_reads}
-use Rattle.py_grammar.proofs.Refusals.{first_of, next_level_same}
+use Rattle.py_grammar.proofs.Refusals.{begins_so, first_of, next_level_same}
+use Rattle.py_grammar.proofs.Lying.{nowhere}
+use Rattle.py_grammar.proofs.LyingLines.{head_low}
 use Rattle.py_grammar.proofs.HeadReading.{head_reads}
 use Rattle.py_grammar.proofs.Stops.{shows_on_line}
 use Rattle.py_grammar.proofs.NoDel.{has_del, no_del_front, del_absent, is_simple_head, no_del_head}
@@ -198,34 +201,81 @@ name_is_read spot bytes after = record { steps = 0; reads = λ n more first. ref
 
 -- ---- how a line begins
 
--- a line has these first tokens
-pub spelled_head : (h : Head) (front more : List Token) → head_tokens h ≡ front ++ more → BeginsHead front
-spelled_head h front more is = inl (record { some = h; more = more; tokens_are = is })
+-- within the room or not
+pub head_so : (c : Context) (given : List (List ℕ)) (front : List Token) → BeginsHead c given front → StartsHead c given front
+head_so c given front (inl b) = let k = b nowhere in inl (record { some = k.some; is_so = k.is_so; more = k.more; tokens_are = k.tokens_are })
+head_so c given front (inr (inl r)) = let k = r.begins nowhere in
+    inr (inl (record { opened = r.opened; starts = r.starts; inside = r.inside; begins = record { spot = k.spot; some = k.some; more = k.more; tokens_are = k.tokens_are }; front_is = r.front_is }))
+head_so c given front (inr (inr r)) = let k = r.begins nowhere in
+    inr (inr (record { may = r.may; spot = r.spot; inside = r.inside; begins = record { passed = k.passed; some = k.some; more = k.more; tokens_are = k.tokens_are }; front_is = r.front_is }))
+
+-- a line of at most this depth lies within it
+pub head_within : (h : Head) → head_depth h ≤ 100 → (at : Pos) → head_lies h at ≤ 100
+head_within h fits at = let low = head_low h at in omega (arith, low, fits)
+
+-- a line has these first tokens, whatever place is chosen for what is put behind
+pub spelled_head : (c : Context) (given : List (List ℕ)) (h : Pos → Head) (front : List Token) (more : Pos → List Token) → ((at : Pos) → head_stands c given (h at) ≡ true) → ((at : Pos) → head_tokens (h at) ≡ front ++ more at)
+    → ((at other : Pos) → (other ≡ at → ⊥) → head_lies (h at) other ≤ 100) → BeginsHead c given front
+spelled_head c given h front more stands is low = inl (λ at. record { some = h at; is_so = stands at; more = more at; tokens_are = is at; within = low at })
 
 -- a part begins, behind these tokens, and so does a line
-pub spelled_part : {B : Type 0} (q : Production B) (front : List Token) (h : B → Head) (tail : B → List Token) → ((b : B) → head_tokens (h b) ≡ front ++ (q.tokens b ++ tail b)) → (tokens : List Token) → (b : Begins q tokens) → head_tokens (h b.some) ≡ (front ++ tokens) ++ (b.more ++ tail b.some)
-spelled_part q front h tail spells tokens b = spells b.some ∙ ap (λ ts. front ++ (ts ++ tail b.some)) b.tokens_are ∙ regroup front tokens b.more (tail b.some)
+pub spelled_part : {B : Type 0} (q : Production B) (front : List Token) (h : B → Head) (tail : B → List Token) (b : B) → head_tokens (h b) ≡ front ++ (q.tokens b ++ tail b) → (tokens more : List Token) → q.tokens b ≡ tokens ++ more
+    → head_tokens (h b) ≡ (front ++ tokens) ++ (more ++ tail b)
+spelled_part q front h tail b spells tokens more is = spells ∙ ap (λ ts. front ++ (ts ++ tail b)) is ∙ regroup front tokens more (tail b)
   where
     regroup : (w x y z : List Token) → w ++ ((x ++ y) ++ z) ≡ (w ++ x) ++ (y ++ z)
     regroup w x y z = ap (λ ts. w ++ ts) (append_assoc x y z) ∙ sym (append_assoc w x (y ++ z))
 
--- a line begins so, and no `del` stands there
-pub record BeginsOpening (front : List Token) : Type 0 where
-  pub begun : BeginsHead front
+-- a line that may stand there begins so, and no `del` stands in it
+pub record StartsOpening (c : Context) (given : List (List ℕ)) (front : List Token) : Type 0 where
+  pub begun : StartsHead c given front
   pub clear : has_del front ≡ false
+
+-- the same, where nothing that has begun lies too deep
+pub record BeginsOpening (c : Context) (given : List (List ℕ)) (front : List Token) : Type 0 where
+  pub begun : BeginsHead c given front
+  pub clear : has_del front ≡ false
+
+pub opening_so : (c : Context) (given : List (List ℕ)) (front : List Token) → BeginsOpening c given front → StartsOpening c given front
+opening_so c given front b = record { begun = head_so c given front b.begun; clear = b.clear }
+
+-- A part begins behind these tokens, and so does a line: within the room where the part does.
+pub record CarriesHead {B : Type 0} (c : Context) (given : List (List ℕ)) (q : Production B) (inner : ℕ) (front : List Token) : Type 0 where
+  pub within : (tokens : List Token) → BeginsWithin q inner tokens → BeginsHead c given (front ++ tokens)
+  pub plain : (tokens : List Token) → Begins q tokens → StartsOpening c given (front ++ tokens)
 
 -- what begins a compound statement, a part of one or a `global` line, with nothing behind its `:`
 pub clear_before : (h : Head) (front more : List Token) → is_simple_head h ≡ false → behind_in h ≡ None → head_tokens h ≡ front ++ more → has_del front ≡ false
 clear_before h front more compound empty is = no_del_front front more (subst (λ (ts : List Token). has_del ts ≡ false) is (no_del_head h compound empty))
 
-pub begins_part_head : {B : Type 0} (q : Production B) (front : List Token) (h : B → Head) (tail : B → List Token) → ((b : B) → is_simple_head (h b) ≡ false) → ((b : B) → behind_in (h b) ≡ None)
-    → ((b : B) → head_tokens (h b) ≡ front ++ (q.tokens b ++ tail b)) → (tokens : List Token) → Begins q tokens → BeginsOpening (front ++ tokens)
-begins_part_head q front h tail compound empty spells tokens b =
-    let is = spelled_part q front h tail spells tokens b in
+pub begins_opening : {B : Type 0} (c : Context) (given : List (List ℕ)) (q : Production B) (front : List Token) (h : B → Head) (tail : B → List Token) (b : B) → head_stands c given (h b) ≡ true → is_simple_head (h b) ≡ false → behind_in (h b) ≡ None
+    → head_tokens (h b) ≡ front ++ (q.tokens b ++ tail b) → head_depth (h b) ≤ 100 → (tokens more : List Token) → q.tokens b ≡ tokens ++ more → BeginsOpening c given (front ++ tokens)
+begins_opening c given q front h tail b stands compound empty spells fits tokens more same =
+    let is = spelled_part q front h tail b spells tokens more same in
     record {
-      begun = spelled_head (h b.some) (front ++ tokens) (b.more ++ tail b.some) is;
-      clear = clear_before (h b.some) (front ++ tokens) (b.more ++ tail b.some) (compound b.some) (empty b.some) is;
+      begun = spelled_head c given (λ at. h b) (front ++ tokens) (λ at. more ++ tail b) (λ at. stands) (λ at. is) (λ at other apart. head_within (h b) fits other);
+      clear = clear_before (h b) (front ++ tokens) (more ++ tail b) compound empty is;
     }
+
+-- what is put behind the part stands at the chosen place
+pub begins_part_head : {B : Type 0} (c : Context) (given : List (List ℕ)) (q : Production B) (inner : ℕ) (front : List Token) (h : Pos → B → Head) (tail : Pos → B → List Token) → ((at : Pos) (b : B) → head_stands c given (h at b) ≡ true)
+    → ((at : Pos) (b : B) → is_simple_head (h at b) ≡ false) → ((at : Pos) (b : B) → behind_in (h at b) ≡ None) → ((at : Pos) (b : B) → head_tokens (h at b) ≡ front ++ (q.tokens b ++ tail at b))
+    → ((at other : Pos) → (other ≡ at → ⊥) → (b : B) → q.lies b other ≤ inner → head_lies (h at b) other ≤ 100) → CarriesHead c given q inner front
+begins_part_head c given q inner front h tail stands compound empty spells low = record {
+  within = λ tokens b. inl (λ at. let k = b at in record {
+    some = h at k.some;
+    is_so = stands at k.some;
+    more = k.more ++ tail at k.some;
+    tokens_are = spelled_part q front (h at) (tail at) k.some (spells at k.some) tokens k.more k.tokens_are;
+    within = λ other apart. low at other apart k.some (k.within other apart);
+  });
+  plain = λ tokens b.
+      let is = spelled_part q front (h nowhere) (tail nowhere) b.some (spells nowhere b.some) tokens b.more b.tokens_are in
+      record {
+        begun = inl (record { some = h nowhere b.some; is_so = stands nowhere b.some; more = b.more ++ tail nowhere b.some; tokens_are = is });
+        clear = clear_before (h nowhere b.some) (front ++ tokens) (b.more ++ tail nowhere b.some) (compound nowhere b.some) (empty nowhere b.some) is;
+      };
+}
 
 -- what begins so up to its `:`, with another keyword than `for`
 pub past_opening : (word : ℕ) (spot : Spot) (tokens : List Token) (h : Head) (colon : Spot) → is_keyword 17 (Keyword word) ≡ false → is_simple_head h ≡ false → behind_in h ≡ None → head_tokens h ≡ (token (Keyword word) spot ∷ tokens) ++ colon_tokens colon None
@@ -245,8 +295,8 @@ amiss_deep c given limit (Here Memory) h deep = absurd deep
 amiss_deep c given limit End h deep = absurd deep
 
 -- the tokens begin a line, and those up to and with the next one none that may stand there
-pub shown_head : (c : Context) (given : List (List ℕ)) (limit : Option Limit) (front : List Token) (t : Token) (behind before : List Token) (fault : Fault) → before ≡ front ++ t ∷ behind → ShowsOnLine t behind fault → BeginsHead front → IsAheadOnLine limit front t fault
-    → ((more : List Token) → FindsHead (IsAmissHead c given limit (Here fault)) (front ++ t ∷ more)) → ShownBy BeginsHead (IsAheadOnLine limit) head_tokens (λ fault a. IsAmissHead c given limit (Here fault) a) before fault
+pub shown_head : (c : Context) (given : List (List ℕ)) (limit : Option Limit) (front : List Token) (t : Token) (behind before : List Token) (fault : Fault) → before ≡ front ++ t ∷ behind → ShowsOnLine t behind fault → BeginsHead c given front → IsAheadOnLine c given limit front t fault
+    → ((more : List Token) → FindsHead (IsAmissHead c given limit (Here fault)) (front ++ t ∷ more)) → ShownBy (BeginsHead c given) (IsAheadOnLine c given limit) head_tokens (λ fault a. IsAmissHead c given limit (Here fault) a) before fault
 shown_head c given limit front t behind before fault is named begun goes finds = record {
   front = front;
   shown_by = t;
@@ -258,49 +308,49 @@ shown_head c given limit front t behind before fault is named begun goes finds =
   none = λ h more same. finds_written _ (front ++ t ∷ more) h (finds more) same;
 }
 
-pub ended_line : (c : Context) (given : List (List ℕ)) (limit : Option Limit) (tokens before : List Token) (stop : Stop) → before ≡ tokens → BeginsHead tokens → FindsHead (IsAmissHead c given limit stop) tokens
-    → EndedBy BeginsHead head_tokens (IsAmissHead c given limit stop) before
-ended_line c given limit tokens before stop is begun finds = subst (λ (ts : List Token). EndedBy BeginsHead head_tokens (IsAmissHead c given limit stop) ts) (sym is)
+pub ended_line : (c : Context) (given : List (List ℕ)) (limit : Option Limit) (tokens before : List Token) (stop : Stop) → before ≡ tokens → BeginsHead c given tokens → FindsHead (IsAmissHead c given limit stop) tokens
+    → EndedBy (BeginsHead c given) head_tokens (IsAmissHead c given limit stop) before
+ended_line c given limit tokens before stop is begun finds = subst (λ (ts : List Token). EndedBy (BeginsHead c given) head_tokens (IsAmissHead c given limit stop) ts) (sym is)
     (record { begun = begun; none = λ h same. finds_written _ tokens h finds same })
 
 -- a part goes on with this token, and so does the line
-pub goes_on_line : {B : Type 0} (limit : Option Limit) (q : Production B) (front tokens : List Token) (t : Token) (behind : List Token) (fault : Fault) → ((ts : List Token) → Begins q ts → BeginsHead (front ++ ts)) → ShowsAt behind fault
-    → GoesOn (Begins q) tokens t fault → GoesOnLine limit (front ++ tokens) t fault
-goes_on_line limit q front tokens t behind (Unexpected left) begins shows goes = tt
-goes_on_line limit q front tokens t behind (TooDeep at) begins shows goes = inl (subst BeginsHead (sym (append_assoc front tokens (t ∷ []))) (begins (tokens ++ t ∷ []) goes))
-goes_on_line limit q front tokens t behind (TooMany at) begins shows goes = absurd shows
-goes_on_line limit q front tokens t behind Memory begins shows goes = absurd shows
+pub goes_on_line : (c : Context) (given : List (List ℕ)) (limit : Option Limit) (Q : List Token → Type 0) (front tokens : List Token) (t : Token) (behind : List Token) (fault : Fault) → ((ts : List Token) → Q ts → StartsHead c given (front ++ ts)) → ShowsAt behind fault
+    → GoesOn Q tokens t fault → GoesOnLine c given limit (front ++ tokens) t fault
+goes_on_line c given limit Q front tokens t behind (Unexpected left) begins shows goes = tt
+goes_on_line c given limit Q front tokens t behind (TooDeep at) begins shows goes = inl (subst (StartsHead c given) (sym (append_assoc front tokens (t ∷ []))) (begins (tokens ++ t ∷ []) goes))
+goes_on_line c given limit Q front tokens t behind (TooMany at) begins shows goes = absurd shows
+goes_on_line c given limit Q front tokens t behind Memory begins shows goes = absurd shows
 
-pub ahead_of_part : {B : Type 0} (limit : Option Limit) (q : Production B) (front rest tokens : List Token) (t : Token) (behind : List Token) (fault : Fault) → ((ts : List Token) → Begins q ts → BeginsOpening (front ++ ts)) → PassesFor front rest
-    → first_token (tokens ++ t ∷ behind) ≡ first_token rest → Begins q tokens → ShowsAt behind fault → GoesOn (Begins q) tokens t fault → IsAheadOnLine limit (front ++ tokens) t fault
-ahead_of_part limit q front rest tokens t behind fault begins other first b shows goes =
-    (goes_on_line limit q front tokens t behind fault (λ ts b. (begins ts b).begun) shows goes, unread_clear (front ++ tokens) t fault (begins tokens b).clear (other tokens t behind fault first))
+pub ahead_of_part : (c : Context) (given : List (List ℕ)) (limit : Option Limit) (Q : List Token → Type 0) (front rest tokens : List Token) (t : Token) (behind : List Token) (fault : Fault) → ((ts : List Token) → Q ts → StartsOpening c given (front ++ ts)) → PassesFor front rest
+    → first_token (tokens ++ t ∷ behind) ≡ first_token rest → Q tokens → ShowsAt behind fault → GoesOn Q tokens t fault → IsAheadOnLine c given limit (front ++ tokens) t fault
+ahead_of_part c given limit Q front rest tokens t behind fault begins other first b shows goes =
+    (goes_on_line c given limit Q front tokens t behind fault (λ ts b. (begins ts b).begun) shows goes, unread_clear (front ++ tokens) t fault (begins tokens b).clear (other tokens t behind fault first))
 
 -- a part stands behind these tokens: how it begins, and what is read there
-record StandsThere {B : Type 0} (q : Production B) (inner : ℕ) (front rest : List Token) : Type 0 where
-  begins : (tokens : List Token) → Begins q tokens → BeginsOpening (front ++ tokens)
+record StandsThere {B : Type 0} (c : Context) (given : List (List ℕ)) (q : Production B) (inner : ℕ) (front rest : List Token) : Type 0 where
+  begins : CarriesHead c given q inner front
   other : PassesFor front rest
   finds : (why : Stop) (more : List Token) → first_token more ≡ first_token rest → Finds (λ b. IsDeep why inner (q.lies b)) q.read more → FindsHead (λ h. IsDeep why 100 (head_lies h)) (front ++ more)
 
-shown_there : {B : Type 0} (c : Context) (given : List (List ℕ)) (limit : Option Limit) (q : Production B) (inner : ℕ) (front rest before : List Token) (fault : Fault) → before ≡ front ++ rest → StandsThere q inner front rest
-    → Shown q inner rest fault → ShownBy BeginsHead (IsAheadOnLine limit) head_tokens (λ fault a. IsAmissHead c given limit (Here fault) a) before fault
+shown_there : {B : Type 0} (c : Context) (given : List (List ℕ)) (limit : Option Limit) (q : Production B) (inner : ℕ) (front rest before : List Token) (fault : Fault) → before ≡ front ++ rest → StandsThere c given q inner front rest
+    → Shown q inner rest fault → ShownBy (BeginsHead c given) (IsAheadOnLine c given limit) head_tokens (λ fault a. IsAmissHead c given limit (Here fault) a) before fault
 shown_there c given limit q inner front rest before fault is part s = shown_head c given limit (front ++ s.front) s.shown_by s.behind before fault
-    (is ∙ ap (λ ts. front ++ ts) s.before_is ∙ sym (append_assoc front s.front (s.shown_by ∷ s.behind))) (shows_on_line s.shown_by s.behind fault s.left_is) (part.begins s.front s.begins).begun
-    (ahead_of_part limit q front rest s.front s.shown_by s.behind fault part.begins part.other (sym (ap first_token s.before_is)) s.begins s.left_is s.goes_on)
+    (is ∙ ap (λ ts. front ++ ts) s.before_is ∙ sym (append_assoc front s.front (s.shown_by ∷ s.behind))) (shows_on_line s.shown_by s.behind fault s.left_is) (part.begins.within s.front s.begins)
+    (ahead_of_part c given limit (Begins q) front rest s.front s.shown_by s.behind fault part.begins.plain part.other (sym (ap first_token s.before_is)) (begins_so q inner s.front s.begins) s.left_is s.goes_on)
     (λ more. finds_head_same _ _ _ (append_assoc front s.front (s.shown_by ∷ more))
     (finds_head_weaker _ _ _ (amiss_deep c given limit (Here fault)) (part.finds (Here fault) (s.front ++ s.shown_by ∷ more) (first_shown s.front s.shown_by more s.behind ∙ sym (ap first_token s.before_is)) (s.none more))))
 
-refused_there : {B : Type 0} (c : Context) (given : List (List ℕ)) (limit : Option Limit) (q : Production B) (inner : ℕ) (front rest before : List Token) (stop : Stop) → before ≡ front ++ rest → StandsThere q inner front rest → Refused q inner rest stop → HeadRefused c given limit before stop
+refused_there : {B : Type 0} (c : Context) (given : List (List ℕ)) (limit : Option Limit) (q : Production B) (inner : ℕ) (front rest before : List Token) (stop : Stop) → before ≡ front ++ rest → StandsThere c given q inner front rest → Refused q inner rest stop → HeadRefused c given limit before stop
 refused_there c given limit q inner front rest before (Here Memory) is part refused = tt
 refused_there c given limit q inner front rest before (Here (Unexpected at)) is part refused = shown_there c given limit q inner front rest before (Unexpected at) is part refused
 refused_there c given limit q inner front rest before (Here (TooDeep at)) is part refused = shown_there c given limit q inner front rest before (TooDeep at) is part refused
 refused_there c given limit q inner front rest before (Here (TooMany at)) is part refused = absurd refused.left_is
 refused_there c given limit q inner front rest before End is part refused =
-    ended_line c given limit (front ++ rest) before End is (part.begins rest refused.0).begun (finds_head_weaker _ _ _ (amiss_deep c given limit End) (part.finds End rest refl refused.1))
+    ended_line c given limit (front ++ rest) before End is (part.begins.within rest refused.0) (finds_head_weaker _ _ _ (amiss_deep c given limit End) (part.finds End rest refl refused.1))
 
 -- a part is refused behind these tokens
 pub refused_part_head : {B : Type 0} (c : Context) (given : List (List ℕ)) (limit : Option Limit) (q : Production B) (inner : ℕ) (front rest before : List Token) (stop : Stop) (g : ℕ → B → List Token → Option Head) → before ≡ front ++ rest
-    → ((tokens : List Token) → Begins q tokens → BeginsOpening (front ++ tokens)) → PassesFor front rest → HeadTurns q front rest g
+    → CarriesHead c given q inner front → PassesFor front rest → HeadTurns q front rest g
     → ((why : Stop) (n : ℕ) (b : B) (left : List Token) → IsDeep why inner (q.lies b) → OnlyHead (λ h. IsDeep why 100 (head_lies h)) (g n b left))
     → Refused q inner rest stop → HeadRefused c given limit before stop
 refused_part_head c given limit q inner front rest before stop g is begins other turns deep refused = refused_there c given limit q inner front rest before stop is

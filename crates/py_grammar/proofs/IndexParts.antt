@@ -21,7 +21,7 @@ use Rattle.py_grammar.specs.ParsedRows.{limit_deepest, IsRead, first_token, inde
 use Rattle.py_grammar.proofs.Leading.{Reads}
 use Rattle.py_grammar.proofs.Firsts.{expr_starts, exprs_starts}
 use Rattle.py_grammar.proofs.Reading.{if_false, if_true, expr_reads, index_is, bound_is}
-use Rattle.py_grammar.proofs.Refusals.{Inside, only_any, only_go_on, only_if, only_is, finds_first, finds_behind, finds_same, deep_beside_left, deep_beside_right, refused_inside, refused_same, one_behind}
+use Rattle.py_grammar.proofs.Refusals.{Inside, max_below, only_any, only_go_on, only_if, only_is, finds_first, finds_behind, finds_same, deep_beside_left, deep_beside_right, refused_inside, refused_same, one_behind}
 use Rattle.py_grammar.proofs.ClosedParts.{first_is}
 use Rattle.py_grammar.proofs.RowParts.{sign_first, more_steps}
 use Rattle.py_grammar.proofs.SharpReads.{exprs_is_read, exprs_row, level_same}
@@ -83,7 +83,7 @@ bound_finds P ts other finds = record {
 
 bound_inside : (room : ℕ) (rest : List Token) → is_sign_next 3 rest ≡ false → Inside bound_part room expr_part room [] rest
 bound_inside room rest other = record {
-  begins = λ b. record { some = bound b; more = []; tokens_are = sym (append-nil (expr_tokens b)) };
+  begins = λ at b. record { some = bound b; more = []; tokens_are = sym (append-nil (expr_tokens b)); within = λ other apart low. low };
   finds = λ stop more first finds. bound_finds _ more (sign_first 3 rest more first ∙ other) finds;
 }
 
@@ -161,9 +161,6 @@ from_start_read colon high rest next = record {
       ∙ ap (λ r. go_on r (λ high rest. Some (range_index no_bound colon high, rest))) (next.reads n more first);
 }
 
-max_fits : (a b c : ℕ) → a ≤ c → b ≤ c → max a b ≤ c
-max_fits a b c one other = omega (arith, one, other)
-
 pub index_from_start : (room : ℕ) (before behind after : List Token) (at : Pos) (high : Option Part) → Taken (Sign 7) before at behind → FoundBound room behind high after → FoundIndex room before (Slice None high) after
 index_from_start room before behind after at high k f = record {
   written = range_index no_bound k.spot f.written;
@@ -172,7 +169,7 @@ index_from_start room before behind after at high k f = record {
   height_is = ap (max 0) f.height_is;
   deepest_is = λ place. deepest_here (λ p. 0) (bound_lies f.written) 0 (limit_height high) 0 (bound_depth f.written) place (limit_deepest place high) _ refl refl f.height_is refl (f.deepest_is place) (λ p. omega arith) (bound_low f.written);
   form_is = refl;
-  fits = let small = f.fits in max_fits 0 (limit_height high) room (omega arith) small;
+  fits = let small = f.fits in max_below 0 (limit_height high) room (omega arith) small;
   is_read = from_start_read k.spot f.written after f.is_read;
 }
 
@@ -187,7 +184,7 @@ index_range room before middle behind after at low high l k f =
       height_is = ap (λ h. max h (limit_height high)) one.height_is ∙ ap (max (expr_depth one.written)) f.height_is;
       deepest_is = λ place. deepest_here (expr_lies one.written) (bound_lies f.written) low.height (limit_height high) (expr_depth one.written) (bound_depth f.written) low.deepest (limit_deepest place high) _ refl one.height_is f.height_is one.deepest_is (f.deepest_is place) (expr_low one.written) (bound_low f.written);
       form_is = refl;
-      fits = max_fits low.height (limit_height high) room one.fits f.fits;
+      fits = max_below low.height (limit_height high) room one.fits f.fits;
       is_read = range_read one.written k.spot f.written after f.is_read;
     }
 
@@ -195,7 +192,12 @@ index_range room before middle behind after at low high l k f =
 
 index_start_inside : (room : ℕ) (colon : Spot) (rest : List Token) → Inside index_part room bound_part room (token (Sign 7) colon ∷ []) rest
 index_start_inside room colon rest = record {
-  begins = λ b. record { some = range_index no_bound colon b; more = []; tokens_are = ap (λ ts. token (Sign 7) colon ∷ ts) (sym (append-nil (bound_tokens b))) };
+  begins = λ at b. record {
+    some = range_index no_bound colon b;
+    more = [];
+    tokens_are = ap (λ ts. token (Sign 7) colon ∷ ts) (sym (append-nil (bound_tokens b)));
+    within = λ other apart low. max_below 0 (bound_lies b other) room (omega arith) low;
+  };
   finds = λ stop more first finds. finds_first (λ b. IsDeep stop room (bound_lies b)) _ read_index read_bound (λ n high ts. Some (range_index no_bound colon high, ts)) (token (Sign 7) colon ∷ more) more (λ n. refl)
       (λ n b ts deep. deep_beside_right stop room (λ at. 0) (bound_lies b) deep) finds;
 }
@@ -213,7 +215,7 @@ index_deep stop room (suc n) (one_expr e) (t ∷ ts) deep = only_if _ (is_sign 7
 
 index_row_inside : (room : ℕ) (rest : List Token) → is_sign_next 7 rest ≡ false → Inside index_part room exprs_part room [] rest
 index_row_inside room rest other = record {
-  begins = λ b. record { some = one_index b; more = []; tokens_are = sym (append-nil (exprs_tokens b)) };
+  begins = λ at b. record { some = one_index b; more = []; tokens_are = sym (append-nil (exprs_tokens b)); within = λ other apart low. low };
   finds = λ stop more first finds. record {
     steps = suc finds.steps;
     only = λ n. only_is _ _ _ (more_steps (λ m. read_index m more) (n + suc finds.steps) (suc (n + finds.steps)) (omega arith)) (by stop more (n + finds.steps) (sign_first 7 rest more first ∙ other) (finds.only n));
@@ -230,9 +232,14 @@ index_row_refused room before stop other is = refused_inside index_part room exp
 one_reads : (e : Expr) → Reads read_exprs 8 (expr_tokens e) (one_expr e)
 one_reads e = let row = exprs_row (one_expr e) in record { steps = row.steps; reads = λ n rest beyond. row.reads n rest (λ closed_there. beyond) (λ open_there. cc) }
 
-index_end_inside : (room : ℕ) (e : Expr) (colon : Spot) (rest : List Token) → Inside index_part room bound_part room (expr_tokens e ++ token (Sign 7) colon ∷ []) rest
-index_end_inside room e colon rest = record {
-  begins = λ b. record { some = range_index (bound e) colon b; more = []; tokens_are = one_behind (expr_tokens e) (token (Sign 7) colon) (bound_tokens b) };
+index_end_inside : (room : ℕ) (e : Expr) (colon : Spot) (rest : List Token) → expr_depth e ≤ room → Inside index_part room bound_part room (expr_tokens e ++ token (Sign 7) colon ∷ []) rest
+index_end_inside room e colon rest fits = record {
+  begins = λ at b. record {
+    some = range_index (bound e) colon b;
+    more = [];
+    tokens_are = one_behind (expr_tokens e) (token (Sign 7) colon) (bound_tokens b);
+    within = λ other apart low. let first_low = expr_low e other in max_below (expr_lies e other) (bound_lies b other) room (omega (arith, first_low, fits)) low;
+  };
   finds = λ stop more first finds. finds_same _ read_index _ _ (append_assoc (expr_tokens e) (token (Sign 7) colon ∷ []) more)
       (finds_behind _ read_index read_exprs (λ n e ts. index_rest n e ts) 8 (expr_tokens e) (one_expr e) (token (Sign 7) colon ∷ more) (λ n. index_is n (expr_tokens e ++ token (Sign 7) colon ∷ more) (expr_starts e (token (Sign 7) colon ∷ more))) (one_reads e) (omega arith)
       (finds_first (λ b. IsDeep stop room (bound_lies b)) _ (λ n ts. index_rest n (one_expr e) ts) read_bound (λ n high ts. Some (range_index (bound e) colon high, ts)) (token (Sign 7) colon ∷ more) more (λ n. refl)
@@ -243,4 +250,4 @@ pub index_end_refused : (room : ℕ) (before middle behind : List Token) (at : P
 index_end_refused room before middle behind at low stop l k is =
     let one = found_one room before middle low l in
     refused_same index_part room before _ stop (one.before_is ∙ ap (λ ts. expr_tokens one.written ++ ts) k.before_is ∙ sym (append_assoc (expr_tokens one.written) (token (Sign 7) k.spot ∷ []) behind))
-    (refused_inside index_part room bound_part room (expr_tokens one.written ++ token (Sign 7) k.spot ∷ []) behind stop (index_end_inside room one.written k.spot behind) is)
+    (refused_inside index_part room bound_part room (expr_tokens one.written ++ token (Sign 7) k.spot ∷ []) behind stop (index_end_inside room one.written k.spot behind (let same = one.height_is in let small = one.fits in omega (arith, small, same))) is)

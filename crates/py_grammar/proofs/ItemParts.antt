@@ -24,7 +24,7 @@ use Rattle.py_grammar.specs.Parsed.{expr_part, exprs_part, Taken, Found, IsDeep,
 use Rattle.py_grammar.specs.ParsedRows.{IsDeepestWith, IsRead, items_part, rest_part, rest_trees, FoundList, FoundRest, FoundItems}
 use Rattle.py_grammar.proofs.Firsts.{IsStart, expr_starts, exprs_starts, items_is}
 use Rattle.py_grammar.proofs.Reading.{if_false, if_true, expr_reads}
-use Rattle.py_grammar.proofs.Refusals.{Inside, only_any, only_go_on, only_if, only_is, finds_first, finds_behind, finds_at_once, finds_same, deep_left, deep_right, deep_beside_left, deep_beside_right, refused_inside, refused_same, one_behind, begins_up_to, full}
+use Rattle.py_grammar.proofs.Refusals.{Inside, begins_whole, max_below, node_within, only_any, only_go_on, only_if, only_is, finds_first, finds_behind, finds_at_once, finds_same, deep_left, deep_right, deep_beside_left, deep_beside_right, refused_inside, refused_same, one_behind, begins_up_to, full}
 use Rattle.py_grammar.proofs.ClosedParts.{first_is}
 use Rattle.py_grammar.proofs.RowParts.{beyond_comma, sign_first, some_several, some_one, more_steps}
 use Rattle.py_grammar.proofs.SharpReads.{exprs_is_read}
@@ -129,30 +129,35 @@ several_deep stop room e comma r deep = deep_left stop room (begins (expr_tokens
 
 row_starts : (room : ℕ) (rest : List Token) → Inside exprs_part room expr_part room [] rest
 row_starts room rest = record {
-  begins = λ b. record { some = one_expr b; more = []; tokens_are = sym (append-nil (expr_tokens b)) };
+  begins = λ at b. record { some = one_expr b; more = []; tokens_are = sym (append-nil (expr_tokens b)); within = λ other apart low. low };
   finds = λ stop more first finds. exprs_finds_first _ (λ e. IsDeep stop room (expr_lies e)) more (λ e deep. deep) (λ e comma r deep. several_deep stop room e comma r deep) finds;
 }
 
 pub row_first : (room : ℕ) (before : List Token) (stop : Stop) → Refused expr_part room before stop → Refused exprs_part room before stop
 row_first room before stop is = refused_inside exprs_part room expr_part room [] before stop (row_starts room before) is
 
-row_goes_on : (room inner : ℕ) (e : Expr) (comma : Spot) (rest : List Token) → room ≤ suc inner → Inside exprs_part room rest_part inner (expr_tokens e ++ token (Sign 6) comma ∷ []) rest
-row_goes_on room inner e comma rest less = record {
-  begins = λ b. record { some = several e comma b; more = []; tokens_are = one_behind (expr_tokens e) (token (Sign 6) comma) (rest_tokens b) };
+row_goes_on : (room inner : ℕ) (e : Expr) (comma : Spot) (rest : List Token) → room ≤ suc inner → inner < room → expr_depth e ≤ inner → Inside exprs_part room rest_part inner (expr_tokens e ++ token (Sign 6) comma ∷ []) rest
+row_goes_on room inner e comma rest less smaller fits = record {
+  begins = λ at b. record {
+    some = several e comma b;
+    more = [];
+    tokens_are = one_behind (expr_tokens e) (token (Sign 6) comma) (rest_tokens b);
+    within = λ other apart low. let first_low = expr_low e other in node_within (begins (expr_tokens e) other) (expr_lies e other) (rest_lies b other) inner room smaller (omega (arith, first_low, fits)) low;
+  };
   finds = λ stop more first finds. exprs_finds_rest _ (λ r. IsDeep stop inner (rest_lies r)) e comma more
       (λ r deep. deep_right stop inner room (begins (expr_tokens e)) (expr_lies e) (rest_lies r) less deep) finds;
 }
 
-pub row_rest : (room inner : ℕ) (before middle behind : List Token) (at : Pos) (first : Part) (stop : Stop) → Found expr_part expr_tree 7 room before first middle → Taken (Sign 6) middle at behind → room ≤ suc inner
-    → Refused rest_part inner behind stop → Refused exprs_part room before stop
-row_rest room inner before middle behind at first stop f k less is =
+pub row_rest : (room inner : ℕ) (before middle behind : List Token) (at : Pos) (first : Part) (stop : Stop) → Found expr_part expr_tree 7 room before first middle → Taken (Sign 6) middle at behind → first.height < room → room ≤ suc inner
+    → inner < room → Refused rest_part inner behind stop → Refused exprs_part room before stop
+row_rest room inner before middle behind at first stop f k fits less smaller is =
     refused_same exprs_part room before _ stop (f.before_is ∙ ap (λ ts. expr_tokens f.written ++ ts) k.before_is ∙ sym (append_assoc (expr_tokens f.written) (token (Sign 6) k.spot ∷ []) behind))
-    (refused_inside exprs_part room rest_part inner (expr_tokens f.written ++ token (Sign 6) k.spot ∷ []) behind stop (row_goes_on room inner f.written k.spot behind less) is)
+    (refused_inside exprs_part room rest_part inner (expr_tokens f.written ++ token (Sign 6) k.spot ∷ []) behind stop (row_goes_on room inner f.written k.spot behind less smaller (let same = f.height_is in omega (arith, fits, less, same))) is)
 
 pub row_full : (room : ℕ) (before middle behind : List Token) (at : Pos) (first : Part) (stop : Stop) → Found expr_part expr_tree 7 room before first middle → Taken (Sign 6) middle at behind
     → IsTooDeep first.height first.deepest room stop → Refused exprs_part room before stop
 row_full room before middle behind at first stop f k deep = full exprs_part room before (expr_tokens f.written) (token (Sign 6) k.spot) behind first.height first.deepest stop deep
-    (f.before_is ∙ ap (λ ts. expr_tokens f.written ++ ts) k.before_is) (record { some = one_expr f.written; more = []; tokens_are = sym (append-nil (expr_tokens f.written)) })
+    (f.before_is ∙ ap (λ ts. expr_tokens f.written ++ ts) k.before_is) (begins_whole exprs_part room (one_expr f.written) (λ at. let low = expr_low f.written at in let is = f.height_is in let fits = f.fits in omega (arith, low, is, fits)))
     (begins_up_to exprs_part (several f.written k.spot end_rest) (expr_tokens f.written) (token (Sign 6) k.spot) [] refl)
     (λ more. finds_behind _ read_exprs read_expr (λ n e ts. exprs_rest n e ts) 7 (expr_tokens f.written) f.written (token (Sign 6) k.spot ∷ more) (λ n. refl) (expr_reads f.written) (omega arith)
     (finds_at_once _ (λ n ts. exprs_rest n f.written ts) (token (Sign 6) k.spot ∷ more)
@@ -228,7 +233,7 @@ items_finds closing P ts other finds = record {
 
 items_inside : (closing room : ℕ) (rest : List Token) → is_sign_next closing rest ≡ false → Inside (items_part closing) room expr_part room [] rest
 items_inside closing room rest other = record {
-  begins = λ b. record { some = items (one_expr b); more = []; tokens_are = sym (append-nil (expr_tokens b)) };
+  begins = λ at b. record { some = items (one_expr b); more = []; tokens_are = sym (append-nil (expr_tokens b)); within = λ other apart low. low };
   finds = λ stop more first finds. items_finds closing _ more (sign_first closing rest more first ∙ other)
       (exprs_finds_first _ (λ e. IsDeep stop room (expr_lies e)) more (λ e deep. deep) (λ e comma r deep. deep_beside_left stop room (expr_lies e) (rest_lies r) deep) finds);
 }
@@ -239,9 +244,14 @@ items_first closing room before stop other is = refused_inside (items_part closi
 items_start : (closing : ℕ) (P : Items → Type 0) (ts : List Token) → start_class (Sign closing) ≡ 0 → IsStart (starts ts) → Finds (λ e. P (items e)) read_exprs ts → Finds P (λ n us. read_items n closing us) ts
 items_start closing P ts closes start finds = finds_first _ P (λ n us. read_items n closing us) read_exprs (λ n e us. Some (items e, us)) ts ts (λ n. items_is n closing ts closes start) (λ n e us deep. deep) finds
 
-items_go_on : (closing room : ℕ) (e : Expr) (comma : Spot) (rest : List Token) → start_class (Sign closing) ≡ 0 → Inside (items_part closing) room rest_part room (expr_tokens e ++ token (Sign 6) comma ∷ []) rest
-items_go_on closing room e comma rest closes = record {
-  begins = λ b. record { some = items (several e comma b); more = []; tokens_are = one_behind (expr_tokens e) (token (Sign 6) comma) (rest_tokens b) };
+items_go_on : (closing room : ℕ) (e : Expr) (comma : Spot) (rest : List Token) → start_class (Sign closing) ≡ 0 → expr_depth e ≤ room → Inside (items_part closing) room rest_part room (expr_tokens e ++ token (Sign 6) comma ∷ []) rest
+items_go_on closing room e comma rest closes fits = record {
+  begins = λ at b. record {
+    some = items (several e comma b);
+    more = [];
+    tokens_are = one_behind (expr_tokens e) (token (Sign 6) comma) (rest_tokens b);
+    within = λ other apart low. let first_low = expr_low e other in max_below (expr_lies e other) (rest_lies b other) room (omega (arith, first_low, fits)) low;
+  };
   finds = λ stop more first finds.
       items_start closing _ ((expr_tokens e ++ token (Sign 6) comma ∷ []) ++ more) closes (start more)
       (exprs_finds_rest _ (λ r. IsDeep stop room (rest_lies r)) e comma more (λ r deep. deep_beside_right stop room (expr_lies e) (rest_lies r) deep) finds);
@@ -254,4 +264,4 @@ pub items_rest : (closing room : ℕ) (before middle behind : List Token) (at : 
     → Refused rest_part room behind stop → Refused (items_part closing) room before stop
 items_rest closing room before middle behind at first stop closes f k is =
     refused_same (items_part closing) room before _ stop (f.before_is ∙ ap (λ ts. expr_tokens f.written ++ ts) k.before_is ∙ sym (append_assoc (expr_tokens f.written) (token (Sign 6) k.spot ∷ []) behind))
-    (refused_inside (items_part closing) room rest_part room (expr_tokens f.written ++ token (Sign 6) k.spot ∷ []) behind stop (items_go_on closing room f.written k.spot behind closes) is)
+    (refused_inside (items_part closing) room rest_part room (expr_tokens f.written ++ token (Sign 6) k.spot ∷ []) behind stop (items_go_on closing room f.written k.spot behind closes (let same = f.height_is in let low = f.fits in omega (arith, low, same))) is)

@@ -13,8 +13,10 @@ pub mod Connectives
 pub mod ExprForms
 pub mod ExprRefusals
 pub mod Firsts
+pub mod FixedNames
 pub mod ForHeads
 pub mod ForTargets
+pub mod FreshNames
 pub mod HeadParts
 pub mod HeadReading
 pub mod IndexParts

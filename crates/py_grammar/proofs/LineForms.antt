@@ -6,6 +6,8 @@ use Rattle.py_lines.specs.declared.parts.Token.{Token}
 use Rattle.py_lines.specs.declared.parts.TokenKind.TheVariants.{Keyword, Sign}
 use Rattle.py_tree.specs.declared.stmt.Form.{Form}
 use Rattle.py_tree.specs.declared.stmt.Globals.{Globals}
+use Rattle.py_grammar.specs.declared.context.Last.{Last}
+use Rattle.py_grammar.specs.declared.context.Last.TheVariants.{Nothing, Loop, If as AfterIf, Try as AfterTry, Handler, Every}
 use Rattle.py_grammar.specs.declared.context.Limit.{Limit}
 use Rattle.py_grammar.specs.declared.fault.Fault.{Fault}
 use Rattle.py_grammar.specs.declared.fault.Fault.TheVariants.{Unexpected, TooDeep, TooMany, Memory}
@@ -16,33 +18,49 @@ use Rattle.py_grammar.specs.declared.head.What.TheVariants.{Simple as SimpleIs, 
 use Rattle.py_grammar.specs.declared.head.Behind.{Behind}
 use Rattle.py_grammar.specs.Concrete.{Spot}
 use Rattle.py_grammar.specs.Tokens.{token}
-use Rattle.py_grammar.specs.Written.{Simple, pass}
+use Rattle.py_grammar.specs.Written.{Simple, pass, every_kind}
 use Rattle.py_grammar.specs.StatementTokens.{simple_tokens}
 use Rattle.py_grammar.specs.WellPlaced.{Around, simple_stands}
-use Rattle.py_grammar.specs.LineReader.{Head, simple_head, else_head, try_head, global_head, head_tokens}
+use Rattle.py_grammar.specs.LineReader.{Head, simple_head, else_head, try_head, except_head, global_head, head_tokens}
 use Rattle.py_grammar.specs.Lies.{simple_lies}
 use Rattle.py_grammar.specs.Parsed.{IsAtFirst, Taken, Refused, one_sign}
-use Rattle.py_grammar.specs.ParsedSimple.{BeginsSimple}
-use Rattle.py_grammar.specs.ParsedHead.{Context, lacks_handler, kind_may, may_begin, is_compound_kind, begins_compound, PlacedFound, HeadFound, OpeningFound, OpeningRefused, BehindFound, BehindRefused, inner_around, is_compound, IsAmissPlaced, IsAmissHead, BeginsHead, GoesOnPlaced, IsAheadPlaced, GoesOnLine, IsAheadOnLine, ShownBy, EndedBy, PlacedRefused, HeadRefused, IsFirstRefused, GlobalFound, GlobalRefused, word_may, Misplaced}
-use Rattle.py_grammar.proofs.Stops.{some_spot}
+use Rattle.py_grammar.specs.ParsedHead.{Context, lacks_handler, takes_handler, StartsPlaced, BeginsPlaced, kind_may, may_begin, is_compound_kind, begins_compound, PlacedFound, HeadFound, OpeningFound, OpeningRefused, BehindFound, BehindRefused, inner_around, is_compound, IsAmissPlaced, IsAmissHead, StartsHead, BeginsHead, GoesOnPlaced, IsAheadPlaced, GoesOnLine, IsAheadOnLine, ShownBy, EndedBy, PlacedRefused, HeadRefused, IsFirstRefused, GlobalFound, GlobalRefused, word_may, Misplaced}
+use Rattle.py_grammar.proofs.Stops.{some_spot, spot_at}
 use Rattle.py_grammar.proofs.HeadParts.{spelled_head, past_opening}
 use Rattle.py_grammar.proofs.Unread.{unread_at_first, unread_simple}
-use Rattle.py_grammar.proofs.ColonParts.{colon_refused, behind_refused, line_found}
-use Rattle.py_grammar.proofs.PlacedParts.{none_there}
-use Rattle.py_grammar.proofs.LineFirsts.{and_false, both_true, simple_some, head_some, head_simple, may_as_simple, may_as_word, misplaced_head}
+use Rattle.py_grammar.proofs.ColonParts.{shown_some, colon_refused, behind_refused, line_found}
+use Rattle.py_grammar.proofs.PlacedParts.{none_there, pass_stands, del_stands}
+use Rattle.py_grammar.proofs.LineFirsts.{and_false, both_true, not_nothing, simple_some, head_some, head_simple, may_as_simple, may_as_word, misplaced_head}
 use Rattle.py_grammar.specs.declared.context.Limit.TheVariants.{Number as ByNumber, Depth}
 
 -- ---- where no line may begin
 
+handler_may : (last : Last) → lacks_handler last ≡ true → takes_handler last ≡ true
+handler_may Nothing is = cc
+handler_may Loop is = cc
+handler_may AfterIf is = cc
+handler_may AfterTry is = refl
+handler_may Handler is = cc
+handler_may Every is = cc
+
+-- some line may stand there: `pass`, or `except: pass` where a handler is missing
+some_line : (c : Context) (given : List (List ℕ)) → BeginsHead c given []
+some_line c given = by (lacks_handler c.last) refl
+  where
+    by : (b : Bool) → lacks_handler c.last ≡ b → BeginsHead c given []
+    by true is = spelled_head c given (λ at. except_head (spot_at at) every_kind (spot_at at) (Some (pass (spot_at at)))) [] (λ at. head_tokens (except_head (spot_at at) every_kind (spot_at at) (Some (pass (spot_at at)))))
+        (λ at. both_true (takes_handler c.last) _ (handler_may c.last is) refl) (λ at. refl) (λ at other apart. omega arith)
+    by false is = spelled_head c given (λ at. simple_head (pass (spot_at at))) [] (λ at. simple_tokens (pass (spot_at at))) (λ at. both_true _ _ (ap not is) (pass_stands c.around (spot_at at))) (λ at. refl) (λ at other apart. omega arith)
+
 at_first_token : (c : Context) (given : List (List ℕ)) (limit : Option Limit) (t : Token) (behind : List Token) (left : ℕ) → left ≡ length behind → ((h : Head) (more : List Token) → head_tokens h ≡ t ∷ more → IsAmissHead c given limit (Here (Unexpected left)) h)
-    → ShownBy BeginsHead (IsAheadOnLine limit) head_tokens (λ fault a. IsAmissHead c given limit (Here fault) a) (t ∷ behind) (Unexpected left)
+    → ShownBy (BeginsHead c given) (IsAheadOnLine c given limit) head_tokens (λ fault a. IsAmissHead c given limit (Here fault) a) (t ∷ behind) (Unexpected left)
 at_first_token c given limit t behind left at_it none = record {
   front = [];
   shown_by = t;
   behind = behind;
   before_is = refl;
   left_is = at_it;
-  begun = spelled_head (simple_head (pass some_spot)) [] (simple_tokens (pass some_spot)) refl;
+  begun = some_line c given;
   goes_on = (tt, unread_at_first t (Unexpected left));
   none = none;
 }
@@ -60,9 +78,12 @@ word_is_placed c n spot before rest is present may = sym (may_as_word c n presen
 
 -- ---- simple statements
 
+is_free : (c : Context) (before : List Token) → begins_compound before ≡ false → may_begin c before ≡ true → (before ≡ [] → ⊥) → not (lacks_handler c.last) ≡ true
+is_free c [] absent may some = absurd (some refl)
+is_free c (t ∷ ts) absent may some = sym (may_as_simple c t.kind absent) ∙ may
+
 no_handler_lacks : (c : Context) (before : List Token) (s : Simple) → before ≡ simple_tokens s → begins_compound before ≡ false → may_begin c before ≡ true → not (lacks_handler c.last) ≡ true
-no_handler_lacks c [] s is absent may = absurd (simple_some s (sym is))
-no_handler_lacks c (t ∷ ts) s is absent may = sym (may_as_simple c t.kind absent) ∙ may
+no_handler_lacks c before s is absent may = is_free c before absent may (λ none. simple_some s (sym is ∙ none))
 
 pub simple_line : (c : Context) (given : List (List ℕ)) (limit : Option Limit) (before : List Token) (form : Form) → may_begin c before ≡ true → begins_compound before ≡ false → PlacedFound c.around before form
     → HeadFound c given limit before (record { what = SimpleIs form; behind = None })
@@ -84,16 +105,22 @@ amiss_simple c given limit (Here (Unexpected at)) s amiss = and_false _ (simple_
 amiss_simple c given limit (Here Memory) s amiss = absurd amiss
 amiss_simple c given limit End s amiss = and_false _ (simple_stands c.around s) amiss
 
-begins_simple_line : (tokens : List Token) → BeginsSimple tokens → BeginsHead tokens
-begins_simple_line tokens (inl b) = inl (record { some = simple_head b.some; more = b.more; tokens_are = b.tokens_are })
-begins_simple_line tokens (inr b) = inr (inl (record { opened = []; starts = inl refl; inside = tokens; begins = b; front_is = refl }))
+begins_simple_line : (c : Context) (given : List (List ℕ)) (tokens : List Token) → not (lacks_handler c.last) ≡ true → BeginsPlaced c.around tokens → BeginsHead c given tokens
+begins_simple_line c given tokens free (inl b) = inl (λ at. let k = b at in record { some = simple_head k.some; is_so = both_true _ _ free k.is_so; more = k.more; tokens_are = k.tokens_are; within = k.within })
+begins_simple_line c given tokens free (inr b) =
+    inr (inl (record { opened = []; starts = inl (refl, λ spot. both_true _ _ free (del_stands c.around b.0 spot)); inside = tokens; begins = b.1; front_is = refl }))
 
-goes_simple : (limit : Option Limit) (tokens : List Token) (t : Token) (fault : Fault) → GoesOnPlaced None tokens t fault → GoesOnLine limit tokens t fault
-goes_simple limit tokens t (TooDeep at) (inl b) = inl (begins_simple_line (tokens ++ t ∷ []) b)
-goes_simple limit tokens t (TooDeep at) (inr passed) = absurd (let no : None ≡ Some Depth = passed.0 in cc)
-goes_simple limit tokens t (TooMany at) passed = absurd (let no : None ≡ Some ByNumber = passed.0 in cc)
-goes_simple limit tokens t (Unexpected left) goes = tt
-goes_simple limit tokens t Memory goes = tt
+starts_simple_line : (c : Context) (given : List (List ℕ)) (tokens : List Token) → not (lacks_handler c.last) ≡ true → StartsPlaced c.around tokens → StartsHead c given tokens
+starts_simple_line c given tokens free (inl b) = inl (record { some = simple_head b.some; is_so = both_true _ _ free b.is_so; more = b.more; tokens_are = b.tokens_are })
+starts_simple_line c given tokens free (inr b) =
+    inr (inl (record { opened = []; starts = inl (refl, λ spot. both_true _ _ free (del_stands c.around b.0 spot)); inside = tokens; begins = b.1; front_is = refl }))
+
+goes_simple : (c : Context) (given : List (List ℕ)) (limit : Option Limit) (tokens : List Token) (t : Token) (fault : Fault) → not (lacks_handler c.last) ≡ true → GoesOnPlaced c.around None tokens t fault → GoesOnLine c given limit tokens t fault
+goes_simple c given limit tokens t (TooDeep at) free (inl b) = inl (starts_simple_line c given (tokens ++ t ∷ []) free b)
+goes_simple c given limit tokens t (TooDeep at) free (inr passed) = absurd (let no : None ≡ Some Depth = passed.0 in cc)
+goes_simple c given limit tokens t (TooMany at) free passed = absurd (let no : None ≡ Some ByNumber = passed.0 in cc)
+goes_simple c given limit tokens t (Unexpected left) free goes = tt
+goes_simple c given limit tokens t Memory free goes = tt
 
 -- a line with these tokens is a simple statement
 only_simple : (P : Head → Type 0) (before : List Token) (h : Head) → begins_compound before ≡ false → head_tokens h ≡ before → ((s : Simple) → simple_tokens s ≡ before → P (simple_head s)) → P h
@@ -106,36 +133,43 @@ same_begins : (front : List Token) (t : Token) (a b : List Token) → begins_com
 same_begins [] t a b = refl
 same_begins (first ∷ front) t a b = refl
 
-simple_shown : (c : Context) (given : List (List ℕ)) (limit : Option Limit) (before : List Token) (fault : Fault) → begins_compound before ≡ false → ShownBy BeginsSimple (IsAheadPlaced None) simple_tokens (λ fault a. IsAmissPlaced c.around None (Here fault) a) before fault
-    → ShownBy BeginsHead (IsAheadOnLine limit) head_tokens (λ fault a. IsAmissHead c given limit (Here fault) a) before fault
-simple_shown c given limit before fault absent s = record {
+simple_shown : (c : Context) (given : List (List ℕ)) (limit : Option Limit) (before : List Token) (fault : Fault) → begins_compound before ≡ false → may_begin c before ≡ true → ShownBy (BeginsPlaced c.around) (IsAheadPlaced c.around None) simple_tokens (λ fault a. IsAmissPlaced c.around None (Here fault) a) before fault
+    → ShownBy (BeginsHead c given) (IsAheadOnLine c given limit) head_tokens (λ fault a. IsAmissHead c given limit (Here fault) a) before fault
+simple_shown c given limit before fault absent may s = record {
   front = s.front;
   shown_by = s.shown_by;
   behind = s.behind;
   before_is = s.before_is;
   left_is = s.left_is;
-  begun = begins_simple_line s.front s.begun;
-  goes_on = (goes_simple limit s.front s.shown_by fault s.goes_on.0, unread_simple s.front s.shown_by fault s.begun s.goes_on.1 (λ spot inside is. no_for spot inside is));
+  begun = begins_simple_line c given s.front free s.begun;
+  goes_on = (goes_simple c given limit s.front s.shown_by fault free s.goes_on.0, unread_simple c.around s.front s.shown_by fault s.begun s.goes_on.1 (λ spot inside is. no_for spot inside is));
   none = λ h more same. only_simple (IsAmissHead c given limit (Here fault)) (s.front ++ s.shown_by ∷ more) h (same_begins s.front s.shown_by more s.behind ∙ sym (ap begins_compound s.before_is) ∙ absent) same
       (λ a is. amiss_simple c given limit (Here fault) a (s.none a more is));
 }
   where
+    free : not (lacks_handler c.last) ≡ true
+    free = is_free c before absent may (λ none. shown_some s.front s.shown_by s.behind (sym s.before_is ∙ none))
+
     no_for : (spot : Spot) (inside : List Token) → s.front ≡ token (Keyword 17) spot ∷ inside → ⊥
     no_for spot inside is = let no : true ≡ false = sym (ap (λ (ts : List Token). begins_compound (ts ++ s.shown_by ∷ s.behind)) is) ∙ sym (ap begins_compound s.before_is) ∙ absent in cc
 
-simple_ended : (c : Context) (given : List (List ℕ)) (limit : Option Limit) (before : List Token) (stop : Stop) → begins_compound before ≡ false → EndedBy BeginsSimple simple_tokens (IsAmissPlaced c.around None stop) before
-    → EndedBy BeginsHead head_tokens (IsAmissHead c given limit stop) before
-simple_ended c given limit before stop absent e = record {
-  begun = begins_simple_line before e.begun;
+simple_ended : (c : Context) (given : List (List ℕ)) (limit : Option Limit) (before : List Token) (stop : Stop) → begins_compound before ≡ false → may_begin c before ≡ true → EndedBy (BeginsPlaced c.around) simple_tokens (IsAmissPlaced c.around None stop) before
+    → EndedBy (BeginsHead c given) head_tokens (IsAmissHead c given limit stop) before
+simple_ended c given limit before stop absent may e = record {
+  begun = by before absent may e.begun;
   none = λ h same. only_simple (IsAmissHead c given limit stop) before h absent same (λ a is. amiss_simple c given limit stop a (e.none a is));
 }
+  where
+    by : (before : List Token) → begins_compound before ≡ false → may_begin c before ≡ true → BeginsPlaced c.around before → BeginsHead c given before
+    by [] absent may begun = some_line c given
+    by (t ∷ ts) absent may begun = begins_simple_line c given (t ∷ ts) (is_free c (t ∷ ts) absent may (not_nothing t ts)) begun
 
-pub simple_line_refused : (c : Context) (given : List (List ℕ)) (limit : Option Limit) (before : List Token) (stop : Stop) → begins_compound before ≡ false → PlacedRefused c.around None before stop → HeadRefused c given limit before stop
-simple_line_refused c given limit before (Here Memory) absent is = tt
-simple_line_refused c given limit before (Here (Unexpected at)) absent is = simple_shown c given limit before (Unexpected at) absent is
-simple_line_refused c given limit before (Here (TooDeep at)) absent is = simple_shown c given limit before (TooDeep at) absent is
-simple_line_refused c given limit before (Here (TooMany at)) absent is = simple_shown c given limit before (TooMany at) absent is
-simple_line_refused c given limit before End absent is = simple_ended c given limit before End absent is
+pub simple_line_refused : (c : Context) (given : List (List ℕ)) (limit : Option Limit) (before : List Token) (stop : Stop) → begins_compound before ≡ false → may_begin c before ≡ true → PlacedRefused c.around None before stop → HeadRefused c given limit before stop
+simple_line_refused c given limit before (Here Memory) absent may is = tt
+simple_line_refused c given limit before (Here (Unexpected at)) absent may is = simple_shown c given limit before (Unexpected at) absent may is
+simple_line_refused c given limit before (Here (TooDeep at)) absent may is = simple_shown c given limit before (TooDeep at) absent may is
+simple_line_refused c given limit before (Here (TooMany at)) absent may is = simple_shown c given limit before (TooMany at) absent may is
+simple_line_refused c given limit before End absent may is = simple_ended c given limit before End absent may is
 
 -- ---- `global`
 
@@ -169,6 +203,7 @@ else_found c before spot = record {
   low = omega arith;
   depth_is = λ colon behind. refl;
   lies_behind = λ colon s at. le-max_right _ (simple_lies s at);
+  lies_within = λ colon s at. omega arith;
   stands = λ given colon behind. refl;
 }
 
@@ -188,6 +223,7 @@ try_found c before spot = record {
   low = omega arith;
   depth_is = λ colon behind. refl;
   lies_behind = λ colon s at. le-max_right _ (simple_lies s at);
+  lies_within = λ colon s at. omega arith;
   stands = λ given colon behind. refl;
 }
 
@@ -196,19 +232,20 @@ try_found c before spot = record {
 abbrev RefusedThere : Context → List (List ℕ) → (limit : Option Limit) → Stop → List Token → Type 0
 RefusedThere c given limit stop ts = HeadRefused c given limit ts stop
 
-pub opening_refused_there : (c : Context) (given : List (List ℕ)) (limit : Option Limit) (word : ℕ) (at : Pos) (before rest : List Token) (stop : Stop) → Taken (Keyword word) before at rest → OpeningRefused c word rest stop → HeadRefused c given limit before stop
-opening_refused_there c given limit word at before rest stop t refused = subst (RefusedThere c given limit stop) (sym t.before_is) (refused.there given limit t.spot)
+pub opening_refused_there : (c : Context) (given : List (List ℕ)) (limit : Option Limit) (word : ℕ) (at : Pos) (before rest : List Token) (stop : Stop) → Taken (Keyword word) before at rest → is_compound word ≡ true → may_begin c before ≡ true → OpeningRefused c word rest stop → HeadRefused c given limit before stop
+opening_refused_there c given limit word at before rest stop t word_is may refused =
+    subst (RefusedThere c given limit stop) (sym t.before_is) (refused.there given limit t.spot (word_is_placed c word t.spot before rest t.before_is word_is may))
 
-pub sign_refused_there : (c : Context) (given : List (List ℕ)) (limit : Option Limit) (word : ℕ) (at : Pos) (before rest after : List Token) (what : What) (stop : Stop) → Taken (Keyword word) before at rest → OpeningFound c word rest what after
+pub sign_refused_there : (c : Context) (given : List (List ℕ)) (limit : Option Limit) (word : ℕ) (at : Pos) (before rest after : List Token) (what : What) (stop : Stop) → Taken (Keyword word) before at rest → is_compound word ≡ true → may_begin c before ≡ true → OpeningFound c word rest what after
     → Refused (one_sign 7) 0 after stop → HeadRefused c given limit before stop
-sign_refused_there c given limit word at before rest after what stop t found refused =
-    subst (RefusedThere c given limit stop) (sym t.before_is) (colon_refused c given limit word (token (Keyword word) t.spot ∷ rest) after what stop (found t.spot) refused)
+sign_refused_there c given limit word at before rest after what stop t word_is may found refused =
+    subst (RefusedThere c given limit stop) (sym t.before_is) (colon_refused c given limit word (token (Keyword word) t.spot ∷ rest) after what stop (found t.spot) (word_is_placed c word t.spot before rest t.before_is word_is may) refused)
 
 pub behind_refused_there : (c : Context) (given : List (List ℕ)) (limit : Option Limit) (word : ℕ) (at colon_at : Pos) (before rest after behind : List Token) (what : What) (around : Around) (stop : Stop) → Taken (Keyword word) before at rest
-    → OpeningFound c word rest what after → Taken (Sign 7) after colon_at behind → around ≡ inner_around word c.around → BehindRefused around limit behind stop → HeadRefused c given limit before stop
-behind_refused_there c given limit word at colon_at before rest after behind what around stop t found colon is refused =
+    → is_compound word ≡ true → may_begin c before ≡ true → OpeningFound c word rest what after → Taken (Sign 7) after colon_at behind → around ≡ inner_around word c.around → BehindRefused around limit behind stop → HeadRefused c given limit before stop
+behind_refused_there c given limit word at colon_at before rest after behind what around stop t word_is may found colon is refused =
     subst (RefusedThere c given limit stop) (sym t.before_is)
-    (behind_refused c given limit word (token (Keyword word) t.spot ∷ rest) after behind what colon.spot stop (found t.spot) colon.before_is (subst (λ (a : Around). BehindRefused a limit behind stop) is refused))
+    (behind_refused c given limit word (token (Keyword word) t.spot ∷ rest) after behind what colon.spot stop (found t.spot) (word_is_placed c word t.spot before rest t.before_is word_is may) colon.before_is (subst (λ (a : Around). BehindRefused a limit behind stop) is refused))
 
 pub line_there : (c : Context) (given : List (List ℕ)) (limit : Option Limit) (word : ℕ) (at colon_at : Pos) (before rest after behind : List Token) (what : What) (written : Option Behind) (around : Around) → Taken (Keyword word) before at rest
     → is_compound word ≡ true → may_begin c before ≡ true → OpeningFound c word rest what after → Taken (Sign 7) after colon_at behind → around ≡ inner_around word c.around → BehindFound around limit behind written
@@ -218,9 +255,10 @@ line_there c given limit word at colon_at before rest after behind what written 
     (line_found c given limit word (token (Keyword word) t.spot ∷ rest) after behind (record { what = what; behind = written }) colon.spot (found t.spot) colon.before_is
     (word_is_placed c word t.spot before rest t.before_is word_is may) (subst (λ (a : Around). BehindFound a limit behind written) is b))
 
-pub global_refused_there : (c : Context) (given : List (List ℕ)) (limit : Option Limit) (word : ℕ) (at : Pos) (before rest : List Token) (stop : Stop) → Taken (Keyword word) before at rest → word ≡ 19 → GlobalRefused given rest stop → HeadRefused c given limit before stop
-global_refused_there c given limit word at before rest stop t is refused =
-    subst (RefusedThere c given limit stop) (sym (t.before_is ∙ ap (λ n. token (Keyword n) t.spot ∷ rest) is)) (refused.there c limit t.spot)
+pub global_refused_there : (c : Context) (given : List (List ℕ)) (limit : Option Limit) (word : ℕ) (at : Pos) (before rest : List Token) (stop : Stop) → Taken (Keyword word) before at rest → word ≡ 19 → may_begin c before ≡ true → GlobalRefused given rest stop → HeadRefused c given limit before stop
+global_refused_there c given limit word at before rest stop t is may refused =
+    let same : before ≡ token (Keyword 19) t.spot ∷ rest = t.before_is ∙ ap (λ n. token (Keyword n) t.spot ∷ rest) is in
+    subst (RefusedThere c given limit stop) (sym same) (refused.there c limit t.spot (word_is_placed c 19 t.spot before rest same refl may))
 
 pub global_there : (c : Context) (given : List (List ℕ)) (limit : Option Limit) (word : ℕ) (at : Pos) (before rest : List Token) (names : Globals) → Taken (Keyword word) before at rest → word ≡ 19 → may_begin c before ≡ true → GlobalFound given rest names
     → HeadFound c given limit before (record { what = Global names; behind = None })
@@ -232,8 +270,8 @@ pub simple_there : (c : Context) (given : List (List ℕ)) (limit : Option Limit
     → HeadFound c given limit before (record { what = SimpleIs form; behind = None })
 simple_there c given limit before kept form is may other f = simple_line c given limit before form may other (subst (λ (ts : List Token). PlacedFound c.around ts form) is f)
 
-pub simple_refused_there : (c : Context) (given : List (List ℕ)) (limit : Option Limit) (before kept : List Token) (stop : Stop) → kept ≡ before → begins_compound before ≡ false → PlacedRefused c.around None kept stop → HeadRefused c given limit before stop
-simple_refused_there c given limit before kept stop is other refused = simple_line_refused c given limit before stop other (subst (λ (ts : List Token). PlacedRefused c.around None ts stop) is refused)
+pub simple_refused_there : (c : Context) (given : List (List ℕ)) (limit : Option Limit) (before kept : List Token) (stop : Stop) → kept ≡ before → may_begin c before ≡ true → begins_compound before ≡ false → PlacedRefused c.around None kept stop → HeadRefused c given limit before stop
+simple_refused_there c given limit before kept stop is may other refused = simple_line_refused c given limit before stop other may (subst (λ (ts : List Token). PlacedRefused c.around None ts stop) is refused)
 
 -- ---- tokens that may not begin a line
 

@@ -161,7 +161,7 @@ exprs_above (several e comma rest) = one_above _
 -- ---- places
 
 -- a place, where any will do
-nowhere : Pos
+pub nowhere : Pos
 nowhere = record { line = 0; col = 0 }
 
 same_number : (n : ℕ) → (n == n) ≡ true

@@ -46,7 +46,7 @@ kind_low : (k : Kind) (at : Pos) → kind_lies k at ≤ kind_depth k
 kind_low every_kind at = omega arith
 kind_low (one_kind e called) at = expr_low e at
 
-base_low : (b : Base) (at : Pos) → base_lies b at ≤ 1
+pub base_low : (b : Base) (at : Pos) → base_lies b at ≤ 1
 base_low no_base at = omega arith
 base_low (empty_base opening closing) at = omega arith
 base_low (base opening name_at bytes closing) at = over_low _ 0 0 (omega arith)

@@ -22,14 +22,18 @@ use Rattle.py_grammar.specs.Reader.{Read, go_on, is_sign, read_sign}
 use Rattle.py_grammar.specs.WellPlaced.{may_be_method, are_different, in_def_suite}
 use Rattle.py_grammar.specs.Lies.{simple_lies}
 use Rattle.py_grammar.specs.Parsed.{IsDeep, Refused, TakenName, one_name}
-use Rattle.py_grammar.specs.ParsedHead.{Took, base_part, Context, lacks_handler, behind_stands, IsAmissHead, OpeningFound, OpeningRefused}
+use Rattle.py_grammar.specs.ParsedHead.{Took, base_part, Context, word_may, lacks_handler, behind_stands, head_stands, IsAmissHead, OpeningFound, OpeningRefused}
 use Rattle.py_grammar.specs.ParsedNames.{RefusedAmiss, BracketNames, bracket_tokens, read_bracket, bracket_part, ParamsFound, IsRepeatedIn}
-use Rattle.py_grammar.proofs.Stops.{some_spot}
+use Rattle.py_grammar.proofs.Stops.{some_spot, spot_at}
+use Rattle.py_grammar.proofs.LyingLines.{base_low}
 use Rattle.py_grammar.proofs.RowParts.{more_steps}
 use Rattle.py_grammar.proofs.ClosedParts.{not_deep}
 use Rattle.py_grammar.proofs.HeadParts.{OnlyHead, HeadTurns, shown_head, spelled_head, begins_part_head, refused_part_head, past_opening}
 use Rattle.py_grammar.proofs.Unread.{unread_clear, unread_word, passes_word}
-use Rattle.py_grammar.proofs.AmissParts.{amiss_head}
+use Rattle.py_grammar.proofs.AmissParts.{amiss_head, begins_fine_head}
+use Rattle.py_grammar.proofs.FreshNames.{are_so}
+use Rattle.py_grammar.proofs.FixedNames.{fixed_name, fixed_refused}
+use Rattle.py_grammar.proofs.LineFirsts.{both_true}
 
 -- ---- what is read up to the end of the line
 
@@ -58,7 +62,7 @@ not_deep_there End deep = deep
 abbrev class_named : Spot → ℕ → Spot × List ℕ → List Token → Option Head
 class_named spot n found more = then_read (read_base more) (λ of rest. read_colon n (class_head spot found.0 found.1 of) rest)
 
-class_turns : (spot : Spot) (next : List Token) → HeadTurns one_name (token (Keyword 9) spot ∷ []) next (class_named spot)
+class_turns : (spot : Spot) (next : List Token) → HeadTurns (fixed_name []) (token (Keyword 9) spot ∷ []) next (class_named spot)
 class_turns spot next = record { before = 0; behind = 0; turns = λ n more first. more_steps (λ m. read_head m (token (Keyword 9) spot ∷ more)) (n + 0) n (omega arith) }
 
 base_turns : (spot name_at : Spot) (name : List ℕ) (next : List Token) → HeadTurns base_part (token (Keyword 9) spot ∷ word name name_at) next (λ n of rest. read_colon n (class_head spot name_at name of) rest)
@@ -66,18 +70,20 @@ base_turns spot name_at name next = record { before = 0; behind = 0; turns = λ 
 
 pub class_name_refused : (c : Context) (before : List Token) (stop : Stop) → Refused one_name 0 before stop → OpeningRefused c 9 before stop
 class_name_refused c before stop is = record {
-  there = λ given limit spot.
-      refused_part_head c given limit one_name 0 (token (Keyword 9) spot ∷ []) before (token (Keyword 9) spot ∷ before) stop (class_named spot) refl
-      (begins_part_head one_name (token (Keyword 9) spot ∷ []) (λ found. class_head spot found.0 found.1 no_base some_spot None) (λ found. colon_tokens some_spot None) (λ found. refl) (λ found. refl) (λ found. refl))
-      (passes_word 9 spot [] before refl) (class_turns spot before) (λ why n found left deep. absurd (not_deep why deep)) is;
+  there = λ given limit spot may.
+      refused_part_head c given limit (fixed_name []) 0 (token (Keyword 9) spot ∷ []) before (token (Keyword 9) spot ∷ before) stop (class_named spot) refl
+      (begins_part_head c given (fixed_name []) 0 (token (Keyword 9) spot ∷ []) (λ at found. class_head spot found.0 [] no_base (spot_at at) None) (λ at found. colon_tokens (spot_at at) None) (λ at found. both_true _ true may refl) (λ at found. refl)
+      (λ at found. refl) (λ at found. refl) (λ at other apart found low. omega arith))
+      (passes_word 9 spot [] before refl) (class_turns spot before) (λ why n found left deep. absurd (not_deep why deep)) (fixed_refused [] before stop is);
 }
 
 pub class_base_refused : (c : Context) (place : Pos) (name : List ℕ) (before after : List Token) (stop : Stop) → TakenName before place name after → Refused base_part 100 after stop → OpeningRefused c 9 before stop
 class_base_refused c place name before after stop f is = record {
-  there = λ given limit spot.
+  there = λ given limit spot may.
       refused_part_head c given limit base_part 100 (token (Keyword 9) spot ∷ word name f.spot) after (token (Keyword 9) spot ∷ before) stop (λ n of rest. read_colon n (class_head spot f.spot name of) rest)
       (ap (λ ts. token (Keyword 9) spot ∷ ts) f.before_is)
-      (begins_part_head base_part (token (Keyword 9) spot ∷ word name f.spot) (λ of. class_head spot f.spot name of some_spot None) (λ of. colon_tokens some_spot None) (λ of. refl) (λ of. refl) (λ of. refl))
+      (begins_part_head c given base_part 100 (token (Keyword 9) spot ∷ word name f.spot) (λ at of. class_head spot f.spot name of (spot_at at) None) (λ at of. colon_tokens (spot_at at) None) (λ at of. both_true _ true may refl) (λ at of. refl)
+      (λ at of. refl) (λ at of. refl) (λ at other apart of any. let low = base_low of other in omega (arith, low)))
       (passes_word 9 spot (word name f.spot) after refl) (base_turns spot f.spot name after) (λ why n of left deep. absurd (not_deep_there why deep)) is;
 }
 
@@ -97,6 +103,7 @@ class_found c place name base before middle after f b spot = record {
   low = omega arith;
   depth_is = λ colon behind. refl;
   lies_behind = λ colon s at. le-max_right _ (simple_lies s at);
+  lies_within = λ colon s at. let low = base_low b.written at in omega (arith, low);
   stands = λ given colon behind. refl;
 }
 
@@ -122,7 +129,7 @@ bracket_turn (Some (opening, more)) p s f = by (p more)
     by None = refl
     by (Some (given, more_2)) = last given (s more_2)
 
-def_turns : (spot : Spot) (next : List Token) → HeadTurns one_name (token (Keyword 11) spot ∷ []) next (def_named spot)
+def_turns : (spot : Spot) (next : List Token) → HeadTurns (fixed_name []) (token (Keyword 11) spot ∷ []) next (def_named spot)
 def_turns spot next = record { before = 0; behind = 0; turns = λ n more first. more_steps (λ m. read_head m (token (Keyword 11) spot ∷ more)) (n + 0) n (omega arith) }
 
 bracket_is : (spot name_at : Spot) (name : List ℕ) (n : ℕ) (more : List Token) → read_head n (token (Keyword 11) spot ∷ token (Word name) name_at ∷ more) ≡ then_read (read_bracket n more) (def_bracket spot name_at name n)
@@ -136,12 +143,40 @@ bracket_turns spot name_at name next = record {
       ∙ bracket_is spot name_at name n more ∙ more_steps (λ m. then_read (read_bracket m more) (def_bracket spot name_at name n)) n (n + 0) (omega arith);
 }
 
+method_there : (l m i o d x : Bool) → (not m && not o) ≡ false → d ≡ true → ((not l && (m || i)) && ((m || (i && o)) && d) && x) ≡ ((not l && (m || i)) && x)
+method_there l m i o false x is other = cc
+method_there true m i o true x is other = refl
+method_there false true i o true x is other = refl
+method_there false false true true true x is other = refl
+method_there false false false true true x is other = refl
+method_there false false i false true x is other = cc
+
+pub by_method : (m o : Bool) → o ≡ true → (not m && not o) ≡ false
+by_method true o is = refl
+by_method false true is = refl
+by_method false false is = cc
+
+pub by_level : (m o : Bool) → m ≡ true → (not m && not o) ≡ false
+by_level true o is = refl
+by_level false o is = cc
+
+-- with this name and these parameters it may stand there
+def_may : (c : Context) (given : List (List ℕ)) (spot name_at : Spot) (name : List ℕ) (w : BracketNames) → (not c.around.at_module_level && not (may_be_method name)) ≡ false → are_different (params_list w.1) ≡ true → word_may c 11 ≡ true
+    → (colon : Spot) → head_stands c given (def_head spot name_at name w.0 w.1 w.2 colon None) ≡ true
+def_may c given spot name_at name w method different may colon =
+    method_there (lacks_handler c.last) c.around.at_module_level c.around.in_class (may_be_method name) (are_different (params_list w.1)) true method different ∙ both_true _ true may refl
+
+unnamed_stands : (c : Context) (given : List (List ℕ)) (spot name_at behind : Spot) → word_may c 11 ≡ true → head_stands c given (def_head spot name_at [] behind no_params behind behind None) ≡ true
+unnamed_stands c given spot name_at behind may = def_may c given spot name_at [] (behind, no_params, behind) (by_method c.around.at_module_level true refl) refl may behind
+
 pub def_name_refused : (c : Context) (before : List Token) (stop : Stop) → Refused one_name 0 before stop → OpeningRefused c 11 before stop
 def_name_refused c before stop is = record {
-  there = λ given limit spot.
-      refused_part_head c given limit one_name 0 (token (Keyword 11) spot ∷ []) before (token (Keyword 11) spot ∷ before) stop (def_named spot) refl
-      (begins_part_head one_name (token (Keyword 11) spot ∷ []) (λ found. def_head spot found.0 found.1 some_spot no_params some_spot some_spot None) (λ found. token (Sign 0) some_spot ∷ token (Sign 1) some_spot ∷ colon_tokens some_spot None) (λ found. refl) (λ found. refl) (λ found. refl))
-      (passes_word 11 spot [] before refl) (def_turns spot before) (λ why n found left deep. absurd (not_deep why deep)) is;
+  there = λ given limit spot may.
+      refused_part_head c given limit (fixed_name []) 0 (token (Keyword 11) spot ∷ []) before (token (Keyword 11) spot ∷ before) stop (def_named spot) refl
+      (begins_part_head c given (fixed_name []) 0 (token (Keyword 11) spot ∷ []) (λ at found. def_head spot found.0 [] (spot_at at) no_params (spot_at at) (spot_at at) None)
+      (λ at found. token (Sign 0) (spot_at at) ∷ token (Sign 1) (spot_at at) ∷ colon_tokens (spot_at at) None)
+      (λ at found. unnamed_stands c given spot found.0 (spot_at at) may) (λ at found. refl) (λ at found. refl) (λ at found. refl) (λ at other apart found low. omega arith))
+      (passes_word 11 spot [] before refl) (def_turns spot before) (λ why n found left deep. absurd (not_deep why deep)) (fixed_refused [] before stop is);
 }
 
 -- a method may not have this name
@@ -154,9 +189,10 @@ no_method false false false false d x inner other = refl
 
 pub def_no_method : (c : Context) (place : Pos) (name : List ℕ) (before after : List Token) (left : ℕ) → TakenName before place name after → c.around.at_module_level ≡ false → may_be_method name ≡ false → left ≡ length after → OpeningRefused c 11 before (Here (Unexpected left))
 def_no_method c place name before after left f inner other counted = record {
-  there = λ given limit spot. shown_head c given limit (token (Keyword 11) spot ∷ []) (token (Word name) f.spot) after (token (Keyword 11) spot ∷ before) (Unexpected left)
+  there = λ given limit spot may. shown_head c given limit (token (Keyword 11) spot ∷ []) (token (Word name) f.spot) after (token (Keyword 11) spot ∷ before) (Unexpected left)
       (ap (λ ts. token (Keyword 11) spot ∷ ts) f.before_is) counted
-      (spelled_head (def_head spot f.spot name some_spot no_params some_spot some_spot None) (token (Keyword 11) spot ∷ []) _ refl)
+      (spelled_head c given (λ at. def_head spot (spot_at at) [] (spot_at at) no_params (spot_at at) (spot_at at) None) (token (Keyword 11) spot ∷ [])
+      (λ at. word [] (spot_at at) ++ (token (Sign 0) (spot_at at) ∷ token (Sign 1) (spot_at at) ∷ colon_tokens (spot_at at) None)) (λ at. unnamed_stands c given spot (spot_at at) (spot_at at) may) (λ at. refl) (λ at other apart. omega arith))
       (tt, unread_clear (token (Keyword 11) spot ∷ []) (token (Word name) f.spot) (Unexpected left) refl (unread_word 11 spot [] (token (Word name) f.spot) (Unexpected left) refl))
       (λ more. record {
         steps = 0;
@@ -188,31 +224,16 @@ repeated_amiss c given limit spot name_at name End n w left is = absurd is
 def_spells : (spot name_at : Spot) (name : List ℕ) (w : BracketNames) (colon : Spot) (behind : Option Simple) → head_tokens (def_head spot name_at name w.0 w.1 w.2 colon behind) ≡ (token (Keyword 11) spot ∷ word name name_at) ++ (bracket_tokens w ++ colon_tokens colon behind)
 def_spells spot name_at name w colon behind = ap (λ ts. token (Keyword 11) spot ∷ token (Word name) name_at ∷ token (Sign 0) w.0 ∷ ts) (sym (append_assoc (params_tokens w.1) (token (Sign 1) w.2 ∷ []) (colon_tokens colon behind)))
 
-pub def_params_refused : (c : Context) (place : Pos) (name : List ℕ) (before after : List Token) (stop : Stop) → TakenName before place name after → RefusedAmiss bracket_part IsRepeatedIn after stop → OpeningRefused c 11 before stop
-def_params_refused c place name before after stop f is = record {
-  there = λ given limit spot.
+pub def_params_refused : (c : Context) (place : Pos) (name : List ℕ) (before after : List Token) (stop : Stop) → TakenName before place name after → (not c.around.at_module_level && not (may_be_method name)) ≡ false
+    → RefusedAmiss bracket_part IsRepeatedIn after stop → OpeningRefused c 11 before stop
+def_params_refused c place name before after stop f method is = record {
+  there = λ given limit spot may.
       amiss_head c given limit bracket_part IsRepeatedIn (token (Keyword 11) spot ∷ word name f.spot) after (token (Keyword 11) spot ∷ before) stop (def_bracket spot f.spot name)
       (ap (λ ts. token (Keyword 11) spot ∷ ts) f.before_is)
-      (begins_part_head bracket_part (token (Keyword 11) spot ∷ word name f.spot) (λ w. def_head spot f.spot name w.0 w.1 w.2 some_spot None) (λ w. colon_tokens some_spot None) (λ w. refl) (λ w. refl) (λ w. def_spells spot f.spot name w some_spot None))
+      (begins_fine_head c given bracket_part IsRepeatedIn (token (Keyword 11) spot ∷ word name f.spot) (λ w. def_head spot f.spot name w.0 w.1 w.2 some_spot None) (λ w. colon_tokens some_spot None)
+      (λ w fine. def_may c given spot f.spot name w method (are_so w.1 fine) may some_spot) (λ w. refl) (λ w. refl) (λ w. def_spells spot f.spot name w some_spot None) (λ w. omega arith))
       (passes_word 11 spot (word name f.spot) after refl) (bracket_turns spot f.spot name after) (λ why n w left is. repeated_amiss c given limit spot f.spot name why n w left is) is;
 }
-
-method_there : (l m i o d x : Bool) → (not m && not o) ≡ false → d ≡ true → ((not l && (m || i)) && ((m || (i && o)) && d) && x) ≡ ((not l && (m || i)) && x)
-method_there l m i o false x is other = cc
-method_there true m i o true x is other = refl
-method_there false true i o true x is other = refl
-method_there false false true true true x is other = refl
-method_there false false false true true x is other = refl
-method_there false false i false true x is other = cc
-
-pub by_method : (m o : Bool) → o ≡ true → (not m && not o) ≡ false
-by_method true o is = refl
-by_method false true is = refl
-by_method false false is = cc
-
-pub by_level : (m o : Bool) → m ≡ true → (not m && not o) ≡ false
-by_level true o is = refl
-by_level false o is = cc
 
 pub def_found : (c : Context) (place : Pos) (name : List ℕ) (params : ParamsRead) (before middle after : List Token) → TakenName before place name middle → ParamsFound middle params.list.items after → (not c.around.at_module_level && not (may_be_method name)) ≡ false
     → OpeningFound c 11 before (Def name params) after
@@ -231,5 +252,6 @@ def_found c place name params before middle after f p method spot = record {
   low = omega arith;
   depth_is = λ colon behind. refl;
   lies_behind = λ colon s at. le-max_right _ (simple_lies s at);
+  lies_within = λ colon s at. omega arith;
   stands = λ given colon behind. method_there (lacks_handler c.last) c.around.at_module_level c.around.in_class (may_be_method name) (are_different (params_list p.written.1)) (behind_stands in_def_suite behind) method p.different;
 }

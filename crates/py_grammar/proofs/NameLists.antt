@@ -24,19 +24,22 @@ use Rattle.py_grammar.specs.Reader.{Read, go_on, is_sign, read_name}
 use Rattle.py_grammar.specs.StatementReader.{whole}
 use Rattle.py_grammar.specs.LineReader.{global_head, is_word, begins_name, read_names, names_after, params_after, read_params, then_read, global_end}
 use Rattle.py_grammar.specs.WellPlaced.{is_special, is_in, are_different, none_given}
-use Rattle.py_grammar.specs.Parsed.{Only, Finds, Begins, IsDeep, Refused, Taken, TakenName, one_name, is_sign_next, IsAtFirst, IsMemory}
+use Rattle.py_grammar.specs.Parsed.{Only, Finds, Refused, Taken, TakenName, one_name, is_sign_next, IsAtFirst, IsMemory}
 use Rattle.py_grammar.specs.ParsedRows.{first_token}
 use Rattle.py_grammar.specs.ParsedSimple.{IsMore, leaving_none}
 use Rattle.py_grammar.specs.ParsedHead.{Context, word_may, params_part, IsAmissHead, GlobalFound, GlobalRefused}
-use Rattle.py_grammar.specs.ParsedNames.{RefusedAmiss, all_names, IsGiven, OthersFound, IsRepeated, DifferentFound}
+use Rattle.py_grammar.specs.ParsedNames.{BeginsFine, RefusedAmiss, all_names, IsGiven, OthersFound, IsRepeated, DifferentFound}
 use Rattle.py_grammar.proofs.Reading.{if_true, if_false}
-use Rattle.py_grammar.proofs.Refusals.{Inside, only_any, only_go_on, only_if, only_is, finds_same, finds_weaker, refused_inside, refused_same}
+use Rattle.py_grammar.proofs.Refusals.{only_any, only_go_on, only_if, only_is, finds_same, finds_weaker}
 use Rattle.py_grammar.proofs.ClosedParts.{not_deep}
 use Rattle.py_grammar.proofs.PrimParts.{go_on_once}
 use Rattle.py_grammar.proofs.RowParts.{more_steps, sign_first}
-use Rattle.py_grammar.proofs.HeadParts.{HeadTurns, first_same, begins_part_head}
+use Rattle.py_grammar.proofs.HeadParts.{HeadTurns, first_same}
 use Rattle.py_grammar.proofs.Unread.{passes_word}
-use Rattle.py_grammar.proofs.AmissParts.{amiss_of_refused, amiss_here, amiss_head}
+use Rattle.py_grammar.proofs.AmissParts.{NoneAmiss, AmissInside, amiss_of_refused, amiss_same, amiss_inside, begins_with, amiss_here, begins_fine_head, amiss_head}
+use Rattle.py_grammar.proofs.FixedNames.{fixed_name, fixed_refused}
+use Rattle.py_grammar.proofs.FreshNames.{fresh, fresh_is_new, none_repeated, none_is_given, none_so}
+use Rattle.py_grammar.proofs.LineFirsts.{both_true}
 
 -- ---- whether a name is among others
 
@@ -287,8 +290,18 @@ others_found given before after middle list list_2 place name g f other longer n
   };
 }
 
-begins_front : (before after : List Token) (list : List (List ℕ)) → (g : NamesGo before list after) → (spot : Spot) (name : List ℕ) → Begins all_names g.front
-begins_front before after list g spot name = record { some = g.put (last_name spot name); more = word name spot; tokens_are = g.tokens_are (last_name spot name) }
+-- with one more that is none of the parameters
+one_more : (given : List (List ℕ)) (before after : List Token) (list : List (List ℕ)) → (g : OthersGo given before list after) → (spot : Spot) (stop : Stop) → IsGiven given stop (g.go.put (last_name spot (fresh given))) → ⊥
+one_more given before after list g spot stop is = none_is_given given stop (g.go.put (last_name spot (fresh given)))
+    (ap (none_given given) (g.go.names_are (last_name spot (fresh given))) ∙ none_more given list (fresh given) g.none (fresh_is_new given)) is
+
+begins_front : (given : List (List ℕ)) (before after : List Token) (list : List (List ℕ)) → (g : OthersGo given before list after) → (spot : Spot) → BeginsFine all_names (IsGiven given) g.go.front
+begins_front given before after list g spot = record {
+  some = g.go.put (last_name spot (fresh given));
+  fine = λ stop is. one_more given before after list g spot stop is;
+  more = word (fresh given) spot;
+  tokens_are = g.go.tokens_are (last_name spot (fresh given));
+}
 
 only_whole : (P : Names → Type 0) (r : Read Names) → Only P r → Only P (leaving_none (whole r))
 only_whole P None only = tt
@@ -303,7 +316,7 @@ others_given given before after middle list place name left g f there counted = 
   behind = middle;
   before_is = g.go.before_is ∙ ap (λ ts. g.go.front ++ ts) f.before_is;
   left_is = counted;
-  begins = begins_front before after list g.go f.spot name;
+  begins = begins_front given before after list g f.spot;
   goes_on = tt;
   none = λ more. record {
     steps = 1 + g.go.steps;
@@ -312,27 +325,29 @@ others_given given before after middle list place name left g f there counted = 
   };
 }
 
-name_inside : (before after : List Token) (list : List (List ℕ)) → (g : NamesGo before list after) → Inside all_names 0 one_name 0 g.front after
-name_inside before after list g = record {
-  begins = λ b. record { some = g.put (last_name b.0 b.1); more = []; tokens_are = g.tokens_are (last_name b.0 b.1) ∙ sym (append-nil (g.front ++ word b.1 b.0)) };
+name_inside : (given : List (List ℕ)) (before after : List Token) (list : List (List ℕ)) → (g : OthersGo given before list after) → AmissInside all_names (IsGiven given) (fixed_name (fresh given)) NoneAmiss g.go.front after
+name_inside given before after list g = record {
+  begins = begins_with all_names (IsGiven given) (fixed_name (fresh given)) NoneAmiss g.go.front (λ b. g.go.put (last_name b.0 (fresh given))) (λ b. [])
+      (λ stop b is. one_more given before after list g b.0 stop is) (λ b. g.go.tokens_are (last_name b.0 (fresh given)));
   finds = λ stop more first finds. record {
-    steps = 1 + g.steps;
+    steps = 1 + g.go.steps;
     only = λ n. by stop n more (finds.only n) (begins_name more) refl;
   };
 }
   where
-    by : (stop : Stop) (n : ℕ) (more : List Token) → Only (λ b. IsDeep stop 0 (λ at. 0)) (read_name more) → (b : Bool) → begins_name more ≡ b → Only (λ w. IsDeep stop 0 (λ at. 0)) (leaving_none (whole (read_names (n + (1 + g.steps)) (g.front ++ more))))
-    by stop n more only true is = only_whole _ (read_names (n + (1 + g.steps)) (g.front ++ more)) (only_is _ _ _
-        (more_steps (λ k. read_names k (g.front ++ more)) (n + (1 + g.steps)) ((n + 1) + g.steps) (omega arith)
-        ∙ g.leads (n + 1) more is
-        ∙ more_steps (λ k. go_on (read_names k more) (λ w rest. Some (g.put w, rest))) ((n + 1) + g.behind) (suc (n + g.behind)) (omega arith))
-        (only_go_on _ _ (read_names (suc (n + g.behind)) more) _ (only_go_on _ (λ w. ⊥) (read_name more) _ only (λ found rest deep. absurd (not_deep stop deep))) (λ w rest no. absurd no)))
+    by : (stop : Stop) (n : ℕ) (more : List Token) → Only (λ b. ⊥) (read_name more) → (b : Bool) → begins_name more ≡ b → Only (IsGiven given stop) (leaving_none (whole (read_names (n + (1 + g.go.steps)) (g.go.front ++ more))))
+    by stop n more only true is = only_whole _ (read_names (n + (1 + g.go.steps)) (g.go.front ++ more)) (only_is _ _ _
+        (more_steps (λ k. read_names k (g.go.front ++ more)) (n + (1 + g.go.steps)) ((n + 1) + g.go.steps) (omega arith)
+        ∙ g.go.leads (n + 1) more is
+        ∙ more_steps (λ k. go_on (read_names k more) (λ w rest. Some (g.go.put w, rest))) ((n + 1) + g.go.behind) (suc (n + g.go.behind)) (omega arith))
+        (only_go_on _ _ (read_names (suc (n + g.go.behind)) more) _ (only_go_on _ (λ w. ⊥) (read_name more) _ only (λ found rest no. absurd no)) (λ w rest no. absurd no)))
     by stop n more only false is = only_is _ _ None
-        (ap leaving_none (more_steps (λ k. whole (read_names k (g.front ++ more))) (n + (1 + g.steps)) ((n + 1) + g.steps) (omega arith) ∙ g.stuck (n + 1) more is)) tt
+        (ap leaving_none (more_steps (λ k. whole (read_names k (g.go.front ++ more))) (n + (1 + g.go.steps)) ((n + 1) + g.go.steps) (omega arith) ∙ g.go.stuck (n + 1) more is)) tt
 
 pub others_name : (given : List (List ℕ)) (before after : List Token) (list : List (List ℕ)) (stop : Stop) → OthersGo given before list after → Refused one_name 0 after stop → RefusedAmiss all_names (IsGiven given) before stop
-others_name given before after list stop g is = amiss_of_refused all_names 0 (IsGiven given) before stop (λ why w deep. absurd (not_deep why deep))
-    (refused_same all_names 0 before _ stop g.go.before_is (refused_inside all_names 0 one_name 0 g.go.front after stop (name_inside before after list g.go) is))
+others_name given before after list stop g is = amiss_same all_names (IsGiven given) before _ stop g.go.before_is
+    (amiss_inside all_names (IsGiven given) (fixed_name (fresh given)) NoneAmiss g.go.front after stop (name_inside given before after list g)
+    (amiss_of_refused (fixed_name (fresh given)) after stop (λ why b deep. not_deep why deep) (fixed_refused (fresh given) after stop is)))
 
 -- ---- a `global` line
 
@@ -357,8 +372,8 @@ given_amiss c given limit spot End names is = absurd is
 
 pub global_refused : (given : List (List ℕ)) (before : List Token) (stop : Stop) → RefusedAmiss all_names (IsGiven given) before stop → GlobalRefused given before stop
 global_refused given before stop is = record {
-  there = λ c limit spot. amiss_head c given limit all_names (IsGiven given) (token (Keyword 19) spot ∷ []) before (token (Keyword 19) spot ∷ before) stop (λ n names rest. Some (global_head spot names)) refl
-      (begins_part_head all_names (token (Keyword 19) spot ∷ []) (global_head spot) (λ names. []) (λ names. refl) (λ names. refl) (λ names. ap (λ ts. token (Keyword 19) spot ∷ ts) (sym (append-nil (names_tokens names)))))
+  there = λ c limit spot may. amiss_head c given limit all_names (IsGiven given) (token (Keyword 19) spot ∷ []) before (token (Keyword 19) spot ∷ before) stop (λ n names rest. Some (global_head spot names)) refl
+      (begins_fine_head c given all_names (IsGiven given) (token (Keyword 19) spot ∷ []) (global_head spot) (λ names. []) (λ names fine. both_true _ _ may (none_so given names fine)) (λ names. refl) (λ names. refl) (λ names. ap (λ ts. token (Keyword 19) spot ∷ ts) (sym (append-nil (names_tokens names)))) (λ names. omega arith))
       (passes_word 19 spot [] before refl) (global_turns spot before) (λ why n names left is. given_amiss c given limit spot why names is) is;
 }
 
@@ -377,7 +392,7 @@ more_there (t ∷ ts) stop is none = cc
 pub global_more : (given : List (List ℕ)) (before after : List Token) (list : List (List ℕ)) (stop : Stop) → OthersFound given before list after → IsMore after stop → GlobalRefused given before stop
 global_more given before after list stop f more = global_refused given before stop
     (amiss_here all_names (IsGiven given) before (names_tokens f.written) after stop f.before_is (more_at after stop more)
-    (record { some = f.written; more = []; tokens_are = sym (append-nil (names_tokens f.written)) })
+    (record { some = f.written; fine = λ why is. none_is_given given why f.written f.none is; more = []; tokens_are = sym (append-nil (names_tokens f.written)) })
     (λ none. absurd (more_there after stop more none))
     (λ t ts rest is. record {
       steps = f.is_read.steps;
@@ -508,7 +523,13 @@ different_repeated before after middle list place name left g f there counted = 
   behind = middle;
   before_is = g.go.before_is ∙ ap (λ ts. g.go.front ++ ts) f.before_is;
   left_is = counted;
-  begins = record { some = params (g.go.put (last_name f.spot name)); more = word name f.spot; tokens_are = g.go.tokens_are (last_name f.spot name) };
+  begins = record {
+    some = params (g.go.put (last_name f.spot (fresh list)));
+    fine = λ stop is. none_repeated stop (params (g.go.put (last_name f.spot (fresh list))))
+        (ap are_different (g.go.names_are (last_name f.spot (fresh list))) ∙ different_more list (fresh list) g.different (fresh_is_new list)) is;
+    more = word (fresh list) f.spot;
+    tokens_are = g.go.tokens_are (last_name f.spot (fresh list));
+  };
   goes_on = tt;
   none = λ more. record {
     steps = 1 + g.go.steps;

@@ -10,8 +10,10 @@ use Rattle.py_grammar.specs.Written.{OneTarget, named, item, field, TargetRest, 
 use Rattle.py_grammar.specs.StatementTokens.{one_target_tokens, target_rest_tokens, target_tokens, simple_tokens, names_tokens, params_tokens, naming_tokens, kind_tokens, base_tokens}
 use Rattle.py_grammar.specs.LineReader.{Head, simple_head, if_head, elif_head, else_head, while_head, for_head, try_head, except_head, with_head, def_head, class_head, global_head, head_tokens}
 use Rattle.py_grammar.specs.Reader.{is_keyword}
-use Rattle.py_grammar.specs.ParsedSimple.{BeginsSimple, UnreadDel}
-use Rattle.py_grammar.specs.ParsedHead.{behind_in}
+use Rattle.py_grammar.specs.WellPlaced.{Around}
+use Rattle.py_grammar.specs.ParsedSimple.{UnreadDel}
+use Rattle.py_grammar.specs.ParsedHead.{behind_in, BeginsPlaced}
+use Rattle.py_grammar.proofs.Lying.{nowhere}
 
 abbrev pub has_del : List Token → Bool
 has_del [] = false
@@ -238,6 +240,6 @@ in_simple (assert_message word e comma message) front more opened spot inside is
 in_simple (import_module word module_at bytes) front more opened spot inside is at = no_del_tail _ _ front more opened spot inside refl is at
 
 -- a statement that has one begins with it
-pub del_first : (front opened : List Token) (spot : Spot) (inside : List Token) → BeginsSimple front → front ≡ opened ++ token (Keyword 12) spot ∷ inside → opened ≡ []
-del_first front opened spot inside (inl b) at = in_simple b.some front b.more opened spot inside b.tokens_are at
-del_first front opened spot inside (inr b) at = no_del_tail _ (expr_tokens b.some) front b.more opened spot inside (no_del_expr b.some) b.tokens_are at
+pub del_first : (around : Around) (front opened : List Token) (spot : Spot) (inside : List Token) → BeginsPlaced around front → front ≡ opened ++ token (Keyword 12) spot ∷ inside → opened ≡ []
+del_first around front opened spot inside (inl b) at = let c = b nowhere in in_simple c.some front c.more opened spot inside c.tokens_are at
+del_first around front opened spot inside (inr b) at = let c = b.1 nowhere in no_del_tail _ (expr_tokens c.some) front c.more opened spot inside (no_del_expr c.some) c.tokens_are at

@@ -24,9 +24,10 @@ use Rattle.py_grammar.specs.ParsedRows.{IsRead, first_token, pairs_part, FoundPa
 use Rattle.py_grammar.proofs.Leading.{Reads, no_such}
 use Rattle.py_grammar.proofs.Firsts.{expr_starts}
 use Rattle.py_grammar.proofs.Reading.{if_false, if_true, expr_reads, pairs_is, pair_of, after_key}
-use Rattle.py_grammar.proofs.Refusals.{Inside, only_any, only_go_on, only_if, only_is, finds_behind, finds_same, deeper, deep_beside_left, deep_beside_right, refused_inside, refused_same}
-use Rattle.py_grammar.proofs.ClosedParts.{first_is, first_same, no_spot, not_deep}
+use Rattle.py_grammar.proofs.Refusals.{Inside, max_below, only_any, only_go_on, only_if, only_is, finds_behind, finds_same, deeper, deep_beside_left, deep_beside_right, refused_inside, refused_same}
+use Rattle.py_grammar.proofs.ClosedParts.{first_is, first_same, not_deep}
 use Rattle.py_grammar.proofs.PrimParts.{go_on_once}
+use Rattle.py_grammar.proofs.Stops.{spot_at}
 use Rattle.py_grammar.proofs.RowParts.{beyond_comma, sign_first, more_steps}
 use Rattle.py_grammar.proofs.SharpReads.{level_same}
 
@@ -272,9 +273,24 @@ key_finds room stop more other finds = record {
     by [] m no_sign only = tt
     by (t ∷ us) m no_sign only = only_is _ _ _ (if_false (is_sign 5 t.kind) _ _ no_sign) (only_go_on _ _ (read_expr m (t ∷ us)) _ only (λ key rest deep. key_deep stop room m key rest deep))
 
+-- what is put behind what was read lies within the room where it does alone
+put_within : (room : ℕ) (opening : Pos) (before after : List Token) (row : PairRow) (g : PairsGo room opening before after row) (p : Pairs) (at : Pos) → pairs_lies p at ≤ room → pairs_lies (g.put p) at ≤ room
+put_within room opening before after row g p at low =
+    let is = g.lies_is p at in
+    let front_low = g.low at in
+    let height = g.height_is in
+    let fits = g.fits in
+    let whole = max_below (g.lies at) (pairs_lies p at) room (omega (arith, front_low, height, fits)) low in
+    omega (arith, is, whole)
+
 key_inside : (room : ℕ) (opening : Pos) (before after : List Token) (row : PairRow) (g : PairsGo room opening before after row) → is_sign_next 5 after ≡ false → Inside pairs_part room expr_part room g.front after
 key_inside room opening before after row g other = record {
-  begins = λ b. record { some = g.put (last_pair b no_spot b); more = token (Sign 7) no_spot ∷ expr_tokens b; tokens_are = g.tokens_are (last_pair b no_spot b) ∙ sym (append_assoc g.front (expr_tokens b) (token (Sign 7) no_spot ∷ expr_tokens b)) };
+  begins = λ at b. record {
+    some = g.put (last_pair b (spot_at at) b);
+    more = token (Sign 7) (spot_at at) ∷ expr_tokens b;
+    tokens_are = g.tokens_are (last_pair b (spot_at at) b) ∙ sym (append_assoc g.front (expr_tokens b) (token (Sign 7) (spot_at at) ∷ expr_tokens b));
+    within = λ other apart low. put_within room opening before after row g (last_pair b (spot_at at) b) other (max_below (expr_lies b other) (expr_lies b other) room low low);
+  };
   finds = λ stop more first finds. put_finds room opening before after row g stop more (key_finds room stop more (sign_first 5 after more first ∙ other) finds);
 }
 
@@ -285,12 +301,15 @@ key_refused room opening before after row stop g other is = refused_same pairs_p
 behind_key : (P : Pairs → Type 0) (key : Expr) (more : List Token) → 7 < next_level more → Finds P (λ n ts. after_key n key ts) more → Finds P read_pairs (expr_tokens key ++ more)
 behind_key P key more beyond finds = finds_behind P read_pairs read_expr (λ n key ts. after_key n key ts) 7 (expr_tokens key) key more (λ n. pairs_is n (expr_tokens key ++ more) (expr_starts key more)) (expr_reads key) beyond finds
 
-colon_inside : (room : ℕ) (opening : Pos) (before after : List Token) (row : PairRow) (g : PairsGo room opening before after row) (key : Expr) (rest : List Token) → 7 < next_level rest → Inside pairs_part room (one_sign 7) 0 (g.front ++ expr_tokens key) rest
-colon_inside room opening before after row g key rest beyond = record {
-  begins = λ spot. record {
+colon_inside : (room : ℕ) (opening : Pos) (before after : List Token) (row : PairRow) (g : PairsGo room opening before after row) (key : Expr) (rest : List Token) → 7 < next_level rest → expr_depth key ≤ room
+    → Inside pairs_part room (one_sign 7) 0 (g.front ++ expr_tokens key) rest
+colon_inside room opening before after row g key rest beyond fits = record {
+  begins = λ at spot. record {
     some = g.put (last_pair key spot key);
     more = expr_tokens key;
     tokens_are = g.tokens_are (last_pair key spot key) ∙ sym (append_assoc (g.front ++ expr_tokens key) (token (Sign 7) spot ∷ []) (expr_tokens key) ∙ append_assoc g.front (expr_tokens key) (token (Sign 7) spot ∷ expr_tokens key));
+    within = λ other apart any. let low = expr_low key other in
+        put_within room opening before after row g (last_pair key spot key) other (max_below (expr_lies key other) (expr_lies key other) room (omega (arith, low, fits)) (omega (arith, low, fits)));
   };
   finds = λ stop more first finds.
       let level : next_level more ≡ next_level rest = level_same more rest (first_same more rest first) in
@@ -303,16 +322,18 @@ pub colon_refused : (room : ℕ) (opening : Pos) (before after middle : List Tok
     → Refused pairs_part room before stop
 colon_refused room opening before after middle row key stop g f is =
     refused_same pairs_part room before _ stop (g.before_is ∙ ap (λ ts. g.front ++ ts) f.before_is ∙ sym (append_assoc g.front (expr_tokens f.written) middle))
-    (refused_inside pairs_part room (one_sign 7) 0 (g.front ++ expr_tokens f.written) middle stop (colon_inside room opening before after row g f.written middle f.beyond) is)
+    (refused_inside pairs_part room (one_sign 7) 0 (g.front ++ expr_tokens f.written) middle stop (colon_inside room opening before after row g f.written middle f.beyond (let same = f.height_is in let low = f.fits in omega (arith, low, same))) is)
 
-value_inside : (room : ℕ) (opening : Pos) (before after : List Token) (row : PairRow) (g : PairsGo room opening before after row) (key : Expr) (colon : Spot) (rest : List Token)
+value_inside : (room : ℕ) (opening : Pos) (before after : List Token) (row : PairRow) (g : PairsGo room opening before after row) (key : Expr) (colon : Spot) (rest : List Token) → expr_depth key ≤ room
     → Inside pairs_part room expr_part room (g.front ++ (expr_tokens key ++ token (Sign 7) colon ∷ [])) rest
-value_inside room opening before after row g key colon rest = record {
-  begins = λ b. record {
+value_inside room opening before after row g key colon rest fits = record {
+  begins = λ at b. record {
     some = g.put (last_pair key colon b);
     more = [];
     tokens_are = g.tokens_are (last_pair key colon b) ∙ sym (append-nil ((g.front ++ (expr_tokens key ++ token (Sign 7) colon ∷ [])) ++ expr_tokens b) ∙ append_assoc g.front (expr_tokens key ++ token (Sign 7) colon ∷ []) (expr_tokens b)
         ∙ ap (λ ts. g.front ++ ts) (append_assoc (expr_tokens key) (token (Sign 7) colon ∷ []) (expr_tokens b)));
+    within = λ other apart low. let key_low = expr_low key other in
+        put_within room opening before after row g (last_pair key colon b) other (max_below (expr_lies key other) (expr_lies b other) room (omega (arith, key_low, fits)) low);
   };
   finds = λ stop more first finds.
       finds_same _ read_pairs _ _ (append_assoc g.front (expr_tokens key ++ token (Sign 7) colon ∷ []) more ∙ ap (λ ts. g.front ++ ts) (append_assoc (expr_tokens key) (token (Sign 7) colon ∷ []) more))
@@ -329,4 +350,4 @@ pub value_refused : (room : ℕ) (opening : Pos) (before after middle second : L
 value_refused room opening before after middle second at row key stop g f k is =
     refused_same pairs_part room before _ stop (g.before_is ∙ ap (λ ts. g.front ++ ts) (f.before_is ∙ ap (λ ts. expr_tokens f.written ++ ts) k.before_is ∙ sym (append_assoc (expr_tokens f.written) (token (Sign 7) k.spot ∷ []) second))
     ∙ sym (append_assoc g.front (expr_tokens f.written ++ token (Sign 7) k.spot ∷ []) second))
-    (refused_inside pairs_part room expr_part room (g.front ++ (expr_tokens f.written ++ token (Sign 7) k.spot ∷ [])) second stop (value_inside room opening before after row g f.written k.spot second) is)
+    (refused_inside pairs_part room expr_part room (g.front ++ (expr_tokens f.written ++ token (Sign 7) k.spot ∷ [])) second stop (value_inside room opening before after row g f.written k.spot second (let same = f.height_is in let low = f.fits in omega (arith, low, same))) is)

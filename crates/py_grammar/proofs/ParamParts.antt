@@ -1,5 +1,5 @@
 -- Parameters in their brackets: what is read of them, and how they are refused.
-use Rattle.std.proofs.Common.{◌≡◌, ℕ, ◌+◌, List, [], ◌∷◌, ◌++◌, Some, refl, ap, sym, ◌∙◌, append_assoc, append-nil}
+use Rattle.std.proofs.Common.{◌≡◌, ℕ, ◌+◌, true, List, [], ◌∷◌, ◌++◌, Some, refl, ap, sym, ◌∙◌, append_assoc}
 use Rattle.prov_base.specs.declared.place.Pos.{Pos}
 use Rattle.py_lines.specs.declared.parts.Token.{Token}
 use Rattle.py_lines.specs.declared.parts.TokenKind.TheVariants.{Sign}
@@ -8,33 +8,37 @@ use Rattle.py_grammar.specs.Concrete.{Spot}
 use Rattle.py_grammar.specs.Tokens.{token}
 use Rattle.py_grammar.specs.Written.{Params, no_params}
 use Rattle.py_grammar.specs.StatementTokens.{params_tokens}
+use Rattle.py_grammar.specs.StatementTrees.{params_list}
+use Rattle.py_grammar.specs.WellPlaced.{are_different}
 use Rattle.py_grammar.specs.Reader.{go_on, read_sign}
 use Rattle.py_grammar.specs.LineReader.{read_params}
 use Rattle.py_grammar.specs.Parsed.{Refused, Taken, one_sign}
 use Rattle.py_grammar.specs.ParsedRows.{first_token, IsRead}
 use Rattle.py_grammar.specs.ParsedHead.{params_part}
 use Rattle.py_grammar.specs.ParsedNames.{RefusedAmiss, IsRepeated, DifferentFound, bracket_part, ParamsFound, IsRepeatedIn}
-use Rattle.py_grammar.proofs.Refusals.{Inside, only_any, only_go_on, only_is, refused_inside, refused_same}
-use Rattle.py_grammar.proofs.ClosedParts.{first_same, not_deep}
+use Rattle.py_grammar.proofs.Refusals.{only_any, only_go_on, only_is}
+use Rattle.py_grammar.proofs.ClosedParts.{not_deep}
 use Rattle.py_grammar.proofs.Stops.{some_spot}
-use Rattle.py_grammar.proofs.AmissParts.{AmissInside, amiss_inside, amiss_of_refused, amiss_same, begins_with}
+use Rattle.py_grammar.proofs.FreshNames.{none_repeated}
+use Rattle.py_grammar.proofs.AmissParts.{NoneAmiss, AmissInside, amiss_inside, amiss_of_refused, amiss_same, begins_with}
 
 -- ---- the opening bracket
 
-opening_inside : (rest : List Token) → Inside bracket_part 0 (one_sign 0) 0 [] rest
+opening_inside : (rest : List Token) → AmissInside bracket_part IsRepeatedIn (one_sign 0) NoneAmiss [] rest
 opening_inside rest = record {
-  begins = λ b. record { some = (b, no_params, some_spot); more = token (Sign 1) some_spot ∷ []; tokens_are = refl };
-  finds = λ stop more first finds. record { steps = finds.steps; only = λ n. only_go_on _ _ (read_sign 0 more) _ (finds.only n) (λ found rest deep. absurd (not_deep stop deep)) };
+  begins = begins_with bracket_part IsRepeatedIn (one_sign 0) NoneAmiss [] (λ b. (b, no_params, some_spot)) (λ b. token (Sign 1) some_spot ∷ []) (λ stop b is. none_repeated stop no_params refl is) (λ b. refl);
+  finds = λ stop more first finds. record { steps = finds.steps; only = λ n. only_go_on _ _ (read_sign 0 more) _ (finds.only n) (λ found rest no. absurd no) };
 }
 
 pub opening_refused : (before : List Token) (stop : Stop) → Refused (one_sign 0) 0 before stop → RefusedAmiss bracket_part IsRepeatedIn before stop
-opening_refused before stop is = amiss_of_refused bracket_part 0 IsRepeatedIn before stop (λ why w deep. absurd (not_deep why deep)) (refused_inside bracket_part 0 (one_sign 0) 0 [] before stop (opening_inside before) is)
+opening_refused before stop is =
+    amiss_inside bracket_part IsRepeatedIn (one_sign 0) NoneAmiss [] before stop (opening_inside before) (amiss_of_refused (one_sign 0) before stop (λ why b deep. not_deep why deep) is)
 
 -- ---- the names
 
 names_inside : (opening : Spot) (rest : List Token) → AmissInside bracket_part IsRepeatedIn params_part IsRepeated (token (Sign 0) opening ∷ []) rest
 names_inside opening rest = record {
-  begins = begins_with bracket_part params_part (token (Sign 0) opening ∷ []) (λ names. (opening, names, some_spot)) (λ names. token (Sign 1) some_spot ∷ []) (λ names. refl);
+  begins = begins_with bracket_part IsRepeatedIn params_part IsRepeated (token (Sign 0) opening ∷ []) (λ names. (opening, names, some_spot)) (λ names. token (Sign 1) some_spot ∷ []) (λ stop names is. is) (λ names. refl);
   finds = λ stop more first finds. record {
     steps = finds.steps;
     only = λ n. only_go_on (IsRepeated stop) (IsRepeatedIn stop) (read_params (n + finds.steps) more) _ (finds.only n) (λ names rest is. only_any (IsRepeatedIn stop) (read_sign 1 rest) _ (λ closing left. is));
@@ -49,21 +53,21 @@ names_refused at before behind stop k is = amiss_same bracket_part IsRepeatedIn 
 front_is : (at : Pos) (before behind after : List Token) (list : List (List ℕ)) → (k : Taken (Sign 0) before at behind) → (f : DifferentFound behind list after) → before ≡ (token (Sign 0) k.spot ∷ params_tokens f.written) ++ after
 front_is at before behind after list k f = k.before_is ∙ ap (λ ts. token (Sign 0) k.spot ∷ ts) f.before_is
 
-closing_inside : (opening : Spot) (names : Params) (rest : List Token) → IsRead params_part names rest → Inside bracket_part 0 (one_sign 1) 0 (token (Sign 0) opening ∷ params_tokens names) rest
-closing_inside opening names rest is = record {
-  begins = λ b. record { some = (opening, names, b); more = []; tokens_are = sym (append-nil (token (Sign 0) opening ∷ (params_tokens names ++ token (Sign 1) b ∷ []))) };
+closing_inside : (opening : Spot) (names : Params) (rest : List Token) → are_different (params_list names) ≡ true → IsRead params_part names rest → AmissInside bracket_part IsRepeatedIn (one_sign 1) NoneAmiss (token (Sign 0) opening ∷ params_tokens names) rest
+closing_inside opening names rest different is = record {
+  begins = begins_with bracket_part IsRepeatedIn (one_sign 1) NoneAmiss (token (Sign 0) opening ∷ params_tokens names) (λ b. (opening, names, b)) (λ b. []) (λ stop b is. none_repeated stop names different is) (λ b. refl);
   finds = λ stop more first finds. record {
     steps = is.steps;
     only = λ n. only_is _ _ _
-        (ap (λ r. go_on r (λ names more_2. go_on (read_sign 1 more_2) (λ closing rest. Some ((opening, names, closing), rest)))) (is.reads n more (first_same more rest first)))
-        (only_go_on _ _ (read_sign 1 more) _ (finds.only n) (λ found rest deep. absurd (not_deep stop deep)));
+        (ap (λ r. go_on r (λ names more_2. go_on (read_sign 1 more_2) (λ closing rest. Some ((opening, names, closing), rest)))) (is.reads n more first))
+        (only_go_on _ _ (read_sign 1 more) _ (finds.only n) (λ found rest no. absurd no));
   };
 }
 
 pub closing_refused : (at : Pos) (before behind after : List Token) (list : List (List ℕ)) (stop : Stop) → Taken (Sign 0) before at behind → DifferentFound behind list after → Refused (one_sign 1) 0 after stop → RefusedAmiss bracket_part IsRepeatedIn before stop
-closing_refused at before behind after list stop k f is = amiss_of_refused bracket_part 0 IsRepeatedIn before stop (λ why w deep. absurd (not_deep why deep))
-    (refused_same bracket_part 0 before _ stop (front_is at before behind after list k f)
-    (refused_inside bracket_part 0 (one_sign 1) 0 (token (Sign 0) k.spot ∷ params_tokens f.written) after stop (closing_inside k.spot f.written after f.is_read) is))
+closing_refused at before behind after list stop k f is = amiss_same bracket_part IsRepeatedIn before _ stop (front_is at before behind after list k f)
+    (amiss_inside bracket_part IsRepeatedIn (one_sign 1) NoneAmiss (token (Sign 0) k.spot ∷ params_tokens f.written) after stop (closing_inside k.spot f.written after f.different f.is_read)
+    (amiss_of_refused (one_sign 1) after stop (λ why b deep. not_deep why deep) is))
 
 -- ---- all is read
 

@@ -1,5 +1,5 @@
 -- A simple statement where one has to stand: what is found and refused, of what is written.
-use Rattle.std.proofs.Common.{◌≡◌, inl, inr, ℕ, ◌+◌, Bool, true, false, not, List, [], ◌∷◌, ◌++◌, length, Option, Some, None, is_some, refl, ap, sym, ◌∙◌, arith, subst}
+use Rattle.std.proofs.Common.{◌≡◌, inl, inr, ℕ, ◌+◌, Bool, true, false, not, List, [], ◌∷◌, ◌++◌, length, Option, Some, None, is_some, refl, ap, sym, ◌∙◌, arith, subst, append_assoc, append-nil}
 use Rattle.std.specs.Prelude.{◌&&◌, ◌||◌, ◌==◌}
 use Rattle.std.proofs.lemmas.Bool.{eqb-true}
 use Rattle.py_lines.specs.declared.parts.Token.{Token}
@@ -12,7 +12,8 @@ use Rattle.py_grammar.specs.declared.fault.Fault.{Fault}
 use Rattle.py_grammar.specs.declared.fault.Fault.TheVariants.{Unexpected, TooDeep, TooMany, Memory}
 use Rattle.py_grammar.specs.declared.fault.Stop.{Stop}
 use Rattle.py_grammar.specs.declared.fault.Stop.TheVariants.{Here, End}
-use Rattle.py_grammar.specs.Concrete.{plain_expr, plain_or, plain_and, plain_not, plain_cmp, plain_sum, plain_term, plain_unary, plain_prim, text, one_expr}
+use Rattle.py_grammar.specs.Concrete.{Spot, plain_expr, plain_or, plain_and, plain_not, plain_cmp, plain_sum, plain_term, plain_unary, plain_prim, text, one_expr}
+use Rattle.py_grammar.specs.Tokens.{token, expr_tokens}
 use Rattle.py_grammar.specs.Written.{Simple, expression, pass}
 use Rattle.py_grammar.specs.StatementTokens.{simple_tokens}
 use Rattle.py_grammar.specs.StatementTrees.{simple_form}
@@ -20,13 +21,19 @@ use Rattle.py_grammar.specs.WellPlaced.{Around, form_stands, simple_stands, are_
 use Rattle.py_grammar.specs.Reader.{spot_of, is_keyword}
 use Rattle.py_grammar.specs.StatementReader.{read_simple}
 use Rattle.py_grammar.specs.Parsed.{ShowsAt, GoesOn, Only, Finds}
-use Rattle.py_grammar.specs.ParsedSimple.{leaving_none, simple_part, SimpleFound, IsAmiss, BeginsSimple, SimpleShown, SimpleEnds, SimpleRefused}
-use Rattle.py_grammar.specs.ParsedHead.{PlacedFound, IsAmissPlaced, GoesOnPlaced, IsAheadPlaced, begins_at, ShownBy, EndedBy, PlacedRefused, BehindRefused, BehindFound, is_compound_kind, may_be_alone, is_refused_kind, is_text_kind, limit_fault, IsRefusedInClass, ShowsOnLine, left_in_class, stands_first}
+use Rattle.py_grammar.specs.ParsedSimple.{leaving_none, simple_part, has_place, SimpleFound, IsAmiss, StartsSimple, BeginsSimple, SimpleShown, SimpleEnds, SimpleRefused}
+use Rattle.py_grammar.specs.ParsedHead.{PlacedFound, IsAmissPlaced, del_name, StartsPlaced, BeginsPlaced, GoesOnPlaced, IsAheadPlaced, begins_at, ShownBy, EndedBy, PlacedRefused, BehindRefused, BehindFound, is_compound_kind, may_be_alone, is_refused_kind, is_text_kind, limit_fault, IsRefusedInClass, ShowsOnLine, left_in_class, stands_first}
+use Rattle.py_grammar.proofs.Lying.{nowhere}
 use Rattle.py_grammar.proofs.NoDel.{no_del_unread}
-use Rattle.py_grammar.proofs.Stops.{some_spot, shows_on_line}
+use Rattle.py_grammar.proofs.Stops.{spot_at, shows_on_line}
 use Rattle.py_grammar.proofs.SimpleReading.{simple_reads}
-use Rattle.py_grammar.proofs.SimpleParts.{nothing_there}
-use Rattle.py_grammar.proofs.LineFirsts.{and_false, simple_not_compound, simple_some, pass_is_alone, not_nothing}
+use Rattle.py_grammar.proofs.SimpleParts.{simple_so, simple_within, nothing_there}
+use Rattle.py_grammar.proofs.LineFirsts.{and_false, simple_not_compound, simple_some, pass_is_alone, not_nothing, same_first, same_behind}
+
+-- a text or `pass` alone
+alone_stands : (inside : Bool) → ((not inside || true) && true) ≡ true
+alone_stands true = refl
+alone_stands false = refl
 
 -- every simple statement that has these tokens is so
 finds_simple : (P : Simple → Type 0) (ts : List Token) (s : Simple) → Finds P simple_part.read ts → simple_tokens s ≡ ts → P s
@@ -45,49 +52,67 @@ amiss_placed around limit (Here Memory) s amiss = absurd amiss
 amiss_placed around limit End s amiss = and_false _ (form_stands around (simple_form s)) amiss
 
 -- a limit is none of the grammar's faults
-goes_placed : (limit : Option Limit) (front : List Token) (t : Token) (behind : List Token) (fault : Fault) → ShowsAt behind fault → GoesOn BeginsSimple front t fault → GoesOnPlaced limit front t fault
-goes_placed limit front t behind (TooDeep at) named goes = inl goes
-goes_placed limit front t behind (Unexpected left) named goes = tt
-goes_placed limit front t behind (TooMany at) named goes = absurd named
-goes_placed limit front t behind Memory named goes = tt
+goes_placed : (around : Around) (limit : Option Limit) (front : List Token) (t : Token) (behind : List Token) (fault : Fault) → (StartsSimple (has_place around) (front ++ t ∷ []) → StartsPlaced around (front ++ t ∷ [])) → ShowsAt behind fault
+    → GoesOn (StartsSimple (has_place around)) front t fault → GoesOnPlaced around limit front t fault
+goes_placed around limit front t behind (TooDeep at) placed named goes = inl (placed goes)
+goes_placed around limit front t behind (Unexpected left) placed named goes = tt
+goes_placed around limit front t behind (TooMany at) placed named goes = absurd named
+goes_placed around limit front t behind Memory placed named goes = tt
 
-placed_shown : (around : Around) (limit : Option Limit) (before : List Token) (fault : Fault) → SimpleShown around before fault → ShownBy BeginsSimple (IsAheadPlaced limit) simple_tokens (λ fault a. IsAmissPlaced around limit (Here fault) a) before fault
-placed_shown around limit before fault s = record {
+-- what has begun in these tokens may stand there, beside its form
+record Places (around : Around) (before : List Token) : Type 0 where
+  within : (tokens rest : List Token) → before ≡ tokens ++ rest → BeginsSimple (has_place around) tokens → BeginsPlaced around tokens
+  plain : (tokens rest : List Token) → before ≡ tokens ++ rest → StartsSimple (has_place around) tokens → StartsPlaced around tokens
+
+placed_shown : (around : Around) (limit : Option Limit) (before : List Token) (fault : Fault) → Places around before → SimpleShown around before fault
+    → ShownBy (BeginsPlaced around) (IsAheadPlaced around limit) simple_tokens (λ fault a. IsAmissPlaced around limit (Here fault) a) before fault
+placed_shown around limit before fault places s = record {
   front = s.front;
   shown_by = s.shown_by;
   behind = s.behind;
   before_is = s.before_is;
   left_is = shows_on_line s.shown_by s.behind fault s.left_is;
-  begun = s.begins;
-  goes_on = (goes_placed limit s.front s.shown_by s.behind fault s.left_is s.goes_on, s.unread);
+  begun = places.within s.front (s.shown_by ∷ s.behind) s.before_is s.begins;
+  goes_on = (goes_placed around limit s.front s.shown_by s.behind fault (places.plain (s.front ++ s.shown_by ∷ []) s.behind (s.before_is ∙ sym (append_assoc s.front (s.shown_by ∷ []) s.behind))) s.left_is s.goes_on, s.unread);
   none = λ a more same. amiss_placed around limit (Here fault) a (finds_simple _ (s.front ++ s.shown_by ∷ more) a (s.none more) same);
 }
 
-placed_ended : (around : Around) (limit : Option Limit) (before : List Token) (stop : Stop) → SimpleEnds around before stop → EndedBy BeginsSimple simple_tokens (IsAmissPlaced around limit stop) before
-placed_ended around limit before stop e = record { begun = e.begins; none = λ a same. amiss_placed around limit stop a (finds_simple _ before a e.none same) }
+placed_ended : (around : Around) (limit : Option Limit) (before : List Token) (stop : Stop) → Places around before → SimpleEnds around before stop → EndedBy (BeginsPlaced around) simple_tokens (IsAmissPlaced around limit stop) before
+placed_ended around limit before stop places e = record { begun = places.within before [] (sym (append-nil before)) e.begins; none = λ a same. amiss_placed around limit stop a (finds_simple _ before a e.none same) }
 
-pub placed_refused : (around : Around) (limit : Option Limit) (before : List Token) (stop : Stop) → SimpleRefused around before stop → PlacedRefused around limit before stop
-placed_refused around limit before (Here Memory) is = tt
-placed_refused around limit before (Here (Unexpected at)) is = placed_shown around limit before (Unexpected at) is
-placed_refused around limit before (Here (TooDeep at)) is = placed_shown around limit before (TooDeep at) is
-placed_refused around limit before (Here (TooMany at)) is = absurd is.left_is
-placed_refused around limit before End is = placed_ended around limit before End is
+placed_refused : (around : Around) (limit : Option Limit) (before : List Token) (stop : Stop) → Places around before → SimpleRefused around before stop → PlacedRefused around limit before stop
+placed_refused around limit before (Here Memory) places is = tt
+placed_refused around limit before (Here (Unexpected at)) places is = placed_shown around limit before (Unexpected at) places is
+placed_refused around limit before (Here (TooDeep at)) places is = placed_shown around limit before (TooDeep at) places is
+placed_refused around limit before (Here (TooMany at)) places is = absurd is.left_is
+placed_refused around limit before End places is = placed_ended around limit before End places is
+
+-- `pass` may stand everywhere
+pub pass_stands : (around : Around) (spot : Spot) → simple_stands around (pass spot) ≡ true
+pass_stands around spot = alone_stands around.in_class
+
+-- outside a class `del` with a name may
+pub del_stands : (around : Around) → around.in_class ≡ false → (spot : Spot) → simple_stands around (del_name spot) ≡ true
+del_stands around out spot = ap (λ inside. (not inside || false) && true) out
+
+pass_begins : (around : Around) → BeginsPlaced around []
+pass_begins around = inl (λ at. record { some = pass (spot_at at); is_so = pass_stands around (spot_at at); more = simple_tokens (pass (spot_at at)); tokens_are = refl; within = λ other apart. omega arith })
 
 -- nothing stands there
 pub placed_end : (around : Around) (limit : Option Limit) (before : List Token) → before ≡ [] → PlacedRefused around limit before End
 placed_end around limit before is = subst (λ (ts : List Token). PlacedRefused around limit ts End) (sym is)
-    (record { begun = inl (record { some = pass some_spot; more = simple_tokens (pass some_spot); tokens_are = refl }); none = λ s same. absurd (simple_some s same) })
+    (record { begun = pass_begins around; none = λ s same. absurd (simple_some s same) })
 
 -- the first token shows it
-at_first_token : (around : Around) (limit : Option Limit) (t : Token) (behind : List Token) (fault : Fault) → ShowsOnLine t behind fault → GoesOnPlaced limit [] t fault
-    → ((s : Simple) (more : List Token) → simple_tokens s ≡ t ∷ more → IsAmissPlaced around limit (Here fault) s) → ShownBy BeginsSimple (IsAheadPlaced limit) simple_tokens (λ fault a. IsAmissPlaced around limit (Here fault) a) (t ∷ behind) fault
+at_first_token : (around : Around) (limit : Option Limit) (t : Token) (behind : List Token) (fault : Fault) → ShowsOnLine t behind fault → GoesOnPlaced around limit [] t fault
+    → ((s : Simple) (more : List Token) → simple_tokens s ≡ t ∷ more → IsAmissPlaced around limit (Here fault) s) → ShownBy (BeginsPlaced around) (IsAheadPlaced around limit) simple_tokens (λ fault a. IsAmissPlaced around limit (Here fault) a) (t ∷ behind) fault
 at_first_token around limit t behind fault named goes none = record {
   front = [];
   shown_by = t;
   behind = behind;
   before_is = refl;
   left_is = named;
-  begun = inl (record { some = pass some_spot; more = simple_tokens (pass some_spot); tokens_are = refl });
+  begun = pass_begins around;
   goes_on = (goes, no_del_unread [] t fault refl);
   none = none;
 }
@@ -145,11 +170,17 @@ abbrev text_statement : Token → List ℕ → Simple
 text_statement t bytes = expression (one_expr (plain_expr (plain_or (plain_and (plain_not (plain_cmp (plain_sum (plain_term (plain_unary (plain_prim (text (spot_of t) bytes)))))))))))
 
 -- a text, behind which something stands, which shows it
-begins_text : (t : Token) → is_text_kind t.kind ≡ true → BeginsSimple (t ∷ [])
-begins_text t is = by t.kind is refl
+begins_text : (around : Around) (t : Token) → is_text_kind t.kind ≡ true → BeginsPlaced around (t ∷ [])
+begins_text around t is = by t.kind is refl
   where
-    by : (kind : TokenKind) → is_text_kind kind ≡ true → t.kind ≡ kind → BeginsSimple (t ∷ [])
-    by (Text bytes) is same = inl (record { some = text_statement t bytes; more = []; tokens_are = ap (λ k. record { at = t.at; span = t.span; kind = k } ∷ []) (sym same) })
+    by : (kind : TokenKind) → is_text_kind kind ≡ true → t.kind ≡ kind → BeginsPlaced around (t ∷ [])
+    by (Text bytes) is same = inl (λ at. record {
+      some = text_statement t bytes;
+      is_so = alone_stands around.in_class;
+      more = [];
+      tokens_are = ap (λ k. record { at = t.at; span = t.span; kind = k } ∷ []) (sym same);
+      within = λ other apart. simple_within (text_statement t bytes) (omega arith) other;
+    })
     by (Word bytes) is same = cc
     by (Number value) is same = cc
     by (Keyword n) is same = cc
@@ -170,7 +201,7 @@ text_behind (Keyword n) is absent = cc
 text_behind (Sign n) is absent = cc
 
 text_in_class : (around : Around) (limit : Option Limit) (t : Token) (behind : List Token) (left : ℕ) → around.in_class ≡ true → may_be_alone t.kind behind ≡ false → is_text_kind t.kind ≡ true → left ≡ left_in_class true behind
-    → ShownBy BeginsSimple (IsAheadPlaced limit) simple_tokens (λ fault a. IsAmissPlaced around limit (Here fault) a) (t ∷ behind) (Unexpected left)
+    → ShownBy (BeginsPlaced around) (IsAheadPlaced around limit) simple_tokens (λ fault a. IsAmissPlaced around limit (Here fault) a) (t ∷ behind) (Unexpected left)
 text_in_class around limit t [] left inside absent is counted = absurd (text_behind t.kind is absent)
 text_in_class around limit t (u ∷ us) left inside absent is counted = record {
   front = t ∷ [];
@@ -179,12 +210,12 @@ text_in_class around limit t (u ∷ us) left inside absent is counted = record {
   goes_on = (tt, no_del_unread (t ∷ []) u (Unexpected left) (text_no_del t.kind is));
   before_is = refl;
   left_is = counted;
-  begun = begins_text t is;
+  begun = begins_text around t is;
   none = λ s more same. not_alone around s inside (ap are_alone same);
 }
 
 other_in_class : (around : Around) (limit : Option Limit) (t : Token) (behind : List Token) (left : ℕ) → around.in_class ≡ true → may_be_alone t.kind behind ≡ false → (b : Bool) → is_text_kind t.kind ≡ b → left ≡ left_in_class b behind
-    → ShownBy BeginsSimple (IsAheadPlaced limit) simple_tokens (λ fault a. IsAmissPlaced around limit (Here fault) a) (t ∷ behind) (Unexpected left)
+    → ShownBy (BeginsPlaced around) (IsAheadPlaced around limit) simple_tokens (λ fault a. IsAmissPlaced around limit (Here fault) a) (t ∷ behind) (Unexpected left)
 other_in_class around limit t behind left inside absent true is counted = text_in_class around limit t behind left inside absent is counted
 other_in_class around limit t behind left inside absent false is counted = at_first_token around limit t behind (Unexpected left) counted tt (λ s more same. amiss_in_class around t behind inside absent is s more same)
 
@@ -225,6 +256,65 @@ placed_found around t behind form alone f = record {
     by true is true stands = ap (λ c. c && true) (ap are_alone (sym f.before_is) ∙ alone_there t behind f.written (sym f.before_is) (alone is))
     by inside is false stands = cc
 
+-- ---- what has begun where one may stand
+
+-- within the room or not
+placed_so : (around : Around) (tokens : List Token) → BeginsPlaced around tokens → StartsPlaced around tokens
+placed_so around tokens (inl b) = let c = b nowhere in inl (record { some = c.some; is_so = c.is_so; more = c.more; tokens_are = c.tokens_are })
+placed_so around tokens (inr b) = let c = b.1 nowhere in inr (b.0, record { spot = c.spot; some = c.some; more = c.more; tokens_are = c.tokens_are })
+
+-- outside a class nothing more is asked
+may_outside : (around : Around) (s : Simple) → around.in_class ≡ false → has_place around s ≡ true → simple_stands around s ≡ true
+may_outside around s out so = ap (λ inside. (not inside || are_alone (simple_tokens s)) && has_place around s) out ∙ so
+
+within_outside : (around : Around) (tokens : List Token) → around.in_class ≡ false → BeginsSimple (has_place around) tokens → BeginsPlaced around tokens
+within_outside around tokens out (inl b) = inl (λ at. let c = b at in record { some = c.some; is_so = may_outside around c.some out c.is_so; more = c.more; tokens_are = c.tokens_are; within = c.within })
+within_outside around tokens out (inr b) = inr (out, b)
+
+plain_outside : (around : Around) (tokens : List Token) → around.in_class ≡ false → StartsSimple (has_place around) tokens → StartsPlaced around tokens
+plain_outside around tokens out (inl b) = inl (record { some = b.some; is_so = may_outside around b.some out b.is_so; more = b.more; tokens_are = b.tokens_are })
+plain_outside around tokens out (inr b) = inr (out, b)
+
+-- behind `pass` nothing begins
+placed_pass : (around : Around) (t : Token) (ts : List Token) → t.kind ≡ Keyword 28 → StartsSimple (has_place around) (t ∷ ts) → BeginsPlaced around (t ∷ ts)
+placed_pass around t ts kind (inl b) = by ts b.more b.tokens_are (pass_is_alone b.some t (ts ++ b.more) b.tokens_are kind)
+  where
+    by : (ts more : List Token) → simple_tokens b.some ≡ t ∷ (ts ++ more) → ts ++ more ≡ [] → BeginsPlaced around (t ∷ ts)
+    by [] more is none = inl (λ at. record { some = pass (spot_of t); is_so = pass_stands around (spot_of t); more = []; tokens_are = ap (λ k. record { at = t.at; span = t.span; kind = k } ∷ []) (sym kind); within = λ other apart. omega arith })
+    by (u ∷ us) more is none = absurd (not_nothing u (us ++ more) none)
+placed_pass around t ts kind (inr b) = absurd (let same : Keyword 12 ≡ Keyword 28 = ap (λ (t : Token). t.kind) (same_first (token (Keyword 12) b.spot) t (expr_tokens b.some) (ts ++ b.more) b.tokens_are) ∙ kind in cc)
+
+-- in a class a text alone or `pass` has begun
+placed_inside : (around : Around) (t : Token) (behind : List Token) → may_be_alone t.kind behind ≡ true → (tokens rest : List Token) → t ∷ behind ≡ tokens ++ rest → StartsSimple (has_place around) tokens → BeginsPlaced around tokens
+placed_inside around t behind may [] rest is begun = pass_begins around
+placed_inside around t behind may (u ∷ us) rest is begun = subst (λ (u : Token). BeginsPlaced around (u ∷ us)) first (by t.kind refl may)
+  where
+    first : t ≡ u
+    first = same_first t u behind (us ++ rest) is
+
+    alone : (us rest : List Token) → us ++ rest ≡ [] → us ≡ []
+    alone [] rest is = refl
+    alone (v ∷ us) rest is = absurd (not_nothing v (us ++ rest) is)
+
+    by : (kind : TokenKind) → t.kind ≡ kind → may_be_alone kind behind ≡ true → BeginsPlaced around (t ∷ us)
+    by (Text bytes) kind may =
+        let nothing : behind ≡ [] = nothing_there behind (length behind == 0) refl may in
+        subst (λ (ts : List Token). BeginsPlaced around (t ∷ ts)) (sym (alone us rest (sym (same_behind t u behind (us ++ rest) is) ∙ nothing))) (begins_text around t (ap is_text_kind kind))
+    by (Keyword n) kind may = placed_pass around t us (kind ∙ ap Keyword (eqb-true n 28 may)) (subst (λ (v : Token). StartsSimple (has_place around) (v ∷ us)) (sym first) begun)
+    by (Word bytes) kind may = cc
+    by (Number value) kind may = cc
+    by (Sign n) kind may = cc
+
+places : (around : Around) (t : Token) (behind : List Token) → (around.in_class ≡ true → may_be_alone t.kind behind ≡ true) → Places around (t ∷ behind)
+places around t behind alone = by around.in_class refl
+  where
+    by : (inside : Bool) → around.in_class ≡ inside → Places around (t ∷ behind)
+    by true inside = record {
+      within = λ tokens rest is begun. placed_inside around t behind (alone inside) tokens rest is (simple_so (has_place around) tokens begun);
+      plain = λ tokens rest is begun. placed_so around tokens (placed_inside around t behind (alone inside) tokens rest is begun);
+    }
+    by false out = record { within = λ tokens rest is begun. within_outside around tokens out begun; plain = λ tokens rest is begun. plain_outside around tokens out begun }
+
 -- ---- with what is known of the tokens
 
 abbrev PlacedThere : Around → (limit : Option Limit) → Stop → List Token → Type 0
@@ -241,6 +331,11 @@ word_there around limit before t behind left is kind counted = subst (PlacedTher
 pub class_there : (around : Around) (limit : Option Limit) (before : List Token) (t : Token) (behind : List Token) (stop : Stop) → before ≡ t ∷ behind → around.in_class ≡ true → may_be_alone t.kind behind ≡ false → IsRefusedInClass before stop → PlacedRefused around limit before stop
 class_there around limit before t behind stop is inside alone refused =
     subst (PlacedThere around limit stop) (sym is) (placed_in_class around limit t behind stop inside alone (subst (λ (ts : List Token). IsRefusedInClass ts stop) is refused))
+
+pub refused_there : (around : Around) (limit : Option Limit) (before : List Token) (t : Token) (behind : List Token) (stop : Stop) → before ≡ t ∷ behind → (around.in_class ≡ true → may_be_alone t.kind behind ≡ true) → SimpleRefused around before stop
+    → PlacedRefused around limit before stop
+refused_there around limit before t behind stop is alone refused =
+    subst (PlacedThere around limit stop) (sym is) (placed_refused around limit (t ∷ behind) stop (places around t behind alone) (subst (λ (ts : List Token). SimpleRefused around ts stop) is refused))
 
 pub found_there : (around : Around) (before : List Token) (t : Token) (behind : List Token) (form : Form) → before ≡ t ∷ behind → (around.in_class ≡ true → may_be_alone t.kind behind ≡ true) → SimpleFound around before form → PlacedFound around before form
 found_there around before t behind form is alone f =

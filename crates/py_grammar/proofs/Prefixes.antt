@@ -20,14 +20,15 @@ use Rattle.py_grammar.specs.Lies.{is_place, not_lies, unary_lies, prim_lies}
 use Rattle.py_grammar.proofs.Lying.{over_is, over_here, is_here, not_above, unary_above}
 use Rattle.py_grammar.specs.Reader.{go_on, spot_of, add_sign_of, read_keyword, read_not, read_cmp, read_unary, read_prim}
 use Rattle.py_grammar.specs.Parsed.{not_part, cmp_part, unary_part, prim_part, Taken, TakenAdd, Found, IsDeep, Finds, Refused, IsTooDeep, is_keyword_next, add_sign_next, sign_of}
-use Rattle.py_grammar.proofs.Refusals.{first_of, Inside, finds_first, finds_anything, deep_over, refused_inside, refused_same, begins_up_to, full, keyword_next_same, one_behind}
-use Rattle.py_grammar.proofs.Stops.{some_spot, finds_none}
+use Rattle.py_grammar.proofs.Refusals.{first_of, Inside, begins_new, alone_elsewhere, over_within, finds_first, finds_anything, deep_over, refused_inside, refused_same, begins_up_to, full, keyword_next_same, one_behind}
+use Rattle.py_grammar.proofs.Stops.{spot_at, finds_none}
 
-pub some_unary : Unary
-some_unary = plain_unary (plain_prim (name some_spot []))
+-- an operand at this place, where any will do
+abbrev pub some_unary : Pos → Unary
+some_unary at = plain_unary (plain_prim (name (spot_at at) []))
 
-pub some_not : Not
-some_not = plain_not (plain_cmp (plain_sum (plain_term some_unary)))
+abbrev pub some_not : Pos → Not
+some_not at = plain_not (plain_cmp (plain_sum (plain_term (some_unary at))))
 
 one_more : (n : ℕ) → suc n ≡ 1 + n
 one_more n = omega arith
@@ -56,7 +57,7 @@ no_word before (t ∷ ts) absent first = ap (λ b. if b then Some (spot_of t, ts
 
 cmp_inside : (room : ℕ) (before : List Token) → is_keyword_next 26 before ≡ false → Inside not_part room cmp_part room [] before
 cmp_inside room before absent = record {
-  begins = λ b. record { some = plain_not b; more = []; tokens_are = sym (append-nil (cmp_tokens_of b)) };
+  begins = λ at b. record { some = plain_not b; more = []; tokens_are = sym (append-nil (cmp_tokens_of b)); within = λ other apart low. low };
   finds = λ stop more first finds. finds_first _ _ read_not read_cmp (λ n e rest. Some (plain_not e, rest)) more more
       (λ n. ap (λ o. option_map_or (λ found. go_on (read_not n found.1) (λ e rest. Some (not_of found.0 e, rest))) o (go_on (read_cmp n more) (λ e rest. Some (plain_not e, rest)))) (no_word before more absent first))
       (λ n b ts deep. deep) finds;
@@ -66,19 +67,24 @@ pub not_cmp_refused : (room : ℕ) (before : List Token) (stop : Stop) → is_ke
 not_cmp_refused room before stop absent is = refused_inside not_part room cmp_part room [] before stop (cmp_inside room before absent) is
 
 pub not_here : (room : ℕ) (before behind : List Token) (at : Pos) (stop : Stop) → Taken (Keyword 26) before at behind → IsTooDeep 0 at room stop → Refused not_part room before stop
-not_here room before behind at stop k deep = full not_part room before [] (token (Keyword 26) k.spot) behind 0 at stop deep k.before_is (record { some = some_not; more = _; tokens_are = refl })
-    (begins_up_to not_part (not_of k.spot some_not) [] (token (Keyword 26) k.spot) (not_tokens some_not) refl)
+not_here room before behind at stop k deep = full not_part room before [] (token (Keyword 26) k.spot) behind 0 at stop deep k.before_is (begins_new not_part room some_not (λ place other apart. alone_elsewhere place other apart))
+    (begins_up_to not_part (not_of k.spot (some_not at)) [] (token (Keyword 26) k.spot) (not_tokens (some_not at)) refl)
     (λ more. finds_first _ _ read_not read_not (λ n e rest. Some (not_of k.spot e, rest)) (token (Keyword 26) k.spot ∷ more) more (λ n. refl) (λ n e ts any. let one = over_here (is_place k.spot.at at) (not_lies e at) (is_here k.spot.at at k.at_is) in omega (arith, one)) (finds_anything read_not more))
 
-operand_inside : (room inner : ℕ) (spot : Spot) (behind : List Token) → room ≤ suc inner → Inside not_part room not_part inner (token (Keyword 26) spot ∷ []) behind
-operand_inside room inner spot behind less = record {
-  begins = λ b. record { some = not_of spot b; more = []; tokens_are = one_behind [] (token (Keyword 26) spot) (not_tokens b) };
+operand_inside : (room inner : ℕ) (spot : Spot) (behind : List Token) → room ≤ suc inner → inner < room → Inside not_part room not_part inner (token (Keyword 26) spot ∷ []) behind
+operand_inside room inner spot behind less smaller = record {
+  begins = λ at b. record {
+    some = not_of spot b;
+    more = [];
+    tokens_are = one_behind [] (token (Keyword 26) spot) (not_tokens b);
+    within = λ other apart low. over_within (is_place spot.at other) (not_lies b other) inner room smaller low;
+  };
   finds = λ stop more first finds. finds_first _ _ read_not read_not (λ n e rest. Some (not_of spot e, rest)) (token (Keyword 26) spot ∷ more) more (λ n. refl)
       (λ n e ts deep. deep_over stop inner room (is_place spot.at) (not_lies e) less deep) finds;
 }
 
-pub not_operand_refused : (room inner : ℕ) (before behind : List Token) (at : Pos) (stop : Stop) → Taken (Keyword 26) before at behind → room ≤ suc inner → Refused not_part inner behind stop → Refused not_part room before stop
-not_operand_refused room inner before behind at stop k less is = refused_same not_part room _ _ stop k.before_is (refused_inside not_part room not_part inner (token (Keyword 26) k.spot ∷ []) behind stop (operand_inside room inner k.spot behind less) is)
+pub not_operand_refused : (room inner : ℕ) (before behind : List Token) (at : Pos) (stop : Stop) → Taken (Keyword 26) before at behind → room ≤ suc inner → inner < room → Refused not_part inner behind stop → Refused not_part room before stop
+not_operand_refused room inner before behind at stop k less smaller is = refused_same not_part room _ _ stop k.before_is (refused_inside not_part room not_part inner (token (Keyword 26) k.spot ∷ []) behind stop (operand_inside room inner k.spot behind less smaller) is)
 
 -- ---- signs
 
@@ -134,7 +140,7 @@ prim_finds room (u ∷ us) absent stop (t ∷ ts) first finds =
 
 prim_inside : (room : ℕ) (before : List Token) → add_sign_next before ≡ None → Inside unary_part room prim_part room [] before
 prim_inside room before absent = record {
-  begins = λ b. record { some = plain_unary b; more = []; tokens_are = sym (append-nil (prim_tokens b)) };
+  begins = λ at b. record { some = plain_unary b; more = []; tokens_are = sym (append-nil (prim_tokens b)); within = λ other apart low. low };
   finds = λ stop more first finds. prim_finds room before absent stop more first finds;
 }
 
@@ -142,17 +148,22 @@ pub unary_prim_refused : (room : ℕ) (before : List Token) (stop : Stop) → ad
 unary_prim_refused room before stop absent is = refused_inside unary_part room prim_part room [] before stop (prim_inside room before absent) is
 
 pub unary_here : (room : ℕ) (before behind : List Token) (at : Pos) (op : BinOp) (stop : Stop) → TakenAdd before at op behind → IsTooDeep 0 at room stop → Refused unary_part room before stop
-unary_here room before behind at op stop k deep = full unary_part room before [] (sign_token k.which k.spot) behind 0 at stop deep (k.before_is ∙ sign_same k.which k.spot behind) (record { some = some_unary; more = _; tokens_are = refl })
-    (begins_up_to unary_part (signed k.spot k.which some_unary) [] (sign_token k.which k.spot) (unary_tokens some_unary) (sign_same k.which k.spot (unary_tokens some_unary)))
+unary_here room before behind at op stop k deep = full unary_part room before [] (sign_token k.which k.spot) behind 0 at stop deep (k.before_is ∙ sign_same k.which k.spot behind) (begins_new unary_part room some_unary (λ place other apart. alone_elsewhere place other apart))
+    (begins_up_to unary_part (signed k.spot k.which (some_unary at)) [] (sign_token k.which k.spot) (unary_tokens (some_unary at)) (sign_same k.which k.spot (unary_tokens (some_unary at))))
     (λ more. finds_first _ _ read_unary read_unary (λ n e rest. Some (signed k.spot k.which e, rest)) (sign_token k.which k.spot ∷ more) more (λ n. unary_sign k.which k.spot n more) (λ n e ts any. let one = over_here (is_place k.spot.at at) (unary_lies e at) (is_here k.spot.at at k.at_is) in omega (arith, one)) (finds_anything read_unary more))
 
-signed_inside : (room inner : ℕ) (which : AddSign) (spot : Spot) (behind : List Token) → room ≤ suc inner → Inside unary_part room unary_part inner (sign_token which spot ∷ []) behind
-signed_inside room inner which spot behind less = record {
-  begins = λ b. record { some = signed spot which b; more = []; tokens_are = sign_same which spot (unary_tokens b) ∙ one_behind [] (sign_token which spot) (unary_tokens b) };
+signed_inside : (room inner : ℕ) (which : AddSign) (spot : Spot) (behind : List Token) → room ≤ suc inner → inner < room → Inside unary_part room unary_part inner (sign_token which spot ∷ []) behind
+signed_inside room inner which spot behind less smaller = record {
+  begins = λ at b. record {
+    some = signed spot which b;
+    more = [];
+    tokens_are = sign_same which spot (unary_tokens b) ∙ one_behind [] (sign_token which spot) (unary_tokens b);
+    within = λ other apart low. over_within (is_place spot.at other) (unary_lies b other) inner room smaller low;
+  };
   finds = λ stop more first finds. finds_first _ _ read_unary read_unary (λ n e rest. Some (signed spot which e, rest)) (sign_token which spot ∷ more) more (λ n. unary_sign which spot n more)
       (λ n e ts deep. deep_over stop inner room (is_place spot.at) (unary_lies e) less deep) finds;
 }
 
-pub unary_operand_refused : (room inner : ℕ) (before behind : List Token) (at : Pos) (op : BinOp) (stop : Stop) → TakenAdd before at op behind → room ≤ suc inner → Refused unary_part inner behind stop → Refused unary_part room before stop
-unary_operand_refused room inner before behind at op stop k less is =
-    refused_same unary_part room _ _ stop (k.before_is ∙ sign_same k.which k.spot behind) (refused_inside unary_part room unary_part inner (sign_token k.which k.spot ∷ []) behind stop (signed_inside room inner k.which k.spot behind less) is)
+pub unary_operand_refused : (room inner : ℕ) (before behind : List Token) (at : Pos) (op : BinOp) (stop : Stop) → TakenAdd before at op behind → room ≤ suc inner → inner < room → Refused unary_part inner behind stop → Refused unary_part room before stop
+unary_operand_refused room inner before behind at op stop k less smaller is =
+    refused_same unary_part room _ _ stop (k.before_is ∙ sign_same k.which k.spot behind) (refused_inside unary_part room unary_part inner (sign_token k.which k.spot ∷ []) behind stop (signed_inside room inner k.which k.spot behind less smaller) is)

@@ -25,11 +25,11 @@ use Rattle.py_grammar.specs.StatementReader.{prim_target}
 use Rattle.py_grammar.specs.Parsed.{prim_part, atom_part, is_form, Taken, TakenName, Found, IsDeep, Only, Begins, Refused, IsTooDeep, one_sign, one_name, is_sign_next}
 use Rattle.py_grammar.specs.ParsedRows.{IsDeepestWith, closed, read_closed, items_part, index_part, index_form, Trailer, called, parted, dotted, with_trailer, trailer_tokens, trailer_depth, trailer_lies, trailer_form, trailer_tree, index_tree, read_trailer, trailer_part, FoundClosed, FoundTrailer}
 use Rattle.py_grammar.proofs.Reading.{prim_leads}
-use Rattle.py_grammar.proofs.Refusals.{Inside, first_of, only_any, only_go_on, only_if, only_is, finds_first, finds_lead, finds_at_once, deeper, deep_left, deep_over, refused_inside, refused_same, begins_inside, full, fits_above}
+use Rattle.py_grammar.proofs.Refusals.{Inside, first_of, only_any, only_go_on, only_if, only_is, finds_first, finds_lead, finds_at_once, deeper, deep_left, deep_over, refused_inside, refused_same, begins_whole, node_within, full, fits_above}
 use Rattle.py_grammar.proofs.ClosedParts.{not_deep}
 use Rattle.py_grammar.proofs.Comparisons.{one_token}
 use Rattle.py_grammar.proofs.Firsts.{sign_is}
-use Rattle.py_grammar.proofs.Stops.{some_spot}
+use Rattle.py_grammar.proofs.Stops.{some_spot, spot_at}
 
 -- ---- what goes on with a primary is read
 
@@ -82,7 +82,7 @@ behind_sign t ts = ap (λ us. t ∷ us) (sym (append-nil ts))
 
 in_call : (room : ℕ) (spot : Spot) (rest : List Token) → Inside trailer_part room (closed (items_part 1) 1) room (token (Sign 0) spot ∷ []) rest
 in_call room spot rest = record {
-  begins = λ b. record { some = called spot b.0 b.1; more = []; tokens_are = behind_sign (token (Sign 0) spot) (items_tokens b.0 ++ token (Sign 1) b.1 ∷ []) };
+  begins = λ at b. record { some = called spot b.0 b.1; more = []; tokens_are = behind_sign (token (Sign 0) spot) (items_tokens b.0 ++ token (Sign 1) b.1 ∷ []); within = λ other apart low. low };
   finds = λ stop more first finds. record {
     steps = finds.steps;
     only = λ n. only_go_on _ _ (read_closed (λ m us. read_items m 1 us) 1 (n + finds.steps) more) _ (finds.only n) (λ found rest deep. deep);
@@ -94,7 +94,7 @@ trailer_call_refused room before middle at stop k is = refused_same trailer_part
 
 in_part : (room : ℕ) (spot : Spot) (rest : List Token) → Inside trailer_part room (closed index_part 3) room (token (Sign 2) spot ∷ []) rest
 in_part room spot rest = record {
-  begins = λ b. record { some = parted spot b.0 b.1; more = []; tokens_are = behind_sign (token (Sign 2) spot) (index_tokens b.0 ++ token (Sign 3) b.1 ∷ []) };
+  begins = λ at b. record { some = parted spot b.0 b.1; more = []; tokens_are = behind_sign (token (Sign 2) spot) (index_tokens b.0 ++ token (Sign 3) b.1 ∷ []); within = λ other apart low. low };
   finds = λ stop more first finds. record {
     steps = finds.steps;
     only = λ n. only_go_on _ _ (read_closed read_index 3 (n + finds.steps) more) _ (finds.only n) (λ found rest deep. deep);
@@ -106,7 +106,7 @@ trailer_part_refused room before middle at stop k is = refused_same trailer_part
 
 in_name : (room : ℕ) (spot : Spot) (rest : List Token) → Inside trailer_part room one_name 0 (token (Sign 8) spot ∷ []) rest
 in_name room spot rest = record {
-  begins = λ b. record { some = dotted spot b.0 b.1; more = []; tokens_are = behind_sign (token (Sign 8) spot) (word b.1 b.0) };
+  begins = λ at b. record { some = dotted spot b.0 b.1; more = []; tokens_are = behind_sign (token (Sign 8) spot) (word b.1 b.0); within = λ other apart any. omega arith };
   finds = λ stop more first finds. record {
     steps = 0;
     only = λ n. only_go_on _ _ (read_name more) _ (finds.only n) (λ found rest deep. absurd (not_deep stop deep));
@@ -138,7 +138,7 @@ dot_only P n (t ∷ ts) one two only = by (is_sign 0 t.kind) (is_sign 2 t.kind) 
 
 at_dot : (room : ℕ) (rest : List Token) → is_sign_next 0 rest ≡ false → is_sign_next 2 rest ≡ false → Inside trailer_part room (one_sign 8) 0 [] rest
 at_dot room rest one two = record {
-  begins = λ spot. record { some = dotted spot spot []; more = word [] spot; tokens_are = refl };
+  begins = λ at spot. record { some = dotted spot (spot_at at) []; more = word [] (spot_at at); tokens_are = refl; within = λ other apart any. omega arith };
   finds = λ stop more first finds. record {
     steps = 0;
     only = λ n. dot_only _ (n + 0) more (not_first 0 rest more first one) (not_first 2 rest more first two) (weaken (read_sign 8 more) stop (finds.only n));
@@ -264,7 +264,7 @@ prim_deep stop room (suc n) left (t ∷ ts) deep =
 
 prim_starts : (room : ℕ) (rest : List Token) → Inside prim_part room atom_part room [] rest
 prim_starts room rest = record {
-  begins = λ b. record { some = plain_prim b; more = []; tokens_are = sym (append-nil _) };
+  begins = λ at b. record { some = plain_prim b; more = []; tokens_are = sym (append-nil _); within = λ other apart low. low };
   finds = λ stop more first finds. finds_first _ _ read_prim read_atom (λ n left ts. prim_rest n (plain_prim left) ts) more more (λ n. refl) (λ n b ts deep. prim_deep stop room n (plain_prim b) ts deep) finds;
 }
 
@@ -331,9 +331,18 @@ level_first (t ∷ ts) (u ∷ us) is = by t u is
     by : (t u : Token) → Some t ≡ Some u → kind_level t.kind ≡ kind_level u.kind
     by t u is = cc
 
-prim_goes_on : (room inner : ℕ) (left : Prim) (rest : List Token) → room ≤ suc inner → (next_level rest == 1) ≡ true → Inside prim_part room trailer_part inner (prim_tokens left) rest
-prim_goes_on room inner left rest less is = record {
-  begins = λ b. record { some = with_trailer left b; more = []; tokens_are = with_tokens left b ∙ sym (append-nil (prim_tokens left ++ trailer_tokens b)) };
+prim_goes_on : (room inner : ℕ) (left : Prim) (rest : List Token) → room ≤ suc inner → inner < room → prim_depth left ≤ inner → (next_level rest == 1) ≡ true → Inside prim_part room trailer_part inner (prim_tokens left) rest
+prim_goes_on room inner left rest less smaller fits is = record {
+  begins = λ at b. record {
+    some = with_trailer left b;
+    more = [];
+    tokens_are = with_tokens left b ∙ sym (append-nil (prim_tokens left ++ trailer_tokens b));
+    within = λ other apart low.
+        let left_low = prim_low left other in
+        let same = with_lies left b other in
+        let whole = node_within (begins (prim_tokens left) other) (prim_lies left other) (trailer_lies b other) inner room smaller (omega (arith, left_low, fits)) low in
+        omega (arith, same, whole);
+  };
   finds = λ stop more first finds.
       finds_lead _ read_prim prim_rest 0 (prim_tokens left) left more (prim_leads left) (above_zero more)
       (finds_first _ _ (λ n ts. prim_rest n left ts) read_trailer (λ n t ts. prim_rest n (with_trailer left t) ts) more more (λ n. rest_is n left more (ap (λ l. l == 1) (level_first more rest first) ∙ is))
@@ -342,10 +351,10 @@ prim_goes_on room inner left rest less is = record {
       finds);
 }
 
-pub prim_right : (room inner : ℕ) (before middle : List Token) (left : Part) (stop : Stop) → Found prim_part prim_tree 0 room before left middle → (next_level middle == 1) ≡ true → room ≤ suc inner
-    → Refused trailer_part inner middle stop → Refused prim_part room before stop
-prim_right room inner before middle left stop l level less is =
-    refused_same prim_part room before _ stop l.before_is (refused_inside prim_part room trailer_part inner (prim_tokens l.written) middle stop (prim_goes_on room inner l.written middle less level) is)
+pub prim_right : (room inner : ℕ) (before middle : List Token) (left : Part) (stop : Stop) → Found prim_part prim_tree 0 room before left middle → (next_level middle == 1) ≡ true → left.height < room → room ≤ suc inner
+    → inner < room → Refused trailer_part inner middle stop → Refused prim_part room before stop
+prim_right room inner before middle left stop l level fits less smaller is =
+    refused_same prim_part room before _ stop l.before_is (refused_inside prim_part room trailer_part inner (prim_tokens l.written) middle stop (prim_goes_on room inner l.written middle less smaller (let same = l.height_is in omega (arith, fits, less, same)) level) is)
 
 -- a token with which a primary goes on begins what goes on with it
 trailer_begins : (t : Token) → (kind_level t.kind == 1) ≡ true → Begins trailer_part (t ∷ [])
@@ -360,10 +369,17 @@ trailer_begins t level = by (is_sign 0 t.kind) (is_sign 2 t.kind) (is_sign 8 t.k
     by false false true one two three = of 8 (dotted (spot_of t) some_spot []) (word [] some_spot) three refl
     by false false false one two three = absurd (three_signs t.kind level one two three)
 
+prim_goes : (left : Prim) (t : Token) → Begins trailer_part (t ∷ []) → Begins prim_part (prim_tokens left ++ t ∷ [])
+prim_goes left t b = record {
+  some = with_trailer left b.some;
+  more = b.more;
+  tokens_are = with_tokens left b.some ∙ ap (λ ts. prim_tokens left ++ ts) b.tokens_are ∙ sym (append_assoc (prim_tokens left) (t ∷ []) b.more);
+}
+
 pub prim_full : (room : ℕ) (before middle : List Token) (left : Part) (stop : Stop) → Found prim_part prim_tree 0 room before left middle → (next_level middle == 1) ≡ true → IsTooDeep left.height left.deepest room stop → Refused prim_part room before stop
 prim_full room before [] left stop l level deep = cc
-prim_full room before (t ∷ ts) left stop l level deep = full prim_part room before (prim_tokens l.written) t ts left.height left.deepest stop deep l.before_is (record { some = l.written; more = []; tokens_are = sym (append-nil (prim_tokens l.written)) })
-    (begins_inside prim_part trailer_part (prim_tokens l.written) (t ∷ []) (prim_goes_on room room l.written (t ∷ ts) (omega arith) level).begins (trailer_begins t level))
+prim_full room before (t ∷ ts) left stop l level deep = full prim_part room before (prim_tokens l.written) t ts left.height left.deepest stop deep l.before_is (begins_whole prim_part room l.written (λ at. let low = prim_low l.written at in let is = l.height_is in let fits = l.fits in omega (arith, low, is, fits)))
+    (prim_goes l.written t (trailer_begins t level))
     (λ more. finds_lead _ read_prim prim_rest 0 (prim_tokens l.written) l.written (t ∷ more) (prim_leads l.written) (above_zero (t ∷ more))
     (finds_at_once _ (λ n ts. prim_rest n l.written ts) (t ∷ more)
     (λ n. only_is _ _ _ (rest_is n l.written (t ∷ more) level) (only_any _ (read_trailer n (t ∷ more)) _ (λ tr rest. prim_deep (Here (TooDeep left.deepest)) left.height n (with_trailer l.written tr) rest

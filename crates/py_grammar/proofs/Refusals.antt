@@ -1,7 +1,9 @@
 -- How a refusal of a part is one of what it stands in.
-use Rattle.std.proofs.Common.{◌≡◌, ℕ, suc, max, ◌+◌, ◌≤◌, ◌<◌, Bool, true, false, List, [], ◌∷◌, ◌++◌, Option, Some, None, refl, ap, sym, ◌∙◌, arith, subst, append_assoc, if◌then◌else◌}
+use Rattle.std.proofs.Common.{◌≡◌, ℕ, zero, suc, max, ◌+◌, ◌≤◌, ◌<◌, Bool, true, false, List, [], ◌∷◌, ◌++◌, Option, Some, None, refl, ap, sym, ◌∙◌, arith, subst, append_assoc, if◌then◌else◌}
 use Rattle.std.specs.Bool.{⊤}
+use Rattle.std.specs.Prelude.{◌==◌, ◌&&◌}
 use Rattle.std.specs.Option.{option_map_or}
+use Rattle.std.proofs.lemmas.Bool.{eqb-true}
 use Rattle.std.proofs.lemmas.List.{append-nil}
 use Rattle.std.proofs.Math.Nat.{le-max_left, le-max_right}
 use Rattle.prov_base.specs.declared.place.Pos.{Pos}
@@ -10,9 +12,9 @@ use Rattle.py_grammar.specs.declared.fault.Fault.{Fault}
 use Rattle.py_grammar.specs.declared.fault.Fault.TheVariants.{Unexpected, TooDeep, TooMany, Memory}
 use Rattle.py_grammar.specs.declared.fault.Stop.{Stop}
 use Rattle.py_grammar.specs.declared.fault.Stop.TheVariants.{Here, End}
-use Rattle.py_grammar.specs.Parsed.{Production, IsDeep, Only, Finds, Begins, GoesOn, Shown, Refused, IsTooDeep, is_keyword_next}
-use Rattle.py_grammar.specs.Lies.{over}
-use Rattle.py_grammar.proofs.Lying.{over_more}
+use Rattle.py_grammar.specs.Parsed.{Production, IsDeep, Only, Finds, Begins, BeginsWithin, GoesOn, Shown, Refused, IsTooDeep, is_keyword_next}
+use Rattle.py_grammar.specs.Lies.{is_place, over}
+use Rattle.py_grammar.proofs.Lying.{nowhere, over_more}
 use Rattle.py_grammar.specs.Reader.{Read, go_on, next_level, kind_level, is_keyword}
 use Rattle.py_grammar.proofs.Leading.{Beyond, Reads, Leads}
 
@@ -20,10 +22,18 @@ abbrev pub first_of : List Token → Option Token
 first_of [] = None
 first_of (t ∷ ts) = Some t
 
+-- What these tokens with this part behind them begin. Where what begins at a place lies within the part's room, it lies within
+-- the room of the whole, but for the place of what is put behind.
+pub record Holds {A B : Type 0} (p : Production A) (room : ℕ) (q : Production B) (inner : ℕ) (front : List Token) (at : Pos) (b : B) : Type 0 where
+  pub some : A
+  pub more : List Token
+  pub tokens_are : p.tokens some ≡ (front ++ q.tokens b) ++ more
+  pub within : (other : Pos) → (other ≡ at → ⊥) → q.lies b other ≤ inner → p.lies some other ≤ room
+
 -- A part stands in another behind these tokens: any such part is the beginning of one there, and where none is read that
 -- begins with the same token none is read there.
 pub record Inside {A B : Type 0} (p : Production A) (room : ℕ) (q : Production B) (inner : ℕ) (front rest : List Token) : Type 0 where
-  pub begins : (b : B) → Begins p (front ++ q.tokens b)
+  pub begins : (at : Pos) (b : B) → Holds p room q inner front at b
   pub finds : (stop : Stop) (more : List Token) → first_of more ≡ first_of rest → Finds (λ b. IsDeep stop inner (q.lies b)) q.read more
       → Finds (λ a. IsDeep stop room (p.lies a)) p.read (front ++ more)
 
@@ -130,17 +140,56 @@ pub first_alike : (f : List Token) (t : Token) (more behind : List Token) → fi
 first_alike [] t more behind = refl
 first_alike (first ∷ f) t more behind = refl
 
-pub begins_inside : {A B : Type 0} (p : Production A) (q : Production B) (front part : List Token) → ((b : B) → Begins p (front ++ q.tokens b)) → Begins q part → Begins p (front ++ part)
-begins_inside p q front part begins b =
-    let whole = begins b.some in
+pub begins_so : {A : Type 0} (p : Production A) (room : ℕ) (front : List Token) → BeginsWithin p room front → Begins p front
+begins_so p room front begins = let c = begins nowhere in record { some = c.some; more = c.more; tokens_are = c.tokens_are }
+
+regroup : (w x y z : List Token) → (w ++ (x ++ y)) ++ z ≡ (w ++ x) ++ (y ++ z)
+regroup w x y z = append_assoc w (x ++ y) z ∙ ap (λ ts. w ++ ts) (append_assoc x y z) ∙ sym (append_assoc w x (y ++ z))
+
+begins_inside : {A B : Type 0} (p : Production A) (room : ℕ) (q : Production B) (inner : ℕ) (front part : List Token) → ((at : Pos) (b : B) → Holds p room q inner front at b) → Begins q part → Begins p (front ++ part)
+begins_inside p room q inner front part begins b =
+    let whole = begins nowhere b.some in
     record {
       some = whole.some;
       more = b.more ++ whole.more;
       tokens_are = whole.tokens_are ∙ ap (λ ts. (front ++ ts) ++ whole.more) b.tokens_are ∙ regroup front part b.more whole.more;
     }
+
+pub within_inside : {A B : Type 0} (p : Production A) (room : ℕ) (q : Production B) (inner : ℕ) (front part : List Token) → ((at : Pos) (b : B) → Holds p room q inner front at b) → BeginsWithin q inner part → BeginsWithin p room (front ++ part)
+within_inside p room q inner front part begins b = λ at.
+    let c = b at in
+    let whole = begins at c.some in
+    record {
+      some = whole.some;
+      more = c.more ++ whole.more;
+      tokens_are = whole.tokens_are ∙ ap (λ ts. (front ++ ts) ++ whole.more) c.tokens_are ∙ regroup front part c.more whole.more;
+      within = λ other apart. whole.within other apart (c.within other apart);
+    }
+
+-- what is written lies within the room
+pub begins_whole : {A : Type 0} (p : Production A) (room : ℕ) (some : A) → ((at : Pos) → p.lies some at ≤ room) → BeginsWithin p room (p.tokens some)
+begins_whole p room some low = λ at. record { some = some; more = []; tokens_are = sym (append-nil (p.tokens some)); within = λ other apart. low other }
+
+-- what is put there begins nowhere else
+pub begins_new : {A : Type 0} (p : Production A) (room : ℕ) (new : Pos → A) → ((at other : Pos) → (other ≡ at → ⊥) → p.lies (new at) other ≡ 0) → BeginsWithin p room []
+begins_new p room new alone = λ at. record { some = new at; more = p.tokens (new at); tokens_are = refl; within = λ other apart. let none = alone at other apart in omega (arith, none) }
+
+-- another place
+pub elsewhere : (at other : Pos) → (other ≡ at → ⊥) → is_place at other ≡ false
+elsewhere at other apart = by (is_place at other) refl
   where
-    regroup : (w x y z : List Token) → (w ++ (x ++ y)) ++ z ≡ (w ++ x) ++ (y ++ z)
-    regroup w x y z = append_assoc w (x ++ y) z ∙ ap (λ ts. w ++ ts) (append_assoc x y z) ∙ sym (append_assoc w x (y ++ z))
+    same_there : (one two : Bool) → (at.line == other.line) ≡ one → (at.col == other.col) ≡ two → (one && two) ≡ true → other ≡ at
+    same_there true true line col both = ap (λ n. record { line = n; col = other.col }) (sym (eqb-true at.line other.line line)) ∙ ap (λ n. record { line = at.line; col = n }) (sym (eqb-true at.col other.col col))
+    same_there true false line col both = cc
+    same_there false two line col both = cc
+
+    by : (b : Bool) → is_place at other ≡ b → is_place at other ≡ false
+    by false is = is
+    by true is = absurd (apart (same_there (at.line == other.line) (at.col == other.col) refl refl is))
+
+-- one token lies nowhere else
+pub alone_elsewhere : (at other : Pos) → (other ≡ at → ⊥) → over (is_place at other) 0 ≡ 0
+alone_elsewhere at other apart = ap (λ b. over b 0) (elsewhere at other apart)
 
 -- what goes on with a token there goes on with it behind other tokens too
 pub goes_inside : (inner outer : List Token → Type 0) (front part : List Token) (t : Token) (fault : Fault) → ((tokens : List Token) → inner tokens → outer (front ++ tokens)) → GoesOn inner part t fault → GoesOn outer (front ++ part) t fault
@@ -156,8 +205,8 @@ shown_inside p room q inner front rest fault inside s = record {
   behind = s.behind;
   before_is = ap (λ ts. front ++ ts) s.before_is ∙ sym (append_assoc front s.front (s.shown_by ∷ s.behind));
   left_is = s.left_is;
-  begins = begins_inside p q front s.front inside.begins s.begins;
-  goes_on = goes_inside (Begins q) (Begins p) front s.front s.shown_by fault (λ tokens b. begins_inside p q front tokens inside.begins b) s.goes_on;
+  begins = within_inside p room q inner front s.front inside.begins s.begins;
+  goes_on = goes_inside (Begins q) (Begins p) front s.front s.shown_by fault (λ tokens b. begins_inside p room q inner front tokens inside.begins b) s.goes_on;
   none = λ more. finds_same _ p.read _ _ (append_assoc front s.front (s.shown_by ∷ more))
       (inside.finds (Here fault) (s.front ++ s.shown_by ∷ more) (first_alike s.front s.shown_by more s.behind ∙ sym (ap first_of s.before_is)) (s.none more));
 }
@@ -167,7 +216,7 @@ refused_inside p room q inner front rest (Here Memory) inside is = tt
 refused_inside p room q inner front rest (Here (Unexpected at)) inside is = shown_inside p room q inner front rest (Unexpected at) inside is
 refused_inside p room q inner front rest (Here (TooDeep at)) inside is = shown_inside p room q inner front rest (TooDeep at) inside is
 refused_inside p room q inner front rest (Here (TooMany at)) inside is = shown_inside p room q inner front rest (TooMany at) inside is
-refused_inside p room q inner front rest End inside is = (begins_inside p q front rest inside.begins is.0, inside.finds End rest refl is.1)
+refused_inside p room q inner front rest End inside is = (within_inside p room q inner front rest inside.begins is.0, inside.finds End rest refl is.1)
 
 pub refused_same : {A : Type 0} (p : Production A) (room : ℕ) (before other : List Token) (stop : Stop) → before ≡ other → Refused p room other stop → Refused p room before stop
 refused_same p room before other stop is refused = subst (λ ts. Refused p room ts stop) (sym is) refused
@@ -187,7 +236,7 @@ pub begins_up_to : {A : Type 0} (p : Production A) (some : A) (front : List Toke
 begins_up_to p some front t more is = record { some = some; more = more; tokens_are = is ∙ sym (append_assoc front (t ∷ []) more) }
 
 -- there is no room over what was read, and the next token goes on with something over it
-pub full : {A : Type 0} (p : Production A) (room : ℕ) (before front : List Token) (t : Token) (behind : List Token) (height : ℕ) (deepest : Pos) (stop : Stop) → IsTooDeep height deepest room stop → before ≡ front ++ t ∷ behind → Begins p front → Begins p (front ++ t ∷ [])
+pub full : {A : Type 0} (p : Production A) (room : ℕ) (before front : List Token) (t : Token) (behind : List Token) (height : ℕ) (deepest : Pos) (stop : Stop) → IsTooDeep height deepest room stop → before ≡ front ++ t ∷ behind → BeginsWithin p room front → Begins p (front ++ t ∷ [])
     → ((more : List Token) → Finds (λ a. height < p.lies a deepest) p.read (front ++ t ∷ more)) → Refused p room before stop
 full p room before front t behind height deepest (Here (TooDeep at)) deep before_is begins goes over_it = record {
   front = front;
@@ -217,6 +266,20 @@ over_both a b c d one other = ap (λ x. suc (max x c)) one ∙ ap (λ x. suc (ma
 
 pub max_below : (a b c : ℕ) → a ≤ c → b ≤ c → max a b ≤ c
 max_below a b c one other = omega (arith, one, other)
+
+-- over what lies within one less
+pub over_within : (here : Bool) (a inner room : ℕ) → inner < room → a ≤ inner → over here a ≤ room
+over_within true zero inner room less low = omega (arith, less)
+over_within false zero inner room less low = omega arith
+over_within here (suc a) inner room less low = omega (arith, less, low)
+
+pub node_within : (here : Bool) (a b inner room : ℕ) → inner < room → a ≤ inner → b ≤ inner → over here (max a b) ≤ room
+node_within here a b inner room less one other = over_within here (max a b) inner room less (max_below a b inner one other)
+
+-- a node over two that lie less deep
+pub fits_below : (here : Bool) (a b room : ℕ) → a < room → b < room → over here (max a b) ≤ room
+fits_below here a b (suc inner) one other = node_within here a b inner (suc inner) (omega arith) (omega (arith, one)) (omega (arith, other))
+fits_below here a b zero one other = absurd (omega (arith, one))
 
 pub fits_above : (room left right height : ℕ) → height ≡ suc (max left right) → left < room → right < room → height ≤ room
 fits_above room left right height is one other = let low = max_below left right room (omega (arith, one)) (omega (arith, other)) in omega (arith, is, one, other)

@@ -67,27 +67,27 @@ pub group_ok : (r : Result Part Stop) (room inner : ℕ) (before middle after : 
 group_ok (Ok part) room inner before middle after at taken smaller is = atom_group room inner before middle after at part taken smaller is
 group_ok (Err e) room inner before middle after at taken smaller is = tt
 
-pub group_err : (r : Result Part Stop) (room inner : ℕ) (before middle : List Token) (at : Pos) → Taken (Sign 0) before at middle → room ≤ suc inner → IfErr r (Refused (closed group_part 1) inner middle) → IfErr r (Refused atom_part room before)
-group_err (Ok part) room inner before middle at taken less is = tt
-group_err (Err e) room inner before middle at taken less is = group_refused room inner before middle at e taken less is
+pub group_err : (r : Result Part Stop) (room inner : ℕ) (before middle : List Token) (at : Pos) → Taken (Sign 0) before at middle → room ≤ suc inner → inner < room → IfErr r (Refused (closed group_part 1) inner middle) → IfErr r (Refused atom_part room before)
+group_err (Ok part) room inner before middle at taken less smaller is = tt
+group_err (Err e) room inner before middle at taken less smaller is = group_refused room inner before middle at e taken less smaller is
 
 pub list_ok : (r : Result Part Stop) (room inner : ℕ) (before middle after : List Token) (at : Pos) → Taken (Sign 2) before at middle → inner < room
     → IfOk r (λ part. FoundClosed (items_part 3) 3 (λ i. list_expr at (items_tree i)) (λ i. suc (items_depth i)) (λ i. IsDeepestIn at (items_lies i) (items_depth i)) (λ _. false) inner middle part after) → IfOk r (λ part. Found atom_part atom_tree 0 room before part after)
 list_ok (Ok part) room inner before middle after at taken smaller is = atom_list room inner before middle after at part taken smaller is
 list_ok (Err e) room inner before middle after at taken smaller is = tt
 
-pub list_err : (r : Result Part Stop) (room inner : ℕ) (before middle : List Token) (at : Pos) → Taken (Sign 2) before at middle → room ≤ suc inner → IfErr r (Refused (closed (items_part 3) 3) inner middle) → IfErr r (Refused atom_part room before)
-list_err (Ok part) room inner before middle at taken less is = tt
-list_err (Err e) room inner before middle at taken less is = list_refused room inner before middle at e taken less is
+pub list_err : (r : Result Part Stop) (room inner : ℕ) (before middle : List Token) (at : Pos) → Taken (Sign 2) before at middle → room ≤ suc inner → inner < room → IfErr r (Refused (closed (items_part 3) 3) inner middle) → IfErr r (Refused atom_part room before)
+list_err (Ok part) room inner before middle at taken less smaller is = tt
+list_err (Err e) room inner before middle at taken less smaller is = list_refused room inner before middle at e taken less smaller is
 
 pub dict_ok : (r : Result Part Stop) (room inner : ℕ) (before middle after : List Token) (at : Pos) → Taken (Sign 4) before at middle → inner < room
     → IfOk r (λ part. FoundClosed pairs_part 5 (λ p. dict_expr at (pairs_tree p)) (λ p. suc (pairs_depth p)) (λ p. IsDeepestIn at (pairs_lies p) (pairs_depth p)) (λ _. false) inner middle part after) → IfOk r (λ part. Found atom_part atom_tree 0 room before part after)
 dict_ok (Ok part) room inner before middle after at taken smaller is = atom_dict room inner before middle after at part taken smaller is
 dict_ok (Err e) room inner before middle after at taken smaller is = tt
 
-pub dict_err : (r : Result Part Stop) (room inner : ℕ) (before middle : List Token) (at : Pos) → Taken (Sign 4) before at middle → room ≤ suc inner → IfErr r (Refused (closed pairs_part 5) inner middle) → IfErr r (Refused atom_part room before)
-dict_err (Ok part) room inner before middle at taken less is = tt
-dict_err (Err e) room inner before middle at taken less is = dict_refused room inner before middle at e taken less is
+pub dict_err : (r : Result Part Stop) (room inner : ℕ) (before middle : List Token) (at : Pos) → Taken (Sign 4) before at middle → room ≤ suc inner → inner < room → IfErr r (Refused (closed pairs_part 5) inner middle) → IfErr r (Refused atom_part room before)
+dict_err (Ok part) room inner before middle at taken less smaller is = tt
+dict_err (Err e) room inner before middle at taken less smaller is = dict_refused room inner before middle at e taken less smaller is
 
 -- ---- what goes on with a primary
 

@@ -280,9 +280,20 @@ rest_deep stop room (suc n) e ts deep = only_if _ (next_level ts == 8) _ _
     (only_any _ (read_sign 6 ts) _ (λ comma more. only_any _ (read_rest n more) _ (λ found rest. deep_beside_left stop room (expr_lies e) (rest_lies found) deep)))
     deep
 
+beside_within : (a b depth old height room : ℕ) → a ≤ depth → height ≡ max old depth → height ≤ room → b ≤ room → max a b ≤ room
+beside_within a b depth old height room low is fits other = omega (arith, low, is, fits, other)
+
 rest_inside : (room : ℕ) (before after : List Token) (old row : Row) (g : RestGoes room before old after row) → begins_expr after ≡ true → Inside rest_part room expr_part room g.front after
 rest_inside room before after old row g start = record {
-  begins = λ b. record { some = g.put (last_rest b); more = []; tokens_are = g.tokens_are (last_rest b) ∙ sym (append-nil (g.front ++ expr_tokens b)) };
+  begins = λ at b. record {
+    some = g.put (last_rest b);
+    more = [];
+    tokens_are = g.tokens_are (last_rest b) ∙ sym (append-nil (g.front ++ expr_tokens b));
+    within = λ other apart low.
+        let is = g.lies_is (last_rest b) other in
+        let whole = beside_within (g.lies other) (expr_lies b other) g.depth old.height row.height room (g.low other) g.height_is g.fits low in
+        omega (arith, is, whole);
+  };
   finds = λ stop more first finds. record {
     steps = suc finds.steps + g.steps;
     only = λ n.

@@ -1,7 +1,8 @@
 -- Simple statements: how what is read of a part, or not, tells what is read of the statement.
-use Rattle.std.proofs.Common.{◌≡◌, inl, ℕ, suc, ◌+◌, ◌<◌, Bool, true, false, List, [], ◌∷◌, ◌++◌, Option, Some, None, option_map, option_and_then, refl, ap, sym, ◌∙◌, arith, subst, append_assoc, append-nil, length, is_some, IfNone, if◌then◌else◌}
+use Rattle.std.proofs.Common.{◌≡◌, inl, inr, ℕ, suc, ◌+◌, ◌≤◌, ◌<◌, Bool, true, false, List, [], ◌∷◌, ◌++◌, Option, Some, None, option_map, option_and_then, refl, ap, sym, ◌∙◌, arith, subst, append_assoc, append-nil, length, is_some, IfNone, if◌then◌else◌}
 use Rattle.std.specs.Prelude.{◌==◌}
 use Rattle.std.proofs.lemmas.Bool.{eqb-true}
+use Rattle.prov_base.specs.declared.place.Pos.{Pos}
 use Rattle.py_lines.specs.declared.parts.Token.{Token}
 use Rattle.py_lines.specs.declared.parts.TokenKind.TheVariants.{Keyword}
 use Rattle.py_grammar.specs.declared.fault.Fault.{Fault}
@@ -9,20 +10,24 @@ use Rattle.py_grammar.specs.declared.fault.Fault.TheVariants.{Unexpected, TooDee
 use Rattle.py_grammar.specs.declared.fault.Stop.{Stop}
 use Rattle.py_grammar.specs.declared.fault.Stop.TheVariants.{Here, End}
 use Rattle.py_grammar.specs.declared.part.Part.{Part}
-use Rattle.py_grammar.specs.Concrete.{Spot}
+use Rattle.py_grammar.specs.Concrete.{Spot, Expr}
 use Rattle.py_grammar.specs.Tokens.{token, expr_tokens, exprs_tokens}
 use Rattle.py_grammar.specs.Trees.{expr_tree}
 use Rattle.py_grammar.specs.Written.{Simple, pass}
 use Rattle.py_grammar.specs.StatementTokens.{simple_tokens}
-use Rattle.py_grammar.specs.Lies.{simple_lies}
+use Rattle.py_grammar.specs.Depth.{expr_depth, exprs_depth, simple_depth}
+use Rattle.py_grammar.specs.Lies.{expr_lies, simple_lies}
 use Rattle.py_grammar.specs.WellPlaced.{Around}
-use Rattle.py_grammar.specs.Reader.{Read, spot_of, next_level, starts, read_expr, read_exprs}
+use Rattle.py_grammar.specs.Reader.{Read, next_level, starts, read_expr, read_exprs}
 use Rattle.py_grammar.specs.StatementReader.{whole, alone, read_simple}
-use Rattle.py_grammar.specs.Parsed.{Production, GoesOn, IsDeep, Only, Finds, Begins, Shown, is_keyword_next, Refused, Found, FoundRow, expr_part}
-use Rattle.py_grammar.specs.ParsedSimple.{leaving_none, simple_part, BeginsSimple, UnreadDel, IsAmiss, SimpleShown, SimpleEnds, SimpleRefused, IsMore}
+use Rattle.py_grammar.specs.Parsed.{Production, GoesOn, IsDeep, Only, Finds, Begins, BeginsWithin, Shown, is_keyword_next, Refused, Found, FoundRow, expr_part}
+use Rattle.py_grammar.specs.ParsedSimple.{leaving_none, simple_part, StartsSimple, BeginsSimple, has_place, UnreadDel, IsAmiss, SimpleShown, SimpleEnds, SimpleRefused, IsMore}
 use Rattle.py_grammar.proofs.Reading.{expr_reads}
 use Rattle.py_grammar.proofs.RowReads.{row_reads}
 use Rattle.py_grammar.proofs.Refusals.{first_of, only_is, finds_same, finds_weaker}
+use Rattle.py_grammar.proofs.Lying.{nowhere, expr_low}
+use Rattle.py_grammar.proofs.LyingLines.{simple_low}
+use Rattle.py_grammar.proofs.Stops.{spot_at}
 
 -- ---- what the reader gives
 
@@ -107,16 +112,49 @@ turns_same q ts us more g is turns = subst (λ (ts : List Token). Turns q ts mor
 
 -- ---- how it is refused
 
-pub spelled : (s : Simple) (tokens : List Token) → simple_tokens s ≡ tokens → BeginsSimple tokens
-spelled s tokens is = inl (record { some = s; more = []; tokens_are = is ∙ sym (append-nil tokens) })
+-- what lies in a statement of at most this depth lies within it
+pub simple_within : (s : Simple) → simple_depth s ≤ 100 → (at : Pos) → simple_lies s at ≤ 100
+simple_within s fits at = let low = simple_low s at in omega (arith, low, fits)
+
+pub expr_within : (e : Expr) → expr_depth e ≤ 100 → (at : Pos) → expr_lies e at ≤ 100
+expr_within e fits at = let low = expr_low e at in omega (arith, low, fits)
+
+-- how deep what was read is
+pub expr_fits : {before after : List Token} {part : Part} → (f : Found expr_part expr_tree 7 100 before part after) → expr_depth f.written ≤ 100
+expr_fits f = let high = f.height_is in let low = f.fits in omega (arith, high, low)
+
+pub row_fits : {before after : List Token} {part : Part} → (f : FoundRow 100 before part after) → exprs_depth f.written ≤ 100
+row_fits f = let high = f.height_is in let low = f.fits in omega (arith, high, low)
+
+-- what has begun, within the room or not
+pub simple_so : (is : Simple → Bool) (tokens : List Token) → BeginsSimple is tokens → StartsSimple is tokens
+simple_so is tokens (inl b) = let c = b nowhere in inl (record { some = c.some; is_so = c.is_so; more = c.more; tokens_are = c.tokens_are })
+simple_so is tokens (inr b) = let c = b nowhere in inr (record { spot = c.spot; some = c.some; more = c.more; tokens_are = c.tokens_are })
+
+pub spelled : (is : Simple → Bool) (s : Simple) (tokens : List Token) → is s ≡ true → simple_depth s ≤ 100 → simple_tokens s ≡ tokens → BeginsSimple is tokens
+spelled is s tokens so fits same = inl (λ at. record { some = s; is_so = so; more = []; tokens_are = same ∙ sym (append-nil tokens); within = λ other apart. simple_within s fits other })
 
 -- whatever stands there, a statement can begin so far
-nothing_yet : (t : Token) → BeginsSimple []
-nothing_yet t = inl (record { some = pass (spot_of t); more = simple_tokens (pass (spot_of t)); tokens_are = refl })
+nothing_yet : (around : Around) → BeginsSimple (has_place around) []
+nothing_yet around = inl (λ at. record { some = pass (spot_at at); is_so = refl; more = simple_tokens (pass (spot_at at)); tokens_are = refl; within = λ other apart. omega arith })
 
--- a part begins, behind these tokens, and so does a statement
-pub begins_part : {B : Type 0} (q : Production B) (front : List Token) (s : B → Simple) → ((b : B) → simple_tokens (s b) ≡ front ++ q.tokens b) → (tokens : List Token) → Begins q tokens → BeginsSimple (front ++ tokens)
-begins_part q front s spells tokens b = inl (record { some = s b.some; more = b.more; tokens_are = spells b.some ∙ ap (λ ts. front ++ ts) b.tokens_are ∙ sym (append_assoc front tokens b.more) })
+-- A part begins behind these tokens, and so does what it stands in: within the room where the part does.
+pub record Carries {B : Type 0} (q : Production B) (inner : ℕ) (front : List Token) (begins starts : List Token → Type 0) : Type 0 where
+  pub within : (tokens : List Token) → BeginsWithin q inner tokens → begins (front ++ tokens)
+  pub plain : (tokens : List Token) → Begins q tokens → starts (front ++ tokens)
+
+pub begins_part : {B : Type 0} (is : Simple → Bool) (q : Production B) (inner : ℕ) (front : List Token) (s : B → Simple) → ((b : B) → is (s b) ≡ true) → ((b : B) → simple_tokens (s b) ≡ front ++ q.tokens b)
+    → ((b : B) (at : Pos) → q.lies b at ≤ inner → simple_lies (s b) at ≤ 100) → Carries q inner front (BeginsSimple is) (StartsSimple is)
+begins_part is q inner front s so spells low = record {
+  within = λ tokens b. inl (λ at. let c = b at in record {
+    some = s c.some;
+    is_so = so c.some;
+    more = c.more;
+    tokens_are = spells c.some ∙ ap (λ ts. front ++ ts) c.tokens_are ∙ sym (append_assoc front tokens c.more);
+    within = λ other apart. low c.some other (c.within other apart);
+  });
+  plain = λ tokens b. inl (record { some = s b.some; is_so = so b.some; more = b.more; tokens_are = spells b.some ∙ ap (λ ts. front ++ ts) b.tokens_are ∙ sym (append_assoc front tokens b.more) });
+}
 
 first_alike : (f : List Token) (t : Token) (more behind : List Token) → first_of (f ++ t ∷ more) ≡ first_of (f ++ t ∷ behind)
 first_alike [] t more behind = refl
@@ -129,23 +167,23 @@ other_statement before front t behind fault other is = record {
 }
 
 -- with TooDeep, what begins a part that is refused goes on behind these tokens too
-goes_behind : {B : Type 0} (q : Production B) (front inside : List Token) (t : Token) (fault : Fault) → ((tokens : List Token) → Begins q tokens → BeginsSimple (front ++ tokens)) → GoesOn (Begins q) inside t fault
-    → GoesOn BeginsSimple (front ++ inside) t fault
-goes_behind q front inside t (TooDeep at) begins goes = subst BeginsSimple (sym (append_assoc front inside (t ∷ []))) (begins (inside ++ t ∷ []) goes)
-goes_behind q front inside t (Unexpected left) begins goes = tt
-goes_behind q front inside t (TooMany at) begins goes = tt
-goes_behind q front inside t Memory begins goes = tt
+goes_behind : {B : Type 0} (is : Simple → Bool) (q : Production B) (front inside : List Token) (t : Token) (fault : Fault) → ((tokens : List Token) → Begins q tokens → StartsSimple is (front ++ tokens)) → GoesOn (Begins q) inside t fault
+    → GoesOn (StartsSimple is) (front ++ inside) t fault
+goes_behind is q front inside t (TooDeep at) begins goes = subst (StartsSimple is) (sym (append_assoc front inside (t ∷ []))) (begins (inside ++ t ∷ []) goes)
+goes_behind is q front inside t (Unexpected left) begins goes = tt
+goes_behind is q front inside t (TooMany at) begins goes = tt
+goes_behind is q front inside t Memory begins goes = tt
 
 abbrev IsWeaker : Around → Stop → Type 0
 IsWeaker around stop = (s : Simple) → IsDeep stop 100 (simple_lies s) → IsAmiss around stop s
 
 -- a part stands behind these tokens: how it begins, and what is read there
-record Stands {B : Type 0} (q : Production B) (inner : ℕ) (front rest : List Token) : Type 0 where
-  begins : (tokens : List Token) → Begins q tokens → BeginsSimple (front ++ tokens)
+record Stands {B : Type 0} (around : Around) (q : Production B) (inner : ℕ) (front rest : List Token) : Type 0 where
+  begins : Carries q inner front (BeginsSimple (has_place around)) (StartsSimple (has_place around))
   finds : (why : Stop) (more : List Token) → first_of more ≡ first_of rest → Finds (λ b. IsDeep why inner (q.lies b)) q.read more → Finds (λ s. IsDeep why 100 (simple_lies s)) simple_part.read (front ++ more)
   unread : (fault : Fault) (s : Shown q inner rest fault) → UnreadDel (front ++ s.front) s.shown_by fault
 
-shown_part : {B : Type 0} (around : Around) (q : Production B) (inner : ℕ) (front rest before : List Token) (fault : Fault) → before ≡ front ++ rest → Stands q inner front rest → IsWeaker around (Here fault)
+shown_part : {B : Type 0} (around : Around) (q : Production B) (inner : ℕ) (front rest before : List Token) (fault : Fault) → before ≡ front ++ rest → Stands around q inner front rest → IsWeaker around (Here fault)
     → Shown q inner rest fault → SimpleShown around before fault
 shown_part around q inner front rest before fault is part weaker s = record {
   front = front ++ s.front;
@@ -153,26 +191,26 @@ shown_part around q inner front rest before fault is part weaker s = record {
   behind = s.behind;
   before_is = is ∙ ap (λ ts. front ++ ts) s.before_is ∙ sym (append_assoc front s.front (s.shown_by ∷ s.behind));
   left_is = s.left_is;
-  begins = part.begins s.front s.begins;
-  goes_on = goes_behind q front s.front s.shown_by fault part.begins s.goes_on;
+  begins = part.begins.within s.front s.begins;
+  goes_on = goes_behind (has_place around) q front s.front s.shown_by fault part.begins.plain s.goes_on;
   unread = part.unread fault s;
   none = λ more. finds_same _ simple_part.read _ _ (append_assoc front s.front (s.shown_by ∷ more))
       (finds_weaker _ _ simple_part.read _ weaker (part.finds (Here fault) (s.front ++ s.shown_by ∷ more) (first_alike s.front s.shown_by more s.behind ∙ sym (ap first_of s.before_is)) (s.none more)));
 }
 
-refused_there : {B : Type 0} (around : Around) (q : Production B) (inner : ℕ) (front rest before : List Token) (stop : Stop) → before ≡ front ++ rest → Stands q inner front rest → Refused q inner rest stop → SimpleRefused around before stop
+refused_there : {B : Type 0} (around : Around) (q : Production B) (inner : ℕ) (front rest before : List Token) (stop : Stop) → before ≡ front ++ rest → Stands around q inner front rest → Refused q inner rest stop → SimpleRefused around before stop
 refused_there around q inner front rest before (Here Memory) is part refused = tt
 refused_there around q inner front rest before (Here (Unexpected at)) is part refused = shown_part around q inner front rest before (Unexpected at) is part (λ s deep. absurd deep) refused
 refused_there around q inner front rest before (Here (TooDeep at)) is part refused = shown_part around q inner front rest before (TooDeep at) is part (λ s deep. deep) refused
 refused_there around q inner front rest before (Here (TooMany at)) is part refused = absurd refused.left_is
 refused_there around q inner front rest before End is part refused =
     subst (λ (ts : List Token). SimpleEnds around ts End) (sym is)
-    (record { begins = part.begins rest refused.0; none = finds_weaker _ _ simple_part.read _ (λ s deep. absurd deep) (part.finds End rest refl refused.1) })
+    (record { begins = part.begins.within rest refused.0; none = finds_weaker _ _ simple_part.read _ (λ s deep. absurd deep) (part.finds End rest refl refused.1) })
 
 -- a part is refused behind these tokens
 pub refused_behind : {B : Type 0} (around : Around) (q : Production B) (inner : ℕ) (front rest before : List Token) (stop : Stop) (g : ℕ → B → List Token → Option Simple) → before ≡ front ++ rest
     → ((fault : Fault) (s : Shown q inner rest fault) → UnreadDel (front ++ s.front) s.shown_by fault)
-    → ((tokens : List Token) → Begins q tokens → BeginsSimple (front ++ tokens)) → ((more : List Token) → first_of more ≡ first_of rest → Turns q (front ++ more) more g)
+    → Carries q inner front (BeginsSimple (has_place around)) (StartsSimple (has_place around)) → ((more : List Token) → first_of more ≡ first_of rest → Turns q (front ++ more) more g)
     → ((why : Stop) (n : ℕ) (b : B) (left : List Token) → IsDeep why inner (q.lies b) → Only (λ s. IsDeep why 100 (simple_lies s)) (leaving_none (g n b left)))
     → Refused q inner rest stop → SimpleRefused around before stop
 refused_behind around q inner front rest before stop g is unread begins turns deep refused = refused_there around q inner front rest before stop is
@@ -180,7 +218,7 @@ refused_behind around q inner front rest before stop g is unread begins turns de
     refused
 
 pub refused_part : {B : Type 0} (around : Around) (q : Production B) (inner : ℕ) (front rest before : List Token) (stop : Stop) (g : ℕ → B → List Token → Option Simple) → is_keyword_next 12 before ≡ false → before ≡ front ++ rest
-    → ((tokens : List Token) → Begins q tokens → BeginsSimple (front ++ tokens)) → ((more : List Token) → first_of more ≡ first_of rest → Turns q (front ++ more) more g)
+    → Carries q inner front (BeginsSimple (has_place around)) (StartsSimple (has_place around)) → ((more : List Token) → first_of more ≡ first_of rest → Turns q (front ++ more) more g)
     → ((why : Stop) (n : ℕ) (b : B) (left : List Token) → IsDeep why inner (q.lies b) → Only (λ s. IsDeep why 100 (simple_lies s)) (leaving_none (g n b left)))
     → Refused q inner rest stop → SimpleRefused around before stop
 refused_part around q inner front rest before stop g other is begins turns deep refused = refused_behind around q inner front rest before stop g is
@@ -188,33 +226,33 @@ refused_part around q inner front rest before stop g other is begins turns deep 
     begins turns deep refused
 
 -- the tokens are a statement, and something stands behind them
-pub at_token : (around : Around) (tokens : List Token) (t : Token) (ts before : List Token) (left : ℕ) (s : Simple) → UnreadDel tokens t (Unexpected left) → before ≡ tokens ++ t ∷ ts → simple_tokens s ≡ tokens → left ≡ length ts
+pub at_token : (around : Around) (tokens : List Token) (t : Token) (ts before : List Token) (left : ℕ) → BeginsSimple (has_place around) tokens → UnreadDel tokens t (Unexpected left) → before ≡ tokens ++ t ∷ ts → left ≡ length ts
     → ((more : List Token) → ReadsNone (tokens ++ t ∷ more)) → SimpleShown around before (Unexpected left)
-at_token around tokens t ts before left s unread is spells named none = record {
+at_token around tokens t ts before left begun unread is named none = record {
   front = tokens;
   shown_by = t;
   behind = ts;
   before_is = is;
   left_is = named;
-  begins = spelled s tokens spells;
+  begins = begun;
   goes_on = tt;
   unread = unread;
   none = λ more. none_found _ (tokens ++ t ∷ more) (none more);
 }
 
-pub ended_behind : (around : Around) (tokens behind before : List Token) (stop : Stop) (s : Simple) → ((t : Token) (ts : List Token) (left : ℕ) → behind ≡ t ∷ ts → UnreadDel tokens t (Unexpected left)) → before ≡ tokens ++ behind → simple_tokens s ≡ tokens
+pub ended_behind : (around : Around) (tokens behind before : List Token) (stop : Stop) → BeginsSimple (has_place around) tokens → ((t : Token) (ts : List Token) (left : ℕ) → behind ≡ t ∷ ts → UnreadDel tokens t (Unexpected left)) → before ≡ tokens ++ behind
     → IsMore behind stop → ((t : Token) (ts more : List Token) → behind ≡ t ∷ ts → ReadsNone (tokens ++ t ∷ more)) → SimpleRefused around before stop
-ended_behind around tokens [] before stop s unread is spells more none = absurd more
-ended_behind around tokens (t ∷ ts) before (Here (Unexpected left)) s unread is spells more none = at_token around tokens t ts before left s (unread t ts left refl) is spells more (λ rest. none t ts rest refl)
-ended_behind around tokens (t ∷ ts) before (Here (TooDeep at)) s unread is spells more none = absurd more
-ended_behind around tokens (t ∷ ts) before (Here (TooMany at)) s unread is spells more none = absurd more
-ended_behind around tokens (t ∷ ts) before (Here Memory) s unread is spells more none = absurd more
-ended_behind around tokens (t ∷ ts) before End s unread is spells more none = absurd more
+ended_behind around tokens [] before stop begun unread is more none = absurd more
+ended_behind around tokens (t ∷ ts) before (Here (Unexpected left)) begun unread is more none = at_token around tokens t ts before left begun (unread t ts left refl) is more (λ rest. none t ts rest refl)
+ended_behind around tokens (t ∷ ts) before (Here (TooDeep at)) begun unread is more none = absurd more
+ended_behind around tokens (t ∷ ts) before (Here (TooMany at)) begun unread is more none = absurd more
+ended_behind around tokens (t ∷ ts) before (Here Memory) begun unread is more none = absurd more
+ended_behind around tokens (t ∷ ts) before End begun unread is more none = absurd more
 
-pub ended : (around : Around) (tokens behind before : List Token) (stop : Stop) (s : Simple) → is_keyword_next 12 before ≡ false → before ≡ tokens ++ behind → simple_tokens s ≡ tokens → IsMore behind stop
+pub ended : (around : Around) (tokens behind before : List Token) (stop : Stop) (s : Simple) → has_place around s ≡ true → simple_depth s ≤ 100 → is_keyword_next 12 before ≡ false → before ≡ tokens ++ behind → simple_tokens s ≡ tokens → IsMore behind stop
     → ((t : Token) (ts more : List Token) → behind ≡ t ∷ ts → ReadsNone (tokens ++ t ∷ more)) → SimpleRefused around before stop
-ended around tokens behind before stop s other is spells more none = ended_behind around tokens behind before stop s
-    (λ t ts left next. other_statement before tokens t ts (Unexpected left) other (is ∙ ap (λ us. tokens ++ us) next)) is spells more none
+ended around tokens behind before stop s so fits other is spells more none = ended_behind around tokens behind before stop (spelled (has_place around) s tokens so fits spells)
+    (λ t ts left next. other_statement before tokens t ts (Unexpected left) other (is ∙ ap (λ us. tokens ++ us) next)) is more none
 
 -- a word that no statement may begin with there
 pub misplaced : (around : Around) (t : Token) (behind : List Token) (left : ℕ) → left ≡ length behind
@@ -225,7 +263,7 @@ misplaced around t behind left named amiss = record {
   behind = behind;
   before_is = refl;
   left_is = named;
-  begins = nothing_yet t;
+  begins = nothing_yet around;
   goes_on = tt;
   unread = record { there = λ spot inside at e more same. absurd (nothing_first spot inside at) };
   none = λ more. record { steps = 0; only = λ n. amiss (n + 0) more };

@@ -1,5 +1,5 @@
 -- `assert` and `del`: what is read, and how it is refused.
-use Rattle.std.proofs.Common.{◌≡◌, inr, ℕ, ◌+◌, true, false, List, [], ◌∷◌, ◌++◌, Option, Some, None, option_map, option_and_then, is_none, is_some, refl, ap, sym, ◌∙◌, arith, subst, append_assoc, append-nil}
+use Rattle.std.proofs.Common.{◌≡◌, inr, ℕ, ◌+◌, ◌≤◌, Bool, true, false, List, [], ◌∷◌, ◌++◌, Option, Some, None, option_map, option_and_then, is_none, is_some, refl, ap, sym, ◌∙◌, arith, subst, append_assoc, append-nil}
 use Rattle.std.proofs.lemmas.Option.{same_Some}
 use Rattle.prov_base.specs.declared.place.Pos.{Pos}
 use Rattle.py_lines.specs.declared.parts.Token.{Token}
@@ -16,19 +16,20 @@ use Rattle.py_grammar.specs.declared.part.Part.{Part}
 use Rattle.py_grammar.specs.Concrete.{Spot, Expr}
 use Rattle.py_grammar.specs.Tokens.{token, expr_tokens}
 use Rattle.py_grammar.specs.Trees.{expr_tree}
+use Rattle.py_grammar.specs.Depth.{expr_depth}
 use Rattle.py_grammar.specs.Lies.{expr_lies, one_target_lies, simple_lies}
 use Rattle.py_grammar.specs.Written.{OneTarget, named, item, field, Simple, assert, assert_message, del}
 use Rattle.py_grammar.specs.StatementTrees.{one_target_tree, simple_form}
 use Rattle.py_grammar.specs.WellPlaced.{Around, may_go, form_stands}
 use Rattle.py_grammar.specs.Reader.{Read, is_sign, spot_of, read_expr}
 use Rattle.py_grammar.specs.StatementReader.{expr_target, whole, after_test}
-use Rattle.py_grammar.specs.Parsed.{IsDeep, Only, Finds, Begins, Shown, Found, Refused, Taken, is_sign_next, is_form, expr_part, IsAtFirst}
-use Rattle.py_grammar.specs.ParsedSimple.{leaving_none, BeginsSimple, UnreadDel, SimpleEnds, SimpleRefused, FoundBehindAny, RefusedBehindAny, IsMore, target_form}
+use Rattle.py_grammar.specs.Parsed.{IsDeep, Only, Finds, Shown, Found, Refused, Taken, is_sign_next, is_form, expr_part, IsAtFirst}
+use Rattle.py_grammar.specs.ParsedSimple.{leaving_none, StartsSimple, BeginsSimple, has_place, UnreadDel, SimpleEnds, SimpleRefused, FoundBehindAny, RefusedBehindAny, IsMore, target_form}
 use Rattle.py_grammar.proofs.Reading.{expr_reads, if_false}
-use Rattle.py_grammar.proofs.Refusals.{only_is, deep_same, deep_beside_left, deep_beside_right, max_below}
+use Rattle.py_grammar.proofs.Refusals.{only_is, begins_whole, deep_same, deep_beside_left, deep_beside_right, max_below}
 use Rattle.py_grammar.proofs.TargetForms.{target_is, target_deep, target_lies_so, target_spelled, target_tree_is}
 use Rattle.py_grammar.proofs.ExprForms.{is_attr_tree}
-use Rattle.py_grammar.proofs.SimpleParts.{Turns, turned_none, turns_same, as_whole, map_whole, only_whole, only_map, only_if_simple, none_found, begins_part, refused_part, refused_behind, ended, ended_behind, expr_all, expr_goes}
+use Rattle.py_grammar.proofs.SimpleParts.{Turns, turned_none, turns_same, as_whole, map_whole, only_whole, only_map, only_if_simple, none_found, expr_within, expr_fits, Carries, begins_part, refused_part, refused_behind, ended, ended_behind, expr_all, expr_goes}
 
 -- ---- `assert`
 
@@ -47,14 +48,14 @@ pub assert_refused : (behind : List Token) (stop : Stop) → Refused expr_part 1
 assert_refused behind stop is = record {
   there = λ around spot.
       refused_part around expr_part 100 (token (Keyword 5) spot ∷ []) behind (token (Keyword 5) spot ∷ behind) stop (assert_turn spot) refl refl
-      (begins_part expr_part (token (Keyword 5) spot ∷ []) (assert spot) (λ e. refl)) (λ more first. assert_turns spot more)
+      (begins_part (has_place around) expr_part 100 (token (Keyword 5) spot ∷ []) (assert spot) (λ e. refl) (λ e. refl) (λ e at low. low)) (λ more first. assert_turns spot more)
       (λ why n e left deep. assert_deep why (n + 0) spot e left deep) is;
 }
 
 pub assert_more : (behind after : List Token) (part : Part) (stop : Stop) → Found expr_part expr_tree 7 100 behind part after → is_sign_next 6 after ≡ false → IsMore after stop → RefusedBehindAny 5 behind stop
 assert_more behind after part stop f other more = record {
   there = λ around spot.
-      ended around (token (Keyword 5) spot ∷ expr_tokens f.written) after (token (Keyword 5) spot ∷ behind) stop (assert spot f.written) refl (ap (λ ts. token (Keyword 5) spot ∷ ts) f.before_is) refl more
+      ended around (token (Keyword 5) spot ∷ expr_tokens f.written) after (token (Keyword 5) spot ∷ behind) stop (assert spot f.written) refl (expr_fits f) refl (ap (λ ts. token (Keyword 5) spot ∷ ts) f.before_is) refl more
       (λ t ts rest is. turned_none expr_part _ (expr_tokens f.written ++ t ∷ rest) (t ∷ rest) (assert_turn spot) f.written (expr_reads f.written).steps (assert_turns spot _) (expr_goes f t ts rest is)
       (λ n. if_false (is_sign 6 t.kind) _ _ (subst (λ (ts : List Token). is_sign_next 6 ts ≡ false) is other)));
 }
@@ -91,7 +92,8 @@ message_refused comma_at behind middle after part stop f k is = record {
       let w : Token = token (Keyword 5) spot in
       refused_part around expr_part 100 (w ∷ (expr_tokens e ++ c ∷ [])) after (w ∷ behind) stop (message_turn spot e k.spot) refl
       (ap (λ ts. w ∷ ts) (f.before_is ∙ ap (λ ts. expr_tokens e ++ ts) k.before_is ∙ sym (append_assoc (expr_tokens e) (c ∷ []) after)))
-      (begins_part expr_part (w ∷ (expr_tokens e ++ c ∷ [])) (assert_message spot e k.spot) (λ m. ap (λ ts. w ∷ ts) (sym (append_assoc (expr_tokens e) (c ∷ []) (expr_tokens m)))))
+      (begins_part (has_place around) expr_part 100 (w ∷ (expr_tokens e ++ c ∷ [])) (assert_message spot e k.spot) (λ m. refl) (λ m. ap (λ ts. w ∷ ts) (sym (append_assoc (expr_tokens e) (c ∷ []) (expr_tokens m))))
+      (λ m at low. max_below _ _ 100 (expr_within e (expr_fits f) at) low))
       (λ more first. turns_same expr_part _ (w ∷ (expr_tokens e ++ c ∷ more)) more _ (ap (λ ts. w ∷ ts) (append_assoc (expr_tokens e) (c ∷ []) more)) (message_turns spot e k.spot more))
       (λ why n m left deep. only_whole _ (λ m. Some (assert_message spot e k.spot m)) n m left (deep_beside_right why 100 (expr_lies e) (expr_lies m) deep))
       is;
@@ -104,7 +106,7 @@ message_more comma_at behind middle after last part message stop f k m more = re
       let e = f.written in
       let c : Token = token (Sign 6) k.spot in
       let w : Token = token (Keyword 5) spot in
-      ended around (w ∷ (expr_tokens e ++ (c ∷ expr_tokens m.written))) last (w ∷ behind) stop (assert_message spot e k.spot m.written) refl
+      ended around (w ∷ (expr_tokens e ++ (c ∷ expr_tokens m.written))) last (w ∷ behind) stop (assert_message spot e k.spot m.written) refl (max_below _ _ 100 (expr_fits f) (expr_fits m)) refl
       (ap (λ ts. w ∷ ts) (f.before_is ∙ ap (λ ts. expr_tokens e ++ ts) (k.before_is ∙ ap (λ ts. c ∷ ts) m.before_is) ∙ sym (append_assoc (expr_tokens e) (c ∷ expr_tokens m.written) last))) refl more
       (λ t ts rest is. turned_none expr_part _ (expr_tokens m.written ++ t ∷ rest) (t ∷ rest) (message_turn spot e k.spot) m.written (expr_reads m.written).steps
       (turns_same expr_part _ _ _ _ (ap (λ ts. w ∷ ts) (append_assoc (expr_tokens e) (c ∷ expr_tokens m.written) (t ∷ rest))) (message_turns spot e k.spot (expr_tokens m.written ++ t ∷ rest)))
@@ -137,8 +139,14 @@ del_turns spot more = record { before = 0; behind = 0; turns = λ n. by n (read_
     by n (Some (e, [])) = refl
     by n (Some (e, t ∷ ts)) = refl
 
-del_begins : (spot : Spot) (tokens : List Token) → Begins expr_part tokens → BeginsSimple (token (Keyword 12) spot ∷ tokens)
-del_begins spot tokens b = inr (record { spot = spot; some = b.some; more = b.more; tokens_are = ap (λ ts. token (Keyword 12) spot ∷ ts) b.tokens_are })
+del_begins : (is : Simple → Bool) (spot : Spot) → Carries expr_part 100 (token (Keyword 12) spot ∷ []) (BeginsSimple is) (StartsSimple is)
+del_begins is spot = record {
+  within = λ tokens b. inr (λ at. let c = b at in record { spot = spot; some = c.some; more = c.more; tokens_are = ap (λ ts. token (Keyword 12) spot ∷ ts) c.tokens_are; within = c.within });
+  plain = λ tokens b. inr (record { spot = spot; some = b.some; more = b.more; tokens_are = ap (λ ts. token (Keyword 12) spot ∷ ts) b.tokens_are });
+}
+
+del_begun : (is : Simple → Bool) (spot : Spot) (e : Expr) → expr_depth e ≤ 100 → BeginsSimple is (token (Keyword 12) spot ∷ expr_tokens e)
+del_begun is spot e fits = (del_begins is spot).within (expr_tokens e) (begins_whole expr_part 100 e (expr_within e fits))
 
 del_deep : (why : Stop) (spot : Spot) (e : Expr) → IsDeep why 100 (expr_lies e) → Only (λ s. IsDeep why 100 (simple_lies s)) (leaving_none (del_of spot e))
 del_deep why spot e deep = by (expr_target e) refl
@@ -182,7 +190,7 @@ pub del_refused : (behind : List Token) (stop : Stop) → Refused expr_part 100 
 del_refused behind stop is = record {
   there = λ around spot.
       refused_behind around expr_part 100 (token (Keyword 12) spot ∷ []) behind (token (Keyword 12) spot ∷ behind) stop (del_turn spot) refl (λ fault s. del_unread spot s)
-      (del_begins spot) (λ more first. del_turns spot more) (λ why n e left deep. only_whole _ (del_of spot) n e left (del_deep why spot e deep)) is;
+      (del_begins (has_place around) spot) (λ more first. del_turns spot more) (λ why n e left deep. only_whole _ (del_of spot) n e left (del_deep why spot e deep)) is;
 }
 
 -- the expression was read, and is none that can be deleted
@@ -190,14 +198,11 @@ del_stops : (behind after : List Token) (part : Part) (stop : Stop) → (f : Fou
     → ((around : Around) (spot : Spot) → Only (λ s. form_stands around (simple_form s) ≡ false) (leaving_none (del_of spot f.written))) → RefusedBehindAny 12 behind stop
 del_stops behind after part stop f first amiss = record { there = λ around spot. by around spot after stop refl first }
   where
-    begins : (spot : Spot) → BeginsSimple (token (Keyword 12) spot ∷ expr_tokens f.written)
-    begins spot = del_begins spot (expr_tokens f.written) (record { some = f.written; more = []; tokens_are = sym (append-nil (expr_tokens f.written)) })
-
     by : (around : Around) (spot : Spot) (rest : List Token) (stop : Stop) → after ≡ rest → IsAtFirst rest stop → SimpleRefused around (token (Keyword 12) spot ∷ behind) stop
     by around spot [] (Here fault) is first = absurd (let no : Here fault ≡ End = first in cc)
     by around spot [] End is first = subst (λ (ts : List Token). SimpleEnds around (token (Keyword 12) spot ∷ ts) End) (sym (expr_all f is))
         (record {
-          begins = begins spot;
+          begins = del_begun (has_place around) spot f.written (expr_fits f);
           none = record {
             steps = (expr_reads f.written).steps;
             only = λ n. only_is _ _ _ (ap leaving_none (ap (λ o. option_map (del spot) (option_and_then expr_target (whole o)))
@@ -210,7 +215,7 @@ del_stops behind after part stop f first amiss = record { there = λ around spot
       behind = ts;
       before_is = ap (λ us. token (Keyword 12) spot ∷ us) (f.before_is ∙ ap (λ us. expr_tokens f.written ++ us) is);
       left_is = first;
-      begins = begins spot;
+      begins = del_begun (has_place around) spot f.written (expr_fits f);
       goes_on = tt;
       unread = del_goes spot f t ts (Unexpected left) is;
       none = λ more. none_found _ _ (turned_none expr_part _ (expr_tokens f.written ++ t ∷ more) (t ∷ more) (del_turn spot) f.written (expr_reads f.written).steps (del_turns spot _) (expr_goes f t ts more is) (λ n. refl));
@@ -250,11 +255,10 @@ del_target f fine = a_form (expr_target f.written) (sym f.form_is ∙ fine)
 pub del_is_target : (behind after : List Token) (part : Part) → Found expr_part expr_tree 7 100 behind part after → is_none part.wrong ≡ true → is_some (target_form (expr_of part.expr)) ≡ true
 del_is_target behind after part f fine = let t = del_target f fine in ap (λ e. is_some (target_form e)) f.tree_is ∙ ap is_some (target_tree_is f.written t.0 t.1)
 
-pub del_more : (behind after : List Token) (part : Part) (stop : Stop) → Found expr_part expr_tree 7 100 behind part after → is_none part.wrong ≡ true → IsMore after stop → RefusedBehindAny 12 behind stop
-del_more behind after part stop f fine more = let t = del_target f fine in record {
+pub del_more : (behind after : List Token) (part : Part) (stop : Stop) → Found expr_part expr_tree 7 100 behind part after → IsMore after stop → RefusedBehindAny 12 behind stop
+del_more behind after part stop f more = record {
   there = λ around spot.
-      ended_behind around (token (Keyword 12) spot ∷ expr_tokens f.written) after (token (Keyword 12) spot ∷ behind) stop (del spot t.0) (λ t ts left is. del_goes spot f t ts (Unexpected left) is) (ap (λ ts. token (Keyword 12) spot ∷ ts) f.before_is)
-      (ap (λ ts. token (Keyword 12) spot ∷ ts) (sym (target_spelled f.written t.0 t.1))) more
+      ended_behind around (token (Keyword 12) spot ∷ expr_tokens f.written) after (token (Keyword 12) spot ∷ behind) stop (del_begun (has_place around) spot f.written (expr_fits f)) (λ t ts left is. del_goes spot f t ts (Unexpected left) is) (ap (λ ts. token (Keyword 12) spot ∷ ts) f.before_is) more
       (λ t ts rest is. turned_none expr_part _ (expr_tokens f.written ++ t ∷ rest) (t ∷ rest) (del_turn spot) f.written (expr_reads f.written).steps (del_turns spot _) (expr_goes f t ts rest is) (λ n. refl));
 }
 

@@ -24,12 +24,15 @@ use Rattle.py_grammar.specs.LineReader.{Head, if_head, elif_head, while_head, ex
 use Rattle.py_grammar.specs.Reader.{Read, go_on, is_keyword, is_sign, spot_of, begins_expr, read_expr}
 use Rattle.py_grammar.specs.Parsed.{IsDeep, Refused, Found, expr_part}
 use Rattle.py_grammar.specs.ParsedHead.{Context, Took, naming_part, word_may, inner_around, behind_stands, head_stands, behind_depth, behind_lies, head_depth, head_lies, behind_in, IsWhat, OpeningFound, OpeningRefused}
-use Rattle.py_grammar.proofs.Stops.{some_spot}
+use Rattle.py_grammar.proofs.Stops.{some_spot, spot_at}
+use Rattle.py_grammar.proofs.Lying.{expr_low}
+use Rattle.py_grammar.proofs.SimpleParts.{expr_within, expr_fits}
 use Rattle.py_grammar.proofs.Reading.{if_true, if_false}
 use Rattle.py_grammar.proofs.Refusals.{deeper}
 use Rattle.py_grammar.proofs.HeadParts.{OnlyHead, HeadTurns, turns_on, colon_on, expr_is_read, starts_same, begins_part_head, refused_part_head, past_opening}
 use Rattle.py_grammar.proofs.NoDel.{is_simple_head}
 use Rattle.py_grammar.proofs.Unread.{passes_word}
+use Rattle.py_grammar.proofs.LineFirsts.{both_true}
 
 -- ---- what stands behind the `:`
 
@@ -99,15 +102,18 @@ test_found word head what is c before after part f spot =
       low = let high = f.height_is in let low = f.fits in omega (arith, high, low);
       depth_is = λ colon behind. is.depth_is spot f.written colon behind;
       lies_behind = λ colon s at. let same = is.lies_is spot f.written colon (Some s) at in let high = le-max_right (expr_lies f.written at) (simple_lies s at) in omega (arith, same, high);
+      lies_within = λ colon s at. let same = is.lies_is spot f.written colon (Some s) at in let low = expr_low f.written at in omega (arith, same, low);
       stands = λ given colon behind. is.stands c given spot f.written colon behind;
     }
 
 test_refused : (word : ℕ) (head : Spot → Expr → Spot → Option Simple → Head) (what : BuiltExpr → What) → Tested word head what → (c : Context) (before : List Token) (stop : Stop)
     → Refused expr_part 100 before stop → OpeningRefused c word before stop
 test_refused word head what is c before stop refused = record {
-  there = λ given limit spot.
+  there = λ given limit spot may.
       refused_part_head c given limit expr_part 100 (token (Keyword word) spot ∷ []) before (token (Keyword word) spot ∷ before) stop (test_turn head spot) refl
-      (begins_part_head expr_part (token (Keyword word) spot ∷ []) (λ e. head spot e some_spot None) (λ e. colon_tokens some_spot None) (λ e. is.compound spot e some_spot None) (λ e. is.behind_is spot e some_spot None) (λ e. is.tokens_are spot e some_spot None))
+      (begins_part_head c given expr_part 100 (token (Keyword word) spot ∷ []) (λ at e. head spot e (spot_at at) None) (λ at e. colon_tokens (spot_at at) None) (λ at e. is.stands c given spot e (spot_at at) None ∙ both_true _ true may refl)
+      (λ at e. is.compound spot e (spot_at at) None) (λ at e. is.behind_is spot e (spot_at at) None) (λ at e. is.tokens_are spot e (spot_at at) None)
+      (λ at other apart e low. let same = is.lies_is spot e (spot_at at) None other in omega (arith, same, low)))
       (passes_word word spot [] before is.other)
       (test_turns word head what is spot before)
       (λ why n e left deep. deep_colon why (n + 0) (head spot e) left 100 (expr_lies e) (expr_lies e) (λ colon behind at. is.lies_is spot e colon behind at) (λ at some. omega arith) deep) refused;
@@ -141,9 +147,10 @@ with_turns spot next = record { before = 0; behind = 0; turns = λ n more first.
 
 pub with_refused : (c : Context) (before : List Token) (stop : Stop) → Refused expr_part 100 before stop → OpeningRefused c 33 before stop
 with_refused c before stop refused = record {
-  there = λ given limit spot.
+  there = λ given limit spot may.
       refused_part_head c given limit expr_part 100 (token (Keyword 33) spot ∷ []) before (token (Keyword 33) spot ∷ before) stop (with_turn spot) refl
-      (begins_part_head expr_part (token (Keyword 33) spot ∷ []) (λ e. with_head spot e no_naming some_spot None) (λ e. colon_tokens some_spot None) (λ e. refl) (λ e. refl) (λ e. refl))
+      (begins_part_head c given expr_part 100 (token (Keyword 33) spot ∷ []) (λ at e. with_head spot e no_naming (spot_at at) None) (λ at e. colon_tokens (spot_at at) None) (λ at e. both_true _ true may refl) (λ at e. refl) (λ at e. refl) (λ at e. refl)
+      (λ at other apart e low. omega (arith, low)))
       (passes_word 33 spot [] before refl) (with_turns spot before) (λ why n e left deep. deep_naming why n spot e left deep) refused;
 }
   where
@@ -164,10 +171,11 @@ called_turns spot before after part f =
 
 pub with_name_refused : (c : Context) (before after : List Token) (part : Part) (stop : Stop) → Found expr_part expr_tree 7 100 before part after → Refused naming_part 100 after stop → OpeningRefused c 33 before stop
 with_name_refused c before after part stop f refused = record {
-  there = λ given limit spot.
+  there = λ given limit spot may.
       refused_part_head c given limit naming_part 100 (token (Keyword 33) spot ∷ expr_tokens f.written) after (token (Keyword 33) spot ∷ before) stop (λ n. called_turn spot f.written (n + (expr_is_read f).steps))
       (ap (λ ts. token (Keyword 33) spot ∷ ts) f.before_is)
-      (begins_part_head naming_part (token (Keyword 33) spot ∷ expr_tokens f.written) (λ called. with_head spot f.written called some_spot None) (λ called. colon_tokens some_spot None) (λ called. refl) (λ called. refl) (λ called. refl))
+      (begins_part_head c given naming_part 100 (token (Keyword 33) spot ∷ expr_tokens f.written) (λ at called. with_head spot f.written called (spot_at at) None) (λ at called. colon_tokens (spot_at at) None) (λ at called. both_true _ true may refl)
+      (λ at called. refl) (λ at called. refl) (λ at called. refl) (λ at other apart called any. let low = expr_within f.written (expr_fits f) other in omega (arith, low)))
       (passes_word 33 spot (expr_tokens f.written) after refl)
       (called_turns spot before after part f)
       (λ why n called left deep. deep_colon why ((n + (expr_is_read f).steps) + 0) (with_head spot f.written called) left 100 (λ at. 0) (expr_lies f.written) (λ colon behind at. refl) (λ at some. omega arith) deep) refused;
@@ -193,6 +201,7 @@ with_found c before middle after part bound f took spot =
       low = let high = f.height_is in let low = f.fits in omega (arith, high, low);
       depth_is = λ colon behind. refl;
       lies_behind = λ colon s at. le-max_right _ (simple_lies s at);
+      lies_within = λ colon s at. let low = expr_low f.written at in omega (arith, low);
       stands = λ given colon behind. refl;
     }
 
@@ -215,6 +224,7 @@ except_every c before other spot = record {
   low = omega arith;
   depth_is = λ colon behind. refl;
   lies_behind = λ colon s at. le-max_right _ (simple_lies s at);
+  lies_within = λ colon s at. omega arith;
   stands = λ given colon behind. refl;
 }
 
@@ -236,10 +246,10 @@ except_turns spot next begins = record {
 
 pub except_refused : (c : Context) (before : List Token) (stop : Stop) → begins_expr before ≡ true → Refused expr_part 100 before stop → OpeningRefused c 15 before stop
 except_refused c before stop begins refused = record {
-  there = λ given limit spot.
+  there = λ given limit spot may.
       refused_part_head c given limit expr_part 100 (token (Keyword 15) spot ∷ []) before (token (Keyword 15) spot ∷ before) stop (except_turn spot) refl
-      (begins_part_head expr_part (token (Keyword 15) spot ∷ []) (λ e. except_head spot (one_kind e no_naming) some_spot None) (λ e. colon_tokens some_spot None)
-      (λ e. refl) (λ e. refl) (λ e. ap (λ ts. token (Keyword 15) spot ∷ ts) (append_assoc (expr_tokens e) [] (colon_tokens some_spot None))))
+      (begins_part_head c given expr_part 100 (token (Keyword 15) spot ∷ []) (λ at e. except_head spot (one_kind e no_naming) (spot_at at) None) (λ at e. colon_tokens (spot_at at) None)
+      (λ at e. both_true _ true may refl) (λ at e. refl) (λ at e. refl) (λ at e. ap (λ ts. token (Keyword 15) spot ∷ ts) (append_assoc (expr_tokens e) [] (colon_tokens (spot_at at) None))) (λ at other apart e low. omega (arith, low)))
       (passes_word 15 spot [] before refl) (except_turns spot before begins) (λ why n e left deep. deep_naming why n spot e left deep) refused;
 }
   where
@@ -261,11 +271,12 @@ class_turns spot before after part begins f =
 
 pub except_name_refused : (c : Context) (before after : List Token) (part : Part) (stop : Stop) → begins_expr before ≡ true → Found expr_part expr_tree 7 100 before part after → Refused naming_part 100 after stop → OpeningRefused c 15 before stop
 except_name_refused c before after part stop begins f refused = record {
-  there = λ given limit spot.
+  there = λ given limit spot may.
       refused_part_head c given limit naming_part 100 (token (Keyword 15) spot ∷ expr_tokens f.written) after (token (Keyword 15) spot ∷ before) stop (λ n. class_turn spot f.written (n + (expr_is_read f).steps))
       (ap (λ ts. token (Keyword 15) spot ∷ ts) f.before_is)
-      (begins_part_head naming_part (token (Keyword 15) spot ∷ expr_tokens f.written) (λ called. except_head spot (one_kind f.written called) some_spot None) (λ called. colon_tokens some_spot None)
-      (λ called. refl) (λ called. refl) (λ called. ap (λ ts. token (Keyword 15) spot ∷ ts) (append_assoc (expr_tokens f.written) (naming_tokens called) (colon_tokens some_spot None))))
+      (begins_part_head c given naming_part 100 (token (Keyword 15) spot ∷ expr_tokens f.written) (λ at called. except_head spot (one_kind f.written called) (spot_at at) None) (λ at called. colon_tokens (spot_at at) None)
+      (λ at called. both_true _ true may refl) (λ at called. refl) (λ at called. refl) (λ at called. ap (λ ts. token (Keyword 15) spot ∷ ts) (append_assoc (expr_tokens f.written) (naming_tokens called) (colon_tokens (spot_at at) None)))
+      (λ at other apart called any. let low = expr_within f.written (expr_fits f) other in omega (arith, low)))
       (passes_word 15 spot (expr_tokens f.written) after refl)
       (class_turns spot before after part begins f)
       (λ why n called left deep. deep_colon why ((n + (expr_is_read f).steps) + 0) (except_head spot (one_kind f.written called)) left 100 (λ at. 0) (expr_lies f.written) (λ colon behind at. refl) (λ at some. omega arith) deep) refused;
@@ -291,5 +302,6 @@ except_found c before middle after part bound begins f took spot =
       low = let high = f.height_is in let low = f.fits in omega (arith, high, low);
       depth_is = λ colon behind. refl;
       lies_behind = λ colon s at. le-max_right _ (simple_lies s at);
+      lies_within = λ colon s at. let low = expr_low f.written at in omega (arith, low);
       stands = λ given colon behind. refl;
     }

@@ -10,10 +10,11 @@ use Rattle.py_grammar.specs.Tokens.{token, sum_tokens}
 use Rattle.py_grammar.specs.Lies.{sum_lies}
 use Rattle.py_grammar.specs.Written.{OneTarget}
 use Rattle.py_grammar.specs.Reader.{is_keyword}
+use Rattle.py_grammar.specs.WellPlaced.{Around}
 use Rattle.py_grammar.specs.Parsed.{IsDeep}
 use Rattle.py_grammar.specs.ParsedRows.{first_token}
-use Rattle.py_grammar.specs.ParsedSimple.{BeginsSimple, UnreadDel}
-use Rattle.py_grammar.specs.ParsedHead.{passed_tokens, passed_lies, room_behind, IsPast, UnreadLine}
+use Rattle.py_grammar.specs.ParsedSimple.{UnreadDel}
+use Rattle.py_grammar.specs.ParsedHead.{passed_tokens, passed_lies, room_behind, IsPast, BeginsPlaced, UnreadLine}
 use Rattle.py_grammar.proofs.Firsts.{keyword_is}
 use Rattle.py_grammar.proofs.LineFirsts.{same_first, same_behind, not_nothing}
 use Rattle.py_grammar.proofs.NoDel.{has_del, without, del_absent, del_first}
@@ -74,8 +75,8 @@ del_behind (f ∷ front) tokens (o ∷ opened) spot inside clear is =
     del_behind front tokens opened spot inside (no_rest (is_keyword 12 f.kind) (has_del front) clear) (same_behind f o (front ++ tokens) (opened ++ token (Keyword 12) spot ∷ inside) is)
 
 -- what is read of a statement behind the `del` that it begins with
-unread_first : (tokens opened : List Token) (spot : Spot) (inside : List Token) → BeginsSimple tokens → tokens ≡ opened ++ token (Keyword 12) spot ∷ inside → tokens ≡ token (Keyword 12) spot ∷ inside
-unread_first tokens opened spot inside begun is = is ∙ ap (λ ts. ts ++ token (Keyword 12) spot ∷ inside) (del_first tokens opened spot inside begun is)
+unread_first : (around : Around) (tokens opened : List Token) (spot : Spot) (inside : List Token) → BeginsPlaced around tokens → tokens ≡ opened ++ token (Keyword 12) spot ∷ inside → tokens ≡ token (Keyword 12) spot ∷ inside
+unread_first around tokens opened spot inside begun is = is ∙ ap (λ ts. ts ++ token (Keyword 12) spot ∷ inside) (del_first around tokens opened spot inside begun is)
 
 -- ---- lines
 
@@ -91,9 +92,9 @@ pub unread_at_first : (t : Token) (fault : Fault) → UnreadLine [] t fault
 unread_at_first t fault = unread_clear [] t fault refl (λ spot inside is passed s more same. absurd (not_nothing (token (Keyword 17) spot) inside (sym is)))
 
 -- a simple statement
-pub unread_simple : (front : List Token) (t : Token) (fault : Fault) → BeginsSimple front → UnreadDel front t fault → ((spot : Spot) (inside : List Token) → front ≡ token (Keyword 17) spot ∷ inside → ⊥) → UnreadLine front t fault
-unread_simple front t fault begun unread other = record {
-  del_unread = λ opened spot inside is e more same. unread.there spot inside (unread_first front opened spot inside begun is) e more same;
+pub unread_simple : (around : Around) (front : List Token) (t : Token) (fault : Fault) → BeginsPlaced around front → UnreadDel front t fault → ((spot : Spot) (inside : List Token) → front ≡ token (Keyword 17) spot ∷ inside → ⊥) → UnreadLine front t fault
+unread_simple around front t fault begun unread other = record {
+  del_unread = λ opened spot inside is e more same. unread.there spot inside (unread_first around front opened spot inside begun is) e more same;
   for_unread = λ spot inside is passed s more same. absurd (other spot inside is);
 }
 
@@ -105,10 +106,10 @@ pub passes_past : (front rest : List Token) → IsPast front → PassesFor front
 passes_past front rest past tokens t behind fault first spot inside is passed s more same = absurd (past.no_for spot tokens inside is passed s (t ∷ more) same)
 
 -- a statement behind the `:`
-pub unread_behind : (front : List Token) (colon : Token) (tokens : List Token) (t : Token) (fault : Fault) → IsPast front → is_keyword 12 colon.kind ≡ false → BeginsSimple tokens → UnreadDel tokens t fault → UnreadLine (front ++ colon ∷ tokens) t fault
-unread_behind front colon tokens t fault past other begun unread = record {
+pub unread_behind : (around : Around) (front : List Token) (colon : Token) (tokens : List Token) (t : Token) (fault : Fault) → IsPast front → is_keyword 12 colon.kind ≡ false → BeginsPlaced around tokens → UnreadDel tokens t fault → UnreadLine (front ++ colon ∷ tokens) t fault
+unread_behind around front colon tokens t fault past other begun unread = record {
   del_unread = λ opened spot inside is e more same.
       let d = del_behind (front ++ colon ∷ []) tokens opened spot inside (without front (colon ∷ []) (past_clear front past) (ap (λ b. b || false) other)) (append_assoc front (colon ∷ []) tokens ∙ is) in
-      unread.there spot inside (unread_first tokens d.opened spot inside begun d.is) e more same;
+      unread.there spot inside (unread_first around tokens d.opened spot inside begun d.is) e more same;
   for_unread = λ spot inside is passed s more same. absurd (past.no_for spot (colon ∷ tokens) inside is passed s (t ∷ more) same);
 }

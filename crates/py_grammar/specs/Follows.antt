@@ -1,4 +1,4 @@
--- What a statement's first line begins, and what may follow a statement. No public clause speaks of it.
+-- What a statement's first line begins, and what may follow a statement. Of it public clauses cite `Below` alone.
 use Rattle.std.specs.Prelude.{◌≡◌, ⊤, ◌⊎◌, ℕ, ◌<◌, ◌≤◌, Bool, true, false, ◌||◌, List, [], ◌∷◌, ◌++◌, Option, Some, None}
 use Rattle.py_lines.specs.declared.parts.Line.{Line}
 use Rattle.py_grammar.specs.Written.{Simple, Stmt, simple, if_stmt, while_stmt, for_stmt, try_stmt, with_stmt, def_stmt, class_stmt, Suite, on_line, block, DefSuite, def_line, def_block}

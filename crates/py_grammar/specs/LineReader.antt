@@ -1,5 +1,5 @@
--- A reader of the tokens of one line: a simple statement, or what begins a compound one or a part of it. No public clause
--- speaks of it.
+-- A reader of the tokens of one line: a simple statement, or what begins a compound one or a part of it. Of it public clauses cite
+-- `Head` and `head_tokens` alone.
 use Rattle.std.specs.Prelude.{ℕ, zero, suc, ◌==◌, Bool, true, false, List, [], ◌∷◌, ◌++◌, codes, Option, Some, None, option_map, if◌then◌else◌}
 use Rattle.py_lines.specs.declared.parts.Token.{Token}
 use Rattle.py_lines.specs.declared.parts.TokenKind.{TokenKind}

@@ -1,4 +1,4 @@
--- What the parser's functions answer of the tokens before them. No public clause speaks of it.
+-- What the parser's functions answer of the tokens before them.
 use Rattle.std.specs.Prelude.{◌≡◌, ⊤, ℕ, ◌+◌, ◌<◌, ◌≤◌, Bool, true, false, List, [], ◌∷◌, ◌++◌, length, Option, Some, None, is_some, is_none, ◌==◌, if◌then◌else◌}
 use Rattle.prov_base.specs.declared.place.Pos.{Pos}
 use Rattle.py_lines.specs.declared.parts.Token.{Token}
@@ -138,20 +138,31 @@ pub record Begins {A : Type 0} (p : Production A) (front : List Token) : Type 0 
   pub more : List Token
   pub tokens_are : p.tokens some ≡ front ++ more
 
+-- Some such part has these first tokens, and what begins before the rest lies within the room: whatever place is chosen for
+-- the tokens that are put behind, expressions that begin elsewhere lie so.
+pub record Completes {A : Type 0} (p : Production A) (room : ℕ) (front : List Token) (at : Pos) : Type 0 where
+  pub some : A
+  pub more : List Token
+  pub tokens_are : p.tokens some ≡ front ++ more
+  pub within : (other : Pos) → (other ≡ at → ⊥) → p.lies some other ≤ room
+
+abbrev pub BeginsWithin : {A : Type 0} → Production A → ℕ → List Token → Type 0
+BeginsWithin p room front = (at : Pos) → Completes p room front at
+
 -- with TooDeep, what is asked for goes on with the token that shows it
 abbrev pub GoesOn : (begins : List Token → Type 0) → List Token → Token → Fault → Type 0
 GoesOn begins front t (TooDeep place) = begins (front ++ t ∷ [])
 GoesOn begins front t fault = ⊤
 
--- The tokens before this one begin such a part, and those up to and with it begin none: with TooDeep, some that there is no
--- room for.
+-- The tokens before this one begin such a part, in which nothing lies too deep yet, and those up to and with it begin none:
+-- with TooDeep, some that there is no room for.
 pub record Shown {A : Type 0} (p : Production A) (room : ℕ) (before : List Token) (fault : Fault) : Type 0 where
   pub front : List Token
   pub shown_by : Token
   pub behind : List Token
   pub before_is : before ≡ front ++ shown_by ∷ behind
   pub left_is : ShowsAt behind fault
-  pub begins : Begins p front
+  pub begins : BeginsWithin p room front
   pub goes_on : GoesOn (Begins p) front shown_by fault
   pub none : (more : List Token) → Finds (λ a. IsDeep (Here fault) room (p.lies a)) p.read (front ++ shown_by ∷ more)
 
@@ -159,7 +170,7 @@ pub record Shown {A : Type 0} (p : Production A) (room : ℕ) (before : List Tok
 abbrev pub Refused : {A : Type 0} → Production A → ℕ → List Token → Stop → Type 0
 Refused p room before (Here Memory) = ⊤
 Refused p room before (Here fault) = Shown p room before fault
-Refused p room before End = Begins p before × Finds (λ a. ⊥) p.read before
+Refused p room before End = BeginsWithin p room before × Finds (λ a. ⊥) p.read before
 
 -- such a part was read, and what stands behind it does not go on with it at this level
 pub record Found {A : Type 0} (p : Production A) (tree : A → ExprTree) (level room : ℕ) (before : List Token) (part : Part) (after : List Token) : Type 0 where

@@ -1,5 +1,5 @@
 -- What is answered of the tokens of a line (`read_head`): a simple statement, or what begins a compound one or a part of it.
-use Rattle.std.specs.Prelude.{◌≡◌, ⊤, ◌⊎◌, ℕ, ◌+◌, ◌<◌, ◌≤◌, max, Bool, true, false, ◌&&◌, ◌||◌, not, ◌==◌, List, [], ◌∷◌, ◌++◌, length, Option, Some, None, option_map, is_some, if◌then◌else◌}
+use Rattle.std.specs.Prelude.{◌≡◌, ⊤, ◌⊎◌, ℕ, ◌+◌, ◌<◌, ◌≤◌, max, Bool, true, false, ◌&&◌, ◌||◌, not, ◌==◌, List, [], ◌∷◌, ◌++◌, codes, length, Option, Some, None, option_map, is_some, if◌then◌else◌}
 use Rattle.prov_base.specs.declared.place.Pos.{Pos}
 use Rattle.py_lines.specs.declared.parts.Token.{Token}
 use Rattle.py_lines.specs.declared.parts.TokenKind.{TokenKind}
@@ -23,16 +23,16 @@ use Rattle.py_grammar.specs.declared.head.Behind.{Behind}
 use Rattle.py_grammar.specs.Concrete.{Spot, Expr, Sum}
 use Rattle.py_grammar.specs.Tokens.{token, expr_tokens, sum_tokens}
 use Rattle.py_grammar.specs.Trees.{expr_tree, exprs_tree}
-use Rattle.py_grammar.specs.Written.{OneTarget, Simple, Names, Params, Naming, Kind, Base, Target}
+use Rattle.py_grammar.specs.Written.{OneTarget, named, Simple, del, pass, Names, Params, Naming, Kind, Base, Target}
 use Rattle.py_grammar.specs.StatementTokens.{simple_tokens, one_target_tokens, target_tokens, names_tokens, params_tokens, naming_tokens, kind_tokens, base_tokens}
 use Rattle.py_grammar.specs.StatementTrees.{simple_form, target_tree, names_list, params_list, naming_bound, kind_class, kind_bound, base_tree}
 use Rattle.py_grammar.specs.Depth.{expr_depth, exprs_depth, simple_depth, target_depth, kind_depth}
 use Rattle.py_grammar.specs.Lies.{expr_lies, exprs_lies, sum_lies, one_target_lies, simple_lies, target_lies, kind_lies, base_lies}
 use Rattle.py_grammar.specs.WellPlaced.{Around, in_suite, in_loop_suite, in_handler_suite, in_def_suite, in_class_suite, simple_stands, def_stands, none_given}
 use Rattle.py_grammar.specs.LineReader.{Head, simple_head, if_head, elif_head, else_head, while_head, for_head, try_head, except_head, with_head, def_head, class_head, global_head, behind_tokens, colon_tokens, head_tokens, read_colon, read_head, read_target, read_names, read_params, read_naming, read_kind, read_base}
-use Rattle.py_grammar.specs.Parsed.{Production, Begins, IsAtFirst, IsDeep, ShowsAt}
+use Rattle.py_grammar.specs.Parsed.{Production, IsAtFirst, IsDeep, ShowsAt}
 use Rattle.py_grammar.specs.ParsedRows.{first_token, IsRead}
-use Rattle.py_grammar.specs.ParsedSimple.{around_of, leaving_none, BeginsDel, BeginsSimple, UnreadDel}
+use Rattle.py_grammar.specs.ParsedSimple.{around_of, leaving_none, simple_part, StartsSome, BeginsSome, StartsDel, BeginsDel, UnreadDel}
 
 -- ---- the parts of a line
 
@@ -53,9 +53,6 @@ kind_part = record { tokens = kind_tokens; depth = kind_depth; lies = kind_lies;
 
 abbrev pub base_part : Production Base
 base_part = record { tokens = base_tokens; depth = λ _. 0; lies = λ _ at. 0; form = λ _. false; read = λ _ ts. read_base ts }
-
-abbrev pub head_part : Production Head
-head_part = record { tokens = head_tokens; depth = λ _. 0; lies = λ _ at. 0; form = λ _. false; read = λ n ts. leaving_none (read_head n ts) }
 
 -- such a part was read, which is this
 pub record Took {A V : Type 0} (p : Production A) (view : A → V) (before : List Token) (value : V) (after : List Token) : Type 0 where
@@ -165,6 +162,9 @@ head_lies (def_head word name_at bytes opening names closing colon behind) at = 
 head_lies (class_head word name_at bytes of colon behind) at = max (base_lies of at) (behind_lies behind at)
 head_lies (global_head word names) at = 0
 
+abbrev pub head_part : Production Head
+head_part = record { tokens = head_tokens; depth = head_depth; lies = head_lies; form = λ _. false; read = λ n ts. leaving_none (read_head n ts) }
+
 -- the statement behind the `:`
 abbrev pub behind_in : Head → Option Simple
 behind_in (simple_head s) = None
@@ -244,6 +244,16 @@ abbrev pub passed_tokens : List (OneTarget × Spot) → List Token
 passed_tokens [] = []
 passed_tokens (p ∷ passed) = one_target_tokens p.0 ++ token (Sign 6) p.1 ∷ passed_tokens passed
 
+-- how deep what begins at a place lies in targets with a comma behind each
+abbrev pub passed_lies : List (OneTarget × Spot) → Pos → ℕ
+passed_lies [] at = 0
+passed_lies (p ∷ passed) at = max (one_target_lies p.0 at) (passed_lies passed at)
+
+-- several targets lie one deeper
+abbrev pub room_behind : ℕ → List (OneTarget × Spot) → ℕ
+room_behind room [] = room
+room_behind room (p ∷ passed) = 99
+
 -- No `del` stands in these tokens, and behind the `for` with which they begin no targets and sum have all of them.
 pub record IsPast (front : List Token) : Type 0 where
   pub no_del : (opened : List Token) (spot : Spot) (inside : List Token) → front ≡ opened ++ token (Keyword 12) spot ∷ inside → ⊥
@@ -265,6 +275,7 @@ pub record Opening (c : Context) (word : ℕ) (before : List Token) (what : What
   pub low : depth ≤ 100
   pub depth_is : (colon : Spot) (behind : Option Simple) → head_depth (made colon behind) ≡ max depth (behind_depth behind)
   pub lies_behind : (colon : Spot) (s : Simple) (at : Pos) → simple_lies s at ≤ head_lies (made colon (Some s)) at
+  pub lies_within : (colon : Spot) (s : Simple) (at : Pos) → head_lies (made colon (Some s)) at ≤ max depth (simple_lies s at)
   pub stands : (given : List (List ℕ)) (colon : Spot) (behind : Option Simple) → head_stands c given (made colon behind) ≡ word_may c word && behind_stands (inner_around word c.around) behind
 
 -- ---- what is refused
@@ -303,65 +314,97 @@ abbrev pub ShowsOnLine : Token → List Token → Fault → Type 0
 ShowsOnLine t behind (TooMany place) = place ≡ t.at
 ShowsOnLine t behind fault = ShowsAt behind fault
 
--- behind these tokens of a line, up to the `:` of a compound statement, any simple one may stand
-pub record StartsBehind (front : List Token) : Type 0 where
+-- Behind these tokens of a line, up to the `:` of a compound statement, the grammar has any simple one, and this one may stand
+-- there. Nothing before it lies too deep.
+pub record StartsBehind (c : Context) (given : List (List ℕ)) (one : Spot → Simple) (front : List Token) : Type 0 where
   pub made : Simple → Head
   pub tokens_are : (s : Simple) → head_tokens (made s) ≡ front ++ simple_tokens s
   pub behind_is : (s : Simple) → behind_in (made s) ≡ Some s
+  pub stands : (spot : Spot) → head_stands c given (made (one spot)) ≡ true
+  pub within : (s : Simple) (at : Pos) → head_lies (made s) at ≤ max 100 (simple_lies s at)
 
--- `del` and the first tokens of an expression, which is read before it is asked whether it is a target: at the start of a line, or behind a `:`
-pub record ReadsDel (front : List Token) : Type 0 where
+-- `del` and a name
+abbrev pub del_name : Spot → Simple
+del_name spot = del spot (named spot (codes "name"))
+
+-- it may stand there at the start of a line, or behind a `:`
+abbrev pub DelStarts : Context → List (List ℕ) → List Token → Type 0
+DelStarts c given opened = ((opened ≡ []) × ((spot : Spot) → head_stands c given (simple_head (del_name spot)) ≡ true)) ⊎ StartsBehind c given del_name opened
+
+-- `del` and the first tokens of an expression, which is read before it is asked whether it is a target: `so` says that the
+-- tokens behind `opened` are this
+pub record ReadsDel (c : Context) (given : List (List ℕ)) (so : List Token → Type 0) (front : List Token) : Type 0 where
   pub opened : List Token
-  pub starts : (opened ≡ []) ⊎ StartsBehind opened
+  pub starts : DelStarts c given opened
   pub inside : List Token
-  pub begins : BeginsDel inside
+  pub begins : so inside
   pub front_is : front ≡ opened ++ inside
 
 -- targets with a comma behind each, and the first tokens of a sum, which is read before it is asked whether it is a target
-pub record BeginsTargets (front : List Token) : Type 0 where
+pub record StartsTargets (front : List Token) : Type 0 where
   pub passed : List (OneTarget × Spot)
   pub some : Sum
   pub more : List Token
   pub tokens_are : passed_tokens passed ++ sum_tokens some ≡ front ++ more
 
--- the same behind `for`
-pub record ReadsFor (front : List Token) : Type 0 where
+-- The same, where what begins before the rest lies within the room: whatever place is chosen for the tokens that are put
+-- behind, expressions that begin elsewhere lie so.
+pub record CompletesTargets (room : ℕ) (front : List Token) (at : Pos) : Type 0 where
+  pub passed : List (OneTarget × Spot)
+  pub some : Sum
+  pub more : List Token
+  pub tokens_are : passed_tokens passed ++ sum_tokens some ≡ front ++ more
+  pub within : (other : Pos) → (other ≡ at → ⊥) → max (passed_lies passed other) (sum_lies some other) ≤ room_behind room passed
+
+abbrev pub BeginsTargets : ℕ → List Token → Type 0
+BeginsTargets room front = (at : Pos) → CompletesTargets room front at
+
+-- the same behind a `for` that may stand there: `so` says that targets begin with the tokens
+pub record ReadsFor (c : Context) (so : List Token → Type 0) (front : List Token) : Type 0 where
+  pub may : word_may c 17 ≡ true
   pub spot : Spot
   pub inside : List Token
-  pub begins : BeginsTargets inside
+  pub begins : so inside
   pub front_is : front ≡ token (Keyword 17) spot ∷ inside
 
-abbrev pub BeginsReading : List Token → Type 0
-BeginsReading front = ReadsDel front ⊎ ReadsFor front
+abbrev pub StartsReading : Context → List (List ℕ) → List Token → Type 0
+StartsReading c given front = ReadsDel c given StartsDel front ⊎ ReadsFor c StartsTargets front
 
-abbrev pub BeginsHead : List Token → Type 0
-BeginsHead front = Begins head_part front ⊎ BeginsReading front
+-- the same, where nothing that has begun lies too deep
+abbrev pub BeginsReading : Context → List (List ℕ) → List Token → Type 0
+BeginsReading c given front = ReadsDel c given BeginsDel front ⊎ ReadsFor c (BeginsTargets 100) front
+
+-- the first tokens of a line that may stand there, or of what is read of it
+abbrev pub StartsHead : Context → List (List ℕ) → List Token → Type 0
+StartsHead c given front = StartsSome head_part (head_stands c given) front ⊎ StartsReading c given front
+
+-- the same, where nothing that has begun lies too deep
+abbrev pub BeginsHead : Context → List (List ℕ) → List Token → Type 0
+BeginsHead c given front = BeginsSome head_part (head_stands c given) front ⊎ BeginsReading c given front
+
+-- the first tokens of a simple statement that may stand there; in a class no `del` does
+abbrev pub StartsPlaced : Around → List Token → Type 0
+StartsPlaced around front = StartsSome simple_part (simple_stands around) front ⊎ ((around.in_class ≡ false) × StartsDel front)
+
+-- the same, where nothing that has begun lies too deep
+abbrev pub BeginsPlaced : Around → List Token → Type 0
+BeginsPlaced around front = BeginsSome simple_part (simple_stands around) front ⊎ ((around.in_class ≡ false) × BeginsDel front)
 
 -- With TooDeep, a simple statement goes on with the token that shows it, or a limit is passed: then whatever stands first shows it.
-abbrev pub GoesOnPlaced : (limit : Option Limit) → List Token → Token → Fault → Type 0
-GoesOnPlaced limit front t (TooDeep at) = BeginsSimple (front ++ t ∷ []) ⊎ ((limit ≡ Some Depth) × (front ≡ []) × (at ≡ t.at))
-GoesOnPlaced limit front t (TooMany at) = (limit ≡ Some Number) × (front ≡ [])
-GoesOnPlaced limit front t fault = ⊤
+abbrev pub GoesOnPlaced : Around → (limit : Option Limit) → List Token → Token → Fault → Type 0
+GoesOnPlaced around limit front t (TooDeep at) = StartsPlaced around (front ++ t ∷ []) ⊎ ((limit ≡ Some Depth) × (front ≡ []) × (at ≡ t.at))
+GoesOnPlaced around limit front t (TooMany at) = (limit ≡ Some Number) × (front ≡ [])
+GoesOnPlaced around limit front t fault = ⊤
 
 -- of a statement, what stands ahead of the token that shows it
-abbrev pub IsAheadPlaced : (limit : Option Limit) → List Token → Token → Fault → Type 0
-IsAheadPlaced limit front t fault = GoesOnPlaced limit front t fault × UnreadDel front t fault
+abbrev pub IsAheadPlaced : Around → (limit : Option Limit) → List Token → Token → Fault → Type 0
+IsAheadPlaced around limit front t fault = GoesOnPlaced around limit front t fault × UnreadDel front t fault
 
 -- the same of a line, where a limit is that of the statement behind the `:`
-abbrev pub GoesOnLine : (limit : Option Limit) → List Token → Token → Fault → Type 0
-GoesOnLine limit front t (TooDeep at) = BeginsHead (front ++ t ∷ []) ⊎ ((limit ≡ Some Depth) × StartsBehind front × (at ≡ t.at))
-GoesOnLine limit front t (TooMany at) = (limit ≡ Some Number) × StartsBehind front
-GoesOnLine limit front t fault = ⊤
-
--- how deep what begins at a place lies in targets with a comma behind each
-abbrev pub passed_lies : List (OneTarget × Spot) → Pos → ℕ
-passed_lies [] at = 0
-passed_lies (p ∷ passed) at = max (one_target_lies p.0 at) (passed_lies passed at)
-
--- several targets lie one deeper
-abbrev pub room_behind : ℕ → List (OneTarget × Spot) → ℕ
-room_behind room [] = room
-room_behind room (p ∷ passed) = 99
+abbrev pub GoesOnLine : Context → List (List ℕ) → (limit : Option Limit) → List Token → Token → Fault → Type 0
+GoesOnLine c given limit front t (TooDeep at) = StartsHead c given (front ++ t ∷ []) ⊎ ((limit ≡ Some Depth) × StartsBehind c given pass front × (at ≡ t.at))
+GoesOnLine c given limit front t (TooMany at) = (limit ≡ Some Number) × StartsBehind c given pass front
+GoesOnLine c given limit front t fault = ⊤
 
 -- no sum goes on with this token behind targets with a comma each, but where something lies too deep
 pub record UnreadTargets (room : ℕ) (front : List Token) (t : Token) (fault : Fault) : Type 0 where
@@ -374,8 +417,8 @@ pub record UnreadLine (front : List Token) (t : Token) (fault : Fault) : Type 0 
       → IsDeep (Here fault) (room_behind 100 passed) (λ at. max (passed_lies passed at) (sum_lies s at))
 
 -- of a line, what stands ahead of the token that shows it
-abbrev pub IsAheadOnLine : (limit : Option Limit) → List Token → Token → Fault → Type 0
-IsAheadOnLine limit front t fault = GoesOnLine limit front t fault × UnreadLine front t fault
+abbrev pub IsAheadOnLine : Context → List (List ℕ) → (limit : Option Limit) → List Token → Token → Fault → Type 0
+IsAheadOnLine c given limit front t fault = GoesOnLine c given limit front t fault × UnreadLine front t fault
 
 -- The tokens before this one begin what is asked for, and those up to and with it begin nothing that may stand there.
 pub record ShownBy {A : Type 0} (begins : List Token → Type 0) (goes : List Token → Token → Fault → Type 0) (tokens : A → List Token) (amiss : Fault → A → Type 0) (before : List Token) (fault : Fault) : Type 0 where
@@ -400,7 +443,7 @@ LineRefused begins goes tokens amiss before (Here fault) = ShownBy begins goes t
 LineRefused begins goes tokens amiss before End = EndedBy begins tokens (amiss End) before
 
 abbrev pub PlacedRefused : Around → (limit : Option Limit) → List Token → Stop → Type 0
-PlacedRefused around limit before stop = LineRefused BeginsSimple (IsAheadPlaced limit) simple_tokens (IsAmissPlaced around limit) before stop
+PlacedRefused around limit before stop = LineRefused (BeginsPlaced around) (IsAheadPlaced around limit) simple_tokens (IsAmissPlaced around limit) before stop
 
 -- what stands behind a `:` is refused: something does stand there
 pub record BehindRefused (around : Around) (limit : Option Limit) (before : List Token) (stop : Stop) : Type 0 where
@@ -408,14 +451,15 @@ pub record BehindRefused (around : Around) (limit : Option Limit) (before : List
   pub some : before ≡ [] → ⊥
 
 abbrev pub HeadRefused : Context → List (List ℕ) → (limit : Option Limit) → List Token → Stop → Type 0
-HeadRefused c given limit before stop = LineRefused BeginsHead (IsAheadOnLine limit) head_tokens (IsAmissHead c given limit) before stop
+HeadRefused c given limit before stop = LineRefused (BeginsHead c given) (IsAheadOnLine c given limit) head_tokens (IsAmissHead c given limit) before stop
 
 -- behind this keyword
 abbrev pub OpeningFound : Context → ℕ → List Token → What → List Token → Type 0
 OpeningFound c word before what after = (spot : Spot) → Opening c word (token (Keyword word) spot ∷ before) what after
 
+-- behind this keyword, where it may stand
 pub record OpeningRefused (c : Context) (word : ℕ) (before : List Token) (stop : Stop) : Type 0 where
-  pub there : (given : List (List ℕ)) (limit : Option Limit) (spot : Spot) → HeadRefused c given limit (token (Keyword word) spot ∷ before) stop
+  pub there : (given : List (List ℕ)) (limit : Option Limit) (spot : Spot) → word_may c word ≡ true → HeadRefused c given limit (token (Keyword word) spot ∷ before) stop
 
 -- such a token may be all that stands in a class: a text with nothing behind it, or `pass`
 abbrev pub may_be_alone : TokenKind → List Token → Bool
@@ -461,7 +505,7 @@ pub record GlobalFound (given : List (List ℕ)) (before : List Token) (names : 
   pub none : none_given given (names_list written) ≡ true
 
 pub record GlobalRefused (given : List (List ℕ)) (before : List Token) (stop : Stop) : Type 0 where
-  pub there : (c : Context) (limit : Option Limit) (spot : Spot) → HeadRefused c given limit (token (Keyword 19) spot ∷ before) stop
+  pub there : (c : Context) (limit : Option Limit) (spot : Spot) → word_may c 19 ≡ true → HeadRefused c given limit (token (Keyword 19) spot ∷ before) stop
 
 -- a keyword with which a compound statement, a part of one or a `global` line begins
 abbrev pub is_compound : ℕ → Bool

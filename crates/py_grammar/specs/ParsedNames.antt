@@ -22,12 +22,19 @@ use Rattle.py_grammar.specs.Lies.{one_target_lies, target_rest_lies}
 use Rattle.py_grammar.specs.StatementReader.{whole}
 use Rattle.py_grammar.specs.LineReader.{read_target_rest, read_names, read_params}
 use Rattle.py_grammar.specs.WellPlaced.{are_different, none_given}
-use Rattle.py_grammar.specs.Parsed.{Production, ShowsAt, GoesOn, IsAtFirst, IsDeep, Finds, Begins, Refused, Found, sum_part}
+use Rattle.py_grammar.specs.Parsed.{Production, ShowsAt, GoesOn, IsAtFirst, IsDeep, Finds, Refused, Found, sum_part}
 use Rattle.py_grammar.specs.ParsedRows.{first_token, IsRead}
 use Rattle.py_grammar.specs.ParsedSimple.{leaving_none, target_form, targets_form}
-use Rattle.py_grammar.specs.ParsedHead.{Took, target_part, names_part, params_part, passed_tokens, BeginsTargets, UnreadTargets, LineRefused}
+use Rattle.py_grammar.specs.ParsedHead.{Took, target_part, names_part, params_part, passed_tokens, StartsTargets, BeginsTargets, UnreadTargets, LineRefused}
 
 -- ---- refused, where something may be read all the same
+
+-- these are the first tokens of some such part, of which nothing is amiss
+pub record BeginsFine {A : Type 0} (p : Production A) (amiss : Stop → A → Type 0) (front : List Token) : Type 0 where
+  pub some : A
+  pub fine : (stop : Stop) → amiss stop some → ⊥
+  pub more : List Token
+  pub tokens_are : p.tokens some ≡ front ++ more
 
 -- The tokens before this one begin such a part, and of those up to and with it only what is amiss is read.
 pub record ShownAmiss {A : Type 0} (p : Production A) (amiss : Stop → A → Type 0) (before : List Token) (fault : Fault) : Type 0 where
@@ -36,14 +43,14 @@ pub record ShownAmiss {A : Type 0} (p : Production A) (amiss : Stop → A → Ty
   pub behind : List Token
   pub before_is : before ≡ front ++ shown_by ∷ behind
   pub left_is : ShowsAt behind fault
-  pub begins : Begins p front
-  pub goes_on : GoesOn (Begins p) front shown_by fault
+  pub begins : BeginsFine p amiss front
+  pub goes_on : GoesOn (BeginsFine p amiss) front shown_by fault
   pub none : (more : List Token) → Finds (amiss (Here fault)) p.read (front ++ shown_by ∷ more)
 
 abbrev pub RefusedAmiss : {A : Type 0} → Production A → (Stop → A → Type 0) → List Token → Stop → Type 0
 RefusedAmiss p amiss before (Here Memory) = ⊤
 RefusedAmiss p amiss before (Here fault) = ShownAmiss p amiss before fault
-RefusedAmiss p amiss before End = Begins p before × Finds (amiss End) p.read before
+RefusedAmiss p amiss before End = BeginsFine p amiss before × Finds (amiss End) p.read before
 
 -- ---- names in a row
 
@@ -118,7 +125,7 @@ followed_tokens p w = p.tokens w.part ++ token (Keyword 22) w.in_word ∷ w.behi
 
 -- With TooDeep, targets go on with the token that shows it, as far as they are read as sums.
 abbrev pub GoesOnTargets : List Token → Token → Fault → Type 0
-GoesOnTargets front t (TooDeep at) = BeginsTargets (front ++ t ∷ [])
+GoesOnTargets front t (TooDeep at) = StartsTargets (front ++ t ∷ [])
 GoesOnTargets front t (TooMany at) = ⊥
 GoesOnTargets front t fault = ⊤
 
@@ -128,7 +135,7 @@ IsAheadOfTargets room front t fault = GoesOnTargets front t fault × UnreadTarge
 
 -- no such part is written there with an `in` behind it that there is room for
 abbrev pub TargetsRefused : {A : Type 0} → Production A → ℕ → List Token → Stop → Type 0
-TargetsRefused p room before stop = LineRefused BeginsTargets (IsAheadOfTargets room) (followed_tokens p) (λ why w. IsDeep why room (p.lies w.part)) before stop
+TargetsRefused p room before stop = LineRefused (BeginsTargets room) (IsAheadOfTargets room) (followed_tokens p) (λ why w. IsDeep why room (p.lies w.part)) before stop
 
 -- a target was read
 pub record ItemFound (room : ℕ) (before : List Token) (part : Part) (after : List Token) : Type 0 where

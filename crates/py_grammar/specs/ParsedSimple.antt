@@ -1,4 +1,4 @@
--- What the parser answers of the tokens of a simple statement. No public clause speaks of it.
+-- What the parser answers of the tokens of a simple statement.
 use Rattle.std.specs.Prelude.{◌≡◌, ⊤, ◌⊎◌, ℕ, ◌<◌, ◌≤◌, Bool, true, false, ◌||◌, ◌==◌, List, [], ◌∷◌, ◌++◌, length, Option, Some, None, option_map, option_and_then, is_some, is_none}
 use Rattle.prov_base.specs.declared.place.Pos.{Pos}
 use Rattle.py_lines.specs.declared.parts.Token.{Token}
@@ -25,7 +25,7 @@ use Rattle.py_grammar.specs.Lies.{expr_lies, simple_lies}
 use Rattle.py_grammar.specs.WellPlaced.{Around, form_stands}
 use Rattle.py_grammar.specs.Reader.{Read}
 use Rattle.py_grammar.specs.StatementReader.{aug_sign_of, exprs_target, read_simple}
-use Rattle.py_grammar.specs.Parsed.{ShowsAt, GoesOn, IsDeep, Production, Finds, Begins, Taken, FoundRow}
+use Rattle.py_grammar.specs.Parsed.{ShowsAt, GoesOn, IsDeep, Production, Finds, Taken, FoundRow}
 
 -- where the code is, in the words of the grammar
 abbrev pub around_of : Standing → Around
@@ -60,34 +60,75 @@ IsAmiss around End s = form_stands around (simple_form s) ≡ false
 IsAmiss around stop s = ⊥
 
 -- `del` and the first tokens of an expression, which is read before it is asked whether it is a target
-pub record BeginsDel (front : List Token) : Type 0 where
+pub record StartsDel (front : List Token) : Type 0 where
   pub spot : Spot
   pub some : Expr
   pub more : List Token
   pub tokens_are : token (Keyword 12) spot ∷ expr_tokens some ≡ front ++ more
 
-abbrev pub BeginsSimple : List Token → Type 0
-BeginsSimple front = Begins simple_part front ⊎ BeginsDel front
+-- The same, where what begins before the rest lies at most 100 deep: whatever place is chosen for the tokens that are put
+-- behind, expressions that begin elsewhere lie so.
+pub record CompletesDel (front : List Token) (at : Pos) : Type 0 where
+  pub spot : Spot
+  pub some : Expr
+  pub more : List Token
+  pub tokens_are : token (Keyword 12) spot ∷ expr_tokens some ≡ front ++ more
+  pub within : (other : Pos) → (other ≡ at → ⊥) → expr_lies some other ≤ 100
+
+abbrev pub BeginsDel : List Token → Type 0
+BeginsDel front = (at : Pos) → CompletesDel front at
+
+-- these are the first tokens of some such part that passes this test
+pub record StartsSome {A : Type 0} (p : Production A) (is : A → Bool) (front : List Token) : Type 0 where
+  pub some : A
+  pub is_so : is some ≡ true
+  pub more : List Token
+  pub tokens_are : p.tokens some ≡ front ++ more
+
+-- Some such part that passes this test has these first tokens, and what begins before the rest lies at most 100 deep: whatever
+-- place is chosen for the tokens that are put behind, expressions that begin elsewhere lie so.
+pub record CompletesSome {A : Type 0} (p : Production A) (is : A → Bool) (front : List Token) (at : Pos) : Type 0 where
+  pub some : A
+  pub is_so : is some ≡ true
+  pub more : List Token
+  pub tokens_are : p.tokens some ≡ front ++ more
+  pub within : (other : Pos) → (other ≡ at → ⊥) → p.lies some other ≤ 100
+
+abbrev pub BeginsSome : {A : Type 0} → Production A → (A → Bool) → List Token → Type 0
+BeginsSome p is front = (at : Pos) → CompletesSome p is front at
+
+-- a statement begins so, or what is read of one behind `del`
+abbrev pub StartsSimple : (Simple → Bool) → List Token → Type 0
+StartsSimple is front = StartsSome simple_part is front ⊎ StartsDel front
+
+-- the same, where nothing that has begun lies too deep
+abbrev pub BeginsSimple : (Simple → Bool) → List Token → Type 0
+BeginsSimple is front = BeginsSome simple_part is front ⊎ BeginsDel front
+
+-- its form may stand there
+abbrev pub has_place : Around → Simple → Bool
+has_place around s = form_stands around (simple_form s)
 
 -- behind the `del` that a statement begins with no expression goes on with this token, but one that lies too deep
 pub record UnreadDel (front : List Token) (t : Token) (fault : Fault) : Type 0 where
   pub there : (spot : Spot) (inside : List Token) → front ≡ token (Keyword 12) spot ∷ inside → (e : Expr) (more : List Token) → expr_tokens e ≡ inside ++ t ∷ more → IsDeep (Here fault) 100 (expr_lies e)
 
--- The tokens before this one begin a simple statement, and those up to and with it begin none that may stand there.
+-- The tokens before this one begin a simple statement that may stand there, in which nothing lies too deep yet, and those up
+-- to and with it begin none.
 pub record SimpleShown (around : Around) (before : List Token) (fault : Fault) : Type 0 where
   pub front : List Token
   pub shown_by : Token
   pub behind : List Token
   pub before_is : before ≡ front ++ shown_by ∷ behind
   pub left_is : ShowsAt behind fault
-  pub begins : BeginsSimple front
-  pub goes_on : GoesOn BeginsSimple front shown_by fault
+  pub begins : BeginsSimple (has_place around) front
+  pub goes_on : GoesOn (StartsSimple (has_place around)) front shown_by fault
   pub unread : UnreadDel front shown_by fault
   pub none : (more : List Token) → Finds (IsAmiss around (Here fault)) simple_part.read (front ++ shown_by ∷ more)
 
--- The tokens begin a simple statement, and are none that may stand there.
+-- The tokens begin a simple statement that may stand there, in which nothing lies too deep yet, and are none.
 pub record SimpleEnds (around : Around) (before : List Token) (stop : Stop) : Type 0 where
-  pub begins : BeginsSimple before
+  pub begins : BeginsSimple (has_place around) before
   pub none : Finds (IsAmiss around stop) simple_part.read before
 
 -- no simple statement was read

@@ -1,4 +1,4 @@
--- A reader of simple statements, on the one of expressions. No public clause speaks of it.
+-- A reader of simple statements, on the one of expressions. Of it public clauses cite what has the form of a target alone.
 use Rattle.std.specs.Prelude.{ℕ, List, [], ◌∷◌, Option, Some, None, option_map, option_and_then, if◌then◌else◌}
 use Rattle.py_lines.specs.declared.parts.Token.{Token}
 use Rattle.py_lines.specs.declared.parts.TokenKind.{TokenKind}

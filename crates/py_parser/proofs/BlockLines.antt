@@ -1,5 +1,5 @@
 -- What is read of a line of a suite: what the first token tells, the limits, and what is refused.
-use Rattle.std.proofs.Common.{◌≡◌, inl, inr, ℕ, ◌+◌, ◌<◌, ◌≤◌, suc, nat_le, Bool, true, false, not, ◌&&◌, ◌||◌, ◌==◌, List, [], ◌∷◌, ◌++◌, length, Option, Some, None, is_some, is_none, if◌then◌else◌, refl, ap, sym, ◌∙◌, arith, subst, ◌⊎◌, codes}
+use Rattle.std.proofs.Common.{◌≡◌, inl, inr, ℕ, ◌+◌, ◌<◌, ◌≤◌, suc, nat_le, Bool, true, false, not, ◌&&◌, ◌||◌, ◌==◌, List, [], ◌∷◌, ◌++◌, length, Option, Some, None, is_some, is_none, if◌then◌else◌, refl, ap, sym, ◌∙◌, arith, subst, append-nil, ◌⊎◌, codes}
 use Rattle.std.specs.Prelude.{slice_get}
 use Rattle.std.specs.Int.{from_bool}
 use Rattle.std.proofs.lemmas.Bool.{eqb-true, leb-true, leb-false, le-leb, false≢true}
@@ -17,23 +17,24 @@ use Rattle.py_parser.specs.declared.fault.Halt.TheVariants.{AtEnd, TooMany as Ma
 use Rattle.py_grammar.specs.declared.fault.Stop.{Stop}
 use Rattle.py_grammar.specs.declared.fault.Stop.TheVariants.{Here, End}
 use Rattle.py_grammar.specs.declared.head.LineHead.{LineHead}
-use Rattle.py_grammar.specs.Concrete.{Spot}
+use Rattle.py_grammar.specs.Concrete.{Spot, plain_expr, plain_or, plain_and, plain_not, plain_cmp, plain_sum, plain_term, plain_unary, plain_prim, none as none_atom, one_expr}
 use Rattle.py_grammar.specs.Tokens.{token, keyword}
 use Rattle.py_grammar.specs.Layout.{IsLine}
-use Rattle.py_grammar.specs.StatementTokens.{simple_tokens}
-use Rattle.py_grammar.specs.Written.{Simple, pass}
-use Rattle.py_grammar.specs.LineReader.{Head, simple_head, if_head, elif_head, else_head, while_head, for_head, try_head, except_head, with_head, def_head, class_head, global_head, head_tokens}
-use Rattle.py_grammar.specs.ParsedHead.{Context, lacks_handler, word_may, is_compound, is_compound_kind, head_stands, head_depth, behind_in, HeadFound, HeadRefused, IsAmissHead, ShownBy, GoesOnLine, BeginsHead, kind_may, may_begin, FirstMay, ShowsOnLine, head_lies, behind_first, StartsBehind, IsAheadOnLine, UnreadLine}
+use Rattle.py_grammar.specs.StatementTokens.{simple_tokens, one_target_tokens}
+use Rattle.py_grammar.specs.Written.{Simple, pass, named as named_target, one_target}
+use Rattle.py_grammar.specs.LineReader.{Head, simple_head, if_head, elif_head, else_head, while_head, for_head, try_head, except_head, with_head, def_head, class_head, global_head, head_tokens, colon_tokens}
+use Rattle.py_grammar.specs.ParsedHead.{Context, lacks_handler, word_may, is_compound, is_compound_kind, head_stands, head_depth, behind_in, HeadFound, HeadRefused, IsAmissHead, ShownBy, GoesOnLine, ReadsDel, ReadsFor, StartsHead, BeginsHead, kind_may, may_begin, FirstMay, ShowsOnLine, head_lies, behind_first, StartsBehind, DelStarts, del_name, IsAheadOnLine, UnreadLine}
+use Rattle.py_grammar.specs.Lies.{over, is_place}
 use Rattle.py_grammar.specs.Parsed.{IsAtFirst}
 use Rattle.py_parser.specs.Limits.{Limits, profile}
 use Rattle.py_parser.specs.Rows.{Level, Begun, is_stmt, is_every, counted, follows, may}
-use Rattle.py_parser.specs.Faults.{last_place, at_token, at_end, shows, Opens, few_suites, few_statements, line_fault}
-use Rattle.py_parser.specs.ParsedBlocks.{limit_by, limit_at, is_stmt_kind, RowsBegin, LineRead, RefusedLine, LineStopped, Asks, MarksToken, halt_of, RowsFollow, NoneRows, Passes, RowsLimit, deep_at}
+use Rattle.py_parser.specs.Faults.{last_place, Point, at_token, at_end, shows, IsLow, ReadsBehindDel, ReadsBehindFor, Opens, OpensDel, OpensFor, GoesOnWith, Next, few_suites, few_statements, line_fault}
+use Rattle.py_parser.specs.ParsedBlocks.{limit_by, limit_at, is_stmt_kind, RowsBegin, LineRead, RefusedLine, LineStopped, Asks, MarksToken, halt_of, RowsFollow, NoneRows, Passes, RowsLimit, OneMoreFrom, deep_at}
 use Rattle.py_grammar.proofs.LyingLines.{head_low}
-use Rattle.py_grammar.proofs.LineFirsts.{same_first, head_some, simple_not_compound, may_as_word, may_as_simple, misplaced_head}
+use Rattle.py_grammar.proofs.LineFirsts.{same_first, head_some, simple_not_compound, both_true, misplaced_head}
 use Rattle.py_parser.specs.Grouped.{no_spot}
 use Rattle.py_grammar.proofs.HeadReading.{same_head}
-use Rattle.py_parser.proofs.Endings.{begins_here, begins_with, begins_line, follows_line, follows_pass}
+use Rattle.py_parser.proofs.Endings.{begins_here, begins_line, follows_line, follows_pass}
 use Rattle.py_parser.proofs.RowRefusals.{none_line, ends_begun, first_reads}
 
 -- ---- truth values
@@ -105,7 +106,7 @@ by_word : (k : ℕ) (spot : Spot) (rest : List Token) (t : Token) (ts : List Tok
 by_word k spot rest t ts is = ap (λ (u : Token). is_stmt_kind u.kind) (sym (same_first (token (Keyword k) spot) t rest ts is))
 
 -- the first token tells whether a statement begins on the line
-kind_tells : (h : Head) (t : Token) (ts : List Token) → head_tokens h ≡ t ∷ ts → is_stmt_kind t.kind ≡ is_stmt h
+pub kind_tells : (h : Head) (t : Token) (ts : List Token) → head_tokens h ≡ t ∷ ts → is_stmt_kind t.kind ≡ is_stmt h
 kind_tells (simple_head s) t ts is = begins_simple t.kind (simple_not_compound s t ts is)
 kind_tells (if_head at test colon b) t ts is = by_word 20 at _ t ts is
 kind_tells (elif_head at test colon b) t ts is = by_word 13 at _ t ts is
@@ -135,26 +136,6 @@ follows_there m (def_head at name_at bytes opening given closing colon b) declar
 follows_there m (class_head at name_at bytes of colon b) declares stands = left_of _ _ (left_of _ _ stands)
 follows_there m (global_head at names) declares stands =
     let word : word_may m.context 19 ≡ true = left_of _ _ stands in
-    ap (λ b. b && not (lacks_handler m.context.last)) (declares (right_of (not (lacks_handler m.context.last)) m.context.may_declare word)) ∙ left_of (not (lacks_handler m.context.last)) m.context.may_declare word
-
--- what the first token may begin follows, too
-word_of : (c : Context) (k : ℕ) (spot : Spot) (rest : List Token) (t : Token) (ts : List Token) → token (Keyword k) spot ∷ rest ≡ t ∷ ts → is_compound k ≡ true → kind_may c t.kind ≡ true → word_may c k ≡ true
-word_of c k spot rest t ts is present may = sym (may_as_word c k present) ∙ ap (λ (u : Token). kind_may c u.kind) (same_first (token (Keyword k) spot) t rest ts is) ∙ may
-
-kind_follows : (m : Level) (h : Head) (t : Token) (ts : List Token) → head_tokens h ≡ t ∷ ts → (m.context.may_declare ≡ true → m.of_def ≡ true) → kind_may m.context t.kind ≡ true → follows m h ≡ true
-kind_follows m (simple_head s) t ts is declares may = sym (may_as_simple m.context t.kind (simple_not_compound s t ts is)) ∙ may
-kind_follows m (if_head at test colon b) t ts is declares may = left_of _ _ (word_of m.context 20 at _ t ts is refl may)
-kind_follows m (elif_head at test colon b) t ts is declares may = word_of m.context 13 at _ t ts is refl may
-kind_follows m (else_head at colon b) t ts is declares may = word_of m.context 14 at _ t ts is refl may
-kind_follows m (while_head at test colon b) t ts is declares may = left_of _ _ (word_of m.context 32 at _ t ts is refl may)
-kind_follows m (for_head at target in_word e colon b) t ts is declares may = left_of _ _ (word_of m.context 17 at _ t ts is refl may)
-kind_follows m (try_head at colon b) t ts is declares may = left_of _ _ (word_of m.context 31 at _ t ts is refl may)
-kind_follows m (except_head at kind colon b) t ts is declares may = or_left (word_may m.context 15) (is_every m.context.last) (word_of m.context 15 at _ t ts is refl may)
-kind_follows m (with_head at e called colon b) t ts is declares may = left_of _ _ (word_of m.context 33 at _ t ts is refl may)
-kind_follows m (def_head at name_at bytes opening given closing colon b) t ts is declares may = left_of _ _ (word_of m.context 11 at _ t ts is refl may)
-kind_follows m (class_head at name_at bytes of colon b) t ts is declares may = left_of _ _ (word_of m.context 9 at _ t ts is refl may)
-kind_follows m (global_head at names) t ts is declares may =
-    let word : word_may m.context 19 ≡ true = word_of m.context 19 at _ t ts is refl may in
     ap (λ b. b && not (lacks_handler m.context.last)) (declares (right_of (not (lacks_handler m.context.last)) m.context.may_declare word)) ∙ left_of (not (lacks_handler m.context.last)) m.context.may_declare word
 
 -- ---- the limits
@@ -314,23 +295,90 @@ amiss q m n begins limit h k fault asks same is fine bad = by fault asks bad
     by (Unexpected at) asks no_place = false≢true (sym no_place ∙ parts.0)
     by Memory asks bad = bad
 
--- the tokens before the faulty one begin a line
-begins_token : (m : Level) (line : Line) (t : Token) (rest front : List Token) (shown : Token) (behind : List Token) → (m.context.may_declare ≡ true → m.of_def ≡ true) → kind_may m.context t.kind ≡ true → line.tokens ≡ t ∷ rest → line.tokens ≡ front ++ shown ∷ behind
-    → BeginsHead front → line.indent ≡ m.indent → RowsBegin m [] (at_token line.indent front shown)
-begins_token m line t rest [] shown behind declares may tokens before begun same = begins_here m (at_token line.indent [] shown) refl
-begins_token m line t rest (f ∷ fs) shown behind declares may tokens before (inl b) same =
-    let one : f ≡ t = same_first f t (fs ++ shown ∷ behind) rest (sym before ∙ tokens) in
-    begins_line m b.some (f ∷ fs) b.more (at_token line.indent (f ∷ fs) shown) b.tokens_are (kind_follows m b.some f (fs ++ b.more) b.tokens_are declares (ap (λ (u : Token). kind_may m.context u.kind) one ∙ may))
-    (λ x opens. inl (subst (λ d. Opens d (f ∷ fs) x) (sym same) opens))
-begins_token m line t rest (f ∷ fs) shown behind declares may tokens before (inr reading) same = begins_with m (at_token line.indent (f ∷ fs) shown) (λ x. inr reading)
+-- ---- the tokens before the faulty one
 
-begins_ended : (m : Level) (indent : ℕ) (t : Token) (rest ts : List Token) → (m.context.may_declare ≡ true → m.of_def ≡ true) → kind_may m.context t.kind ≡ true → ts ≡ t ∷ rest → BeginsHead ts → indent ≡ m.indent → RowsBegin m [] (at_end indent ts)
-begins_ended m indent t rest [] declares may tokens begun same = begins_here m (at_end indent []) refl
-begins_ended m indent t rest (f ∷ fs) declares may tokens (inl b) same =
-    let one : f ≡ t = same_first f t fs rest tokens in
-    begins_line m b.some (f ∷ fs) b.more (at_end indent (f ∷ fs)) b.tokens_are (kind_follows m b.some f (fs ++ b.more) b.tokens_are declares (ap (λ (u : Token). kind_may m.context u.kind) one ∙ may))
-    (λ x opens. inl (subst (λ d. Opens d (f ∷ fs) x) (sym same) opens))
-begins_ended m indent t rest (f ∷ fs) declares may tokens (inr reading) same = begins_with m (at_end indent (f ∷ fs)) (λ x. inr reading)
+goes_with : (place : Option Pos) (indent : ℕ) (tokens : List Token) (x : List Line) → Opens place indent tokens x ⊎ (OpensDel place indent tokens x ⊎ OpensFor place indent tokens x) → GoesOnWith place indent tokens x
+goes_with place indent [] x is = tt
+goes_with place indent (f ∷ fs) x is = is
+
+-- a line with `del` and a name
+record DelLine (c : Context) (given : List (List ℕ)) (opened : List Token) : Type 0 where
+  line : Head
+  tokens_are : head_tokens line ≡ (opened ++ simple_tokens (del_name no_spot)) ++ []
+  stands : head_stands c given line ≡ true
+  low : (other : Pos) → head_lies line other ≤ 100
+
+-- a name lies at depth 1
+name_lies : (b : Bool) → over b 0 ≤ 1
+name_lies true = omega arith
+name_lies false = omega arith
+
+del_line : (c : Context) (given : List (List ℕ)) (opened : List Token) → DelStarts c given opened → DelLine c given opened
+del_line c given opened (inl start) = record {
+  line = simple_head (del_name no_spot);
+  tokens_are = ap (λ ts. ts ++ simple_tokens (del_name no_spot)) (sym start.0) ∙ sym (append-nil (opened ++ simple_tokens (del_name no_spot)));
+  stands = start.1 no_spot;
+  low = λ other. let one = name_lies (is_place no_spot.at other) in omega (arith, one);
+}
+del_line c given opened (inr b) = record {
+  line = b.made (del_name no_spot);
+  tokens_are = b.tokens_are (del_name no_spot) ∙ sym (append-nil (opened ++ simple_tokens (del_name no_spot)));
+  stands = b.stands no_spot;
+  low = λ other. let one = name_lies (is_place no_spot.at other) in let most = b.within (del_name no_spot) other in omega (arith, one, most);
+}
+
+-- `for name in None:`
+abbrev for_line : Spot → Head
+for_line spot = for_head spot (one_target (named_target no_spot (codes "name"))) no_spot (one_expr (plain_expr (plain_or (plain_and (plain_not (plain_cmp (plain_sum (plain_term (plain_unary (plain_prim (none_atom no_spot))))))))))) no_spot None
+
+abbrev behind_for : List Token
+behind_for = one_target_tokens (named_target no_spot (codes "name")) ++ (keyword (codes "in") no_spot ++ (keyword (codes "None") no_spot ++ colon_tokens no_spot None))
+
+for_low : (spot : Spot) (other : Pos) → head_lies (for_line spot) other ≤ 100
+for_low spot other = let one = name_lies (is_place no_spot.at other) in omega (arith, one)
+
+everywhere : (place : Option Pos) (lies : Pos → ℕ) → ((other : Pos) → lies other ≤ 100) → IsLow place lies
+everywhere None lies low = tt
+everywhere (Some at) lies low = λ other apart. low other
+
+-- the first tokens of a line that may stand there, or of what is read of it, where what begins elsewhere lies so
+record SomeLine (place : Option Pos) (c : Context) (given : List (List ℕ)) (tokens : List Token) : Type 0 where
+  head : Head
+  stands : head_stands c given head ≡ true
+  more : List Token
+  tokens_are : head_tokens head ≡ tokens ++ more
+  low : IsLow place (head_lies head)
+
+abbrev LineStarts : Option Pos → Context → List (List ℕ) → List Token → Type 0
+LineStarts place c given tokens = SomeLine place c given tokens ⊎ (ReadsDel c given (ReadsBehindDel place) tokens ⊎ ReadsFor c (ReadsBehindFor place) tokens)
+
+anywhere : (c : Context) (given : List (List ℕ)) (tokens : List Token) → StartsHead c given tokens → LineStarts None c given tokens
+anywhere c given tokens (inl b) = inl (record { head = b.some; stands = b.is_so; more = b.more; tokens_are = b.tokens_are; low = tt })
+anywhere c given tokens (inr r) = inr r
+
+elsewhere : (at : Pos) (c : Context) (given : List (List ℕ)) (tokens : List Token) → BeginsHead c given tokens → LineStarts (Some at) c given tokens
+elsewhere at c given tokens (inl b) = let one = b at in inl (record { head = one.some; stands = one.is_so; more = one.more; tokens_are = one.tokens_are; low = one.within })
+elsewhere at c given tokens (inr (inl d)) = inr (inl (record { opened = d.opened; starts = d.starts; inside = d.inside; begins = d.begins at; front_is = d.front_is }))
+elsewhere at c given tokens (inr (inr f)) = inr (inr (record { may = f.may; spot = f.spot; inside = f.inside; begins = f.begins at; front_is = f.front_is }))
+
+begins_head : (place : Option Pos) (m : Level) (tokens : List Token) (p : Point) → (m.context.may_declare ≡ true → m.of_def ≡ true) → LineStarts place m.context m.given tokens → ((x : List Line) → GoesOnWith place m.indent tokens x → Next place p x) → RowsBegin place m [] p
+begins_head place m tokens p declares (inl b) next =
+    begins_line m b.head tokens b.more p b.tokens_are (follows_there m b.head declares b.stands) b.stands b.low (λ x opens. next x (goes_with place m.indent tokens x (inl opens)))
+begins_head place m tokens p declares (inr (inl d)) next =
+    let l = del_line m.context m.given d.opened d.starts in
+    begins_line m l.line (d.opened ++ simple_tokens (del_name no_spot)) [] p l.tokens_are (follows_there m l.line declares l.stands) l.stands (everywhere place (head_lies l.line) l.low)
+    (λ x opens. next x (goes_with place m.indent tokens x (inr (inl (record { opened = d.opened; spot = no_spot; opens = opens; inside = d.inside; begins = d.begins; tokens_are = d.front_is })))))
+begins_head place m tokens p declares (inr (inr f)) next =
+    let stands : head_stands m.context m.given (for_line f.spot) ≡ true = both_true _ _ f.may refl in
+    begins_line m (for_line f.spot) (keyword (codes "for") f.spot) behind_for p refl (follows_there m (for_line f.spot) declares stands) stands (everywhere place (head_lies (for_line f.spot)) (for_low f.spot))
+    (λ x opens. next x (goes_with place m.indent tokens x (inr (inr (record { spot = f.spot; opens = opens; inside = f.inside; begins = f.begins; tokens_are = f.front_is })))))
+
+begins_token : (m : Level) (indent : ℕ) (front : List Token) (shown : Token) → (m.context.may_declare ≡ true → m.of_def ≡ true) → BeginsHead m.context m.given front → indent ≡ m.indent → (place : Pos) → RowsBegin (Some place) m [] (at_token indent front shown)
+begins_token m indent front shown declares begun same place =
+    begins_head (Some place) m front (at_token indent front shown) declares (elsewhere place m.context m.given front begun) (λ x goes. subst (λ d. GoesOnWith (Some place) d front x) (sym same) goes)
+
+begins_ended : (place : Option Pos) (m : Level) (indent : ℕ) (tokens : List Token) → (m.context.may_declare ≡ true → m.of_def ≡ true) → LineStarts place m.context m.given tokens → indent ≡ m.indent → RowsBegin place m [] (at_end indent tokens)
+begins_ended place m indent tokens declares begun same = begins_head place m tokens (at_end indent tokens) declares begun (λ x goes. subst (λ d. GoesOnWith place d tokens x) (sym same) goes)
 
 -- the token that shows the fault, and what stands behind it
 marked_shown : (line : Line) (lines : List Line) (front : List Token) (t : Token) (behind : List Token) (fault : Fault) → line.tokens ≡ front ++ t ∷ behind → ShowsOnLine t behind fault
@@ -347,8 +395,8 @@ marked_shown line lines front t behind Memory tokens is = absurd is
 -- ---- what passes a limit
 
 -- tokens behind which a simple statement stands behind a `:` are not none
-starts_some : (front : List Token) → StartsBehind front → front ≡ [] → ⊥
-starts_some front b none =
+starts_some : (c : Context) (given : List (List ℕ)) (front : List Token) → StartsBehind c given pass front → front ≡ [] → ⊥
+starts_some c given front b none =
     let one = same_head (b.made (pass no_spot)) (simple_head (pass no_spot)) (b.tokens_are (pass no_spot) ∙ ap (λ ts. ts ++ simple_tokens (pass no_spot)) none) in
     never (behind_in (b.made (pass no_spot))) (b.behind_is (pass no_spot)) (ap behind_in one)
   where
@@ -379,35 +427,61 @@ none_ends within m n d tokens same none =
     none_line within m n (at_end d tokens) (λ rest shown. subst (λ e. Begun e rest) same (ends_begun d tokens rest shown)) (λ q asks other more h there tokens_are may_follow fine. none q asks h (sym tokens_are ∙ there.1) fine)
 
 -- the statement behind the `:` passes a limit
-passes_there : (within : Limits → Type 0) (m : Level) (n : ℕ) (line : Line) (t : Token) (rest front : List Token) (shown : Token) (behind : List Token) → (m.context.may_declare ≡ true → m.of_def ≡ true) → kind_may m.context t.kind ≡ true → line.tokens ≡ t ∷ rest
-    → line.tokens ≡ front ++ shown ∷ behind → StartsBehind front → line.indent ≡ m.indent
+passes_there : (within : Limits → Type 0) (m : Level) (n : ℕ) (line : Line) (t : Token) (rest front : List Token) (shown : Token) (behind : List Token) → (m.context.may_declare ≡ true → m.of_def ≡ true) → line.tokens ≡ t ∷ rest
+    → line.tokens ≡ front ++ shown ∷ behind → StartsBehind m.context m.given pass front → line.indent ≡ m.indent
     → ((q : Limits) → within q → (h : Head) (more : List Token) → head_tokens h ≡ t ∷ more → is_some (behind_in h) ≡ true → may q m n h ≡ true → ⊥)
     → Passes (λ is. RowsFollow m is []) (λ d tokens. NoneRows within m n [] (at_end d tokens)) line.indent front
-passes_there within m n line t rest front shown behind declares allowed tokens before b same passing =
-    let first_is = first_kept front (keyword (codes "pass") no_spot) behind shown t rest (starts_some front b) (sym before ∙ tokens) in
+passes_there within m n line t rest front shown behind declares tokens before b same passing =
+    let first_is = first_kept front (keyword (codes "pass") no_spot) behind shown t rest (starts_some m.context m.given front b) (sym before ∙ tokens) in
     record {
       at = no_spot;
       goes_on = follows_line m (b.made (pass no_spot)) (λ other. IsLine other line.indent (front ++ keyword (codes "pass") no_spot))
-          (kind_follows m (b.made (pass no_spot)) t first_is.0 (b.tokens_are (pass no_spot) ∙ first_is.1) declares allowed) (record { indent_is = sym same; tokens_are = b.tokens_are (pass no_spot) });
+          (follows_there m (b.made (pass no_spot)) declares (b.stands no_spot)) (b.stands no_spot) (record { indent_is = sym same; tokens_are = b.tokens_are (pass no_spot) });
       none_so = none_ends within m n line.indent (front ++ keyword (codes "pass") no_spot) same (λ q asks h is fine.
           let one : h ≡ b.made (pass no_spot) = same_head h (b.made (pass no_spot)) (is ∙ sym (b.tokens_are (pass no_spot))) in
           passing q asks h first_is.0 (is ∙ first_is.1) (ap (λ g. is_some (behind_in g)) one ∙ ap is_some (b.behind_is (pass no_spot))) fine);
     }
 
+-- with the statement behind the `:` there are 20,001
+counts_there : (m : Level) (n : ℕ) (line : Line) (t : Token) (begins : Bool) (limit : Option Limit) (front : List Token) (shown : Token) (behind : List Token) → Opened m n line t begins limit → (m.context.may_declare ≡ true → m.of_def ≡ true)
+    → n ≤ 20000 → (begins ≡ true → (n < 20000) ⊎ (lacks_handler m.context.last ≡ true)) → line.tokens ≡ front ++ shown ∷ behind → StartsBehind m.context m.given pass front → limit ≡ Some Number → OneMoreFrom n [] front
+counts_there m n line t begins limit front shown behind o declares few unless_lacking before b passed =
+    let first_is = first_kept front (keyword (codes "pass") no_spot) behind shown t o.rest (starts_some m.context m.given front b) (sym before ∙ o.tokens_are) in
+    let made = b.made (pass no_spot) in
+    let same : begins ≡ is_stmt made = begins_as m n line t begins limit o made first_is.0 (b.tokens_are (pass no_spot) ∙ first_is.1) in
+    let fewer = fewer_there m n made begins same declares (b.stands no_spot) unless_lacking in
+    record {
+      at = no_spot;
+      next = made;
+      next_is = b.tokens_are (pass no_spot);
+      before = 0;
+      counts = refl;
+      number_is = full n begins (is_stmt made) (behind_in made) same few fewer (number_by _ _ (sym o.limit_is ∙ passed)) (b.behind_is (pass no_spot));
+    }
+  where
+    full : (n : ℕ) (begins is : Bool) (behind : Option Simple) → begins ≡ is → n ≤ 20000 → (begins ≡ true → n < 20000) → nat_le 20000 (n + from_bool begins) ≡ true → behind ≡ Some (pass no_spot)
+        → n + 0 + ((if is then 1 else 0) + (if is_none behind then 0 else 1)) ≡ 20001
+    full n true true (Some s) same few fewer many is = let less = fewer refl in omega (arith, less, leb-true 20000 (n + 1) many)
+    full n false false (Some s) same few fewer many is = omega (arith, few, leb-true 20000 (n + 0) many)
+    full n true false behind same few fewer many is = absurd (false≢true (sym same))
+    full n false true behind same few fewer many is = absurd (false≢true same)
+    full n begins is None same few fewer many there = cc
+
 -- with TooDeep and TooMany, what passes the limit
 limit_shown : (m : Level) (n : ℕ) (line : Line) (t : Token) (begins : Bool) (limit : Option Limit) (k : ℕ) (front : List Token) (shown : Token) (behind : List Token) (fault : Fault) → Opened m n line t begins limit
-    → (m.context.may_declare ≡ true → m.of_def ≡ true) → kind_may m.context t.kind ≡ true → line.tokens ≡ front ++ shown ∷ behind → GoesOnLine limit front shown fault
+    → (m.context.may_declare ≡ true → m.of_def ≡ true) → n ≤ 20000 → (begins ≡ true → (n < 20000) ⊎ (lacks_handler m.context.last ≡ true)) → line.tokens ≡ front ++ shown ∷ behind → GoesOnLine m.context m.given limit front shown fault
     → ((h : Head) (more : List Token) → head_tokens h ≡ front ++ shown ∷ more → IsAmissHead m.context m.given limit (Here fault) h) → line.indent ≡ m.indent → RowsLimit m n [] (halt_of k fault) (at_token line.indent front shown)
-limit_shown m n line t begins limit k front shown behind (Unexpected left) o declares allowed before goes none same = tt
-limit_shown m n line t begins limit k front shown behind Memory o declares allowed before goes none same = tt
-limit_shown m n line t begins limit k front shown behind (TooMany place) o declares allowed before goes none same =
-    passes_there few_statements m n line t o.rest front shown behind declares allowed o.tokens_are before goes.1 same (number_passing m n line t begins limit o goes.0)
-limit_shown m n line t begins limit k front shown behind (TooDeep place) o declares allowed before (inr goes) none same =
-    inr (goes.2, passes_there few_suites m n line t o.rest front shown behind declares allowed o.tokens_are before goes.1 same (suites_passing m n line t begins limit o goes.0))
-limit_shown m n line t begins limit k front shown behind (TooDeep place) o declares allowed before (inl begun) none same =
-    let first_is = front_first front shown behind [] t o.rest (sym before ∙ o.tokens_are) in
+limit_shown m n line t begins limit k front shown behind (Unexpected left) o declares most fewer before goes none same = tt
+limit_shown m n line t begins limit k front shown behind Memory o declares most fewer before goes none same = tt
+limit_shown m n line t begins limit k front shown behind (TooMany place) o declares most fewer before goes none same = (
+  passes_there few_statements m n line t o.rest front shown behind declares o.tokens_are before goes.1 same (number_passing m n line t begins limit o goes.0),
+  counts_there m n line t begins limit front shown behind o declares most fewer before goes.1 goes.0,
+)
+limit_shown m n line t begins limit k front shown behind (TooDeep place) o declares most fewer before (inr goes) none same =
+    inr (goes.2, passes_there few_suites m n line t o.rest front shown behind declares o.tokens_are before goes.1 same (suites_passing m n line t begins limit o goes.0))
+limit_shown m n line t begins limit k front shown behind (TooDeep place) o declares most fewer before (inl begun) none same =
     inl (record {
-      goes_on = begins_ended m line.indent t first_is.0 (front ++ shown ∷ []) declares allowed first_is.1 begun same;
+      goes_on = begins_ended None m line.indent (front ++ shown ∷ []) declares (anywhere m.context m.given (front ++ shown ∷ []) begun) same;
       there = λ h more is. by h more is (none h more is);
     })
   where
@@ -428,16 +502,16 @@ line_reads k front t (TooDeep place) u = u
 line_reads k front t (TooMany place) u = record { del_unread = u.del_unread; for_unread = u.for_unread }
 line_reads k front t Memory u = record { del_unread = u.del_unread; for_unread = u.for_unread }
 
-shown_line : (m : Level) (n : ℕ) (at : Pos) (line : Line) (lines : List Line) (t : Token) (begins : Bool) (limit : Option Limit) (fault : Fault) → Opened m n line t begins limit → (m.context.may_declare ≡ true → m.of_def ≡ true) → kind_may m.context t.kind ≡ true
-    → ShownBy BeginsHead (IsAheadOnLine limit) head_tokens (λ fault h. IsAmissHead m.context m.given limit (Here fault) h) line.tokens fault → RefusedLine m n at line lines (halt_of (length lines) fault)
-shown_line m n at line lines t begins limit fault o declares may s = record {
+shown_line : (m : Level) (n : ℕ) (at : Pos) (line : Line) (lines : List Line) (t : Token) (begins : Bool) (limit : Option Limit) (fault : Fault) → Opened m n line t begins limit → (m.context.may_declare ≡ true → m.of_def ≡ true)
+    → n ≤ 20000 → (begins ≡ true → (n < 20000) ⊎ (lacks_handler m.context.last ≡ true)) → ShownBy (BeginsHead m.context m.given) (IsAheadOnLine m.context m.given limit) head_tokens (λ fault h. IsAmissHead m.context m.given limit (Here fault) h) line.tokens fault → RefusedLine m n at line lines (halt_of (length lines) fault)
+shown_line m n at line lines t begins limit fault o declares most fewer s = record {
   point = at_token line.indent s.front s.shown_by;
   on_line = tt;
   shown = (refl, record { more = s.behind; tokens_are = s.before_is });
   marked = marked_shown line lines s.front s.shown_by s.behind fault s.before_is s.left_is;
-  limit = limit_shown m n line t begins limit (length lines) s.front s.shown_by s.behind fault o declares may s.before_is s.goes_on.0 s.none;
+  limit = limit_shown m n line t begins limit (length lines) s.front s.shown_by s.behind fault o declares most fewer s.before_is s.goes_on.0 s.none;
   begun = begun_token line.indent s.front s.shown_by;
-  begins = begins_token m line t o.rest s.front s.shown_by s.behind declares may o.tokens_are s.before_is s.begun;
+  begins = begins_token m line.indent s.front s.shown_by declares s.begun;
   reads = line_reads (length lines) s.front s.shown_by fault s.goes_on.1;
   none = λ q asks other more h there tokens_are goes_on fine.
       let is = sym tokens_are ∙ there.1.tokens_are in
@@ -446,12 +520,12 @@ shown_line m n at line lines t begins limit fault o declares may s = record {
 }
 
 -- the first token may stand there
-line_goes_on : (m : Level) (n : ℕ) (at : Pos) (line : Line) (lines : List Line) (t : Token) (begins : Bool) (limit : Option Limit) (fault : Fault) → Opened m n line t begins limit → (m.context.may_declare ≡ true → m.of_def ≡ true) → kind_may m.context t.kind ≡ true
-    → HeadRefused m.context m.given limit line.tokens (Here fault) → LineStopped m n at line lines (halt_of (length lines) fault)
-line_goes_on m n at line lines t begins limit (Unexpected left) o declares may is = shown_line m n at line lines t begins limit (Unexpected left) o declares may is
-line_goes_on m n at line lines t begins limit (TooMany place) o declares may is = shown_line m n at line lines t begins limit (TooMany place) o declares may is
-line_goes_on m n at line lines t begins limit (TooDeep place) o declares may is = shown_line m n at line lines t begins limit (TooDeep place) o declares may is
-line_goes_on m n at line lines t begins limit Memory o declares may is = tt
+line_goes_on : (m : Level) (n : ℕ) (at : Pos) (line : Line) (lines : List Line) (t : Token) (begins : Bool) (limit : Option Limit) (fault : Fault) → Opened m n line t begins limit → (m.context.may_declare ≡ true → m.of_def ≡ true)
+    → n ≤ 20000 → (begins ≡ true → (n < 20000) ⊎ (lacks_handler m.context.last ≡ true)) → HeadRefused m.context m.given limit line.tokens (Here fault) → LineStopped m n at line lines (halt_of (length lines) fault)
+line_goes_on m n at line lines t begins limit (Unexpected left) o declares most fewer is = shown_line m n at line lines t begins limit (Unexpected left) o declares most fewer is
+line_goes_on m n at line lines t begins limit (TooMany place) o declares most fewer is = shown_line m n at line lines t begins limit (TooMany place) o declares most fewer is
+line_goes_on m n at line lines t begins limit (TooDeep place) o declares most fewer is = shown_line m n at line lines t begins limit (TooDeep place) o declares most fewer is
+line_goes_on m n at line lines t begins limit Memory o declares most fewer is = tt
 
 -- the first token may not stand there
 line_never : (m : Level) (n : ℕ) (at : Pos) (line : Line) (lines : List Line) (t : Token) (rest : List Token) (fault : Fault) → line.tokens ≡ t ∷ rest → kind_may m.context t.kind ≡ false → IsAtFirst (t ∷ rest) (Here fault)
@@ -466,7 +540,7 @@ line_never m n at line lines t rest fault tokens absent first = by fault first
       marked = marked_shown line lines [] t rest (Unexpected left) tokens left_is;
       limit = λ same. tt;
       begun = begun_token line.indent [] t;
-      begins = λ same. begins_here m (at_token line.indent [] t) refl;
+      begins = λ same place. begins_here m (at_token line.indent [] t) refl;
       reads = first_reads None (at_token line.indent [] t) refl;
       none = λ q asks other more h there tokens_are goes_on fine.
           false≢true (sym (misplaced_head m.context m.given h t there.1.more (sym tokens_are ∙ there.1.tokens_are) absent)
@@ -480,26 +554,22 @@ line_never m n at line lines t rest fault tokens absent first = by fault first
     by Memory first = absurd first
 
 pub line_refused : (m : Level) (n : ℕ) (at : Pos) (line : Line) (lines : List Line) (t : Token) (begins : Bool) (limit : Option Limit) (fault : Fault) → Opened m n line t begins limit → (m.context.may_declare ≡ true → m.of_def ≡ true)
-    → FirstMay m.context line.tokens (Here fault) → HeadRefused m.context m.given limit line.tokens (Here fault) → LineStopped m n at line lines (halt_of (length lines) fault)
-line_refused m n at line lines t begins limit fault o declares (inl may) is = line_goes_on m n at line lines t begins limit fault o declares (sym (ap (may_begin m.context) o.tokens_are) ∙ may) is
-line_refused m n at line lines t begins limit fault o declares (inr first) is =
+    → n ≤ 20000 → (begins ≡ true → (n < 20000) ⊎ (lacks_handler m.context.last ≡ true)) → FirstMay m.context line.tokens (Here fault) → HeadRefused m.context m.given limit line.tokens (Here fault) → LineStopped m n at line lines (halt_of (length lines) fault)
+line_refused m n at line lines t begins limit fault o declares most fewer (inl may) is = line_goes_on m n at line lines t begins limit fault o declares most fewer is
+line_refused m n at line lines t begins limit fault o declares most fewer (inr first) is =
     line_never m n at line lines t o.rest fault o.tokens_are (sym (ap (may_begin m.context) o.tokens_are) ∙ first.0) (subst (λ (ts : List Token). IsAtFirst ts (Here fault)) o.tokens_are first.1)
 
 -- a line that ends too early
-ends_may : (c : Context) (t : Token) (rest tokens : List Token) → tokens ≡ t ∷ rest → FirstMay c tokens End → kind_may c t.kind ≡ true
-ends_may c t rest tokens is (inl may) = sym (ap (may_begin c) is) ∙ may
-ends_may c t rest tokens is (inr first) = absurd (subst (λ (ts : List Token). IsAtFirst ts End) is first.1)
-
 pub line_ends : (m : Level) (n : ℕ) (at place : Pos) (line : Line) (lines : List Line) (t : Token) (begins : Bool) (limit : Option Limit) → Opened m n line t begins limit → (m.context.may_declare ≡ true → m.of_def ≡ true) → place ≡ last_place at line.tokens
-    → FirstMay m.context line.tokens End → HeadRefused m.context m.given limit line.tokens End → RefusedLine m n at line lines (AtEnd (length lines) place)
-line_ends m n at place line lines t begins limit o declares named first e = record {
+    → HeadRefused m.context m.given limit line.tokens End → RefusedLine m n at line lines (AtEnd (length lines) place)
+line_ends m n at place line lines t begins limit o declares named e = record {
   point = at_end line.indent line.tokens;
   on_line = tt;
   shown = (refl, refl);
   marked = (refl, named);
   limit = λ same. tt;
   begun = begun_end line.indent line.tokens;
-  begins = begins_ended m line.indent t o.rest line.tokens declares (ends_may m.context t o.rest line.tokens o.tokens_are first) o.tokens_are e.begun;
+  begins = λ same place. begins_ended (Some place) m line.indent line.tokens declares (elsewhere place m.context m.given line.tokens e.begun) same;
   reads = tt;
   none = λ q asks other more h there tokens_are goes_on fine.
       false≢true (sym (e.none h (sym tokens_are ∙ there.1))
@@ -521,26 +591,29 @@ line_is_empty m n at line lines empty = record {
   marked = (refl, refl);
   limit = λ same. tt;
   begun = begun_end line.indent [];
-  begins = λ same. begins_here m (at_end line.indent []) refl;
+  begins = λ same place. begins_here m (at_end line.indent []) refl;
   reads = tt;
   none = λ q asks other more h there tokens_are goes_on fine. head_some h (sym tokens_are ∙ there.1);
 }
 
 -- a statement more than there may be
-pub one_too_many : (m : Level) (n : ℕ) (at : Pos) (line : Line) (lines : List Line) (t : Token) (rest : List Token) → line.tokens ≡ t ∷ rest → true ≡ is_stmt_kind t.kind → lacks_handler m.context.last ≡ false → 20000 ≤ n
+pub one_too_many : (m : Level) (n : ℕ) (at : Pos) (line : Line) (lines : List Line) (t : Token) (rest : List Token) → line.tokens ≡ t ∷ rest → true ≡ is_stmt_kind t.kind → lacks_handler m.context.last ≡ false → 20000 ≤ n → n ≤ 20000
     → RefusedLine m n at line lines (ManyHalt t.at)
-one_too_many m n at line lines t rest tokens begins lacks many = record {
+one_too_many m n at line lines t rest tokens begins lacks many few = record {
   point = at_token line.indent [] t;
   on_line = tt;
   shown = (refl, record { more = rest; tokens_are = tokens });
   marked = refl;
-  limit = λ same. record {
-    at = no_spot;
-    goes_on = follows_pass m (λ other. IsLine other line.indent (keyword (codes "pass") no_spot)) lacks (record { indent_is = sym same; tokens_are = refl });
-    none_so = none_ends few_statements m n line.indent (keyword (codes "pass") no_spot) same (λ q most h is fine. no_more q most h pass_token [] refl is fine);
-  };
+  limit = λ same. (
+    record {
+      at = no_spot;
+      goes_on = follows_pass m (λ other. IsLine other line.indent (keyword (codes "pass") no_spot)) lacks (record { indent_is = sym same; tokens_are = refl });
+      none_so = none_ends few_statements m n line.indent (keyword (codes "pass") no_spot) same (λ q most h is fine. no_more q most h pass_token [] refl is fine);
+    },
+    record { at = no_spot; next = simple_head (pass no_spot); next_is = refl; before = 0; counts = refl; number_is = omega (arith, many, few) },
+  );
   begun = begun_token line.indent [] t;
-  begins = λ same. begins_here m (at_token line.indent [] t) refl;
+  begins = λ same place. begins_here m (at_token line.indent [] t) refl;
   reads = first_reads None (at_token line.indent [] t) refl;
   none = λ q asks other more h there tokens_are goes_on fine. no_more q asks h t there.1.more begins (sym tokens_are ∙ there.1.tokens_are) fine;
 }

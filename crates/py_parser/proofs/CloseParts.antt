@@ -48,7 +48,7 @@ no_try Every other = refl
 
 pub empty_end : (cs : List ℕ) (p : Place) (b : Built) (at : Pos) (lines : List Line) → Below p.indent lines → (b.last ≡ Try → ⊥) → b.has_stmt ≡ false → NotClosed cs p b at lines (BadIndent at)
 empty_end cs p b at lines low other is = record {
-  there = λ given n within. refused_empty cs (level_at p given b) n at lines low (no_try b.last other) (empty_done p b given is);
+  there = λ given n within. refused_empty cs (level_at p given b) n at lines low (no_try b.last other) is (empty_done p b given is);
   other = λ same. cc;
 }
 

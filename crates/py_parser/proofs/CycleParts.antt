@@ -8,7 +8,7 @@ use Rattle.py_lines.specs.declared.parts.Line.{Line}
 use Rattle.py_grammar.specs.declared.around.Around.{Around}
 use Rattle.py_grammar.specs.declared.context.Last.{Last}
 use Rattle.py_parser.specs.declared.fault.Halt.{Halt}
-use Rattle.py_parser.specs.declared.fault.Halt.TheVariants.{BadIndent, TooDeep}
+use Rattle.py_parser.specs.declared.fault.Halt.TheVariants.{AtToken, AtEnd, NoLine, BadIndent, TooDeep, TooMany, Memory}
 use Rattle.py_grammar.specs.declared.head.Behind.{Behind}
 use Rattle.py_grammar.specs.declared.head.LineHead.{LineHead}
 use Rattle.py_grammar.specs.Written.{Simple}
@@ -18,12 +18,13 @@ use Rattle.py_grammar.specs.ParsedSimple.{around_of}
 use Rattle.py_grammar.specs.ParsedHead.{IsBehind, behind_in}
 use Rattle.py_parser.specs.declared.blocks.Place.{Place}
 use Rattle.py_parser.specs.declared.blocks.Built.{Built}
-use Rattle.py_parser.specs.Faults.{last_place, first_place}
+use Rattle.py_parser.specs.Faults.{last_place}
 use Rattle.py_parser.specs.Rows.{inside, Level, counted, is_global, is_def, head_around, head_given, opens, last_after, lets_declare, rows_lines}
 use Rattle.py_parser.specs.RowForms.{suite_list, grown, declared}
-use Rattle.py_parser.specs.ParsedBlocks.{level_of, level_at, is_here, trees_of, IsUnderOf, Standing, RowsRead, LineRead, UnderRead, RowRead, RowsStopped, RefusedUnder, UnderStopped, LineStopped, IsHead}
-use Rattle.py_parser.proofs.RowRefusals.{no_suite, too_deep_at}
-use Rattle.py_parser.proofs.UnderParts.{few_of, line_stopped, row_stopped, row_read, inner_level, suite_read, suite_stopped}
+use Rattle.py_parser.specs.ParsedBlocks.{level_of, level_at, is_here, trees_of, IsUnderOf, Standing, RowsRead, LineRead, UnderRead, RowRead, RowsStopped, RefusedUnder, UnderStopped, LineStopped, IsHead, BeyondSuites}
+use Rattle.py_parser.proofs.RowRefusals.{no_suite}
+use Rattle.py_parser.proofs.Beyond.{beyond}
+use Rattle.py_parser.proofs.UnderParts.{few_of, counted_alone, line_stopped, row_stopped, row_read, inner_level, suite_read, suite_stopped}
 
 -- the next line stands here
 here_is : (d : ℕ) (before : List Line) (line : Line) (lines : List Line) → before ≡ line ∷ lines → is_here d before ≡ true → line.indent ≡ d
@@ -129,21 +130,35 @@ pub not_below : (cs : List ℕ) (p : Place) (count : ℕ) (m : Level) (n : ℕ) 
 not_below cs p count m n h at line rest lines shallow is u low open_is =
     no_suite cs m (n + counted h) h at lines open_is (within p count m n h shallow u) (few_of m n h u.may_be) (subst (Below (suc m.indent)) (sym is) (let same = u.indent_is in omega (arith, low, same)))
 
-pub too_deep_below : (cs : List ℕ) (p : Place) (count : ℕ) (m : Level) (n : ℕ) (h : Head) (at place : Pos) (line : Line) (rest lines : List Line) → p.depth ≤ 50 → lines ≡ line ∷ rest → IsUnderOf p count m n h → p.indent < line.indent → 50 ≤ p.depth → opens h ≡ true → place ≡ first_place at line.tokens
-    → RefusedUnder cs m (n + counted h) h at lines (TooDeep place)
-too_deep_below cs p count m n h at place line rest lines low is u deeper deep open_is first =
-    subst (λ (ls : List Line). RefusedUnder cs m (n + counted h) h at ls (TooDeep place)) (sym is)
-    (too_deep_at cs m (n + counted h) h at place line rest open_is (let same = u.indent_is in omega (arith, deeper, same)) (within p count m n h low u) (few_of m n h u.may_be) (let same = u.depth_is in omega (arith, deep, same)) first)
+is_alone : (b : Option Simple) → IsBehind None b → b ≡ None
+is_alone None there = refl
+is_alone (Some s) there = absurd there
+
+pub beyond_below : (cs : List ℕ) (p : Place) (count : ℕ) (m : Level) (n : ℕ) (h : Head) (at : Pos) (line : Line) (rest lines : List Line) (halt : Halt) → p.depth ≤ 50 → lines ≡ line ∷ rest → IsUnderOf p count m n h → p.indent < line.indent → 50 ≤ p.depth → opens h ≡ true
+    → BeyondSuites h count at line rest halt → UnderStopped cs m (n + counted h) h at lines halt
+beyond_below cs p count m n h at line rest lines halt low is u deeper deep open_is why =
+    stops halt (subst (λ (ls : List Line). RefusedUnder cs m (n + counted h) h at ls halt) (sym is)
+    (beyond cs m (n + counted h) h at line rest open_is (let same = u.indent_is in omega (arith, deeper, same)) (within p count m n h low u) (few_of m n h u.may_be) (let same = u.depth_is in omega (arith, deep, same)) halt
+    (subst (λ k. BeyondSuites h k at line rest halt) (u.count_is ∙ sym (counted_alone n h (is_alone (behind_in h) (none_behind h open_is)))) why)))
+  where
+    stops : (halt : Halt) → RefusedUnder cs m (n + counted h) h at lines halt → UnderStopped cs m (n + counted h) h at lines halt
+    stops (AtToken lines_left left) r = r
+    stops (AtEnd lines_left place) r = r
+    stops (NoLine place) r = r
+    stops (BadIndent place) r = r
+    stops (TooDeep place) r = r
+    stops (TooMany place) r = r
+    stops Memory r = tt
 
 -- where the lines of the suite stand
 abbrev pub inner_place : ℕ → ℕ → Around → Bool → Place
 inner_place indent depth around def = record { indent = indent; depth = depth; around = around; of_def = def }
 
-pub suite_stopped_there : (cs ds : List ℕ) (p q : Place) (given : List (List ℕ)) (count : ℕ) (m : Level) (n : ℕ) (h : Head) (at : Pos) (lines : List Line) (fault : Halt) → p.depth ≤ 50 → IsUnderOf p count m n h → opens h ≡ true → q.depth ≡ p.depth + 1
+pub suite_stopped_there : (cs ds : List ℕ) (p q : Place) (given : List (List ℕ)) (count : ℕ) (m : Level) (n : ℕ) (h : Head) (at : Pos) (lines : List Line) (fault : Halt) → p.depth < 50 → IsUnderOf p count m n h → opens h ≡ true → q.depth ≡ p.depth + 1
     → around_of q.around ≡ head_around (around_of p.around) h → q.of_def ≡ is_def h → given ≡ head_given h → p.indent < q.indent → ds ≡ cs ++ p.indent ∷ [] → RowsStopped ds (level_of q given) count at lines fault
     → UnderStopped cs m (n + counted h) h at lines fault
 suite_stopped_there cs ds p q given count m n h at lines fault low u open_is depth around def params deeper columns stopped =
-    suite_stopped cs p q.indent n count m h at lines fault u (none_behind h open_is) open_is (let same = u.indent_is in omega (arith, deeper, same)) (within p count m n h low u)
+    suite_stopped cs p q.indent n count m h at lines fault u (none_behind h open_is) open_is (let same = u.indent_is in omega (arith, deeper, same)) (let same = u.depth_is in omega (arith, low, same))
     (subst (λ (xs : List ℕ). RowsStopped xs (inside m h q.indent) count at lines fault) (columns ∙ ap (λ d. cs ++ d ∷ []) (sym u.indent_is))
     (subst (λ (l : Level). RowsStopped ds l count at lines fault) (inner_level p q given m n count h u depth around def params) stopped))
 

@@ -28,6 +28,7 @@ as_fault lines halt fault h deep asked limit named = record {
   begins = h.begins;
   reads = subst (λ o. ReadsNoFurther o h.point) deep h.reads;
   few = h.few;
+  shallow = h.shallow;
   none = λ limits asks. h.none limits (asked limits asks);
 }
 

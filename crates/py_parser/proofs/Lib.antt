@@ -1,3 +1,4 @@
+pub mod Beyond
 pub mod BlockForms
 pub mod BlockHeads
 pub mod BlockLines
@@ -9,13 +10,16 @@ pub mod CycleParts
 pub mod Endings
 pub mod FirstFaults
 pub mod Grown
+pub mod Lacking
 pub mod Parsing
 pub mod Peeled
 pub mod RowFits
 pub mod RowKept
 pub mod RowLimits
 pub mod RowLines
+pub mod RowNeeds
 pub mod RowRefusals
 pub mod RowStatements
 pub mod RowsStanding
+pub mod Shallow
 pub mod UnderParts

@@ -1,5 +1,5 @@
 -- A whole script: what is read of all its lines, and what is refused.
-use Rattle.std.proofs.Common.{◌≡◌, inl, inr, ◌⊎◌, ℕ, ◌<◌, ◌+◌, true, List, [], ◌∷◌, ◌++◌, refl, ap, sym, ◌∙◌, subst, arith, append-nil, map, codes, Vec, Global}
+use Rattle.std.proofs.Common.{◌≡◌, inl, inr, ◌⊎◌, ℕ, ◌<◌, ◌≤◌, ◌+◌, true, List, [], ◌∷◌, ◌++◌, refl, ap, sym, ◌∙◌, subst, arith, append-nil, map, codes, Vec, Global, Option, Some, None}
 use Rattle.std.proofs.lemmas.Bool.{false≢true}
 use Rattle.prov_base.specs.declared.place.Pos.{Pos}
 use Rattle.py_lines.specs.declared.parts.Line.{Line}
@@ -15,6 +15,7 @@ use Rattle.py_parser.specs.declared.fault.Halt.TheVariants.{AtToken, AtEnd, NoLi
 use Rattle.py_grammar.specs.Written.{Script, empty_script, script}
 use Rattle.py_grammar.specs.Grammar.{script_lines, FitsScript}
 use Rattle.py_grammar.specs.StatementTrees.{script_body}
+use Rattle.py_grammar.specs.WellPlaced.{script_stands}
 use Rattle.py_grammar.specs.Follows.{Below}
 use Rattle.py_parser.specs.declared.blocks.Built.{Built}
 use Rattle.py_parser.specs.Limits.{Limits, profile}
@@ -23,23 +24,24 @@ use Rattle.py_grammar.specs.Tokens.{keyword}
 use Rattle.py_grammar.specs.LineReader.{head_tokens}
 use Rattle.py_grammar.specs.Layout.{IsLine}
 use Rattle.py_parser.specs.Script.{IsScript}
-use Rattle.py_parser.specs.Faults.{Point, at_token, at_end, at_line, below, no_line, shows, first_place, first_token, Asks, origin, BeginsScript, SomeFollows, MayFollow, IsAt, IsPass, IsPassBefore, IsHandler, MayStandAt, InColumn, FirstFault, IsFault, NoneWithin, few_suites, few_statements, PassesLimit, LiesDeep}
-use Rattle.py_parser.specs.Rows.{Rows, end_rows, row, rows_lines, rows_size, rows_may, start, Level, FitsRows, FitsStart, Begun}
+use Rattle.py_parser.specs.Faults.{Point, at_token, at_end, at_line, below, no_line, shows, first_place, first_token, Asks, origin, BeginsScript, SomeFollows, SomeStands, FollowsWithin, MayFollow, StandsFor, LieWithin, IsAt, IsPass, IsPassBefore, IsHandler, MayStandAt, LacksStatement, InColumn, FirstFault, IsFault, NoneWithin, few_suites, few_statements, PassesLimit, LiesDeep}
+use Rattle.py_parser.specs.Rows.{Rows, end_rows, row, rows_lines, rows_size, rows_may, rows_stand, start, Level, FitsRows, FitsStart, Begun}
 use Rattle.py_parser.specs.Grouped.{script_rows, script_of}
 use Rattle.py_parser.specs.RowForms.{suite_list, grow}
-use Rattle.py_parser.specs.ParsedBlocks.{RowsFollow, NoneRows, Passes, Deep, RowsLimit, ScriptLimit, Asks as AsksHalt, wide, trees_of, RowsBegin, RowsGoOn, NoRows, MayStand, Placed, Refused, RowsStopped, RowsRead, FirstHalt, IsHalt}
+use Rattle.py_parser.specs.ParsedBlocks.{RowsFollow, NoneRows, Passes, Deep, RowsLimit, ScriptLimit, Asks as AsksHalt, wide, trees_of, RowsBegin, RowsWithin, RowsGoOn, RowsLie, NoRows, MayStand, Lacks, Placed, Refused, RowsStopped, RowsRead, FirstHalt, IsHalt}
 use Rattle.py_parser.proofs.RowLines.{script_same}
 use Rattle.py_parser.proofs.RowFits.{script_fits}
 use Rattle.py_parser.proofs.RowStatements.{script_is}
 use Rattle.py_parser.proofs.Grown.{script_grown, script_size}
 use Rattle.py_parser.proofs.RowLimits.{script_may}
 use Rattle.py_parser.proofs.RowKept.{script_fine}
+use Rattle.py_parser.proofs.RowNeeds.{rows_height, rows_suites, rows_enough}
 use Rattle.py_tree.proofs.DeletionLaws.{suite_again, suite_size}
 use Rattle.py_parser.proofs.BlockForms.{rolled}
 use Rattle.py_parser.proofs.Peeled.{one_indent}
 use Rattle.py_parser.proofs.Columns.{none_open}
-use Rattle.py_parser.proofs.Counting.{more_room}
 use Rattle.py_parser.proofs.Endings.{pass_before}
+use Rattle.py_parser.proofs.Shallow.{no_last, same_last}
 
 abbrev pub tree_of : SuiteTree → ℕ → ScriptTree
 tree_of body count = record { body = body; count = count }
@@ -108,17 +110,37 @@ some_lines : (d : ℕ) (x : List Line) → Begun d x → x ≡ [] → ⊥
 some_lines d [] begun none = begun
 some_lines d (line ∷ x) begun none = cc
 
+-- rows that may stand there are those of a script whose statements do
+script_standing : (rows : Rows) → FitsRows start rows → rows_stand start rows ≡ true → script_stands (script_of rows) ≡ true
+script_standing rows fits standing =
+    let s = script_is rows (starts rows fits) in
+    let q : Limits = record { height = rows_height rows; suites = rows_suites rows; number = rows_size rows } in
+    (script_fine q (script_of rows) (ap (rows_may q start 0) s.rows_are ∙ rows_enough q start 0 rows standing (same_low (rows_height rows)) (none_more (rows_suites rows)) (none_more (rows_size rows)))).stands
+  where
+    same_low : (a : ℕ) → a ≤ a
+    same_low a = omega arith
+
+    none_more : (a : ℕ) → 0 + a ≤ a
+    none_more a = omega arith
+
 -- rows that begin so are those of a script
-script_begins : (front : List Line) (p : Point) → RowsBegin start front p → BeginsScript front p
-script_begins front p b =
+script_begins : (place : Option Pos) (front : List Line) (p : Point) → RowsBegin place start front p → BeginsScript place front p
+script_begins place front p b =
     let s = script_is b.rows (starts b.rows b.fits) in
-    record { some = script_of b.rows; fits = s.fits; more = b.more; lines_are = sym (script_same (script_of b.rows)) ∙ ap rows_lines s.rows_are ∙ b.lines_are; next = b.next }
+    record {
+      some = script_of b.rows;
+      fits = s.fits;
+      more = b.more;
+      lines_are = sym (script_same (script_of b.rows)) ∙ ap rows_lines s.rows_are ∙ b.lines_are;
+      next = b.next;
+      stands = script_standing b.rows b.fits b.stands;
+    }
 
 -- rows that go on so are those of a script
-script_goes_on : (is : Line → Type 0) (front : List Line) → RowsGoOn start 0 is front → MayFollow is front
-script_goes_on is front g =
+script_within : (suites : ℕ) (is : Line → Type 0) (front : List Line) → RowsWithin suites start 0 is front → FollowsWithin suites is front
+script_within suites is front g =
     let s = script_is g.rows (starts g.rows g.fits) in
-    let fine = script_fine (wide (rows_size g.rows)) (script_of g.rows) (ap (rows_may (wide (rows_size g.rows)) start 0) s.rows_are ∙ g.may_be (rows_size g.rows) (omega arith)) in
+    let fine = script_fine (wide suites (rows_size g.rows)) (script_of g.rows) (ap (rows_may (wide suites (rows_size g.rows)) start 0) s.rows_are ∙ g.may_be (rows_size g.rows) (omega arith)) in
     record {
       some = script_of g.rows;
       fits = s.fits;
@@ -130,6 +152,19 @@ script_goes_on is front g =
       low = fine.low;
       deep = fine.deep;
     }
+
+script_goes_on : (is : Line → Type 0) (front : List Line) → RowsGoOn start 0 is front → MayFollow is front
+script_goes_on is front g = script_within 51 is front g
+
+-- none of them lies in a 51st suite
+script_lies : (front : List Line) → RowsLie start 0 front → LieWithin front
+script_lies front lies before last at is = by lies
+  where
+    by : RowsLie start 0 front → FollowsWithin 50 (StandsFor at last) before
+    by (inl none) = absurd (no_last before last (sym none ∙ is))
+    by (inr e) =
+        let same = same_last e.before before e.last last (sym e.front_is ∙ is) in
+        subst (λ (line : Line). FollowsWithin 50 (StandsFor at line) before) same.1 (subst (λ (ls : List Line). FollowsWithin 50 (StandsFor at e.last) ls) same.0 (script_within 50 (StandsFor at e.last) e.before (e.goes_on at)))
 
 may_stand_at : (d : ℕ) (front : List Line) → MayStand [] start 0 d front → MayStandAt d front
 may_stand_at d front (inl g) = inl (script_goes_on (IsAt d) front g)
@@ -148,12 +183,17 @@ complete_at : (d : ℕ) (front : List Line) → RowsGoOn start 0 (IsPassBefore d
 complete_at d front (inl g) = inl (script_goes_on (IsPassBefore d) front g)
 complete_at d front (inr g) = inr (script_goes_on IsHandler front g)
 
-in_column : (front : List Line) (p : Point) → Placed [] start 0 front p → InColumn front p
-in_column front (at_token d tokens t) placed = may_stand_at d front placed
-in_column front (at_end d tokens) placed = may_stand_at d front placed
-in_column front (at_line d) placed = record { none = never_there d front placed; no_suite = placed.inside; complete = complete_at d front placed.complete }
-in_column front (below d) placed = script_goes_on (IsPass d) front placed
-in_column front no_line placed = script_goes_on IsHandler front placed
+-- no suite of a script is without a statement, but for those that its lines begin
+lacks_there : (d : ℕ) (front : List Line) → (front ≡ [] → ⊥) → Lacks start d front → LacksStatement d front
+lacks_there d front some (inl lacks) = lacks
+lacks_there d front some (inr empty) = elim empty.of_def [ inl is ↦ absurd (false≢true is) | inr is ↦ absurd (some is) ]
+
+in_column : (front : List Line) (p : Point) → ((rest : List Line) → shows p rest → Begun 0 (front ++ rest)) → Placed [] start 0 front p → InColumn front p
+in_column front (at_token d tokens t) begun placed = may_stand_at d front placed
+in_column front (at_end d tokens) begun placed = may_stand_at d front placed
+in_column front (at_line d) begun placed = record { none = never_there d front placed; no_suite = placed.inside; complete = complete_at d front placed.complete }
+in_column front (below d) begun placed = (script_goes_on (IsPass d) front placed.0, lacks_there d front (λ is. subst (λ (ls : List Line). Begun 0 (ls ++ [])) is (begun [] tt)) placed.1)
+in_column front no_line begun placed = script_goes_on IsHandler front placed
 
 -- none of these rows is no script
 none_script : (within : Limits → Type 0) (front : List Line) (p : Point) → ((rest : List Line) → shows p rest → front ++ rest ≡ [] → ⊥) → NoneRows within start 0 front p → NoneWithin within front p
@@ -164,10 +204,18 @@ ends_some : (front : List Line) (d : ℕ) (tokens : List Token) (rest : List Lin
 ends_some front d tokens [] shown is = shown
 ends_some front d tokens (line ∷ rest) shown is = not_empty front line rest is
 
-script_follows : (is : Line → Type 0) (front : List Line) → RowsFollow start is front → SomeFollows is front
+script_follows : (is : Line → Type 0) (front : List Line) → RowsFollow start is front → SomeStands is front
 script_follows is front g =
     let s = script_is g.rows (starts g.rows g.fits) in
-    record { some = script_of g.rows; fits = s.fits; line = g.line; more = g.more; lines_are = sym (script_same (script_of g.rows)) ∙ ap rows_lines s.rows_are ∙ g.lines_are; line_is = g.line_is }
+    record {
+      some = script_of g.rows;
+      fits = s.fits;
+      line = g.line;
+      more = g.more;
+      lines_are = sym (script_same (script_of g.rows)) ∙ ap rows_lines s.rows_are ∙ g.lines_are;
+      line_is = g.line_is;
+      stands = script_standing g.rows g.fits g.stands;
+    }
 
 -- what passes a limit, said of a script
 passes_limit : (within : Limits → Type 0) (front : List Line) (d : ℕ) (tokens : List Token) → Passes (λ is. RowsFollow start is front) (λ d ts. NoneRows within start 0 front (at_end d ts)) d tokens → PassesLimit within front d tokens
@@ -177,9 +225,9 @@ passes_limit within front d tokens s = record {
   none = none_script within front (at_end d (tokens ++ keyword (codes "pass") s.at)) (ends_some front d (tokens ++ keyword (codes "pass") s.at)) s.none_so;
 }
 
-lies_deep : (place : Pos) (front : List Line) (d : ℕ) (tokens : List Token) (next : Token) → Deep (RowsBegin start front) (λ d ts. NoneRows few_suites start 0 front (at_end d ts)) place d tokens next → LiesDeep place front d tokens next
+lies_deep : (place : Pos) (front : List Line) (d : ℕ) (tokens : List Token) (next : Token) → Deep (RowsBegin None start front) (λ d ts. NoneRows few_suites start 0 front (at_end d ts)) place d tokens next → LiesDeep place front d tokens next
 lies_deep place front d tokens next s = record {
-  goes_on = script_begins front (at_end d (tokens ++ next ∷ [])) s.goes_on;
+  goes_on = script_begins None front (at_end d (tokens ++ next ∷ [])) s.goes_on;
   there = λ h more is. elim (s.there h more is) [ inl lies ↦ inl lies | inr far ↦ inr (far.0, none_script few_suites front (at_end d (head_tokens h)) (ends_some front d (head_tokens h)) far.1) ];
 }
 
@@ -190,7 +238,8 @@ script_limit front (DeepHalt place) (at_end d tokens) (none, s) = (none, passes_
 script_limit front (DeepHalt place) (at_line d) limit = limit
 script_limit front (DeepHalt place) (below d) limit = limit
 script_limit front (DeepHalt place) no_line limit = limit
-script_limit front (ManyHalt place) (at_token d tokens t) s = passes_limit few_statements front d tokens s
+script_limit front (ManyHalt place) (at_token d tokens t) s =
+    (passes_limit few_statements front d tokens s.0, record { at = s.1.at; next = s.1.next; next_is = s.1.next_is; before = s.1.before; counts = s.1.counts; number_is = let all = s.1.number_is in omega (arith, all) })
 script_limit front (ManyHalt place) (at_end d tokens) limit = limit
 script_limit front (ManyHalt place) (at_line d) limit = limit
 script_limit front (ManyHalt place) (below d) limit = limit
@@ -210,10 +259,11 @@ first_halt lines halt r = record {
   shown = r.shown;
   marked = r.marked;
   limit = script_limit r.front halt r.point r.limit;
-  column = in_column r.front r.point r.placed;
-  begins = script_begins r.front r.point r.begins;
+  column = in_column r.front r.point r.begun r.placed;
+  begins = λ place. script_begins (Some place) r.front r.point (r.begins place);
   reads = r.reads;
-  few = more_room r.few.room 20000 r.front (let low = r.few.within in omega (arith, low)) r.few.at_most;
+  few = record { number = r.few.number; counts = r.few.counts; within = let low = r.few.within in omega (arith, low) };
+  shallow = script_lies r.front (r.shallow (λ lacks. absurd (false≢true lacks)));
   none = none_script (AsksHalt halt) r.front r.point (λ rest shown_it. some_lines 0 (r.front ++ rest) (r.begun rest shown_it)) r.none;
 }
 
@@ -248,9 +298,10 @@ indented_first line lines all is other = record {
   named = sym (ap (first_token origin) is);
   limit = tt;
   column = record { none = λ g. never g.some (g.line ∷ g.more) g.fits g.lines_are g.line_is; no_suite = none_open line.indent; complete = inl (script_goes_on (IsPassBefore line.indent) [] (pass_before start 0 line.indent refl (positive line.indent other))) };
-  begins = record { some = empty_script; fits = tt; more = []; lines_are = refl; next = tt };
+  begins = λ place. record { some = empty_script; fits = tt; more = []; lines_are = refl; next = tt; stands = refl };
   reads = tt;
-  few = tt;
+  few = record { number = 0; counts = refl; within = omega arith };
+  shallow = λ before last at is. absurd (no_last before last is);
   none = λ limits asks s fits fine rest shown_it same. never s rest fits same (begun rest shown_it);
 }
   where

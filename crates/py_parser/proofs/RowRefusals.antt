@@ -1,5 +1,5 @@
 -- Where the lines of a script stop being rows: how a refusal further on is one of what stands before it.
-use Rattle.std.proofs.Common.{◌≡◌, inl, inr, ◌⊎◌, ℕ, ◌+◌, ◌<◌, ◌≤◌, suc, nat_le, Bool, true, false, ◌&&◌, List, [], ◌∷◌, ◌++◌, refl, ap, sym, ◌∙◌, subst, arith, append_assoc, append-nil, leb-true, length, codes, Option, Some}
+use Rattle.std.proofs.Common.{◌≡◌, inl, inr, ◌⊎◌, ℕ, ◌+◌, ◌<◌, ◌≤◌, suc, nat_le, Bool, true, false, ◌&&◌, List, [], ◌∷◌, ◌++◌, refl, ap, sym, ◌∙◌, subst, arith, append_assoc, append-nil, leb-true, length, codes, Option, Some, None}
 use Rattle.std.proofs.lemmas.Bool.{false≢true}
 use Rattle.prov_base.specs.declared.place.Pos.{Pos}
 use Rattle.py_lines.specs.declared.parts.Line.{Line}
@@ -10,17 +10,20 @@ use Rattle.py_grammar.specs.LineReader.{Head, head_tokens}
 use Rattle.py_grammar.specs.Layout.{IsLine}
 use Rattle.py_grammar.specs.Follows.{Below}
 use Rattle.py_parser.specs.Limits.{Limits, profile}
-use Rattle.py_parser.specs.Rows.{Rows, end_rows, row, Under, nothing, block, rows_lines, under_lines, Level, counted, opens, after, inside, is_done, follows, Leads, FitsUnder, FitsRows, may, rows_may, under_may, rows_size, Edge, LastEdge, Begun}
+use Rattle.py_parser.specs.Rows.{Rows, end_rows, row, Under, nothing, block, rows_lines, under_lines, Level, counted, opens, after, inside, is_done, follows, Leads, FitsUnder, FitsRows, may, rows_may, under_may, rows_stand, rows_size, Edge, LastEdge, Begun}
 use Rattle.py_lines.specs.declared.parts.TokenKind.TheVariants.{Keyword}
 use Rattle.py_grammar.specs.declared.fault.Fault.{Fault}
-use Rattle.py_grammar.specs.ParsedHead.{UnreadLine, lacks_handler}
+use Rattle.py_grammar.specs.ParsedHead.{UnreadLine, lacks_handler, head_stands}
 use Rattle.py_grammar.specs.Tokens.{keyword, token}
 use Rattle.py_parser.specs.Grouped.{no_spot}
 use Rattle.py_parser.specs.Faults.{NoLess, Point, at_token, at_end, at_line, below, no_line, shows, first_place, last_place, last_token, IsAt, IsPass, IsPassBefore, IsHandler, IsOpenAt, few_suites, few_statements, tokens_before, ReadsNoFurther, line_fault}
-use Rattle.py_parser.specs.ParsedBlocks.{RowsBegin, RowsFollow, UnderFollows, NoneRows, NoneUnder, Passes, Deep, LimitBy, RowsLimit, UnderLimit, NoLimit, Few, is_column, columns_under, RowsGoOn, UnderGoesOn, NoRows, NoUnder, MayStand, MayStandUnder, Placed, PlacedUnder, IsOnLine, UnderBegins, Refused, RefusedHere, RefusedUnder, RefusedLine, Asks, marks, MarksFirst, deep_at}
+use Rattle.py_parser.specs.ParsedBlocks.{RowsBegin, RowsFollow, UnderFollows, NoneRows, NoneUnder, Passes, Deep, LimitBy, RowsLimit, UnderLimit, NoLimit, Few, OneMoreFrom, is_column, columns_under, RowsGoOn, UnderGoesOn, NoRows, NoUnder, MayStand, MayStandUnder, Placed, PlacedUnder, IsOnLine, UnderBegins, Refused, RefusedHere, RefusedUnder, RefusedLine, Asks, marks, MarksFirst, deep_at}
 use Rattle.py_parser.proofs.Columns.{leads_low, under_low, less_in, all_front, open_behind, open_first, none_open, open_split, open_apart, open_low, no_open_rows, column_inside, own_column, column_here}
 use Rattle.py_parser.proofs.Endings.{begins_here, begins_behind, begins_end, begins_under, begins_inside, begins_suite, handler_next, pass_next, pass_before, line_next, goes_behind, goes_end, goes_under, goes_inside, follows_behind, follows_under, follows_inside, follows_pass}
-use Rattle.py_parser.proofs.Counting.{few_behind, few_under, few_here}
+use Rattle.py_parser.proofs.Lacking.{indent_stays, lacks_behind, lacks_end, lacks_under, lacks_inside}
+use Rattle.py_parser.proofs.Counting.{few_behind, few_under, few_here, more_behind, more_under}
+use Rattle.py_parser.proofs.RowNeeds.{head_standing, rows_standing}
+use Rattle.py_parser.proofs.Shallow.{rows_room, rows_lie, lie_behind, lie_under, lie_inside}
 use Rattle.py_parser.proofs.Peeled.{begun_rows, one_indent, edge_under, head_is, left_over, peeled}
 
 first_line : (a b : Line) (x y : List Line) → a ∷ x ≡ b ∷ y → a ≡ b
@@ -33,10 +36,6 @@ other_lines a b x y is = cc
 not_below : (d : ℕ) (x : List Line) → Begun d x → Below d x → ⊥
 not_below d [] begun low = begun
 not_below d (line ∷ x) begun low = absurd (omega (arith, begun, low))
-
-pub indent_stays : (l m : Level) (rows : Rows) → Leads l rows m → m.indent ≡ l.indent
-indent_stays l m end_rows leads = ap (λ (k : Level). k.indent) leads
-indent_stays l m (row line h under rest) leads = indent_stays (after l h) m rest leads.3
 
 below_begun : (d k : ℕ) (x : List Line) → d < k → Begun d x → Below k x
 below_begun d k [] less begun = absurd begun
@@ -102,7 +101,7 @@ placed_behind : (cs : List ℕ) (l m : Level) (n : ℕ) (rows : Rows) (front beh
 placed_behind cs l m n rows front behind (at_token d tokens t) leads may_be shown begun is = may_behind cs l m n rows d front leads may_be is
 placed_behind cs l m n rows front behind (at_end d tokens) leads may_be shown begun is = may_behind cs l m n rows d front leads may_be is
 placed_behind cs l m n rows front behind (at_line d) leads may_be shown begun is = no_rows_behind cs l m n rows d front behind leads may_be shown begun is
-placed_behind cs l m n rows front behind (below d) leads may_be shown begun is = goes_behind l m n rows (IsPass d) front leads may_be is
+placed_behind cs l m n rows front behind (below d) leads may_be shown begun is = (goes_behind l m n rows (IsPass d) front leads may_be is.0, lacks_behind l m rows d front leads is.1)
 placed_behind cs l m n rows front behind no_line leads may_be shown begun is = goes_behind l m n rows IsHandler front leads may_be is
 
 -- where a line stands that is shown
@@ -133,10 +132,11 @@ ends_begun d tokens [] shown = absurd shown
 ends_begun d tokens (line ∷ rest) shown = shown.0
 
 -- what passes a limit, said of more lines
-limit_more : (begins more_begins : Point → Type 0) (follow more_follow : (Line → Type 0) → Type 0) (none more_none : (Limits → Type 0) → ℕ → List Token → Type 0) (halt : Halt) (p : Point) → ((p : Point) → begins p → more_begins p)
+limit_more : (begins more_begins : Point → Type 0) (follow more_follow : (Line → Type 0) → Type 0) (none more_none : (Limits → Type 0) → ℕ → List Token → Type 0) (count more_count : List Token → Type 0) (halt : Halt) (p : Point)
+    → ((p : Point) → begins p → more_begins p)
     → ((is : Line → Type 0) → follow is → more_follow is) → ((within : Limits → Type 0) (d : ℕ) (tokens : List Token) → stands_at p d → none within d tokens → more_none within d tokens)
-    → LimitBy begins follow none halt p → LimitBy more_begins more_follow more_none halt p
-limit_more begins more_begins follow more_follow none more_none halt p one two three limit = by halt p three limit
+    → ((tokens : List Token) → count tokens → more_count tokens) → LimitBy begins follow none count halt p → LimitBy more_begins more_follow more_none more_count halt p
+limit_more begins more_begins follow more_follow none more_none count more_count halt p one two three four limit = by halt p three limit
   where
     passes : (within : Limits → Type 0) (d : ℕ) (tokens : List Token) → ((ts : List Token) → none within d ts → more_none within d ts) → Passes follow (none within) d tokens → Passes more_follow (more_none within) d tokens
     passes within d tokens more s = record { at = s.at; goes_on = two (λ line. IsLine line d (tokens ++ keyword (codes "pass") s.at)) s.goes_on; none_so = more (tokens ++ keyword (codes "pass") s.at) s.none_so }
@@ -147,14 +147,14 @@ limit_more begins more_begins follow more_follow none more_none halt p one two t
       there = λ h rest is. elim (s.there h rest is) [ inl lies ↦ inl lies | inr far ↦ inr (far.0, more (head_tokens h) far.1) ];
     }
 
-    by : (halt : Halt) (p : Point) → ((within : Limits → Type 0) (d : ℕ) (tokens : List Token) → stands_at p d → none within d tokens → more_none within d tokens) → LimitBy begins follow none halt p → LimitBy more_begins more_follow more_none halt p
+    by : (halt : Halt) (p : Point) → ((within : Limits → Type 0) (d : ℕ) (tokens : List Token) → stands_at p d → none within d tokens → more_none within d tokens) → LimitBy begins follow none count halt p → LimitBy more_begins more_follow more_none more_count halt p
     by (TooDeep place) (at_token d tokens t) three (inl s) = inl (deeper place d tokens t (λ ts. three few_suites d ts refl) s)
     by (TooDeep place) (at_token d tokens t) three (inr (at, s)) = inr (at, passes few_suites d tokens (λ ts. three few_suites d ts refl) s)
     by (TooDeep place) (at_end d tokens) three (none, s) = (none, passes few_suites d [] (λ ts. three few_suites d ts refl) s)
     by (TooDeep place) (at_line d) three limit = limit
     by (TooDeep place) (below d) three limit = limit
     by (TooDeep place) no_line three limit = limit
-    by (TooMany place) (at_token d tokens t) three s = passes few_statements d tokens (λ ts. three few_statements d ts refl) s
+    by (TooMany place) (at_token d tokens t) three s = (passes few_statements d tokens (λ ts. three few_statements d ts refl) s.0, four tokens s.1)
     by (TooMany place) (at_end d tokens) three limit = limit
     by (TooMany place) (at_line d) three limit = limit
     by (TooMany place) (below d) three limit = limit
@@ -172,13 +172,13 @@ none_behind within l m n k rows front p leads count_is begun none q asks rest ot
     let left = peeled q l m n rows others (front ++ rest) s leads fits may_be low (last_edge l m rows (front ++ rest) leads (subst (λ d. Begun d (front ++ rest)) indent (begun rest shows_it))) (same ∙ append_assoc (rows_lines rows) front rest) in
     none q asks rest left.left s shows_it left.fits (subst (λ j. rows_may q m j left.left ≡ true) (sym count_is) left.may_be) (subst (λ d. Below d s) (sym indent) low) left.lines_are
 
-limit_behind : (l m : Level) (n k : ℕ) (rows : Rows) (front : List Line) (fault : Halt) (p : Point) → Leads l rows m → k ≡ n + rows_size rows → ((rest : List Line) → shows p rest → Begun m.indent (front ++ rest)) → RowsLimit m k front fault p
+limit_behind : (l m : Level) (n k : ℕ) (rows : Rows) (front : List Line) (fault : Halt) (p : Point) → Leads l rows m → rows_stand l rows ≡ true → k ≡ n + rows_size rows → ((rest : List Line) → shows p rest → Begun m.indent (front ++ rest)) → RowsLimit m k front fault p
     → RowsLimit l n (rows_lines rows ++ front) fault p
-limit_behind l m n k rows front fault p leads count_is begun limit =
-    limit_more (RowsBegin m front) (RowsBegin l (rows_lines rows ++ front)) (λ is. RowsFollow m is front) (λ is. RowsFollow l is (rows_lines rows ++ front))
-    (λ within d tokens. NoneRows within m k front (at_end d tokens)) (λ within d tokens. NoneRows within l n (rows_lines rows ++ front) (at_end d tokens)) fault p
-    (λ p b. begins_behind l m rows front p leads b) (λ is f. follows_behind l m rows is front leads f)
-    (λ within d tokens at none. none_behind within l m n k rows front (at_end d tokens) leads count_is (λ rest shown. begun_there m.indent d front p at begun rest (ends_begun d tokens rest shown)) none) limit
+limit_behind l m n k rows front fault p leads standing count_is begun limit =
+    limit_more (RowsBegin None m front) (RowsBegin None l (rows_lines rows ++ front)) (λ is. RowsFollow m is front) (λ is. RowsFollow l is (rows_lines rows ++ front))
+    (λ within d tokens. NoneRows within m k front (at_end d tokens)) (λ within d tokens. NoneRows within l n (rows_lines rows ++ front) (at_end d tokens)) (OneMoreFrom k front) (OneMoreFrom n (rows_lines rows ++ front)) fault p
+    (λ p b. begins_behind l m rows front p leads standing b) (λ is f. follows_behind l m rows is front leads standing f)
+    (λ within d tokens at none. none_behind within l m n k rows front (at_end d tokens) leads count_is (λ rest shown. begun_there m.indent d front p at begun rest (ends_begun d tokens rest shown)) none) (λ tokens o. more_behind l m n k rows front tokens leads count_is o) limit
 
 pub refused_behind : (cs : List ℕ) (l m : Level) (n k : ℕ) (at now : Pos) (before left : List Line) (rows : Rows) (fault : Halt) → before ≡ rows_lines rows ++ left → Leads l rows m → rows_may profile l n rows ≡ true → k ≡ n + rows_size rows → now ≡ last_token at (rows_lines rows)
     → Refused cs m k now left fault → Refused cs l n at before fault
@@ -189,12 +189,13 @@ refused_behind cs l m n k at now before left rows fault is leads kept count_is n
   lines_are = is ∙ ap (λ ls. rows_lines rows ++ ls) r.lines_are ∙ sym (append_assoc (rows_lines rows) r.front r.behind);
   shown = r.shown;
   marked = subst (λ p. marks p r.behind r.point fault) (ap (λ p. last_token p r.front) now_is ∙ sym (tokens_append at (rows_lines rows) r.front)) r.marked;
-  limit = limit_behind l m n k rows r.front fault r.point leads count_is r.begun r.limit;
+  limit = limit_behind l m n k rows r.front fault r.point leads (rows_standing profile l n rows kept) count_is r.begun r.limit;
   placed = placed_behind cs l m n rows r.front r.behind r.point leads kept r.shown r.begun (subst (λ j. Placed cs m j r.front r.point) count_is r.placed);
   begun = λ rest shows_it. subst (Begun l.indent) (sym (append_assoc (rows_lines rows) r.front rest)) (begun_first l m rows (r.front ++ rest) leads (r.begun rest shows_it));
-  begins = begins_behind l m rows r.front r.point leads r.begins;
+  begins = λ place. begins_behind l m rows r.front r.point leads (rows_standing profile l n rows kept) (r.begins place);
   reads = r.reads;
   few = few_behind l m n k rows r.front leads count_is r.few;
+  shallow = λ room. lie_behind l m n k rows r.front leads kept count_is room r.shallow;
   none = none_behind (Asks fault) l m n k rows r.front r.point leads count_is r.begun r.none;
 }
 
@@ -227,7 +228,7 @@ placed_end : (cs : List ℕ) (l m : Level) (n : ℕ) (rows : Rows) (left : List 
 placed_end cs l m n rows left (at_token d tokens t) leads may_be shown edge edges is = may_end cs l m n rows d leads may_be is
 placed_end cs l m n rows left (at_end d tokens) leads may_be shown edge edges is = may_end cs l m n rows d leads may_be is
 placed_end cs l m n rows left (at_line d) leads may_be shown edge edges is = no_rows_end cs l m n rows d left leads may_be shown edge edges is
-placed_end cs l m n rows left (below d) leads may_be shown edge edges is = goes_end l m n rows (IsPass d) leads may_be is
+placed_end cs l m n rows left (below d) leads may_be shown edge edges is = (goes_end l m n rows (IsPass d) leads may_be is.0, lacks_end l m rows d leads is.1)
 placed_end cs l m n rows left no_line leads may_be shown edge edges is = goes_end l m n rows IsHandler leads may_be is
 
 -- nothing was read where the first token of a line shows the fault
@@ -261,9 +262,10 @@ refused_end cs l m n k at now before left rows fault is leads kept count_is now_
   limit = no_limit fault r.limit;
   placed = placed_end cs l m n rows left r.point leads kept r.shown edge (λ rest shows_it. r.edge rows rest shows_it l (sym (indent_stays l m rows leads)) leads edge) (subst (λ j. Placed cs m j [] r.point) count_is r.placed);
   begun = λ rest shows_it. begun rest;
-  begins = begins_end l m rows r.point leads (begins_here m r.point r.before);
+  begins = λ place. begins_end l m rows r.point leads (rows_standing profile l n rows kept) (begins_here m r.point r.before);
   reads = first_reads (deep_at fault) r.point r.before;
   few = subst (Few n) (append-nil (rows_lines rows)) (few_behind l m n k rows [] leads count_is (few_here k low));
+  shallow = λ room. rows_lie l m n rows leads kept (rows_room l m n rows leads kept room);
   none = λ q asks rest others s shows_it fits may_be low same.
       let indent = indent_stays l m rows leads in
       let p = peeled q l m n rows others rest s leads fits may_be low (r.edge rows rest shows_it l (sym indent) leads edge) same in
@@ -302,8 +304,8 @@ shifted : (line other : Line) (a b x c : List Line) → (line ∷ a ++ b) ++ x �
 shifted line other a b x c is = sym (append_assoc a b x) ∙ other_lines line other _ _ is
 
 -- a suite with these first lines lies further in
-further_in : (m : Level) (h : Head) (front : List Line) (p : Point) → UnderBegins m h front p → NoLess m.indent front
-further_in m h front p b = all_front m.indent front b.more (subst (NoLess m.indent) b.lines_are (less_in m.indent (suc m.indent) (under_lines b.under) (omega arith) (under_low m h b.under b.fits)))
+further_in : (place : Option Pos) (m : Level) (h : Head) (front : List Line) (p : Point) → UnderBegins place m h front p → NoLess m.indent front
+further_in place m h front p b = all_front m.indent front b.more (subst (NoLess m.indent) b.lines_are (less_in m.indent (suc m.indent) (under_lines b.under) (omega arith) (under_low m h b.under b.fits)))
 
 may_under : (cs : List ℕ) (m : Level) (n : ℕ) (h : Head) (d : ℕ) (line : Line) (front : List Line) → IsLine line m.indent (head_tokens h) → follows m h ≡ true → may profile m n h ≡ true → m.depth ≤ 50 → NoLess m.indent front → MayStandUnder (columns_under cs m) m (n + counted h) h d front → MayStand cs m n d (line ∷ front)
 may_under cs m n h d line front is may_follow kept deep low (inl g) = inl (goes_under m n h line (IsAt d) front is may_follow kept deep g)
@@ -341,7 +343,7 @@ placed_under : (cs : List ℕ) (m : Level) (n : ℕ) (h : Head) (line : Line) (f
 placed_under cs m n h line front (at_token d tokens t) is may_follow kept deep low placed = may_under cs m n h d line front is may_follow kept deep low placed
 placed_under cs m n h line front (at_end d tokens) is may_follow kept deep low placed = may_under cs m n h d line front is may_follow kept deep low placed
 placed_under cs m n h line front (at_line d) is may_follow kept deep low placed = no_rows_under cs m n h d line front is may_follow kept deep placed
-placed_under cs m n h line front (below d) is may_follow kept deep low placed = goes_under m n h line (IsPass d) front is may_follow kept deep placed
+placed_under cs m n h line front (below d) is may_follow kept deep low placed = (goes_under m n h line (IsPass d) front is may_follow kept deep placed.0, lacks_under m h line d front is placed.1)
 placed_under cs m n h line front no_line is may_follow kept deep low placed = goes_under m n h line IsHandler front is may_follow kept deep placed
 
 none_under : (within : Limits → Type 0) (m : Level) (n : ℕ) (h : Head) (line : Line) (front : List Line) (p : Point) → IsLine line m.indent (head_tokens h) → NoneUnder within m (n + counted h) h front p → NoneRows within m n (line ∷ front) p
@@ -354,12 +356,12 @@ none_under within m n h line front p is none q asks rest (row line_2 h_2 under_2
     let under_is : under_may q m (n + counted h) h under_2 ≡ true = ap (λ g. under_may q m (n + counted g) g under_2) head ∙ middle (may q m n h_2) (under_may q m (n + counted h_2) h_2 under_2) _ may_be in
     none q asks rest under_2 (rows_lines rest_2 ++ s) shows_it below_2 under_is (edge_under m h h under_2 rest_2 s below_2 rest_fits low) (shifted line_2 line (under_lines under_2) (rows_lines rest_2) s (front ++ rest) same)
 
-limit_under : (m : Level) (n : ℕ) (h : Head) (line : Line) (front : List Line) (fault : Halt) (p : Point) → IsLine line m.indent (head_tokens h) → follows m h ≡ true → UnderLimit m (n + counted h) h front fault p → RowsLimit m n (line ∷ front) fault p
-limit_under m n h line front fault p is may_follow limit =
-    limit_more (UnderBegins m h front) (RowsBegin m (line ∷ front)) (λ is. UnderFollows m h is front) (λ is. RowsFollow m is (line ∷ front))
-    (λ within d tokens. NoneUnder within m (n + counted h) h front (at_end d tokens)) (λ within d tokens. NoneRows within m n (line ∷ front) (at_end d tokens)) fault p
-    (λ p b. begins_under m h line front p is may_follow b) (λ so f. follows_under m h line so front is may_follow f)
-    (λ within d tokens at none. none_under within m n h line front (at_end d tokens) is none) limit
+limit_under : (m : Level) (n : ℕ) (h : Head) (line : Line) (front : List Line) (fault : Halt) (p : Point) → IsLine line m.indent (head_tokens h) → follows m h ≡ true → head_stands m.context m.given h ≡ true → UnderLimit m (n + counted h) h front fault p → RowsLimit m n (line ∷ front) fault p
+limit_under m n h line front fault p is may_follow may_stand limit =
+    limit_more (UnderBegins None m h front) (RowsBegin None m (line ∷ front)) (λ is. UnderFollows m h is front) (λ is. RowsFollow m is (line ∷ front))
+    (λ within d tokens. NoneUnder within m (n + counted h) h front (at_end d tokens)) (λ within d tokens. NoneRows within m n (line ∷ front) (at_end d tokens)) (OneMoreFrom (n + counted h) front) (OneMoreFrom n (line ∷ front)) fault p
+    (λ p b. begins_under m h line front p is may_follow may_stand b) (λ so f. follows_under m h line so front is may_follow may_stand f)
+    (λ within d tokens at none. none_under within m n h line front (at_end d tokens) is none) (λ tokens o. more_under m n h line front tokens is o) limit
 
 pub refused_under : (cs : List ℕ) (m : Level) (n : ℕ) (h : Head) (at : Pos) (line : Line) (lines : List Line) (fault : Halt) → IsLine line m.indent (head_tokens h) → follows m h ≡ true → may profile m n h ≡ true → m.depth ≤ 50
     → RefusedUnder cs m (n + counted h) h (last_place at line.tokens) lines fault → Refused cs m n at (line ∷ lines) fault
@@ -370,12 +372,13 @@ refused_under cs m n h at line lines fault is may_follow kept deep r = record {
   lines_are = ap (λ ls. line ∷ ls) r.lines_are;
   shown = r.shown;
   marked = r.marked;
-  limit = limit_under m n h line r.front fault r.point is may_follow r.limit;
-  placed = placed_under cs m n h line r.front r.point is may_follow kept deep (further_in m h r.front r.point r.begins) r.placed;
+  limit = limit_under m n h line r.front fault r.point is may_follow (head_standing profile m n h kept) r.limit;
+  placed = placed_under cs m n h line r.front r.point is may_follow kept deep (further_in (Some at) m h r.front r.point (r.begins at)) r.placed;
   begun = λ rest shows_it. is.indent_is;
-  begins = begins_under m h line r.front r.point is may_follow r.begins;
+  begins = λ place. begins_under m h line r.front r.point is may_follow (head_standing profile m n h kept) (r.begins place);
   reads = r.reads;
   few = few_under m n h line r.front is r.few;
+  shallow = λ room. lie_under m n h line is may_follow kept r.front room r.shallow;
   none = none_under (Asks fault) m n h line r.front r.point is r.none;
 }
 
@@ -416,6 +419,7 @@ refused_line cs m n at line lines fault deep few is r = record {
   begins = r.begins is;
   reads = r.reads;
   few = few_here n few;
+  shallow = λ room. inl refl;
   none = none_line (Asks fault) m n r.point (λ rest shown. subst (λ d. Begun d rest) is (r.begun rest shown)) r.none;
 }
 
@@ -443,7 +447,7 @@ placed_inside : (cs : List ℕ) (m : Level) (n : ℕ) (h : Head) (k : ℕ) (fron
 placed_inside cs m n h k front (at_token d tokens t) open_is deeper low begun is = may_inside cs m n h k d front open_is deeper low is
 placed_inside cs m n h k front (at_end d tokens) open_is deeper low begun is = may_inside cs m n h k d front open_is deeper low is
 placed_inside cs m n h k front (at_line d) open_is deeper low begun is = no_inside cs m n h k d front open_is deeper low begun is
-placed_inside cs m n h k front (below d) open_is deeper low begun is = goes_inside m n h k (IsPass d) front open_is deeper low is
+placed_inside cs m n h k front (below d) open_is deeper low begun is = (goes_inside m n h k (IsPass d) front open_is deeper low is.0, lacks_inside m h k d front open_is deeper is.1)
 placed_inside cs m n h k front no_line open_is deeper low begun is = goes_inside m n h k IsHandler front open_is deeper low is
 
 none_inside : (within : Limits → Type 0) (m : Level) (n k : ℕ) (h : Head) (front : List Line) (p : Point) → opens h ≡ true → ((rest : List Line) → shows p rest → Begun k (front ++ rest)) → NoneRows within (inside m h k) n front p → NoneUnder within m n h front p
@@ -455,12 +459,12 @@ none_inside within m n k h front p open_is begun none q asks rest (block j rows)
 limit_inside : (m : Level) (n k : ℕ) (h : Head) (front : List Line) (fault : Halt) (p : Point) → opens h ≡ true → m.indent < k → ((rest : List Line) → shows p rest → Begun k (front ++ rest)) → RowsLimit (inside m h k) n front fault p
     → UnderLimit m n h front fault p
 limit_inside m n k h front fault p open_is deeper begun limit =
-    limit_more (RowsBegin (inside m h k) front) (UnderBegins m h front) (λ is. RowsFollow (inside m h k) is front) (λ is. UnderFollows m h is front)
-    (λ within d tokens. NoneRows within (inside m h k) n front (at_end d tokens)) (λ within d tokens. NoneUnder within m n h front (at_end d tokens)) fault p
+    limit_more (RowsBegin None (inside m h k) front) (UnderBegins None m h front) (λ is. RowsFollow (inside m h k) is front) (λ is. UnderFollows m h is front)
+    (λ within d tokens. NoneRows within (inside m h k) n front (at_end d tokens)) (λ within d tokens. NoneUnder within m n h front (at_end d tokens)) (OneMoreFrom n front) (OneMoreFrom n front) fault p
     (λ p b. begins_inside m h k front p open_is deeper b) (λ is f. follows_inside m h k is front open_is deeper f)
-    (λ within d tokens at none. none_inside within m n k h front (at_end d tokens) open_is (λ rest shown. begun_there k d front p at begun rest (ends_begun d tokens rest shown)) none) limit
+    (λ within d tokens at none. none_inside within m n k h front (at_end d tokens) open_is (λ rest shown. begun_there k d front p at begun rest (ends_begun d tokens rest shown)) none) (λ tokens o. o) limit
 
-pub refused_inside : (cs : List ℕ) (m : Level) (n k : ℕ) (h : Head) (at : Pos) (lines : List Line) (fault : Halt) → opens h ≡ true → m.indent < k → m.depth ≤ 50 → Refused (columns_under cs m) (inside m h k) n at lines fault
+pub refused_inside : (cs : List ℕ) (m : Level) (n k : ℕ) (h : Head) (at : Pos) (lines : List Line) (fault : Halt) → opens h ≡ true → m.indent < k → m.depth < 50 → Refused (columns_under cs m) (inside m h k) n at lines fault
     → RefusedUnder cs m n h at lines fault
 refused_inside cs m n k h at lines fault open_is deeper low r = record {
   front = r.front;
@@ -470,10 +474,11 @@ refused_inside cs m n k h at lines fault open_is deeper low r = record {
   shown = r.shown;
   marked = r.marked;
   limit = limit_inside m n k h r.front fault r.point open_is deeper r.begun r.limit;
-  placed = placed_inside (columns_under cs m) m n h k r.front r.point open_is deeper low r.begun r.placed;
-  begins = begins_inside m h k r.front r.point open_is deeper r.begins;
+  placed = placed_inside (columns_under cs m) m n h k r.front r.point open_is deeper (omega (arith, low)) r.begun r.placed;
+  begins = λ place. begins_inside m h k r.front r.point open_is deeper (r.begins place);
   reads = r.reads;
   few = r.few;
+  shallow = lie_inside m n k h r.front open_is deeper low r.shallow;
   none = none_inside (Asks fault) m n k h r.front r.point open_is r.begun r.none;
 }
 
@@ -491,10 +496,11 @@ no_suite cs m n h at lines open_is within few low = record {
   shown = low;
   marked = refl;
   limit = tt;
-  placed = goes_inside m n h (suc m.indent) (IsPass (suc m.indent)) [] open_is (omega arith) within (pass_next (inside m h (suc m.indent)) n (suc m.indent) refl (omega arith));
-  begins = begins_suite m h (below (suc m.indent)) open_is refl;
+  placed = (goes_inside m n h (suc m.indent) (IsPass (suc m.indent)) [] open_is (omega arith) within (pass_next (inside m h (suc m.indent)) n (suc m.indent) refl (omega arith)), inr (record { begins_suite = open_is; further = omega arith; globals_are = tt }));
+  begins = λ place. begins_suite m h (below (suc m.indent)) open_is refl;
   reads = tt;
   few = few_here n few;
+  shallow = inl refl;
   none = none;
 }
   where
@@ -531,9 +537,10 @@ too_deep_at cs m n h at place line lines open_is deeper within few_so_far deep f
       marked = first ∙ ap (first_place at) is;
       limit = (refl, passes);
       placed = inl next;
-      begins = begins_suite m h (at_end line.indent []) open_is refl;
+      begins = λ place. begins_suite m h (at_end line.indent []) open_is refl;
       reads = tt;
       few = few_here n few_so_far;
+      shallow = inl refl;
       none = λ q asks rest under s shows_it fits may_be edge same. none_deeper q m n h under asks.1 open_is deep fits may_be;
     }
     by (t ∷ ts) is = record {
@@ -545,9 +552,10 @@ too_deep_at cs m n h at place line lines open_is deeper within few_so_far deep f
       marked = tt;
       limit = inr (first ∙ ap (first_place at) is, passes);
       placed = inl next;
-      begins = begins_suite m h (at_token line.indent [] t) open_is refl;
+      begins = λ place. begins_suite m h (at_token line.indent [] t) open_is refl;
       reads = first_reads (Some place) (at_token line.indent [] t) refl;
       few = few_here n few_so_far;
+      shallow = inl refl;
       none = λ q asks rest under s shows_it fits may_be edge same. none_deeper q m n h under asks.1 open_is deep fits may_be;
     }
 
@@ -703,13 +711,13 @@ refused_nothing cs m n at deep lacks ends = record {
     none_1 (first ∷ more) rows r shows_it fits same = absurd shows_it
 
 -- a statement is missing
-pub refused_empty : (cs : List ℕ) (m : Level) (n : ℕ) (at : Pos) (lines : List Line) → Below m.indent lines → lacks_handler m.context.last ≡ false → (is_done m ≡ true → ⊥) → RefusedHere cs m n at lines (BadIndent at)
-refused_empty cs m n at lines low lacks ends = record {
+pub refused_empty : (cs : List ℕ) (m : Level) (n : ℕ) (at : Pos) (lines : List Line) → Below m.indent lines → lacks_handler m.context.last ≡ false → m.has_stmt ≡ false → (is_done m ≡ true → ⊥) → RefusedHere cs m n at lines (BadIndent at)
+refused_empty cs m n at lines low lacks empty ends = record {
   point = below m.indent;
   shown = low;
   marked = refl;
   limit = tt;
-  placed = pass_next m n m.indent lacks (omega arith);
+  placed = (pass_next m n m.indent lacks (omega arith), inr (record { empty = empty; indent_is = refl; of_def = inr refl; globals_are = tt }));
   before = refl;
   edge = λ rows rest shows_it l indent leads edge. edge_below l m rows rest leads (subst (λ d. Below d rest) (sym indent) shows_it);
   none = λ q asks rest rows r shows_it fits may_be lower same. none_goes_on m rest rows r fits same (λ begun. not_below m.indent rest begun shows_it) (λ done all. ends done);

@@ -74,7 +74,7 @@ counted_behind n h s is = ap (λ (b : Option Simple). n + ((if is_stmt h then 1 
     numbers : (a b : ℕ) → a + (b + 1) ≡ (a + b) + 1
     numbers a b = omega arith
 
-counted_alone : (n : ℕ) (h : Head) → behind_in h ≡ None → n + counted h ≡ inner_number n h
+pub counted_alone : (n : ℕ) (h : Head) → behind_in h ≡ None → n + counted h ≡ inner_number n h
 counted_alone n h is = ap (λ (b : Option Simple). n + ((if is_stmt h then 1 else 0) + (if is_none b then 0 else 1))) is ∙ numbers n (if is_stmt h then 1 else 0)
   where
     numbers : (a b : ℕ) → a + (b + 0) ≡ a + b
@@ -172,7 +172,7 @@ suite_read p k n count next to m h at now lines left built u is open_is deeper d
     both true false one other = absurd (false≢true other)
     both false b one other = absurd (false≢true one)
 
-pub suite_stopped : (cs : List ℕ) (p : Place) (k n count : ℕ) (m : Level) (h : Head) (at : Pos) (lines : List Line) (fault : Halt) → IsUnderOf p count m n h → IsBehind None (behind_in h) → opens h ≡ true → m.indent < k → m.depth ≤ 50
+pub suite_stopped : (cs : List ℕ) (p : Place) (k n count : ℕ) (m : Level) (h : Head) (at : Pos) (lines : List Line) (fault : Halt) → IsUnderOf p count m n h → IsBehind None (behind_in h) → opens h ≡ true → m.indent < k → m.depth < 50
     → RowsStopped (columns_under cs m) (inside m h k) count at lines fault → UnderStopped cs m (n + counted h) h at lines fault
 suite_stopped cs p k n count m h at lines fault u is open_is deeper low r = by fault (subst (λ j. RowsStopped (columns_under cs m) (inside m h k) j at lines fault) (u.count_is ∙ sym (counted_alone n h (none_behind h is))) r)
   where

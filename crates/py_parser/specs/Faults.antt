@@ -9,17 +9,19 @@ use Rattle.py_grammar.specs.declared.fault.Fault.{Fault as LineFault}
 use Rattle.py_grammar.specs.declared.fault.Fault.TheVariants.{Unexpected as OnLine, TooDeep as DeepOnLine}
 use Rattle.py_grammar.specs.Concrete.{Spot}
 use Rattle.py_grammar.specs.Tokens.{keyword}
+use Rattle.py_grammar.specs.StatementTokens.{simple_tokens}
 use Rattle.py_grammar.specs.Follows.{Below}
 use Rattle.py_grammar.specs.LineReader.{Head, head_tokens}
 use Rattle.py_grammar.specs.Layout.{IsLine}
-use Rattle.py_grammar.specs.ParsedHead.{BeginsReading, UnreadLine, behind_in, head_lies, behind_first}
+use Rattle.py_grammar.specs.ParsedSimple.{StartsDel, CompletesDel}
+use Rattle.py_grammar.specs.ParsedHead.{StartsTargets, CompletesTargets, del_name, UnreadLine, behind_in, head_lies, behind_first}
 use Rattle.py_grammar.specs.Written.{Script}
 use Rattle.py_grammar.specs.Grammar.{script_lines, FitsScript}
 use Rattle.py_grammar.specs.WellPlaced.{script_stands}
 use Rattle.refused_forms.specs.declared.standing.Standing.{Standing}
 use Rattle.refused_forms.specs.LineForms.{standing}
 use Rattle.refused_forms.specs.RefusedForms.{IsRefusedForm}
-use Rattle.py_parser.specs.Rows.{counted}
+use Rattle.py_parser.specs.Rows.{counted, opens}
 use Rattle.py_parser.specs.Limits.{Limits, IsFine, script_expr_depth, script_suites}
 
 -- where a text begins
@@ -125,33 +127,74 @@ tokens_before (at_line indent) = []
 tokens_before (below indent) = []
 tokens_before no_line = []
 
-pub record Prefix (front tokens : List Token) : Type 0 where
-  pub rest : List Token
-  pub tokens_are : tokens ≡ front ++ rest
+-- Where a place is named, what begins elsewhere lies at most 100 deep. There those tokens stand that are put behind what has begun.
+abbrev pub IsLow : Option Pos → (lies : Pos → ℕ) → Type 0
+IsLow None lies = ⊤
+IsLow (Some at) lies = (other : Pos) → (other ≡ at → ⊥) → lies other ≤ 100
+
+-- the first tokens of what is read behind `del`, and behind `for`, where what begins elsewhere lies so
+abbrev pub ReadsBehindDel : Option Pos → List Token → Type 0
+ReadsBehindDel None = StartsDel
+ReadsBehindDel (Some at) = λ tokens. CompletesDel tokens at
+
+abbrev pub ReadsBehindFor : Option Pos → List Token → Type 0
+ReadsBehindFor None = StartsTargets
+ReadsBehindFor (Some at) = λ tokens. CompletesTargets 100 tokens at
+
+-- a line of the grammar with these first tokens, where what begins elsewhere lies so
+pub record LineBegins (place : Option Pos) (tokens : List Token) (line : Line) : Type 0 where
+  pub head : Head
+  pub line_is : line.tokens ≡ head_tokens head
+  pub more : List Token
+  pub tokens_are : head_tokens head ≡ tokens ++ more
+  pub low : IsLow place (head_lies head)
 
 -- the first line stands at this indentation and begins with these tokens
-abbrev pub Opens : ℕ → List Token → List Line → Type 0
-Opens indent tokens [] = ⊥
-Opens indent tokens (line ∷ lines) = (line.indent ≡ indent) × Prefix tokens line.tokens
+abbrev pub Opens : Option Pos → ℕ → List Token → List Line → Type 0
+Opens place indent tokens [] = ⊥
+Opens place indent tokens (line ∷ lines) = (line.indent ≡ indent) × LineBegins place tokens line
 
--- The next line begins with the tokens before what is shown. What stands behind `del` or `for` is read as an expression before it
--- is asked for a target's form: then these tokens go on with the word and the first tokens of an expression.
-abbrev pub Next : Point → List Line → Type 0
-Next (at_token indent [] t) more = ⊤
-Next (at_token indent (f ∷ fs) t) more = Opens indent (f ∷ fs) more ⊎ BeginsReading (f ∷ fs)
-Next (at_end indent []) more = ⊤
-Next (at_end indent (f ∷ fs)) more = Opens indent (f ∷ fs) more ⊎ BeginsReading (f ∷ fs)
-Next (at_line indent) more = ⊤
-Next (below indent) more = ⊤
-Next no_line more = ⊤
+-- The first line has `del` and a name, where these tokens have `del` and the first tokens of an expression, which is read before it is asked
+-- whether it is a target.
+pub record OpensDel (place : Option Pos) (indent : ℕ) (tokens : List Token) (lines : List Line) : Type 0 where
+  pub opened : List Token
+  pub spot : Spot
+  pub opens : Opens place indent (opened ++ simple_tokens (del_name spot)) lines
+  pub inside : List Token
+  pub begins : ReadsBehindDel place inside
+  pub tokens_are : tokens ≡ opened ++ inside
 
--- some script of the grammar begins with these lines, and goes on with what stands before the fault
-pub record BeginsScript (front : List Line) (point : Point) : Type 0 where
+-- The first line begins with `for`, as these tokens do. Behind it they have targets with a comma each and the first tokens of a sum, which is
+-- read before it is asked whether it is a target.
+pub record OpensFor (place : Option Pos) (indent : ℕ) (tokens : List Token) (lines : List Line) : Type 0 where
+  pub spot : Spot
+  pub opens : Opens place indent (keyword (codes "for") spot) lines
+  pub inside : List Token
+  pub begins : ReadsBehindFor place inside
+  pub tokens_are : tokens ≡ keyword (codes "for") spot ++ inside
+
+-- the next line begins with these tokens, or as far as they are read as expressions behind `del` or `for`
+abbrev pub GoesOnWith : Option Pos → ℕ → List Token → List Line → Type 0
+GoesOnWith place indent [] more = ⊤
+GoesOnWith place indent (f ∷ fs) more = Opens place indent (f ∷ fs) more ⊎ (OpensDel place indent (f ∷ fs) more ⊎ OpensFor place indent (f ∷ fs) more)
+
+-- the next line begins with the tokens before what is shown
+abbrev pub Next : Option Pos → Point → List Line → Type 0
+Next place (at_token indent tokens t) more = GoesOnWith place indent tokens more
+Next place (at_end indent tokens) more = GoesOnWith place indent tokens more
+Next place (at_line indent) more = ⊤
+Next place (below indent) more = ⊤
+Next place no_line more = ⊤
+
+-- Some script of the grammar whose statements stand where they may begins with these lines, and goes on with what stands before the fault. It may
+-- be of any depth and number; where a place is named, what begins elsewhere on the line that has begun lies at most 100 deep.
+pub record BeginsScript (place : Option Pos) (front : List Line) (point : Point) : Type 0 where
   pub some : Script
   pub fits : FitsScript some
   pub more : List Line
   pub lines_are : script_lines some ≡ front ++ more
-  pub next : Next point more
+  pub next : Next place point more
+  pub stands : script_stands some ≡ true
 
 -- ---- at which indentation
 
@@ -164,9 +207,18 @@ pub record SomeFollows (is : Line → Type 0) (front : List Line) : Type 0 where
   pub lines_are : script_lines some ≡ front ++ line ∷ more
   pub line_is : is line
 
--- The same of a script whose statements stand where they may, with expressions at most 100 deep and at most 51 suites in one another: one more
--- than there may be, since the line that goes on may begin that one.
-pub record MayFollow (is : Line → Type 0) (front : List Line) : Type 0 where
+-- the same of a script whose statements stand where they may
+pub record SomeStands (is : Line → Type 0) (front : List Line) : Type 0 where
+  pub some : Script
+  pub fits : FitsScript some
+  pub line : Line
+  pub more : List Line
+  pub lines_are : script_lines some ≡ front ++ line ∷ more
+  pub line_is : is line
+  pub stands : script_stands some ≡ true
+
+-- such a script with expressions at most 100 deep and at most so many suites in one another
+pub record FollowsWithin (suites : ℕ) (is : Line → Type 0) (front : List Line) : Type 0 where
   pub some : Script
   pub fits : FitsScript some
   pub line : Line
@@ -175,7 +227,11 @@ pub record MayFollow (is : Line → Type 0) (front : List Line) : Type 0 where
   pub line_is : is line
   pub stands : script_stands some ≡ true
   pub low : script_expr_depth some ≤ 100
-  pub deep : script_suites some ≤ 51
+  pub deep : script_suites some ≤ suites
+
+-- with one suite more than there may be, since the line that goes on may begin that one
+abbrev pub MayFollow : (Line → Type 0) → List Line → Type 0
+MayFollow = FollowsWithin 51
 
 abbrev pub IsAt : ℕ → Line → Type 0
 IsAt indent line = line.indent ≡ indent
@@ -220,14 +276,56 @@ pub record NoneStandsAt (indent : ℕ) (front : List Line) : Type 0 where
   pub no_suite : IsOpenAt indent front → ⊥
   pub complete : MayFollow (IsPassBefore indent) front ⊎ MayFollow IsHandler front
 
+abbrev pub AreGlobal : ℕ → List Line → Type 0
+AreGlobal indent [] = ⊤
+AreGlobal indent (line ∷ lines) = (line.indent ≡ indent) × BeginsWith (codes "global") line × AreGlobal indent lines
+
+-- a suite stands on the lines under it
+pub record BeginsSuite (line : Line) : Type 0 where
+  pub head : Head
+  pub tokens_are : line.tokens ≡ head_tokens head
+  pub opens_it : opens head ≡ true
+
+-- The last of these lines begins a suite, or the last but for `global` lines at this indentation: the suite has no statement yet.
+pub record LacksStatement (indent : ℕ) (front : List Line) : Type 0 where
+  pub before : List Line
+  pub line : Line
+  pub globals : List Line
+  pub front_is : front ≡ before ++ line ∷ globals
+  pub suite : BeginsSuite line
+  pub further : line.indent < indent
+  pub globals_are : AreGlobal indent globals
+
 -- A fault is shown by tokens where a line may stand at their indentation, and by the indentation alone where none may. Where a line
--- that is indented enough is missing, a statement might stand; where the lines end too early, a handler.
+-- that is indented enough is missing, a suite has no statement yet; where the lines end too early, a handler is missing.
 abbrev pub InColumn : List Line → Point → Type 0
 InColumn front (at_token indent tokens t) = MayStandAt indent front
 InColumn front (at_end indent tokens) = MayStandAt indent front
 InColumn front (at_line indent) = NoneStandsAt indent front
-InColumn front (below indent) = MayFollow (IsPass indent) front
+InColumn front (below indent) = MayFollow (IsPass indent) front × LacksStatement indent front
 InColumn front no_line = MayFollow IsHandler front
+
+-- ---- how many statements
+
+-- so many statements begin on these lines
+abbrev pub Counts : ℕ → List Line → Type 0
+Counts n [] = n ≡ 0
+Counts n (line ∷ lines) = (h : Head) × (line.tokens ≡ head_tokens h) × (left : ℕ) × (n ≡ counted h + left) × Counts left lines
+
+-- at most so many
+pub record BeginAtMost (n : ℕ) (lines : List Line) : Type 0 where
+  pub number : ℕ
+  pub counts : Counts number lines
+  pub within : number ≤ n
+
+-- With `pass` behind these tokens so many statements begin on these lines and the next one.
+pub record CountsWithPass (n : ℕ) (front : List Line) (tokens : List Token) : Type 0 where
+  pub at : Spot
+  pub next : Head
+  pub next_is : head_tokens next ≡ tokens ++ keyword (codes "pass") at
+  pub before : ℕ
+  pub counts : Counts before front
+  pub number_is : before + counted next ≡ n
 
 -- ---- what passes a limit
 
@@ -241,16 +339,18 @@ few_suites q = q.suites ≤ 50
 abbrev pub few_statements : Limits → Type 0
 few_statements q = q.number ≤ 20000
 
--- Some script of the grammar goes on with a line of these tokens and `pass`, and none within the limits: whatever statement begins there passes them.
+-- Some script of the grammar whose statements stand where they may goes on with a line of these tokens and `pass`, and none within the limits: whatever
+-- statement begins there passes them.
 pub record PassesLimit (within : Limits → Type 0) (front : List Line) (indent : ℕ) (tokens : List Token) : Type 0 where
   pub at : Spot
-  pub goes_on : SomeFollows (λ line. IsLine line indent (tokens ++ keyword (codes "pass") at)) front
+  pub goes_on : SomeStands (λ line. IsLine line indent (tokens ++ keyword (codes "pass") at)) front
   pub none : NoneWithin within front (at_end indent (tokens ++ keyword (codes "pass") at))
 
--- Some script of the grammar goes on with these tokens and the next one, and every line of the grammar that does has an expression that begins at this place
--- and lies deeper than 100, or the statement behind its `:` begins there and lies in more than 50 suites.
+-- Some script of the grammar whose statements stand where they may goes on with these tokens and the next one, and every line of the grammar that
+-- does has an expression that begins at this place and lies deeper than 100, or the statement behind its `:` begins there and lies in more than
+-- 50 suites.
 pub record LiesDeep (at : Pos) (front : List Line) (indent : ℕ) (tokens : List Token) (next : Token) : Type 0 where
-  pub goes_on : BeginsScript front (at_end indent (tokens ++ next ∷ []))
+  pub goes_on : BeginsScript None front (at_end indent (tokens ++ next ∷ []))
   pub there : (h : Head) (more : List Token) → head_tokens h ≡ tokens ++ next ∷ more → (100 < head_lies h at) ⊎ (behind_first (behind_in h) at × NoneWithin few_suites front (at_end indent (head_tokens h)))
 
 -- What TooDeep says: an expression lies too deep that begins at this place, or the statement does that the token begins which shows it (a line without tokens, where
@@ -260,9 +360,9 @@ IsDeepAt at front (at_token indent tokens t) = LiesDeep at front indent tokens t
 IsDeepAt at front (at_end indent tokens) = (tokens ≡ []) × PassesLimit few_suites front indent []
 IsDeepAt at front point = ⊥
 
--- what TooMany says: the statement that the token begins which shows it is one too many
+-- what TooMany says: a statement that the token begins which shows it passes the limit, and before it begin as many as there may be
 abbrev pub IsOneMore : List Line → Point → Type 0
-IsOneMore front (at_token indent tokens t) = PassesLimit few_statements front indent tokens
+IsOneMore front (at_token indent tokens t) = PassesLimit few_statements front indent tokens × CountsWithPass 20001 front tokens
 IsOneMore front point = ⊥
 
 abbrev pub NamesLimit : ParseFault → List Line → Point → Type 0
@@ -270,12 +370,16 @@ NamesLimit (TooDeep at) front point = IsDeepAt at front point
 NamesLimit (TooMany at) front point = IsOneMore front point
 NamesLimit fault front point = ⊤
 
--- ---- how many statements
+-- ---- in how many suites
 
--- at most so many statements begin on these lines
-abbrev pub BeginAtMost : ℕ → List Line → Type 0
-BeginAtMost n [] = ⊤
-BeginAtMost n (line ∷ lines) = (h : Head) × (line.tokens ≡ head_tokens h) × (left : ℕ) × (counted h + left ≤ n) × BeginAtMost left lines
+-- It is this line or, in the place of one that begins a suite, the statement `pass`.
+abbrev pub StandsFor : Spot → Line → Line → Type 0
+StandsFor at last line = (line ≡ last) ⊎ (BeginsSuite last × IsLine line last.indent (keyword (codes "pass") at))
+
+-- None of these lines lies in a 51st suite, though the last one may begin that: some script with at most 50 suites in one another has these lines,
+-- with the last one or what stands for it.
+abbrev pub LieWithin : List Line → Type 0
+LieWithin front = (before : List Line) (last : Line) (at : Spot) → front ≡ before ++ last ∷ [] → FollowsWithin 50 (StandsFor at last) before
 
 -- ---- what is read behind `del` and `for`
 
@@ -296,9 +400,10 @@ ReadsNoFurther deep point = ⊤
 
 -- ---- the first fault
 
--- What stands before the fault begins a script, the lines before it have at most 20,000 statements, and these lines up to and with what is shown begin no script whose statements stand
--- where they may: with TooDeep none that keeps the limits of depth, with TooMany none that keeps the limit of number, and else none
--- whatever its depth and number. What shows it is a line's indentation alone where no line may stand at it.
+-- What stands before the fault begins a script whose statements stand where they may; the lines before it have at most 20,000 statements, and none
+-- of these lines lies in a 51st suite.
+-- These lines up to and with what is shown begin no such script: with TooDeep none that keeps the limits of depth, with TooMany none that keeps
+-- the limit of number, and else none whatever its depth and number. What shows it is a line's indentation alone where no line may stand at it.
 pub record FirstFault (lines : List Line) (fault : ParseFault) : Type 0 where
   pub front : List Line
   pub behind : List Line
@@ -308,9 +413,10 @@ pub record FirstFault (lines : List Line) (fault : ParseFault) : Type 0 where
   pub named : names front behind point fault
   pub limit : NamesLimit fault front point
   pub column : InColumn front point
-  pub begins : BeginsScript front point
+  pub begins : (at : Pos) → BeginsScript (Some at) front point
   pub reads : ReadsNoFurther (deep_place fault) point
   pub few : BeginAtMost 20000 front
+  pub shallow : LieWithin front
   pub none : NoneWithin (Asks fault) front point
 
 abbrev pub IsFault : List Line → ParseFault → Type 0

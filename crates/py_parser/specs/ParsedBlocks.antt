@@ -26,10 +26,10 @@ use Rattle.py_grammar.specs.StatementTrees.{end_of}
 use Rattle.py_grammar.specs.ParsedSimple.{around_of}
 use Rattle.py_grammar.specs.Concrete.{Spot}
 use Rattle.py_grammar.specs.Tokens.{keyword}
-use Rattle.py_grammar.specs.ParsedHead.{IsWhat, IsBehind, behind_in, behind_first, head_lies}
+use Rattle.py_grammar.specs.ParsedHead.{IsWhat, IsBehind, lacks_handler, behind_in, behind_first, head_lies}
 use Rattle.py_parser.specs.Limits.{Limits, profile}
-use Rattle.py_parser.specs.Faults.{last_token, Point, at_token, at_end, at_line, below, no_line, IsAt, IsPass, IsPassBefore, IsHandler, IsOpenAt, InColumn, BeginsScript, ReadsNoFurther, NoneWithin, few_suites, few_statements, BeginAtMost, IsDeepAt, IsOneMore, shows, first_place, first_token, last_place, origin, tokens_before, Next}
-use Rattle.py_parser.specs.Rows.{Begun, Rows, Under, rows_lines, under_lines, Level, counted, after, is_done, follows, Leads, FitsUnder, FitsRows, may, rows_may, under_may, rows_size, under_size, Edge, LastEdge}
+use Rattle.py_parser.specs.Faults.{last_token, Point, at_token, at_end, at_line, below, no_line, IsAt, IsPass, IsPassBefore, IsHandler, IsOpenAt, AreGlobal, LacksStatement, InColumn, BeginsScript, ReadsNoFurther, NoneWithin, few_suites, few_statements, StandsFor, LieWithin, Counts, BeginAtMost, IsDeepAt, IsOneMore, shows, first_place, first_token, last_place, origin, tokens_before, Next}
+use Rattle.py_parser.specs.Rows.{Begun, Rows, Under, rows_lines, under_lines, Level, counted, after, is_def, is_done, opens, follows, Leads, FitsUnder, FitsRows, may, rows_may, under_may, rows_stand, under_stand, rows_size, under_size, Edge, LastEdge}
 use Rattle.py_parser.specs.RowForms.{suite_list, grown, inner_number, declared, row_globals, under_globals, grow, below_tree}
 
 -- ---- where the code is
@@ -166,28 +166,36 @@ abbrev pub AreBelow : ℕ → List ℕ → Type 0
 AreBelow d [] = ⊤
 AreBelow d (c ∷ columns) = (c < d) × AreBelow d columns
 
--- the limits of this profile, with one suite more and so many statements
-abbrev pub wide : ℕ → Limits
-wide number = record { height = 100; suites = 51; number = number }
+-- the depth of expressions that this profile has, with so many suites and statements
+abbrev pub wide : (suites number : ℕ) → Limits
+wide suites number = record { height = 100; suites = suites; number = number }
 
--- Some rows at this level behind so many statements begin with these lines and go on with one that is so. They may stand there, whatever their number.
-pub record RowsGoOn (l : Level) (n : ℕ) (is : Line → Type 0) (front : List Line) : Type 0 where
+-- Some rows at this level behind so many statements begin with these lines and go on with one that is so. They may stand there within so many suites,
+-- whatever their number.
+pub record RowsWithin (suites : ℕ) (l : Level) (n : ℕ) (is : Line → Type 0) (front : List Line) : Type 0 where
   pub rows : Rows
   pub fits : FitsRows l rows
-  pub may_be : (k : ℕ) → n + rows_size rows ≤ k → rows_may (wide k) l n rows ≡ true
+  pub may_be : (k : ℕ) → n + rows_size rows ≤ k → rows_may (wide suites k) l n rows ≡ true
   pub line : Line
   pub more : List Line
   pub lines_are : rows_lines rows ≡ front ++ line ∷ more
   pub line_is : is line
 
-pub record UnderGoesOn (m : Level) (n : ℕ) (h : Head) (is : Line → Type 0) (front : List Line) : Type 0 where
+pub record UnderWithin (suites : ℕ) (m : Level) (n : ℕ) (h : Head) (is : Line → Type 0) (front : List Line) : Type 0 where
   pub under : Under
   pub fits : FitsUnder m h under
-  pub may_be : (k : ℕ) → n + under_size under ≤ k → under_may (wide k) m n h under ≡ true
+  pub may_be : (k : ℕ) → n + under_size under ≤ k → under_may (wide suites k) m n h under ≡ true
   pub line : Line
   pub more : List Line
   pub lines_are : under_lines under ≡ front ++ line ∷ more
   pub line_is : is line
+
+-- with one suite more than there may be
+abbrev pub RowsGoOn : Level → ℕ → (Line → Type 0) → List Line → Type 0
+RowsGoOn = RowsWithin 51
+
+abbrev pub UnderGoesOn : Level → ℕ → Head → (Line → Type 0) → List Line → Type 0
+UnderGoesOn = UnderWithin 51
 
 -- No suite at this level goes on behind these lines with one at this indentation, and no open one has it.
 pub record NoRows (cs : List ℕ) (l : Level) (n d : ℕ) (front : List Line) : Type 0 where
@@ -206,11 +214,30 @@ pub record NoUnder (cs : List ℕ) (m : Level) (n : ℕ) (h : Head) (d : ℕ) (f
 abbrev pub MayStand : List ℕ → Level → ℕ → ℕ → List Line → Type 0
 MayStand cs l n d front = RowsGoOn l n (IsAt d) front ⊎ (((is_column d cs ≡ true) ⊎ IsOpenAt d front) × RowsGoOn l n IsHandler front)
 
+-- the suite at this level has no statement yet, and these are its lines
+pub record NoneYet (l : Level) (d : ℕ) (front : List Line) : Type 0 where
+  pub empty : l.has_stmt ≡ false
+  pub indent_is : d ≡ l.indent
+  pub of_def : (l.of_def ≡ true) ⊎ (front ≡ [])
+  pub globals_are : AreGlobal d front
+
+-- the same of the suite under a line that begins this
+pub record NoneYetUnder (m : Level) (h : Head) (d : ℕ) (front : List Line) : Type 0 where
+  pub begins_suite : opens h ≡ true
+  pub further : m.indent < d
+  pub globals_are : AreGlobal d front
+
+abbrev pub Lacks : Level → ℕ → List Line → Type 0
+Lacks l d front = LacksStatement d front ⊎ NoneYet l d front
+
+abbrev pub LacksUnder : Level → Head → ℕ → List Line → Type 0
+LacksUnder m h d front = LacksStatement d front ⊎ NoneYetUnder m h d front
+
 abbrev pub Placed : List ℕ → Level → ℕ → List Line → Point → Type 0
 Placed cs l n front (at_token d tokens t) = MayStand cs l n d front
 Placed cs l n front (at_end d tokens) = MayStand cs l n d front
 Placed cs l n front (at_line d) = NoRows cs l n d front
-Placed cs l n front (below d) = RowsGoOn l n (IsPass d) front
+Placed cs l n front (below d) = RowsGoOn l n (IsPass d) front × Lacks l d front
 Placed cs l n front no_line = RowsGoOn l n IsHandler front
 
 abbrev pub MayStandUnder : List ℕ → Level → ℕ → Head → ℕ → List Line → Type 0
@@ -220,7 +247,7 @@ abbrev pub PlacedUnder : List ℕ → Level → ℕ → Head → List Line → P
 PlacedUnder cs m n h front (at_token d tokens t) = MayStandUnder cs m n h d front
 PlacedUnder cs m n h front (at_end d tokens) = MayStandUnder cs m n h d front
 PlacedUnder cs m n h front (at_line d) = NoUnder cs m n h d front
-PlacedUnder cs m n h front (below d) = UnderGoesOn m n h (IsPass d) front
+PlacedUnder cs m n h front (below d) = UnderGoesOn m n h (IsPass d) front × LacksUnder m h d front
 PlacedUnder cs m n h front no_line = UnderGoesOn m n h IsHandler front
 
 -- the columns around what stands under a line at this level
@@ -285,26 +312,39 @@ Asks (TooDeep at) q = (q.height ≤ 100) × (q.suites ≤ 50)
 Asks (TooMany at) q = q.number ≤ 20000
 Asks halt q = ⊤
 
+-- why no line may stand in the suite of this, where it lies too deep, behind so many statements: with its first token a statement would begin that
+-- is one too many, or none may begin, or else it is the suite
+abbrev pub BeyondFirst : Head → ℕ → Pos → List Token → List Line → Halt → Type 0
+BeyondFirst h n before tokens lines (TooDeep place) = place ≡ first_place before tokens
+BeyondFirst h n before (t ∷ ts) lines (TooMany place) = (is_stmt_kind t.kind ≡ true) × (20000 ≤ n) × (place ≡ t.at)
+BeyondFirst h n before (t ∷ ts) lines (AtToken lines_left left) = (is_stmt_kind t.kind ≡ false) × (is_def h ≡ false) × (lines_left ≡ length lines) × (left ≡ length ts)
+BeyondFirst h n before tokens lines halt = ⊥
+
+abbrev pub BeyondSuites : Head → ℕ → Pos → Line → List Line → Halt → Type 0
+BeyondSuites h n before line lines halt = BeyondFirst h n before line.tokens lines halt
+
 -- ---- what is refused
 
--- Some rows at this level begin with these lines, and go on with what stands before the fault.
-pub record RowsBegin (l : Level) (front : List Line) (point : Point) : Type 0 where
+-- Some rows at this level that may stand there, whatever their depth and number, begin with these lines, and go on with what stands before the fault.
+pub record RowsBegin (place : Option Pos) (l : Level) (front : List Line) (point : Point) : Type 0 where
   pub rows : Rows
   pub fits : FitsRows l rows
   pub more : List Line
   pub lines_are : rows_lines rows ≡ front ++ more
-  pub next : Next point more
+  pub next : Next place point more
+  pub stands : rows_stand l rows ≡ true
 
-pub record UnderBegins (m : Level) (h : Head) (front : List Line) (point : Point) : Type 0 where
+pub record UnderBegins (place : Option Pos) (m : Level) (h : Head) (front : List Line) (point : Point) : Type 0 where
   pub under : Under
   pub fits : FitsUnder m h under
   pub more : List Line
   pub lines_are : under_lines under ≡ front ++ more
-  pub next : Next point more
+  pub next : Next place point more
+  pub stands : under_stand m h under ≡ true
 
 -- ---- what passes a limit
 
--- some rows at this level begin with these lines and go on with one that is so, whether they may stand there or not
+-- some rows at this level that may stand there, whatever their depth and number, begin with these lines and go on with one that is so
 pub record RowsFollow (l : Level) (is : Line → Type 0) (front : List Line) : Type 0 where
   pub rows : Rows
   pub fits : FitsRows l rows
@@ -312,6 +352,7 @@ pub record RowsFollow (l : Level) (is : Line → Type 0) (front : List Line) : T
   pub more : List Line
   pub lines_are : rows_lines rows ≡ front ++ line ∷ more
   pub line_is : is line
+  pub stands : rows_stand l rows ≡ true
 
 pub record UnderFollows (m : Level) (h : Head) (is : Line → Type 0) (front : List Line) : Type 0 where
   pub under : Under
@@ -320,6 +361,7 @@ pub record UnderFollows (m : Level) (h : Head) (is : Line → Type 0) (front : L
   pub more : List Line
   pub lines_are : under_lines under ≡ front ++ line ∷ more
   pub line_is : is line
+  pub stands : under_stand m h under ≡ true
 
 -- no suite at this level has these first lines and then what is shown, within such limits
 abbrev pub NoneRows : (Limits → Type 0) → Level → ℕ → List Line → Point → Type 0
@@ -345,21 +387,30 @@ DeepBy begins follows none place (at_token indent tokens t) = Deep begins none p
 DeepBy begins follows none place (at_end indent tokens) = (tokens ≡ []) × Passes follows none indent []
 DeepBy begins follows none place point = ⊥
 
-abbrev pub ManyBy : ((Line → Type 0) → Type 0) → (ℕ → List Token → Type 0) → Point → Type 0
-ManyBy follows none (at_token indent tokens t) = Passes follows none indent tokens
-ManyBy follows none point = ⊥
+abbrev pub ManyBy : ((Line → Type 0) → Type 0) → (ℕ → List Token → Type 0) → (counts : List Token → Type 0) → Point → Type 0
+ManyBy follows none counts (at_token indent tokens t) = Passes follows none indent tokens × counts tokens
+ManyBy follows none counts point = ⊥
 
 -- with TooDeep and TooMany, what passes the limit
-abbrev pub LimitBy : (Point → Type 0) → ((Line → Type 0) → Type 0) → ((Limits → Type 0) → ℕ → List Token → Type 0) → Halt → Point → Type 0
-LimitBy begins follows none (TooDeep place) point = DeepBy begins follows (none few_suites) place point
-LimitBy begins follows none (TooMany place) point = ManyBy follows (none few_statements) point
-LimitBy begins follows none halt point = ⊤
+abbrev pub LimitBy : (Point → Type 0) → ((Line → Type 0) → Type 0) → ((Limits → Type 0) → ℕ → List Token → Type 0) → (counts : List Token → Type 0) → Halt → Point → Type 0
+LimitBy begins follows none counts (TooDeep place) point = DeepBy begins follows (none few_suites) place point
+LimitBy begins follows none counts (TooMany place) point = ManyBy follows (none few_statements) counts point
+LimitBy begins follows none counts halt point = ⊤
+
+-- behind so many statements, 20,001 of them begin with `pass` behind these tokens
+pub record OneMoreFrom (n : ℕ) (front : List Line) (tokens : List Token) : Type 0 where
+  pub at : Spot
+  pub next : Head
+  pub next_is : head_tokens next ≡ tokens ++ keyword (codes "pass") at
+  pub before : ℕ
+  pub counts : Counts before front
+  pub number_is : n + before + counted next ≡ 20001
 
 abbrev pub RowsLimit : Level → ℕ → List Line → Halt → Point → Type 0
-RowsLimit l n front halt point = LimitBy (RowsBegin l front) (λ is. RowsFollow l is front) (λ within indent tokens. NoneRows within l n front (at_end indent tokens)) halt point
+RowsLimit l n front halt point = LimitBy (RowsBegin None l front) (λ is. RowsFollow l is front) (λ within indent tokens. NoneRows within l n front (at_end indent tokens)) (OneMoreFrom n front) halt point
 
 abbrev pub UnderLimit : Level → ℕ → Head → List Line → Halt → Point → Type 0
-UnderLimit m n h front halt point = LimitBy (UnderBegins m h front) (λ is. UnderFollows m h is front) (λ within indent tokens. NoneUnder within m n h front (at_end indent tokens)) halt point
+UnderLimit m n h front halt point = LimitBy (UnderBegins None m h front) (λ is. UnderFollows m h is front) (λ within indent tokens. NoneUnder within m n h front (at_end indent tokens)) (OneMoreFrom n front) halt point
 
 -- the place that TooDeep names
 abbrev pub deep_at : Halt → Option Pos
@@ -378,11 +429,35 @@ ScriptLimit (TooDeep place) front point = IsDeepAt place front point
 ScriptLimit (TooMany place) front point = IsOneMore front point
 ScriptLimit halt front point = ⊤
 
+-- where a handler is missing, it lies in at most 50 suites with what stands under it
+abbrev pub HasRoom : Level → Type 0
+HasRoom l = lacks_handler l.context.last ≡ true → l.depth < 50
+
+-- Some rows within 50 suites have the lines before the last of these, and behind them that one or what stands for it.
+pub record RowsEnd (l : Level) (n : ℕ) (front : List Line) : Type 0 where
+  pub before : List Line
+  pub last : Line
+  pub front_is : front ≡ before ++ last ∷ []
+  pub goes_on : (at : Spot) → RowsWithin 50 l n (StandsFor at last) before
+
+pub record UnderEnd (m : Level) (n : ℕ) (h : Head) (front : List Line) : Type 0 where
+  pub before : List Line
+  pub last : Line
+  pub front_is : front ≡ before ++ last ∷ []
+  pub goes_on : (at : Spot) → UnderWithin 50 m n h (StandsFor at last) before
+
+-- none of these lines lies in a 51st suite
+abbrev pub RowsLie : Level → ℕ → List Line → Type 0
+RowsLie l n front = (front ≡ []) ⊎ RowsEnd l n front
+
+abbrev pub UnderLie : Level → ℕ → Head → List Line → Type 0
+UnderLie m n h front = (front ≡ []) ⊎ UnderEnd m n h front
+
 -- behind so many statements there is room for those of these lines
 pub record Few (n : ℕ) (front : List Line) : Type 0 where
-  pub room : ℕ
-  pub within : n + room ≤ 20000
-  pub at_most : BeginAtMost room front
+  pub number : ℕ
+  pub counts : Counts number front
+  pub within : n + number ≤ 20000
 
 -- No suite at this level has these first lines up to and with what is shown.
 pub record Refused (cs : List ℕ) (l : Level) (n : ℕ) (at : Pos) (lines : List Line) (fault : Halt) : Type 0 where
@@ -395,9 +470,10 @@ pub record Refused (cs : List ℕ) (l : Level) (n : ℕ) (at : Pos) (lines : Lis
   pub limit : RowsLimit l n front fault point
   pub placed : Placed cs l n front point
   pub begun : (rest : List Line) → shows point rest → Begun l.indent (front ++ rest)
-  pub begins : RowsBegin l front point
+  pub begins : (place : Pos) → RowsBegin (Some place) l front point
   pub reads : ReadsNoFurther (deep_at fault) point
   pub few : Few n front
+  pub shallow : HasRoom l → RowsLie l n front
   pub none : NoneRows (Asks fault) l n front point
 
 abbrev pub RowsStopped : List ℕ → Level → ℕ → Pos → List Line → Halt → Type 0
@@ -425,9 +501,10 @@ pub record RefusedUnder (cs : List ℕ) (m : Level) (n : ℕ) (h : Head) (at : P
   pub marked : marks (last_token at front) behind point fault
   pub limit : UnderLimit m n h front fault point
   pub placed : PlacedUnder (columns_under cs m) m n h front point
-  pub begins : UnderBegins m h front point
+  pub begins : (place : Pos) → UnderBegins (Some place) m h front point
   pub reads : ReadsNoFurther (deep_at fault) point
   pub few : Few n front
+  pub shallow : UnderLie m n h front
   pub none : NoneUnder (Asks fault) m n h front point
 
 abbrev pub UnderStopped : List ℕ → Level → ℕ → Head → Pos → List Line → Halt → Type 0
@@ -442,7 +519,7 @@ pub record RefusedLine (m : Level) (n : ℕ) (at : Pos) (line : Line) (lines : L
   pub marked : marks at (line ∷ lines) point fault
   pub limit : line.indent ≡ m.indent → RowsLimit m n [] fault point
   pub begun : (rest : List Line) → shows point rest → Begun line.indent rest
-  pub begins : line.indent ≡ m.indent → RowsBegin m [] point
+  pub begins : line.indent ≡ m.indent → (place : Pos) → RowsBegin (Some place) m [] point
   pub reads : ReadsNoFurther (deep_at fault) point
   pub none : (q : Limits) → Asks fault q → (other : Line) (more : List Line) (h : Head) → shows point (other ∷ more) → other.tokens ≡ head_tokens h → follows m h ≡ true → may q m n h ≡ true → ⊥
 
@@ -482,9 +559,10 @@ pub record FirstHalt (lines : List Line) (halt : Halt) : Type 0 where
   pub marked : marks (last_token origin front) behind point halt
   pub limit : ScriptLimit halt front point
   pub column : InColumn front point
-  pub begins : BeginsScript front point
+  pub begins : (place : Pos) → BeginsScript (Some place) front point
   pub reads : ReadsNoFurther (deep_at halt) point
   pub few : BeginAtMost 20000 front
+  pub shallow : LieWithin front
   pub none : NoneWithin (Asks halt) front point
 
 abbrev pub IsHalt : List Line → Halt → Type 0

@@ -1,4 +1,4 @@
--- A script as rows: each line with what it begins, and under it the lines of its suite. No public clause speaks of it, but for `counted`.
+-- A script as rows: each line with what it begins, and under it the lines of its suite. Of it public clauses cite `counted` and `opens` alone.
 use Rattle.std.specs.Prelude.{◌≡◌, ⊤, ℕ, ◌+◌, ◌<◌, suc, Bool, true, false, ◌&&◌, ◌||◌, not, nat_le, List, [], ◌∷◌, ◌++◌, is_none, if◌then◌else◌}
 use Rattle.py_lines.specs.declared.parts.Line.{Line}
 use Rattle.py_grammar.specs.declared.context.Last.{Last}
@@ -174,6 +174,16 @@ abbrev mutual
   pub under_may : Limits → Level → ℕ → Head → Under → Bool
   under_may q l n h nothing = true
   under_may q l n h (block indent rows) = nat_le (suc l.depth) q.suites && rows_may q (inside l h indent) n rows
+
+abbrev mutual
+  -- each of these lines may stand where it is, whatever the limits
+  pub rows_stand : Level → Rows → Bool
+  rows_stand l end_rows = true
+  rows_stand l (row line h under rest) = head_stands l.context l.given h && under_stand l h under && rows_stand (after l h) rest
+
+  pub under_stand : Level → Head → Under → Bool
+  under_stand l h nothing = true
+  under_stand l h (block indent rows) = rows_stand (inside l h indent) rows
 
 abbrev pub FitsStart : Rows → Type 0
 FitsStart end_rows = ⊤

@@ -14,7 +14,7 @@ ghost use Rattle.py_grammar.specs.ParsedHead.{IsWhat, IsBehind, IsThere, behind_
 ghost use Rattle.py_parser.specs.Rows.{start, Level, counted, is_global, is_def as def_begins, is_stmt, opens as head_opens, after, head_around, head_given, last_after, lets_declare};
 ghost use Rattle.py_parser.specs.RowForms.{begun, form_begun, suite_list, grown as grown_trees, below_tree, declared, with_elif as with_elif_tree, with_else as with_else_tree, with_handler as with_handler_tree, with_part as with_part_tree, longer};
 ghost use Rattle.py_parser.specs.Faults.{first_place, last_place};
-ghost use Rattle.py_parser.specs.ParsedBlocks.{limit_at, AreBelow, level_of, level_at, is_here, is_stmt_kind, halt_of, MarksFirst, IsUnderOf, IsClosed, NotClosed, IsNoHandler, trees_of, IsHead, LineRead, LineStopped, RowsRead, RowRead, RowsStopped, UnderRead, UnderStopped};
+ghost use Rattle.py_parser.specs.ParsedBlocks.{limit_at, AreBelow, level_of, level_at, is_here, is_stmt_kind, halt_of, MarksFirst, BeyondSuites, IsUnderOf, IsClosed, NotClosed, IsNoHandler, trees_of, IsHead, LineRead, LineStopped, RowsRead, RowRead, RowsStopped, UnderRead, UnderStopped};
 
 use crate::fault::Halt;
 use prov_base::{Name, Pos, Span};
@@ -212,15 +212,14 @@ impl<'a> Blocks<'a> {
             → IfErr result (UnderStopped self.old.columns.items m (n + counted h) h self.old.before self.old.rest.now) }
         ensures columns { IfOk result (λ _. self.new.columns.items ≡ self.old.columns.items) }
     {
-        let Some(next) = self.rest.first() else {
+        let Some((next, lines)) = self.rest.split_first() else {
             return Err(Halt::BadIndent(self.before));
         };
         if next.indent <= place.indent {
             return Err(Halt::BadIndent(self.before));
         }
         if SUITES <= place.depth {
-            let at = first_of(next.tokens.as_slice(), self.before);
-            return Err(Halt::TooDeep(at));
+            return Err(beyond_suites(next, lines, what, self.count, self.before));
         }
         let inner = Place {
             indent: next.indent,
@@ -296,6 +295,23 @@ fn at_first(tokens: &[Token], lines: &[Line], before: Pos) -> Halt
         Some((_, behind)) => Halt::AtToken(lines.len(), behind.len()),
         None => Halt::AtEnd(lines.len(), before),
     }
+}
+
+/// Why no line may stand in the suite of what the line before begins, where it lies too deep: so many statements have begun, and
+/// `lines` stand behind it.
+fn beyond_suites(line: &Line, lines: &[Line], what: &What, count: u32, before: Pos) -> Halt
+    ensures { (h : Head) → IsWhat what.now h → BeyondSuites h count before line.now lines.now result }
+{
+    let Some((first, behind)) = line.tokens.as_slice().split_first() else {
+        return Halt::TooDeep(before);
+    };
+    if !begins_stmt(&first.kind) && !is_def(what) {
+        return Halt::AtToken(lines.len(), behind.len());
+    }
+    if begins_stmt(&first.kind) && STATEMENTS <= count {
+        return Halt::TooMany(first.at);
+    }
+    Halt::TooDeep(first.at)
 }
 
 /// Where the lines stop that stop at this on a line, behind which so many lines stand.

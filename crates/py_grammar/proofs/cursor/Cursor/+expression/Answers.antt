@@ -6,6 +6,7 @@ use Rattle.py_grammar.proofs.Compared.{cmp_one, cmp_next, cmp_left_refused, cmp_
 use Rattle.py_grammar.specs.ParsedRows.{items_part, index_part, pairs_part}
 use Rattle.py_grammar.proofs.BracketParts.{call_closed, part_closed, list_closed, dict_closed}
 use Rattle.py_grammar.proofs.ClosedParts.{closed_first, closed_last}
+use Rattle.py_grammar.proofs.Lying.{items_low, index_low, pairs_low}
 use Rattle.py_grammar.proofs.PrimParts.{prim_one, prim_next, prim_end, prim_first, prim_right, prim_full, trailer_dot, trailer_dot_refused, trailer_name_refused}
 use Rattle.py_grammar.proofs.AtomParts.{round_opens, square_opens, curly_opens, opening_full, group_none, group_some, group_first, group_last}
 use Rattle.py_grammar.proofs.RowParts.{rest_init, rest_next, rest_last, rest_end, rest_refused}
@@ -25,7 +26,7 @@ pub or-returns-in_err-goes_above-clause-refused : goal.or-returns-in_err-goes_ab
 or-returns-in_err-goes_above-clause-refused t c = let is = or_full _ _ _ _ _ _ _ c.loop-at.invariant c.in-Some.ensures.taken c.in_err-goes_above.ensures.deep in search (rules, is)
 
 pub or-returns-in_err-right-clause-refused : goal.or-returns-in_err-right-clause-refused
-or-returns-in_err-right-clause-refused t c = let is = or_right _ _ _ _ _ _ _ _ c.loop-at.invariant c.in-Some.ensures.taken (omega arith) c.in_err-right.ensures.refused in search (rules, is)
+or-returns-in_err-right-clause-refused t c = let fits = c.in_ok-goes_above.ensures.fits in let is = or_right _ _ _ _ _ _ _ _ c.loop-at.invariant c.in-Some.ensures.taken fits (omega arith) (omega (arith, fits)) c.in_err-right.ensures.refused in search (rules, is)
 
 pub or-loop-at-preserved : goal.or-loop-at-preserved
 or-loop-at-preserved t c = search (rules, or_next)
@@ -40,7 +41,7 @@ pub and-returns-in_err-goes_above-clause-refused : goal.and-returns-in_err-goes_
 and-returns-in_err-goes_above-clause-refused t c = let is = and_full _ _ _ _ _ _ _ c.loop-at.invariant c.in-Some.ensures.taken c.in_err-goes_above.ensures.deep in search (rules, is)
 
 pub and-returns-in_err-right-clause-refused : goal.and-returns-in_err-right-clause-refused
-and-returns-in_err-right-clause-refused t c = let is = and_right _ _ _ _ _ _ _ _ c.loop-at.invariant c.in-Some.ensures.taken (omega arith) c.in_err-right.ensures.refused in search (rules, is)
+and-returns-in_err-right-clause-refused t c = let fits = c.in_ok-goes_above.ensures.fits in let is = and_right _ _ _ _ _ _ _ _ c.loop-at.invariant c.in-Some.ensures.taken fits (omega arith) (omega (arith, fits)) c.in_err-right.ensures.refused in search (rules, is)
 
 pub and-loop-at-preserved : goal.and-loop-at-preserved
 and-loop-at-preserved t c = search (rules, and_next)
@@ -55,7 +56,7 @@ pub sum-returns-in_err-goes_above-clause-refused : goal.sum-returns-in_err-goes_
 sum-returns-in_err-goes_above-clause-refused t c = let is = sum_full _ _ _ _ _ _ _ _ c.loop-at.invariant c.in-Some.ensures.taken c.in_err-goes_above.ensures.deep in search (rules, is)
 
 pub sum-returns-in_err-right-clause-refused : goal.sum-returns-in_err-right-clause-refused
-sum-returns-in_err-right-clause-refused t c = let is = sum_right _ _ _ _ _ _ _ _ _ c.loop-at.invariant c.in-Some.ensures.taken (omega arith) c.in_err-right.ensures.refused in search (rules, is)
+sum-returns-in_err-right-clause-refused t c = let fits = c.in_ok-goes_above.ensures.fits in let is = sum_right _ _ _ _ _ _ _ _ _ c.loop-at.invariant c.in-Some.ensures.taken fits (omega arith) (omega (arith, fits)) c.in_err-right.ensures.refused in search (rules, is)
 
 pub sum-loop-at-preserved : goal.sum-loop-at-preserved
 sum-loop-at-preserved t c = search (rules, sum_next)
@@ -70,7 +71,7 @@ pub term-returns-in_err-goes_above-clause-refused : goal.term-returns-in_err-goe
 term-returns-in_err-goes_above-clause-refused t c = let is = term_full _ _ _ _ _ _ _ _ c.loop-at.invariant c.in-Some.ensures.taken c.in_err-goes_above.ensures.deep in search (rules, is)
 
 pub term-returns-in_err-right-clause-refused : goal.term-returns-in_err-right-clause-refused
-term-returns-in_err-right-clause-refused t c = let is = term_right _ _ _ _ _ _ _ _ _ c.loop-at.invariant c.in-Some.ensures.taken (omega arith) c.in_err-right.ensures.refused in search (rules, is)
+term-returns-in_err-right-clause-refused t c = let fits = c.in_ok-goes_above.ensures.fits in let is = term_right _ _ _ _ _ _ _ _ _ c.loop-at.invariant c.in-Some.ensures.taken fits (omega arith) (omega (arith, fits)) c.in_err-right.ensures.refused in search (rules, is)
 
 pub term-loop-at-preserved : goal.term-loop-at-preserved
 term-loop-at-preserved t c = search (rules, term_next)
@@ -85,13 +86,13 @@ pub expr-returns-in_err-goes_above-clause-refused : goal.expr-returns-in_err-goe
 expr-returns-in_err-goes_above-clause-refused t c = let is = choice_full _ _ _ _ _ _ _ c.in_ok-chosen.ensures.found c.in-Some.ensures.taken c.in_err-goes_above.ensures.deep in search (rules, is)
 
 pub expr-returns-in_err-test-clause-refused : goal.expr-returns-in_err-test-clause-refused
-expr-returns-in_err-test-clause-refused t c = let is = test_refused _ _ _ _ _ _ _ _ c.in_ok-chosen.ensures.found c.in-Some.ensures.taken (omega arith) c.in_err-test.ensures.refused in search (rules, is)
+expr-returns-in_err-test-clause-refused t c = let fits = c.in_ok-goes_above.ensures.fits in let is = test_refused _ _ _ _ _ _ _ _ c.in_ok-chosen.ensures.found c.in-Some.ensures.taken fits (omega arith) (omega (arith, fits)) c.in_err-test.ensures.refused in search (rules, is)
 
 pub expr-returns-in_err-keyword-clause-refused : goal.expr-returns-in_err-keyword-clause-refused
-expr-returns-in_err-keyword-clause-refused t c = let is = else_refused _ _ _ _ _ _ _ _ _ _ c.in_ok-chosen.ensures.found c.in-Some.ensures.taken c.in_ok-test.ensures.found c.in_err-keyword.ensures.refused in search (rules, is)
+expr-returns-in_err-keyword-clause-refused t c = let fits = c.in_ok-goes_above.ensures.fits in let is = else_refused _ _ _ _ _ _ _ _ _ _ c.in_ok-chosen.ensures.found c.in-Some.ensures.taken fits (omega arith) (omega (arith, fits)) c.in_ok-test.ensures.found c.in_err-keyword.ensures.refused in search (rules, is)
 
 pub expr-returns-in_err-other-clause-refused : goal.expr-returns-in_err-other-clause-refused
-expr-returns-in_err-other-clause-refused t c = let is = other_refused _ _ _ _ _ _ _ _ _ _ _ _ c.in_ok-chosen.ensures.found c.in-Some.ensures.taken c.in_ok-test.ensures.found c.in_ok-keyword.ensures.taken (omega arith) c.in_err-other.ensures.refused in search (rules, is)
+expr-returns-in_err-other-clause-refused t c = let fits = c.in_ok-goes_above.ensures.fits in let is = other_refused _ _ _ _ _ _ _ _ _ _ _ _ c.in_ok-chosen.ensures.found c.in-Some.ensures.taken c.in_ok-test.ensures.found c.in_ok-keyword.ensures.taken fits (omega arith) (omega (arith, fits)) c.in_err-other.ensures.refused in search (rules, is)
 
 pub not-returns-in_default-clause-found : goal.not-returns-in_default-clause-found
 not-returns-in_default-clause-found t c = search (rules, not_one)
@@ -103,7 +104,7 @@ pub not-returns-in_err-goes_here-clause-refused : goal.not-returns-in_err-goes_h
 not-returns-in_err-goes_here-clause-refused t c = let is = not_here c.args.room _ _ _ _ c.in-Some.ensures.taken c.in_err-goes_here.ensures.deep in search (rules, is)
 
 pub not-returns-in_err-operand-clause-refused : goal.not-returns-in_err-operand-clause-refused
-not-returns-in_err-operand-clause-refused t c = let is = not_operand_refused c.args.room _ _ _ _ _ c.in-Some.ensures.taken (omega arith) c.in_err-operand.ensures.refused in search (rules, is)
+not-returns-in_err-operand-clause-refused t c = let fits = c.in_ok-goes_here.ensures.fits in let is = not_operand_refused c.args.room _ _ _ _ _ c.in-Some.ensures.taken (omega arith) (omega (arith, fits)) c.in_err-operand.ensures.refused in search (rules, is)
 
 pub cmp-returns-in_err-left-clause-refused : goal.cmp-returns-in_err-left-clause-refused
 cmp-returns-in_err-left-clause-refused t c = search (rules, cmp_left_refused)
@@ -115,10 +116,10 @@ pub cmp-returns-in_err-goes_above-clause-refused : goal.cmp-returns-in_err-goes_
 cmp-returns-in_err-goes_above-clause-refused t c = let is = cmp_full c.args.room _ _ _ _ c.in_ok-left.ensures.found (search rules) c.in_err-goes_above.ensures.deep in search (rules, is)
 
 pub cmp-returns-in_err-at-clause-refused : goal.cmp-returns-in_err-at-clause-refused
-cmp-returns-in_err-at-clause-refused t c = let is = cmp_sign_refused c.args.room _ _ _ _ c.in_ok-left.ensures.found (search rules) c.in_err-at.ensures.refused in search (rules, is)
+cmp-returns-in_err-at-clause-refused t c = let is = cmp_sign_refused c.args.room _ _ _ _ c.in_ok-left.ensures.found (search rules) c.in_ok-goes_above.ensures.fits c.in_err-at.ensures.refused in search (rules, is)
 
 pub cmp-returns-in_err-right-clause-refused : goal.cmp-returns-in_err-right-clause-refused
-cmp-returns-in_err-right-clause-refused t c = let is = cmp_right_refused c.args.room _ _ _ _ _ _ _ _ c.in_ok-left.ensures.found c.in_ok-at.ensures.taken (omega arith) c.in_err-right.ensures.refused in search (rules, is)
+cmp-returns-in_err-right-clause-refused t c = let fits = c.in_ok-goes_above.ensures.fits in let is = cmp_right_refused c.args.room _ _ _ _ _ _ _ _ c.in_ok-left.ensures.found c.in_ok-at.ensures.taken fits (omega arith) (omega (arith, fits)) c.in_err-right.ensures.refused in search (rules, is)
 
 pub cmp-returns-then-at_comparison-clause-refused : goal.cmp-returns-then-at_comparison-clause-refused
 cmp-returns-then-at_comparison-clause-refused t c = search (rules, cmp_second_refused)
@@ -142,7 +143,7 @@ pub unary-returns-in_err-goes_here-clause-refused : goal.unary-returns-in_err-go
 unary-returns-in_err-goes_here-clause-refused t c = let is = unary_here c.args.room _ _ _ _ _ c.in-Some.ensures.taken c.in_err-goes_here.ensures.deep in search (rules, is)
 
 pub unary-returns-in_err-operand-clause-refused : goal.unary-returns-in_err-operand-clause-refused
-unary-returns-in_err-operand-clause-refused t c = let is = unary_operand_refused c.args.room _ _ _ _ _ _ c.in-Some.ensures.taken (omega arith) c.in_err-operand.ensures.refused in search (rules, is)
+unary-returns-in_err-operand-clause-refused t c = let fits = c.in_ok-goes_here.ensures.fits in let is = unary_operand_refused c.args.room _ _ _ _ _ _ c.in-Some.ensures.taken (omega arith) (omega (arith, fits)) c.in_err-operand.ensures.refused in search (rules, is)
 
 pub unary-returns-clause-found : goal.unary-returns-clause-found
 unary-returns-clause-found t c = unary_next c.args.room _ _ _ _ _ _ _ _ _ c.in-Some.ensures.taken c.sign_of.ensures (omega (arith, c.in_ok-goes_here.ensures.fits)) c.in_ok-operand.ensures.found c.in_ok-part.ensures.tree c.in_ok-part.ensures.height c.in_ok-part.ensures.deepest c.in_ok-part.ensures.other
@@ -159,7 +160,8 @@ prim-returns-in_err-goes_above-clause-refused t c =
 
 pub prim-returns-in_err-left-2-clause-refused : goal.prim-returns-in_err-left-2-clause-refused
 prim-returns-in_err-left-2-clause-refused t c =
-    let is = prim_right _ _ _ _ _ _ c.loop-alloc.invariant (sym c.at_trailer.ensures ∙ c.loop-alloc-test.true) (omega arith) c.in_err-left-2.ensures.refused in search (rules, is)
+    let fits = c.in_ok-goes_above.ensures.fits in
+    let is = prim_right _ _ _ _ _ _ c.loop-alloc.invariant (sym c.at_trailer.ensures ∙ c.loop-alloc-test.true) fits (omega arith) (omega (arith, fits)) c.in_err-left-2.ensures.refused in search (rules, is)
 
 pub prim-loop-alloc-preserved : goal.prim-loop-alloc-preserved
 prim-loop-alloc-preserved t c = prim_next _ _ _ _ _ _ _ c.loop-alloc.invariant c.in_ok-goes_above.ensures.fits (let fits = c.in_ok-goes_above.ensures.fits in omega (arith, fits)) c.in_ok-left-2.ensures.found
@@ -201,7 +203,7 @@ arguments-returns-in_err-arguments-clause-refused t c = let is = closed_first (i
 pub arguments-returns-in_err-sign-clause-refused : goal.arguments-returns-in_err-sign-clause-refused
 arguments-returns-in_err-sign-clause-refused t c =
     let f = c.in_ok-arguments.ensures.found in
-    let is = closed_last (items_part 1) 1 c.args.room _ _ _ _ f.before_is f.is_read c.in_err-sign.ensures.refused in search (rules, is)
+    let is = closed_last (items_part 1) 1 c.args.room _ _ _ _ f.before_is f.is_read (λ at. let low = items_low f.written at in let same = f.height_is in let fits = f.fits in omega (arith, low, same, fits)) c.in_err-sign.ensures.refused in search (rules, is)
 
 pub subscription-returns-in_err-index-clause-refused : goal.subscription-returns-in_err-index-clause-refused
 subscription-returns-in_err-index-clause-refused t c = let is = closed_first index_part 3 _ _ _ c.in_err-index.ensures.refused in search (rules, is)
@@ -209,7 +211,7 @@ subscription-returns-in_err-index-clause-refused t c = let is = closed_first ind
 pub subscription-returns-in_err-sign-clause-refused : goal.subscription-returns-in_err-sign-clause-refused
 subscription-returns-in_err-sign-clause-refused t c =
     let f = c.in_ok-index.ensures.found in
-    let is = closed_last index_part 3 c.args.room _ _ _ _ f.before_is f.is_read c.in_err-sign.ensures.refused in search (rules, is)
+    let is = closed_last index_part 3 c.args.room _ _ _ _ f.before_is f.is_read (λ at. let low = index_low f.written at in let same = f.height_is in let fits = f.fits in omega (arith, low, same, fits)) c.in_err-sign.ensures.refused in search (rules, is)
 
 -- ---- atoms
 
@@ -220,7 +222,7 @@ pub atom-returns-in-Some-clause-found : goal.atom-returns-in-Some-clause-found
 atom-returns-in-Some-clause-found t c = group_ok _ _ _ _ _ _ _ c.in-Some.ensures.taken (let fits = c.in_ok-goes_here.ensures.fits in omega (arith, fits)) c.group.ensures.found
 
 pub atom-returns-in-Some-clause-refused : goal.atom-returns-in-Some-clause-refused
-atom-returns-in-Some-clause-refused t c = group_err _ _ _ _ _ _ c.in-Some.ensures.taken (omega arith) c.group.ensures.refused
+atom-returns-in-Some-clause-refused t c = group_err _ _ _ _ _ _ c.in-Some.ensures.taken (omega arith) (let fits = c.in_ok-goes_here.ensures.fits in omega (arith, fits)) c.group.ensures.refused
 
 pub atom-returns-in_err-goes_here-2-clause-refused : goal.atom-returns-in_err-goes_here-2-clause-refused
 atom-returns-in_err-goes_here-2-clause-refused t c =
@@ -231,7 +233,7 @@ atom-returns-in-Some-take_sign-clause-found t c =
     list_ok _ _ _ _ _ _ _ (taken_kept _ _ _ _ _ c.in_default.ensures.kept c.in-Some-take_sign.ensures.taken) (let fits = c.in_ok-goes_here-2.ensures.fits in omega (arith, fits)) c.list.ensures.found
 
 pub atom-returns-in-Some-take_sign-clause-refused : goal.atom-returns-in-Some-take_sign-clause-refused
-atom-returns-in-Some-take_sign-clause-refused t c = list_err _ _ _ _ _ _ (taken_kept _ _ _ _ _ c.in_default.ensures.kept c.in-Some-take_sign.ensures.taken) (omega arith) c.list.ensures.refused
+atom-returns-in-Some-take_sign-clause-refused t c = list_err _ _ _ _ _ _ (taken_kept _ _ _ _ _ c.in_default.ensures.kept c.in-Some-take_sign.ensures.taken) (omega arith) (let fits = c.in_ok-goes_here-2.ensures.fits in omega (arith, fits)) c.list.ensures.refused
 
 pub atom-returns-in_err-goes_here-3-clause-refused : goal.atom-returns-in_err-goes_here-3-clause-refused
 atom-returns-in_err-goes_here-3-clause-refused t c =
@@ -243,7 +245,7 @@ atom-returns-in-Some-take_sign-2-clause-found t c =
 
 pub atom-returns-in-Some-take_sign-2-clause-refused : goal.atom-returns-in-Some-take_sign-2-clause-refused
 atom-returns-in-Some-take_sign-2-clause-refused t c =
-    dict_err _ _ _ _ _ _ (taken_twice _ _ _ _ _ _ c.in_default-take_sign.ensures.kept c.in_default.ensures.kept c.in-Some-take_sign-2.ensures.taken) (omega arith) c.dict.ensures.refused
+    dict_err _ _ _ _ _ _ (taken_twice _ _ _ _ _ _ c.in_default-take_sign.ensures.kept c.in_default.ensures.kept c.in-Some-take_sign-2.ensures.taken) (omega arith) (let fits = c.in_ok-goes_here-3.ensures.fits in omega (arith, fits)) c.dict.ensures.refused
 
 pub group-returns-in-Some-clause-found : goal.group-returns-in-Some-clause-found
 group-returns-in-Some-clause-found t c = group_none _ _ _ _ _ _ c.in-Some.ensures.taken c.empty_tuple.ensures.tree c.empty_tuple.ensures.height c.empty_tuple.ensures.deepest c.empty_tuple.ensures.form
@@ -264,7 +266,7 @@ list-returns-in_err-items-clause-refused t c = let is = closed_first (items_part
 pub list-returns-in_err-sign-clause-refused : goal.list-returns-in_err-sign-clause-refused
 list-returns-in_err-sign-clause-refused t c =
     let f = c.in_ok-items.ensures.found in
-    let is = closed_last (items_part 3) 3 c.args.room _ _ _ _ f.before_is f.is_read c.in_err-sign.ensures.refused in search (rules, is)
+    let is = closed_last (items_part 3) 3 c.args.room _ _ _ _ f.before_is f.is_read (λ at. let low = items_low f.written at in let same = f.height_is in let fits = f.fits in omega (arith, low, same, fits)) c.in_err-sign.ensures.refused in search (rules, is)
 
 pub dict-returns-in_err-pairs-clause-refused : goal.dict-returns-in_err-pairs-clause-refused
 dict-returns-in_err-pairs-clause-refused t c = let is = closed_first pairs_part 5 _ _ _ c.in_err-pairs.ensures.refused in search (rules, is)
@@ -272,7 +274,7 @@ dict-returns-in_err-pairs-clause-refused t c = let is = closed_first pairs_part 
 pub dict-returns-in_err-sign-clause-refused : goal.dict-returns-in_err-sign-clause-refused
 dict-returns-in_err-sign-clause-refused t c =
     let f = c.in_ok-pairs.ensures.found in
-    let is = closed_last pairs_part 5 c.args.room _ _ _ _ f.before_is f.is_read c.in_err-sign.ensures.refused in search (rules, is)
+    let is = closed_last pairs_part 5 c.args.room _ _ _ _ f.before_is f.is_read (λ at. let low = pairs_low f.written at in let same = f.height_is in let fits = f.fits in omega (arith, low, same, fits)) c.in_err-sign.ensures.refused in search (rules, is)
 
 pub arguments-returns-clause-found : goal.arguments-returns-clause-found
 arguments-returns-clause-found t c = call_closed _ _ _ _ _ _ _ c.args.callee _ c.in_ok-arguments.ensures.found c.in_ok-sign.ensures.taken c.call.ensures.tree c.call.ensures.height c.call.ensures.deepest c.call.ensures.form
@@ -298,7 +300,7 @@ pub row-returns-in_err-goes_above-clause-refused : goal.row-returns-in_err-goes_
 row-returns-in_err-goes_above-clause-refused t c = let is = row_full _ _ _ _ _ _ _ c.in_ok-first.ensures.found c.in-Some.ensures.taken c.in_err-goes_above.ensures.deep in search (rules, is)
 
 pub row-returns-in_err-row-clause-refused : goal.row-returns-in_err-row-clause-refused
-row-returns-in_err-row-clause-refused t c = let is = row_rest _ _ _ _ _ _ _ _ c.in_ok-first.ensures.found c.in-Some.ensures.taken (omega arith) c.in_err-row.ensures.refused in search (rules, is)
+row-returns-in_err-row-clause-refused t c = let fits = c.in_ok-goes_above.ensures.fits in let is = row_rest _ _ _ _ _ _ _ _ c.in_ok-first.ensures.found c.in-Some.ensures.taken fits (omega arith) (omega (arith, fits)) c.in_err-row.ensures.refused in search (rules, is)
 
 pub row-returns-clause-found : goal.row-returns-clause-found
 row-returns-clause-found t c =

@@ -11,7 +11,7 @@ returns-then-not-around-clause-refused c = break_outside (around_of c.args.aroun
 
 -- src/simple.rt
 pub returns-in_err-end-clause-refused : goal.returns-in_err-end-clause-refused
-returns-in_err-end-clause-refused c = let is = break_more (around_of c.args.around) c.args.self.now.rest.now _ c.in_err-end.ensures.more in search (rules, is)
+returns-in_err-end-clause-refused c = let is = break_more (around_of c.args.around) c.args.self.now.rest.now _ (not-false _ c.if-not-around.false) c.in_err-end.ensures.more in search (rules, is)
 
 -- src/simple.rt
 pub returns-clause-found : goal.returns-clause-found

@@ -17,7 +17,13 @@ returns-then-not-may_be_method-clause-refused c = λ context around.
 -- src/openings.rt
 pub returns-in_err-params-clause-refused : goal.returns-in_err-params-clause-refused
 returns-in_err-params-clause-refused c = λ context around.
-    let is = def_params_refused context _ _ c.args.self.now.rest.now _ _ c.in_ok-name.ensures.taken c.in_err-params.ensures.refused in search (rules, is)
+    let method : (not c.args.around.at_module_level && not (may_be_method c.in_ok-name.name)) ≡ false =
+    elim c.else-not-around.branch [
+      | else-not-around-via-then-not-around+else-not-may_be_method w ↦ by_method c.args.around.at_module_level _ (sym w.may_be_method.ensures ∙ w.if-not-may_be_method.false)
+      | else-not-around-via-else-not-around w ↦ by_level _ (may_be_method c.in_ok-name.name) (not-false _ w.if-not-around.false)
+    ] in
+    let is = def_params_refused context _ _ c.args.self.now.rest.now _ _ c.in_ok-name.ensures.taken (ap (λ (a : Around). not a.at_module_level && not (may_be_method c.in_ok-name.name)) around ∙ method) c.in_err-params.ensures.refused in
+    search (rules, is)
 
 -- src/openings.rt
 pub returns-clause-found : goal.returns-clause-found

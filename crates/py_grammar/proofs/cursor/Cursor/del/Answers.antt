@@ -22,7 +22,7 @@ returns-in-Attr-clause-refused c =
 -- src/simple.rt
 pub returns-in_err-end-clause-refused : goal.returns-in_err-end-clause-refused
 returns-in_err-end-clause-refused c =
-    let is = del_more c.args.self.now.rest.now c.expr.new.self.rest.now _ _ c.in_ok-target.ensures.found (ap is_none c.in_default.is) c.in_err-end.ensures.more in
+    let is = del_more c.args.self.now.rest.now c.expr.new.self.rest.now _ _ c.in_ok-target.ensures.found c.in_err-end.ensures.more in
     search (rules, is)
 
 -- src/simple.rt

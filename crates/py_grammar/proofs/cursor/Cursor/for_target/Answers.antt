@@ -21,7 +21,7 @@ returns-in_err-goes_above-clause-refused c = let is = first_full c.args.self.now
 
 -- src/names.rt
 pub returns-in_err-row-clause-refused : goal.returns-in_err-row-clause-refused
-returns-in_err-row-clause-refused c = let is = others_refused c.args.self.now.rest.now _ _ _ _ _ c.in_ok-first.ensures.found c.in-Some.ensures.taken c.in_err-row.ensures.refused in search (rules, is)
+returns-in_err-row-clause-refused c = let is = others_refused c.args.self.now.rest.now _ _ _ _ _ c.in_ok-first.ensures.found c.in-Some.ensures.taken c.in_ok-goes_above.ensures.fits c.in_err-row.ensures.refused in search (rules, is)
 
 -- src/names.rt
 pub target_of-requires : goal.target_of-requires

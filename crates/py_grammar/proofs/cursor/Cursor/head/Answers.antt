@@ -8,7 +8,7 @@ use Rattle.py_grammar.proofs.cursor.Cursor.head.Goals as goal
 pub returns-in_err-form-clause-refused : goal.returns-in_err-form-clause-refused
 returns-in_err-form-clause-refused c =
     let is = simple_refused_there (context_of c.args.context) c.args.given.now c.args.limit c.args.self.now.rest.now c.take_compound.new.self.rest.now _
-    c.in_default.ensures.kept c.in_default.ensures.absent c.in_err-form.ensures.refused in
+    c.in_default.ensures.kept c.requires.fine c.in_default.ensures.absent c.in_err-form.ensures.refused in
     search (rules, is)
 
 -- src/head.rt
@@ -21,7 +21,7 @@ returns-in_default-clause-found c =
 pub returns-in_err-names-clause-refused : goal.returns-in_err-names-clause-refused
 returns-in_err-names-clause-refused c =
     let is = global_refused_there (context_of c.args.context) c.args.given.now c.args.limit c.in-Some.word _ c.args.self.now.rest.now c.take_compound.new.self.rest.now _
-    c.in-Some.ensures.taken c.if-word-eq-GLOBAL.true c.in_err-names.ensures.refused in
+    c.in-Some.ensures.taken c.if-word-eq-GLOBAL.true c.requires.fine c.in_err-names.ensures.refused in
     search (rules, is)
 
 -- src/head.rt
@@ -34,21 +34,21 @@ returns-then-word-eq-GLOBAL-clause-found c =
 pub returns-in_err-what-clause-refused : goal.returns-in_err-what-clause-refused
 returns-in_err-what-clause-refused c =
     let is = opening_refused_there (context_of c.args.context) c.args.given.now c.args.limit c.in-Some.word _ c.args.self.now.rest.now c.take_compound.new.self.rest.now _
-    c.in-Some.ensures.taken (c.in_err-what.ensures.refused (context_of c.args.context) refl) in
+    c.in-Some.ensures.taken c.in-Some.ensures.word c.requires.fine (c.in_err-what.ensures.refused (context_of c.args.context) refl) in
     search (rules, is)
 
 -- src/head.rt
 pub returns-in_err-sign-clause-refused : goal.returns-in_err-sign-clause-refused
 returns-in_err-sign-clause-refused c =
     let is = sign_refused_there (context_of c.args.context) c.args.given.now c.args.limit c.in-Some.word _ c.args.self.now.rest.now c.take_compound.new.self.rest.now c.opening.new.self.rest.now c.in_ok-what.what _
-    c.in-Some.ensures.taken (c.in_ok-what.ensures.found (context_of c.args.context) refl) c.in_err-sign.ensures.refused in
+    c.in-Some.ensures.taken c.in-Some.ensures.word c.requires.fine (c.in_ok-what.ensures.found (context_of c.args.context) refl) c.in_err-sign.ensures.refused in
     search (rules, is)
 
 -- src/head.rt
 pub returns-in_err-behind-clause-refused : goal.returns-in_err-behind-clause-refused
 returns-in_err-behind-clause-refused c =
     let is = behind_refused_there (context_of c.args.context) c.args.given.now c.args.limit c.in-Some.word _ _ c.args.self.now.rest.now c.take_compound.new.self.rest.now c.opening.new.self.rest.now c.sign.new.self.rest.now c.in_ok-what.what
-    (around_of c.suite_around.result) _ c.in-Some.ensures.taken (c.in_ok-what.ensures.found (context_of c.args.context) refl) c.in_ok-sign.ensures.taken c.suite_around.ensures c.in_err-behind.ensures.refused in
+    (around_of c.suite_around.result) _ c.in-Some.ensures.taken c.in-Some.ensures.word c.requires.fine (c.in_ok-what.ensures.found (context_of c.args.context) refl) c.in_ok-sign.ensures.taken c.suite_around.ensures c.in_err-behind.ensures.refused in
     search (rules, is)
 
 -- src/head.rt

@@ -15,7 +15,7 @@ returns-then-not-is_module-clause-refused c =
 -- src/simple.rt
 pub returns-in_err-end-clause-refused : goal.returns-in_err-end-clause-refused
 returns-in_err-end-clause-refused c =
-    let is = import_more _ _ c.args.self.now.rest.now c.name.new.self.rest.now _ c.in_ok-name.ensures.taken c.in_err-end.ensures.more in
+    let is = import_more _ _ c.args.self.now.rest.now c.name.new.self.rest.now _ c.in_ok-name.ensures.taken (sym c.is_module.ensures ∙ c.if-not-is_module.false) c.in_err-end.ensures.more in
     search (rules, is)
 
 -- src/simple.rt

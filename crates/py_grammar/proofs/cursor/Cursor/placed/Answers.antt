@@ -1,6 +1,6 @@
 use Rattle.std.proofs.Common.{rules, sym, ◌∙◌, refl}
 use Rattle.py_grammar.specs.ParsedSimple.{around_of}
-use Rattle.py_grammar.proofs.PlacedParts.{placed_end, limit_there, word_there, class_there, found_there, placed_refused, outside, none_there}
+use Rattle.py_grammar.proofs.PlacedParts.{placed_end, limit_there, word_there, class_there, found_there, refused_there, outside, none_there}
 use Rattle.py_grammar.proofs.cursor.Cursor.placed.Goals.{else-around-via-then-around+else-not-is_alone, else-around-via-else-around}
 use Rattle.py_grammar.proofs.cursor.Cursor.placed.Goals as goal
 
@@ -25,7 +25,13 @@ returns-then-is_refused_word-clause-refused c =
 
 -- src/head.rt
 pub returns-in_err-form-clause-refused : goal.returns-in_err-form-clause-refused
-returns-in_err-form-clause-refused c = let is = placed_refused (around_of c.args.around) c.args.limit c.args.self.now.rest.now _ c.in_err-form.ensures.refused in search (rules, is)
+returns-in_err-form-clause-refused c =
+    let is = refused_there (around_of c.args.around) c.args.limit c.args.self.now.rest.now c.in-Some.token.now _ _ c.in-Some.ensures.cases.0
+    (elim c.else-around.branch [
+      | else-around-via-then-around+else-not-is_alone w ↦ (λ inside. sym w.is_alone.ensures ∙ w.if-not-is_alone.false)
+      | else-around-via-else-around w ↦ outside _ _ w.if-around.false
+    ]) c.in_err-form.ensures.refused in
+    search (rules, is)
 
 -- src/head.rt
 pub returns-clause-found : goal.returns-clause-found

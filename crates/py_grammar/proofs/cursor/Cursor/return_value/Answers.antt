@@ -18,13 +18,13 @@ returns-then-is_empty-clause-found c =
 -- src/simple.rt
 pub returns-in_err-value-clause-refused : goal.returns-in_err-value-clause-refused
 returns-in_err-value-clause-refused c =
-    let is = return_refused (around_of c.args.around) c.args.self.now.rest.now _ (something_there _ _ c.is_empty.ensures c.if-is_empty.false) c.in_err-value.ensures.refused in
+    let is = return_refused (around_of c.args.around) c.args.self.now.rest.now _ (not-false _ c.if-not-around.false) (something_there _ _ c.is_empty.ensures c.if-is_empty.false) c.in_err-value.ensures.refused in
     search (rules, is)
 
 -- src/simple.rt
 pub returns-in_err-end-clause-refused : goal.returns-in_err-end-clause-refused
 returns-in_err-end-clause-refused c =
-    let is = return_more (around_of c.args.around) c.args.self.now.rest.now c.exprs.new.self.rest.now _ _ c.in_ok-value.ensures.found c.in_err-end.ensures.more in
+    let is = return_more (around_of c.args.around) c.args.self.now.rest.now c.exprs.new.self.rest.now _ _ (not-false _ c.if-not-around.false) c.in_ok-value.ensures.found c.in_err-end.ensures.more in
     search (rules, is)
 
 -- src/simple.rt

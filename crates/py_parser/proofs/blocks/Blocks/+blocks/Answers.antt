@@ -1,11 +1,12 @@
 use Rattle.std.proofs.Common.{rules, ◌+◌, ◌++◌, ◌∷◌, [], ap, sym, ◌∙◌, refl}
 use Rattle.py_grammar.specs.ParsedHead.{behind_in}
-use Rattle.py_parser.specs.Faults.{first_place, last_place}
+use Rattle.py_parser.specs.Faults.{last_place}
 use Rattle.py_parser.specs.ParsedBlocks.{level_of, level_at}
 use Rattle.py_parser.proofs.RowsStanding.{standing_start, standing_more, stopped_behind_there, stopped_end_there, still_below, rows_read, standing_declares}
 use Rattle.py_parser.proofs.Columns.{below_inside}
 use Rattle.py_parser.proofs.UnderParts.{behind_read, nothing_read}
-use Rattle.py_parser.proofs.CycleParts.{line_stopped_there, under_stopped_there, row_found, standing_shorter, no_first, some_first, no_line_below, not_below, too_deep_below, inner_place, suite_stopped_there, suite_read_there, same_behind, no_behind, is_none_behind}
+use Rattle.py_parser.proofs.CloseParts.{nothing_below}
+use Rattle.py_parser.proofs.CycleParts.{line_stopped_there, under_stopped_there, row_found, standing_shorter, no_line_below, not_below, beyond_below, inner_place, suite_stopped_there, suite_read_there, same_behind, no_behind, is_none_behind}
 use Rattle.py_parser.proofs.blocks.Blocks.+blocks.Goals as goal
 
 -- src/blocks.rt
@@ -75,25 +76,23 @@ rows-returns-clause-found t c =
 -- src/blocks.rt
 pub suite-returns-in_default-clause-refused : goal.suite-returns-in_default-clause-refused
 suite-returns-in_default-clause-refused t c m n h u what open_is =
-    no_line_below c.args.self.now.columns.items c.args.place c.args.self.now.count m n h c.args.self.now.before c.args.self.now.rest.now c.requires.deep (no_first _ c.in_default.ensures.value) u open_is
+    no_line_below c.args.self.now.columns.items c.args.place c.args.self.now.count m n h c.args.self.now.before c.args.self.now.rest.now c.requires.deep (nothing_below _ c.in_default.ensures.cases) u open_is
 
 -- src/blocks.rt
 pub suite-returns-then-next-place-clause-refused : goal.suite-returns-then-next-place-clause-refused
 suite-returns-then-next-place-clause-refused t c m n h u what open_is =
-    let there = some_first c.args.self.now.rest.now c.in-Some.next.now c.in-Some.ensures.value in
-    not_below c.args.self.now.columns.items c.args.place c.args.self.now.count m n h c.args.self.now.before c.in-Some.next.now there.0 c.args.self.now.rest.now c.requires.deep there.1 u c.if-next-place.true open_is
+    not_below c.args.self.now.columns.items c.args.place c.args.self.now.count m n h c.args.self.now.before c.in-Some.next.now _ c.args.self.now.rest.now c.requires.deep c.in-Some.ensures.cases.0 u c.if-next-place.true open_is
 
 -- src/blocks.rt
 pub suite-returns-then-place-ge-SUITES-clause-refused : goal.suite-returns-then-place-ge-SUITES-clause-refused
 suite-returns-then-place-ge-SUITES-clause-refused t c m n h u what open_is =
-    let there = some_first c.args.self.now.rest.now c.in-Some.next.now c.in-Some.ensures.value in
-    too_deep_below c.args.self.now.columns.items c.args.place c.args.self.now.count m n h c.args.self.now.before _ c.in-Some.next.now there.0 c.args.self.now.rest.now c.requires.deep there.1 u c.if-next-place.false c.if-place-ge-SUITES.true open_is
-    (c.first_of-at.ensures ∙ ap (first_place c.args.self.now.before) c.as_slice.ensures)
+    beyond_below c.args.self.now.columns.items c.args.place c.args.self.now.count m n h c.args.self.now.before c.in-Some.next.now c.in-Some.lines.now c.args.self.now.rest.now _ c.requires.deep c.in-Some.ensures.cases.0 u c.if-next-place.false c.if-place-ge-SUITES.true open_is
+    (c.beyond_suites.ensures h what)
 
 -- src/blocks.rt
 pub suite-returns-in_err-built-clause-refused : goal.suite-returns-in_err-built-clause-refused
 suite-returns-in_err-built-clause-refused t c m n h u what open_is =
-    let is = suite_stopped_there c.args.self.now.columns.items _ c.args.place (inner_place c.in-Some.next.now.indent (c.args.place.depth + 1) c.inner_around.result c.is_def.result) c.given_of.result.now c.args.self.now.count m n h c.args.self.now.before c.args.self.now.rest.now _ c.requires.deep u open_is refl
+    let is = suite_stopped_there c.args.self.now.columns.items _ c.args.place (inner_place c.in-Some.next.now.indent (c.args.place.depth + 1) c.inner_around.result c.is_def.result) c.given_of.result.now c.args.self.now.count m n h c.args.self.now.before c.args.self.now.rest.now _ c.if-place-ge-SUITES.false u open_is refl
     (c.inner_around.ensures h what) (c.is_def.ensures h what) (c.given_of.ensures h what) c.if-next-place.false c.in_ok-push.ensures.items c.in_err-built.ensures.refused in
     search (rules, is)
 
