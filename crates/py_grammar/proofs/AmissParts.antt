@@ -6,16 +6,16 @@ use Rattle.py_grammar.specs.declared.fault.Fault.{Fault}
 use Rattle.py_grammar.specs.declared.fault.Fault.TheVariants.{Unexpected, TooDeep, TooMany, Memory}
 use Rattle.py_grammar.specs.declared.fault.Stop.{Stop}
 use Rattle.py_grammar.specs.declared.fault.Stop.TheVariants.{Here, End}
-use Rattle.py_grammar.specs.Parsed.{Production, IsAtFirst, IsDeep, Finds, Begins, Refused}
+use Rattle.py_grammar.specs.Parsed.{Production, ShowsAt, IsAtFirst, IsDeep, Finds, Begins, Refused}
 use Rattle.py_grammar.specs.ParsedRows.{first_token}
-use Rattle.py_grammar.specs.ParsedHead.{Context, head_stands, head_depth, behind_in, IsAmissHead, BeginsHead, IsAheadOnLine, ShownBy, HeadRefused}
+use Rattle.py_grammar.specs.ParsedHead.{Context, head_stands, head_depth, behind_in, IsAmissHead, BeginsHead, GoesOnLine, IsAheadOnLine, ShownBy, HeadRefused}
 use Rattle.py_grammar.specs.LineReader.{Head, head_tokens}
-use Rattle.py_grammar.specs.ParsedNames.{BeginsFine, ShownAmiss, RefusedAmiss}
-use Rattle.py_grammar.proofs.Refusals.{begins_so, finds_same, finds_weaker, goes_inside}
+use Rattle.py_grammar.specs.ParsedNames.{BeginsFine, IsNotDeep, ShownAmiss, RefusedAmiss}
+use Rattle.py_grammar.proofs.Refusals.{begins_so, finds_same, finds_weaker}
 use Rattle.py_grammar.proofs.Stops.{shows_on_line}
 use Rattle.py_grammar.proofs.NoDel.{is_simple_head}
 use Rattle.py_grammar.proofs.Unread.{PassesFor}
-use Rattle.py_grammar.proofs.HeadParts.{OnlyHead, HeadTurns, turned_head, BeginsOpening, opening_so, begins_opening, shown_head, ahead_of_part, ended_line, finds_head_same, first_shown}
+use Rattle.py_grammar.proofs.HeadParts.{OnlyHead, HeadTurns, turned_head, BeginsOpening, begins_opening, shown_head, ahead_of_part, ended_line, finds_head_same, first_shown}
 
 -- ---- refusals as such
 
@@ -29,8 +29,8 @@ all_fine p tokens b = record { some = b.some; fine = λ stop no. no; more = b.mo
 -- a part without depth that is refused because nothing is read
 pub amiss_of_refused : {A : Type 0} (p : Production A) (before : List Token) (stop : Stop) → ((why : Stop) (a : A) → IsDeep why 0 (p.lies a) → ⊥) → Refused p 0 before stop → RefusedAmiss p NoneAmiss before stop
 amiss_of_refused p before (Here Memory) low is = tt
-amiss_of_refused p before (Here (Unexpected at)) low is = record { front = is.front; shown_by = is.shown_by; behind = is.behind; before_is = is.before_is; left_is = is.left_is; begins = all_fine p is.front (begins_so p 0 is.front is.begins); goes_on = tt; none = λ more. finds_weaker _ _ p.read _ (low (Here (Unexpected at))) (is.none more) }
-amiss_of_refused p before (Here (TooDeep at)) low is = record { front = is.front; shown_by = is.shown_by; behind = is.behind; before_is = is.before_is; left_is = is.left_is; begins = all_fine p is.front (begins_so p 0 is.front is.begins); goes_on = all_fine p (is.front ++ is.shown_by ∷ []) is.goes_on; none = λ more. finds_weaker _ _ p.read _ (low (Here (TooDeep at))) (is.none more) }
+amiss_of_refused p before (Here (Unexpected at)) low is = record { front = is.front; shown_by = is.shown_by; behind = is.behind; before_is = is.before_is; left_is = is.left_is; begins = all_fine p is.front (begins_so p 0 is.front is.begins); not_deep = tt; none = λ more. finds_weaker _ _ p.read _ (low (Here (Unexpected at))) (is.none more) }
+amiss_of_refused p before (Here (TooDeep at)) low is = absurd (low (Here (TooDeep at)) is.goes_on.some is.goes_on.deep)
 amiss_of_refused p before (Here (TooMany at)) low is = absurd is.left_is
 amiss_of_refused p before End low is = (all_fine p before (begins_so p 0 before is.0), is.1)
 
@@ -51,7 +51,7 @@ shown_inside p amiss q inner front rest fault inside s = record {
   before_is = ap (λ ts. front ++ ts) s.before_is ∙ sym (append_assoc front s.front (s.shown_by ∷ s.behind));
   left_is = s.left_is;
   begins = inside.begins s.front s.begins;
-  goes_on = goes_inside (BeginsFine q inner) (BeginsFine p amiss) front s.front s.shown_by fault inside.begins s.goes_on;
+  not_deep = s.not_deep;
   none = λ more. finds_same _ p.read _ _ (append_assoc front s.front (s.shown_by ∷ more))
       (inside.finds (Here fault) (s.front ++ s.shown_by ∷ more) (first_shown s.front s.shown_by more s.behind ∙ sym (ap first_token s.before_is)) (s.none more));
 }
@@ -82,7 +82,7 @@ pub amiss_here : {A : Type 0} (p : Production A) (amiss : Stop → A → Type 0)
 amiss_here p amiss before front [] End is at begins none_end none_there =
     (subst (BeginsFine p amiss) (sym (is ∙ append-nil front)) begins, subst (Finds (amiss End) p.read) (sym is) (finds_weaker _ _ p.read _ (λ a no. absurd no) (none_end refl)))
 amiss_here p amiss before front [] (Here fault) is at begins none_end none_there = cc
-amiss_here p amiss before front (t ∷ ts) (Here (Unexpected place)) is at begins none_end none_there = record { front = front; shown_by = t; behind = ts; before_is = is; left_is = at; begins = begins; goes_on = tt; none = λ more. finds_weaker _ _ p.read _ (λ a no. absurd no) (none_there t ts more refl) }
+amiss_here p amiss before front (t ∷ ts) (Here (Unexpected place)) is at begins none_end none_there = record { front = front; shown_by = t; behind = ts; before_is = is; left_is = at; begins = begins; not_deep = tt; none = λ more. finds_weaker _ _ p.read _ (λ a no. absurd no) (none_there t ts more refl) }
 amiss_here p amiss before front (t ∷ ts) (Here (TooDeep place)) is at begins none_end none_there = absurd at
 amiss_here p amiss before front (t ∷ ts) (Here (TooMany place)) is at begins none_end none_there = absurd at
 amiss_here p amiss before front (t ∷ ts) (Here Memory) is at begins none_end none_there = absurd at
@@ -106,11 +106,17 @@ record StandsSo {B : Type 0} (c : Context) (given : List (List ℕ)) (limit : Op
   turns : HeadTurns q front rest g
   each : (why : Stop) (n : ℕ) (b : B) (left : List Token) → inner why b → OnlyHead (IsAmissHead c given limit why) (g n b left)
 
+not_deep_line : (c : Context) (given : List (List ℕ)) (limit : Option Limit) (front : List Token) (t : Token) (behind : List Token) (fault : Fault) → ShowsAt behind fault → IsNotDeep fault → GoesOnLine c given limit front t fault
+not_deep_line c given limit front t behind (Unexpected left) shows low = tt
+not_deep_line c given limit front t behind (TooDeep at) shows low = absurd low
+not_deep_line c given limit front t behind (TooMany at) shows low = absurd shows
+not_deep_line c given limit front t behind Memory shows low = absurd shows
+
 shown_so : {B : Type 0} (c : Context) (given : List (List ℕ)) (limit : Option Limit) (q : Production B) (inner : Stop → B → Type 0) (front rest before : List Token) (fault : Fault) → before ≡ front ++ rest → StandsSo c given limit q inner front rest
     → ShownAmiss q inner rest fault → ShownBy (BeginsHead c given) (IsAheadOnLine c given limit) head_tokens (λ fault a. IsAmissHead c given limit (Here fault) a) before fault
 shown_so c given limit q inner front rest before fault is part s = shown_head c given limit (front ++ s.front) s.shown_by s.behind before fault
     (is ∙ ap (λ ts. front ++ ts) s.before_is ∙ sym (append_assoc front s.front (s.shown_by ∷ s.behind))) (shows_on_line s.shown_by s.behind fault s.left_is) (part.begins s.front s.begins).begun
-    (ahead_of_part c given limit (BeginsFine q inner) front rest s.front s.shown_by s.behind fault (λ ts b. opening_so c given (front ++ ts) (part.begins ts b)) part.other (sym (ap first_token s.before_is)) s.begins s.left_is s.goes_on)
+    (ahead_of_part c given limit front rest s.front s.shown_by s.behind fault part.other (sym (ap first_token s.before_is)) (part.begins s.front s.begins).clear (not_deep_line c given limit (front ++ s.front) s.shown_by s.behind fault s.left_is s.not_deep))
     (λ more. finds_head_same _ _ _ (append_assoc front s.front (s.shown_by ∷ more))
     (turned_head _ _ q front rest (s.front ++ s.shown_by ∷ more) part.g part.turns (first_shown s.front s.shown_by more s.behind ∙ sym (ap first_token s.before_is)) (part.each (Here fault)) (s.none more)))
 

@@ -13,9 +13,10 @@ use Rattle.py_grammar.specs.declared.part.Part.{Part}
 use Rattle.py_grammar.specs.Parsed.{Production, Found, IsDeep, Only, Refused, IsTooDeep}
 use Rattle.py_grammar.specs.Reader.{Read, go_on, kind_level, next_level}
 use Rattle.py_grammar.proofs.Leading.{Leads}
-use Rattle.py_grammar.proofs.Refusals.{Inside, finds_first, finds_lead, finds_same, finds_anything, deeper, deep_same, refused_inside, refused_same, one_behind, begins_up_to, begins_whole, node_within, full, over_both, fits_above}
-use Rattle.py_grammar.specs.Lies.{begins, over, deeper_of}
-use Rattle.py_grammar.proofs.Lying.{deepest_node, over_left, over_right}
+use Rattle.py_grammar.proofs.Refusals.{Inside, finds_first, finds_lead, finds_same, finds_anything, deeper, deep_same, refused_inside, refused_same, one_behind, begins_whole, node_within, first_full, full, over_both, fits_above}
+use Rattle.py_grammar.specs.Lies.{begins, over, deeper_of, IsFirst}
+use Rattle.py_grammar.proofs.Lying.{over_left, over_right}
+use Rattle.py_grammar.proofs.Deepest.{deeper_same}
 
 -- A level `p` of operators over the level `q`: one of `q`, or one of `p`, an operator and one of `q`.
 pub record Chain {C S O : Type 0} (p : Production C) (q : Production S) (tree : C → ExprTree) (part_tree : S → ExprTree) (level : ℕ) (one : S → C) (next : C → O → S → C) (token_of : O → Token)
@@ -30,8 +31,11 @@ pub record Chain {C S O : Type 0} (p : Production C) (q : Production S) (tree : 
   pub lies_one : (s : S) (at : Pos) → p.lies (one s) at ≡ q.lies s at
   pub lies_next : (left : C) (o : O) (s : S) (at : Pos) → p.lies (next left o s) at ≡ over (begins (p.tokens left) at) (max (p.lies left at) (q.lies s at))
   pub low : (c : C) (at : Pos) → p.lies c at ≤ p.depth c
-  pub part_low : (s : S) (at : Pos) → q.lies s at ≤ q.depth s
+  pub alone : (at other : Pos) → (other ≡ at → ⊥) → q.lies (some at) other ≡ 0
   pub some_depth : (c : C) → 1 ≤ p.depth c
+  pub deepest_one : (s : S) → p.deepest (one s) ≡ q.deepest s
+  pub deepest_next : (left : C) (o : O) (s : S) → p.deepest (next left o s) ≡ deeper_of (p.depth left) (p.deepest left) (q.depth s) (q.deepest s)
+  pub first : (c : C) → IsFirst (p.tokens c) (p.lies c) (p.depth c) (p.deepest c)
   pub tree_one : (s : S) → tree (one s) ≡ part_tree s
   pub tree_next : (left : C) (o : O) (s : S) → tree (next left o s) ≡ node o (tree left) (part_tree s)
   pub form_one : (s : S) → p.form (one s) ≡ q.form s
@@ -50,7 +54,7 @@ module _ {C S O : Type 0} (p : Production C) (q : Production S) (tree : C → Ex
     before_is = f.before_is ∙ ap (λ ts. ts ++ after) (sym (chain.tokens_one f.written));
     tree_is = f.tree_is ∙ sym (chain.tree_one f.written);
     height_is = f.height_is ∙ sym (chain.depth_one f.written);
-    deepest_is = chain.lies_one f.written part.deepest ∙ f.deepest_is ∙ sym (chain.depth_one f.written);
+    deepest_is = f.deepest_is ∙ sym (chain.deepest_one f.written);
     form_is = f.form_is ∙ sym (chain.form_one f.written);
     fits = f.fits;
     beyond = f.beyond;
@@ -65,10 +69,7 @@ module _ {C S O : Type 0} (p : Production C) (q : Production S) (tree : C → Ex
         ∙ ap (λ ts. ts ++ after) (sym (chain.tokens_next l.written o r.written));
     tree_is = tree_is ∙ ap (λ e. node o e (expr_of right.expr)) l.tree_is ∙ ap (node o (tree l.written)) r.tree_is ∙ sym (chain.tree_next l.written o r.written);
     height_is = height ∙ over_both _ _ _ _ l.height_is r.height_is ∙ sym (chain.depth_next l.written o r.written);
-    deepest_is = chain.lies_next l.written o r.written part.deepest
-        ∙ deepest_node (begins (p.tokens l.written) part.deepest) (p.lies l.written) (q.lies r.written) left.height right.height (p.depth l.written) (q.depth r.written) left.deepest right.deepest part.deepest deepest l.height_is r.height_is l.deepest_is r.deepest_is
-        (chain.low l.written) (chain.part_low r.written) (chain.some_depth l.written)
-        ∙ sym (chain.depth_next l.written o r.written);
+    deepest_is = deepest ∙ deeper_same left.height right.height (p.depth l.written) (q.depth r.written) left.deepest right.deepest (p.deepest l.written) (q.deepest r.written) l.height_is l.deepest_is r.height_is r.deepest_is ∙ sym (chain.deepest_next l.written o r.written);
     form_is = other ∙ sym (chain.form_next l.written o r.written);
     fits = let small = r.fits in fits_above room left.height right.height part.height height less (omega (arith, small, smaller));
     beyond = r.beyond;
@@ -81,13 +82,17 @@ module _ {C S O : Type 0} (p : Production C) (q : Production S) (tree : C → Ex
 
   starts_inside : (room : ℕ) (behind : List Token) → Inside p room q room [] behind
   starts_inside room behind = record {
-    begins = λ at b. record { some = one b; more = []; tokens_are = chain.tokens_one b ∙ sym (append-nil (q.tokens b)); within = λ other apart low. let is = chain.lies_one b other in omega (arith, is, low) };
+    begins = λ at b. record { some = one b; more = []; tokens_are = chain.tokens_one b ∙ sym (append-nil (q.tokens b)); within = λ other apart low. let is = chain.lies_one b other in omega (arith, is, low); deep = λ stop deep. deep_same stop room (q.lies b) (p.lies (one b)) (λ at. sym (chain.lies_one b at)) deep };
     finds = λ stop more first finds. finds_first _ _ p.read q.read (λ n s ts. rest n (one s) ts) more more (λ n. chain.read_is n more)
         (λ n b ts deep. chain.rest_deep stop room n (one b) ts (deep_same stop room (q.lies b) (p.lies (one b)) (λ at. sym (chain.lies_one b at)) deep)) finds;
   }
 
   pub first_refused : (room : ℕ) (before : List Token) (stop : Stop) → Refused q room before stop → Refused p room before stop
   first_refused room before stop is = refused_inside p room q room [] before stop (starts_inside room before) is
+
+  right_deep : {room inner : ℕ} (stop : Stop) (left : C) (o : O) (b : S) → room ≤ suc inner → IsDeep stop inner (q.lies b) → IsDeep stop room (p.lies (next left o b))
+  right_deep {room} {inner} stop left o b less deep = deeper stop inner (q.lies b) room (p.lies (next left o b)) deep
+      (λ at some. let more_deep = over_right (begins (p.tokens left) at) (p.lies left at) (q.lies b at) some in let is = chain.lies_next left o b at in omega (arith, more_deep, less, is))
 
   goes_on_inside : (room inner : ℕ) (left : C) (o : O) (behind : List Token) → room ≤ suc inner → inner < room → p.depth left ≤ inner → Inside p room q inner (p.tokens left ++ token_of o ∷ []) behind
   goes_on_inside room inner left o behind less smaller fits = record {
@@ -100,12 +105,12 @@ module _ {C S O : Type 0} (p : Production C) (q : Production S) (tree : C → Ex
           let is = chain.lies_next left o b other in
           let whole = node_within (begins (p.tokens left) other) (p.lies left other) (q.lies b other) inner room smaller (omega (arith, left_low, fits)) low in
           omega (arith, is, whole);
+      deep = λ stop deep. right_deep stop left o b less deep;
     };
     finds = λ stop more first finds. finds_same _ p.read _ _ (append_assoc (p.tokens left) (token_of o ∷ []) more)
         (finds_lead _ p.read rest level (p.tokens left) left (token_of o ∷ more) (chain.leads left) (chain.above o)
         (finds_first _ _ (λ n ts. rest n left ts) q.read (λ n s ts. rest n (next left o s) ts) (token_of o ∷ more) more (λ n. chain.step_is n left o more)
-        (λ n b ts deep. chain.rest_deep stop room n (next left o b) ts (deeper stop inner (q.lies b) room (p.lies (next left o b)) deep
-        (λ at some. let more_deep = over_right (begins (p.tokens left) at) (p.lies left at) (q.lies b at) some in let is = chain.lies_next left o b at in omega (arith, more_deep, less, is))))
+        (λ n b ts deep. chain.rest_deep stop room n (next left o b) ts (right_deep stop left o b less deep))
         finds));
   }
 
@@ -119,11 +124,13 @@ module _ {C S O : Type 0} (p : Production C) (q : Production S) (tree : C → Ex
       → Refused p room before stop
   too_deep room before middle behind o left stop l taken deep = full p room before (p.tokens l.written) (token_of o) behind left.height left.deepest stop deep
       (l.before_is ∙ ap (λ ts. p.tokens l.written ++ ts) taken) (begins_whole p room l.written (λ at. let low = chain.low l.written at in let is = l.height_is in let fits = l.fits in omega (arith, low, is, fits)))
-      (begins_up_to p (next l.written o (chain.some left.deepest)) (p.tokens l.written) (token_of o) (q.tokens (chain.some left.deepest)) (chain.tokens_next l.written o (chain.some left.deepest)))
+      (first_full p room (p.tokens l.written) (token_of o) (next l.written o (chain.some left.deepest)) (q.tokens (chain.some left.deepest)) (begins (p.tokens l.written)) (p.lies l.written) (q.lies (chain.some left.deepest)) left.height (p.depth l.written)
+      left.deepest (p.deepest l.written) (chain.tokens_next l.written o (chain.some left.deepest)) (chain.lies_next l.written o (chain.some left.deepest)) (chain.first l.written) l.deepest_is l.height_is (chain.some_depth l.written) l.fits
+      (chain.alone left.deepest))
       (λ more. finds_lead _ p.read rest level (p.tokens l.written) l.written (token_of o ∷ more) (chain.leads l.written) (chain.above o)
       (finds_first (λ s. ⊤) _ (λ n ts. rest n l.written ts) q.read (λ n s ts. rest n (next l.written o s) ts) (token_of o ∷ more) more (λ n. chain.step_is n l.written o more)
       (λ n b ts any. chain.rest_deep (Here (TooDeep left.deepest)) left.height n (next l.written o b) ts
-      (let is = l.height_is in let there = l.deepest_is in let some = chain.some_depth l.written in
+      (let is = l.height_is in let there : p.lies l.written left.deepest ≡ p.depth l.written = ap (p.lies l.written) l.deepest_is ∙ (chain.first l.written).lies_is in let some = chain.some_depth l.written in
       let more_deep = over_left (begins (p.tokens l.written) left.deepest) (p.lies l.written left.deepest) (q.lies b left.deepest) (omega (arith, there, some)) in
       let next_is = chain.lies_next l.written o b left.deepest in omega (arith, more_deep, is, there, next_is)))
       (finds_anything q.read more)))

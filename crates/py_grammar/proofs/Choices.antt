@@ -15,14 +15,15 @@ use Rattle.py_grammar.specs.Concrete.{Spot, Expr, plain_expr, choice, Or, plain_
 use Rattle.py_grammar.specs.Tokens.{token, expr_tokens, or_tokens}
 use Rattle.py_grammar.specs.Trees.{expr_tree, or_tree}
 use Rattle.py_grammar.specs.Depth.{expr_depth, or_depth}
-use Rattle.py_grammar.specs.Lies.{begins, over, deeper_of, expr_lies, or_lies}
-use Rattle.py_grammar.proofs.Lying.{deepest_here, deepest_node, above_left, both_low, expr_low, or_low, or_above}
+use Rattle.py_grammar.specs.Lies.{begins, over, deeper_of, expr_lies, or_lies, expr_deepest, or_deepest}
+use Rattle.py_grammar.proofs.Lying.{above_left, or_low, or_above}
+use Rattle.py_grammar.proofs.Deepest.{deeper_same, or_is_first}
 use Rattle.py_grammar.specs.Reader.{Read, go_on, next_level, read_keyword, read_expr, choice_rest, read_or}
 use Rattle.py_grammar.specs.Parsed.{expr_part, or_part, one_keyword, Taken, Found, IsDeep, Only, Refused, IsTooDeep, is_keyword_next}
 use Rattle.py_grammar.proofs.Leading.{Reads}
 use Rattle.py_grammar.proofs.Reading.{or_leads, or_stops}
 use Rattle.py_grammar.proofs.Levels.{beyond_if}
-use Rattle.py_grammar.proofs.Refusals.{Inside, begins_whole, alone_elsewhere, node_within, only_any, only_if, finds_first, finds_behind, finds_after, finds_now, finds_anything, finds_same, deep_left, deep_right, deep_beside_left, deep_beside_right, refused_inside, refused_same, begins_up_to, full, two_behind, one_between, last_behind, next_level_same, max_below}
+use Rattle.py_grammar.proofs.Refusals.{Inside, begins_whole, alone_elsewhere, node_within, only_any, only_if, finds_first, finds_behind, finds_after, finds_now, finds_anything, finds_same, deep_left, deep_right, deep_beside_left, deep_beside_right, refused_inside, refused_same, first_full, full, two_behind, one_between, last_behind, next_level_same, max_below}
 use Rattle.py_grammar.proofs.Stops.{spot_at}
 use Rattle.py_grammar.proofs.Prefixes.{some_not}
 
@@ -70,11 +71,9 @@ expr_choice room inner before middle_1 behind_1 middle_2 behind_2 after at else_
       tree_is = tree ∙ ap (λ a. choose_expr a (expr_of test.expr) (expr_of chosen.expr) (expr_of other.expr)) (sym i.at_is) ∙ ap (λ x. choose_expr i.spot.at x (expr_of chosen.expr) (expr_of other.expr)) t.tree_is
           ∙ ap (λ x. choose_expr i.spot.at (or_tree t.written) x (expr_of other.expr)) c.tree_is ∙ ap (choose_expr i.spot.at (or_tree t.written) (or_tree c.written)) o.tree_is;
       height_is = heights.0;
-      deepest_is = deepest_node (begins (or_tokens c.written) part.deepest) (or_lies c.written) (λ at. max (or_lies t.written at) (expr_lies o.written at)) chosen.height (max test.height other.height) (or_depth c.written) (max (or_depth t.written) (expr_depth o.written))
-          chosen.deepest (deeper_of test.height test.deepest other.height other.deepest) part.deepest deepest c.height_is (ap (λ h. max h other.height) t.height_is ∙ ap (max (or_depth t.written)) o.height_is) c.deepest_is
-          (deepest_here (or_lies t.written) (expr_lies o.written) test.height other.height (or_depth t.written) (expr_depth o.written) test.deepest other.deepest (deeper_of test.height test.deepest other.height other.deepest) refl
-          t.height_is o.height_is t.deepest_is o.deepest_is (or_low t.written) (expr_low o.written))
-          (or_low c.written) (λ at. both_low _ _ _ _ (or_low t.written at) (expr_low o.written at)) (or_above c.written);
+      deepest_is = deepest ∙ deeper_same chosen.height (max test.height other.height) (or_depth c.written) (max (or_depth t.written) (expr_depth o.written)) chosen.deepest (deeper_of test.height test.deepest other.height other.deepest)
+          (or_deepest c.written) (deeper_of (or_depth t.written) (or_deepest t.written) (expr_depth o.written) (expr_deepest o.written)) c.height_is c.deepest_is (ap (λ h. max h other.height) t.height_is ∙ ap (max (or_depth t.written)) o.height_is)
+          (deeper_same test.height other.height (or_depth t.written) (expr_depth o.written) test.deepest other.deepest (or_deepest t.written) (expr_deepest o.written) t.height_is t.deepest_is o.height_is o.deepest_is);
       form_is = wrong;
       fits = heights.1;
       beyond = o.beyond;
@@ -103,23 +102,37 @@ choice_deep stop room (suc n) chosen ts deep = only_if _ (next_level ts == 7) _ 
 
 chosen_inside : (room : ℕ) (behind : List Token) → Inside expr_part room or_part room [] behind
 chosen_inside room behind = record {
-  begins = λ at b. record { some = plain_expr b; more = []; tokens_are = sym (append-nil (or_tokens b)); within = λ other apart low. low };
+  begins = λ at b. record { some = plain_expr b; more = []; tokens_are = sym (append-nil (or_tokens b)); within = λ other apart low. low; deep = λ stop deep. deep };
   finds = λ stop more first finds. finds_first _ _ read_expr read_or choice_rest more more (λ n. refl) (λ n b ts deep. choice_deep stop room n b ts deep) finds;
 }
 
 pub chosen_refused : (room : ℕ) (before : List Token) (stop : Stop) → Refused or_part room before stop → Refused expr_part room before stop
 chosen_refused room before stop is = refused_inside expr_part room or_part room [] before stop (chosen_inside room before) is
 
+both_none : (a b : ℕ) → a ≡ 0 → b ≡ 0 → max a b ≡ 0
+both_none a b one other = omega (arith, one, other)
+
 pub choice_full : (room : ℕ) (before middle behind : List Token) (at : Pos) (chosen : Part) (stop : Stop) → Found or_part or_tree 6 room before chosen middle → Taken (Keyword 20) middle at behind → IsTooDeep chosen.height chosen.deepest room stop
     → Refused expr_part room before stop
 choice_full room before middle behind at chosen stop c i deep = full expr_part room before (or_tokens c.written) (token (Keyword 20) i.spot) behind chosen.height chosen.deepest stop deep
     (c.before_is ∙ ap (λ ts. or_tokens c.written ++ ts) i.before_is) (begins_whole expr_part room (plain_expr c.written) (λ at. let low = or_low c.written at in let is = c.height_is in let fits = c.fits in omega (arith, low, is, fits)))
-    (begins_up_to expr_part (choice c.written i.spot (some_or at) (spot_at at) (some_expr at)) (or_tokens c.written) (token (Keyword 20) i.spot) (or_tokens (some_or at) ++ token (Keyword 14) (spot_at at) ∷ expr_tokens (some_expr at)) refl)
+    (first_full expr_part room (or_tokens c.written) (token (Keyword 20) i.spot) (choice c.written i.spot (some_or chosen.deepest) (spot_at chosen.deepest) (some_expr chosen.deepest))
+    (or_tokens (some_or chosen.deepest) ++ token (Keyword 14) (spot_at chosen.deepest) ∷ expr_tokens (some_expr chosen.deepest)) (begins (or_tokens c.written)) (or_lies c.written)
+    (λ at. max (or_lies (some_or chosen.deepest) at) (expr_lies (some_expr chosen.deepest) at)) chosen.height (or_depth c.written) chosen.deepest (or_deepest c.written) refl (λ at. refl) (or_is_first c.written) c.deepest_is c.height_is (or_above c.written) c.fits
+    (λ other apart. both_none (or_lies (some_or chosen.deepest) other) (expr_lies (some_expr chosen.deepest) other) (alone_elsewhere chosen.deepest other apart) (alone_elsewhere chosen.deepest other apart)))
     (λ more. finds_behind _ read_expr read_or choice_rest 6 (or_tokens c.written) c.written (token (Keyword 20) i.spot ∷ more) (λ n. refl) (reads_or c.written) (omega arith)
     (finds_first _ _ (λ n ts. choice_rest n c.written ts) read_or (after_test c.written i.spot) (token (Keyword 20) i.spot ∷ more) more (λ n. refl)
     (λ n test ts any. only_any _ (read_keyword 14 ts) _ (λ else_word more_3. only_any _ (read_expr n more_3) _
-    (λ other rest. above_left (begins (or_tokens c.written) chosen.deepest) (or_lies c.written chosen.deepest) (max (or_lies test chosen.deepest) (expr_lies other chosen.deepest)) chosen.height (or_depth c.written) c.height_is c.deepest_is (or_above c.written))))
+    (λ other rest. above_left (begins (or_tokens c.written) chosen.deepest) (or_lies c.written chosen.deepest) (max (or_lies test chosen.deepest) (expr_lies other chosen.deepest)) chosen.height (or_depth c.written) c.height_is
+    (ap (or_lies c.written) c.deepest_is ∙ (or_is_first c.written).lies_is) (or_above c.written))))
     (finds_anything read_or more)))
+
+-- what lies too deep in the test, or in what is chosen otherwise, does so in the choice
+test_deep : {room inner : ℕ} (stop : Stop) (chosen : Or) (spot : Spot) (test : Or) (else_word : Spot) (other : Expr) → room ≤ suc inner → IsDeep stop inner (or_lies test) → IsDeep stop room (expr_lies (choice chosen spot test else_word other))
+test_deep {room} {inner} stop chosen spot test else_word other less deep = deep_right stop inner room (begins (or_tokens chosen)) (or_lies chosen) (λ at. max (or_lies test at) (expr_lies other at)) less (deep_beside_left stop inner (or_lies test) (expr_lies other) deep)
+
+other_deep : {room inner : ℕ} (stop : Stop) (chosen : Or) (spot : Spot) (test : Or) (else_word : Spot) (other : Expr) → room ≤ suc inner → IsDeep stop inner (expr_lies other) → IsDeep stop room (expr_lies (choice chosen spot test else_word other))
+other_deep {room} {inner} stop chosen spot test else_word other less deep = deep_right stop inner room (begins (or_tokens chosen)) (or_lies chosen) (λ at. max (or_lies test at) (expr_lies other at)) less (deep_beside_right stop inner (or_lies test) (expr_lies other) deep)
 
 -- a choice lies within the room
 choice_within : (room inner : ℕ) (chosen : Or) (here : Bool) (test other : ℕ) (at : Pos) → inner < room → or_depth chosen ≤ inner → test ≤ inner → other ≤ inner → over here (max (or_lies chosen at) (max test other)) ≤ room
@@ -134,12 +147,13 @@ test_inside room inner chosen spot behind less smaller fits = record {
     tokens_are = two_behind (or_tokens chosen) (token (Keyword 20) spot) (or_tokens b) (token (Keyword 14) (spot_at at) ∷ expr_tokens (some_expr at));
     within = λ other apart low. let alone = alone_elsewhere at other apart in
         choice_within room inner chosen (begins (or_tokens chosen) other) (or_lies b other) (expr_lies (some_expr at) other) other smaller fits low (omega (arith, alone));
+    deep = λ stop deep. test_deep stop chosen spot b (spot_at at) (some_expr at) less deep;
   };
   finds = λ stop more first finds. finds_same _ read_expr _ _ (append_assoc (or_tokens chosen) (token (Keyword 20) spot ∷ []) more)
       (finds_behind _ read_expr read_or choice_rest 6 (or_tokens chosen) chosen (token (Keyword 20) spot ∷ more) (λ n. refl) (reads_or chosen) (omega arith)
       (finds_first _ _ (λ n ts. choice_rest n chosen ts) read_or (after_test chosen spot) (token (Keyword 20) spot ∷ more) more (λ n. refl)
       (λ n test ts deep. only_any _ (read_keyword 14 ts) _ (λ else_word more_3. only_any _ (read_expr n more_3) _
-      (λ other rest. deep_right stop inner room (begins (or_tokens chosen)) (or_lies chosen) (λ at. max (or_lies test at) (expr_lies other at)) less (deep_beside_left stop inner (or_lies test) (expr_lies other) deep))))
+      (λ other rest. test_deep stop chosen spot test else_word other less deep)))
       finds));
 }
 
@@ -158,6 +172,7 @@ else_inside room inner chosen spot test behind beyond smaller fits test_fits = r
     tokens_are = one_between (or_tokens chosen) (token (Keyword 20) spot) (or_tokens test) (token (Keyword 14) b) (expr_tokens (some_expr at));
     within = λ other apart any. let alone = alone_elsewhere at other apart in let low = or_low test other in
         choice_within room inner chosen (begins (or_tokens chosen) other) (or_lies test other) (expr_lies (some_expr at) other) other smaller fits (omega (arith, low, test_fits)) (omega (arith, alone));
+    deep = λ stop deep. no_depth stop deep;
   };
   finds = λ stop more first finds. finds_same _ read_expr _ _ (append_assoc (or_tokens chosen) (token (Keyword 20) spot ∷ or_tokens test) more)
       (finds_behind _ read_expr read_or choice_rest 6 (or_tokens chosen) chosen (token (Keyword 20) spot ∷ or_tokens test ++ more) (λ n. refl) (reads_or chosen) (omega arith)
@@ -183,12 +198,13 @@ other_inside room inner chosen spot test else_word behind less smaller fits test
     tokens_are = last_behind (or_tokens chosen) (token (Keyword 20) spot) (or_tokens test) (token (Keyword 14) else_word) (expr_tokens b);
     within = λ other apart low. let test_low = or_low test other in
         choice_within room inner chosen (begins (or_tokens chosen) other) (or_lies test other) (expr_lies b other) other smaller fits (omega (arith, test_low, test_fits)) low;
+    deep = λ stop deep. other_deep stop chosen spot test else_word b less deep;
   };
   finds = λ stop more first finds. finds_same _ read_expr _ _ (append_assoc (or_tokens chosen) (token (Keyword 20) spot ∷ (or_tokens test ++ token (Keyword 14) else_word ∷ [])) more ∙ ap (λ ts. or_tokens chosen ++ token (Keyword 20) spot ∷ ts) (append_assoc (or_tokens test) (token (Keyword 14) else_word ∷ []) more))
       (finds_behind _ read_expr read_or choice_rest 6 (or_tokens chosen) chosen (token (Keyword 20) spot ∷ or_tokens test ++ token (Keyword 14) else_word ∷ more) (λ n. refl) (reads_or chosen) (omega arith)
       (finds_after _ (λ n ts. choice_rest n chosen ts) read_or (after_test chosen spot) 6 (token (Keyword 20) spot ∷ or_tokens test ++ token (Keyword 14) else_word ∷ more) (or_tokens test) test (token (Keyword 14) else_word ∷ more) (λ n. refl) (reads_or test) (omega arith)
       (finds_now _ _ (λ n ts. after_test chosen spot n test ts) read_expr (λ n other rest. Some (choice chosen spot test else_word other, rest)) (token (Keyword 14) else_word ∷ more) more (λ n. refl)
-      (λ n other rest deep. deep_right stop inner room (begins (or_tokens chosen)) (or_lies chosen) (λ at. max (or_lies test at) (expr_lies other at)) less (deep_beside_right stop inner (or_lies test) (expr_lies other) deep))
+      (λ n other rest deep. other_deep stop chosen spot test else_word other less deep)
       finds)));
 }
 

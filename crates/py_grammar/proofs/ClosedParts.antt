@@ -37,7 +37,7 @@ not_deep End deep = deep
 
 in_closed : {A : Type 0} (p : Production A) (closing room : ℕ) (before : List Token) → Inside (closed p closing) room p room [] before
 in_closed p closing room before = record {
-  begins = λ at b. record { some = (b, spot_at at); more = token (Sign closing) (spot_at at) ∷ []; tokens_are = refl; within = λ other apart low. low };
+  begins = λ at b. record { some = (b, spot_at at); more = token (Sign closing) (spot_at at) ∷ []; tokens_are = refl; within = λ other apart low. low; deep = λ stop deep. deep };
   finds = λ stop more first finds. record {
     steps = finds.steps;
     only = λ n. only_go_on _ _ (p.read (n + finds.steps) more) _ (finds.only n) (λ a rest deep. only_any _ (read_sign closing rest) _ (λ at rest_2. deep));
@@ -51,7 +51,7 @@ closed_first p closing room before stop is = refused_inside (closed p closing) r
 
 at_closing : {A : Type 0} (p : Production A) (closing room : ℕ) (a : A) (middle : List Token) → IsRead p a middle → ((at : Pos) → p.lies a at ≤ room) → Inside (closed p closing) room (one_sign closing) 0 (p.tokens a) middle
 at_closing p closing room a middle is low = record {
-  begins = λ at spot. record { some = (a, spot); more = []; tokens_are = sym (append-nil (p.tokens a ++ token (Sign closing) spot ∷ [])); within = λ other apart any. low other };
+  begins = λ at spot. record { some = (a, spot); more = []; tokens_are = sym (append-nil (p.tokens a ++ token (Sign closing) spot ∷ [])); within = λ other apart any. low other; deep = λ stop deep. absurd (not_deep stop deep) };
   finds = λ stop more first finds. record {
     steps = is.steps;
     only = λ n. only_is _ _ _ (ap (λ r. go_on r (λ a more. go_on (read_sign closing more) (λ at rest. Some ((a, at), rest)))) (is.reads n more (first_same more middle first)))
@@ -66,8 +66,8 @@ closed_last p closing room a before middle stop before_is is low refused =
 
 -- ---- both are read
 
-pub closed_of : {A : Type 0} (p : Production A) (closing : ℕ) (tree : A → ExprTree) (height : A → ℕ) (deepest : A → Pos → Type 0) (form : A → Bool) (room : ℕ) (before middle after : List Token) (at : Pos) (part : Part) (a : A) → before ≡ p.tokens a ++ middle
-    → Taken (Sign closing) middle at after → expr_of part.expr ≡ tree a → part.height ≡ height a → deepest a part.deepest → is_none part.wrong ≡ form a → p.depth a ≤ room → FoundClosed p closing tree height deepest form room before part after
+pub closed_of : {A : Type 0} (p : Production A) (closing : ℕ) (tree : A → ExprTree) (height : A → ℕ) (deepest : A → Pos) (form : A → Bool) (room : ℕ) (before middle after : List Token) (at : Pos) (part : Part) (a : A) → before ≡ p.tokens a ++ middle
+    → Taken (Sign closing) middle at after → expr_of part.expr ≡ tree a → part.height ≡ height a → part.deepest ≡ deepest a → is_none part.wrong ≡ form a → p.depth a ≤ room → FoundClosed p closing tree height deepest form room before part after
 closed_of p closing tree height deepest form room before middle after at part a before_is k tree_is height_is deepest_is form_is fits = record {
   written = a;
   spot = k.spot;

@@ -2,6 +2,7 @@
 use Rattle.std.proofs.Common.{◌≡◌, inl, inr, ℕ, ◌+◌, ◌≤◌, max, Bool, true, false, List, [], ◌∷◌, ◌++◌, Option, Some, None, option_map, is_some, refl, ap, sym, ◌∙◌, arith, subst, append_assoc, if◌then◌else◌}
 use Rattle.std.proofs.lemmas.List.{append_cancel_left}
 use Rattle.std.proofs.lemmas.Option.{same_Some}
+use Rattle.prov_base.specs.declared.place.Pos.{Pos}
 use Rattle.py_lines.specs.declared.parts.Token.{Token}
 use Rattle.py_lines.specs.declared.parts.TokenKind.TheVariants.{Sign}
 use Rattle.py_grammar.specs.declared.context.Limit.{Limit}
@@ -20,9 +21,9 @@ use Rattle.py_grammar.specs.LineReader.{Head, behind_tokens, head_tokens, then_r
 use Rattle.py_grammar.specs.Reader.{is_sign, spot_of, read_sign}
 use Rattle.py_grammar.specs.Parsed.{Refused, one_sign}
 use Rattle.py_grammar.specs.ParsedRows.{first_token}
-use Rattle.py_grammar.specs.ParsedHead.{Context, word_may, inner_around, behind_depth, IsBehind, BehindFound, HeadFound, Opening, IsAmissPlaced, IsAmissHead, StartsPlaced, BeginsPlaced, StartsHead, BeginsHead, StartsBehind, del_name, GoesOnPlaced, IsAheadPlaced, GoesOnLine, IsAheadOnLine, ShownBy, EndedBy, BehindRefused, HeadRefused, behind_first}
+use Rattle.py_grammar.specs.ParsedHead.{Context, word_may, inner_around, behind_depth, IsBehind, BehindFound, HeadFound, Opening, IsAmissPlaced, IsAmissHead, BeginsPlaced, DeepPlaced, BeginsHead, DeepHead, StartsBehind, del_name, GoesOnPlaced, IsAheadPlaced, GoesOnLine, IsAheadOnLine, ShownBy, EndedBy, BehindRefused, HeadRefused, behind_first}
 use Rattle.py_grammar.proofs.Refusals.{max_below}
-use Rattle.py_grammar.proofs.SimpleParts.{not_deeper}
+use Rattle.py_grammar.proofs.SimpleParts.{none_deeper, not_deeper}
 use Rattle.py_grammar.proofs.LyingLines.{head_low}
 use Rattle.py_grammar.proofs.HeadReading.{head_reads}
 use Rattle.py_grammar.proofs.HeadParts.{spelled_part, refused_part_head}
@@ -53,15 +54,8 @@ colon_refused c given limit word before after what stop o may refused =
         tokens_are = spelled_part (one_sign 7) o.front (λ colon. o.made colon None) (λ colon. []) k.some (o.tokens_are k.some None) tokens k.more k.tokens_are;
         within = λ other apart. let deep = o.depth_is k.some None in let low = head_low (o.made k.some None) other in let fits = o.low in omega (arith, deep, low, fits);
       });
-      plain = λ tokens b. record {
-        begun = inl (record {
-          some = o.made b.some None;
-          is_so = o.stands given b.some None ∙ both_true (word_may c word) true may refl;
-          more = b.more ++ [];
-          tokens_are = spelled_part (one_sign 7) o.front (λ colon. o.made colon None) (λ colon. []) b.some (o.tokens_are b.some None) tokens b.more b.tokens_are;
-        });
-        clear = without o.front tokens (past_clear o.front o.past) (no_del_front tokens b.more (subst (λ (ts : List Token). has_del ts ≡ false) b.tokens_are refl));
-      };
+      first = λ tokens place f. absurd (none_deeper 0 f.deep);
+      clear = λ tokens b. without o.front tokens (past_clear o.front o.past) (no_del_front tokens b.more (subst (λ (ts : List Token). has_del ts ≡ false) b.tokens_are refl));
     })
     (passes_past o.front after o.past)
     (record { before = o.steps; behind = 0; turns = λ n more first. o.reads n more first ∙ colon_turn (n + o.left) o.made more })
@@ -152,15 +146,23 @@ begins_line c given word before after what spot o may tokens (inr b) = inr (inl 
   front_is = sym (append_assoc o.front (token (Sign 7) spot ∷ []) tokens);
 }))
 
-starts_line : (c : Context) (given : List (List ℕ)) (word : ℕ) (before after : List Token) (what : What) (spot : Spot) → (o : Opening c word before what after) → word_may c word ≡ true → (tokens : List Token) → StartsPlaced (inner_around word c.around) tokens
-    → StartsHead c given (o.front ++ token (Sign 7) spot ∷ tokens)
-starts_line c given word before after what spot o may tokens (inl b) = inl (record {
+-- what lies too deep first in a statement does so in the line
+deep_line : (c : Context) (given : List (List ℕ)) (word : ℕ) (before after : List Token) (what : What) (spot : Spot) → (o : Opening c word before what after) → word_may c word ≡ true → (tokens : List Token) (place : Pos)
+    → DeepPlaced (inner_around word c.around) tokens place → DeepHead c given (o.front ++ token (Sign 7) spot ∷ tokens) place
+deep_line c given word before after what spot o may tokens place (inl b) = inl (record {
   some = o.made spot (Some b.some);
   is_so = o.stands given spot (Some b.some) ∙ both_true (word_may c word) _ may b.is_so;
   more = b.more;
   tokens_are = o.tokens_are spot (Some b.some) ∙ ap (λ ts. o.front ++ token (Sign 7) spot ∷ ts) b.tokens_are ∙ sym (append_assoc o.front (token (Sign 7) spot ∷ tokens) b.more);
+  ahead = o.front ++ token (Sign 7) spot ∷ b.ahead;
+  named = b.named;
+  between = b.between;
+  front_is = ap (λ ts. o.front ++ token (Sign 7) spot ∷ ts) b.front_is ∙ sym (append_assoc o.front (token (Sign 7) spot ∷ b.ahead) (b.named ∷ b.between));
+  named_is = b.named_is;
+  deep = let deep = b.deep in let high = o.lies_behind spot b.some place in omega (arith, deep, high);
+  within = λ other apart. let high = o.lies_within spot b.some other in let fits = o.low in let low = b.within other apart in omega (arith, high, fits, low);
 })
-starts_line c given word before after what spot o may tokens (inr b) = inr (inl (record {
+deep_line c given word before after what spot o may tokens place (inr b) = inr (inl (record {
   opened = o.front ++ token (Sign 7) spot ∷ [];
   starts = inr (starts_behind c given word before after what spot o may del_name (del_stands (inner_around word c.around) b.0));
   inside = tokens;
@@ -172,7 +174,7 @@ starts_line c given word before after what spot o may tokens (inr b) = inr (inl 
 goes_behind : (c : Context) (given : List (List ℕ)) (limit : Option Limit) (word : ℕ) (before after : List Token) (what : What) (spot : Spot) → (o : Opening c word before what after) → word_may c word ≡ true → (tokens : List Token) (t : Token) (fault : Fault)
     → GoesOnPlaced (inner_around word c.around) limit tokens t fault → GoesOnLine c given limit (o.front ++ token (Sign 7) spot ∷ tokens) t fault
 goes_behind c given limit word before after what spot o may tokens t (TooDeep at) (inl b) =
-    inl (subst (StartsHead c given) (sym (append_assoc o.front (token (Sign 7) spot ∷ tokens) (t ∷ []))) (starts_line c given word before after what spot o may (tokens ++ t ∷ []) b))
+    inl (subst (λ (ts : List Token). DeepHead c given ts at) (sym (append_assoc o.front (token (Sign 7) spot ∷ tokens) (t ∷ []))) (deep_line c given word before after what spot o may (tokens ++ t ∷ []) at b))
 goes_behind c given limit word before after what spot o may tokens t (TooDeep at) (inr passed) =
     inr (passed.0, subst (λ (ts : List Token). StartsBehind c given pass (o.front ++ token (Sign 7) spot ∷ ts)) (sym passed.1) (starts_behind c given word before after what spot o may pass (pass_stands (inner_around word c.around))), passed.2)
 goes_behind c given limit word before after what spot o may tokens t (TooMany at) passed =

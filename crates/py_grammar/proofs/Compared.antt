@@ -16,13 +16,14 @@ use Rattle.py_grammar.specs.Concrete.{Cmp, plain_cmp, compared, Sum, plain_sum, 
 use Rattle.py_grammar.specs.Tokens.{cmp_tokens, sum_tokens}
 use Rattle.py_grammar.specs.Trees.{cmp_tree, sum_tree, cmp_op, cmp_at}
 use Rattle.py_grammar.specs.Depth.{sum_depth}
-use Rattle.py_grammar.specs.Lies.{begins, deeper_of, cmp_lies, sum_lies}
-use Rattle.py_grammar.proofs.Lying.{deepest_node, above_left, sum_low, sum_above}
+use Rattle.py_grammar.specs.Lies.{begins, deeper_of, cmp_lies, sum_lies, sum_deepest}
+use Rattle.py_grammar.proofs.Lying.{above_left, sum_low, sum_above}
+use Rattle.py_grammar.proofs.Deepest.{deeper_same, sum_is_first}
 use Rattle.py_grammar.specs.Reader.{go_on, next_level, no_second, read_cmp_sign, read_cmp, cmp_rest, read_sum}
 use Rattle.py_grammar.specs.Parsed.{cmp_part, sum_part, one_cmp_sign, TakenCmp, Found, IsAtFirst, IsDeep, Only, Finds, Begins, Refused, IsTooDeep}
 use Rattle.py_grammar.proofs.Leading.{Reads}
 use Rattle.py_grammar.proofs.Reading.{if_true, sum_leads, sum_stops, cmp_level}
-use Rattle.py_grammar.proofs.Refusals.{first_of, Inside, only_any, only_if, only_is, finds_first, finds_step, finds_behind, finds_behind_now, first_alike, finds_now, finds_anything, finds_same, deep_left, deep_right, refused_inside, refused_same, begins_whole, node_within, fits_below, alone_elsewhere, full, over_both, fits_above, next_level_same, keyword_next_same}
+use Rattle.py_grammar.proofs.Refusals.{first_of, Inside, only_any, only_if, only_is, finds_first, finds_step, finds_behind, finds_behind_now, first_alike, finds_now, finds_anything, finds_same, deep_left, deep_right, refused_inside, refused_same, begins_whole, node_within, fits_below, alone_elsewhere, first_full, full, over_both, fits_above, next_level_same, keyword_next_same}
 use Rattle.py_grammar.proofs.Stops.{here}
 use Rattle.py_grammar.proofs.Choices.{no_depth}
 use Rattle.py_grammar.proofs.Prefixes.{some_unary}
@@ -56,8 +57,7 @@ cmp_next room inner before middle behind after at op left right part l k less sm
   tree_is = tree ∙ ap (λ a. compare_expr a op (expr_of left.expr) (expr_of right.expr)) (sym k.at_is) ∙ ap (λ o. compare_expr (cmp_at k.which) o (expr_of left.expr) (expr_of right.expr)) k.op_is
       ∙ ap (λ e. compare_expr (cmp_at k.which) (cmp_op k.which) e (expr_of right.expr)) l.tree_is ∙ ap (compare_expr (cmp_at k.which) (cmp_op k.which) (sum_tree l.written)) r.tree_is;
   height_is = height ∙ over_both _ _ _ _ l.height_is r.height_is;
-  deepest_is = deepest_node (begins (sum_tokens l.written) part.deepest) (sum_lies l.written) (sum_lies r.written) left.height right.height (sum_depth l.written) (sum_depth r.written) left.deepest right.deepest part.deepest deepest
-      l.height_is r.height_is l.deepest_is r.deepest_is (sum_low l.written) (sum_low r.written) (sum_above l.written);
+  deepest_is = deepest ∙ deeper_same left.height right.height (sum_depth l.written) (sum_depth r.written) left.deepest right.deepest (sum_deepest l.written) (sum_deepest r.written) l.height_is l.deepest_is r.height_is r.deepest_is;
   form_is = other;
   fits = let small = r.fits in fits_above room left.height right.height part.height height less (omega (arith, small, smaller));
   beyond = (cmp_one inner behind after right r apart).beyond;
@@ -77,7 +77,7 @@ cmp_deep stop room (suc n) left ts deep = only_if _ (next_level ts == 4) _ _
 
 left_inside : (room : ℕ) (behind : List Token) → Inside cmp_part room sum_part room [] behind
 left_inside room behind = record {
-  begins = λ at b. record { some = plain_cmp b; more = []; tokens_are = sym (append-nil (sum_tokens b)); within = λ other apart low. low };
+  begins = λ at b. record { some = plain_cmp b; more = []; tokens_are = sym (append-nil (sum_tokens b)); within = λ other apart low. low; deep = λ stop deep. deep };
   finds = λ stop more first finds. finds_first _ _ read_cmp read_sum cmp_rest more more (λ n. refl) (λ n b ts deep. cmp_deep stop room n b ts deep) finds;
 }
 
@@ -101,6 +101,7 @@ sign_inside room left behind level fits = record {
         let low = sum_low left other in
         let alone = alone_elsewhere at other apart in
         node_within (begins (sum_tokens left) other) (sum_lies left other) (sum_lies (some_sum at) other) (sum_depth left) room fits low (omega (arith, alone));
+    deep = λ stop deep. no_depth stop deep;
   };
   finds = λ stop more first finds. let four : next_level more ≡ 4 = next_level_same more behind first ∙ level in
       finds_behind _ read_cmp read_sum cmp_rest 3 (sum_tokens left) left more (λ n. refl) (reads_sum left) (omega (arith, four))
@@ -108,22 +109,17 @@ sign_inside room left behind level fits = record {
       (λ n op us deep. no_depth stop deep) finds);
 }
 
--- a comparison goes on with a token that begins its sign
-sign_goes : (left : Sum) (t : Token) → Begins one_cmp_sign (t ∷ []) → Begins cmp_part (sum_tokens left ++ t ∷ [])
-sign_goes left t b = record {
-  some = compared left b.some (some_sum (cmp_at b.some));
-  more = b.more ++ sum_tokens (some_sum (cmp_at b.some));
-  tokens_are = ap (λ ts. sum_tokens left ++ (ts ++ sum_tokens (some_sum (cmp_at b.some)))) b.tokens_are ∙ sym (append_assoc (sum_tokens left) (t ∷ []) (b.more ++ sum_tokens (some_sum (cmp_at b.some))));
-}
-
 pub cmp_full : (room : ℕ) (before middle : List Token) (left : Part) (stop : Stop) → Found sum_part sum_tree 3 room before left middle → (next_level middle == 4) ≡ true → IsTooDeep left.height left.deepest room stop → Refused cmp_part room before stop
 cmp_full room before [] left stop l level deep = cc
 cmp_full room before (t ∷ ts) left stop l level deep = full cmp_part room before (sum_tokens l.written) t ts left.height left.deepest stop deep l.before_is (begins_whole cmp_part room (plain_cmp l.written) (λ at. let low = sum_low l.written at in let is = l.height_is in let fits = l.fits in omega (arith, low, is, fits)))
-    (sign_goes l.written t (cmp_begins t level))
+    (first_full cmp_part room (sum_tokens l.written) t (compared l.written (cmp_begins t level).some (some_sum left.deepest)) ((cmp_begins t level).more ++ sum_tokens (some_sum left.deepest)) (begins (sum_tokens l.written)) (sum_lies l.written) (sum_lies (some_sum left.deepest))
+    left.height (sum_depth l.written) left.deepest (sum_deepest l.written) (ap (λ ts. sum_tokens l.written ++ (ts ++ sum_tokens (some_sum left.deepest))) (cmp_begins t level).tokens_are) (λ at. refl) (sum_is_first l.written) l.deepest_is l.height_is
+    (sum_above l.written) l.fits (λ other apart. alone_elsewhere left.deepest other apart))
     (λ more. let four = at_level (t ∷ more) level in finds_behind _ read_cmp read_sum cmp_rest 3 (sum_tokens l.written) l.written (t ∷ more) (λ n. refl) (reads_sum l.written) (omega (arith, four))
     (finds_first (λ o. ⊤) _ (λ n us. cmp_rest n l.written us) (λ n us. read_cmp_sign us) (λ n op us. go_on (read_sum n us) (λ right rest. no_second (compared l.written op right) rest)) (t ∷ more) (t ∷ more) (λ n. behind_left n l.written (t ∷ more) four)
     (λ n op us any. only_any _ (read_sum n us) _ (λ right rest. no_second_deep (Here (TooDeep left.deepest)) left.height (compared l.written op right) rest
-    (above_left (begins (sum_tokens l.written) left.deepest) (sum_lies l.written left.deepest) (sum_lies right left.deepest) left.height (sum_depth l.written) l.height_is l.deepest_is (sum_above l.written))))
+    (above_left (begins (sum_tokens l.written) left.deepest) (sum_lies l.written left.deepest) (sum_lies right left.deepest) left.height (sum_depth l.written) l.height_is
+    (ap (sum_lies l.written) l.deepest_is ∙ (sum_is_first l.written).lies_is) (sum_above l.written))))
     (finds_anything (λ n us. read_cmp_sign us) (t ∷ more))))
 
 pub cmp_sign_refused : (room : ℕ) (before middle : List Token) (left : Part) (stop : Stop) → Found sum_part sum_tree 3 room before left middle → (next_level middle == 4) ≡ true → left.height < room → Refused one_cmp_sign 0 middle stop → Refused cmp_part room before stop
@@ -147,6 +143,7 @@ right_inside room inner left before behind at op k less smaller fits = record {
     more = [];
     tokens_are = sym (append-nil ((sum_tokens left ++ cmp_tokens k.which) ++ sum_tokens b) ∙ append_assoc (sum_tokens left) (cmp_tokens k.which) (sum_tokens b));
     within = λ other apart low. let left_low = sum_low left other in node_within (begins (sum_tokens left) other) (sum_lies left other) (sum_lies b other) inner room smaller (omega (arith, left_low, fits)) low;
+    deep = λ stop deep. deep_right stop inner room (begins (sum_tokens left)) (sum_lies left) (sum_lies b) less deep;
   };
   finds = λ stop more first finds. finds_same _ read_cmp _ _ (append_assoc (sum_tokens left) (cmp_tokens k.which) more) (behind_sign left before behind at op k more first
       (finds_now _ _ (λ n us. go_on (read_sum n us) (λ right rest. no_second (compared left k.which right) rest)) read_sum (λ n right rest. no_second (compared left k.which right) rest) more more (λ n. refl)

@@ -135,7 +135,7 @@ cmp_refused before stop sign in_word not_word is_word at = at_first one_cmp_sign
 -- behind `not` stands no `in`
 not_in : (spot : Spot) (rest : List Token) → Inside one_cmp_sign 0 (one_keyword 22) 0 (token (Keyword 26) spot ∷ []) rest
 not_in spot rest = record {
-  begins = λ at b. record { some = not_within spot b; more = []; tokens_are = refl; within = λ other apart low. low };
+  begins = λ at b. record { some = not_within spot b; more = []; tokens_are = refl; within = λ other apart low. low; deep = λ stop deep. deep };
   finds = λ stop more first finds. finds_first _ _ (λ n ts. read_cmp_sign ts) (λ n ts. read_keyword 22 ts) (λ n in_at ts. Some (not_within spot in_at, ts)) (token (Keyword 26) spot ∷ more) more (λ n. refl) (λ n b ts deep. deep) finds;
 }
 

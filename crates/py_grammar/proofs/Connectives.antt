@@ -14,12 +14,13 @@ use Rattle.py_grammar.specs.Concrete.{Spot, AddSign, plus, minus, MulSign, times
 use Rattle.py_grammar.specs.Tokens.{token, sign, add_sign, mul_sign, or_tokens, and_tokens, sum_tokens, term_tokens}
 use Rattle.py_grammar.specs.Trees.{or_tree, and_tree, not_tree, sum_tree, term_tree, unary_tree, add_op, mul_op}
 use Rattle.py_grammar.specs.Lies.{begins, deeper_of, or_lies, and_lies, not_lies, sum_lies, term_lies, unary_lies}
-use Rattle.py_grammar.proofs.Lying.{or_low, or_above, and_low, and_above, not_low, sum_low, sum_above, term_low, term_above, unary_low}
+use Rattle.py_grammar.proofs.Lying.{or_low, or_above, and_low, and_above, sum_low, sum_above, term_low, term_above}
+use Rattle.py_grammar.proofs.Deepest.{or_is_first, and_is_first, sum_is_first, term_is_first}
 use Rattle.py_grammar.specs.Reader.{go_on, next_level, kind_level, add_sign_of, mul_sign_of, spot_of, read_keyword, or_rest, read_and, and_rest, read_not, sum_rest, read_term, term_rest, read_unary}
 use Rattle.py_grammar.specs.Parsed.{or_part, and_part, not_part, sum_part, term_part, unary_part, Taken, TakenAdd, TakenMul, Found, IsDeep, Only, Refused, IsTooDeep, is_keyword_next, add_sign_next, mul_sign_next}
 use Rattle.py_grammar.proofs.Reading.{or_leads, and_leads, sum_leads, term_leads}
 use Rattle.py_grammar.proofs.Levels.{beyond_or, beyond_and, beyond_sum, beyond_term}
-use Rattle.py_grammar.proofs.Refusals.{only_any, only_if, only_map_or, deep_left}
+use Rattle.py_grammar.proofs.Refusals.{alone_elsewhere, only_any, only_if, only_map_or, deep_left}
 use Rattle.py_grammar.proofs.Prefixes.{some_unary, some_not}
 use Rattle.py_grammar.proofs.Chains.{Chain, first_found, next_found, last_found, first_refused, next_refused, too_deep}
 
@@ -47,8 +48,11 @@ or_chain = record {
   lies_one = λ s at. refl;
   lies_next = λ left o s at. refl;
   low = or_low;
-  part_low = and_low;
+  alone = λ at other apart. alone_elsewhere at other apart;
   some_depth = or_above;
+  deepest_one = λ s. refl;
+  deepest_next = λ left o s. refl;
+  first = or_is_first;
   tree_one = λ s. refl;
   tree_next = λ left o s. refl;
   form_one = λ s. refl;
@@ -109,8 +113,11 @@ and_chain = record {
   lies_one = λ s at. refl;
   lies_next = λ left o s at. refl;
   low = and_low;
-  part_low = not_low;
+  alone = λ at other apart. alone_elsewhere at other apart;
   some_depth = and_above;
+  deepest_one = λ s. refl;
+  deepest_next = λ left o s. refl;
+  first = and_is_first;
   tree_one = λ s. refl;
   tree_next = λ left o s. refl;
   form_one = λ s. refl;
@@ -179,8 +186,11 @@ sum_chain = record {
   lies_one = λ s at. refl;
   lies_next = λ left o s at. refl;
   low = sum_low;
-  part_low = term_low;
+  alone = λ at other apart. alone_elsewhere at other apart;
   some_depth = sum_above;
+  deepest_one = λ s. refl;
+  deepest_next = λ left o s. refl;
+  first = sum_is_first;
   tree_one = λ s. refl;
   tree_next = λ left o s. refl;
   form_one = λ s. refl;
@@ -266,8 +276,11 @@ term_chain = record {
   lies_one = λ s at. refl;
   lies_next = λ left o s at. refl;
   low = term_low;
-  part_low = unary_low;
+  alone = λ at other apart. alone_elsewhere at other apart;
   some_depth = term_above;
+  deepest_one = λ s. refl;
+  deepest_next = λ left o s. refl;
+  first = term_is_first;
   tree_one = λ s. refl;
   tree_next = λ left o s. refl;
   form_one = λ s. refl;

@@ -139,7 +139,7 @@ row_deep why n e (t ∷ ts) deep = only_if_simple _ (is_sign 9 t.kind) _ _ (assi
 pub row_refused : (before : List Token) (stop : Stop) → begins_word before ≡ false → Refused exprs_part 100 before stop → RefusedAnywhere before stop
 row_refused before stop other is = record {
   there = λ around. refused_part around exprs_part 100 [] before before stop row_turn (no_del_word before other) refl
-      (begins_part (has_place around) exprs_part 100 [] expression (λ e. refl) (λ e. refl) (λ e at low. low)) (λ more first. row_turns more (same_first more before first other)) (λ why n e left deep. row_deep why (n + 12) e left deep) is;
+      (begins_part (has_place around) exprs_part 100 [] expression (λ e. refl) (λ e. refl) (λ e at low. low) (λ e at deep. deep)) (λ more first. row_turns more (same_first more before first other)) (λ why n e left deep. row_deep why (n + 12) e left deep) is;
 }
 
 -- what is known of the next token
@@ -196,7 +196,7 @@ value_turns e c build b more = record {
 pub value_refused : (around : Around) (e : Exprs) (c : Token) (build : Exprs → Simple) (before after : List Token) (stop : Stop) → Builds e c build → before ≡ exprs_tokens e ++ c ∷ after → Refused exprs_part 100 after stop → SimpleRefused around before stop
 value_refused around e c build before after stop b is refused = refused_part around exprs_part 100 (exprs_tokens e ++ c ∷ []) after before stop (value_turn build)
     (ap (is_keyword_next 12) is ∙ exprs_no_del e (c ∷ after)) (is ∙ sym (append_assoc (exprs_tokens e) (c ∷ []) after))
-    (begins_part (has_place around) exprs_part 100 (exprs_tokens e ++ c ∷ []) build (b.stands around) (λ v. b.spells v ∙ sym (append_assoc (exprs_tokens e) (c ∷ []) (exprs_tokens v))) (λ v at low. b.within v at low))
+    (begins_part (has_place around) exprs_part 100 (exprs_tokens e ++ c ∷ []) build (b.stands around) (λ v. b.spells v ∙ sym (append_assoc (exprs_tokens e) (c ∷ []) (exprs_tokens v))) (λ v at low. b.within v at low) (λ v at deep. let high = b.deep v at in omega (arith, deep, high)))
     (λ more first. turns_same exprs_part _ (exprs_tokens e ++ c ∷ more) more _ (append_assoc (exprs_tokens e) (c ∷ []) more) (value_turns e c build b more))
     (λ why n v left deep. only_whole _ (λ v. Some (build v)) n v left (deeper why 100 (exprs_lies v) 100 (simple_lies (build v)) deep (λ at some. let high = b.deep v at in omega (arith, high))))
     refused

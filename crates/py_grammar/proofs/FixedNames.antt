@@ -9,14 +9,14 @@ use Rattle.py_grammar.specs.Concrete.{Spot}
 use Rattle.py_grammar.specs.Tokens.{token, word}
 use Rattle.py_grammar.specs.Reader.{read_name}
 use Rattle.py_grammar.specs.Parsed.{Production, IsDeep, Only, Finds, Begins, BeginsWithin, Refused, one_name}
-use Rattle.py_grammar.proofs.Refusals.{begins_so, begins_new}
 use Rattle.py_grammar.proofs.Stops.{spot_at}
 use Rattle.py_grammar.proofs.ClosedParts.{not_deep}
+use Rattle.py_grammar.proofs.Refusals.{begins_so, begins_new}
 use Rattle.py_grammar.proofs.LineFirsts.{same_first}
 
 -- a name with these bytes, where any is read
 abbrev pub fixed_name : List ℕ → Production (Spot × List ℕ)
-fixed_name bytes = record { tokens = λ found. word bytes found.0; depth = λ _. 0; lies = λ _ at. 0; form = λ _. false; read = λ _ ts. read_name ts }
+fixed_name bytes = record { tokens = λ found. word bytes found.0; depth = λ _. 0; lies = λ _ at. 0; deepest = λ found. found.0.at; form = λ _. false; read = λ _ ts. read_name ts }
 
 -- a name that begins so is read
 begun_is_read : (why : Stop) (t : Token) (ts us : List Token) → Begins one_name (t ∷ ts) → Finds (λ b. IsDeep why 0 (λ at. 0)) one_name.read (t ∷ us) → ⊥
@@ -30,10 +30,6 @@ begins_first : (bytes : List ℕ) (why : Stop) (front us : List Token) → Begin
 begins_first bytes why [] us b finds = nothing_begun bytes
 begins_first bytes why (t ∷ ts) us b finds = absurd (begun_is_read why t ts (ts ++ us) (begins_so one_name 0 (t ∷ ts) b) finds)
 
-none_goes_on : (why : Stop) (front : List Token) (t : Token) (us : List Token) → Begins one_name (front ++ t ∷ []) → Finds (λ b. IsDeep why 0 (λ at. 0)) one_name.read (front ++ t ∷ us) → ⊥
-none_goes_on why [] t us b finds = begun_is_read why t [] us b finds
-none_goes_on why (first ∷ front) t us b finds = begun_is_read why first (front ++ t ∷ []) (front ++ t ∷ us) b finds
-
 pub fixed_refused : (bytes : List ℕ) (before : List Token) (stop : Stop) → Refused one_name 0 before stop → Refused (fixed_name bytes) 0 before stop
 fixed_refused bytes before (Here Memory) is = tt
 fixed_refused bytes before (Here (Unexpected left)) is = record {
@@ -46,6 +42,6 @@ fixed_refused bytes before (Here (Unexpected left)) is = record {
   goes_on = tt;
   none = is.none;
 }
-fixed_refused bytes before (Here (TooDeep at)) is = absurd (none_goes_on (Here (TooDeep at)) is.front is.shown_by [] is.goes_on (is.none []))
+fixed_refused bytes before (Here (TooDeep at)) is = absurd (not_deep (Here (TooDeep at)) is.goes_on.deep)
 fixed_refused bytes before (Here (TooMany at)) is = absurd is.left_is
 fixed_refused bytes before End is = (begins_first bytes End before [] is.0 (subst (Finds (λ b. ⊥) one_name.read) (sym (append-nil before)) is.1), is.1)

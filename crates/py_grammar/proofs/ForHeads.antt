@@ -24,14 +24,16 @@ use Rattle.py_grammar.specs.LineReader.{Head, for_head, head_tokens, colon_token
 use Rattle.py_grammar.specs.Reader.{read_keyword, read_exprs}
 use Rattle.py_grammar.specs.Parsed.{IsDeep, Refused, FoundRow, Taken, one_keyword, exprs_part}
 use Rattle.py_grammar.specs.ParsedRows.{first_token, IsRead}
-use Rattle.py_grammar.specs.ParsedHead.{Took, target_part, Context, word_may, head_lies, behind_lies, IsAmissHead, StartsHead, BeginsHead, passed_tokens, StartsTargets, BeginsTargets, GoesOnLine, UnreadTargets, UnreadLine, IsAheadOnLine, ShownBy, EndedBy, HeadRefused, OpeningFound, OpeningRefused}
+use Rattle.py_grammar.specs.ParsedHead.{Took, target_part, Context, word_may, head_lies, behind_lies, IsAmissHead, BeginsHead, DeepHead, passed_tokens, BeginsTargets, FirstDeepTargets, GoesOnLine, UnreadTargets, UnreadLine, IsAheadOnLine, ShownBy, EndedBy, HeadRefused, OpeningFound, OpeningRefused}
 use Rattle.py_grammar.specs.ParsedNames.{Followed, followed_tokens, GoesOnTargets, IsAheadOfTargets, TargetsRefused, TargetsEnd, TargetFound}
 use Rattle.py_grammar.proofs.Stops.{some_spot, spot_at}
-use Rattle.py_grammar.proofs.Lying.{nowhere, exprs_low}
+use Rattle.py_grammar.specs.Lies.{nowhere}
+use Rattle.py_grammar.proofs.Lying.{exprs_low}
 use Rattle.py_grammar.proofs.LyingLines.{target_low}
 use Rattle.py_grammar.proofs.SimpleReading.{target_expr}
 use Rattle.py_grammar.proofs.Refusals.{alone_elsewhere, deep_beside_left, deep_beside_right}
 use Rattle.py_grammar.proofs.RowParts.{more_steps}
+use Rattle.py_grammar.proofs.SimpleParts.{none_deeper}
 use Rattle.py_grammar.proofs.ClosedParts.{not_deep}
 use Rattle.py_grammar.proofs.LineFirsts.{same_behind, both_true}
 use Rattle.py_grammar.proofs.NoDel.{has_del, without, no_del_front, del_absent, no_del_one_target, no_del_sum}
@@ -104,11 +106,11 @@ for_amiss c given limit End lies h deep higher = absurd deep
 for_begins : (c : Context) (given : List (List ℕ)) (spot : Spot) (ts : List Token) → word_may c 17 ≡ true → BeginsTargets 100 ts → BeginsHead c given (token (Keyword 17) spot ∷ ts)
 for_begins c given spot ts may b = inr (inr (record { may = may; spot = spot; inside = ts; begins = b; front_is = refl }))
 
-for_starts : (c : Context) (given : List (List ℕ)) (spot : Spot) (ts : List Token) → word_may c 17 ≡ true → StartsTargets ts → StartsHead c given (token (Keyword 17) spot ∷ ts)
-for_starts c given spot ts may b = inr (inr (record { may = may; spot = spot; inside = ts; begins = b; front_is = refl }))
+for_deep : (c : Context) (given : List (List ℕ)) (spot : Spot) (ts : List Token) (place : Pos) → word_may c 17 ≡ true → FirstDeepTargets 100 ts place → DeepHead c given (token (Keyword 17) spot ∷ ts) place
+for_deep c given spot ts place may b = inr (inr (record { may = may; spot = spot; inside = ts; begins = b; front_is = refl }))
 
-goes_for : (c : Context) (given : List (List ℕ)) (limit : Option Limit) (spot : Spot) (tokens : List Token) (t : Token) (fault : Fault) → word_may c 17 ≡ true → GoesOnTargets tokens t fault → GoesOnLine c given limit (token (Keyword 17) spot ∷ tokens) t fault
-goes_for c given limit spot tokens t (TooDeep at) may b = inl (for_starts c given spot (tokens ++ t ∷ []) may b)
+goes_for : (c : Context) (given : List (List ℕ)) (limit : Option Limit) (spot : Spot) (tokens : List Token) (t : Token) (fault : Fault) → word_may c 17 ≡ true → GoesOnTargets 100 tokens t fault → GoesOnLine c given limit (token (Keyword 17) spot ∷ tokens) t fault
+goes_for c given limit spot tokens t (TooDeep at) may b = inl (for_deep c given spot (tokens ++ t ∷ []) at may b)
 goes_for c given limit spot tokens t (TooMany at) may goes = absurd goes
 goes_for c given limit spot tokens t (Unexpected left) may goes = tt
 goes_for c given limit spot tokens t Memory may goes = tt
@@ -196,7 +198,7 @@ for_in_refused c tree before middle stop found is = record {
       (ap (λ ts. token (Keyword 17) spot ∷ ts) t.before_is)
       (begins_part_head c given (one_keyword 22) 0 (token (Keyword 17) spot ∷ target_tokens t.written) (λ at b. for_head spot t.written b (some_exprs at) (spot_at at) None) (λ at b. exprs_tokens (some_exprs at) ++ colon_tokens (spot_at at) None)
       (λ at b. both_true _ true may refl) (λ at b. refl) (λ at b. refl) (λ at b. refl)
-      (λ at other apart b any. let alone = alone_exprs at other apart in let low = target_low t.written other in let fits = t.fits in omega (arith, alone, low, fits)))
+      (λ at other apart b any. let alone = alone_exprs at other apart in let low = target_low t.written other in let fits = t.fits in omega (arith, alone, low, fits)) (λ at place b deep. absurd (none_deeper 0 deep)))
       (passes_target spot (target_tokens t.written) middle found.ends) (in_turns spot t) (λ why n b left deep. absurd (not_deep why deep)) is;
 }
 
@@ -221,7 +223,8 @@ for_items_refused c tree before middle behind at stop found k is = record {
       (begins_part_head c given exprs_part 100 ((token (Keyword 17) spot ∷ target_tokens t.written) ++ token (Keyword 22) k.spot ∷ []) (λ at e. for_head spot t.written k.spot e (spot_at at) None) (λ at e. colon_tokens (spot_at at) None)
       (λ at e. both_true _ true may refl) (λ at e. refl) (λ at e. refl)
       (λ at e. sym (append_assoc (token (Keyword 17) spot ∷ target_tokens t.written) (token (Keyword 22) k.spot ∷ []) (exprs_tokens e ++ colon_tokens (spot_at at) None)))
-      (λ at other apart e inner. let low = target_low t.written other in let fits = t.fits in omega (arith, inner, low, fits)))
+      (λ at other apart e inner. let low = target_low t.written other in let fits = t.fits in omega (arith, inner, low, fits))
+      (λ at place e deep. let one = le-max_right (target_lies t.written place) (exprs_lies e place) in let high = le-max_left (max (target_lies t.written place) (exprs_lies e place)) 0 in omega (arith, deep, one, high)))
       (passes_in spot k.spot (target_tokens t.written) middle behind found.ends (sym (ap first_token k.before_is))) (items_turns spot t k)
       (λ why n e left deep. only_colon (λ h. IsDeep why 100 (head_lies h)) ((n + 0) + t.is_read.steps) (for_head spot t.written k.spot e) left (λ colon behind. items_deep why (target_lies t.written) (exprs_lies e) (behind_lies behind) deep)) is;
 }

@@ -20,7 +20,7 @@ use Rattle.py_grammar.specs.Concrete.{Spot, Sum}
 use Rattle.py_grammar.specs.Tokens.{token, sum_tokens}
 use Rattle.py_grammar.specs.Trees.{sum_tree}
 use Rattle.py_grammar.specs.Depth.{one_target_depth, target_rest_depth}
-use Rattle.py_grammar.specs.Lies.{begins, sum_lies, one_target_lies, target_rest_lies, target_lies}
+use Rattle.py_grammar.specs.Lies.{begins, sum_lies, one_target_lies, target_rest_lies, target_lies, one_target_deepest}
 use Rattle.py_grammar.proofs.Lying.{above_left, over_least, over_right, sum_low}
 use Rattle.py_grammar.proofs.LyingLines.{one_target_low}
 use Rattle.py_grammar.specs.Reader.{Read, go_on, next_level, kind_level, starts, begins_expr, is_sign, read_sign, read_sum}
@@ -29,16 +29,17 @@ use Rattle.py_grammar.specs.StatementTokens.{one_target_tokens, target_rest_toke
 use Rattle.py_grammar.specs.StatementTrees.{one_target_tree, target_rest_tree, target_tree}
 use Rattle.py_grammar.specs.StatementReader.{expr_target}
 use Rattle.py_grammar.specs.LineReader.{read_one_target, read_target_rest, target_rest_after, read_target}
-use Rattle.py_grammar.specs.Parsed.{Production, sum_part, is_form, ShowsAt, GoesOn, IsDeep, Only, Finds, Begins, BeginsWithin, Shown, Refused, Found, Taken, is_sign_next, IsAtFirst, IsTooDeep}
+use Rattle.py_grammar.specs.Parsed.{Production, sum_part, is_form, ShowsAt, IsDeep, Only, Finds, BeginsWithin, IsFirstDeep, GoesDeep, Shown, Refused, Found, Taken, is_sign_next, IsAtFirst, IsTooDeep}
 use Rattle.py_grammar.specs.ParsedRows.{first_token}
 use Rattle.py_grammar.specs.ParsedSimple.{target_form, targets_form, all_target_form}
-use Rattle.py_grammar.specs.ParsedHead.{Took, target_part, passed_tokens, passed_lies, room_behind, StartsTargets, BeginsTargets, UnreadTargets, ShownBy, EndedBy}
+use Rattle.py_grammar.specs.ParsedHead.{Took, target_part, passed_tokens, passed_lies, room_behind, BeginsTargets, FirstDeepTargets, UnreadTargets, ShownBy, EndedBy}
 use Rattle.py_grammar.specs.ParsedNames.{target_rest_part, Followed, followed_tokens, GoesOnTargets, IsAheadOfTargets, TargetsRefused, TargetFound, TargetsEnd, ItemFound, WrongItem, ItemRefused, FoundTargets}
 use Rattle.py_grammar.proofs.Leading.{Reads}
 use Rattle.py_grammar.proofs.Reading.{if_false}
-use Rattle.py_grammar.proofs.Refusals.{begins_whole, deeper, max_below}
-use Rattle.py_grammar.proofs.Stops.{some_spot, shows_on_line}
-use Rattle.py_grammar.proofs.TargetForms.{target_spelled, target_deep, target_lies_so, target_tree_is}
+use Rattle.py_grammar.proofs.Refusals.{begins_whole, alone_elsewhere, deeper, max_below}
+use Rattle.py_grammar.proofs.Deepest.{apart_front, apart_there}
+use Rattle.py_grammar.proofs.Stops.{spot_at, shows_on_line}
+use Rattle.py_grammar.proofs.TargetForms.{target_spelled, target_deep, target_deepest_so, one_target_reached, one_target_is_first, target_tree_is}
 use Rattle.py_grammar.proofs.PrimParts.{go_on_once}
 use Rattle.py_grammar.proofs.RowParts.{more_steps, sign_first, no_start}
 use Rattle.py_grammar.proofs.HeadReading.{ReadsTargets, one_target_reads, target_rest_reads, begins_target}
@@ -59,7 +60,7 @@ item_found room before after part f fine =
       before_is = f.before_is ∙ ap (λ ts. ts ++ after) (target_spelled (lift f.written) t.0 t.1);
       tree_is = ap target_form f.tree_is ∙ target_tree_is (lift f.written) t.0 t.1;
       height_is = f.height_is ∙ target_deep (lift f.written) t.0 t.1;
-      deepest_is = sym (target_lies_so (lift f.written) t.0 t.1 part.deepest) ∙ f.deepest_is ∙ target_deep (lift f.written) t.0 t.1;
+      deepest_is = f.deepest_is ∙ target_deepest_so (lift f.written) t.0 t.1;
       fits = f.fits;
       beyond = f.beyond;
     }
@@ -95,12 +96,28 @@ no_target s lies rest more other above is i =
     let no : true ≡ false = sym (sum_form i.target) ∙ ap (λ s. is_form (expr_target (lift s))) (sym same.0) ∙ other in
     cc
 
-starts_sum : (passed : List (OneTarget × Spot)) (front tokens : List Token) → passed_tokens passed ≡ front → Begins sum_part tokens → StartsTargets (front ++ tokens)
-starts_sum passed front tokens is b = record {
+room_low : (room : ℕ) (passed : List (OneTarget × Spot)) → 99 ≤ room → room_behind room passed ≤ room
+room_low room [] low = omega arith
+room_low room (p ∷ passed) low = low
+
+high_behind : (a b room inner : ℕ) → inner < b → room ≤ inner → room < max a b
+high_behind a b room inner deep low = omega (arith, deep, low)
+
+-- what lies too deep first in a sum does so in targets and the sum
+deep_sum : (room : ℕ) (passed : List (OneTarget × Spot)) (front tokens : List Token) (place : Pos) → passed_tokens passed ≡ front → 99 ≤ room → room ≤ room_behind room passed → ((at : Pos) → passed_lies passed at ≤ room) → IsFirstDeep sum_part room tokens place
+    → FirstDeepTargets room (front ++ tokens) place
+deep_sum room passed front tokens place is low above passed_low f = record {
   passed = passed;
-  some = b.some;
-  more = b.more;
-  tokens_are = ap (λ ts. ts ++ sum_tokens b.some) is ∙ ap (λ ts. front ++ ts) b.tokens_are ∙ sym (append_assoc front tokens b.more);
+  some = f.some;
+  more = f.more;
+  tokens_are = ap (λ ts. ts ++ sum_tokens f.some) is ∙ ap (λ ts. front ++ ts) f.tokens_are ∙ sym (append_assoc front tokens f.more);
+  ahead = front ++ f.ahead;
+  named = f.named;
+  between = f.between;
+  front_is = ap (λ ts. front ++ ts) f.front_is ∙ sym (append_assoc front f.ahead (f.named ∷ f.between));
+  named_is = f.named_is;
+  deep = high_behind (passed_lies passed place) (sum_lies f.some place) (room_behind room passed) room f.deep (room_low room passed low);
+  within = λ other apart. max_below _ _ _ (let one = passed_low other in omega (arith, one, above)) (let two = f.within other apart in omega (arith, two, above));
 }
 
 -- a target was read within this room
@@ -114,11 +131,12 @@ target_within t room fits at = let low = one_target_low t at in omega (arith, lo
 sum_within : {room : ℕ} {before after : List Token} {part : Part} → (f : Found sum_part sum_tree 3 room before part after) → (at : Pos) → sum_lies f.written at ≤ room
 sum_within f at = let low = sum_low f.written at in let high = f.height_is in let fits = f.fits in omega (arith, low, high, fits)
 
-goes_sum : (passed : List (OneTarget × Spot)) (front tokens : List Token) (t : Token) (behind : List Token) (fault : Fault) → passed_tokens passed ≡ front → ShowsAt behind fault → GoesOn (Begins sum_part) tokens t fault → GoesOnTargets (front ++ tokens) t fault
-goes_sum passed front tokens t behind (TooDeep at) is shows b = subst StartsTargets (sym (append_assoc front tokens (t ∷ []))) (starts_sum passed front (tokens ++ t ∷ []) is b)
-goes_sum passed front tokens t behind (Unexpected left) is shows goes = tt
-goes_sum passed front tokens t behind (TooMany at) is shows goes = absurd shows
-goes_sum passed front tokens t behind Memory is shows goes = tt
+goes_sum : (room : ℕ) (front tokens : List Token) (t : Token) (behind : List Token) (fault : Fault) → ((ts : List Token) (place : Pos) → IsFirstDeep sum_part room ts place → FirstDeepTargets room (front ++ ts) place) → ShowsAt behind fault
+    → GoesDeep sum_part room tokens t fault → GoesOnTargets room (front ++ tokens) t fault
+goes_sum room front tokens t behind (TooDeep at) first shows f = subst (λ (ts : List Token). FirstDeepTargets room ts at) (sym (append_assoc front tokens (t ∷ []))) (first (tokens ++ t ∷ []) at f)
+goes_sum room front tokens t behind (Unexpected left) first shows goes = tt
+goes_sum room front tokens t behind (TooMany at) first shows goes = absurd shows
+goes_sum room front tokens t behind Memory first shows goes = tt
 
 module _ {A : Type 0} (p : Production A) (room : ℕ) (front rest before : List Token) (before_is : before ≡ front ++ rest) (passed : List (OneTarget × Spot)) (passed_is : passed_tokens passed ≡ front) (low : 99 ≤ room)
     (above : room ≤ room_behind room passed) (passed_low : (at : Pos) → passed_lies passed at ≤ room)
@@ -146,7 +164,7 @@ module _ {A : Type 0} (p : Production A) (room : ℕ) (front rest before : List 
     left_is = shows_on_line s.shown_by s.behind fault s.left_is;
     begun = begins_sum s.front s.begins;
     goes_on = (
-      goes_sum passed front s.front s.shown_by s.behind fault passed_is s.left_is s.goes_on,
+      goes_sum room front s.front s.shown_by s.behind fault (λ ts place f. deep_sum room passed front ts place passed_is low above passed_low f) s.left_is s.goes_on,
       unread_there s.front s.shown_by fault (λ more. unread_sum (Here fault) room (s.front ++ s.shown_by ∷ more) low (s.none more)),
     );
     none = λ w more is. found_deep (Here fault) room (p.lies w.part) (s.front ++ s.shown_by ∷ more) (s.none more)
@@ -203,11 +221,11 @@ pub record Inner {B : Type 0} (q : Production B) (inner room : ℕ) (lies : Pos 
   pub higher : (at : Pos) → 1 ≤ q.lies part.part at → room + q.lies part.part at ≤ inner + lies at
 
 module _ {A B : Type 0} (p : Production A) (room : ℕ) (q : Production B) (inner : ℕ) (front rest before : List Token) (before_is : before ≡ front ++ rest)
-    (opens : (ts : List Token) → BeginsTargets inner ts → BeginsTargets room (front ++ ts)) (plain : (ts : List Token) → StartsTargets ts → StartsTargets (front ++ ts))
+    (opens : (ts : List Token) → BeginsTargets inner ts → BeginsTargets room (front ++ ts)) (first : (ts : List Token) (place : Pos) → FirstDeepTargets inner ts place → FirstDeepTargets room (front ++ ts) place)
     (unread : (ts : List Token) (t : Token) (fault : Fault) → UnreadTargets inner ts t fault → UnreadTargets room (front ++ ts) t fault)
     (there : (w : Followed A) (more : List Token) → followed_tokens p w ≡ front ++ more → Inner q inner room (p.lies w.part) more) where
-  goes_rest : (tokens : List Token) (t : Token) (fault : Fault) → GoesOnTargets tokens t fault → GoesOnTargets (front ++ tokens) t fault
-  goes_rest tokens t (TooDeep at) b = subst StartsTargets (sym (append_assoc front tokens (t ∷ []))) (plain (tokens ++ t ∷ []) b)
+  goes_rest : (tokens : List Token) (t : Token) (fault : Fault) → GoesOnTargets inner tokens t fault → GoesOnTargets room (front ++ tokens) t fault
+  goes_rest tokens t (TooDeep at) f = subst (λ (ts : List Token). FirstDeepTargets room ts at) (sym (append_assoc front tokens (t ∷ []))) (first (tokens ++ t ∷ []) at f)
   goes_rest tokens t (TooMany at) goes = goes
   goes_rest tokens t (Unexpected left) goes = tt
   goes_rest tokens t Memory goes = tt
@@ -240,9 +258,6 @@ module _ {A B : Type 0} (p : Production A) (room : ℕ) (q : Production B) (inne
   rest_refused (Here (TooDeep at)) is = shown_rest (TooDeep at) is
   rest_refused (Here (TooMany at)) is = shown_rest (TooMany at) is
   rest_refused End is = ended_rest End is
-
-some_target : OneTarget
-some_target = named some_spot []
 
 first_there : (w : Followed Target) (more : List Token) → followed_tokens target_part w ≡ more → ItemThere (target_lies w.part) more
 first_there w more is = by w.part is
@@ -297,6 +312,38 @@ some_target_depth (named at bytes) = omega arith
 some_target_depth (item e opening index closing) = omega arith
 some_target_depth (field e dot name_at bytes) = omega arith
 
+abbrev some_there : Pos → OneTarget
+some_there at = named (spot_at at) []
+
+-- a target that goes 100 deep and a comma, where what is put behind it begins at the place of its first deepest
+full_deep : (t : OneTarget) (comma : Spot) (place : Pos) → place ≡ one_target_deepest t → one_target_depth t ≡ 100 → FirstDeepTargets 100 (one_target_tokens t ++ token (Sign 6) comma ∷ []) place
+full_deep t comma place is depth_is =
+    let first = one_target_is_first t in
+    record {
+      passed = (t, comma) ∷ [];
+      some = target_sum (some_there place);
+      more = sum_tokens (target_sum (some_there place));
+      tokens_are = refl;
+      ahead = first.ahead;
+      named = first.named;
+      between = first.later ++ token (Sign 6) comma ∷ [];
+      front_is = ap (λ ts. ts ++ token (Sign 6) comma ∷ []) first.tokens_are ∙ append_assoc first.ahead (first.named ∷ first.later) (token (Sign 6) comma ∷ []);
+      named_is = first.named_is ∙ sym is;
+      deep =
+          let there : one_target_lies t place ≡ one_target_depth t = ap (one_target_lies t) is ∙ first.lies_is in
+          full_high (one_target_lies t place) (sum_lies (target_sum (some_there place)) place) (one_target_depth t) there depth_is;
+      within = λ other apart.
+          let less = first.less other (apart_front other (first.named ∷ first.later) (token (Sign 6) comma ∷ []) (apart_front other (first.named ∷ (first.later ++ token (Sign 6) comma ∷ [])) (sum_tokens (target_sum (some_there place))) apart)) in
+          let none : sum_lies (target_sum (some_there place)) other ≡ 0 = alone_elsewhere place other (apart_there first.named.at other place apart.0 (first.named_is ∙ sym is)) in
+          full_low (one_target_lies t other) (sum_lies (target_sum (some_there place)) other) (one_target_depth t) less none depth_is;
+    }
+  where
+    full_high : (a b depth : ℕ) → a ≡ depth → depth ≡ 100 → 99 < max (max a 0) b
+    full_high a b depth there is = omega (arith, there, is)
+
+    full_low : (a b depth : ℕ) → a < depth → b ≡ 0 → depth ≡ 100 → max (max a 0) b ≤ 99
+    full_low a b depth less none is = omega (arith, less, none, is)
+
 -- several targets lie one deeper, and there is no room
 pub first_full : (before middle behind : List Token) (at : Pos) (first : Part) (stop : Stop) → ItemFound 100 before first middle → Taken (Sign 6) middle at behind → IsTooDeep first.height first.deepest 100 stop → TargetsRefused target_part 100 before stop
 first_full before middle behind at first (Here (TooDeep place)) f k deep = record {
@@ -313,7 +360,7 @@ first_full before middle behind at first (Here (TooDeep place)) f k deep = recor
     within = λ other apart. let same = sum_lies_so f.target other in let low = target_within f.target 100 (item_fits f) other in omega (arith, same, low);
   };
   goes_on = (
-    record { passed = (f.target, k.spot) ∷ []; some = target_sum some_target; more = sum_tokens (target_sum some_target); tokens_are = refl },
+    full_deep f.target k.spot place (deep.1 ∙ f.deepest_is) (let low = deep.0 in let high = f.fits in let same = f.height_is in omega (arith, low, high, same)),
     record { there = λ passed s more is. unread_full 100 place f.target k.spot more (first_deep place deep.0 deep.1) passed s is },
   );
   none = λ w more is.
@@ -321,12 +368,15 @@ first_full before middle behind at first (Here (TooDeep place)) f k deep = recor
       let there : target_lies w.part place ≡ target_lies (several_targets f.target s.comma s.rest) place = ap (λ t. target_lies t place) s.part_is in
       let same : target_lies (several_targets f.target s.comma s.rest) place ≡ target_lies (several_targets f.target s.comma s.rest) first.deepest = ap (target_lies (several_targets f.target s.comma s.rest)) deep.1 in
       let low = deep.0 in
-      let more_deep = above_left (begins (one_target_tokens f.target) first.deepest) (one_target_lies f.target first.deepest) (target_rest_lies s.rest first.deepest) first.height (one_target_depth f.target) f.height_is f.deepest_is (some_target_depth f.target) in
+      let more_deep = above_left (begins (one_target_tokens f.target) first.deepest) (one_target_lies f.target first.deepest) (target_rest_lies s.rest first.deepest) first.height (one_target_depth f.target) f.height_is there_is (some_target_depth f.target) in
       omega (arith, low, there, same, more_deep);
 }
   where
+    there_is : one_target_lies f.target first.deepest ≡ one_target_depth f.target
+    there_is = ap (one_target_lies f.target) f.deepest_is ∙ one_target_reached f.target
+
     first_deep : (place : Pos) → 100 ≤ first.height → place ≡ first.deepest → 99 < one_target_lies f.target place
-    first_deep place low same = let there = ap (one_target_lies f.target) same in let high = f.height_is in let deepest = f.deepest_is in omega (arith, low, there, high, deepest)
+    first_deep place low same = let there = ap (one_target_lies f.target) same in let high = f.height_is in let deepest = there_is in omega (arith, low, there, high, deepest)
 first_full before middle behind at first (Here (Unexpected place)) f k deep = absurd deep
 first_full before middle behind at first (Here (TooMany place)) f k deep = absurd deep
 first_full before middle behind at first (Here Memory) f k deep = absurd deep
@@ -349,6 +399,9 @@ same_room (p ∷ passed) = refl
 first_within : (t : OneTarget) (passed : List (OneTarget × Spot)) (inner : ℕ) (at : Pos) → one_target_depth t ≤ 99 → max (passed_lies passed at) inner ≤ room_behind 99 passed → max (max (one_target_lies t at) (passed_lies passed at)) inner ≤ 99
 first_within t passed inner at fits low = let same = same_room passed in let one = target_within t 99 fits at in omega (arith, same, one, low)
 
+one_more_deep : (a b c room : ℕ) → room < max b c → room ≡ 99 → 99 < max (max a b) c
+one_more_deep a b c room deep is = omega (arith, deep, is)
+
 -- what stands behind the first comma is refused
 pub others_refused : (before middle behind : List Token) (at : Pos) (first : Part) (stop : Stop) → ItemFound 100 before first middle → Taken (Sign 6) middle at behind → first.height < 100 → TargetsRefused target_rest_part 99 behind stop → TargetsRefused target_part 100 before stop
 others_refused before middle behind at first stop f k less is =
@@ -361,7 +414,19 @@ others_refused before middle behind at first stop f k less is =
       tokens_are = one_ahead f.target k.spot c.passed c.some ts c.more c.tokens_are;
       within = λ other apart. first_within f.target c.passed (sum_lies c.some other) other (let same = f.height_is in omega (arith, less, same)) (c.within other apart);
     })
-    (λ ts b. record { passed = (f.target, k.spot) ∷ b.passed; some = b.some; more = b.more; tokens_are = one_ahead f.target k.spot b.passed b.some ts b.more b.tokens_are })
+    (λ ts place b. record {
+      passed = (f.target, k.spot) ∷ b.passed;
+      some = b.some;
+      more = b.more;
+      tokens_are = one_ahead f.target k.spot b.passed b.some ts b.more b.tokens_are;
+      ahead = (one_target_tokens f.target ++ token (Sign 6) k.spot ∷ []) ++ b.ahead;
+      named = b.named;
+      between = b.between;
+      front_is = ap (λ us. (one_target_tokens f.target ++ token (Sign 6) k.spot ∷ []) ++ us) b.front_is ∙ sym (append_assoc (one_target_tokens f.target ++ token (Sign 6) k.spot ∷ []) b.ahead (b.named ∷ b.between));
+      named_is = b.named_is;
+      deep = let deep = b.deep in one_more_deep (one_target_lies f.target place) (passed_lies b.passed place) (sum_lies b.some place) (room_behind 99 b.passed) deep (same_room b.passed);
+      within = λ other apart. first_within f.target b.passed (sum_lies b.some other) other (let same = f.height_is in omega (arith, less, same)) (b.within other apart);
+    })
     (λ ts t fault u. record {
       there = λ passed s more same. unread_one (Here fault) 99 100 f.target k.spot (ts ++ t ∷ more) (omega arith) (λ ps s is. u.there ps s more is) passed s
           (same ∙ append_assoc (one_target_tokens f.target ++ token (Sign 6) k.spot ∷ []) ts (t ∷ more) ∙ comma_behind (one_target_tokens f.target) (token (Sign 6) k.spot) (ts ++ t ∷ more));

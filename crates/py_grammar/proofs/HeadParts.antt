@@ -1,5 +1,5 @@
 -- The lines that begin compound statements: how what is read of a part, or not, tells what is read of the line.
-use Rattle.std.proofs.Common.{◌≡◌, inl, inr, ℕ, ◌+◌, ◌≤◌, true, false, List, [], ◌∷◌, ◌++◌, Option, Some, None, refl, ap, sym, ◌∙◌, arith, subst, append_assoc, if◌then◌else◌}
+use Rattle.std.proofs.Common.{◌≡◌, inl, ℕ, ◌+◌, ◌≤◌, ◌<◌, true, false, List, [], ◌∷◌, ◌++◌, Option, Some, None, refl, ap, sym, ◌∙◌, arith, subst, append_assoc, if◌then◌else◌}
 use Rattle.std.specs.Bool.{⊤}
 use Rattle.prov_base.specs.declared.place.Pos.{Pos}
 use Rattle.py_lines.specs.declared.parts.Token.{Token}
@@ -16,13 +16,14 @@ use Rattle.py_grammar.specs.Trees.{expr_tree}
 use Rattle.py_grammar.specs.Written.{Simple}
 use Rattle.py_grammar.specs.LineReader.{Head, colon_tokens, head_tokens, then_read, read_colon, read_head}
 use Rattle.py_grammar.specs.Reader.{Read, next_level, starts, is_keyword, is_sign}
-use Rattle.py_grammar.specs.Parsed.{Production, GoesOn, ShowsAt, IsDeep, Only, Finds, Begins, BeginsWithin, Shown, Refused, Found, FoundRow, one_keyword, one_sign, one_name, expr_part, exprs_part}
+use Rattle.py_grammar.specs.Parsed.{Production, ShowsAt, IsDeep, Only, Finds, Begins, BeginsWithin, IsFirstDeep, GoesDeep, Shown, Refused, Found, FoundRow, one_keyword, one_sign, one_name, expr_part, exprs_part}
 use Rattle.py_grammar.specs.ParsedRows.{first_token, IsRead}
-use Rattle.py_grammar.specs.ParsedHead.{Context, head_stands, head_depth, head_lies, behind_in, IsPast, IsAmissHead, ShowsOnLine, StartsHead, BeginsHead, GoesOnLine, IsAheadOnLine, ShownBy, EndedBy, HeadRefused}
+use Rattle.py_grammar.specs.ParsedHead.{Context, head_stands, head_depth, head_lies, behind_in, IsPast, IsAmissHead, ShowsOnLine, BeginsHead, DeepHead, GoesOnLine, IsAheadOnLine, ShownBy, EndedBy, HeadRefused}
 use Rattle.py_grammar.proofs.Reading.{expr_reads}
 use Rattle.py_grammar.proofs.RowReads.{row_reads}
 use Rattle.py_grammar.proofs.Refusals.{begins_so, first_of, next_level_same}
-use Rattle.py_grammar.proofs.Lying.{nowhere}
+use Rattle.py_grammar.specs.Lies.{nowhere, IsApart}
+use Rattle.py_grammar.proofs.Deepest.{apart_front, apart_there}
 use Rattle.py_grammar.proofs.LyingLines.{head_low}
 use Rattle.py_grammar.proofs.HeadReading.{head_reads}
 use Rattle.py_grammar.proofs.Stops.{shows_on_line}
@@ -201,14 +202,6 @@ name_is_read spot bytes after = record { steps = 0; reads = λ n more first. ref
 
 -- ---- how a line begins
 
--- within the room or not
-pub head_so : (c : Context) (given : List (List ℕ)) (front : List Token) → BeginsHead c given front → StartsHead c given front
-head_so c given front (inl b) = let k = b nowhere in inl (record { some = k.some; is_so = k.is_so; more = k.more; tokens_are = k.tokens_are })
-head_so c given front (inr (inl r)) = let k = r.begins nowhere in
-    inr (inl (record { opened = r.opened; starts = r.starts; inside = r.inside; begins = record { spot = k.spot; some = k.some; more = k.more; tokens_are = k.tokens_are }; front_is = r.front_is }))
-head_so c given front (inr (inr r)) = let k = r.begins nowhere in
-    inr (inr (record { may = r.may; spot = r.spot; inside = r.inside; begins = record { passed = k.passed; some = k.some; more = k.more; tokens_are = k.tokens_are }; front_is = r.front_is }))
-
 -- a line of at most this depth lies within it
 pub head_within : (h : Head) → head_depth h ≤ 100 → (at : Pos) → head_lies h at ≤ 100
 head_within h fits at = let low = head_low h at in omega (arith, low, fits)
@@ -226,23 +219,17 @@ spelled_part q front h tail b spells tokens more is = spells ∙ ap (λ ts. fron
     regroup : (w x y z : List Token) → w ++ ((x ++ y) ++ z) ≡ (w ++ x) ++ (y ++ z)
     regroup w x y z = ap (λ ts. w ++ ts) (append_assoc x y z) ∙ sym (append_assoc w x (y ++ z))
 
--- a line that may stand there begins so, and no `del` stands in it
-pub record StartsOpening (c : Context) (given : List (List ℕ)) (front : List Token) : Type 0 where
-  pub begun : StartsHead c given front
-  pub clear : has_del front ≡ false
-
--- the same, where nothing that has begun lies too deep
+-- A line that may stand there begins so, and no `del` stands in it. Nothing that has begun lies too deep.
 pub record BeginsOpening (c : Context) (given : List (List ℕ)) (front : List Token) : Type 0 where
   pub begun : BeginsHead c given front
   pub clear : has_del front ≡ false
 
-pub opening_so : (c : Context) (given : List (List ℕ)) (front : List Token) → BeginsOpening c given front → StartsOpening c given front
-opening_so c given front b = record { begun = head_so c given front b.begun; clear = b.clear }
-
--- A part begins behind these tokens, and so does a line: within the room where the part does.
+-- A part begins behind these tokens, and so does a line, in which no `del` stands: within the room where the part does, and what lies too
+-- deep first in the part does so in the line.
 pub record CarriesHead {B : Type 0} (c : Context) (given : List (List ℕ)) (q : Production B) (inner : ℕ) (front : List Token) : Type 0 where
   pub within : (tokens : List Token) → BeginsWithin q inner tokens → BeginsHead c given (front ++ tokens)
-  pub plain : (tokens : List Token) → Begins q tokens → StartsOpening c given (front ++ tokens)
+  pub first : (tokens : List Token) (place : Pos) → IsFirstDeep q inner tokens place → DeepHead c given (front ++ tokens) place
+  pub clear : (tokens : List Token) → Begins q tokens → has_del (front ++ tokens) ≡ false
 
 -- what begins a compound statement, a part of one or a `global` line, with nothing behind its `:`
 pub clear_before : (h : Head) (front more : List Token) → is_simple_head h ≡ false → behind_in h ≡ None → head_tokens h ≡ front ++ more → has_del front ≡ false
@@ -260,8 +247,9 @@ begins_opening c given q front h tail b stands compound empty spells fits tokens
 -- what is put behind the part stands at the chosen place
 pub begins_part_head : {B : Type 0} (c : Context) (given : List (List ℕ)) (q : Production B) (inner : ℕ) (front : List Token) (h : Pos → B → Head) (tail : Pos → B → List Token) → ((at : Pos) (b : B) → head_stands c given (h at b) ≡ true)
     → ((at : Pos) (b : B) → is_simple_head (h at b) ≡ false) → ((at : Pos) (b : B) → behind_in (h at b) ≡ None) → ((at : Pos) (b : B) → head_tokens (h at b) ≡ front ++ (q.tokens b ++ tail at b))
-    → ((at other : Pos) → (other ≡ at → ⊥) → (b : B) → q.lies b other ≤ inner → head_lies (h at b) other ≤ 100) → CarriesHead c given q inner front
-begins_part_head c given q inner front h tail stands compound empty spells low = record {
+    → ((at other : Pos) → (other ≡ at → ⊥) → (b : B) → q.lies b other ≤ inner → head_lies (h at b) other ≤ 100)
+    → ((at place : Pos) (b : B) → inner < q.lies b place → 100 < head_lies (h at b) place) → CarriesHead c given q inner front
+begins_part_head c given q inner front h tail stands compound empty spells low high = record {
   within = λ tokens b. inl (λ at. let k = b at in record {
     some = h at k.some;
     is_so = stands at k.some;
@@ -269,12 +257,23 @@ begins_part_head c given q inner front h tail stands compound empty spells low =
     tokens_are = spelled_part q front (h at) (tail at) k.some (spells at k.some) tokens k.more k.tokens_are;
     within = λ other apart. low at other apart k.some (k.within other apart);
   });
-  plain = λ tokens b.
-      let is = spelled_part q front (h nowhere) (tail nowhere) b.some (spells nowhere b.some) tokens b.more b.tokens_are in
-      record {
-        begun = inl (record { some = h nowhere b.some; is_so = stands nowhere b.some; more = b.more ++ tail nowhere b.some; tokens_are = is });
-        clear = clear_before (h nowhere b.some) (front ++ tokens) (b.more ++ tail nowhere b.some) (compound nowhere b.some) (empty nowhere b.some) is;
-      };
+  first = λ tokens place f. inl (record {
+    some = h place f.some;
+    is_so = stands place f.some;
+    more = f.more ++ tail place f.some;
+    tokens_are = spelled_part q front (h place) (tail place) f.some (spells place f.some) tokens f.more f.tokens_are;
+    ahead = front ++ f.ahead;
+    named = f.named;
+    between = f.between;
+    front_is = ap (λ ts. front ++ ts) f.front_is ∙ sym (append_assoc front f.ahead (f.named ∷ f.between));
+    named_is = f.named_is;
+    deep = high place place f.some f.deep;
+    within = λ other apart. low place other (apart_there f.named.at other place apart.0 f.named_is) f.some
+        (f.within other (apart.0, apart_front other (f.between ++ f.more) (tail place f.some) (subst (IsApart other) (sym (append_assoc f.between f.more (tail place f.some))) apart.1)));
+  });
+  clear = λ tokens b.
+      clear_before (h nowhere b.some) (front ++ tokens) (b.more ++ tail nowhere b.some) (compound nowhere b.some) (empty nowhere b.some)
+      (spelled_part q front (h nowhere) (tail nowhere) b.some (spells nowhere b.some) tokens b.more b.tokens_are);
 }
 
 -- what begins so up to its `:`, with another keyword than `for`
@@ -314,17 +313,17 @@ ended_line c given limit tokens before stop is begun finds = subst (λ (ts : Lis
     (record { begun = begun; none = λ h same. finds_written _ tokens h finds same })
 
 -- a part goes on with this token, and so does the line
-pub goes_on_line : (c : Context) (given : List (List ℕ)) (limit : Option Limit) (Q : List Token → Type 0) (front tokens : List Token) (t : Token) (behind : List Token) (fault : Fault) → ((ts : List Token) → Q ts → StartsHead c given (front ++ ts)) → ShowsAt behind fault
-    → GoesOn Q tokens t fault → GoesOnLine c given limit (front ++ tokens) t fault
-goes_on_line c given limit Q front tokens t behind (Unexpected left) begins shows goes = tt
-goes_on_line c given limit Q front tokens t behind (TooDeep at) begins shows goes = inl (subst (StartsHead c given) (sym (append_assoc front tokens (t ∷ []))) (begins (tokens ++ t ∷ []) goes))
-goes_on_line c given limit Q front tokens t behind (TooMany at) begins shows goes = absurd shows
-goes_on_line c given limit Q front tokens t behind Memory begins shows goes = absurd shows
+goes_on_line : {B : Type 0} (c : Context) (given : List (List ℕ)) (limit : Option Limit) (q : Production B) (inner : ℕ) (front tokens : List Token) (t : Token) (behind : List Token) (fault : Fault)
+    → ((ts : List Token) (place : Pos) → IsFirstDeep q inner ts place → DeepHead c given (front ++ ts) place) → ShowsAt behind fault → GoesDeep q inner tokens t fault → GoesOnLine c given limit (front ++ tokens) t fault
+goes_on_line c given limit q inner front tokens t behind (Unexpected left) first shows goes = tt
+goes_on_line c given limit q inner front tokens t behind (TooDeep at) first shows goes = inl (subst (λ (ts : List Token). DeepHead c given ts at) (sym (append_assoc front tokens (t ∷ []))) (first (tokens ++ t ∷ []) at goes))
+goes_on_line c given limit q inner front tokens t behind (TooMany at) first shows goes = absurd shows
+goes_on_line c given limit q inner front tokens t behind Memory first shows goes = absurd shows
 
-pub ahead_of_part : (c : Context) (given : List (List ℕ)) (limit : Option Limit) (Q : List Token → Type 0) (front rest tokens : List Token) (t : Token) (behind : List Token) (fault : Fault) → ((ts : List Token) → Q ts → StartsOpening c given (front ++ ts)) → PassesFor front rest
-    → first_token (tokens ++ t ∷ behind) ≡ first_token rest → Q tokens → ShowsAt behind fault → GoesOn Q tokens t fault → IsAheadOnLine c given limit (front ++ tokens) t fault
-ahead_of_part c given limit Q front rest tokens t behind fault begins other first b shows goes =
-    (goes_on_line c given limit Q front tokens t behind fault (λ ts b. (begins ts b).begun) shows goes, unread_clear (front ++ tokens) t fault (begins tokens b).clear (other tokens t behind fault first))
+-- of what goes on so, where no `del` stands and nothing goes on behind a `for`
+pub ahead_of_part : (c : Context) (given : List (List ℕ)) (limit : Option Limit) (front rest tokens : List Token) (t : Token) (behind : List Token) (fault : Fault) → PassesFor front rest → first_token (tokens ++ t ∷ behind) ≡ first_token rest
+    → has_del (front ++ tokens) ≡ false → GoesOnLine c given limit (front ++ tokens) t fault → IsAheadOnLine c given limit (front ++ tokens) t fault
+ahead_of_part c given limit front rest tokens t behind fault other first clear goes = (goes, unread_clear (front ++ tokens) t fault clear (other tokens t behind fault first))
 
 -- a part stands behind these tokens: how it begins, and what is read there
 record StandsThere {B : Type 0} (c : Context) (given : List (List ℕ)) (q : Production B) (inner : ℕ) (front rest : List Token) : Type 0 where
@@ -336,7 +335,8 @@ shown_there : {B : Type 0} (c : Context) (given : List (List ℕ)) (limit : Opti
     → Shown q inner rest fault → ShownBy (BeginsHead c given) (IsAheadOnLine c given limit) head_tokens (λ fault a. IsAmissHead c given limit (Here fault) a) before fault
 shown_there c given limit q inner front rest before fault is part s = shown_head c given limit (front ++ s.front) s.shown_by s.behind before fault
     (is ∙ ap (λ ts. front ++ ts) s.before_is ∙ sym (append_assoc front s.front (s.shown_by ∷ s.behind))) (shows_on_line s.shown_by s.behind fault s.left_is) (part.begins.within s.front s.begins)
-    (ahead_of_part c given limit (Begins q) front rest s.front s.shown_by s.behind fault part.begins.plain part.other (sym (ap first_token s.before_is)) (begins_so q inner s.front s.begins) s.left_is s.goes_on)
+    (ahead_of_part c given limit front rest s.front s.shown_by s.behind fault part.other (sym (ap first_token s.before_is)) (part.begins.clear s.front (begins_so q inner s.front s.begins))
+    (goes_on_line c given limit q inner front s.front s.shown_by s.behind fault part.begins.first s.left_is s.goes_on))
     (λ more. finds_head_same _ _ _ (append_assoc front s.front (s.shown_by ∷ more))
     (finds_head_weaker _ _ _ (amiss_deep c given limit (Here fault)) (part.finds (Here fault) (s.front ++ s.shown_by ∷ more) (first_shown s.front s.shown_by more s.behind ∙ sym (ap first_token s.before_is)) (s.none more))))
 

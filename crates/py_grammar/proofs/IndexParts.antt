@@ -13,8 +13,9 @@ use Rattle.py_grammar.specs.Concrete.{Spot, Expr, Exprs, one_expr, several, one_
 use Rattle.py_grammar.specs.Tokens.{token, expr_tokens, exprs_tokens, bound_tokens}
 use Rattle.py_grammar.specs.Trees.{expr_tree, exprs_tree}
 use Rattle.py_grammar.specs.Depth.{expr_depth, exprs_depth, bound_depth}
-use Rattle.py_grammar.specs.Lies.{bound_lies, expr_lies, exprs_lies, index_lies}
-use Rattle.py_grammar.proofs.Lying.{bound_low, deepest_here, expr_low}
+use Rattle.py_grammar.specs.Lies.{nowhere, deeper_of, bound_lies, expr_lies, exprs_lies, index_lies, expr_deepest, exprs_deepest, bound_deepest}
+use Rattle.py_grammar.proofs.Lying.{expr_above, exprs_above, expr_low}
+use Rattle.py_grammar.proofs.Deepest.{deeper_first, deeper_later, deeper_same, deeper_bracket, deeper_group}
 use Rattle.py_grammar.specs.Reader.{go_on, is_sign, read_expr, read_exprs, read_index, index_rest, read_bound}
 use Rattle.py_grammar.specs.Parsed.{expr_part, exprs_part, Taken, Found, IsDeep, Only, Finds, Refused, is_sign_next}
 use Rattle.py_grammar.specs.ParsedRows.{limit_deepest, IsRead, first_token, index_part, bound_part, limit_tree, limit_height, has_comma, FoundList, FoundBound, FoundIndex}
@@ -38,7 +39,7 @@ bound_none room before closes = record {
   before_is = refl;
   tree_is = refl;
   height_is = refl;
-  deepest_is = λ at. refl;
+  deepest_is = λ at. sym (deeper_first 0 0 at nowhere (omega arith));
   fits = omega arith;
   is_read = record {
     steps = 1;
@@ -58,7 +59,7 @@ bound_some room before after part f =
       before_is = f.before_is;
       tree_is = ap some_expr f.tree_is;
       height_is = f.height_is;
-      deepest_is = λ at. f.deepest_is;
+      deepest_is = λ at. f.deepest_is ∙ sym (deeper_later 0 (expr_depth f.written) at (expr_deepest f.written) (let above = expr_above f.written in omega (arith, above)));
       fits = f.fits;
       is_read = record {
         steps = suc is.steps;
@@ -83,7 +84,7 @@ bound_finds P ts other finds = record {
 
 bound_inside : (room : ℕ) (rest : List Token) → is_sign_next 3 rest ≡ false → Inside bound_part room expr_part room [] rest
 bound_inside room rest other = record {
-  begins = λ at b. record { some = bound b; more = []; tokens_are = sym (append-nil (expr_tokens b)); within = λ other apart low. low };
+  begins = λ at b. record { some = bound b; more = []; tokens_are = sym (append-nil (expr_tokens b)); within = λ other apart low. low; deep = λ stop deep. deep };
   finds = λ stop more first finds. bound_finds _ more (sign_first 3 rest more first ∙ other) finds;
 }
 
@@ -116,7 +117,7 @@ index_one room before after part comma f other =
       before_is = row.before_is;
       tree_is = λ at e. ap (part_expr at e) row.tree_is;
       height_is = row.height_is;
-      deepest_is = λ at. row.deepest_is;
+      deepest_is = λ at. row.deepest_is ∙ sym (deeper_later 0 (exprs_depth row.written) at (exprs_deepest row.written) (let above = exprs_above row.written in omega (arith, above)));
       form_is = refl;
       fits = row.fits;
       is_read = one_index_read row.written after (λ one. other (sym f.comma_is ∙ one)) (exprs_is_read row.written after row.beyond row.no_more);
@@ -128,13 +129,13 @@ record FoundOne (room : ℕ) (before : List Token) (part : Part) (after : List T
   before_is : before ≡ expr_tokens written ++ after
   tree_is : expr_of part.expr ≡ expr_tree written
   height_is : part.height ≡ expr_depth written
-  deepest_is : expr_lies written part.deepest ≡ expr_depth written
+  deepest_is : part.deepest ≡ expr_deepest written
   fits : part.height ≤ room
 
 found_one : (room : ℕ) (before after : List Token) (part : Part) → FoundList room before part false after → FoundOne room before part after
 found_one room before after part f = by f.row.written f.row.before_is f.row.tree_is f.row.height_is f.row.deepest_is f.comma_is
   where
-    by : (e : Exprs) → before ≡ exprs_tokens e ++ after → expr_of part.expr ≡ exprs_tree e → part.height ≡ exprs_depth e → exprs_lies e part.deepest ≡ exprs_depth e → has_comma e ≡ false → FoundOne room before part after
+    by : (e : Exprs) → before ≡ exprs_tokens e ++ after → expr_of part.expr ≡ exprs_tree e → part.height ≡ exprs_depth e → part.deepest ≡ exprs_deepest e → has_comma e ≡ false → FoundOne room before part after
     by (one_expr e) before_is tree_is height_is deepest_is comma_is = record { written = e; before_is = before_is; tree_is = tree_is; height_is = height_is; deepest_is = deepest_is; fits = f.row.fits }
     by (several e comma r) before_is tree_is height_is deepest_is comma_is = cc
 
@@ -161,13 +162,24 @@ from_start_read colon high rest next = record {
       ∙ ap (λ r. go_on r (λ high rest. Some (range_index no_bound colon high, rest))) (next.reads n more first);
 }
 
+-- of two bounds, where what is not there is at the bracket
+range_deepest : (m n x y : ℕ) (a b c d place : Pos) → m ≡ x → a ≡ deeper_of 0 place x c → n ≡ y → b ≡ deeper_of 0 place y d → deeper_of m a n b ≡ deeper_of 0 place (max x y) (deeper_of x c y d)
+range_deepest m n x y a b c d place m_is a_is n_is b_is =
+    deeper_same m n x y a b (deeper_of 0 place x c) (deeper_of 0 place y d) m_is a_is n_is b_is
+    ∙ deeper_bracket x y (deeper_of 0 place x c) d place
+    ∙ ap (λ k. deeper_of k (deeper_of 0 place x c) y d) (none_below x)
+    ∙ sym (deeper_group 0 x y place c d)
+  where
+    none_below : (k : ℕ) → k ≡ max 0 k
+    none_below k = omega arith
+
 pub index_from_start : (room : ℕ) (before behind after : List Token) (at : Pos) (high : Option Part) → Taken (Sign 7) before at behind → FoundBound room behind high after → FoundIndex room before (Slice None high) after
 index_from_start room before behind after at high k f = record {
   written = range_index no_bound k.spot f.written;
   before_is = k.before_is ∙ ap (λ ts. token (Sign 7) k.spot ∷ ts) f.before_is;
   tree_is = λ place e. ap (range_expr place e no_expr) f.tree_is;
   height_is = ap (max 0) f.height_is;
-  deepest_is = λ place. deepest_here (λ p. 0) (bound_lies f.written) 0 (limit_height high) 0 (bound_depth f.written) place (limit_deepest place high) _ refl refl f.height_is refl (f.deepest_is place) (λ p. omega arith) (bound_low f.written);
+  deepest_is = λ place. range_deepest 0 (limit_height high) 0 (bound_depth f.written) place (limit_deepest place high) nowhere (bound_deepest f.written) place refl (sym (deeper_first 0 0 place nowhere (omega arith))) f.height_is (f.deepest_is place);
   form_is = refl;
   fits = let small = f.fits in max_below 0 (limit_height high) room (omega arith) small;
   is_read = from_start_read k.spot f.written after f.is_read;
@@ -182,7 +194,8 @@ index_range room before middle behind after at low high l k f =
       before_is = one.before_is ∙ ap (λ ts. expr_tokens one.written ++ ts) (k.before_is ∙ ap (λ ts. token (Sign 7) k.spot ∷ ts) f.before_is) ∙ sym (append_assoc (expr_tokens one.written) (token (Sign 7) k.spot ∷ bound_tokens f.written) after);
       tree_is = λ place e. ap (λ t. range_expr place e (some_expr t) (limit_tree high)) one.tree_is ∙ ap (range_expr place e (some_expr (expr_tree one.written))) f.tree_is;
       height_is = ap (λ h. max h (limit_height high)) one.height_is ∙ ap (max (expr_depth one.written)) f.height_is;
-      deepest_is = λ place. deepest_here (expr_lies one.written) (bound_lies f.written) low.height (limit_height high) (expr_depth one.written) (bound_depth f.written) low.deepest (limit_deepest place high) _ refl one.height_is f.height_is one.deepest_is (f.deepest_is place) (expr_low one.written) (bound_low f.written);
+      deepest_is = λ place. range_deepest low.height (limit_height high) (expr_depth one.written) (bound_depth f.written) low.deepest (limit_deepest place high) (expr_deepest one.written) (bound_deepest f.written) place one.height_is
+          (one.deepest_is ∙ sym (deeper_later 0 (expr_depth one.written) place (expr_deepest one.written) (let above = expr_above one.written in omega (arith, above)))) f.height_is (f.deepest_is place);
       form_is = refl;
       fits = max_below low.height (limit_height high) room one.fits f.fits;
       is_read = range_read one.written k.spot f.written after f.is_read;
@@ -197,6 +210,7 @@ index_start_inside room colon rest = record {
     more = [];
     tokens_are = ap (λ ts. token (Sign 7) colon ∷ ts) (sym (append-nil (bound_tokens b)));
     within = λ other apart low. max_below 0 (bound_lies b other) room (omega arith) low;
+    deep = λ stop deep. deep_beside_right stop room (λ at. 0) (bound_lies b) deep;
   };
   finds = λ stop more first finds. finds_first (λ b. IsDeep stop room (bound_lies b)) _ read_index read_bound (λ n high ts. Some (range_index no_bound colon high, ts)) (token (Sign 7) colon ∷ more) more (λ n. refl)
       (λ n b ts deep. deep_beside_right stop room (λ at. 0) (bound_lies b) deep) finds;
@@ -215,7 +229,7 @@ index_deep stop room (suc n) (one_expr e) (t ∷ ts) deep = only_if _ (is_sign 7
 
 index_row_inside : (room : ℕ) (rest : List Token) → is_sign_next 7 rest ≡ false → Inside index_part room exprs_part room [] rest
 index_row_inside room rest other = record {
-  begins = λ at b. record { some = one_index b; more = []; tokens_are = sym (append-nil (exprs_tokens b)); within = λ other apart low. low };
+  begins = λ at b. record { some = one_index b; more = []; tokens_are = sym (append-nil (exprs_tokens b)); within = λ other apart low. low; deep = λ stop deep. deep };
   finds = λ stop more first finds. record {
     steps = suc finds.steps;
     only = λ n. only_is _ _ _ (more_steps (λ m. read_index m more) (n + suc finds.steps) (suc (n + finds.steps)) (omega arith)) (by stop more (n + finds.steps) (sign_first 7 rest more first ∙ other) (finds.only n));
@@ -239,6 +253,7 @@ index_end_inside room e colon rest fits = record {
     more = [];
     tokens_are = one_behind (expr_tokens e) (token (Sign 7) colon) (bound_tokens b);
     within = λ other apart low. let first_low = expr_low e other in max_below (expr_lies e other) (bound_lies b other) room (omega (arith, first_low, fits)) low;
+    deep = λ stop deep. deep_beside_right stop room (expr_lies e) (bound_lies b) deep;
   };
   finds = λ stop more first finds. finds_same _ read_index _ _ (append_assoc (expr_tokens e) (token (Sign 7) colon ∷ []) more)
       (finds_behind _ read_index read_exprs (λ n e ts. index_rest n e ts) 8 (expr_tokens e) (one_expr e) (token (Sign 7) colon ∷ more) (λ n. index_is n (expr_tokens e ++ token (Sign 7) colon ∷ more) (expr_starts e (token (Sign 7) colon ∷ more))) (one_reads e) (omega arith)

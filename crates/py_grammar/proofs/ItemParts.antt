@@ -16,15 +16,16 @@ use Rattle.py_grammar.specs.Concrete.{Spot, Expr, Exprs, one_expr, several, Rest
 use Rattle.py_grammar.specs.Tokens.{token, expr_tokens, exprs_tokens, rest_tokens}
 use Rattle.py_grammar.specs.Trees.{expr_tree, rest_tree}
 use Rattle.py_grammar.specs.Depth.{expr_depth, rest_depth}
-use Rattle.py_grammar.specs.Lies.{begins, deeper_of, expr_lies, exprs_lies, rest_lies}
-use Rattle.py_grammar.proofs.Lying.{above_left, deeper_second, expr_above, expr_low, over_is}
+use Rattle.py_grammar.specs.Lies.{begins, nowhere, deeper_of, expr_lies, exprs_lies, rest_lies, expr_deepest, rest_deepest}
+use Rattle.py_grammar.proofs.Lying.{above_left, expr_above, expr_low}
+use Rattle.py_grammar.proofs.Deepest.{deeper_first, deeper_later, deeper_same, expr_is_first}
 use Rattle.py_grammar.specs.Reader.{go_on, next_level, start_class, starts, is_sign, read_sign, read_expr, read_exprs, exprs_rest, read_rest, read_items}
 use Rattle.py_grammar.specs.StatementReader.{rest_target}
 use Rattle.py_grammar.specs.Parsed.{expr_part, exprs_part, Taken, Found, IsDeep, Only, Finds, Refused, IsTooDeep, is_sign_next}
-use Rattle.py_grammar.specs.ParsedRows.{IsDeepestWith, IsRead, items_part, rest_part, rest_trees, FoundList, FoundRest, FoundItems}
+use Rattle.py_grammar.specs.ParsedRows.{IsRead, items_part, rest_part, rest_trees, FoundList, FoundRest, FoundItems}
 use Rattle.py_grammar.proofs.Firsts.{IsStart, expr_starts, exprs_starts, items_is}
 use Rattle.py_grammar.proofs.Reading.{if_false, if_true, expr_reads}
-use Rattle.py_grammar.proofs.Refusals.{Inside, begins_whole, max_below, node_within, only_any, only_go_on, only_if, only_is, finds_first, finds_behind, finds_at_once, finds_same, deep_left, deep_right, deep_beside_left, deep_beside_right, refused_inside, refused_same, one_behind, begins_up_to, full}
+use Rattle.py_grammar.proofs.Refusals.{Inside, begins_whole, max_below, node_within, only_any, only_go_on, only_if, only_is, finds_first, finds_behind, finds_at_once, finds_same, deep_left, deep_right, deep_beside_left, deep_beside_right, refused_inside, refused_same, one_behind, first_full, full}
 use Rattle.py_grammar.proofs.ClosedParts.{first_is}
 use Rattle.py_grammar.proofs.RowParts.{beyond_comma, sign_first, some_several, some_one, more_steps}
 use Rattle.py_grammar.proofs.SharpReads.{exprs_is_read}
@@ -64,7 +65,7 @@ pub first_pushed : (empty row : Row) (first : Part) → empty.list.items ≡ [] 
 first_pushed empty row first none_there low free list_is height_is deepest_is form_is = record {
   list_is = list_is ∙ ap (λ xs. xs ++ first.expr ∷ []) none_there;
   height_is = height_is ∙ ap (λ h. max h first.height) low ∙ none_below first.height;
-  deepest_is = λ some. deepest_is ∙ deeper_second empty.height first.height empty.deepest first.deepest low some;
+  deepest_is = λ some. deepest_is ∙ deeper_later empty.height first.height empty.deepest first.deepest (omega (arith, low, some));
   form_is = form_is ∙ ap (λ b. if b then is_none first.wrong else false) free;
 }
   where
@@ -77,12 +78,11 @@ first_trees row first e list r one is all =
     ap exprs_list (all ∙ ap (λ xs. map expr_of xs ++ rest_trees r) one.list_is) ∙ ap (λ x. more_exprs x (exprs_list (rest_trees r))) is ∙ ap (more_exprs e) (rest_list r)
 
 -- the first one with what stands behind its comma
-first_deepest : (first : Part) (row : Row) (deepest : Pos) (e : Expr) (r : Rest) → FirstOf first row → first.height ≡ expr_depth e → expr_lies e first.deepest ≡ expr_depth e → IsDeepestWith row.height row.deepest (rest_lies r) (rest_depth r) deepest
-    → max (expr_lies e deepest) (rest_lies r deepest) ≡ max (expr_depth e) (rest_depth r)
+first_deepest : (first : Part) (row : Row) (deepest : Pos) (e : Expr) (r : Rest) → FirstOf first row → first.height ≡ expr_depth e → first.deepest ≡ expr_deepest e → deepest ≡ deeper_of row.height row.deepest (rest_depth r) (rest_deepest r)
+    → deepest ≡ deeper_of (expr_depth e) (expr_deepest e) (rest_depth r) (rest_deepest r)
 first_deepest first row deepest e r one height there behind =
-    let same : row.height ≡ expr_depth e = one.height_is ∙ height in
     let some : 1 ≤ first.height = let above = expr_above e in omega (arith, above, height) in
-    behind (expr_lies e) (ap (expr_lies e) (one.deepest_is some) ∙ there ∙ sym same) (λ at. let low = expr_low e at in omega (arith, low, same)) ∙ ap (λ h. max h (rest_depth r)) same
+    behind ∙ deeper_same row.height (rest_depth r) (expr_depth e) (rest_depth r) row.deepest (rest_deepest r) (expr_deepest e) (rest_deepest r) (one.height_is ∙ height) (one.deepest_is some ∙ there) refl refl
 
 some_first : (e : Expr) (n : ℕ) → 1 ≤ max (expr_depth e) n
 some_first e n = let above = expr_above e in let high = le-max_left (expr_depth e) n in omega (arith, above, high)
@@ -96,8 +96,7 @@ row_several room inner before middle behind after at first part row more f k les
     before_is = f.before_is ∙ ap (λ ts. expr_tokens f.written ++ ts) (k.before_is ∙ ap (λ ts. token (Sign 6) k.spot ∷ ts) r.before_is) ∙ sym (append_assoc (expr_tokens f.written) (token (Sign 6) k.spot ∷ rest_tokens r.written) after);
     tree_is = tree ∙ ap (tuple_expr at) (first_trees row first (expr_tree f.written) more.list.items r.written one f.tree_is r.trees_are) ∙ ap (λ place. tuple_expr place (more_exprs (expr_tree f.written) (rest_tree r.written))) (sym k.at_is);
     height_is = height ∙ ap suc (r.height_is ∙ ap (λ h. max h (rest_depth r.written)) (one.height_is ∙ f.height_is)) ∙ one_more (max (expr_depth f.written) (rest_depth r.written));
-    deepest_is = over_is (begins (expr_tokens f.written) part.deepest) (max (expr_lies f.written part.deepest) (rest_lies r.written part.deepest)) (max (expr_depth f.written) (rest_depth r.written))
-        (ap (λ p. max (expr_lies f.written p) (rest_lies r.written p)) deepest ∙ first_deepest first row more.deepest f.written r.written one f.height_is f.deepest_is r.deepest_is) (some_first f.written (rest_depth r.written));
+    deepest_is = deepest ∙ first_deepest first row more.deepest f.written r.written one f.height_is f.deepest_is r.deepest_is;
     form_is = form ∙ r.form_is ∙ ap (λ b. if b then is_some (rest_target r.written) else false) (one.form_is ∙ f.form_is) ∙ sym (some_several f.written k.spot r.written);
     fits = let small = r.fits in omega (arith, height, small, smaller);
     beyond = r.beyond;
@@ -129,7 +128,7 @@ several_deep stop room e comma r deep = deep_left stop room (begins (expr_tokens
 
 row_starts : (room : ℕ) (rest : List Token) → Inside exprs_part room expr_part room [] rest
 row_starts room rest = record {
-  begins = λ at b. record { some = one_expr b; more = []; tokens_are = sym (append-nil (expr_tokens b)); within = λ other apart low. low };
+  begins = λ at b. record { some = one_expr b; more = []; tokens_are = sym (append-nil (expr_tokens b)); within = λ other apart low. low; deep = λ stop deep. deep };
   finds = λ stop more first finds. exprs_finds_first _ (λ e. IsDeep stop room (expr_lies e)) more (λ e deep. deep) (λ e comma r deep. several_deep stop room e comma r deep) finds;
 }
 
@@ -143,6 +142,7 @@ row_goes_on room inner e comma rest less smaller fits = record {
     more = [];
     tokens_are = one_behind (expr_tokens e) (token (Sign 6) comma) (rest_tokens b);
     within = λ other apart low. let first_low = expr_low e other in node_within (begins (expr_tokens e) other) (expr_lies e other) (rest_lies b other) inner room smaller (omega (arith, first_low, fits)) low;
+    deep = λ stop deep. deep_right stop inner room (begins (expr_tokens e)) (expr_lies e) (rest_lies b) less deep;
   };
   finds = λ stop more first finds. exprs_finds_rest _ (λ r. IsDeep stop inner (rest_lies r)) e comma more
       (λ r deep. deep_right stop inner room (begins (expr_tokens e)) (expr_lies e) (rest_lies r) less deep) finds;
@@ -158,10 +158,12 @@ pub row_full : (room : ℕ) (before middle behind : List Token) (at : Pos) (firs
     → IsTooDeep first.height first.deepest room stop → Refused exprs_part room before stop
 row_full room before middle behind at first stop f k deep = full exprs_part room before (expr_tokens f.written) (token (Sign 6) k.spot) behind first.height first.deepest stop deep
     (f.before_is ∙ ap (λ ts. expr_tokens f.written ++ ts) k.before_is) (begins_whole exprs_part room (one_expr f.written) (λ at. let low = expr_low f.written at in let is = f.height_is in let fits = f.fits in omega (arith, low, is, fits)))
-    (begins_up_to exprs_part (several f.written k.spot end_rest) (expr_tokens f.written) (token (Sign 6) k.spot) [] refl)
+    (first_full exprs_part room (expr_tokens f.written) (token (Sign 6) k.spot) (several f.written k.spot end_rest) [] (begins (expr_tokens f.written)) (expr_lies f.written) (λ at. 0) first.height (expr_depth f.written) first.deepest (expr_deepest f.written)
+    refl (λ at. refl) (expr_is_first f.written) f.deepest_is f.height_is (expr_above f.written) f.fits (λ other apart. refl))
     (λ more. finds_behind _ read_exprs read_expr (λ n e ts. exprs_rest n e ts) 7 (expr_tokens f.written) f.written (token (Sign 6) k.spot ∷ more) (λ n. refl) (expr_reads f.written) (omega arith)
     (finds_at_once _ (λ n ts. exprs_rest n f.written ts) (token (Sign 6) k.spot ∷ more)
-    (λ n. only_any _ (read_rest n more) _ (λ r rest. above_left (begins (expr_tokens f.written) first.deepest) (expr_lies f.written first.deepest) (rest_lies r first.deepest) first.height (expr_depth f.written) f.height_is f.deepest_is (expr_above f.written)))))
+    (λ n. only_any _ (read_rest n more) _ (λ r rest. above_left (begins (expr_tokens f.written) first.deepest) (expr_lies f.written first.deepest) (rest_lies r first.deepest) first.height (expr_depth f.written) f.height_is
+    (ap (expr_lies f.written) f.deepest_is ∙ (expr_is_first f.written).lies_is) (expr_above f.written)))))
 
 -- ---- items are read
 
@@ -171,8 +173,7 @@ items_none closing room opening before row none_there low deepest closes = recor
   before_is = refl;
   trees_are = ap (λ xs. exprs_list (map expr_of xs)) none_there;
   height_is = low;
-  deepest_is = refl;
-  empty_is = λ none. deepest;
+  deepest_is = deepest ∙ sym (deeper_first 0 0 opening nowhere (omega arith));
   fits = omega (arith, low);
   is_read = record {
     steps = 1;
@@ -200,8 +201,8 @@ items_one closing room opening before after first row closes f one other = recor
   before_is = f.before_is;
   trees_are = ap (λ xs. exprs_list (map expr_of xs)) one.list_is ∙ ap (λ e. more_exprs e end_exprs) f.tree_is;
   height_is = one.height_is ∙ f.height_is;
-  deepest_is = ap (expr_lies f.written) (one.deepest_is (let above = expr_above f.written in let is = f.height_is in omega (arith, above, is))) ∙ f.deepest_is;
-  empty_is = λ none. let above = expr_above f.written in absurd (omega (arith, none, above));
+  deepest_is = one.deepest_is (let above = expr_above f.written in let is = f.height_is in omega (arith, above, is)) ∙ f.deepest_is
+      ∙ sym (deeper_later 0 (expr_depth f.written) opening (expr_deepest f.written) (let above = expr_above f.written in omega (arith, above)));
   fits = let is = one.height_is in let small = f.fits in omega (arith, is, small);
   is_read = items_is_read closing (one_expr f.written) after closes (exprs_is_read (one_expr f.written) after (λ closed_there. beyond_comma after f.beyond other) (λ open_there. cc));
 }
@@ -213,8 +214,8 @@ items_several closing room opening before middle behind after at first row more 
   before_is = f.before_is ∙ ap (λ ts. expr_tokens f.written ++ ts) (k.before_is ∙ ap (λ ts. token (Sign 6) k.spot ∷ ts) r.before_is) ∙ sym (append_assoc (expr_tokens f.written) (token (Sign 6) k.spot ∷ rest_tokens r.written) after);
   trees_are = first_trees row first (expr_tree f.written) more.list.items r.written one f.tree_is r.trees_are;
   height_is = r.height_is ∙ ap (λ h. max h (rest_depth r.written)) (one.height_is ∙ f.height_is);
-  deepest_is = first_deepest first row more.deepest f.written r.written one f.height_is f.deepest_is r.deepest_is;
-  empty_is = λ none. let above = some_first f.written (rest_depth r.written) in absurd (omega (arith, none, above));
+  deepest_is = first_deepest first row more.deepest f.written r.written one f.height_is f.deepest_is r.deepest_is
+      ∙ sym (deeper_later 0 (max (expr_depth f.written) (rest_depth r.written)) opening (deeper_of (expr_depth f.written) (expr_deepest f.written) (rest_depth r.written) (rest_deepest r.written)) (let some = some_first f.written (rest_depth r.written) in omega (arith, some)));
   fits = r.fits;
   is_read = items_is_read closing (several f.written k.spot r.written) after closes (exprs_is_read (several f.written k.spot r.written) after r.beyond r.no_more);
 }
@@ -233,7 +234,7 @@ items_finds closing P ts other finds = record {
 
 items_inside : (closing room : ℕ) (rest : List Token) → is_sign_next closing rest ≡ false → Inside (items_part closing) room expr_part room [] rest
 items_inside closing room rest other = record {
-  begins = λ at b. record { some = items (one_expr b); more = []; tokens_are = sym (append-nil (expr_tokens b)); within = λ other apart low. low };
+  begins = λ at b. record { some = items (one_expr b); more = []; tokens_are = sym (append-nil (expr_tokens b)); within = λ other apart low. low; deep = λ stop deep. deep };
   finds = λ stop more first finds. items_finds closing _ more (sign_first closing rest more first ∙ other)
       (exprs_finds_first _ (λ e. IsDeep stop room (expr_lies e)) more (λ e deep. deep) (λ e comma r deep. deep_beside_left stop room (expr_lies e) (rest_lies r) deep) finds);
 }
@@ -251,6 +252,7 @@ items_go_on closing room e comma rest closes fits = record {
     more = [];
     tokens_are = one_behind (expr_tokens e) (token (Sign 6) comma) (rest_tokens b);
     within = λ other apart low. let first_low = expr_low e other in max_below (expr_lies e other) (rest_lies b other) room (omega (arith, first_low, fits)) low;
+    deep = λ stop deep. deep_beside_right stop room (expr_lies e) (rest_lies b) deep;
   };
   finds = λ stop more first finds.
       items_start closing _ ((expr_tokens e ++ token (Sign 6) comma ∷ []) ++ more) closes (start more)

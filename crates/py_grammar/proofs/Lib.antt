@@ -10,6 +10,7 @@ pub mod ColonParts
 pub mod Compared
 pub mod Comparisons
 pub mod Connectives
+pub mod Deepest
 pub mod ExprForms
 pub mod ExprRefusals
 pub mod Firsts

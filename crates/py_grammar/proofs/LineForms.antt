@@ -24,7 +24,7 @@ use Rattle.py_grammar.specs.WellPlaced.{Around, simple_stands}
 use Rattle.py_grammar.specs.LineReader.{Head, simple_head, else_head, try_head, except_head, global_head, head_tokens}
 use Rattle.py_grammar.specs.Lies.{simple_lies}
 use Rattle.py_grammar.specs.Parsed.{IsAtFirst, Taken, Refused, one_sign}
-use Rattle.py_grammar.specs.ParsedHead.{Context, lacks_handler, takes_handler, StartsPlaced, BeginsPlaced, kind_may, may_begin, is_compound_kind, begins_compound, PlacedFound, HeadFound, OpeningFound, OpeningRefused, BehindFound, BehindRefused, inner_around, is_compound, IsAmissPlaced, IsAmissHead, StartsHead, BeginsHead, GoesOnPlaced, IsAheadPlaced, GoesOnLine, IsAheadOnLine, ShownBy, EndedBy, PlacedRefused, HeadRefused, IsFirstRefused, GlobalFound, GlobalRefused, word_may, Misplaced}
+use Rattle.py_grammar.specs.ParsedHead.{Context, lacks_handler, takes_handler, BeginsPlaced, DeepPlaced, kind_may, may_begin, is_compound_kind, begins_compound, PlacedFound, HeadFound, OpeningFound, OpeningRefused, BehindFound, BehindRefused, inner_around, is_compound, IsAmissPlaced, IsAmissHead, BeginsHead, DeepHead, GoesOnPlaced, IsAheadPlaced, GoesOnLine, IsAheadOnLine, ShownBy, EndedBy, PlacedRefused, HeadRefused, IsFirstRefused, GlobalFound, GlobalRefused, word_may, Misplaced}
 use Rattle.py_grammar.proofs.Stops.{some_spot, spot_at}
 use Rattle.py_grammar.proofs.HeadParts.{spelled_head, past_opening}
 use Rattle.py_grammar.proofs.Unread.{unread_at_first, unread_simple}
@@ -110,13 +110,25 @@ begins_simple_line c given tokens free (inl b) = inl (λ at. let k = b at in rec
 begins_simple_line c given tokens free (inr b) =
     inr (inl (record { opened = []; starts = inl (refl, λ spot. both_true _ _ free (del_stands c.around b.0 spot)); inside = tokens; begins = b.1; front_is = refl }))
 
-starts_simple_line : (c : Context) (given : List (List ℕ)) (tokens : List Token) → not (lacks_handler c.last) ≡ true → StartsPlaced c.around tokens → StartsHead c given tokens
-starts_simple_line c given tokens free (inl b) = inl (record { some = simple_head b.some; is_so = both_true _ _ free b.is_so; more = b.more; tokens_are = b.tokens_are })
-starts_simple_line c given tokens free (inr b) =
+deep_simple_line : (c : Context) (given : List (List ℕ)) (tokens : List Token) (place : Pos) → not (lacks_handler c.last) ≡ true → DeepPlaced c.around tokens place → DeepHead c given tokens place
+deep_simple_line c given tokens place free (inl b) = inl (record {
+  some = simple_head b.some;
+  is_so = both_true _ _ free b.is_so;
+  more = b.more;
+  tokens_are = b.tokens_are;
+  ahead = b.ahead;
+  named = b.named;
+  between = b.between;
+  front_is = b.front_is;
+  named_is = b.named_is;
+  deep = b.deep;
+  within = b.within;
+})
+deep_simple_line c given tokens place free (inr b) =
     inr (inl (record { opened = []; starts = inl (refl, λ spot. both_true _ _ free (del_stands c.around b.0 spot)); inside = tokens; begins = b.1; front_is = refl }))
 
 goes_simple : (c : Context) (given : List (List ℕ)) (limit : Option Limit) (tokens : List Token) (t : Token) (fault : Fault) → not (lacks_handler c.last) ≡ true → GoesOnPlaced c.around None tokens t fault → GoesOnLine c given limit tokens t fault
-goes_simple c given limit tokens t (TooDeep at) free (inl b) = inl (starts_simple_line c given (tokens ++ t ∷ []) free b)
+goes_simple c given limit tokens t (TooDeep at) free (inl b) = inl (deep_simple_line c given (tokens ++ t ∷ []) at free b)
 goes_simple c given limit tokens t (TooDeep at) free (inr passed) = absurd (let no : None ≡ Some Depth = passed.0 in cc)
 goes_simple c given limit tokens t (TooMany at) free passed = absurd (let no : None ≡ Some ByNumber = passed.0 in cc)
 goes_simple c given limit tokens t (Unexpected left) free goes = tt

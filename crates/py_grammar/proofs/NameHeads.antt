@@ -27,6 +27,7 @@ use Rattle.py_grammar.specs.ParsedNames.{RefusedAmiss, BracketNames, bracket_tok
 use Rattle.py_grammar.proofs.Stops.{some_spot, spot_at}
 use Rattle.py_grammar.proofs.LyingLines.{base_low}
 use Rattle.py_grammar.proofs.RowParts.{more_steps}
+use Rattle.py_grammar.proofs.SimpleParts.{none_deeper}
 use Rattle.py_grammar.proofs.ClosedParts.{not_deep}
 use Rattle.py_grammar.proofs.HeadParts.{OnlyHead, HeadTurns, shown_head, spelled_head, begins_part_head, refused_part_head, past_opening}
 use Rattle.py_grammar.proofs.Unread.{unread_clear, unread_word, passes_word}
@@ -73,7 +74,7 @@ class_name_refused c before stop is = record {
   there = λ given limit spot may.
       refused_part_head c given limit (fixed_name []) 0 (token (Keyword 9) spot ∷ []) before (token (Keyword 9) spot ∷ before) stop (class_named spot) refl
       (begins_part_head c given (fixed_name []) 0 (token (Keyword 9) spot ∷ []) (λ at found. class_head spot found.0 [] no_base (spot_at at) None) (λ at found. colon_tokens (spot_at at) None) (λ at found. both_true _ true may refl) (λ at found. refl)
-      (λ at found. refl) (λ at found. refl) (λ at other apart found low. omega arith))
+      (λ at found. refl) (λ at found. refl) (λ at other apart found low. omega arith) (λ at place found deep. absurd (none_deeper 0 deep)))
       (passes_word 9 spot [] before refl) (class_turns spot before) (λ why n found left deep. absurd (not_deep why deep)) (fixed_refused [] before stop is);
 }
 
@@ -83,7 +84,7 @@ class_base_refused c place name before after stop f is = record {
       refused_part_head c given limit base_part 100 (token (Keyword 9) spot ∷ word name f.spot) after (token (Keyword 9) spot ∷ before) stop (λ n of rest. read_colon n (class_head spot f.spot name of) rest)
       (ap (λ ts. token (Keyword 9) spot ∷ ts) f.before_is)
       (begins_part_head c given base_part 100 (token (Keyword 9) spot ∷ word name f.spot) (λ at of. class_head spot f.spot name of (spot_at at) None) (λ at of. colon_tokens (spot_at at) None) (λ at of. both_true _ true may refl) (λ at of. refl)
-      (λ at of. refl) (λ at of. refl) (λ at other apart of any. let low = base_low of other in omega (arith, low)))
+      (λ at of. refl) (λ at of. refl) (λ at other apart of any. let low = base_low of other in omega (arith, low)) (λ at place of deep. absurd (none_deeper 100 deep)))
       (passes_word 9 spot (word name f.spot) after refl) (base_turns spot f.spot name after) (λ why n of left deep. absurd (not_deep_there why deep)) is;
 }
 
@@ -175,7 +176,7 @@ def_name_refused c before stop is = record {
       refused_part_head c given limit (fixed_name []) 0 (token (Keyword 11) spot ∷ []) before (token (Keyword 11) spot ∷ before) stop (def_named spot) refl
       (begins_part_head c given (fixed_name []) 0 (token (Keyword 11) spot ∷ []) (λ at found. def_head spot found.0 [] (spot_at at) no_params (spot_at at) (spot_at at) None)
       (λ at found. token (Sign 0) (spot_at at) ∷ token (Sign 1) (spot_at at) ∷ colon_tokens (spot_at at) None)
-      (λ at found. unnamed_stands c given spot found.0 (spot_at at) may) (λ at found. refl) (λ at found. refl) (λ at found. refl) (λ at other apart found low. omega arith))
+      (λ at found. unnamed_stands c given spot found.0 (spot_at at) may) (λ at found. refl) (λ at found. refl) (λ at found. refl) (λ at other apart found low. omega arith) (λ at place found deep. absurd (none_deeper 0 deep)))
       (passes_word 11 spot [] before refl) (def_turns spot before) (λ why n found left deep. absurd (not_deep why deep)) (fixed_refused [] before stop is);
 }
 

@@ -317,7 +317,7 @@ others_given given before after middle list place name left g f there counted = 
   before_is = g.go.before_is ∙ ap (λ ts. g.go.front ++ ts) f.before_is;
   left_is = counted;
   begins = begins_front given before after list g f.spot;
-  goes_on = tt;
+  not_deep = tt;
   none = λ more. record {
     steps = 1 + g.go.steps;
     only = λ n. only_whole (IsGiven given (Here (Unexpected left))) (read_names (n + (1 + g.go.steps)) (g.go.front ++ token (Word name) f.spot ∷ more))
@@ -530,7 +530,7 @@ different_repeated before after middle list place name left g f there counted = 
     more = word (fresh list) f.spot;
     tokens_are = g.go.tokens_are (last_name f.spot (fresh list));
   };
-  goes_on = tt;
+  not_deep = tt;
   none = λ more. record {
     steps = 1 + g.go.steps;
     only = λ n. only_is (IsRepeated (Here (Unexpected left))) _ _

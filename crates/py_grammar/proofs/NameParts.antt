@@ -25,7 +25,7 @@ use Rattle.py_grammar.proofs.Reading.{if_true, if_false}
 
 as_inside : (spot : Spot) (rest : List Token) → Inside naming_part 100 one_name 0 (token (Keyword 4) spot ∷ []) rest
 as_inside spot rest = record {
-  begins = λ at b. record { some = naming spot b.0 b.1; more = []; tokens_are = refl; within = λ other apart any. omega arith };
+  begins = λ at b. record { some = naming spot b.0 b.1; more = []; tokens_are = refl; within = λ other apart any. omega arith; deep = λ stop deep. absurd (not_deep stop deep) };
   finds = λ stop more first finds. record {
     steps = finds.steps;
     only = λ n. only_go_on _ _ (read_name more) _ (finds.only n) (λ found rest deep. absurd (not_deep stop deep));
@@ -67,7 +67,7 @@ base_is n opening ts = refl
 
 no_name_inside : (opening : Spot) (rest : List Token) → begins_name rest ≡ false → Inside base_part 100 (one_sign 1) 0 (token (Sign 0) opening ∷ []) rest
 no_name_inside opening rest other = record {
-  begins = λ at b. record { some = empty_base opening b; more = []; tokens_are = refl; within = λ other apart any. omega arith };
+  begins = λ at b. record { some = empty_base opening b; more = []; tokens_are = refl; within = λ other apart any. omega arith; deep = λ stop deep. absurd (not_deep stop deep) };
   finds = λ stop more first finds. record {
     steps = finds.steps;
     only = λ n. only_is _ _ (no_base_named opening more) (if_false (begins_name more) (named_base opening more) (no_base_named opening more) (begins_same more rest first ∙ other))
@@ -80,7 +80,7 @@ base_empty_refused at before behind stop k other is = refused_same base_part 100
 
 name_inside : (opening : Spot) (rest : List Token) → begins_name rest ≡ true → Inside base_part 100 one_name 0 (token (Sign 0) opening ∷ []) rest
 name_inside opening rest starts = record {
-  begins = λ at b. record { some = base opening b.0 b.1 (spot_at at); more = token (Sign 1) (spot_at at) ∷ []; tokens_are = refl; within = λ other apart any. omega arith };
+  begins = λ at b. record { some = base opening b.0 b.1 (spot_at at); more = token (Sign 1) (spot_at at) ∷ []; tokens_are = refl; within = λ other apart any. omega arith; deep = λ stop deep. absurd (not_deep stop deep) };
   finds = λ stop more first finds. record {
     steps = finds.steps;
     only = λ n. only_is _ _ (named_base opening more) (if_true (begins_name more) (named_base opening more) (no_base_named opening more) (begins_same more rest first ∙ starts))
@@ -93,7 +93,7 @@ base_name_refused at before behind stop k starts is = refused_same base_part 100
 
 closing_inside : (opening name_at : Spot) (name : List ℕ) (rest : List Token) → Inside base_part 100 (one_sign 1) 0 (token (Sign 0) opening ∷ word name name_at) rest
 closing_inside opening name_at name rest = record {
-  begins = λ at b. record { some = base opening name_at name b; more = []; tokens_are = refl; within = λ other apart any. omega arith };
+  begins = λ at b. record { some = base opening name_at name b; more = []; tokens_are = refl; within = λ other apart any. omega arith; deep = λ stop deep. absurd (not_deep stop deep) };
   finds = λ stop more first finds. record {
     steps = finds.steps;
     only = λ n. only_go_on _ _ (read_sign 1 more) _ (finds.only n) (λ found rest deep. absurd (not_deep stop deep));

@@ -13,7 +13,7 @@ use Rattle.py_grammar.specs.Reader.{is_keyword}
 use Rattle.py_grammar.specs.WellPlaced.{Around}
 use Rattle.py_grammar.specs.ParsedSimple.{UnreadDel}
 use Rattle.py_grammar.specs.ParsedHead.{behind_in, BeginsPlaced}
-use Rattle.py_grammar.proofs.Lying.{nowhere}
+use Rattle.py_grammar.specs.Lies.{nowhere}
 
 abbrev pub has_del : List Token → Bool
 has_del [] = false

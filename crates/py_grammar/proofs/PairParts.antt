@@ -1,7 +1,7 @@
 -- Keys with their values: what is read of them, and how they are refused.
 use Rattle.std.proofs.Common.{◌≡◌, ℕ, zero, suc, ◌+◌, max, ◌≤◌, ◌<◌, true, false, List, [], ◌∷◌, ◌++◌, map, Some, None, refl, ap, sym, ◌∙◌, arith, append_assoc}
 use Rattle.std.specs.Prelude.{◌==◌}
-use Rattle.std.proofs.Math.Nat.{le-max_left, le-max_right}
+use Rattle.std.proofs.Math.Nat.{le-max_right}
 use Rattle.std.proofs.lemmas.List.{append-nil}
 use Rattle.prov_base.specs.declared.place.Pos.{Pos}
 use Rattle.py_lines.specs.declared.parts.Token.{Token}
@@ -16,8 +16,9 @@ use Rattle.py_grammar.specs.Concrete.{Spot, Expr, Pairs, no_pairs, last_pair, mo
 use Rattle.py_grammar.specs.Tokens.{token, expr_tokens, pairs_tokens}
 use Rattle.py_grammar.specs.Trees.{expr_tree, pairs_tree}
 use Rattle.py_grammar.specs.Depth.{expr_depth, pairs_depth}
-use Rattle.py_grammar.specs.Lies.{deeper_of, expr_lies, pairs_lies}
-use Rattle.py_grammar.proofs.Lying.{both_low, deepest_pair, expr_above, expr_low}
+use Rattle.py_grammar.specs.Lies.{nowhere, deeper_of, expr_lies, pairs_lies, expr_deepest, pairs_deepest}
+use Rattle.py_grammar.proofs.Lying.{both_low, expr_low}
+use Rattle.py_grammar.proofs.Deepest.{deeper_first, deeper_same, deeper_group}
 use Rattle.py_grammar.specs.Reader.{Read, go_on, next_level, is_sign, read_sign, read_expr, read_pairs, pairs_rest}
 use Rattle.py_grammar.specs.Parsed.{expr_part, Taken, Found, IsDeep, Only, Finds, Refused, one_sign, is_sign_next}
 use Rattle.py_grammar.specs.ParsedRows.{IsRead, first_token, pairs_part, FoundPairs}
@@ -61,8 +62,7 @@ pub record PairsGo (room : ℕ) (opening : Pos) (before after : List Token) (row
   pub lies : Pos → ℕ
   pub lies_is : (p : Pairs) (at : Pos) → pairs_lies (put p) at ≡ max (lies at) (pairs_lies p at)
   pub low : (at : Pos) → lies at ≤ depth
-  pub deepest_is : lies row.deepest ≡ depth
-  pub empty_is : depth ≡ 0 → row.deepest ≡ opening
+  pub deepest_is : (p : Pairs) → deeper_of 0 opening (pairs_depth (put p)) (pairs_deepest (put p)) ≡ deeper_of row.height row.deepest (pairs_depth p) (pairs_deepest p)
   pub fits : row.height ≤ room
   pub steps : ℕ
   pub behind : ℕ
@@ -87,8 +87,7 @@ pairs_init room opening before row none_there low deepest = record {
   lies = λ at. 0;
   lies_is = λ p at. none_below (pairs_lies p at);
   low = λ at. omega arith;
-  deepest_is = refl;
-  empty_is = λ none. deepest;
+  deepest_is = λ p. sym (deeper_same row.height (pairs_depth p) 0 (pairs_depth p) row.deepest (pairs_deepest p) opening (pairs_deepest p) low deepest refl refl);
   fits = omega (arith, low);
   steps = 0;
   behind = 0;
@@ -135,8 +134,26 @@ pair_leads put front steps behind leads key colon value comma is next n tail =
     ∙ more_steps (λ k. pairs_rest k key colon value (d ∷ tail)) (suc ((n + behind) + (0 + s))) (suc (n + (behind + s))) (omega arith))
     ∙ go_on_once (read_pairs (n + (behind + s)) tail) (more_pairs key colon value comma) (λ p rest. Some (put p, rest))
 
-some_pair : (n : ℕ) (key : Expr) (m : ℕ) → 1 ≤ max n (max (expr_depth key) m)
-some_pair n key m = let above = expr_above key in let high = le-max_left (expr_depth key) m in let higher = le-max_right n (max (expr_depth key) m) in omega (arith, above, high, higher)
+-- one more key with its value, in a row
+pair_deepest : (row : PairRow) (key value : Part) (k v : Expr) → key.height ≡ expr_depth k → key.deepest ≡ expr_deepest k → value.height ≡ expr_depth v → value.deepest ≡ expr_deepest v
+    → deeper_of row.height row.deepest (max (expr_depth k) (expr_depth v)) (deeper_of (expr_depth k) (expr_deepest k) (expr_depth v) (expr_deepest v)) ≡ deeper_of (max row.height key.height) (deeper_of row.height row.deepest key.height key.deepest) value.height value.deepest
+pair_deepest row key value k v key_height key_deepest value_height value_deepest =
+    deeper_group row.height (expr_depth k) (expr_depth v) row.deepest (expr_deepest k) (expr_deepest v)
+    ∙ sym (deeper_same (max row.height key.height) value.height (max row.height (expr_depth k)) (expr_depth v) (deeper_of row.height row.deepest key.height key.deepest) value.deepest (deeper_of row.height row.deepest (expr_depth k) (expr_deepest k)) (expr_deepest v)
+    (ap (max row.height) key_height) (deeper_same row.height key.height row.height (expr_depth k) row.deepest key.deepest row.deepest (expr_deepest k) refl refl key_height key_deepest) value_height value_deepest)
+
+-- and what stands behind it
+one_more : (row row_2 : PairRow) (key value : Part) (k v : Expr) (p : Pairs) → row_2.height ≡ max (max row.height key.height) value.height
+    → row_2.deepest ≡ deeper_of (max row.height key.height) (deeper_of row.height row.deepest key.height key.deepest) value.height value.deepest
+    → key.height ≡ expr_depth k → key.deepest ≡ expr_deepest k → value.height ≡ expr_depth v → value.deepest ≡ expr_deepest v
+    → deeper_of row.height row.deepest (max (max (expr_depth k) (expr_depth v)) (pairs_depth p)) (deeper_of (max (expr_depth k) (expr_depth v)) (deeper_of (expr_depth k) (expr_deepest k) (expr_depth v) (expr_deepest v)) (pairs_depth p) (pairs_deepest p))
+    ≡ deeper_of row_2.height row_2.deepest (pairs_depth p) (pairs_deepest p)
+one_more row row_2 key value k v p higher deepest key_height key_deepest value_height value_deepest =
+    let both : Pos = deeper_of (expr_depth k) (expr_deepest k) (expr_depth v) (expr_deepest v) in
+    deeper_group row.height (max (expr_depth k) (expr_depth v)) (pairs_depth p) row.deepest both (pairs_deepest p)
+    ∙ sym (deeper_same row_2.height (pairs_depth p) (max row.height (max (expr_depth k) (expr_depth v))) (pairs_depth p) row_2.deepest (pairs_deepest p) (deeper_of row.height row.deepest (max (expr_depth k) (expr_depth v)) both) (pairs_deepest p)
+    (higher_is row.height (expr_depth k) (expr_depth v) row.height key.height value.height row_2.height higher refl key_height value_height)
+    (deepest ∙ sym (pair_deepest row key value k v key_height key_deepest value_height value_deepest)) refl refl)
 
 pub pairs_next : (room : ℕ) (opening : Pos) (before after middle second third behind : List Token) (colon_at at : Pos) (row row_2 : PairRow) (key value : Part) → PairsGo room opening before after row → Found expr_part expr_tree 7 room after key middle
     → Taken (Sign 7) middle colon_at second → Found expr_part expr_tree 7 room second value third → Taken (Sign 6) third at behind → row_2.list.items ≡ row.list.items ++ (key.expr, value.expr) ∷ []
@@ -156,9 +173,7 @@ pairs_next room opening before after middle second third behind colon_at at row 
   lies = λ at. max (g.lies at) (max (expr_lies f.written at) (expr_lies v.written at));
   lies_is = λ p at. g.lies_is (more_pairs f.written c.spot v.written k.spot p) at ∙ sym (max_three (g.lies at) (expr_lies f.written at) (expr_lies v.written at) (pairs_lies p at));
   low = λ at. both_low _ _ _ _ (g.low at) (both_low _ _ _ _ (expr_low f.written at) (expr_low v.written at));
-  deepest_is = deepest_pair g.lies (expr_lies f.written) (expr_lies v.written) g.depth (expr_depth f.written) (expr_depth v.written) row.height key.height value.height row.deepest key.deepest value.deepest row_2.deepest deepest
-      g.height_is f.height_is v.height_is g.deepest_is f.deepest_is v.deepest_is g.low (expr_low f.written) (expr_low v.written);
-  empty_is = λ none. let above = some_pair g.depth f.written (expr_depth v.written) in absurd (omega (arith, none, above));
+  deepest_is = λ p. g.deepest_is (more_pairs f.written c.spot v.written k.spot p) ∙ one_more row row_2 key value f.written v.written p higher deepest f.height_is f.deepest_is v.height_is v.deepest_is;
   fits = three_below row_2.height row.height key.height value.height room higher g.fits f.fits v.fits;
   steps = suc (suc ((expr_reads f.written).steps + (expr_reads v.written).steps)) + g.steps;
   behind = g.behind + ((expr_reads f.written).steps + (expr_reads v.written).steps);
@@ -212,8 +227,7 @@ pairs_end room opening before after row g closes = record {
   before_is = g.before_is ∙ ap (λ ts. ts ++ after) (sym (g.tokens_are no_pairs ∙ append-nil g.front));
   trees_are = ap pairs_list (g.row_is ∙ sym (g.trees_are no_pairs ∙ append-nil g.trees)) ∙ pair_list (g.put no_pairs);
   height_is = g.height_is ∙ sym (g.depth_is no_pairs ∙ no_deeper g.depth);
-  deepest_is = g.lies_is no_pairs row.deepest ∙ no_deeper (g.lies row.deepest) ∙ g.deepest_is ∙ sym (g.depth_is no_pairs ∙ no_deeper g.depth);
-  empty_is = λ none. g.empty_is (sym (g.depth_is no_pairs ∙ no_deeper g.depth) ∙ none);
+  deepest_is = sym (g.deepest_is no_pairs ∙ deeper_first row.height 0 row.deepest nowhere (omega arith));
   fits = g.fits;
   is_read = put_read room opening before after row g no_pairs after (none_read after closes);
 }
@@ -232,14 +246,16 @@ pairs_last room opening before after middle second third colon_at row row_2 key 
   trees_are = ap pairs_list (pushed_trees row.list.items row_2.list.items key.expr value.expr g.trees (expr_tree f.written) (expr_tree v.written) items_are g.row_is f.tree_is v.tree_is ∙ sym (g.trees_are (last_pair f.written c.spot v.written)))
       ∙ pair_list (g.put (last_pair f.written c.spot v.written));
   height_is = higher_is g.depth (expr_depth f.written) (expr_depth v.written) row.height key.height value.height row_2.height higher g.height_is f.height_is v.height_is ∙ sym (g.depth_is (last_pair f.written c.spot v.written));
-  deepest_is = g.lies_is (last_pair f.written c.spot v.written) row_2.deepest ∙ deepest_pair g.lies (expr_lies f.written) (expr_lies v.written) g.depth (expr_depth f.written) (expr_depth v.written) row.height key.height value.height row.deepest key.deepest value.deepest row_2.deepest deepest
-      g.height_is f.height_is v.height_is g.deepest_is f.deepest_is v.deepest_is g.low (expr_low f.written) (expr_low v.written) ∙ sym (g.depth_is (last_pair f.written c.spot v.written));
-  empty_is = λ none. let above = some_pair g.depth f.written (expr_depth v.written) in let is = g.depth_is (last_pair f.written c.spot v.written) in absurd (omega (arith, none, is, above));
+  deepest_is = deepest ∙ sym (g.deepest_is (last_pair f.written c.spot v.written) ∙ pair_deepest row key value f.written v.written f.height_is f.deepest_is v.height_is v.deepest_is);
   fits = three_below row_2.height row.height key.height value.height room higher g.fits f.fits v.fits;
   is_read = put_read room opening before after row g (last_pair f.written c.spot v.written) third (last_read f.written c.spot v.written third (beyond_comma third v.beyond other));
 }
 
 -- ---- and refused
+
+-- what lies too deep behind what was read does so in the whole
+put_deep : (room : ℕ) (opening : Pos) (before after : List Token) (row : PairRow) (g : PairsGo room opening before after row) (stop : Stop) (p : Pairs) → IsDeep stop room (pairs_lies p) → IsDeep stop room (pairs_lies (g.put p))
+put_deep room opening before after row g stop p deep = deeper stop room (pairs_lies p) room (pairs_lies (g.put p)) deep (λ at some. let is = g.lies_is p at in let high = le-max_right (g.lies at) (pairs_lies p at) in omega (arith, is, high))
 
 -- what is found behind what was read
 put_finds : (room : ℕ) (opening : Pos) (before after : List Token) (row : PairRow) (g : PairsGo room opening before after row) (stop : Stop) (more : List Token) → Finds (λ p. IsDeep stop room (pairs_lies p)) read_pairs more
@@ -250,7 +266,7 @@ put_finds room opening before after row g stop more finds = record {
       ∙ g.leads (n + finds.steps) more
       ∙ more_steps (λ k. go_on (read_pairs k more) (λ p rest. Some (g.put p, rest))) ((n + finds.steps) + g.behind) ((n + g.behind) + finds.steps) (omega arith))
       (only_go_on (λ p. IsDeep stop room (pairs_lies p)) _ (read_pairs ((n + g.behind) + finds.steps) more) _ (finds.only (n + g.behind))
-      (λ p rest deep. deeper stop room (pairs_lies p) room (pairs_lies (g.put p)) deep (λ at some. let is = g.lies_is p at in let high = le-max_right (g.lies at) (pairs_lies p at) in omega (arith, is, high))));
+      (λ p rest deep. put_deep room opening before after row g stop p deep));
 }
 
 pair_deep : (stop : Stop) (room n : ℕ) (key : Expr) (colon : Spot) (value : Expr) (ts : List Token) → IsDeep stop room (λ at. max (expr_lies key at) (expr_lies value at)) → Only (λ p. IsDeep stop room (pairs_lies p)) (pairs_rest n key colon value ts)
@@ -290,6 +306,7 @@ key_inside room opening before after row g other = record {
     more = token (Sign 7) (spot_at at) ∷ expr_tokens b;
     tokens_are = g.tokens_are (last_pair b (spot_at at) b) ∙ sym (append_assoc g.front (expr_tokens b) (token (Sign 7) (spot_at at) ∷ expr_tokens b));
     within = λ other apart low. put_within room opening before after row g (last_pair b (spot_at at) b) other (max_below (expr_lies b other) (expr_lies b other) room low low);
+    deep = λ stop deep. put_deep room opening before after row g stop (last_pair b (spot_at at) b) (deep_beside_left stop room (expr_lies b) (expr_lies b) deep);
   };
   finds = λ stop more first finds. put_finds room opening before after row g stop more (key_finds room stop more (sign_first 5 after more first ∙ other) finds);
 }
@@ -310,6 +327,7 @@ colon_inside room opening before after row g key rest beyond fits = record {
     tokens_are = g.tokens_are (last_pair key spot key) ∙ sym (append_assoc (g.front ++ expr_tokens key) (token (Sign 7) spot ∷ []) (expr_tokens key) ∙ append_assoc g.front (expr_tokens key) (token (Sign 7) spot ∷ expr_tokens key));
     within = λ other apart any. let low = expr_low key other in
         put_within room opening before after row g (last_pair key spot key) other (max_below (expr_lies key other) (expr_lies key other) room (omega (arith, low, fits)) (omega (arith, low, fits)));
+    deep = λ stop deep. absurd (not_deep stop deep);
   };
   finds = λ stop more first finds.
       let level : next_level more ≡ next_level rest = level_same more rest (first_same more rest first) in
@@ -334,6 +352,7 @@ value_inside room opening before after row g key colon rest fits = record {
         ∙ ap (λ ts. g.front ++ ts) (append_assoc (expr_tokens key) (token (Sign 7) colon ∷ []) (expr_tokens b)));
     within = λ other apart low. let key_low = expr_low key other in
         put_within room opening before after row g (last_pair key colon b) other (max_below (expr_lies key other) (expr_lies b other) room (omega (arith, key_low, fits)) low);
+    deep = λ stop deep. put_deep room opening before after row g stop (last_pair key colon b) (deep_beside_right stop room (expr_lies key) (expr_lies b) deep);
   };
   finds = λ stop more first finds.
       finds_same _ read_pairs _ _ (append_assoc g.front (expr_tokens key ++ token (Sign 7) colon ∷ []) more ∙ ap (λ ts. g.front ++ ts) (append_assoc (expr_tokens key) (token (Sign 7) colon ∷ []) more))

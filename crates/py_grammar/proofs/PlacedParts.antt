@@ -1,7 +1,8 @@
 -- A simple statement where one has to stand: what is found and refused, of what is written.
-use Rattle.std.proofs.Common.{◌≡◌, inl, inr, ℕ, ◌+◌, Bool, true, false, not, List, [], ◌∷◌, ◌++◌, length, Option, Some, None, is_some, refl, ap, sym, ◌∙◌, arith, subst, append_assoc, append-nil}
+use Rattle.std.proofs.Common.{◌≡◌, inl, inr, ℕ, ◌+◌, ◌≤◌, ◌<◌, Bool, true, false, not, List, [], ◌∷◌, ◌++◌, length, Option, Some, None, is_some, refl, ap, sym, ◌∙◌, arith, subst, append-nil}
 use Rattle.std.specs.Prelude.{◌&&◌, ◌||◌, ◌==◌}
 use Rattle.std.proofs.lemmas.Bool.{eqb-true}
+use Rattle.prov_base.specs.declared.place.Pos.{Pos}
 use Rattle.py_lines.specs.declared.parts.Token.{Token}
 use Rattle.py_lines.specs.declared.parts.TokenKind.{TokenKind}
 use Rattle.py_lines.specs.declared.parts.TokenKind.TheVariants.{Word, Keyword, Number, Text, Sign}
@@ -20,14 +21,15 @@ use Rattle.py_grammar.specs.StatementTrees.{simple_form}
 use Rattle.py_grammar.specs.WellPlaced.{Around, form_stands, simple_stands, are_alone, alone_kind}
 use Rattle.py_grammar.specs.Reader.{spot_of, is_keyword}
 use Rattle.py_grammar.specs.StatementReader.{read_simple}
-use Rattle.py_grammar.specs.Parsed.{ShowsAt, GoesOn, Only, Finds}
-use Rattle.py_grammar.specs.ParsedSimple.{leaving_none, simple_part, has_place, SimpleFound, IsAmiss, StartsSimple, BeginsSimple, SimpleShown, SimpleEnds, SimpleRefused}
-use Rattle.py_grammar.specs.ParsedHead.{PlacedFound, IsAmissPlaced, del_name, StartsPlaced, BeginsPlaced, GoesOnPlaced, IsAheadPlaced, begins_at, ShownBy, EndedBy, PlacedRefused, BehindRefused, BehindFound, is_compound_kind, may_be_alone, is_refused_kind, is_text_kind, limit_fault, IsRefusedInClass, ShowsOnLine, left_in_class, stands_first}
-use Rattle.py_grammar.proofs.Lying.{nowhere}
+use Rattle.py_grammar.specs.Parsed.{ShowsAt, Only, Finds}
+use Rattle.py_grammar.specs.ParsedSimple.{leaving_none, simple_part, has_place, SimpleFound, IsAmiss, NamesDeep, BeginsSimple, DeepSimple, SimpleShown, SimpleEnds, SimpleRefused}
+use Rattle.py_grammar.specs.ParsedHead.{PlacedFound, IsAmissPlaced, del_name, BeginsPlaced, DeepPlaced, GoesOnPlaced, IsAheadPlaced, begins_at, ShownBy, EndedBy, PlacedRefused, BehindRefused, BehindFound, is_compound_kind, may_be_alone, is_refused_kind, is_text_kind, limit_fault, IsRefusedInClass, ShowsOnLine, left_in_class, stands_first}
+use Rattle.py_grammar.specs.Depth.{simple_depth}
+use Rattle.py_grammar.specs.Lies.{nowhere, simple_lies}
 use Rattle.py_grammar.proofs.NoDel.{no_del_unread}
 use Rattle.py_grammar.proofs.Stops.{spot_at, shows_on_line}
 use Rattle.py_grammar.proofs.SimpleReading.{simple_reads}
-use Rattle.py_grammar.proofs.SimpleParts.{simple_so, simple_within, nothing_there}
+use Rattle.py_grammar.proofs.SimpleParts.{simple_within, nothing_there}
 use Rattle.py_grammar.proofs.LineFirsts.{and_false, simple_not_compound, simple_some, pass_is_alone, not_nothing, same_first, same_behind}
 
 -- a text or `pass` alone
@@ -52,17 +54,16 @@ amiss_placed around limit (Here Memory) s amiss = absurd amiss
 amiss_placed around limit End s amiss = and_false _ (form_stands around (simple_form s)) amiss
 
 -- a limit is none of the grammar's faults
-goes_placed : (around : Around) (limit : Option Limit) (front : List Token) (t : Token) (behind : List Token) (fault : Fault) → (StartsSimple (has_place around) (front ++ t ∷ []) → StartsPlaced around (front ++ t ∷ [])) → ShowsAt behind fault
-    → GoesOn (StartsSimple (has_place around)) front t fault → GoesOnPlaced around limit front t fault
-goes_placed around limit front t behind (TooDeep at) placed named goes = inl (placed goes)
-goes_placed around limit front t behind (Unexpected left) placed named goes = tt
-goes_placed around limit front t behind (TooMany at) placed named goes = absurd named
-goes_placed around limit front t behind Memory placed named goes = tt
+goes_placed : (around : Around) (limit : Option Limit) (front : List Token) (t : Token) (behind : List Token) (fault : Fault) → ShowsAt behind fault → NamesDeep (DeepPlaced around) front t fault → GoesOnPlaced around limit front t fault
+goes_placed around limit front t behind (TooDeep at) named goes = inl goes
+goes_placed around limit front t behind (Unexpected left) named goes = tt
+goes_placed around limit front t behind (TooMany at) named goes = absurd named
+goes_placed around limit front t behind Memory named goes = tt
 
 -- what has begun in these tokens may stand there, beside its form
 record Places (around : Around) (before : List Token) : Type 0 where
   within : (tokens rest : List Token) → before ≡ tokens ++ rest → BeginsSimple (has_place around) tokens → BeginsPlaced around tokens
-  plain : (tokens rest : List Token) → before ≡ tokens ++ rest → StartsSimple (has_place around) tokens → StartsPlaced around tokens
+  first : (fault : Fault) (s : SimpleShown around before fault) → NamesDeep (DeepPlaced around) s.front s.shown_by fault
 
 placed_shown : (around : Around) (limit : Option Limit) (before : List Token) (fault : Fault) → Places around before → SimpleShown around before fault
     → ShownBy (BeginsPlaced around) (IsAheadPlaced around limit) simple_tokens (λ fault a. IsAmissPlaced around limit (Here fault) a) before fault
@@ -73,7 +74,7 @@ placed_shown around limit before fault places s = record {
   before_is = s.before_is;
   left_is = shows_on_line s.shown_by s.behind fault s.left_is;
   begun = places.within s.front (s.shown_by ∷ s.behind) s.before_is s.begins;
-  goes_on = (goes_placed around limit s.front s.shown_by s.behind fault (places.plain (s.front ++ s.shown_by ∷ []) s.behind (s.before_is ∙ sym (append_assoc s.front (s.shown_by ∷ []) s.behind))) s.left_is s.goes_on, s.unread);
+  goes_on = (goes_placed around limit s.front s.shown_by s.behind fault s.left_is (places.first fault s), s.unread);
   none = λ a more same. amiss_placed around limit (Here fault) a (finds_simple _ (s.front ++ s.shown_by ∷ more) a (s.none more) same);
 }
 
@@ -258,11 +259,6 @@ placed_found around t behind form alone f = record {
 
 -- ---- what has begun where one may stand
 
--- within the room or not
-placed_so : (around : Around) (tokens : List Token) → BeginsPlaced around tokens → StartsPlaced around tokens
-placed_so around tokens (inl b) = let c = b nowhere in inl (record { some = c.some; is_so = c.is_so; more = c.more; tokens_are = c.tokens_are })
-placed_so around tokens (inr b) = let c = b.1 nowhere in inr (b.0, record { spot = c.spot; some = c.some; more = c.more; tokens_are = c.tokens_are })
-
 -- outside a class nothing more is asked
 may_outside : (around : Around) (s : Simple) → around.in_class ≡ false → has_place around s ≡ true → simple_stands around s ≡ true
 may_outside around s out so = ap (λ inside. (not inside || are_alone (simple_tokens s)) && has_place around s) out ∙ so
@@ -271,21 +267,43 @@ within_outside : (around : Around) (tokens : List Token) → around.in_class ≡
 within_outside around tokens out (inl b) = inl (λ at. let c = b at in record { some = c.some; is_so = may_outside around c.some out c.is_so; more = c.more; tokens_are = c.tokens_are; within = c.within })
 within_outside around tokens out (inr b) = inr (out, b)
 
-plain_outside : (around : Around) (tokens : List Token) → around.in_class ≡ false → StartsSimple (has_place around) tokens → StartsPlaced around tokens
-plain_outside around tokens out (inl b) = inl (record { some = b.some; is_so = may_outside around b.some out b.is_so; more = b.more; tokens_are = b.tokens_are })
-plain_outside around tokens out (inr b) = inr (out, b)
+deep_outside : (around : Around) (tokens : List Token) (place : Pos) → around.in_class ≡ false → DeepSimple (has_place around) tokens place → DeepPlaced around tokens place
+deep_outside around tokens place out (inl b) = inl (record {
+  some = b.some;
+  is_so = may_outside around b.some out b.is_so;
+  more = b.more;
+  tokens_are = b.tokens_are;
+  ahead = b.ahead;
+  named = b.named;
+  between = b.between;
+  front_is = b.front_is;
+  named_is = b.named_is;
+  deep = b.deep;
+  within = b.within;
+})
+deep_outside around tokens place out (inr b) = inr (out, b)
+
+names_outside : (around : Around) (front : List Token) (t : Token) (fault : Fault) → around.in_class ≡ false → NamesDeep (DeepSimple (has_place around)) front t fault → NamesDeep (DeepPlaced around) front t fault
+names_outside around front t (TooDeep place) out goes = deep_outside around (front ++ t ∷ []) place out goes
+names_outside around front t (Unexpected left) out goes = tt
+names_outside around front t (TooMany at) out goes = tt
+names_outside around front t Memory out goes = tt
+
+-- `del` is not `pass`
+no_pass : (t : Token) (spot : Spot) (tokens rest : List Token) → token (Keyword 12) spot ∷ tokens ≡ t ∷ rest → t.kind ≡ Keyword 28 → ⊥
+no_pass t spot tokens rest is kind = let same : Keyword 12 ≡ Keyword 28 = ap (λ (t : Token). t.kind) (same_first (token (Keyword 12) spot) t tokens rest is) ∙ kind in cc
 
 -- behind `pass` nothing begins
-placed_pass : (around : Around) (t : Token) (ts : List Token) → t.kind ≡ Keyword 28 → StartsSimple (has_place around) (t ∷ ts) → BeginsPlaced around (t ∷ ts)
-placed_pass around t ts kind (inl b) = by ts b.more b.tokens_are (pass_is_alone b.some t (ts ++ b.more) b.tokens_are kind)
+placed_pass : (around : Around) (t : Token) (ts : List Token) → t.kind ≡ Keyword 28 → BeginsSimple (has_place around) (t ∷ ts) → BeginsPlaced around (t ∷ ts)
+placed_pass around t ts kind (inl b) = let c = b nowhere in by ts c.more (pass_is_alone c.some t (ts ++ c.more) c.tokens_are kind)
   where
-    by : (ts more : List Token) → simple_tokens b.some ≡ t ∷ (ts ++ more) → ts ++ more ≡ [] → BeginsPlaced around (t ∷ ts)
-    by [] more is none = inl (λ at. record { some = pass (spot_of t); is_so = pass_stands around (spot_of t); more = []; tokens_are = ap (λ k. record { at = t.at; span = t.span; kind = k } ∷ []) (sym kind); within = λ other apart. omega arith })
-    by (u ∷ us) more is none = absurd (not_nothing u (us ++ more) none)
-placed_pass around t ts kind (inr b) = absurd (let same : Keyword 12 ≡ Keyword 28 = ap (λ (t : Token). t.kind) (same_first (token (Keyword 12) b.spot) t (expr_tokens b.some) (ts ++ b.more) b.tokens_are) ∙ kind in cc)
+    by : (ts more : List Token) → ts ++ more ≡ [] → BeginsPlaced around (t ∷ ts)
+    by [] more none = inl (λ at. record { some = pass (spot_of t); is_so = pass_stands around (spot_of t); more = []; tokens_are = ap (λ k. record { at = t.at; span = t.span; kind = k } ∷ []) (sym kind); within = λ other apart. omega arith })
+    by (u ∷ us) more none = absurd (not_nothing u (us ++ more) none)
+placed_pass around t ts kind (inr b) = absurd (let c = b nowhere in no_pass t c.spot (expr_tokens c.some) (ts ++ c.more) c.tokens_are kind)
 
 -- in a class a text alone or `pass` has begun
-placed_inside : (around : Around) (t : Token) (behind : List Token) → may_be_alone t.kind behind ≡ true → (tokens rest : List Token) → t ∷ behind ≡ tokens ++ rest → StartsSimple (has_place around) tokens → BeginsPlaced around tokens
+placed_inside : (around : Around) (t : Token) (behind : List Token) → may_be_alone t.kind behind ≡ true → (tokens rest : List Token) → t ∷ behind ≡ tokens ++ rest → BeginsSimple (has_place around) tokens → BeginsPlaced around tokens
 placed_inside around t behind may [] rest is begun = pass_begins around
 placed_inside around t behind may (u ∷ us) rest is begun = subst (λ (u : Token). BeginsPlaced around (u ∷ us)) first (by t.kind refl may)
   where
@@ -300,20 +318,66 @@ placed_inside around t behind may (u ∷ us) rest is begun = subst (λ (u : Toke
     by (Text bytes) kind may =
         let nothing : behind ≡ [] = nothing_there behind (length behind == 0) refl may in
         subst (λ (ts : List Token). BeginsPlaced around (t ∷ ts)) (sym (alone us rest (sym (same_behind t u behind (us ++ rest) is) ∙ nothing))) (begins_text around t (ap is_text_kind kind))
-    by (Keyword n) kind may = placed_pass around t us (kind ∙ ap Keyword (eqb-true n 28 may)) (subst (λ (v : Token). StartsSimple (has_place around) (v ∷ us)) (sym first) begun)
+    by (Keyword n) kind may = placed_pass around t us (kind ∙ ap Keyword (eqb-true n 28 may)) (subst (λ (v : Token). BeginsSimple (has_place around) (v ∷ us)) (sym first) begun)
     by (Word bytes) kind may = cc
     by (Number value) kind may = cc
     by (Sign n) kind may = cc
+
+-- there nothing lies too deep
+low_alone : (around : Around) (place : Pos) (t : Token) (s : Simple) → simple_tokens s ≡ t ∷ [] → simple_depth s ≤ 100 → Finds (IsAmiss around (Here (TooDeep place))) simple_part.read (t ∷ []) → ⊥
+low_alone around place t s is fits finds = let deep : 100 < simple_lies s place = finds_simple (IsAmiss around (Here (TooDeep place))) (t ∷ []) s finds is in let low = simple_within s fits place in absurd (omega (arith, deep, low))
+
+-- nor does what begins with `pass` go on
+pass_shown : (around : Around) (t : Token) (behind : List Token) (place : Pos) → t.kind ≡ Keyword 28 → (front : List Token) (u : Token) (rest : List Token) → t ∷ behind ≡ front ++ u ∷ rest → DeepSimple (has_place around) (front ++ u ∷ []) place
+    → ((more : List Token) → Finds (IsAmiss around (Here (TooDeep place))) simple_part.read (front ++ u ∷ more)) → ⊥
+pass_shown around t behind place kind [] u rest is goes none =
+    low_alone around place t (pass (spot_of t)) (ap (λ k. record { at = t.at; span = t.span; kind = k } ∷ []) (sym kind)) (omega arith) (subst (λ (v : Token). Finds (IsAmiss around (Here (TooDeep place))) simple_part.read (v ∷ [])) (sym (same_first t u behind rest is)) (none []))
+pass_shown around t behind place kind (v ∷ vs) u rest is (inl b) none =
+    let first : v ≡ t = sym (same_first t v behind (vs ++ u ∷ rest) is) in
+    more_behind vs u b.more (pass_is_alone b.some v ((vs ++ u ∷ []) ++ b.more) b.tokens_are (ap (λ (t : Token). t.kind) first ∙ kind))
+  where
+    more_behind : (vs : List Token) (u : Token) (more : List Token) → (vs ++ u ∷ []) ++ more ≡ [] → ⊥
+    more_behind [] u more none = not_nothing u more none
+    more_behind (w ∷ ws) u more none = not_nothing w ((ws ++ u ∷ []) ++ more) none
+pass_shown around t behind place kind (v ∷ vs) u rest is (inr b) none =
+    let first : v ≡ t = sym (same_first t v behind (vs ++ u ∷ rest) is) in
+    no_pass v b.spot (expr_tokens b.some) ((vs ++ u ∷ []) ++ b.more) b.tokens_are (ap (λ (t : Token). t.kind) first ∙ kind)
+
+text_shown : (around : Around) (t : Token) (behind : List Token) (place : Pos) (bytes : List ℕ) → t.kind ≡ Text bytes → behind ≡ [] → (front : List Token) (u : Token) (rest : List Token) → t ∷ behind ≡ front ++ u ∷ rest
+    → ((more : List Token) → Finds (IsAmiss around (Here (TooDeep place))) simple_part.read (front ++ u ∷ more)) → ⊥
+text_shown around t behind place bytes kind nothing [] u rest is none =
+    low_alone around place t (text_statement t bytes) (ap (λ k. record { at = t.at; span = t.span; kind = k } ∷ []) (sym kind)) (omega arith) (subst (λ (v : Token). Finds (IsAmiss around (Here (TooDeep place))) simple_part.read (v ∷ [])) (sym (same_first t u behind rest is)) (none []))
+text_shown around t behind place bytes kind nothing (v ∷ vs) u rest is none = more_behind vs u rest (sym (same_behind t v behind (vs ++ u ∷ rest) is) ∙ nothing)
+  where
+    more_behind : (vs : List Token) (u : Token) (rest : List Token) → vs ++ u ∷ rest ≡ [] → ⊥
+    more_behind [] u rest none = not_nothing u rest none
+    more_behind (w ∷ ws) u rest none = not_nothing w (ws ++ u ∷ rest) none
+
+never_deep : (around : Around) (t : Token) (behind : List Token) → may_be_alone t.kind behind ≡ true → (place : Pos) → SimpleShown around (t ∷ behind) (TooDeep place) → ⊥
+never_deep around t behind may place s = by t.kind refl may
+  where
+    by : (kind : TokenKind) → t.kind ≡ kind → may_be_alone kind behind ≡ true → ⊥
+    by (Text bytes) kind may = text_shown around t behind place bytes kind (nothing_there behind (length behind == 0) refl may) s.front s.shown_by s.behind s.before_is s.none
+    by (Keyword n) kind may = pass_shown around t behind place (kind ∙ ap Keyword (eqb-true n 28 may)) s.front s.shown_by s.behind s.before_is s.goes_on s.none
+    by (Word bytes) kind may = cc
+    by (Number value) kind may = cc
+    by (Sign n) kind may = cc
+
+names_inside : (around : Around) (t : Token) (behind : List Token) → may_be_alone t.kind behind ≡ true → (fault : Fault) (s : SimpleShown around (t ∷ behind) fault) → NamesDeep (DeepPlaced around) s.front s.shown_by fault
+names_inside around t behind may (TooDeep place) s = absurd (never_deep around t behind may place s)
+names_inside around t behind may (Unexpected left) s = tt
+names_inside around t behind may (TooMany at) s = tt
+names_inside around t behind may Memory s = tt
 
 places : (around : Around) (t : Token) (behind : List Token) → (around.in_class ≡ true → may_be_alone t.kind behind ≡ true) → Places around (t ∷ behind)
 places around t behind alone = by around.in_class refl
   where
     by : (inside : Bool) → around.in_class ≡ inside → Places around (t ∷ behind)
     by true inside = record {
-      within = λ tokens rest is begun. placed_inside around t behind (alone inside) tokens rest is (simple_so (has_place around) tokens begun);
-      plain = λ tokens rest is begun. placed_so around tokens (placed_inside around t behind (alone inside) tokens rest is begun);
+      within = λ tokens rest is begun. placed_inside around t behind (alone inside) tokens rest is begun;
+      first = λ fault s. names_inside around t behind (alone inside) fault s;
     }
-    by false out = record { within = λ tokens rest is begun. within_outside around tokens out begun; plain = λ tokens rest is begun. plain_outside around tokens out begun }
+    by false out = record { within = λ tokens rest is begun. within_outside around tokens out begun; first = λ fault s. names_outside around s.front s.shown_by fault out s.goes_on }
 
 -- ---- with what is known of the tokens
 

@@ -16,11 +16,11 @@ use Rattle.py_grammar.specs.Concrete.{Spot, AddSign, plus, minus, Not, plain_not
 use Rattle.py_grammar.specs.Tokens.{token, sign, add_sign, not_tokens, cmp_tokens_of, unary_tokens, prim_tokens}
 use Rattle.py_grammar.specs.Trees.{not_tree, cmp_tree, unary_tree, prim_tree, add_op, unary_op}
 use Rattle.py_grammar.specs.Depth.{not_depth, unary_depth}
-use Rattle.py_grammar.specs.Lies.{is_place, not_lies, unary_lies, prim_lies}
-use Rattle.py_grammar.proofs.Lying.{over_is, over_here, is_here, not_above, unary_above}
+use Rattle.py_grammar.specs.Lies.{is_place, over, not_lies, unary_lies, prim_lies}
+use Rattle.py_grammar.proofs.Lying.{over_here, is_here}
 use Rattle.py_grammar.specs.Reader.{go_on, spot_of, add_sign_of, read_keyword, read_not, read_cmp, read_unary, read_prim}
 use Rattle.py_grammar.specs.Parsed.{not_part, cmp_part, unary_part, prim_part, Taken, TakenAdd, Found, IsDeep, Finds, Refused, IsTooDeep, is_keyword_next, add_sign_next, sign_of}
-use Rattle.py_grammar.proofs.Refusals.{first_of, Inside, begins_new, alone_elsewhere, over_within, finds_first, finds_anything, deep_over, refused_inside, refused_same, begins_up_to, full, keyword_next_same, one_behind}
+use Rattle.py_grammar.proofs.Refusals.{first_of, Inside, begins_new, alone_elsewhere, over_within, finds_first, finds_anything, deep_over, refused_inside, refused_same, first_here, full, keyword_next_same, one_behind}
 use Rattle.py_grammar.proofs.Stops.{spot_at, finds_none}
 
 -- an operand at this place, where any will do
@@ -32,6 +32,10 @@ some_not at = plain_not (plain_cmp (plain_sum (plain_term (some_unary at))))
 
 one_more : (n : ℕ) → suc n ≡ 1 + n
 one_more n = omega arith
+
+-- a node over what lies nowhere else lies nowhere else
+under_elsewhere : (spot at other : Pos) (lies : ℕ) → spot ≡ at → (other ≡ at → ⊥) → lies ≡ 0 → over (is_place spot other) lies ≡ 0
+under_elsewhere spot at other lies there apart none = ap (over (is_place spot other)) none ∙ alone_elsewhere spot other (λ same. apart (same ∙ there))
 
 -- ---- `not`
 
@@ -45,7 +49,7 @@ not_next room inner before behind after at operand part k smaller o tree height 
   before_is = k.before_is ∙ ap (λ ts. token (Keyword 26) k.spot ∷ ts) o.before_is;
   tree_is = tree ∙ ap (λ a. unary_expr a Negation (expr_of operand.expr)) (sym k.at_is) ∙ ap (unary_expr k.spot.at Negation) o.tree_is;
   height_is = height ∙ ap suc o.height_is ∙ one_more (not_depth o.written);
-  deepest_is = over_is (is_place k.spot.at part.deepest) (not_lies o.written part.deepest) (not_depth o.written) (ap (not_lies o.written) deepest ∙ o.deepest_is) (not_above o.written);
+  deepest_is = deepest ∙ o.deepest_is;
   form_is = other;
   fits = let low = o.fits in omega (arith, height, low, smaller);
   beyond = o.beyond;
@@ -57,7 +61,7 @@ no_word before (t ∷ ts) absent first = ap (λ b. if b then Some (spot_of t, ts
 
 cmp_inside : (room : ℕ) (before : List Token) → is_keyword_next 26 before ≡ false → Inside not_part room cmp_part room [] before
 cmp_inside room before absent = record {
-  begins = λ at b. record { some = plain_not b; more = []; tokens_are = sym (append-nil (cmp_tokens_of b)); within = λ other apart low. low };
+  begins = λ at b. record { some = plain_not b; more = []; tokens_are = sym (append-nil (cmp_tokens_of b)); within = λ other apart low. low; deep = λ stop deep. deep };
   finds = λ stop more first finds. finds_first _ _ read_not read_cmp (λ n e rest. Some (plain_not e, rest)) more more
       (λ n. ap (λ o. option_map_or (λ found. go_on (read_not n found.1) (λ e rest. Some (not_of found.0 e, rest))) o (go_on (read_cmp n more) (λ e rest. Some (plain_not e, rest)))) (no_word before more absent first))
       (λ n b ts deep. deep) finds;
@@ -68,7 +72,8 @@ not_cmp_refused room before stop absent is = refused_inside not_part room cmp_pa
 
 pub not_here : (room : ℕ) (before behind : List Token) (at : Pos) (stop : Stop) → Taken (Keyword 26) before at behind → IsTooDeep 0 at room stop → Refused not_part room before stop
 not_here room before behind at stop k deep = full not_part room before [] (token (Keyword 26) k.spot) behind 0 at stop deep k.before_is (begins_new not_part room some_not (λ place other apart. alone_elsewhere place other apart))
-    (begins_up_to not_part (not_of k.spot (some_not at)) [] (token (Keyword 26) k.spot) (not_tokens (some_not at)) refl)
+    (first_here not_part room (token (Keyword 26) k.spot) (not_of k.spot (some_not at)) (not_tokens (some_not at)) at refl k.at_is (over_here (is_place k.spot.at at) (not_lies (some_not at) at) (is_here k.spot.at at k.at_is))
+    (λ other apart. under_elsewhere k.spot.at at other (not_lies (some_not at) other) k.at_is apart (alone_elsewhere at other apart)))
     (λ more. finds_first _ _ read_not read_not (λ n e rest. Some (not_of k.spot e, rest)) (token (Keyword 26) k.spot ∷ more) more (λ n. refl) (λ n e ts any. let one = over_here (is_place k.spot.at at) (not_lies e at) (is_here k.spot.at at k.at_is) in omega (arith, one)) (finds_anything read_not more))
 
 operand_inside : (room inner : ℕ) (spot : Spot) (behind : List Token) → room ≤ suc inner → inner < room → Inside not_part room not_part inner (token (Keyword 26) spot ∷ []) behind
@@ -78,6 +83,7 @@ operand_inside room inner spot behind less smaller = record {
     more = [];
     tokens_are = one_behind [] (token (Keyword 26) spot) (not_tokens b);
     within = λ other apart low. over_within (is_place spot.at other) (not_lies b other) inner room smaller low;
+    deep = λ stop deep. deep_over stop inner room (is_place spot.at) (not_lies b) less deep;
   };
   finds = λ stop more first finds. finds_first _ _ read_not read_not (λ n e rest. Some (not_of spot e, rest)) (token (Keyword 26) spot ∷ more) more (λ n. refl)
       (λ n e ts deep. deep_over stop inner room (is_place spot.at) (not_lies e) less deep) finds;
@@ -96,6 +102,10 @@ sign_same : (which : AddSign) (spot : Spot) (behind : List Token) → sign (add_
 sign_same plus spot behind = refl
 sign_same minus spot behind = refl
 
+sign_at : (which : AddSign) (spot : Spot) → (sign_token which spot).at ≡ spot.at
+sign_at plus spot = refl
+sign_at minus spot = refl
+
 pub unary_one : (room : ℕ) (before after : List Token) (part : Part) → Found prim_part prim_tree 1 room before part after → Found unary_part unary_tree 1 room before part after
 unary_one room before after part f = record { written = plain_unary f.written; before_is = f.before_is; tree_is = f.tree_is; height_is = f.height_is; deepest_is = f.deepest_is; form_is = f.form_is; fits = f.fits; beyond = f.beyond }
 
@@ -110,7 +120,7 @@ unary_next room inner before behind after at op sign_op operand part k op_is sma
   before_is = k.before_is ∙ ap (λ ts. sign (add_sign k.which) k.spot ++ ts) o.before_is;
   tree_is = tree ∙ ap (λ a. unary_expr a sign_op (expr_of operand.expr)) (sym k.at_is) ∙ ap (λ x. unary_expr k.spot.at x (expr_of operand.expr)) (op_is ∙ sign_of_add k.which op k.op_is) ∙ ap (unary_expr k.spot.at (unary_op k.which)) o.tree_is;
   height_is = height ∙ ap suc o.height_is ∙ one_more (unary_depth o.written);
-  deepest_is = over_is (is_place k.spot.at part.deepest) (unary_lies o.written part.deepest) (unary_depth o.written) (ap (unary_lies o.written) deepest ∙ o.deepest_is) (unary_above o.written);
+  deepest_is = deepest ∙ o.deepest_is;
   form_is = other;
   fits = let low = o.fits in omega (arith, height, low, smaller);
   beyond = o.beyond;
@@ -140,7 +150,7 @@ prim_finds room (u ∷ us) absent stop (t ∷ ts) first finds =
 
 prim_inside : (room : ℕ) (before : List Token) → add_sign_next before ≡ None → Inside unary_part room prim_part room [] before
 prim_inside room before absent = record {
-  begins = λ at b. record { some = plain_unary b; more = []; tokens_are = sym (append-nil (prim_tokens b)); within = λ other apart low. low };
+  begins = λ at b. record { some = plain_unary b; more = []; tokens_are = sym (append-nil (prim_tokens b)); within = λ other apart low. low; deep = λ stop deep. deep };
   finds = λ stop more first finds. prim_finds room before absent stop more first finds;
 }
 
@@ -149,7 +159,9 @@ unary_prim_refused room before stop absent is = refused_inside unary_part room p
 
 pub unary_here : (room : ℕ) (before behind : List Token) (at : Pos) (op : BinOp) (stop : Stop) → TakenAdd before at op behind → IsTooDeep 0 at room stop → Refused unary_part room before stop
 unary_here room before behind at op stop k deep = full unary_part room before [] (sign_token k.which k.spot) behind 0 at stop deep (k.before_is ∙ sign_same k.which k.spot behind) (begins_new unary_part room some_unary (λ place other apart. alone_elsewhere place other apart))
-    (begins_up_to unary_part (signed k.spot k.which (some_unary at)) [] (sign_token k.which k.spot) (unary_tokens (some_unary at)) (sign_same k.which k.spot (unary_tokens (some_unary at))))
+    (first_here unary_part room (sign_token k.which k.spot) (signed k.spot k.which (some_unary at)) (unary_tokens (some_unary at)) at (sign_same k.which k.spot (unary_tokens (some_unary at))) (sign_at k.which k.spot ∙ k.at_is)
+    (over_here (is_place k.spot.at at) (unary_lies (some_unary at) at) (is_here k.spot.at at k.at_is))
+    (λ other apart. under_elsewhere k.spot.at at other (unary_lies (some_unary at) other) k.at_is apart (alone_elsewhere at other apart)))
     (λ more. finds_first _ _ read_unary read_unary (λ n e rest. Some (signed k.spot k.which e, rest)) (sign_token k.which k.spot ∷ more) more (λ n. unary_sign k.which k.spot n more) (λ n e ts any. let one = over_here (is_place k.spot.at at) (unary_lies e at) (is_here k.spot.at at k.at_is) in omega (arith, one)) (finds_anything read_unary more))
 
 signed_inside : (room inner : ℕ) (which : AddSign) (spot : Spot) (behind : List Token) → room ≤ suc inner → inner < room → Inside unary_part room unary_part inner (sign_token which spot ∷ []) behind
@@ -159,6 +171,7 @@ signed_inside room inner which spot behind less smaller = record {
     more = [];
     tokens_are = sign_same which spot (unary_tokens b) ∙ one_behind [] (sign_token which spot) (unary_tokens b);
     within = λ other apart low. over_within (is_place spot.at other) (unary_lies b other) inner room smaller low;
+    deep = λ stop deep. deep_over stop inner room (is_place spot.at) (unary_lies b) less deep;
   };
   finds = λ stop more first finds. finds_first _ _ read_unary read_unary (λ n e rest. Some (signed spot which e, rest)) (sign_token which spot ∷ more) more (λ n. unary_sign which spot n more)
       (λ n e ts deep. deep_over stop inner room (is_place spot.at) (unary_lies e) less deep) finds;

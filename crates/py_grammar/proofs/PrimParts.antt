@@ -1,7 +1,6 @@
 -- What goes on with a primary, and primaries: what is read of them, and how they are refused.
 use Rattle.std.proofs.Common.{◌≡◌, ℕ, zero, suc, ◌+◌, max, ◌≤◌, ◌<◌, Bool, true, false, ◌||◌, List, [], ◌∷◌, ◌++◌, Some, None, is_none, refl, ap, sym, ◌∙◌, arith, append_assoc, if◌then◌else◌}
 use Rattle.std.specs.Prelude.{◌==◌}
-use Rattle.std.proofs.Math.Nat.{le-max_left}
 use Rattle.std.proofs.lemmas.List.{append-nil}
 use Rattle.std.proofs.lemmas.Bool.{eqb-true}
 use Rattle.prov_base.specs.declared.place.Pos.{Pos}
@@ -18,14 +17,15 @@ use Rattle.py_grammar.specs.Concrete.{Spot, Prim, plain_prim, call, part, attrib
 use Rattle.py_grammar.specs.Tokens.{token, word, prim_tokens, items_tokens, index_tokens}
 use Rattle.py_grammar.specs.Trees.{prim_tree, atom_tree, items_tree}
 use Rattle.py_grammar.specs.Depth.{prim_depth, items_depth, index_depth}
-use Rattle.py_grammar.specs.Lies.{begins, over, index_lies, items_lies, prim_lies}
-use Rattle.py_grammar.proofs.Lying.{above_left, over_is, over_right, prim_above, prim_low}
+use Rattle.py_grammar.specs.Lies.{begins, over, nowhere, deeper_of, index_lies, items_lies, prim_lies, items_deepest, index_deepest, prim_deepest}
+use Rattle.py_grammar.proofs.Lying.{above_left, over_right, prim_above, prim_low}
+use Rattle.py_grammar.proofs.Deepest.{deeper_first, deeper_same, prim_is_first}
 use Rattle.py_grammar.specs.Reader.{Read, go_on, spot_of, next_level, kind_level, is_sign, keyword_level, read_sign, read_name, read_items, read_index, read_prim, prim_rest, read_atom}
 use Rattle.py_grammar.specs.StatementReader.{prim_target}
-use Rattle.py_grammar.specs.Parsed.{prim_part, atom_part, is_form, Taken, TakenName, Found, IsDeep, Only, Begins, Refused, IsTooDeep, one_sign, one_name, is_sign_next}
-use Rattle.py_grammar.specs.ParsedRows.{IsDeepestWith, closed, read_closed, items_part, index_part, index_form, Trailer, called, parted, dotted, with_trailer, trailer_tokens, trailer_depth, trailer_lies, trailer_form, trailer_tree, index_tree, read_trailer, trailer_part, FoundClosed, FoundTrailer}
+use Rattle.py_grammar.specs.Parsed.{prim_part, atom_part, is_form, Taken, TakenName, Found, IsDeep, Only, IsFirstDeep, Refused, IsTooDeep, one_sign, one_name, is_sign_next}
+use Rattle.py_grammar.specs.ParsedRows.{closed, read_closed, items_part, index_part, index_form, Trailer, called, parted, dotted, with_trailer, trailer_tokens, trailer_depth, trailer_lies, trailer_deepest, trailer_form, trailer_tree, index_tree, read_trailer, trailer_part, FoundClosed, FoundTrailer}
 use Rattle.py_grammar.proofs.Reading.{prim_leads}
-use Rattle.py_grammar.proofs.Refusals.{Inside, first_of, only_any, only_go_on, only_if, only_is, finds_first, finds_lead, finds_at_once, deeper, deep_left, deep_over, refused_inside, refused_same, begins_whole, node_within, full, fits_above}
+use Rattle.py_grammar.proofs.Refusals.{Inside, first_of, only_any, only_go_on, only_if, only_is, finds_first, finds_lead, finds_at_once, deeper, deep_left, deep_over, refused_inside, refused_same, begins_whole, node_within, first_full, full, fits_above}
 use Rattle.py_grammar.proofs.ClosedParts.{not_deep}
 use Rattle.py_grammar.proofs.Comparisons.{one_token}
 use Rattle.py_grammar.proofs.Firsts.{sign_is}
@@ -37,7 +37,7 @@ regroup : (t : Token) (ts : List Token) (u : Token) (after : List Token) → t �
 regroup t ts u after = ap (λ us. t ∷ us) (sym (append_assoc ts (u ∷ []) after))
 
 pub trailer_call : (room : ℕ) (before middle after : List Token) (at : Pos) (left found : Part) → Taken (Sign 0) before at middle
-    → FoundClosed (items_part 1) 1 (λ i. call_expr at (expr_of left.expr) (items_tree i)) (λ i. suc (max left.height (items_depth i))) (λ i. IsDeepestWith left.height left.deepest (items_lies i) (items_depth i)) (λ _. false) room middle found after → FoundTrailer room before left found after
+    → FoundClosed (items_part 1) 1 (λ i. call_expr at (expr_of left.expr) (items_tree i)) (λ i. suc (max left.height (items_depth i))) (λ i. deeper_of left.height left.deepest (items_depth i) (items_deepest i)) (λ _. false) room middle found after → FoundTrailer room before left found after
 trailer_call room before middle after at left found k f = record {
   written = called k.spot f.written f.spot;
   before_is = k.before_is ∙ ap (λ ts. token (Sign 0) k.spot ∷ ts) f.before_is ∙ regroup (token (Sign 0) k.spot) (items_tokens f.written) (token (Sign 1) f.spot) after;
@@ -49,7 +49,7 @@ trailer_call room before middle after at left found k f = record {
 }
 
 pub trailer_part_of : (room : ℕ) (before middle after : List Token) (at : Pos) (left found : Part) → Taken (Sign 2) before at middle
-    → FoundClosed index_part 3 (index_tree at (expr_of left.expr)) (λ i. suc (max left.height (index_depth i))) (λ i. IsDeepestWith left.height left.deepest (index_lies i) (index_depth i)) index_form room middle found after → FoundTrailer room before left found after
+    → FoundClosed index_part 3 (index_tree at (expr_of left.expr)) (λ i. suc (max left.height (index_depth i))) (λ i. deeper_of left.height left.deepest (index_depth i) (index_deepest i)) index_form room middle found after → FoundTrailer room before left found after
 trailer_part_of room before middle after at left found k f = record {
   written = parted k.spot f.written f.spot;
   before_is = k.before_is ∙ ap (λ ts. token (Sign 2) k.spot ∷ ts) f.before_is ∙ regroup (token (Sign 2) k.spot) (index_tokens f.written) (token (Sign 3) f.spot) after;
@@ -70,7 +70,7 @@ trailer_dot room before middle after at name_at name left found k named tree hei
   before_is = k.before_is ∙ ap (λ ts. token (Sign 8) k.spot ∷ ts) named.before_is;
   tree_is = tree ∙ ap (λ place. attr_expr place (expr_of left.expr) name) (sym k.at_is);
   height_is = height ∙ max_none left.height;
-  deepest_is = λ other is low. ap (λ p. max (other p) 0) deepest ∙ ap (λ h. max h 0) is;
+  deepest_is = deepest ∙ sym (deeper_first left.height 0 left.deepest nowhere (omega arith));
   form_is = form;
   fits = omega arith;
 }
@@ -82,7 +82,7 @@ behind_sign t ts = ap (λ us. t ∷ us) (sym (append-nil ts))
 
 in_call : (room : ℕ) (spot : Spot) (rest : List Token) → Inside trailer_part room (closed (items_part 1) 1) room (token (Sign 0) spot ∷ []) rest
 in_call room spot rest = record {
-  begins = λ at b. record { some = called spot b.0 b.1; more = []; tokens_are = behind_sign (token (Sign 0) spot) (items_tokens b.0 ++ token (Sign 1) b.1 ∷ []); within = λ other apart low. low };
+  begins = λ at b. record { some = called spot b.0 b.1; more = []; tokens_are = behind_sign (token (Sign 0) spot) (items_tokens b.0 ++ token (Sign 1) b.1 ∷ []); within = λ other apart low. low; deep = λ stop deep. deep };
   finds = λ stop more first finds. record {
     steps = finds.steps;
     only = λ n. only_go_on _ _ (read_closed (λ m us. read_items m 1 us) 1 (n + finds.steps) more) _ (finds.only n) (λ found rest deep. deep);
@@ -94,7 +94,7 @@ trailer_call_refused room before middle at stop k is = refused_same trailer_part
 
 in_part : (room : ℕ) (spot : Spot) (rest : List Token) → Inside trailer_part room (closed index_part 3) room (token (Sign 2) spot ∷ []) rest
 in_part room spot rest = record {
-  begins = λ at b. record { some = parted spot b.0 b.1; more = []; tokens_are = behind_sign (token (Sign 2) spot) (index_tokens b.0 ++ token (Sign 3) b.1 ∷ []); within = λ other apart low. low };
+  begins = λ at b. record { some = parted spot b.0 b.1; more = []; tokens_are = behind_sign (token (Sign 2) spot) (index_tokens b.0 ++ token (Sign 3) b.1 ∷ []); within = λ other apart low. low; deep = λ stop deep. deep };
   finds = λ stop more first finds. record {
     steps = finds.steps;
     only = λ n. only_go_on _ _ (read_closed read_index 3 (n + finds.steps) more) _ (finds.only n) (λ found rest deep. deep);
@@ -106,7 +106,7 @@ trailer_part_refused room before middle at stop k is = refused_same trailer_part
 
 in_name : (room : ℕ) (spot : Spot) (rest : List Token) → Inside trailer_part room one_name 0 (token (Sign 8) spot ∷ []) rest
 in_name room spot rest = record {
-  begins = λ at b. record { some = dotted spot b.0 b.1; more = []; tokens_are = behind_sign (token (Sign 8) spot) (word b.1 b.0); within = λ other apart any. omega arith };
+  begins = λ at b. record { some = dotted spot b.0 b.1; more = []; tokens_are = behind_sign (token (Sign 8) spot) (word b.1 b.0); within = λ other apart any. omega arith; deep = λ stop deep. absurd (not_deep stop deep) };
   finds = λ stop more first finds. record {
     steps = 0;
     only = λ n. only_go_on _ _ (read_name more) _ (finds.only n) (λ found rest deep. absurd (not_deep stop deep));
@@ -138,7 +138,7 @@ dot_only P n (t ∷ ts) one two only = by (is_sign 0 t.kind) (is_sign 2 t.kind) 
 
 at_dot : (room : ℕ) (rest : List Token) → is_sign_next 0 rest ≡ false → is_sign_next 2 rest ≡ false → Inside trailer_part room (one_sign 8) 0 [] rest
 at_dot room rest one two = record {
-  begins = λ at spot. record { some = dotted spot (spot_at at) []; more = word [] (spot_at at); tokens_are = refl; within = λ other apart any. omega arith };
+  begins = λ at spot. record { some = dotted spot (spot_at at) []; more = word [] (spot_at at); tokens_are = refl; within = λ other apart any. omega arith; deep = λ stop deep. absurd (not_deep stop deep) };
   finds = λ stop more first finds. record {
     steps = 0;
     only = λ n. dot_only _ (n + 0) more (not_first 0 rest more first one) (not_first 2 rest more first two) (weaken (read_sign 8 more) stop (finds.only n));
@@ -220,6 +220,11 @@ with_lies p (dotted dot name_at bytes) at = ap (over (begins (prim_tokens p) at)
     no_more : (n : ℕ) → n ≡ max n 0
     no_more n = omega arith
 
+with_deepest : (p : Prim) (t : Trailer) → prim_deepest (with_trailer p t) ≡ deeper_of (prim_depth p) (prim_deepest p) (trailer_depth t) (trailer_deepest t)
+with_deepest p (called opening arguments closing) = refl
+with_deepest p (parted opening index closing) = refl
+with_deepest p (dotted dot name_at bytes) = sym (deeper_first (prim_depth p) 0 (prim_deepest p) nowhere (omega arith))
+
 with_form : (p : Prim) (t : Trailer) → is_form (prim_target (with_trailer p t)) ≡ trailer_form t
 with_form p (called opening arguments closing) = refl
 with_form p (parted opening (one_index e) closing) = refl
@@ -233,11 +238,9 @@ prim_next room inner before middle after left found l less smaller f = record {
   before_is = l.before_is ∙ ap (λ ts. prim_tokens l.written ++ ts) f.before_is ∙ sym (append_assoc (prim_tokens l.written) (trailer_tokens f.written) after) ∙ ap (λ ts. ts ++ after) (sym (with_tokens l.written f.written));
   tree_is = f.tree_is ∙ ap (λ e. trailer_tree e f.written) l.tree_is ∙ sym (with_tree l.written f.written);
   height_is = f.height_is ∙ ap (λ n. suc (max n (trailer_depth f.written))) l.height_is ∙ sym (with_depth l.written f.written);
-  deepest_is = with_lies l.written f.written found.deepest
-      ∙ over_is (begins (prim_tokens l.written) found.deepest) (max (prim_lies l.written found.deepest) (trailer_lies f.written found.deepest)) (max (prim_depth l.written) (trailer_depth f.written))
-      (f.deepest_is (prim_lies l.written) (l.deepest_is ∙ sym l.height_is) (λ at. let low = prim_low l.written at in let is = l.height_is in omega (arith, low, is)) ∙ ap (λ n. max n (trailer_depth f.written)) l.height_is)
-      (let above = prim_above l.written in let high = le-max_left (prim_depth l.written) (trailer_depth f.written) in omega (arith, above, high))
-      ∙ one_more _ ∙ sym (with_depth l.written f.written);
+  deepest_is = f.deepest_is
+      ∙ deeper_same left.height (trailer_depth f.written) (prim_depth l.written) (trailer_depth f.written) left.deepest (trailer_deepest f.written) (prim_deepest l.written) (trailer_deepest f.written) l.height_is l.deepest_is refl refl
+      ∙ sym (with_deepest l.written f.written);
   form_is = f.form_is ∙ sym (with_form l.written f.written);
   fits = let small = f.fits in fits_above room left.height (trailer_depth f.written) found.height f.height_is less (omega (arith, small, smaller));
   beyond = above_zero after;
@@ -264,7 +267,7 @@ prim_deep stop room (suc n) left (t ∷ ts) deep =
 
 prim_starts : (room : ℕ) (rest : List Token) → Inside prim_part room atom_part room [] rest
 prim_starts room rest = record {
-  begins = λ at b. record { some = plain_prim b; more = []; tokens_are = sym (append-nil _); within = λ other apart low. low };
+  begins = λ at b. record { some = plain_prim b; more = []; tokens_are = sym (append-nil _); within = λ other apart low. low; deep = λ stop deep. deep };
   finds = λ stop more first finds. finds_first _ _ read_prim read_atom (λ n left ts. prim_rest n (plain_prim left) ts) more more (λ n. refl) (λ n b ts deep. prim_deep stop room n (plain_prim b) ts deep) finds;
 }
 
@@ -331,6 +334,11 @@ level_first (t ∷ ts) (u ∷ us) is = by t u is
     by : (t u : Token) → Some t ≡ Some u → kind_level t.kind ≡ kind_level u.kind
     by t u is = cc
 
+-- what lies too deep behind a primary does so in the whole
+trailer_deep : {room inner : ℕ} (stop : Stop) (left : Prim) (b : Trailer) → room ≤ suc inner → IsDeep stop inner (trailer_lies b) → IsDeep stop room (prim_lies (with_trailer left b))
+trailer_deep {room} {inner} stop left b less deep = deeper stop inner (trailer_lies b) room (prim_lies (with_trailer left b)) deep
+    (λ at some. let more_deep = over_right (begins (prim_tokens left) at) (prim_lies left at) (trailer_lies b at) some in let is = with_lies left b at in omega (arith, more_deep, less, is))
+
 prim_goes_on : (room inner : ℕ) (left : Prim) (rest : List Token) → room ≤ suc inner → inner < room → prim_depth left ≤ inner → (next_level rest == 1) ≡ true → Inside prim_part room trailer_part inner (prim_tokens left) rest
 prim_goes_on room inner left rest less smaller fits is = record {
   begins = λ at b. record {
@@ -342,12 +350,12 @@ prim_goes_on room inner left rest less smaller fits is = record {
         let same = with_lies left b other in
         let whole = node_within (begins (prim_tokens left) other) (prim_lies left other) (trailer_lies b other) inner room smaller (omega (arith, left_low, fits)) low in
         omega (arith, same, whole);
+    deep = λ stop deep. trailer_deep stop left b less deep;
   };
   finds = λ stop more first finds.
       finds_lead _ read_prim prim_rest 0 (prim_tokens left) left more (prim_leads left) (above_zero more)
       (finds_first _ _ (λ n ts. prim_rest n left ts) read_trailer (λ n t ts. prim_rest n (with_trailer left t) ts) more more (λ n. rest_is n left more (ap (λ l. l == 1) (level_first more rest first) ∙ is))
-      (λ n b ts deep. prim_deep stop room n (with_trailer left b) ts
-      (deeper stop inner (trailer_lies b) room (prim_lies (with_trailer left b)) deep (λ at some. let more_deep = over_right (begins (prim_tokens left) at) (prim_lies left at) (trailer_lies b at) some in let is = with_lies left b at in omega (arith, more_deep, less, is))))
+      (λ n b ts deep. prim_deep stop room n (with_trailer left b) ts (trailer_deep stop left b less deep))
       finds);
 }
 
@@ -356,31 +364,36 @@ pub prim_right : (room inner : ℕ) (before middle : List Token) (left : Part) (
 prim_right room inner before middle left stop l level fits less smaller is =
     refused_same prim_part room before _ stop l.before_is (refused_inside prim_part room trailer_part inner (prim_tokens l.written) middle stop (prim_goes_on room inner l.written middle less smaller (let same = l.height_is in omega (arith, fits, less, same)) level) is)
 
+-- what goes on with a primary at this token, and holds nothing
+record EmptyTrailer (t : Token) : Type 0 where
+  some : Trailer
+  more : List Token
+  tokens_are : trailer_tokens some ≡ t ∷ more
+  empty : (at : Pos) → trailer_lies some at ≡ 0
+
 -- a token with which a primary goes on begins what goes on with it
-trailer_begins : (t : Token) → (kind_level t.kind == 1) ≡ true → Begins trailer_part (t ∷ [])
+trailer_begins : (t : Token) → (kind_level t.kind == 1) ≡ true → EmptyTrailer t
 trailer_begins t level = by (is_sign 0 t.kind) (is_sign 2 t.kind) (is_sign 8 t.kind) refl refl refl
   where
-    of : (k : ℕ) (some : Trailer) (more : List Token) → is_sign k t.kind ≡ true → trailer_tokens some ≡ token (Sign k) (spot_of t) ∷ more → Begins trailer_part (t ∷ [])
-    of k some more is spells = record { some = some; more = more; tokens_are = spells ∙ ap (λ u. u ∷ more) (sym (one_token t k (sign_is k t.kind is))) }
+    of : (k : ℕ) (some : Trailer) (more : List Token) → is_sign k t.kind ≡ true → trailer_tokens some ≡ token (Sign k) (spot_of t) ∷ more → ((at : Pos) → trailer_lies some at ≡ 0) → EmptyTrailer t
+    of k some more is spells empty = record { some = some; more = more; tokens_are = spells ∙ ap (λ u. u ∷ more) (sym (one_token t k (sign_is k t.kind is))); empty = empty }
 
-    by : (a b c : Bool) → is_sign 0 t.kind ≡ a → is_sign 2 t.kind ≡ b → is_sign 8 t.kind ≡ c → Begins trailer_part (t ∷ [])
-    by true b c one two three = of 0 (called (spot_of t) no_items some_spot) (token (Sign 1) some_spot ∷ []) one refl
-    by false true c one two three = of 2 (parted (spot_of t) (range_index no_bound some_spot no_bound) some_spot) (token (Sign 7) some_spot ∷ token (Sign 3) some_spot ∷ []) two refl
-    by false false true one two three = of 8 (dotted (spot_of t) some_spot []) (word [] some_spot) three refl
+    by : (a b c : Bool) → is_sign 0 t.kind ≡ a → is_sign 2 t.kind ≡ b → is_sign 8 t.kind ≡ c → EmptyTrailer t
+    by true b c one two three = of 0 (called (spot_of t) no_items some_spot) (token (Sign 1) some_spot ∷ []) one refl (λ at. refl)
+    by false true c one two three = of 2 (parted (spot_of t) (range_index no_bound some_spot no_bound) some_spot) (token (Sign 7) some_spot ∷ token (Sign 3) some_spot ∷ []) two refl (λ at. refl)
+    by false false true one two three = of 8 (dotted (spot_of t) some_spot []) (word [] some_spot) three refl (λ at. refl)
     by false false false one two three = absurd (three_signs t.kind level one two three)
 
-prim_goes : (left : Prim) (t : Token) → Begins trailer_part (t ∷ []) → Begins prim_part (prim_tokens left ++ t ∷ [])
-prim_goes left t b = record {
-  some = with_trailer left b.some;
-  more = b.more;
-  tokens_are = with_tokens left b.some ∙ ap (λ ts. prim_tokens left ++ ts) b.tokens_are ∙ sym (append_assoc (prim_tokens left) (t ∷ []) b.more);
-}
+prim_goes : (room : ℕ) (left : Prim) (t : Token) (height : ℕ) (deepest : Pos) → EmptyTrailer t → deepest ≡ prim_deepest left → height ≡ prim_depth left → height ≤ room → room ≤ height → IsFirstDeep prim_part room (prim_tokens left ++ t ∷ []) deepest
+prim_goes room left t height deepest b deepest_is height_is fits = first_full prim_part room (prim_tokens left) t (with_trailer left b.some) b.more (begins (prim_tokens left)) (prim_lies left) (trailer_lies b.some) height (prim_depth left) deepest (prim_deepest left)
+    (with_tokens left b.some ∙ ap (λ ts. prim_tokens left ++ ts) b.tokens_are) (with_lies left b.some) (prim_is_first left) deepest_is height_is (prim_above left) fits (λ other apart. b.empty other)
 
 pub prim_full : (room : ℕ) (before middle : List Token) (left : Part) (stop : Stop) → Found prim_part prim_tree 0 room before left middle → (next_level middle == 1) ≡ true → IsTooDeep left.height left.deepest room stop → Refused prim_part room before stop
 prim_full room before [] left stop l level deep = cc
 prim_full room before (t ∷ ts) left stop l level deep = full prim_part room before (prim_tokens l.written) t ts left.height left.deepest stop deep l.before_is (begins_whole prim_part room l.written (λ at. let low = prim_low l.written at in let is = l.height_is in let fits = l.fits in omega (arith, low, is, fits)))
-    (prim_goes l.written t (trailer_begins t level))
+    (prim_goes room l.written t left.height left.deepest (trailer_begins t level) l.deepest_is l.height_is l.fits)
     (λ more. finds_lead _ read_prim prim_rest 0 (prim_tokens l.written) l.written (t ∷ more) (prim_leads l.written) (above_zero (t ∷ more))
     (finds_at_once _ (λ n ts. prim_rest n l.written ts) (t ∷ more)
     (λ n. only_is _ _ _ (rest_is n l.written (t ∷ more) level) (only_any _ (read_trailer n (t ∷ more)) _ (λ tr rest. prim_deep (Here (TooDeep left.deepest)) left.height n (with_trailer l.written tr) rest
-    (let more_deep = above_left (begins (prim_tokens l.written) left.deepest) (prim_lies l.written left.deepest) (trailer_lies tr left.deepest) left.height (prim_depth l.written) l.height_is l.deepest_is (prim_above l.written) in let is = with_lies l.written tr left.deepest in omega (arith, more_deep, is)))))))
+    (let more_deep = above_left (begins (prim_tokens l.written) left.deepest) (prim_lies l.written left.deepest) (trailer_lies tr left.deepest) left.height (prim_depth l.written) l.height_is
+    (ap (prim_lies l.written) l.deepest_is ∙ (prim_is_first l.written).lies_is) (prim_above l.written) in let is = with_lies l.written tr left.deepest in omega (arith, more_deep, is)))))))

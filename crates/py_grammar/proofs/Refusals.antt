@@ -12,9 +12,10 @@ use Rattle.py_grammar.specs.declared.fault.Fault.{Fault}
 use Rattle.py_grammar.specs.declared.fault.Fault.TheVariants.{Unexpected, TooDeep, TooMany, Memory}
 use Rattle.py_grammar.specs.declared.fault.Stop.{Stop}
 use Rattle.py_grammar.specs.declared.fault.Stop.TheVariants.{Here, End}
-use Rattle.py_grammar.specs.Parsed.{Production, IsDeep, Only, Finds, Begins, BeginsWithin, GoesOn, Shown, Refused, IsTooDeep, is_keyword_next}
-use Rattle.py_grammar.specs.Lies.{is_place, over}
-use Rattle.py_grammar.proofs.Lying.{nowhere, over_more}
+use Rattle.py_grammar.specs.Parsed.{Production, IsDeep, Only, Finds, Begins, Completes, BeginsWithin, IsFirstDeep, GoesDeep, GoesOn, Shown, Refused, IsTooDeep, is_keyword_next}
+use Rattle.py_grammar.specs.Lies.{is_place, over, nowhere, IsApart, IsFirst}
+use Rattle.py_grammar.proofs.Lying.{over_more, over_left}
+use Rattle.py_grammar.proofs.Deepest.{apart_front, apart_there}
 use Rattle.py_grammar.specs.Reader.{Read, go_on, next_level, kind_level, is_keyword}
 use Rattle.py_grammar.proofs.Leading.{Beyond, Reads, Leads}
 
@@ -23,12 +24,13 @@ first_of [] = None
 first_of (t ∷ ts) = Some t
 
 -- What these tokens with this part behind them begin. Where what begins at a place lies within the part's room, it lies within
--- the room of the whole, but for the place of what is put behind.
+-- the room of the whole, but for the place of what is put behind; what lies too deep in the part does so in the whole.
 pub record Holds {A B : Type 0} (p : Production A) (room : ℕ) (q : Production B) (inner : ℕ) (front : List Token) (at : Pos) (b : B) : Type 0 where
   pub some : A
   pub more : List Token
   pub tokens_are : p.tokens some ≡ (front ++ q.tokens b) ++ more
   pub within : (other : Pos) → (other ≡ at → ⊥) → q.lies b other ≤ inner → p.lies some other ≤ room
+  pub deep : (stop : Stop) → IsDeep stop inner (q.lies b) → IsDeep stop room (p.lies some)
 
 -- A part stands in another behind these tokens: any such part is the beginning of one there, and where none is read that
 -- begins with the same token none is read there.
@@ -146,15 +148,6 @@ begins_so p room front begins = let c = begins nowhere in record { some = c.some
 regroup : (w x y z : List Token) → (w ++ (x ++ y)) ++ z ≡ (w ++ x) ++ (y ++ z)
 regroup w x y z = append_assoc w (x ++ y) z ∙ ap (λ ts. w ++ ts) (append_assoc x y z) ∙ sym (append_assoc w x (y ++ z))
 
-begins_inside : {A B : Type 0} (p : Production A) (room : ℕ) (q : Production B) (inner : ℕ) (front part : List Token) → ((at : Pos) (b : B) → Holds p room q inner front at b) → Begins q part → Begins p (front ++ part)
-begins_inside p room q inner front part begins b =
-    let whole = begins nowhere b.some in
-    record {
-      some = whole.some;
-      more = b.more ++ whole.more;
-      tokens_are = whole.tokens_are ∙ ap (λ ts. (front ++ ts) ++ whole.more) b.tokens_are ∙ regroup front part b.more whole.more;
-    }
-
 pub within_inside : {A B : Type 0} (p : Production A) (room : ℕ) (q : Production B) (inner : ℕ) (front part : List Token) → ((at : Pos) (b : B) → Holds p room q inner front at b) → BeginsWithin q inner part → BeginsWithin p room (front ++ part)
 within_inside p room q inner front part begins b = λ at.
     let c = b at in
@@ -198,6 +191,37 @@ goes_inside inner outer front part t (Unexpected left) begins goes = tt
 goes_inside inner outer front part t (TooMany at) begins goes = tt
 goes_inside inner outer front part t Memory begins goes = tt
 
+-- the first that lies too deep in the part is so in the whole
+first_inside : {A B : Type 0} (p : Production A) (room : ℕ) (q : Production B) (inner : ℕ) (front part : List Token) (place : Pos) → ((at : Pos) (b : B) → Holds p room q inner front at b) → IsFirstDeep q inner part place → IsFirstDeep p room (front ++ part) place
+first_inside p room q inner front part place begins f =
+    let whole = begins place f.some in
+    record {
+      some = whole.some;
+      more = f.more ++ whole.more;
+      tokens_are = whole.tokens_are ∙ ap (λ ts. (front ++ ts) ++ whole.more) f.tokens_are ∙ regroup front part f.more whole.more;
+      ahead = front ++ f.ahead;
+      named = f.named;
+      between = f.between;
+      front_is = ap (λ ts. front ++ ts) f.front_is ∙ sym (append_assoc front f.ahead (f.named ∷ f.between));
+      named_is = f.named_is;
+      deep = whole.deep (Here (TooDeep place)) f.deep;
+      within = λ other apart. whole.within other (apart_there f.named.at other place apart.0 f.named_is)
+          (f.within other (apart.0, apart_front other (f.between ++ f.more) whole.more (subst (IsApart other) (sym (append_assoc f.between f.more whole.more)) apart.1)));
+    }
+
+deep_inside : {A B : Type 0} (p : Production A) (room : ℕ) (q : Production B) (inner : ℕ) (front part : List Token) (t : Token) (fault : Fault) → ((at : Pos) (b : B) → Holds p room q inner front at b) → GoesDeep q inner part t fault → GoesDeep p room (front ++ part) t fault
+deep_inside p room q inner front part t (TooDeep place) begins goes = subst (λ ts. IsFirstDeep p room ts place) (sym (append_assoc front part (t ∷ []))) (first_inside p room q inner front (part ++ t ∷ []) place begins goes)
+deep_inside p room q inner front part t (Unexpected left) begins goes = tt
+deep_inside p room q inner front part t (TooMany place) begins goes = tt
+deep_inside p room q inner front part t Memory begins goes = tt
+
+-- what lies too deep goes on there
+pub deep_goes_on : {A : Type 0} (p : Production A) (room : ℕ) (front : List Token) (t : Token) (fault : Fault) → GoesDeep p room front t fault → GoesOn (Begins p) front t fault
+deep_goes_on p room front t (TooDeep place) goes = record { some = goes.some; more = goes.more; tokens_are = goes.tokens_are }
+deep_goes_on p room front t (Unexpected left) goes = tt
+deep_goes_on p room front t (TooMany place) goes = tt
+deep_goes_on p room front t Memory goes = tt
+
 shown_inside : {A B : Type 0} (p : Production A) (room : ℕ) (q : Production B) (inner : ℕ) (front rest : List Token) (fault : Fault) → Inside p room q inner front rest → Shown q inner rest fault → Shown p room (front ++ rest) fault
 shown_inside p room q inner front rest fault inside s = record {
   front = front ++ s.front;
@@ -206,7 +230,7 @@ shown_inside p room q inner front rest fault inside s = record {
   before_is = ap (λ ts. front ++ ts) s.before_is ∙ sym (append_assoc front s.front (s.shown_by ∷ s.behind));
   left_is = s.left_is;
   begins = within_inside p room q inner front s.front inside.begins s.begins;
-  goes_on = goes_inside (Begins q) (Begins p) front s.front s.shown_by fault (λ tokens b. begins_inside p room q inner front tokens inside.begins b) s.goes_on;
+  goes_on = deep_inside p room q inner front s.front s.shown_by fault inside.begins s.goes_on;
   none = λ more. finds_same _ p.read _ _ (append_assoc front s.front (s.shown_by ∷ more))
       (inside.finds (Here fault) (s.front ++ s.shown_by ∷ more) (first_alike s.front s.shown_by more s.behind ∙ sym (ap first_of s.before_is)) (s.none more));
 }
@@ -231,12 +255,8 @@ finds_weaker P Q read ts weaker finds = record { steps = finds.steps; only = λ 
     weaken None only = tt
     weaken (Some (a, rest)) only = weaker a only
 
--- what is written begins with all tokens up to one of its own
-pub begins_up_to : {A : Type 0} (p : Production A) (some : A) (front : List Token) (t : Token) (more : List Token) → p.tokens some ≡ front ++ t ∷ more → Begins p (front ++ t ∷ [])
-begins_up_to p some front t more is = record { some = some; more = more; tokens_are = is ∙ sym (append_assoc front (t ∷ []) more) }
-
 -- there is no room over what was read, and the next token goes on with something over it
-pub full : {A : Type 0} (p : Production A) (room : ℕ) (before front : List Token) (t : Token) (behind : List Token) (height : ℕ) (deepest : Pos) (stop : Stop) → IsTooDeep height deepest room stop → before ≡ front ++ t ∷ behind → BeginsWithin p room front → Begins p (front ++ t ∷ [])
+pub full : {A : Type 0} (p : Production A) (room : ℕ) (before front : List Token) (t : Token) (behind : List Token) (height : ℕ) (deepest : Pos) (stop : Stop) → IsTooDeep height deepest room stop → before ≡ front ++ t ∷ behind → BeginsWithin p room front → (room ≤ height → IsFirstDeep p room (front ++ t ∷ []) deepest)
     → ((more : List Token) → Finds (λ a. height < p.lies a deepest) p.read (front ++ t ∷ more)) → Refused p room before stop
 full p room before front t behind height deepest (Here (TooDeep at)) deep before_is begins goes over_it = record {
   front = front;
@@ -245,7 +265,7 @@ full p room before front t behind height deepest (Here (TooDeep at)) deep before
   before_is = before_is;
   left_is = tt;
   begins = begins;
-  goes_on = goes;
+  goes_on = subst (IsFirstDeep p room (front ++ t ∷ [])) (sym deep.1) (goes deep.0);
   none = λ more. finds_weaker _ _ p.read (front ++ t ∷ more) (λ a higher. there (p.lies a) deep.0 deep.1 higher) (over_it more);
 }
   where
@@ -283,6 +303,49 @@ fits_below here a b zero one other = absurd (omega (arith, one))
 
 pub fits_above : (room left right height : ℕ) → height ≡ suc (max left right) → left < room → right < room → height ≤ room
 fits_above room left right height is one other = let low = max_below left right room (omega (arith, one)) (omega (arith, other)) in omega (arith, is, one, other)
+
+-- What goes as deep as there is room for, and a node over it that goes on with this token: the first of its deepest is the
+-- first that lies too deep, where what is put beside it begins at its place.
+pub first_full : {A : Type 0} (p : Production A) (room : ℕ) (front : List Token) (t : Token) (some : A) (more : List Token) (here : Pos → Bool) (f g : Pos → ℕ) (height depth : ℕ) (place deepest : Pos) → p.tokens some ≡ front ++ t ∷ more
+    → ((at : Pos) → p.lies some at ≡ over (here at) (max (f at) (g at))) → IsFirst front f depth deepest → place ≡ deepest → height ≡ depth → 1 ≤ depth → height ≤ room → ((other : Pos) → (other ≡ place → ⊥) → g other ≡ 0)
+    → room ≤ height → IsFirstDeep p room (front ++ t ∷ []) place
+first_full p room front t some more here f g height depth place deepest is lies_is first place_is height_is above fits alone full = record {
+  some = some;
+  more = more;
+  tokens_are = is ∙ sym (append_assoc front (t ∷ []) more);
+  ahead = first.ahead;
+  named = first.named;
+  between = first.later ++ t ∷ [];
+  front_is = ap (λ ts. ts ++ t ∷ []) first.tokens_are ∙ append_assoc first.ahead (first.named ∷ first.later) (t ∷ []);
+  named_is = first.named_is ∙ sym place_is;
+  deep =
+      let there : f place ≡ depth = ap f place_is ∙ first.lies_is in
+      let deeper_there = over_left (here place) (f place) (g place) (omega (arith, there, above)) in
+      let whole = lies_is place in
+      omega (arith, there, deeper_there, whole, full, height_is);
+  within = λ other apart.
+      let less = first.less other (apart_front other (first.named ∷ first.later) (t ∷ []) (apart_front other (first.named ∷ (first.later ++ t ∷ [])) more apart)) in
+      let none = alone other (apart_there first.named.at other place apart.0 (first.named_is ∙ sym place_is)) in
+      let whole = lies_is other in
+      let low = fits_below (here other) (f other) (g other) room (omega (arith, less, height_is, fits)) (omega (arith, none, height_is, above, fits)) in
+      omega (arith, whole, low);
+}
+
+-- what begins with this token where there is no room
+pub first_here : {A : Type 0} (p : Production A) (room : ℕ) (t : Token) (some : A) (more : List Token) (place : Pos) → p.tokens some ≡ t ∷ more → t.at ≡ place → 0 < p.lies some place → ((other : Pos) → (other ≡ place → ⊥) → p.lies some other ≡ 0)
+    → room ≤ 0 → IsFirstDeep p room (t ∷ []) place
+first_here p room t some more place is there high alone none = record {
+  some = some;
+  more = more;
+  tokens_are = is;
+  ahead = [];
+  named = t;
+  between = [];
+  front_is = refl;
+  named_is = there;
+  deep = omega (arith, high, none);
+  within = λ other apart. let low = alone other (apart_there t.at other place apart.0 there) in omega (arith, low);
+}
 
 -- whatever is read
 anything : {A : Type 0} (r : Read A) → Only (λ a. ⊤) r

@@ -17,10 +17,10 @@ use Rattle.py_grammar.proofs.IndexParts.{index_one}
 use Rattle.py_grammar.specs.Tokens.{expr_tokens}
 use Rattle.py_grammar.specs.Trees.{expr_tree, atom_tree, items_tree, pairs_tree}
 use Rattle.py_grammar.specs.Depth.{items_depth, index_depth, pairs_depth}
-use Rattle.py_grammar.specs.Lies.{index_lies, items_lies, pairs_lies}
+use Rattle.py_grammar.specs.Lies.{deeper_of, items_deepest, index_deepest as written_deepest, pairs_deepest}
 use Rattle.py_grammar.specs.Reader.{start_class}
 use Rattle.py_grammar.specs.Parsed.{Production, expr_part, atom_part, Taken, Found, Refused, IsAtFirst, is_sign_next, FoundRow}
-use Rattle.py_grammar.specs.ParsedRows.{IsDeepestIn, IsDeepestWith, group_lies, closed, items_part, group_part, rest_part, index_part, pairs_part, group_depth, group_tree, index_form, index_tree, trailer_part, leaf_atom, IsLeaf, FoundClosed, FoundTrailer, FoundRest, FoundItems, FoundList, FoundPairs, FoundIndex}
+use Rattle.py_grammar.specs.ParsedRows.{group_deepest, closed, items_part, group_part, rest_part, index_part, pairs_part, group_depth, group_tree, index_form, index_tree, trailer_part, leaf_atom, IsLeaf, FoundClosed, FoundTrailer, FoundRest, FoundItems, FoundList, FoundPairs, FoundIndex}
 use Rattle.py_grammar.proofs.Refusals.{refused_same}
 use Rattle.py_grammar.proofs.AtomParts.{leaf_found, leaf_refused, no_token, atom_group, atom_list, atom_dict, group_refused, list_refused, dict_refused}
 use Rattle.py_grammar.proofs.PrimParts.{trailer_call, trailer_part_of, trailer_call_refused, trailer_part_refused}
@@ -63,7 +63,7 @@ leaf_taken room before t ts found part is leaf some_there fits = subst (λ us. F
 -- ---- an atom in brackets
 
 pub group_ok : (r : Result Part Stop) (room inner : ℕ) (before middle after : List Token) (at : Pos) → Taken (Sign 0) before at middle → inner < room
-    → IfOk r (λ part. FoundClosed group_part 1 (group_tree at) (λ i. suc (group_depth i)) (λ i. IsDeepestIn at (group_lies i) (group_depth i)) (λ _. false) inner middle part after) → IfOk r (λ part. Found atom_part atom_tree 0 room before part after)
+    → IfOk r (λ part. FoundClosed group_part 1 (group_tree at) (λ i. suc (group_depth i)) (group_deepest at) (λ _. false) inner middle part after) → IfOk r (λ part. Found atom_part atom_tree 0 room before part after)
 group_ok (Ok part) room inner before middle after at taken smaller is = atom_group room inner before middle after at part taken smaller is
 group_ok (Err e) room inner before middle after at taken smaller is = tt
 
@@ -72,7 +72,7 @@ group_err (Ok part) room inner before middle at taken less smaller is = tt
 group_err (Err e) room inner before middle at taken less smaller is = group_refused room inner before middle at e taken less smaller is
 
 pub list_ok : (r : Result Part Stop) (room inner : ℕ) (before middle after : List Token) (at : Pos) → Taken (Sign 2) before at middle → inner < room
-    → IfOk r (λ part. FoundClosed (items_part 3) 3 (λ i. list_expr at (items_tree i)) (λ i. suc (items_depth i)) (λ i. IsDeepestIn at (items_lies i) (items_depth i)) (λ _. false) inner middle part after) → IfOk r (λ part. Found atom_part atom_tree 0 room before part after)
+    → IfOk r (λ part. FoundClosed (items_part 3) 3 (λ i. list_expr at (items_tree i)) (λ i. suc (items_depth i)) (λ i. deeper_of 0 at (items_depth i) (items_deepest i)) (λ _. false) inner middle part after) → IfOk r (λ part. Found atom_part atom_tree 0 room before part after)
 list_ok (Ok part) room inner before middle after at taken smaller is = atom_list room inner before middle after at part taken smaller is
 list_ok (Err e) room inner before middle after at taken smaller is = tt
 
@@ -81,7 +81,7 @@ list_err (Ok part) room inner before middle at taken less smaller is = tt
 list_err (Err e) room inner before middle at taken less smaller is = list_refused room inner before middle at e taken less smaller is
 
 pub dict_ok : (r : Result Part Stop) (room inner : ℕ) (before middle after : List Token) (at : Pos) → Taken (Sign 4) before at middle → inner < room
-    → IfOk r (λ part. FoundClosed pairs_part 5 (λ p. dict_expr at (pairs_tree p)) (λ p. suc (pairs_depth p)) (λ p. IsDeepestIn at (pairs_lies p) (pairs_depth p)) (λ _. false) inner middle part after) → IfOk r (λ part. Found atom_part atom_tree 0 room before part after)
+    → IfOk r (λ part. FoundClosed pairs_part 5 (λ p. dict_expr at (pairs_tree p)) (λ p. suc (pairs_depth p)) (λ p. deeper_of 0 at (pairs_depth p) (pairs_deepest p)) (λ _. false) inner middle part after) → IfOk r (λ part. Found atom_part atom_tree 0 room before part after)
 dict_ok (Ok part) room inner before middle after at taken smaller is = atom_dict room inner before middle after at part taken smaller is
 dict_ok (Err e) room inner before middle after at taken smaller is = tt
 
@@ -92,7 +92,7 @@ dict_err (Err e) room inner before middle at taken less smaller is = dict_refuse
 -- ---- what goes on with a primary
 
 pub call_ok : (r : Result Part Stop) (room : ℕ) (before middle after : List Token) (at : Pos) (left : Part) → Taken (Sign 0) before at middle
-    → IfOk r (λ found. FoundClosed (items_part 1) 1 (λ i. call_expr at (expr_of left.expr) (items_tree i)) (λ i. suc (max left.height (items_depth i))) (λ i. IsDeepestWith left.height left.deepest (items_lies i) (items_depth i)) (λ _. false) room middle found after) → IfOk r (λ found. FoundTrailer room before left found after)
+    → IfOk r (λ found. FoundClosed (items_part 1) 1 (λ i. call_expr at (expr_of left.expr) (items_tree i)) (λ i. suc (max left.height (items_depth i))) (λ i. deeper_of left.height left.deepest (items_depth i) (items_deepest i)) (λ _. false) room middle found after) → IfOk r (λ found. FoundTrailer room before left found after)
 call_ok (Ok part) room before middle after at left taken is = trailer_call room before middle after at left part taken is
 call_ok (Err e) room before middle after at left taken is = tt
 
@@ -101,7 +101,7 @@ call_err (Ok part) room before middle at taken is = tt
 call_err (Err e) room before middle at taken is = trailer_call_refused room before middle at e taken is
 
 pub part_ok : (r : Result Part Stop) (room : ℕ) (before middle after : List Token) (at : Pos) (left : Part) → Taken (Sign 2) before at middle
-    → IfOk r (λ found. FoundClosed index_part 3 (index_tree at (expr_of left.expr)) (λ i. suc (max left.height (index_depth i))) (λ i. IsDeepestWith left.height left.deepest (index_lies i) (index_depth i)) index_form room middle found after) → IfOk r (λ found. FoundTrailer room before left found after)
+    → IfOk r (λ found. FoundClosed index_part 3 (index_tree at (expr_of left.expr)) (λ i. suc (max left.height (index_depth i))) (λ i. deeper_of left.height left.deepest (index_depth i) (written_deepest i)) index_form room middle found after) → IfOk r (λ found. FoundTrailer room before left found after)
 part_ok (Ok part) room before middle after at left taken is = trailer_part_of room before middle after at left part taken is
 part_ok (Err e) room before middle after at left taken is = tt
 

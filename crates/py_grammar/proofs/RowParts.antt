@@ -18,13 +18,14 @@ use Rattle.py_grammar.specs.Concrete.{Spot, Expr, one_expr, several, Rest, end_r
 use Rattle.py_grammar.specs.Tokens.{token, expr_tokens, rest_tokens}
 use Rattle.py_grammar.specs.Trees.{expr_tree}
 use Rattle.py_grammar.specs.Depth.{expr_depth, rest_depth}
-use Rattle.py_grammar.specs.Lies.{deeper_of, expr_lies, rest_lies}
-use Rattle.py_grammar.proofs.Lying.{both_low, expr_low, deepest_more}
+use Rattle.py_grammar.specs.Lies.{nowhere, deeper_of, expr_lies, rest_lies, expr_deepest, rest_deepest}
+use Rattle.py_grammar.proofs.Lying.{both_low, expr_low}
+use Rattle.py_grammar.proofs.Deepest.{deeper_first, deeper_same, deeper_group}
 use Rattle.py_grammar.specs.Reader.{Read, go_on, next_level, kind_level, starts, begins_expr, is_sign, read_sign, read_expr, read_rest, rest_rest}
 use Rattle.py_grammar.specs.Written.{OneTarget, TargetRest, last_target, more_target, one_target, several_targets}
 use Rattle.py_grammar.specs.StatementReader.{expr_target, rest_target, exprs_target}
 use Rattle.py_grammar.specs.Parsed.{expr_part, is_form, Taken, Found, IsDeep, Only, Refused, is_sign_next, rest_ends_open}
-use Rattle.py_grammar.specs.ParsedRows.{IsDeepestWith, rest_part, rest_trees, FoundRest}
+use Rattle.py_grammar.specs.ParsedRows.{rest_part, rest_trees, FoundRest}
 use Rattle.py_grammar.proofs.Leading.{Reads}
 use Rattle.py_grammar.proofs.Firsts.{expr_starts, rest_is}
 use Rattle.py_grammar.proofs.Reading.{if_true, expr_reads}
@@ -96,7 +97,7 @@ pub record RestGoes (room : ℕ) (before : List Token) (old : Row) (after : List
   pub lies : Pos → ℕ
   pub lies_is : (r : Rest) (at : Pos) → rest_lies (put r) at ≡ max (lies at) (rest_lies r at)
   pub low : (at : Pos) → lies at ≤ depth
-  pub deepest_is : IsDeepestWith old.height old.deepest lies depth row.deepest
+  pub deepest_is : (r : Rest) → deeper_of old.height old.deepest (rest_depth (put r)) (rest_deepest (put r)) ≡ deeper_of row.height row.deepest (rest_depth r) (rest_deepest r)
   pub form_is : (r : Rest) → (if is_none row.wrong then is_some (rest_target r) else false) ≡ (if is_none old.wrong then is_some (rest_target (put r)) else false)
   pub open_is : (r : Rest) → rest_ends_open (put r) ≡ rest_ends_open r
   pub fits : row.height ≤ room
@@ -123,7 +124,7 @@ rest_init room before row fits = record {
   lies = λ at. 0;
   lies_is = λ r at. none_below (rest_lies r at);
   low = λ at. omega arith;
-  deepest_is = λ other is other_low. ap (λ h. max h 0) is;
+  deepest_is = λ r. refl;
   form_is = λ r. refl;
   open_is = λ r. refl;
   fits = fits;
@@ -207,6 +208,14 @@ rest_leads put front steps behind leads e comma is n tail =
     ∙ go_on_once (read_rest ((n + behind) + is.steps) tail) (more_rest e comma) (λ r rest. Some (put r, rest))
     ∙ more_steps (λ k. go_on (read_rest k tail) (λ r rest. Some (put (more_rest e comma r), rest))) ((n + behind) + is.steps) (n + (behind + is.steps)) (omega arith)
 
+-- one more of a row, and what stands behind it
+one_more : (row row_2 : Row) (part : Part) (e : Expr) (r : Rest) → row_2.height ≡ max row.height part.height → row_2.deepest ≡ deeper_of row.height row.deepest part.height part.deepest → part.height ≡ expr_depth e → part.deepest ≡ expr_deepest e
+    → deeper_of row.height row.deepest (max (expr_depth e) (rest_depth r)) (deeper_of (expr_depth e) (expr_deepest e) (rest_depth r) (rest_deepest r)) ≡ deeper_of row_2.height row_2.deepest (rest_depth r) (rest_deepest r)
+one_more row row_2 part e r higher deepest height_is deepest_is =
+    deeper_group row.height (expr_depth e) (rest_depth r) row.deepest (expr_deepest e) (rest_deepest r)
+    ∙ sym (deeper_same row_2.height (rest_depth r) (max row.height (expr_depth e)) (rest_depth r) row_2.deepest (rest_deepest r) (deeper_of row.height row.deepest (expr_depth e) (expr_deepest e)) (rest_deepest r)
+    (higher ∙ ap (max row.height) height_is) (deepest ∙ deeper_same row.height part.height row.height (expr_depth e) row.deepest part.deepest row.deepest (expr_deepest e) refl refl height_is deepest_is) refl refl)
+
 pub rest_next : (room : ℕ) (before after middle behind : List Token) (at : Pos) (old row row_2 : Row) (part : Part) → RestGoes room before old after row → Found expr_part expr_tree 7 room after part middle
     → Taken (Sign 6) middle at behind → row_2.list.items ≡ row.list.items ++ part.expr ∷ [] → row_2.height ≡ max row.height part.height → row_2.deepest ≡ deeper_of row.height row.deepest part.height part.deepest → is_none row_2.wrong ≡ (if is_none row.wrong then is_none part.wrong else false)
     → RestGoes room before old behind row_2
@@ -224,7 +233,7 @@ rest_next room before after middle behind at old row row_2 part g f k items_are 
   lies = λ at. max (g.lies at) (expr_lies f.written at);
   lies_is = λ r at. g.lies_is (more_rest f.written k.spot r) at ∙ sym (max_assoc (g.lies at) (expr_lies f.written at) (rest_lies r at));
   low = λ at. both_low _ _ _ _ (g.low at) (expr_low f.written at);
-  deepest_is = deepest_more old.height old.deepest g.lies g.depth (expr_lies f.written) (expr_depth f.written) row.height row.deepest part.height part.deepest row_2.deepest g.deepest_is g.low g.height_is deepest f.height_is f.deepest_is (expr_low f.written);
+  deepest_is = λ r. g.deepest_is (more_rest f.written k.spot r) ∙ one_more row row_2 part f.written r higher deepest f.height_is f.deepest_is;
   form_is = λ r.
       ap (λ b. if b then is_some (rest_target r) else false) (form ∙ ap (λ b. if is_none row.wrong then b else false) f.form_is)
       ∙ three_forms (is_none row.wrong) (is_form (expr_target f.written)) (is_some (rest_target r))
@@ -245,10 +254,7 @@ rest_last room before after middle old row row_2 part g f other items_are higher
   before_is = g.before_is ∙ ap (λ ts. g.front ++ ts) f.before_is ∙ sym (append_assoc g.front (expr_tokens f.written) middle) ∙ ap (λ ts. ts ++ middle) (sym (g.tokens_are (last_rest f.written)));
   trees_are = pushed_trees row.list.items row_2.list.items part.expr (map expr_of old.list.items) g.trees (expr_tree f.written) items_are g.row_is f.tree_is ∙ ap (λ ts. map expr_of old.list.items ++ ts) (sym (g.trees_are (last_rest f.written)));
   height_is = higher ∙ ap (λ h. max h part.height) g.height_is ∙ ap (λ h. max (max old.height g.depth) h) f.height_is ∙ max_assoc old.height g.depth (expr_depth f.written) ∙ ap (max old.height) (sym (g.depth_is (last_rest f.written)));
-  deepest_is = λ other_lies is other_low.
-      ap (max (other_lies row_2.deepest)) (g.lies_is (last_rest f.written) row_2.deepest)
-      ∙ deepest_more old.height old.deepest g.lies g.depth (expr_lies f.written) (expr_depth f.written) row.height row.deepest part.height part.deepest row_2.deepest g.deepest_is g.low g.height_is deepest f.height_is f.deepest_is (expr_low f.written) other_lies is other_low
-      ∙ ap (max old.height) (sym (g.depth_is (last_rest f.written)));
+  deepest_is = deepest ∙ deeper_same row.height part.height row.height (expr_depth f.written) row.deepest part.deepest row.deepest (expr_deepest f.written) refl refl f.height_is f.deepest_is ∙ sym (g.deepest_is (last_rest f.written));
   form_is = form ∙ ap (λ b. if is_none row.wrong then b else false) (f.form_is ∙ sym (some_last f.written)) ∙ g.form_is (last_rest f.written);
   fits = below_both row_2.height row.height part.height room higher g.fits f.fits;
   beyond = λ closed_there. beyond_comma middle f.beyond other;
@@ -261,8 +267,7 @@ rest_end room before after old row g other = record {
   before_is = g.before_is ∙ ap (λ ts. ts ++ after) (sym (g.tokens_are end_rest ∙ append-nil g.front));
   trees_are = g.row_is ∙ ap (λ ts. map expr_of old.list.items ++ ts) (sym (g.trees_are end_rest ∙ append-nil g.trees));
   height_is = g.height_is ∙ ap (max old.height) (sym (g.depth_is end_rest ∙ no_deeper g.depth));
-  deepest_is = λ other_lies is other_low.
-      ap (max (other_lies row.deepest)) (g.lies_is end_rest row.deepest ∙ no_deeper (g.lies row.deepest)) ∙ g.deepest_is other_lies is other_low ∙ ap (max old.height) (sym (g.depth_is end_rest ∙ no_deeper g.depth));
+  deepest_is = sym (g.deepest_is end_rest ∙ deeper_first row.height 0 row.deepest nowhere (omega arith));
   form_is = form_itself (is_none row.wrong) ∙ g.form_is end_rest;
   fits = g.fits;
   beyond = λ closed_there. let open_there = g.open_is end_rest in cc;
@@ -283,6 +288,10 @@ rest_deep stop room (suc n) e ts deep = only_if _ (next_level ts == 8) _ _
 beside_within : (a b depth old height room : ℕ) → a ≤ depth → height ≡ max old depth → height ≤ room → b ≤ room → max a b ≤ room
 beside_within a b depth old height room low is fits other = omega (arith, low, is, fits, other)
 
+-- what lies too deep behind what was read does so in the whole
+put_deep : (before : List Token) (old : Row) (after : List Token) (row : Row) (room : ℕ) (g : RestGoes room before old after row) (stop : Stop) (r : Rest) → IsDeep stop room (rest_lies r) → IsDeep stop room (rest_lies (g.put r))
+put_deep before old after row room g stop r deep = deeper stop room (rest_lies r) room (rest_lies (g.put r)) deep (λ at some. let is = g.lies_is r at in let high = le-max_right (g.lies at) (rest_lies r at) in omega (arith, is, high))
+
 rest_inside : (room : ℕ) (before after : List Token) (old row : Row) (g : RestGoes room before old after row) → begins_expr after ≡ true → Inside rest_part room expr_part room g.front after
 rest_inside room before after old row g start = record {
   begins = λ at b. record {
@@ -293,6 +302,7 @@ rest_inside room before after old row g start = record {
         let is = g.lies_is (last_rest b) other in
         let whole = beside_within (g.lies other) (expr_lies b other) g.depth old.height row.height room (g.low other) g.height_is g.fits low in
         omega (arith, is, whole);
+    deep = λ stop deep. put_deep before old after row room g stop (last_rest b) deep;
   };
   finds = λ stop more first finds. record {
     steps = suc finds.steps + g.steps;
@@ -304,7 +314,7 @@ rest_inside room before after old row g start = record {
         ∙ ap (λ r. go_on r (λ r rest. Some (g.put r, rest))) (if_true (begins_expr more) (go_on (read_expr ((n + g.behind) + finds.steps) more) (λ e rest. rest_rest ((n + g.behind) + finds.steps) e rest)) (Some (end_rest, more)) same))
         (only_go_on (λ r. IsDeep stop room (rest_lies r)) _ _ _
         (only_go_on (λ e. IsDeep stop room (expr_lies e)) _ (read_expr ((n + g.behind) + finds.steps) more) _ (finds.only (n + g.behind)) (λ e rest deep. rest_deep stop room ((n + g.behind) + finds.steps) e rest deep))
-        (λ r rest deep. deeper stop room (rest_lies r) room (rest_lies (g.put r)) deep (λ at some. let is = g.lies_is r at in let high = le-max_right (g.lies at) (rest_lies r at) in omega (arith, is, high))));
+        (λ r rest deep. put_deep before old after row room g stop r deep));
   };
 }
 

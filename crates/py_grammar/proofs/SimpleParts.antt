@@ -1,5 +1,5 @@
 -- Simple statements: how what is read of a part, or not, tells what is read of the statement.
-use Rattle.std.proofs.Common.{◌≡◌, inl, inr, ℕ, suc, ◌+◌, ◌≤◌, ◌<◌, Bool, true, false, List, [], ◌∷◌, ◌++◌, Option, Some, None, option_map, option_and_then, refl, ap, sym, ◌∙◌, arith, subst, append_assoc, append-nil, length, is_some, IfNone, if◌then◌else◌}
+use Rattle.std.proofs.Common.{◌≡◌, inl, ℕ, suc, ◌+◌, ◌≤◌, ◌<◌, Bool, true, false, List, [], ◌∷◌, ◌++◌, Option, Some, None, option_map, option_and_then, refl, ap, sym, ◌∙◌, arith, subst, append_assoc, append-nil, length, is_some, IfNone, if◌then◌else◌}
 use Rattle.std.specs.Prelude.{◌==◌}
 use Rattle.std.proofs.lemmas.Bool.{eqb-true}
 use Rattle.prov_base.specs.declared.place.Pos.{Pos}
@@ -20,12 +20,12 @@ use Rattle.py_grammar.specs.Lies.{expr_lies, simple_lies}
 use Rattle.py_grammar.specs.WellPlaced.{Around}
 use Rattle.py_grammar.specs.Reader.{Read, next_level, starts, read_expr, read_exprs}
 use Rattle.py_grammar.specs.StatementReader.{whole, alone, read_simple}
-use Rattle.py_grammar.specs.Parsed.{Production, GoesOn, IsDeep, Only, Finds, Begins, BeginsWithin, Shown, is_keyword_next, Refused, Found, FoundRow, expr_part}
-use Rattle.py_grammar.specs.ParsedSimple.{leaving_none, simple_part, StartsSimple, BeginsSimple, has_place, UnreadDel, IsAmiss, SimpleShown, SimpleEnds, SimpleRefused, IsMore}
+use Rattle.py_grammar.specs.Parsed.{Production, IsDeep, Only, Finds, BeginsWithin, IsFirstDeep, GoesDeep, Shown, is_keyword_next, Refused, Found, FoundRow, expr_part}
+use Rattle.py_grammar.specs.ParsedSimple.{leaving_none, simple_part, NamesDeep, BeginsSimple, DeepSimple, has_place, UnreadDel, IsAmiss, SimpleShown, SimpleEnds, SimpleRefused, IsMore}
 use Rattle.py_grammar.proofs.Reading.{expr_reads}
 use Rattle.py_grammar.proofs.RowReads.{row_reads}
 use Rattle.py_grammar.proofs.Refusals.{first_of, only_is, finds_same, finds_weaker}
-use Rattle.py_grammar.proofs.Lying.{nowhere, expr_low}
+use Rattle.py_grammar.proofs.Lying.{expr_low}
 use Rattle.py_grammar.proofs.LyingLines.{simple_low}
 use Rattle.py_grammar.proofs.Stops.{spot_at}
 
@@ -126,11 +126,6 @@ expr_fits f = let high = f.height_is in let low = f.fits in omega (arith, high, 
 pub row_fits : {before after : List Token} {part : Part} → (f : FoundRow 100 before part after) → exprs_depth f.written ≤ 100
 row_fits f = let high = f.height_is in let low = f.fits in omega (arith, high, low)
 
--- what has begun, within the room or not
-pub simple_so : (is : Simple → Bool) (tokens : List Token) → BeginsSimple is tokens → StartsSimple is tokens
-simple_so is tokens (inl b) = let c = b nowhere in inl (record { some = c.some; is_so = c.is_so; more = c.more; tokens_are = c.tokens_are })
-simple_so is tokens (inr b) = let c = b nowhere in inr (record { spot = c.spot; some = c.some; more = c.more; tokens_are = c.tokens_are })
-
 pub spelled : (is : Simple → Bool) (s : Simple) (tokens : List Token) → is s ≡ true → simple_depth s ≤ 100 → simple_tokens s ≡ tokens → BeginsSimple is tokens
 spelled is s tokens so fits same = inl (λ at. record { some = s; is_so = so; more = []; tokens_are = same ∙ sym (append-nil tokens); within = λ other apart. simple_within s fits other })
 
@@ -138,14 +133,15 @@ spelled is s tokens so fits same = inl (λ at. record { some = s; is_so = so; mo
 nothing_yet : (around : Around) → BeginsSimple (has_place around) []
 nothing_yet around = inl (λ at. record { some = pass (spot_at at); is_so = refl; more = simple_tokens (pass (spot_at at)); tokens_are = refl; within = λ other apart. omega arith })
 
--- A part begins behind these tokens, and so does what it stands in: within the room where the part does.
-pub record Carries {B : Type 0} (q : Production B) (inner : ℕ) (front : List Token) (begins starts : List Token → Type 0) : Type 0 where
+-- A part begins behind these tokens, and so does what it stands in: within the room where the part does, and what lies too deep first
+-- in the part does so in the whole.
+pub record Carries {B : Type 0} (q : Production B) (inner : ℕ) (front : List Token) (begins : List Token → Type 0) (deep : List Token → Pos → Type 0) : Type 0 where
   pub within : (tokens : List Token) → BeginsWithin q inner tokens → begins (front ++ tokens)
-  pub plain : (tokens : List Token) → Begins q tokens → starts (front ++ tokens)
+  pub first : (tokens : List Token) (place : Pos) → IsFirstDeep q inner tokens place → deep (front ++ tokens) place
 
 pub begins_part : {B : Type 0} (is : Simple → Bool) (q : Production B) (inner : ℕ) (front : List Token) (s : B → Simple) → ((b : B) → is (s b) ≡ true) → ((b : B) → simple_tokens (s b) ≡ front ++ q.tokens b)
-    → ((b : B) (at : Pos) → q.lies b at ≤ inner → simple_lies (s b) at ≤ 100) → Carries q inner front (BeginsSimple is) (StartsSimple is)
-begins_part is q inner front s so spells low = record {
+    → ((b : B) (at : Pos) → q.lies b at ≤ inner → simple_lies (s b) at ≤ 100) → ((b : B) (at : Pos) → inner < q.lies b at → 100 < simple_lies (s b) at) → Carries q inner front (BeginsSimple is) (DeepSimple is)
+begins_part is q inner front s so spells low high = record {
   within = λ tokens b. inl (λ at. let c = b at in record {
     some = s c.some;
     is_so = so c.some;
@@ -153,7 +149,19 @@ begins_part is q inner front s so spells low = record {
     tokens_are = spells c.some ∙ ap (λ ts. front ++ ts) c.tokens_are ∙ sym (append_assoc front tokens c.more);
     within = λ other apart. low c.some other (c.within other apart);
   });
-  plain = λ tokens b. inl (record { some = s b.some; is_so = so b.some; more = b.more; tokens_are = spells b.some ∙ ap (λ ts. front ++ ts) b.tokens_are ∙ sym (append_assoc front tokens b.more) });
+  first = λ tokens place f. inl (record {
+    some = s f.some;
+    is_so = so f.some;
+    more = f.more;
+    tokens_are = spells f.some ∙ ap (λ ts. front ++ ts) f.tokens_are ∙ sym (append_assoc front tokens f.more);
+    ahead = front ++ f.ahead;
+    named = f.named;
+    between = f.between;
+    front_is = ap (λ ts. front ++ ts) f.front_is ∙ sym (append_assoc front f.ahead (f.named ∷ f.between));
+    named_is = f.named_is;
+    deep = high f.some place f.deep;
+    within = λ other apart. low f.some other (f.within other apart);
+  });
 }
 
 first_alike : (f : List Token) (t : Token) (more behind : List Token) → first_of (f ++ t ∷ more) ≡ first_of (f ++ t ∷ behind)
@@ -166,20 +174,20 @@ other_statement before front t behind fault other is = record {
   there = λ spot inside at e more same. absurd (let no : true ≡ false = sym (ap (λ ts. is_keyword_next 12 (ts ++ t ∷ behind)) at) ∙ sym (ap (is_keyword_next 12) is) ∙ other in cc);
 }
 
--- with TooDeep, what begins a part that is refused goes on behind these tokens too
-goes_behind : {B : Type 0} (is : Simple → Bool) (q : Production B) (front inside : List Token) (t : Token) (fault : Fault) → ((tokens : List Token) → Begins q tokens → StartsSimple is (front ++ tokens)) → GoesOn (Begins q) inside t fault
-    → GoesOn (StartsSimple is) (front ++ inside) t fault
-goes_behind is q front inside t (TooDeep at) begins goes = subst (StartsSimple is) (sym (append_assoc front inside (t ∷ []))) (begins (inside ++ t ∷ []) goes)
-goes_behind is q front inside t (Unexpected left) begins goes = tt
-goes_behind is q front inside t (TooMany at) begins goes = tt
-goes_behind is q front inside t Memory begins goes = tt
+-- with TooDeep, what lies too deep first in a part that is refused does so behind these tokens too
+goes_behind : {B : Type 0} (deep : List Token → Pos → Type 0) (q : Production B) (inner : ℕ) (front inside : List Token) (t : Token) (fault : Fault) → ((tokens : List Token) (place : Pos) → IsFirstDeep q inner tokens place → deep (front ++ tokens) place) → GoesDeep q inner inside t fault
+    → NamesDeep deep (front ++ inside) t fault
+goes_behind deep q inner front inside t (TooDeep at) first goes = subst (λ (ts : List Token). deep ts at) (sym (append_assoc front inside (t ∷ []))) (first (inside ++ t ∷ []) at goes)
+goes_behind deep q inner front inside t (Unexpected left) first goes = tt
+goes_behind deep q inner front inside t (TooMany at) first goes = tt
+goes_behind deep q inner front inside t Memory first goes = tt
 
 abbrev IsWeaker : Around → Stop → Type 0
 IsWeaker around stop = (s : Simple) → IsDeep stop 100 (simple_lies s) → IsAmiss around stop s
 
 -- a part stands behind these tokens: how it begins, and what is read there
 record Stands {B : Type 0} (around : Around) (q : Production B) (inner : ℕ) (front rest : List Token) : Type 0 where
-  begins : Carries q inner front (BeginsSimple (has_place around)) (StartsSimple (has_place around))
+  begins : Carries q inner front (BeginsSimple (has_place around)) (DeepSimple (has_place around))
   finds : (why : Stop) (more : List Token) → first_of more ≡ first_of rest → Finds (λ b. IsDeep why inner (q.lies b)) q.read more → Finds (λ s. IsDeep why 100 (simple_lies s)) simple_part.read (front ++ more)
   unread : (fault : Fault) (s : Shown q inner rest fault) → UnreadDel (front ++ s.front) s.shown_by fault
 
@@ -192,7 +200,7 @@ shown_part around q inner front rest before fault is part weaker s = record {
   before_is = is ∙ ap (λ ts. front ++ ts) s.before_is ∙ sym (append_assoc front s.front (s.shown_by ∷ s.behind));
   left_is = s.left_is;
   begins = part.begins.within s.front s.begins;
-  goes_on = goes_behind (has_place around) q front s.front s.shown_by fault part.begins.plain s.goes_on;
+  goes_on = goes_behind (DeepSimple (has_place around)) q inner front s.front s.shown_by fault part.begins.first s.goes_on;
   unread = part.unread fault s;
   none = λ more. finds_same _ simple_part.read _ _ (append_assoc front s.front (s.shown_by ∷ more))
       (finds_weaker _ _ simple_part.read _ weaker (part.finds (Here fault) (s.front ++ s.shown_by ∷ more) (first_alike s.front s.shown_by more s.behind ∙ sym (ap first_of s.before_is)) (s.none more)));
@@ -210,7 +218,7 @@ refused_there around q inner front rest before End is part refused =
 -- a part is refused behind these tokens
 pub refused_behind : {B : Type 0} (around : Around) (q : Production B) (inner : ℕ) (front rest before : List Token) (stop : Stop) (g : ℕ → B → List Token → Option Simple) → before ≡ front ++ rest
     → ((fault : Fault) (s : Shown q inner rest fault) → UnreadDel (front ++ s.front) s.shown_by fault)
-    → Carries q inner front (BeginsSimple (has_place around)) (StartsSimple (has_place around)) → ((more : List Token) → first_of more ≡ first_of rest → Turns q (front ++ more) more g)
+    → Carries q inner front (BeginsSimple (has_place around)) (DeepSimple (has_place around)) → ((more : List Token) → first_of more ≡ first_of rest → Turns q (front ++ more) more g)
     → ((why : Stop) (n : ℕ) (b : B) (left : List Token) → IsDeep why inner (q.lies b) → Only (λ s. IsDeep why 100 (simple_lies s)) (leaving_none (g n b left)))
     → Refused q inner rest stop → SimpleRefused around before stop
 refused_behind around q inner front rest before stop g is unread begins turns deep refused = refused_there around q inner front rest before stop is
@@ -218,7 +226,7 @@ refused_behind around q inner front rest before stop g is unread begins turns de
     refused
 
 pub refused_part : {B : Type 0} (around : Around) (q : Production B) (inner : ℕ) (front rest before : List Token) (stop : Stop) (g : ℕ → B → List Token → Option Simple) → is_keyword_next 12 before ≡ false → before ≡ front ++ rest
-    → Carries q inner front (BeginsSimple (has_place around)) (StartsSimple (has_place around)) → ((more : List Token) → first_of more ≡ first_of rest → Turns q (front ++ more) more g)
+    → Carries q inner front (BeginsSimple (has_place around)) (DeepSimple (has_place around)) → ((more : List Token) → first_of more ≡ first_of rest → Turns q (front ++ more) more g)
     → ((why : Stop) (n : ℕ) (b : B) (left : List Token) → IsDeep why inner (q.lies b) → Only (λ s. IsDeep why 100 (simple_lies s)) (leaving_none (g n b left)))
     → Refused q inner rest stop → SimpleRefused around before stop
 refused_part around q inner front rest before stop g other is begins turns deep refused = refused_behind around q inner front rest before stop g is
@@ -296,6 +304,10 @@ not_deeper (Here (Unexpected at)) depth deep = deep
 not_deeper (Here (TooMany at)) depth deep = deep
 not_deeper (Here Memory) depth deep = deep
 not_deeper End depth deep = deep
+
+-- nothing lies too deep where nothing does
+pub none_deeper : (room : ℕ) → room < 0 → ⊥
+none_deeper room deep = absurd (omega (arith, deep))
 
 -- ---- whether something stands there
 

@@ -1,6 +1,7 @@
 -- `assert` and `del`: what is read, and how it is refused.
 use Rattle.std.proofs.Common.{◌≡◌, inr, ℕ, ◌+◌, ◌≤◌, Bool, true, false, List, [], ◌∷◌, ◌++◌, Option, Some, None, option_map, option_and_then, is_none, is_some, refl, ap, sym, ◌∙◌, arith, subst, append_assoc, append-nil}
 use Rattle.std.proofs.lemmas.Option.{same_Some}
+use Rattle.std.proofs.Math.Nat.{le-max_right}
 use Rattle.prov_base.specs.declared.place.Pos.{Pos}
 use Rattle.py_lines.specs.declared.parts.Token.{Token}
 use Rattle.py_lines.specs.declared.parts.TokenKind.TheVariants.{Keyword, Sign}
@@ -24,7 +25,7 @@ use Rattle.py_grammar.specs.WellPlaced.{Around, may_go, form_stands}
 use Rattle.py_grammar.specs.Reader.{Read, is_sign, spot_of, read_expr}
 use Rattle.py_grammar.specs.StatementReader.{expr_target, whole, after_test}
 use Rattle.py_grammar.specs.Parsed.{IsDeep, Only, Finds, Shown, Found, Refused, Taken, is_sign_next, is_form, expr_part, IsAtFirst}
-use Rattle.py_grammar.specs.ParsedSimple.{leaving_none, StartsSimple, BeginsSimple, has_place, UnreadDel, SimpleEnds, SimpleRefused, FoundBehindAny, RefusedBehindAny, IsMore, target_form}
+use Rattle.py_grammar.specs.ParsedSimple.{leaving_none, BeginsSimple, DeepSimple, has_place, UnreadDel, SimpleEnds, SimpleRefused, FoundBehindAny, RefusedBehindAny, IsMore, target_form}
 use Rattle.py_grammar.proofs.Reading.{expr_reads, if_false}
 use Rattle.py_grammar.proofs.Refusals.{only_is, begins_whole, deep_same, deep_beside_left, deep_beside_right, max_below}
 use Rattle.py_grammar.proofs.TargetForms.{target_is, target_deep, target_lies_so, target_spelled, target_tree_is}
@@ -48,7 +49,7 @@ pub assert_refused : (behind : List Token) (stop : Stop) → Refused expr_part 1
 assert_refused behind stop is = record {
   there = λ around spot.
       refused_part around expr_part 100 (token (Keyword 5) spot ∷ []) behind (token (Keyword 5) spot ∷ behind) stop (assert_turn spot) refl refl
-      (begins_part (has_place around) expr_part 100 (token (Keyword 5) spot ∷ []) (assert spot) (λ e. refl) (λ e. refl) (λ e at low. low)) (λ more first. assert_turns spot more)
+      (begins_part (has_place around) expr_part 100 (token (Keyword 5) spot ∷ []) (assert spot) (λ e. refl) (λ e. refl) (λ e at low. low) (λ e at deep. deep)) (λ more first. assert_turns spot more)
       (λ why n e left deep. assert_deep why (n + 0) spot e left deep) is;
 }
 
@@ -93,7 +94,7 @@ message_refused comma_at behind middle after part stop f k is = record {
       refused_part around expr_part 100 (w ∷ (expr_tokens e ++ c ∷ [])) after (w ∷ behind) stop (message_turn spot e k.spot) refl
       (ap (λ ts. w ∷ ts) (f.before_is ∙ ap (λ ts. expr_tokens e ++ ts) k.before_is ∙ sym (append_assoc (expr_tokens e) (c ∷ []) after)))
       (begins_part (has_place around) expr_part 100 (w ∷ (expr_tokens e ++ c ∷ [])) (assert_message spot e k.spot) (λ m. refl) (λ m. ap (λ ts. w ∷ ts) (sym (append_assoc (expr_tokens e) (c ∷ []) (expr_tokens m))))
-      (λ m at low. max_below _ _ 100 (expr_within e (expr_fits f) at) low))
+      (λ m at low. max_below _ _ 100 (expr_within e (expr_fits f) at) low) (λ m at deep. let high = le-max_right (expr_lies e at) (expr_lies m at) in omega (arith, deep, high)))
       (λ more first. turns_same expr_part _ (w ∷ (expr_tokens e ++ c ∷ more)) more _ (ap (λ ts. w ∷ ts) (append_assoc (expr_tokens e) (c ∷ []) more)) (message_turns spot e k.spot more))
       (λ why n m left deep. only_whole _ (λ m. Some (assert_message spot e k.spot m)) n m left (deep_beside_right why 100 (expr_lies e) (expr_lies m) deep))
       is;
@@ -139,10 +140,22 @@ del_turns spot more = record { before = 0; behind = 0; turns = λ n. by n (read_
     by n (Some (e, [])) = refl
     by n (Some (e, t ∷ ts)) = refl
 
-del_begins : (is : Simple → Bool) (spot : Spot) → Carries expr_part 100 (token (Keyword 12) spot ∷ []) (BeginsSimple is) (StartsSimple is)
+del_begins : (is : Simple → Bool) (spot : Spot) → Carries expr_part 100 (token (Keyword 12) spot ∷ []) (BeginsSimple is) (DeepSimple is)
 del_begins is spot = record {
   within = λ tokens b. inr (λ at. let c = b at in record { spot = spot; some = c.some; more = c.more; tokens_are = ap (λ ts. token (Keyword 12) spot ∷ ts) c.tokens_are; within = c.within });
-  plain = λ tokens b. inr (record { spot = spot; some = b.some; more = b.more; tokens_are = ap (λ ts. token (Keyword 12) spot ∷ ts) b.tokens_are });
+  first = λ tokens place f. inr (record {
+    spot = spot;
+    some = f.some;
+    more = f.more;
+    tokens_are = ap (λ ts. token (Keyword 12) spot ∷ ts) f.tokens_are;
+    ahead = token (Keyword 12) spot ∷ f.ahead;
+    named = f.named;
+    between = f.between;
+    front_is = ap (λ ts. token (Keyword 12) spot ∷ ts) f.front_is;
+    named_is = f.named_is;
+    deep = f.deep;
+    within = f.within;
+  });
 }
 
 del_begun : (is : Simple → Bool) (spot : Spot) (e : Expr) → expr_depth e ≤ 100 → BeginsSimple is (token (Keyword 12) spot ∷ expr_tokens e)

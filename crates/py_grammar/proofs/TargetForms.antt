@@ -7,12 +7,13 @@ use Rattle.py_grammar.specs.Tokens.{expr_tokens, exprs_tokens}
 use Rattle.py_grammar.specs.Trees.{expr_tree, rest_tree, exprs_tree}
 use Rattle.py_grammar.specs.Depth.{expr_depth, rest_depth, exprs_depth, one_target_depth, target_rest_depth, target_depth}
 use Rattle.prov_base.specs.declared.place.Pos.{Pos}
-use Rattle.py_grammar.specs.Lies.{begins, over, expr_lies, exprs_lies, rest_lies, one_target_lies, target_rest_lies, target_lies}
+use Rattle.py_grammar.specs.Lies.{begins, over, expr_lies, exprs_lies, rest_lies, one_target_lies, target_rest_lies, target_lies, expr_deepest, one_target_deepest, IsFirst}
 use Rattle.py_grammar.specs.StatementTokens.{one_target_tokens, target_tokens}
 use Rattle.py_grammar.specs.StatementTrees.{one_target_tree, target_rest_tree, target_tree}
 use Rattle.py_grammar.specs.StatementReader.{prim_target, expr_target, rest_target, exprs_target}
 use Rattle.py_grammar.specs.Written.{OneTarget, named, item, field, TargetRest, end_rest_target, last_target, more_target, Target, one_target, several_targets}
 use Rattle.py_grammar.specs.ParsedSimple.{target_form, targets_form, all_target_form}
+use Rattle.py_grammar.proofs.Deepest.{expr_is_first}
 use Rattle.py_grammar.proofs.SimpleReading.{prim_expr, target_expr, rest_exprs, target_exprs, targets_spell}
 
 -- ---- which expressions they are
@@ -123,6 +124,24 @@ target_lies_so e t is at = ap (λ x. expr_lies x at) (target_is e t is) ∙ one_
 
 pub targets_lie_so : (e : Exprs) (t : Target) → exprs_target e ≡ Some t → (at : Pos) → exprs_lies e at ≡ target_lies t at
 targets_lie_so e t is at = ap (λ x. exprs_lies x at) (targets_are e t is) ∙ lies_of t at
+
+-- ---- where the first of their deepest begins
+
+one_deepest : (t : OneTarget) → expr_deepest (target_expr t) ≡ one_target_deepest t
+one_deepest (named spot bytes) = refl
+one_deepest (item e opening index closing) = refl
+one_deepest (field e dot name_at bytes) = refl
+
+pub target_deepest_so : (e : Expr) (t : OneTarget) → expr_target e ≡ Some t → expr_deepest e ≡ one_target_deepest t
+target_deepest_so e t is = ap expr_deepest (target_is e t is) ∙ one_deepest t
+
+pub one_target_reached : (t : OneTarget) → one_target_lies t (one_target_deepest t) ≡ one_target_depth t
+one_target_reached t = sym (one_lies t (one_target_deepest t)) ∙ ap (expr_lies (target_expr t)) (sym (one_deepest t)) ∙ (expr_is_first (target_expr t)).lies_is ∙ one_deep t
+
+pub one_target_is_first : (t : OneTarget) → IsFirst (one_target_tokens t) (one_target_lies t) (one_target_depth t) (one_target_deepest t)
+one_target_is_first (named spot bytes) = expr_is_first (target_expr (named spot bytes))
+one_target_is_first (item e opening index closing) = expr_is_first (target_expr (item e opening index closing))
+one_target_is_first (field e dot name_at bytes) = expr_is_first (target_expr (field e dot name_at bytes))
 
 -- ---- their tokens
 

@@ -28,7 +28,7 @@ use Rattle.py_grammar.proofs.Refusals.{first_of, alone_elsewhere}
 use Rattle.py_grammar.proofs.Stops.{spot_at}
 use Rattle.py_grammar.proofs.Choices.{some_expr}
 use Rattle.py_grammar.proofs.FixedNames.{fixed_name, fixed_refused}
-use Rattle.py_grammar.proofs.SimpleParts.{Turns, turned_none, one_found, expr_fits, row_fits, as_whole, map_whole, only_whole, only_map, only_alone, begins_part, refused_part, ended, misplaced, other_statement, row_all, row_goes, expr_all, expr_goes, not_deeper}
+use Rattle.py_grammar.proofs.SimpleParts.{Turns, turned_none, one_found, expr_fits, row_fits, as_whole, map_whole, only_whole, only_map, only_alone, begins_part, refused_part, ended, misplaced, other_statement, row_all, row_goes, expr_all, expr_goes, none_deeper, not_deeper}
 
 -- a token that a keyword alone does not have behind it
 none_behind : (around : Around) (word : ℕ) (s : Spot → Simple) (behind : List Token) (stop : Stop) → ((spot : Spot) → has_place around (s spot) ≡ true) → ((spot : Spot) → simple_depth (s spot) ≤ 100) → (word == 12) ≡ false → ((spot : Spot) → simple_tokens (s spot) ≡ token (Keyword word) spot ∷ [])
@@ -105,7 +105,7 @@ pub return_refused : (around : Around) (behind : List Token) (stop : Stop) → a
 return_refused around behind stop inside some is = record {
   there = λ spot.
       refused_part around exprs_part 100 (token (Keyword 30) spot ∷ []) behind (token (Keyword 30) spot ∷ behind) stop (return_turn spot) refl refl
-      (begins_part (has_place around) exprs_part 100 (token (Keyword 30) spot ∷ []) (return_value spot) (λ e. inside) (λ e. refl) (λ e at low. low)) (λ more first. return_turns spot more (not_empty more behind first some))
+      (begins_part (has_place around) exprs_part 100 (token (Keyword 30) spot ∷ []) (return_value spot) (λ e. inside) (λ e. refl) (λ e at low. low) (λ e at deep. deep)) (λ more first. return_turns spot more (not_empty more behind first some))
       (λ why n e left deep. only_whole _ (λ e. Some (return_value spot e)) n e left deep) is;
 }
 
@@ -158,7 +158,7 @@ pub raise_refused : (around : Around) (behind : List Token) (stop : Stop) → (b
 raise_refused around behind stop some is = record {
   there = λ spot.
       refused_part around expr_part 100 (token (Keyword 29) spot ∷ []) behind (token (Keyword 29) spot ∷ behind) stop (raise_turn spot) refl refl
-      (begins_part (has_place around) expr_part 100 (token (Keyword 29) spot ∷ []) (raise_value spot) (λ e. refl) (λ e. refl) (λ e at low. low)) (λ more first. raise_turns spot more (not_empty more behind first some))
+      (begins_part (has_place around) expr_part 100 (token (Keyword 29) spot ∷ []) (raise_value spot) (λ e. refl) (λ e. refl) (λ e at low. low) (λ e at deep. deep)) (λ more first. raise_turns spot more (not_empty more behind first some))
       (λ why n e left deep. only_whole _ (λ e. Some (raise_value spot e)) n e left deep) is;
 }
 
@@ -213,7 +213,7 @@ pub import_refused : (behind : List Token) (stop : Stop) → Refused one_name 0 
 import_refused behind stop is = record {
   there = λ around spot.
       refused_part around (fixed_name (codes "sys")) 0 (token (Keyword 21) spot ∷ []) behind (token (Keyword 21) spot ∷ behind) stop (import_turn spot) refl refl
-      (begins_part (has_place around) (fixed_name (codes "sys")) 0 (token (Keyword 21) spot ∷ []) (λ found. import_module spot found.0 (codes "sys")) (λ found. refl) (λ found. refl) (λ found at low. omega arith)) (λ more first. import_turns spot more)
+      (begins_part (has_place around) (fixed_name (codes "sys")) 0 (token (Keyword 21) spot ∷ []) (λ found. import_module spot found.0 (codes "sys")) (λ found. refl) (λ found. refl) (λ found at low. omega arith) (λ found at deep. absurd (none_deeper 0 deep))) (λ more first. import_turns spot more)
       (λ why n found left deep. absurd (not_deeper why 0 deep)) (fixed_refused (codes "sys") behind stop is);
 }
 

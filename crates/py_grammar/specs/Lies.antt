@@ -1,11 +1,12 @@
 -- How deep the expressions that begin at a place lie (this project's profile), for the place that a fault of depth names.
-use Rattle.std.specs.Prelude.{◌≡◌, ℕ, zero, suc, max, Bool, false, List, [], ◌∷◌, ◌==◌, ◌&&◌, nat_lt, if◌then◌else◌}
+use Rattle.std.specs.Prelude.{◌≡◌, ⊤, ℕ, zero, suc, ◌<◌, max, Bool, false, List, [], ◌∷◌, ◌++◌, ◌==◌, ◌&&◌, nat_lt, if◌then◌else◌}
 use Rattle.prov_base.specs.declared.place.Pos.{Pos}
 use Rattle.py_lines.specs.declared.parts.Token.{Token}
-use Rattle.py_grammar.specs.Concrete.{Expr, plain_expr, choice, Or, plain_or, or_more, And, plain_and, and_more, Not, plain_not, not_of, Cmp, plain_cmp, compared, Sum, plain_sum, sum_more, Term, plain_term, term_more, Unary, plain_unary, signed, Prim, plain_prim, call, part, attribute, Index, one_index, range_index, Bound, no_bound, bound, Atom, group, list, dict, Exprs, one_expr, several, Rest, end_rest, last_rest, more_rest, Items, no_items, items, Pairs, no_pairs, last_pair, more_pairs}
+use Rattle.py_grammar.specs.Concrete.{Expr, plain_expr, choice, Or, plain_or, or_more, And, plain_and, and_more, Not, plain_not, not_of, Cmp, plain_cmp, compared, Sum, plain_sum, sum_more, Term, plain_term, term_more, Unary, plain_unary, signed, Prim, plain_prim, call, part, attribute, Index, one_index, range_index, Bound, no_bound, bound, Atom, name, number, text, none, true_word, false_word, empty_tuple, group, list, dict, Exprs, one_expr, several, Rest, end_rest, last_rest, more_rest, Items, no_items, items, Pairs, no_pairs, last_pair, more_pairs}
 use Rattle.py_grammar.specs.Written.{OneTarget, named, item, field, TargetRest, end_rest_target, last_target, more_target, Target, one_target, several_targets, Simple, expression, assign, augmented, del, return_value, raise_value, assert, assert_message, Kind, every_kind, one_kind, Base, base}
 use Rattle.py_grammar.specs.StatementTokens.{one_target_tokens}
 use Rattle.py_grammar.specs.Tokens.{or_tokens, and_tokens, sum_tokens, term_tokens, prim_tokens, atom_tokens, expr_tokens}
+use Rattle.py_grammar.specs.Depth.{expr_depth, or_depth, and_depth, not_depth, sum_depth, term_depth, unary_depth, prim_depth, index_depth, bound_depth, exprs_depth, rest_depth, items_depth, pairs_depth, one_target_depth, target_rest_depth, target_depth}
 
 abbrev pub is_place : Pos → Pos → Bool
 is_place one other = (one.line == other.line) && (one.col == other.col)
@@ -140,3 +141,132 @@ pub record IsReached (lies : Pos → ℕ) (depth : ℕ) : Type 0 where
 -- of two neighbours the place of the one that goes deeper, and of the first where they go as deep
 abbrev pub deeper_of : ℕ → Pos → ℕ → Pos → Pos
 deeper_of left_depth left right_depth right = if nat_lt left_depth right_depth then right else left
+
+-- the place of what is not there
+abbrev pub nowhere : Pos
+nowhere = record { line = 0; col = 0 }
+
+abbrev mutual
+  -- Where the first of the expressions begins that lie deepest in it, in the order in which they are read. What has no parts
+  -- is deepest itself; what has some begins no deeper than they do.
+  pub expr_deepest : Expr → Pos
+  expr_deepest (plain_expr e) = or_deepest e
+  expr_deepest (choice chosen if_word test else_word other) = deeper_of (or_depth chosen) (or_deepest chosen) (max (or_depth test) (expr_depth other)) (deeper_of (or_depth test) (or_deepest test) (expr_depth other) (expr_deepest other))
+
+  pub or_deepest : Or → Pos
+  or_deepest (plain_or e) = and_deepest e
+  or_deepest (or_more left word right) = deeper_of (or_depth left) (or_deepest left) (and_depth right) (and_deepest right)
+
+  pub and_deepest : And → Pos
+  and_deepest (plain_and e) = not_deepest e
+  and_deepest (and_more left word right) = deeper_of (and_depth left) (and_deepest left) (not_depth right) (not_deepest right)
+
+  pub not_deepest : Not → Pos
+  not_deepest (plain_not e) = cmp_deepest e
+  not_deepest (not_of word e) = not_deepest e
+
+  pub cmp_deepest : Cmp → Pos
+  cmp_deepest (plain_cmp e) = sum_deepest e
+  cmp_deepest (compared left op right) = deeper_of (sum_depth left) (sum_deepest left) (sum_depth right) (sum_deepest right)
+
+  pub sum_deepest : Sum → Pos
+  sum_deepest (plain_sum e) = term_deepest e
+  sum_deepest (sum_more left sign op right) = deeper_of (sum_depth left) (sum_deepest left) (term_depth right) (term_deepest right)
+
+  pub term_deepest : Term → Pos
+  term_deepest (plain_term e) = unary_deepest e
+  term_deepest (term_more left sign op right) = deeper_of (term_depth left) (term_deepest left) (unary_depth right) (unary_deepest right)
+
+  pub unary_deepest : Unary → Pos
+  unary_deepest (plain_unary e) = prim_deepest e
+  unary_deepest (signed sign op e) = unary_deepest e
+
+  pub prim_deepest : Prim → Pos
+  prim_deepest (plain_prim e) = atom_deepest e
+  prim_deepest (call callee opening arguments closing) = deeper_of (prim_depth callee) (prim_deepest callee) (items_depth arguments) (items_deepest arguments)
+  prim_deepest (part e opening index closing) = deeper_of (prim_depth e) (prim_deepest e) (index_depth index) (index_deepest index)
+  prim_deepest (attribute e dot name_at bytes) = prim_deepest e
+
+  pub index_deepest : Index → Pos
+  index_deepest (one_index e) = exprs_deepest e
+  index_deepest (range_index low colon high) = deeper_of (bound_depth low) (bound_deepest low) (bound_depth high) (bound_deepest high)
+
+  pub bound_deepest : Bound → Pos
+  bound_deepest no_bound = nowhere
+  bound_deepest (bound e) = expr_deepest e
+
+  -- in brackets that hold something the deepest of it, else the bracket
+  pub atom_deepest : Atom → Pos
+  atom_deepest (name spot bytes) = spot.at
+  atom_deepest (number spot n) = spot.at
+  atom_deepest (text spot bytes) = spot.at
+  atom_deepest (none spot) = spot.at
+  atom_deepest (true_word spot) = spot.at
+  atom_deepest (false_word spot) = spot.at
+  atom_deepest (empty_tuple opening closing) = opening.at
+  atom_deepest (group opening e closing) = exprs_deepest e
+  atom_deepest (list opening e closing) = deeper_of 0 opening.at (items_depth e) (items_deepest e)
+  atom_deepest (dict opening pairs closing) = deeper_of 0 opening.at (pairs_depth pairs) (pairs_deepest pairs)
+
+  pub exprs_deepest : Exprs → Pos
+  exprs_deepest (one_expr e) = expr_deepest e
+  exprs_deepest (several e comma rest) = deeper_of (expr_depth e) (expr_deepest e) (rest_depth rest) (rest_deepest rest)
+
+  pub rest_deepest : Rest → Pos
+  rest_deepest end_rest = nowhere
+  rest_deepest (last_rest e) = expr_deepest e
+  rest_deepest (more_rest e comma rest) = deeper_of (expr_depth e) (expr_deepest e) (rest_depth rest) (rest_deepest rest)
+
+  pub items_deepest : Items → Pos
+  items_deepest no_items = nowhere
+  items_deepest (items e) = exprs_deepest e
+
+  pub pairs_deepest : Pairs → Pos
+  pairs_deepest no_pairs = nowhere
+  pairs_deepest (last_pair key colon value) = deeper_of (expr_depth key) (expr_deepest key) (expr_depth value) (expr_deepest value)
+  pairs_deepest (more_pairs key colon value comma rest) = deeper_of (max (expr_depth key) (expr_depth value)) (deeper_of (expr_depth key) (expr_deepest key) (expr_depth value) (expr_deepest value)) (pairs_depth rest) (pairs_deepest rest)
+
+abbrev pub one_target_deepest : OneTarget → Pos
+one_target_deepest (named spot bytes) = spot.at
+one_target_deepest (item e opening index closing) = deeper_of (prim_depth e) (prim_deepest e) (exprs_depth index) (exprs_deepest index)
+one_target_deepest (field e dot name_at bytes) = prim_deepest e
+
+abbrev pub target_rest_deepest : TargetRest → Pos
+target_rest_deepest end_rest_target = nowhere
+target_rest_deepest (last_target t) = one_target_deepest t
+target_rest_deepest (more_target t comma rest) = deeper_of (one_target_depth t) (one_target_deepest t) (target_rest_depth rest) (target_rest_deepest rest)
+
+abbrev pub target_deepest : Target → Pos
+target_deepest (one_target t) = one_target_deepest t
+target_deepest (several_targets t comma rest) = deeper_of (one_target_depth t) (one_target_deepest t) (target_rest_depth rest) (target_rest_deepest rest)
+
+abbrev pub simple_deepest : Simple → Pos
+simple_deepest (expression e) = exprs_deepest e
+simple_deepest (assign t equals e) = deeper_of (target_depth t) (target_deepest t) (exprs_depth e) (exprs_deepest e)
+simple_deepest (augmented t op sign e) = deeper_of (one_target_depth t) (one_target_deepest t) (exprs_depth e) (exprs_deepest e)
+simple_deepest (del word t) = one_target_deepest t
+simple_deepest (return_value word e) = exprs_deepest e
+simple_deepest (raise_value word e) = expr_deepest e
+simple_deepest (assert word e) = expr_deepest e
+simple_deepest (assert_message word e comma message) = deeper_of (expr_depth e) (expr_deepest e) (expr_depth message) (expr_deepest message)
+simple_deepest _ = nowhere
+
+abbrev pub kind_deepest : Kind → Pos
+kind_deepest every_kind = nowhere
+kind_deepest (one_kind e called) = expr_deepest e
+
+-- none of these tokens stands there
+abbrev pub IsApart : Pos → List Token → Type 0
+IsApart at [] = ⊤
+IsApart at (t ∷ ts) = (is_place t.at at ≡ false) × IsApart at ts
+
+-- In these tokens, in which this lies and goes this deep, the first that lies deepest begins at this place: a token stands
+-- there, and what begins at no token from that one on lies less deep.
+pub record IsFirst (tokens : List Token) (lies : Pos → ℕ) (depth : ℕ) (place : Pos) : Type 0 where
+  pub ahead : List Token
+  pub named : Token
+  pub later : List Token
+  pub tokens_are : tokens ≡ ahead ++ named ∷ later
+  pub named_is : named.at ≡ place
+  pub lies_is : lies place ≡ depth
+  pub less : (other : Pos) → IsApart other (named ∷ later) → lies other < depth

@@ -20,69 +20,70 @@ use Rattle.py_grammar.specs.declared.part.Part.{Part}
 use Rattle.py_grammar.specs.Concrete.{Spot, AddSign, MulSign, Expr, plain_expr, Or, plain_or, And, plain_and, Not, plain_not, Cmp, plain_cmp, CmpSign, Sum, plain_sum, Term, plain_term, Unary, Prim, plain_prim, Atom, Exprs, one_expr, several, Rest, end_rest, last_rest, more_rest}
 use Rattle.py_grammar.specs.Tokens.{token, word, sign, add_sign, mul_sign, cmp_tokens, expr_tokens, or_tokens, and_tokens, not_tokens, cmp_tokens_of, sum_tokens, term_tokens, unary_tokens, prim_tokens, atom_tokens, exprs_tokens}
 use Rattle.py_grammar.specs.Depth.{expr_depth, or_depth, and_depth, not_depth, cmp_depth, sum_depth, term_depth, unary_depth, prim_depth, atom_depth, exprs_depth}
-use Rattle.py_grammar.specs.Lies.{expr_lies, or_lies, and_lies, not_lies, cmp_lies, sum_lies, term_lies, unary_lies, prim_lies, atom_lies, exprs_lies}
+use Rattle.py_grammar.specs.Lies.{expr_lies, or_lies, and_lies, not_lies, cmp_lies, sum_lies, term_lies, unary_lies, prim_lies, atom_lies, exprs_lies, expr_deepest, or_deepest, and_deepest, not_deepest, cmp_deepest, sum_deepest, term_deepest, unary_deepest, prim_deepest, atom_deepest, exprs_deepest, IsApart}
 use Rattle.py_grammar.specs.Reader.{Read, add_sign_of, mul_sign_of, is_keyword, is_sign, next_level, starts, read_keyword, read_sign, read_name, read_cmp_sign, read_expr, read_or, read_and, read_not, read_cmp, read_sum, read_term, read_unary, read_prim, read_atom, read_exprs}
 use Rattle.py_grammar.specs.Trees.{exprs_tree, add_op, mul_op, cmp_op, cmp_at}
 use Rattle.py_grammar.specs.Written.{OneTarget}
 use Rattle.py_grammar.specs.StatementReader.{prim_target, expr_target, exprs_target}
 
--- a part of the grammar: the tokens of what is written, how deep it goes, how deep what begins at a place lies in it, whether
--- it is of a target's form, and its reader
+-- a part of the grammar: the tokens of what is written, how deep it goes, how deep what begins at a place lies in it, where the
+-- first of its deepest begins, whether it is of a target's form, and its reader
 pub record Production (A : Type 0) : Type 0 where
   pub tokens : A → List Token
   pub depth : A → ℕ
   pub lies : A → Pos → ℕ
+  pub deepest : A → Pos
   pub form : A → Bool
   pub read : ℕ → List Token → Read A
 
 abbrev pub one_keyword : ℕ → Production Spot
-one_keyword n = record { tokens = λ spot. token (Keyword n) spot ∷ []; depth = λ _. 0; lies = λ _ at. 0; form = λ _. false; read = λ _ ts. read_keyword n ts }
+one_keyword n = record { tokens = λ spot. token (Keyword n) spot ∷ []; depth = λ _. 0; lies = λ _ at. 0; deepest = λ spot. spot.at; form = λ _. false; read = λ _ ts. read_keyword n ts }
 
 abbrev pub one_sign : ℕ → Production Spot
-one_sign n = record { tokens = λ spot. token (Sign n) spot ∷ []; depth = λ _. 0; lies = λ _ at. 0; form = λ _. false; read = λ _ ts. read_sign n ts }
+one_sign n = record { tokens = λ spot. token (Sign n) spot ∷ []; depth = λ _. 0; lies = λ _ at. 0; deepest = λ spot. spot.at; form = λ _. false; read = λ _ ts. read_sign n ts }
 
 abbrev pub one_name : Production (Spot × List ℕ)
-one_name = record { tokens = λ found. word found.1 found.0; depth = λ _. 0; lies = λ _ at. 0; form = λ _. false; read = λ _ ts. read_name ts }
+one_name = record { tokens = λ found. word found.1 found.0; depth = λ _. 0; lies = λ _ at. 0; deepest = λ found. found.0.at; form = λ _. false; read = λ _ ts. read_name ts }
 
 abbrev pub one_cmp_sign : Production CmpSign
-one_cmp_sign = record { tokens = cmp_tokens; depth = λ _. 0; lies = λ _ at. 0; form = λ _. false; read = λ _ ts. read_cmp_sign ts }
+one_cmp_sign = record { tokens = cmp_tokens; depth = λ _. 0; lies = λ _ at. 0; deepest = cmp_at; form = λ _. false; read = λ _ ts. read_cmp_sign ts }
 
 abbrev pub is_form : Option OneTarget → Bool
 is_form None = false
 is_form (Some target) = true
 
 abbrev pub expr_part : Production Expr
-expr_part = record { tokens = expr_tokens; depth = expr_depth; lies = expr_lies; form = λ e. is_form (expr_target e); read = read_expr }
+expr_part = record { tokens = expr_tokens; depth = expr_depth; lies = expr_lies; deepest = expr_deepest; form = λ e. is_form (expr_target e); read = read_expr }
 
 abbrev pub or_part : Production Or
-or_part = record { tokens = or_tokens; depth = or_depth; lies = or_lies; form = λ e. is_form (expr_target (plain_expr e)); read = read_or }
+or_part = record { tokens = or_tokens; depth = or_depth; lies = or_lies; deepest = or_deepest; form = λ e. is_form (expr_target (plain_expr e)); read = read_or }
 
 abbrev pub and_part : Production And
-and_part = record { tokens = and_tokens; depth = and_depth; lies = and_lies; form = λ e. is_form (expr_target (plain_expr (plain_or e))); read = read_and }
+and_part = record { tokens = and_tokens; depth = and_depth; lies = and_lies; deepest = and_deepest; form = λ e. is_form (expr_target (plain_expr (plain_or e))); read = read_and }
 
 abbrev pub not_part : Production Not
-not_part = record { tokens = not_tokens; depth = not_depth; lies = not_lies; form = λ e. is_form (expr_target (plain_expr (plain_or (plain_and e)))); read = read_not }
+not_part = record { tokens = not_tokens; depth = not_depth; lies = not_lies; deepest = not_deepest; form = λ e. is_form (expr_target (plain_expr (plain_or (plain_and e)))); read = read_not }
 
 abbrev pub cmp_part : Production Cmp
-cmp_part = record { tokens = cmp_tokens_of; depth = cmp_depth; lies = cmp_lies; form = λ e. is_form (expr_target (plain_expr (plain_or (plain_and (plain_not e))))); read = read_cmp }
+cmp_part = record { tokens = cmp_tokens_of; depth = cmp_depth; lies = cmp_lies; deepest = cmp_deepest; form = λ e. is_form (expr_target (plain_expr (plain_or (plain_and (plain_not e))))); read = read_cmp }
 
 abbrev pub sum_part : Production Sum
-sum_part = record { tokens = sum_tokens; depth = sum_depth; lies = sum_lies; form = λ e. is_form (expr_target (plain_expr (plain_or (plain_and (plain_not (plain_cmp e)))))); read = read_sum }
+sum_part = record { tokens = sum_tokens; depth = sum_depth; lies = sum_lies; deepest = sum_deepest; form = λ e. is_form (expr_target (plain_expr (plain_or (plain_and (plain_not (plain_cmp e)))))); read = read_sum }
 
 abbrev pub term_part : Production Term
-term_part = record { tokens = term_tokens; depth = term_depth; lies = term_lies; form = λ e. is_form (expr_target (plain_expr (plain_or (plain_and (plain_not (plain_cmp (plain_sum e))))))); read = read_term }
+term_part = record { tokens = term_tokens; depth = term_depth; lies = term_lies; deepest = term_deepest; form = λ e. is_form (expr_target (plain_expr (plain_or (plain_and (plain_not (plain_cmp (plain_sum e))))))); read = read_term }
 
 abbrev pub unary_part : Production Unary
-unary_part = record { tokens = unary_tokens; depth = unary_depth; lies = unary_lies; form = λ e. is_form (expr_target (plain_expr (plain_or (plain_and (plain_not (plain_cmp (plain_sum (plain_term e)))))))); read = read_unary }
+unary_part = record { tokens = unary_tokens; depth = unary_depth; lies = unary_lies; deepest = unary_deepest; form = λ e. is_form (expr_target (plain_expr (plain_or (plain_and (plain_not (plain_cmp (plain_sum (plain_term e)))))))); read = read_unary }
 
 abbrev pub prim_part : Production Prim
-prim_part = record { tokens = prim_tokens; depth = prim_depth; lies = prim_lies; form = λ p. is_form (prim_target p); read = read_prim }
+prim_part = record { tokens = prim_tokens; depth = prim_depth; lies = prim_lies; deepest = prim_deepest; form = λ p. is_form (prim_target p); read = read_prim }
 
 abbrev pub atom_part : Production Atom
-atom_part = record { tokens = atom_tokens; depth = atom_depth; lies = atom_lies; form = λ a. is_form (prim_target (plain_prim a)); read = read_atom }
+atom_part = record { tokens = atom_tokens; depth = atom_depth; lies = atom_lies; deepest = atom_deepest; form = λ a. is_form (prim_target (plain_prim a)); read = read_atom }
 
 abbrev pub exprs_part : Production Exprs
-exprs_part = record { tokens = exprs_tokens; depth = exprs_depth; lies = exprs_lies; form = λ e. is_some (exprs_target e); read = read_exprs }
+exprs_part = record { tokens = exprs_tokens; depth = exprs_depth; lies = exprs_lies; deepest = exprs_deepest; form = λ e. is_some (exprs_target e); read = read_exprs }
 
 -- ---- the next token
 
@@ -149,6 +150,25 @@ pub record Completes {A : Type 0} (p : Production A) (room : ℕ) (front : List 
 abbrev pub BeginsWithin : {A : Type 0} → Production A → ℕ → List Token → Type 0
 BeginsWithin p room front = (at : Pos) → Completes p room front at
 
+-- Some such part has these first tokens, and there is no room for it: of the expressions in it that lie too deep the first
+-- begins at this place. A token of these stands there, and what begins at no token from that one on lies within the room.
+pub record IsFirstDeep {A : Type 0} (p : Production A) (room : ℕ) (front : List Token) (place : Pos) : Type 0 where
+  pub some : A
+  pub more : List Token
+  pub tokens_are : p.tokens some ≡ front ++ more
+  pub ahead : List Token
+  pub named : Token
+  pub between : List Token
+  pub front_is : front ≡ ahead ++ named ∷ between
+  pub named_is : named.at ≡ place
+  pub deep : room < p.lies some place
+  pub within : (other : Pos) → IsApart other (named ∷ (between ++ more)) → p.lies some other ≤ room
+
+-- with TooDeep, some such part goes on with the token that shows it, and the first that lies too deep in it is named
+abbrev pub GoesDeep : {A : Type 0} → Production A → ℕ → List Token → Token → Fault → Type 0
+GoesDeep p room front t (TooDeep place) = IsFirstDeep p room (front ++ t ∷ []) place
+GoesDeep p room front t fault = ⊤
+
 -- with TooDeep, what is asked for goes on with the token that shows it
 abbrev pub GoesOn : (begins : List Token → Type 0) → List Token → Token → Fault → Type 0
 GoesOn begins front t (TooDeep place) = begins (front ++ t ∷ [])
@@ -163,7 +183,7 @@ pub record Shown {A : Type 0} (p : Production A) (room : ℕ) (before : List Tok
   pub before_is : before ≡ front ++ shown_by ∷ behind
   pub left_is : ShowsAt behind fault
   pub begins : BeginsWithin p room front
-  pub goes_on : GoesOn (Begins p) front shown_by fault
+  pub goes_on : GoesDeep p room front shown_by fault
   pub none : (more : List Token) → Finds (λ a. IsDeep (Here fault) room (p.lies a)) p.read (front ++ shown_by ∷ more)
 
 -- no such part was read
@@ -178,7 +198,7 @@ pub record Found {A : Type 0} (p : Production A) (tree : A → ExprTree) (level 
   pub before_is : before ≡ p.tokens written ++ after
   pub tree_is : expr_of part.expr ≡ tree written
   pub height_is : part.height ≡ p.depth written
-  pub deepest_is : p.lies written part.deepest ≡ p.depth written
+  pub deepest_is : part.deepest ≡ p.deepest written
   pub form_is : is_none part.wrong ≡ p.form written
   pub fits : part.height ≤ room
   pub beyond : level < next_level after
@@ -207,7 +227,7 @@ pub record FoundRow (room : ℕ) (before : List Token) (part : Part) (after : Li
   pub before_is : before ≡ exprs_tokens written ++ after
   pub tree_is : expr_of part.expr ≡ exprs_tree written
   pub height_is : part.height ≡ exprs_depth written
-  pub deepest_is : exprs_lies written part.deepest ≡ exprs_depth written
+  pub deepest_is : part.deepest ≡ exprs_deepest written
   pub form_is : is_none part.wrong ≡ is_some (exprs_target written)
   pub fits : part.height ≤ room
   pub beyond : ends_open written ≡ false → 8 < next_level after

@@ -27,32 +27,32 @@ use Rattle.py_grammar.specs.Written.{OneTarget, named, Simple, del, pass, Names,
 use Rattle.py_grammar.specs.StatementTokens.{simple_tokens, one_target_tokens, target_tokens, names_tokens, params_tokens, naming_tokens, kind_tokens, base_tokens}
 use Rattle.py_grammar.specs.StatementTrees.{simple_form, target_tree, names_list, params_list, naming_bound, kind_class, kind_bound, base_tree}
 use Rattle.py_grammar.specs.Depth.{expr_depth, exprs_depth, simple_depth, target_depth, kind_depth}
-use Rattle.py_grammar.specs.Lies.{expr_lies, exprs_lies, sum_lies, one_target_lies, simple_lies, target_lies, kind_lies, base_lies}
+use Rattle.py_grammar.specs.Lies.{expr_lies, exprs_lies, sum_lies, one_target_lies, simple_lies, target_lies, kind_lies, base_lies, nowhere, target_deepest, kind_deepest, IsApart}
 use Rattle.py_grammar.specs.WellPlaced.{Around, in_suite, in_loop_suite, in_handler_suite, in_def_suite, in_class_suite, simple_stands, def_stands, none_given}
 use Rattle.py_grammar.specs.LineReader.{Head, simple_head, if_head, elif_head, else_head, while_head, for_head, try_head, except_head, with_head, def_head, class_head, global_head, behind_tokens, colon_tokens, head_tokens, read_colon, read_head, read_target, read_names, read_params, read_naming, read_kind, read_base}
 use Rattle.py_grammar.specs.Parsed.{Production, IsAtFirst, IsDeep, ShowsAt}
 use Rattle.py_grammar.specs.ParsedRows.{first_token, IsRead}
-use Rattle.py_grammar.specs.ParsedSimple.{around_of, leaving_none, simple_part, StartsSome, BeginsSome, StartsDel, BeginsDel, UnreadDel}
+use Rattle.py_grammar.specs.ParsedSimple.{around_of, leaving_none, simple_part, BeginsSome, BeginsDel, FirstDeepSome, FirstDeepDel, UnreadDel}
 
 -- ---- the parts of a line
 
 abbrev pub target_part : Production Target
-target_part = record { tokens = target_tokens; depth = target_depth; lies = target_lies; form = λ _. false; read = read_target }
+target_part = record { tokens = target_tokens; depth = target_depth; lies = target_lies; deepest = target_deepest; form = λ _. false; read = read_target }
 
 abbrev pub names_part : Production Names
-names_part = record { tokens = names_tokens; depth = λ _. 0; lies = λ _ at. 0; form = λ _. false; read = read_names }
+names_part = record { tokens = names_tokens; depth = λ _. 0; lies = λ _ at. 0; deepest = λ _. nowhere; form = λ _. false; read = read_names }
 
 abbrev pub params_part : Production Params
-params_part = record { tokens = params_tokens; depth = λ _. 0; lies = λ _ at. 0; form = λ _. false; read = read_params }
+params_part = record { tokens = params_tokens; depth = λ _. 0; lies = λ _ at. 0; deepest = λ _. nowhere; form = λ _. false; read = read_params }
 
 abbrev pub naming_part : Production Naming
-naming_part = record { tokens = naming_tokens; depth = λ _. 0; lies = λ _ at. 0; form = λ _. false; read = λ _ ts. read_naming ts }
+naming_part = record { tokens = naming_tokens; depth = λ _. 0; lies = λ _ at. 0; deepest = λ _. nowhere; form = λ _. false; read = λ _ ts. read_naming ts }
 
 abbrev pub kind_part : Production Kind
-kind_part = record { tokens = kind_tokens; depth = kind_depth; lies = kind_lies; form = λ _. false; read = read_kind }
+kind_part = record { tokens = kind_tokens; depth = kind_depth; lies = kind_lies; deepest = kind_deepest; form = λ _. false; read = read_kind }
 
 abbrev pub base_part : Production Base
-base_part = record { tokens = base_tokens; depth = λ _. 0; lies = λ _ at. 0; form = λ _. false; read = λ _ ts. read_base ts }
+base_part = record { tokens = base_tokens; depth = λ _. 0; lies = λ _ at. 0; deepest = λ _. nowhere; form = λ _. false; read = λ _ ts. read_base ts }
 
 -- such a part was read, which is this
 pub record Took {A V : Type 0} (p : Production A) (view : A → V) (before : List Token) (value : V) (after : List Token) : Type 0 where
@@ -163,7 +163,7 @@ head_lies (class_head word name_at bytes of colon behind) at = max (base_lies of
 head_lies (global_head word names) at = 0
 
 abbrev pub head_part : Production Head
-head_part = record { tokens = head_tokens; depth = head_depth; lies = head_lies; form = λ _. false; read = λ n ts. leaving_none (read_head n ts) }
+head_part = record { tokens = head_tokens; depth = head_depth; lies = head_lies; deepest = λ _. nowhere; form = λ _. false; read = λ n ts. leaving_none (read_head n ts) }
 
 -- the statement behind the `:`
 abbrev pub behind_in : Head → Option Simple
@@ -359,6 +359,21 @@ pub record CompletesTargets (room : ℕ) (front : List Token) (at : Pos) : Type 
 abbrev pub BeginsTargets : ℕ → List Token → Type 0
 BeginsTargets room front = (at : Pos) → CompletesTargets room front at
 
+-- Targets and a sum have these first tokens, and there is no room for them: of what lies too deep in them the first begins at this
+-- place. A token of these stands there, and what begins at no token from that one on lies within the room.
+pub record FirstDeepTargets (room : ℕ) (front : List Token) (place : Pos) : Type 0 where
+  pub passed : List (OneTarget × Spot)
+  pub some : Sum
+  pub more : List Token
+  pub tokens_are : passed_tokens passed ++ sum_tokens some ≡ front ++ more
+  pub ahead : List Token
+  pub named : Token
+  pub between : List Token
+  pub front_is : front ≡ ahead ++ named ∷ between
+  pub named_is : named.at ≡ place
+  pub deep : room_behind room passed < max (passed_lies passed place) (sum_lies some place)
+  pub within : (other : Pos) → IsApart other (named ∷ (between ++ more)) → max (passed_lies passed other) (sum_lies some other) ≤ room_behind room passed
+
 -- the same behind a `for` that may stand there: `so` says that targets begin with the tokens
 pub record ReadsFor (c : Context) (so : List Token → Type 0) (front : List Token) : Type 0 where
   pub may : word_may c 17 ≡ true
@@ -367,32 +382,34 @@ pub record ReadsFor (c : Context) (so : List Token → Type 0) (front : List Tok
   pub begins : so inside
   pub front_is : front ≡ token (Keyword 17) spot ∷ inside
 
-abbrev pub StartsReading : Context → List (List ℕ) → List Token → Type 0
-StartsReading c given front = ReadsDel c given StartsDel front ⊎ ReadsFor c StartsTargets front
-
--- the same, where nothing that has begun lies too deep
+-- what is read behind `del` or `for`, where nothing that has begun lies too deep
 abbrev pub BeginsReading : Context → List (List ℕ) → List Token → Type 0
 BeginsReading c given front = ReadsDel c given BeginsDel front ⊎ ReadsFor c (BeginsTargets 100) front
 
--- the first tokens of a line that may stand there, or of what is read of it
-abbrev pub StartsHead : Context → List (List ℕ) → List Token → Type 0
-StartsHead c given front = StartsSome head_part (head_stands c given) front ⊎ StartsReading c given front
+-- the same, where the first that lies too deep begins at this place
+abbrev pub DeepReading : Context → List (List ℕ) → List Token → Pos → Type 0
+DeepReading c given front place = ReadsDel c given (λ tokens. FirstDeepDel tokens place) front ⊎ ReadsFor c (λ tokens. FirstDeepTargets 100 tokens place) front
 
--- the same, where nothing that has begun lies too deep
+-- the first tokens of a line that may stand there, or of what is read of it, where nothing that has begun lies too deep
 abbrev pub BeginsHead : Context → List (List ℕ) → List Token → Type 0
 BeginsHead c given front = BeginsSome head_part (head_stands c given) front ⊎ BeginsReading c given front
 
--- the first tokens of a simple statement that may stand there; in a class no `del` does
-abbrev pub StartsPlaced : Around → List Token → Type 0
-StartsPlaced around front = StartsSome simple_part (simple_stands around) front ⊎ ((around.in_class ≡ false) × StartsDel front)
+-- the same, where the first that lies too deep begins at this place
+abbrev pub DeepHead : Context → List (List ℕ) → List Token → Pos → Type 0
+DeepHead c given front place = FirstDeepSome head_part (head_stands c given) front place ⊎ DeepReading c given front place
 
--- the same, where nothing that has begun lies too deep
+-- The first tokens of a simple statement that may stand there, where nothing that has begun lies too deep. In a class no `del` does.
 abbrev pub BeginsPlaced : Around → List Token → Type 0
 BeginsPlaced around front = BeginsSome simple_part (simple_stands around) front ⊎ ((around.in_class ≡ false) × BeginsDel front)
 
--- With TooDeep, a simple statement goes on with the token that shows it, or a limit is passed: then whatever stands first shows it.
+-- the same, where the first that lies too deep begins at this place
+abbrev pub DeepPlaced : Around → List Token → Pos → Type 0
+DeepPlaced around front place = FirstDeepSome simple_part (simple_stands around) front place ⊎ ((around.in_class ≡ false) × FirstDeepDel front place)
+
+-- With TooDeep, a simple statement goes on with the token that shows it, in which the first that lies too deep begins at the place, or
+-- a limit is passed: then whatever stands first shows it.
 abbrev pub GoesOnPlaced : Around → (limit : Option Limit) → List Token → Token → Fault → Type 0
-GoesOnPlaced around limit front t (TooDeep at) = StartsPlaced around (front ++ t ∷ []) ⊎ ((limit ≡ Some Depth) × (front ≡ []) × (at ≡ t.at))
+GoesOnPlaced around limit front t (TooDeep at) = DeepPlaced around (front ++ t ∷ []) at ⊎ ((limit ≡ Some Depth) × (front ≡ []) × (at ≡ t.at))
 GoesOnPlaced around limit front t (TooMany at) = (limit ≡ Some Number) × (front ≡ [])
 GoesOnPlaced around limit front t fault = ⊤
 
@@ -402,7 +419,7 @@ IsAheadPlaced around limit front t fault = GoesOnPlaced around limit front t fau
 
 -- the same of a line, where a limit is that of the statement behind the `:`
 abbrev pub GoesOnLine : Context → List (List ℕ) → (limit : Option Limit) → List Token → Token → Fault → Type 0
-GoesOnLine c given limit front t (TooDeep at) = StartsHead c given (front ++ t ∷ []) ⊎ ((limit ≡ Some Depth) × StartsBehind c given pass front × (at ≡ t.at))
+GoesOnLine c given limit front t (TooDeep at) = DeepHead c given (front ++ t ∷ []) at ⊎ ((limit ≡ Some Depth) × StartsBehind c given pass front × (at ≡ t.at))
 GoesOnLine c given limit front t (TooMany at) = (limit ≡ Some Number) × StartsBehind c given pass front
 GoesOnLine c given limit front t fault = ⊤
 

@@ -18,14 +18,14 @@ use Rattle.py_grammar.specs.StatementTrees.{one_target_tree, target_rest_tree, t
 use Rattle.py_grammar.specs.Reader.{Read, go_on, next_level, read_sign}
 use Rattle.py_grammar.specs.Trees.{sum_tree}
 use Rattle.py_grammar.specs.Depth.{one_target_depth, target_rest_depth}
-use Rattle.py_grammar.specs.Lies.{one_target_lies, target_rest_lies}
+use Rattle.py_grammar.specs.Lies.{nowhere, target_rest_lies, one_target_deepest, target_rest_deepest}
 use Rattle.py_grammar.specs.StatementReader.{whole}
 use Rattle.py_grammar.specs.LineReader.{read_target_rest, read_names, read_params}
 use Rattle.py_grammar.specs.WellPlaced.{are_different, none_given}
-use Rattle.py_grammar.specs.Parsed.{Production, ShowsAt, GoesOn, IsAtFirst, IsDeep, Finds, Refused, Found, sum_part}
+use Rattle.py_grammar.specs.Parsed.{Production, ShowsAt, IsAtFirst, IsDeep, Finds, Refused, Found, sum_part}
 use Rattle.py_grammar.specs.ParsedRows.{first_token, IsRead}
 use Rattle.py_grammar.specs.ParsedSimple.{leaving_none, target_form, targets_form}
-use Rattle.py_grammar.specs.ParsedHead.{Took, target_part, names_part, params_part, passed_tokens, StartsTargets, BeginsTargets, UnreadTargets, LineRefused}
+use Rattle.py_grammar.specs.ParsedHead.{Took, target_part, names_part, params_part, passed_tokens, BeginsTargets, FirstDeepTargets, UnreadTargets, LineRefused}
 
 -- ---- refused, where something may be read all the same
 
@@ -36,6 +36,11 @@ pub record BeginsFine {A : Type 0} (p : Production A) (amiss : Stop → A → Ty
   pub more : List Token
   pub tokens_are : p.tokens some ≡ front ++ more
 
+-- nothing in it lies too deep
+abbrev pub IsNotDeep : Fault → Type 0
+IsNotDeep (TooDeep place) = ⊥
+IsNotDeep fault = ⊤
+
 -- The tokens before this one begin such a part, and of those up to and with it only what is amiss is read.
 pub record ShownAmiss {A : Type 0} (p : Production A) (amiss : Stop → A → Type 0) (before : List Token) (fault : Fault) : Type 0 where
   pub front : List Token
@@ -44,7 +49,7 @@ pub record ShownAmiss {A : Type 0} (p : Production A) (amiss : Stop → A → Ty
   pub before_is : before ≡ front ++ shown_by ∷ behind
   pub left_is : ShowsAt behind fault
   pub begins : BeginsFine p amiss front
-  pub goes_on : GoesOn (BeginsFine p amiss) front shown_by fault
+  pub not_deep : IsNotDeep fault
   pub none : (more : List Token) → Finds (amiss (Here fault)) p.read (front ++ shown_by ∷ more)
 
 abbrev pub RefusedAmiss : {A : Type 0} → Production A → (Stop → A → Type 0) → List Token → Stop → Type 0
@@ -56,7 +61,7 @@ RefusedAmiss p amiss before End = BeginsFine p amiss before × Finds (amiss End)
 
 -- names, which are all tokens
 abbrev pub all_names : Production Names
-all_names = record { tokens = names_tokens; depth = λ _. 0; lies = λ _ at. 0; form = λ _. false; read = λ n ts. leaving_none (whole (read_names n ts)) }
+all_names = record { tokens = names_tokens; depth = λ _. 0; lies = λ _ at. 0; deepest = λ _. nowhere; form = λ _. false; read = λ n ts. leaving_none (whole (read_names n ts)) }
 
 -- with Unexpected, one of them is a parameter
 abbrev pub IsGiven : List (List ℕ) → Stop → Names → Type 0
@@ -97,7 +102,7 @@ abbrev pub read_bracket : ℕ → List Token → Read BracketNames
 read_bracket n ts = go_on (read_sign 0 ts) (λ opening more. go_on (read_params n more) (λ names more_2. go_on (read_sign 1 more_2) (λ closing rest. Some ((opening, names, closing), rest))))
 
 abbrev pub bracket_part : Production BracketNames
-bracket_part = record { tokens = bracket_tokens; depth = λ _. 0; lies = λ _ at. 0; form = λ _. false; read = read_bracket }
+bracket_part = record { tokens = bracket_tokens; depth = λ _. 0; lies = λ _ at. 0; deepest = λ _. nowhere; form = λ _. false; read = read_bracket }
 
 pub record ParamsFound (before : List Token) (names : List (List ℕ)) (after : List Token) : Type 0 where
   pub written : BracketNames
@@ -112,7 +117,7 @@ IsRepeatedIn stop w = IsRepeated stop w.1
 -- ---- the target of a `for`, behind which its `in` stands
 
 abbrev pub target_rest_part : Production TargetRest
-target_rest_part = record { tokens = target_rest_tokens; depth = target_rest_depth; lies = target_rest_lies; form = λ _. false; read = read_target_rest }
+target_rest_part = record { tokens = target_rest_tokens; depth = target_rest_depth; lies = target_rest_lies; deepest = target_rest_deepest; form = λ _. false; read = read_target_rest }
 
 -- such a part with the `in` behind it, and what follows
 pub record Followed (A : Type 0) : Type 0 where
@@ -123,15 +128,16 @@ pub record Followed (A : Type 0) : Type 0 where
 abbrev pub followed_tokens : {A : Type 0} → Production A → Followed A → List Token
 followed_tokens p w = p.tokens w.part ++ token (Keyword 22) w.in_word ∷ w.behind
 
--- With TooDeep, targets go on with the token that shows it, as far as they are read as sums.
-abbrev pub GoesOnTargets : List Token → Token → Fault → Type 0
-GoesOnTargets front t (TooDeep at) = StartsTargets (front ++ t ∷ [])
-GoesOnTargets front t (TooMany at) = ⊥
-GoesOnTargets front t fault = ⊤
+-- With TooDeep, targets go on with the token that shows it, as far as they are read as sums, and the first that lies too deep begins
+-- at the place.
+abbrev pub GoesOnTargets : ℕ → List Token → Token → Fault → Type 0
+GoesOnTargets room front t (TooDeep at) = FirstDeepTargets room (front ++ t ∷ []) at
+GoesOnTargets room front t (TooMany at) = ⊥
+GoesOnTargets room front t fault = ⊤
 
 -- of targets, what stands ahead of the token that shows it
 abbrev pub IsAheadOfTargets : ℕ → List Token → Token → Fault → Type 0
-IsAheadOfTargets room front t fault = GoesOnTargets front t fault × UnreadTargets room front t fault
+IsAheadOfTargets room front t fault = GoesOnTargets room front t fault × UnreadTargets room front t fault
 
 -- no such part is written there with an `in` behind it that there is room for
 abbrev pub TargetsRefused : {A : Type 0} → Production A → ℕ → List Token → Stop → Type 0
@@ -143,7 +149,7 @@ pub record ItemFound (room : ℕ) (before : List Token) (part : Part) (after : L
   pub before_is : before ≡ one_target_tokens target ++ after
   pub tree_is : target_form (expr_of part.expr) ≡ Some (one_target_tree target)
   pub height_is : part.height ≡ one_target_depth target
-  pub deepest_is : one_target_lies target part.deepest ≡ one_target_depth target
+  pub deepest_is : part.deepest ≡ one_target_deepest target
   pub fits : part.height ≤ room
   pub beyond : 3 < next_level after
 

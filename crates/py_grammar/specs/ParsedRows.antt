@@ -15,7 +15,7 @@ use Rattle.py_grammar.specs.Concrete.{Spot, Prim, plain_prim, call, part, attrib
 use Rattle.py_grammar.specs.Tokens.{token, sign, word, rest_tokens, items_tokens, index_tokens, bound_tokens, pairs_tokens}
 use Rattle.py_grammar.specs.Trees.{atom_tree, expr_tree, exprs_tree, items_tree, bound_tree, pairs_tree}
 use Rattle.py_grammar.specs.Depth.{exprs_depth, rest_depth, items_depth, index_depth, bound_depth, pairs_depth}
-use Rattle.py_grammar.specs.Lies.{is_place, over, deeper_of, exprs_lies, rest_lies, items_lies, index_lies, bound_lies, pairs_lies}
+use Rattle.py_grammar.specs.Lies.{nowhere, deeper_of, exprs_lies, rest_lies, items_lies, index_lies, bound_lies, pairs_lies, exprs_deepest, rest_deepest, items_deepest, index_deepest as written_deepest, bound_deepest, pairs_deepest}
 use Rattle.py_grammar.specs.Reader.{Read, go_on, spot_of, is_sign, next_level, starts, read_sign, read_name, read_items, read_index, read_bound, read_rest, read_pairs}
 use Rattle.py_grammar.specs.StatementReader.{prim_target, rest_target}
 use Rattle.py_grammar.specs.Parsed.{Production, is_form, FoundRow, rest_ends_open}
@@ -32,7 +32,7 @@ pub record IsRead {A : Type 0} (p : Production A) (a : A) (rest : List Token) : 
 -- ---- the parts
 
 abbrev pub items_part : ℕ → Production Items
-items_part closing = record { tokens = items_tokens; depth = items_depth; lies = items_lies; form = λ _. false; read = λ n ts. read_items n closing ts }
+items_part closing = record { tokens = items_tokens; depth = items_depth; lies = items_lies; deepest = items_deepest; form = λ _. false; read = λ n ts. read_items n closing ts }
 
 -- what round brackets group: a tuple is one deeper than its items
 abbrev pub group_depth : Items → ℕ
@@ -43,31 +43,36 @@ abbrev pub group_lies : Items → Pos → ℕ
 group_lies no_items at = 0
 group_lies (items e) at = exprs_lies e at
 
+-- the first of the deepest in round brackets that open here
+abbrev pub group_deepest : Pos → Items → Pos
+group_deepest at no_items = at
+group_deepest at (items e) = exprs_deepest e
+
 abbrev pub group_part : Production Items
-group_part = record { tokens = items_tokens; depth = group_depth; lies = group_lies; form = λ _. false; read = λ n ts. read_items n 1 ts }
+group_part = record { tokens = items_tokens; depth = group_depth; lies = group_lies; deepest = items_deepest; form = λ _. false; read = λ n ts. read_items n 1 ts }
 
 abbrev pub rest_part : Production Rest
-rest_part = record { tokens = rest_tokens; depth = rest_depth; lies = rest_lies; form = λ r. is_some (rest_target r); read = read_rest }
+rest_part = record { tokens = rest_tokens; depth = rest_depth; lies = rest_lies; deepest = rest_deepest; form = λ r. is_some (rest_target r); read = read_rest }
 
 abbrev pub index_form : Index → Bool
 index_form (one_index e) = true
 index_form (range_index low colon high) = false
 
 abbrev pub index_part : Production Index
-index_part = record { tokens = index_tokens; depth = index_depth; lies = index_lies; form = index_form; read = read_index }
+index_part = record { tokens = index_tokens; depth = index_depth; lies = index_lies; deepest = written_deepest; form = index_form; read = read_index }
 
 abbrev pub bound_part : Production Bound
-bound_part = record { tokens = bound_tokens; depth = bound_depth; lies = bound_lies; form = λ _. false; read = read_bound }
+bound_part = record { tokens = bound_tokens; depth = bound_depth; lies = bound_lies; deepest = bound_deepest; form = λ _. false; read = read_bound }
 
 abbrev pub pairs_part : Production Pairs
-pairs_part = record { tokens = pairs_tokens; depth = pairs_depth; lies = pairs_lies; form = λ _. false; read = read_pairs }
+pairs_part = record { tokens = pairs_tokens; depth = pairs_depth; lies = pairs_lies; deepest = pairs_deepest; form = λ _. false; read = read_pairs }
 
 -- a part with a closing sign behind it
 abbrev pub read_closed : {A : Type 0} → (ℕ → List Token → Read A) → ℕ → ℕ → List Token → Read (A × Spot)
 read_closed read closing n ts = go_on (read n ts) (λ a more. go_on (read_sign closing more) (λ at rest. Some ((a, at), rest)))
 
 abbrev pub closed : {A : Type 0} → Production A → ℕ → Production (A × Spot)
-closed p closing = record { tokens = λ w. p.tokens w.0 ++ token (Sign closing) w.1 ∷ []; depth = λ w. p.depth w.0; lies = λ w. p.lies w.0; form = λ _. false; read = read_closed p.read closing }
+closed p closing = record { tokens = λ w. p.tokens w.0 ++ token (Sign closing) w.1 ∷ []; depth = λ w. p.depth w.0; lies = λ w. p.lies w.0; deepest = λ w. p.deepest w.0; form = λ _. false; read = read_closed p.read closing }
 
 -- ---- what follows a primary
 
@@ -96,6 +101,11 @@ trailer_lies (called opening arguments closing) at = items_lies arguments at
 trailer_lies (parted opening index closing) at = index_lies index at
 trailer_lies (dotted dot name_at bytes) at = 0
 
+abbrev pub trailer_deepest : Trailer → Pos
+trailer_deepest (called opening arguments closing) = items_deepest arguments
+trailer_deepest (parted opening index closing) = written_deepest index
+trailer_deepest (dotted dot name_at bytes) = nowhere
+
 abbrev pub trailer_form : Trailer → Bool
 trailer_form (called opening arguments closing) = false
 trailer_form (parted opening index closing) = index_form index
@@ -120,17 +130,7 @@ read_trailer n (t ∷ ts) =
     else None))
 
 abbrev pub trailer_part : Production Trailer
-trailer_part = record { tokens = trailer_tokens; depth = trailer_depth; lies = trailer_lies; form = trailer_form; read = read_trailer }
-
--- ---- the place of what lies deepest
-
--- Beside whatever goes this deep and has its deepest at the first place: in both together the deepest begins at the last.
-abbrev pub IsDeepestWith : ℕ → Pos → (lies : Pos → ℕ) → ℕ → Pos → Type 0
-IsDeepestWith left_depth left lies depth deepest = (other : Pos → ℕ) → other left ≡ left_depth → ((at : Pos) → other at ≤ left_depth) → max (other deepest) (lies deepest) ≡ max left_depth depth
-
--- in brackets that open here
-abbrev pub IsDeepestIn : Pos → (lies : Pos → ℕ) → ℕ → Pos → Type 0
-IsDeepestIn opening lies depth deepest = over (is_place opening deepest) (lies deepest) ≡ 1 + depth
+trailer_part = record { tokens = trailer_tokens; depth = trailer_depth; lies = trailer_lies; deepest = trailer_deepest; form = trailer_form; read = read_trailer }
 
 -- ---- what is answered
 
@@ -178,7 +178,7 @@ pub record FoundRest (room : ℕ) (before : List Token) (old row : Row) (after :
   pub before_is : before ≡ rest_tokens written ++ after
   pub trees_are : map expr_of row.list.items ≡ map expr_of old.list.items ++ rest_trees written
   pub height_is : row.height ≡ max old.height (rest_depth written)
-  pub deepest_is : IsDeepestWith old.height old.deepest (rest_lies written) (rest_depth written) row.deepest
+  pub deepest_is : row.deepest ≡ deeper_of old.height old.deepest (rest_depth written) (rest_deepest written)
   pub form_is : is_none row.wrong ≡ (if is_none old.wrong then is_some (rest_target written) else false)
   pub fits : row.height ≤ room
   pub beyond : rest_ends_open written ≡ false → 8 < next_level after
@@ -189,8 +189,7 @@ pub record FoundItems (closing room : ℕ) (at : Pos) (before : List Token) (row
   pub before_is : before ≡ items_tokens written ++ after
   pub trees_are : exprs_list (map expr_of row.list.items) ≡ items_tree written
   pub height_is : row.height ≡ items_depth written
-  pub deepest_is : items_lies written row.deepest ≡ items_depth written
-  pub empty_is : items_depth written ≡ 0 → row.deepest ≡ at
+  pub deepest_is : row.deepest ≡ deeper_of 0 at (items_depth written) (items_deepest written)
   pub fits : row.height ≤ room
   pub is_read : IsRead (items_part closing) written after
 
@@ -199,8 +198,7 @@ pub record FoundPairs (room : ℕ) (at : Pos) (before : List Token) (row : PairR
   pub before_is : before ≡ pairs_tokens written ++ after
   pub trees_are : pairs_list (map (λ p. (expr_of p.0, expr_of p.1)) row.list.items) ≡ pairs_tree written
   pub height_is : row.height ≡ pairs_depth written
-  pub deepest_is : pairs_lies written row.deepest ≡ pairs_depth written
-  pub empty_is : pairs_depth written ≡ 0 → row.deepest ≡ at
+  pub deepest_is : row.deepest ≡ deeper_of 0 at (pairs_depth written) (pairs_deepest written)
   pub fits : row.height ≤ room
   pub is_read : IsRead pairs_part written after
 
@@ -221,7 +219,7 @@ pub record FoundBound (room : ℕ) (before : List Token) (limit : Option Part) (
   pub before_is : before ≡ bound_tokens written ++ after
   pub tree_is : limit_tree limit ≡ bound_tree written
   pub height_is : limit_height limit ≡ bound_depth written
-  pub deepest_is : (at : Pos) → bound_lies written (limit_deepest at limit) ≡ bound_depth written
+  pub deepest_is : (at : Pos) → limit_deepest at limit ≡ deeper_of 0 at (bound_depth written) (bound_deepest written)
   pub fits : limit_height limit ≤ room
   pub is_read : IsRead bound_part written after
 
@@ -247,19 +245,19 @@ pub record FoundIndex (room : ℕ) (before : List Token) (index : IndexRead) (af
   pub before_is : before ≡ index_tokens written ++ after
   pub tree_is : (at : Pos) (e : ExprTree) → indexed at e index ≡ index_tree at e written
   pub height_is : index_height index ≡ index_depth written
-  pub deepest_is : (at : Pos) → index_lies written (index_deepest at index) ≡ index_depth written
+  pub deepest_is : (at : Pos) → index_deepest at index ≡ deeper_of 0 at (index_depth written) (written_deepest written)
   pub form_is : is_one index ≡ index_form written
   pub fits : index_height index ≤ room
   pub is_read : IsRead index_part written after
 
 -- what stands in brackets was read with the closing one, and an expression was made of it
-pub record FoundClosed {A : Type 0} (p : Production A) (closing : ℕ) (tree : A → ExprTree) (height : A → ℕ) (deepest : A → Pos → Type 0) (form : A → Bool) (room : ℕ) (before : List Token) (part : Part) (after : List Token) : Type 0 where
+pub record FoundClosed {A : Type 0} (p : Production A) (closing : ℕ) (tree : A → ExprTree) (height : A → ℕ) (deepest : A → Pos) (form : A → Bool) (room : ℕ) (before : List Token) (part : Part) (after : List Token) : Type 0 where
   pub written : A
   pub spot : Spot
   pub before_is : before ≡ p.tokens written ++ token (Sign closing) spot ∷ after
   pub tree_is : expr_of part.expr ≡ tree written
   pub height_is : part.height ≡ height written
-  pub deepest_is : deepest written part.deepest
+  pub deepest_is : part.deepest ≡ deepest written
   pub form_is : is_none part.wrong ≡ form written
   pub fits : p.depth written ≤ room
 
@@ -274,6 +272,6 @@ pub record FoundTrailer (room : ℕ) (before : List Token) (left part : Part) (a
   pub before_is : before ≡ trailer_tokens written ++ after
   pub tree_is : expr_of part.expr ≡ trailer_tree (expr_of left.expr) written
   pub height_is : part.height ≡ suc (max left.height (trailer_depth written))
-  pub deepest_is : IsDeepestWith left.height left.deepest (trailer_lies written) (trailer_depth written) part.deepest
+  pub deepest_is : part.deepest ≡ deeper_of left.height left.deepest (trailer_depth written) (trailer_deepest written)
   pub form_is : is_none part.wrong ≡ trailer_form written
   pub fits : trailer_depth written ≤ room

@@ -21,11 +21,11 @@ use Rattle.py_grammar.specs.Tokens.{token, sign, expr_tokens}
 use Rattle.py_grammar.specs.StatementTokens.{aug_sign, simple_tokens}
 use Rattle.py_grammar.specs.StatementTrees.{aug_op, simple_form}
 use Rattle.py_grammar.specs.Depth.{simple_depth}
-use Rattle.py_grammar.specs.Lies.{expr_lies, simple_lies}
+use Rattle.py_grammar.specs.Lies.{expr_lies, simple_lies, simple_deepest, IsApart}
 use Rattle.py_grammar.specs.WellPlaced.{Around, form_stands}
 use Rattle.py_grammar.specs.Reader.{Read}
 use Rattle.py_grammar.specs.StatementReader.{aug_sign_of, exprs_target, read_simple}
-use Rattle.py_grammar.specs.Parsed.{ShowsAt, GoesOn, IsDeep, Production, Finds, Taken, FoundRow}
+use Rattle.py_grammar.specs.Parsed.{ShowsAt, IsDeep, Production, Finds, Taken, FoundRow}
 
 -- where the code is, in the words of the grammar
 abbrev pub around_of : Standing → Around
@@ -37,7 +37,7 @@ leaving_none None = None
 leaving_none (Some value) = Some (value, [])
 
 abbrev pub simple_part : Production Simple
-simple_part = record { tokens = simple_tokens; depth = simple_depth; lies = simple_lies; form = λ _. false; read = λ n ts. leaving_none (read_simple n ts) }
+simple_part = record { tokens = simple_tokens; depth = simple_depth; lies = simple_lies; deepest = simple_deepest; form = λ _. false; read = λ n ts. leaving_none (read_simple n ts) }
 
 -- ---- what is read
 
@@ -78,13 +78,6 @@ pub record CompletesDel (front : List Token) (at : Pos) : Type 0 where
 abbrev pub BeginsDel : List Token → Type 0
 BeginsDel front = (at : Pos) → CompletesDel front at
 
--- these are the first tokens of some such part that passes this test
-pub record StartsSome {A : Type 0} (p : Production A) (is : A → Bool) (front : List Token) : Type 0 where
-  pub some : A
-  pub is_so : is some ≡ true
-  pub more : List Token
-  pub tokens_are : p.tokens some ≡ front ++ more
-
 -- Some such part that passes this test has these first tokens, and what begins before the rest lies at most 100 deep: whatever
 -- place is chosen for the tokens that are put behind, expressions that begin elsewhere lie so.
 pub record CompletesSome {A : Type 0} (p : Production A) (is : A → Bool) (front : List Token) (at : Pos) : Type 0 where
@@ -97,13 +90,47 @@ pub record CompletesSome {A : Type 0} (p : Production A) (is : A → Bool) (fron
 abbrev pub BeginsSome : {A : Type 0} → Production A → (A → Bool) → List Token → Type 0
 BeginsSome p is front = (at : Pos) → CompletesSome p is front at
 
--- a statement begins so, or what is read of one behind `del`
-abbrev pub StartsSimple : (Simple → Bool) → List Token → Type 0
-StartsSimple is front = StartsSome simple_part is front ⊎ StartsDel front
+-- Some such part that passes this test has these first tokens, and of the expressions in it that lie deeper than 100 the first
+-- begins at this place. A token of these stands there, and what begins at no token from that one on lies at most 100 deep.
+pub record FirstDeepSome {A : Type 0} (p : Production A) (is : A → Bool) (front : List Token) (place : Pos) : Type 0 where
+  pub some : A
+  pub is_so : is some ≡ true
+  pub more : List Token
+  pub tokens_are : p.tokens some ≡ front ++ more
+  pub ahead : List Token
+  pub named : Token
+  pub between : List Token
+  pub front_is : front ≡ ahead ++ named ∷ between
+  pub named_is : named.at ≡ place
+  pub deep : 100 < p.lies some place
+  pub within : (other : Pos) → IsApart other (named ∷ (between ++ more)) → p.lies some other ≤ 100
 
--- the same, where nothing that has begun lies too deep
+-- the same of `del` and an expression
+pub record FirstDeepDel (front : List Token) (place : Pos) : Type 0 where
+  pub spot : Spot
+  pub some : Expr
+  pub more : List Token
+  pub tokens_are : token (Keyword 12) spot ∷ expr_tokens some ≡ front ++ more
+  pub ahead : List Token
+  pub named : Token
+  pub between : List Token
+  pub front_is : front ≡ ahead ++ named ∷ between
+  pub named_is : named.at ≡ place
+  pub deep : 100 < expr_lies some place
+  pub within : (other : Pos) → IsApart other (named ∷ (between ++ more)) → expr_lies some other ≤ 100
+
+-- with TooDeep, what goes on with the token that shows it is such that the first that lies too deep begins at the place
+abbrev pub NamesDeep : (deep : List Token → Pos → Type 0) → List Token → Token → Fault → Type 0
+NamesDeep deep front t (TooDeep place) = deep (front ++ t ∷ []) place
+NamesDeep deep front t fault = ⊤
+
+-- A statement begins so, or what is read of one behind `del`, where nothing that has begun lies too deep.
 abbrev pub BeginsSimple : (Simple → Bool) → List Token → Type 0
 BeginsSimple is front = BeginsSome simple_part is front ⊎ BeginsDel front
+
+-- the same, where the first that lies too deep begins at this place
+abbrev pub DeepSimple : (Simple → Bool) → List Token → Pos → Type 0
+DeepSimple is front place = FirstDeepSome simple_part is front place ⊎ FirstDeepDel front place
 
 -- its form may stand there
 abbrev pub has_place : Around → Simple → Bool
@@ -114,7 +141,7 @@ pub record UnreadDel (front : List Token) (t : Token) (fault : Fault) : Type 0 w
   pub there : (spot : Spot) (inside : List Token) → front ≡ token (Keyword 12) spot ∷ inside → (e : Expr) (more : List Token) → expr_tokens e ≡ inside ++ t ∷ more → IsDeep (Here fault) 100 (expr_lies e)
 
 -- The tokens before this one begin a simple statement that may stand there, in which nothing lies too deep yet, and those up
--- to and with it begin none.
+-- to and with it begin none: with TooDeep, one in which the first that lies too deep begins at the place.
 pub record SimpleShown (around : Around) (before : List Token) (fault : Fault) : Type 0 where
   pub front : List Token
   pub shown_by : Token
@@ -122,7 +149,7 @@ pub record SimpleShown (around : Around) (before : List Token) (fault : Fault) :
   pub before_is : before ≡ front ++ shown_by ∷ behind
   pub left_is : ShowsAt behind fault
   pub begins : BeginsSimple (has_place around) front
-  pub goes_on : GoesOn (StartsSimple (has_place around)) front shown_by fault
+  pub goes_on : NamesDeep (DeepSimple (has_place around)) front shown_by fault
   pub unread : UnreadDel front shown_by fault
   pub none : (more : List Token) → Finds (IsAmiss around (Here fault)) simple_part.read (front ++ shown_by ∷ more)
 

@@ -7,7 +7,7 @@ ghost use Rattle.py_grammar.specs.Grammar.{InGrammar};
 ghost use Rattle.py_grammar.specs.Concrete.{Exprs};
 ghost use Rattle.py_grammar.specs.Tokens.{exprs_tokens};
 ghost use Rattle.py_grammar.specs.Depth.{exprs_depth};
-ghost use Rattle.py_grammar.specs.Lies.{exprs_lies, IsReached};
+ghost use Rattle.py_grammar.specs.Lies.{exprs_lies, exprs_deepest, IsReached, IsFirst};
 ghost use Rattle.prov_base.specs.declared.place.Pos.{Pos};
 ghost use Rattle.py_grammar.specs.LineReader.{Head};
 ghost use Rattle.py_grammar.specs.ParsedHead.{head_depth, head_lies};
@@ -21,11 +21,12 @@ pub fn one_expression()
     ensures { (a b : Exprs) → exprs_tokens a ≡ exprs_tokens b → a ≡ b }
 {}
 
-/// The law of the depth of expressions: it is the greatest depth at which one lies that begins at some place, and none of a line
-/// lies deeper than the line goes.
+/// The law of the depth of expressions: it is the greatest depth at which one lies that begins at some place, where the first of
+/// those begins nothing that begins ahead of it lies as deep, and none of a line lies deeper than the line goes.
 pub fn depth_is_reached()
     ensures within { (e : Exprs) (at : Pos) → exprs_lies e at ≤ exprs_depth e }
     ensures reached { (e : Exprs) → IsReached (exprs_lies e) (exprs_depth e) }
+    ensures first { (e : Exprs) → IsFirst (exprs_tokens e) (exprs_lies e) (exprs_depth e) (exprs_deepest e) }
     ensures lines { (h : Head) (at : Pos) → head_lies h at ≤ head_depth h }
 {}
 

@@ -3,12 +3,12 @@ ghost use Rattle.std.specs.Prelude.{◌≤◌, ◌<◌, ◌≡◌, ◌==◌, suc
 ghost use Rattle.py_tree.specs.Erasure.{expr_of};
 ghost use Rattle.py_tree.specs.Tree.{call_expr, list_expr, dict_expr};
 ghost use Rattle.py_grammar.specs.Parsed.{Found, FoundRow, Refused, prim_part, atom_part, exprs_part, is_sign_next, IsMemory};
-ghost use Rattle.py_grammar.specs.ParsedRows.{IsDeepestIn, IsDeepestWith, group_lies, FoundList, FoundRest, FoundItems, FoundPairs, FoundBound, FoundIndex, FoundClosed, FoundTrailer, closed, items_part, group_part, rest_part, index_part, bound_part, pairs_part, trailer_part, group_depth, group_tree, index_form, index_tree, leaf_atom, IsLeaf};
+ghost use Rattle.py_grammar.specs.ParsedRows.{group_deepest, FoundList, FoundRest, FoundItems, FoundPairs, FoundBound, FoundIndex, FoundClosed, FoundTrailer, closed, items_part, group_part, rest_part, index_part, bound_part, pairs_part, trailer_part, group_depth, group_tree, index_form, index_tree, leaf_atom, IsLeaf};
 ghost use Rattle.py_grammar.specs.Reader.{next_level, begins_expr, start_class};
 ghost use Rattle.py_lines.specs.declared.parts.TokenKind.TheVariants.{Sign};
 ghost use Rattle.py_grammar.specs.Trees.{prim_tree, atom_tree, items_tree, pairs_tree};
 ghost use Rattle.py_grammar.specs.Depth.{items_depth, index_depth, pairs_depth};
-ghost use Rattle.py_grammar.specs.Lies.{items_lies, index_lies, pairs_lies};
+ghost use Rattle.py_grammar.specs.Lies.{deeper_of, items_deepest, index_deepest, pairs_deepest};
 
 use crate::cursor::Cursor;
 use crate::fault::Stop;
@@ -104,7 +104,7 @@ impl<'a> Cursor<'a> {
     fn arguments(&mut self, alloc: Global, room: u32, at: Pos, callee: Part) -> Result<Part, Stop>
         requires room_is_low { room ≤ 100 }
         requires callee_fits { callee.height ≤ room }
-        ensures found { IfOk result (λ part. FoundClosed (items_part 1) 1 (λ i. call_expr at (expr_of callee.expr) (items_tree i)) (λ i. suc (max callee.height (items_depth i))) (λ i. IsDeepestWith callee.height callee.deepest (items_lies i) (items_depth i)) (λ _. false) room self.old.rest.now part self.new.rest.now) }
+        ensures found { IfOk result (λ part. FoundClosed (items_part 1) 1 (λ i. call_expr at (expr_of callee.expr) (items_tree i)) (λ i. suc (max callee.height (items_depth i))) (λ i. deeper_of callee.height callee.deepest (items_depth i) (items_deepest i)) (λ _. false) room self.old.rest.now part self.new.rest.now) }
         ensures refused { IfErr result (Refused (closed (items_part 1) 1) room self.old.rest.now) }
     {
         let arguments = self.items(alloc, room, at, CLOSE_ROUND)?;
@@ -123,7 +123,7 @@ impl<'a> Cursor<'a> {
     ) -> Result<Part, Stop>
         requires room_is_low { room ≤ 100 }
         requires object_fits { object.height ≤ room }
-        ensures found { IfOk result (λ part. FoundClosed index_part 3 (index_tree at (expr_of object.expr)) (λ i. suc (max object.height (index_depth i))) (λ i. IsDeepestWith object.height object.deepest (index_lies i) (index_depth i)) index_form room self.old.rest.now part self.new.rest.now) }
+        ensures found { IfOk result (λ part. FoundClosed index_part 3 (index_tree at (expr_of object.expr)) (λ i. suc (max object.height (index_depth i))) (λ i. deeper_of object.height object.deepest (index_depth i) (index_deepest i)) index_form room self.old.rest.now part self.new.rest.now) }
         ensures refused { IfErr result (Refused (closed index_part 3) room self.old.rest.now) }
     {
         let index = self.index(alloc, room)?;
@@ -176,7 +176,7 @@ impl<'a> Cursor<'a> {
     #[cycle(expression)]
     fn group(&mut self, alloc: Global, room: u32, at: Pos) -> Result<Part, Stop>
         requires { room ≤ 100 }
-        ensures found { IfOk result (λ part. FoundClosed group_part 1 (group_tree at) (λ i. suc (group_depth i)) (λ i. IsDeepestIn at (group_lies i) (group_depth i)) (λ _. false) room self.old.rest.now part self.new.rest.now) }
+        ensures found { IfOk result (λ part. FoundClosed group_part 1 (group_tree at) (λ i. suc (group_depth i)) (group_deepest at) (λ _. false) room self.old.rest.now part self.new.rest.now) }
         ensures refused { IfErr result (Refused (closed group_part 1) room self.old.rest.now) }
     {
         if let Some(_) = self.take_sign(CLOSE_ROUND) {
@@ -191,7 +191,7 @@ impl<'a> Cursor<'a> {
     #[cycle(expression)]
     fn list(&mut self, alloc: Global, room: u32, at: Pos) -> Result<Part, Stop>
         requires { room ≤ 100 }
-        ensures found { IfOk result (λ part. FoundClosed (items_part 3) 3 (λ i. list_expr at (items_tree i)) (λ i. suc (items_depth i)) (λ i. IsDeepestIn at (items_lies i) (items_depth i)) (λ _. false) room self.old.rest.now part self.new.rest.now) }
+        ensures found { IfOk result (λ part. FoundClosed (items_part 3) 3 (λ i. list_expr at (items_tree i)) (λ i. suc (items_depth i)) (λ i. deeper_of 0 at (items_depth i) (items_deepest i)) (λ _. false) room self.old.rest.now part self.new.rest.now) }
         ensures refused { IfErr result (Refused (closed (items_part 3) 3) room self.old.rest.now) }
     {
         let items = self.items(alloc, room, at, CLOSE_SQUARE)?;
@@ -203,7 +203,7 @@ impl<'a> Cursor<'a> {
     #[cycle(expression)]
     fn dict(&mut self, alloc: Global, room: u32, at: Pos) -> Result<Part, Stop>
         requires { room ≤ 100 }
-        ensures found { IfOk result (λ part. FoundClosed pairs_part 5 (λ p. dict_expr at (pairs_tree p)) (λ p. suc (pairs_depth p)) (λ p. IsDeepestIn at (pairs_lies p) (pairs_depth p)) (λ _. false) room self.old.rest.now part self.new.rest.now) }
+        ensures found { IfOk result (λ part. FoundClosed pairs_part 5 (λ p. dict_expr at (pairs_tree p)) (λ p. suc (pairs_depth p)) (λ p. deeper_of 0 at (pairs_depth p) (pairs_deepest p)) (λ _. false) room self.old.rest.now part self.new.rest.now) }
         ensures refused { IfErr result (Refused (closed pairs_part 5) room self.old.rest.now) }
     {
         let pairs = self.pairs(alloc, room, at)?;

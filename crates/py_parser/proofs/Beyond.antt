@@ -16,8 +16,8 @@ use Rattle.py_parser.specs.declared.fault.Halt.TheVariants.{AtToken, AtEnd, NoLi
 use Rattle.py_parser.specs.Limits.{Limits}
 use Rattle.py_parser.specs.Grouped.{no_spot}
 use Rattle.py_parser.specs.Rows.{end_rows, row, Under, nothing, block, rows_lines, under_lines, Level, is_stmt, is_def, counted, opens, inside, follows, FitsUnder, may, under_may}
-use Rattle.py_parser.specs.Faults.{at_token, at_end, first_place, IsAt, few_statements}
-use Rattle.py_parser.specs.ParsedBlocks.{is_stmt_kind, UnderGoesOn, UnderFollows, NoneUnder, Passes, RefusedUnder, BeyondFirst, BeyondSuites}
+use Rattle.py_parser.specs.Faults.{at_token, at_end, first_place, IsAt, few_statements, is_stmt_kind}
+use Rattle.py_parser.specs.ParsedBlocks.{UnderGoesOn, UnderFollows, NoneUnder, Passes, RefusedUnder, BeyondFirst, BeyondSuites}
 use Rattle.py_parser.proofs.RowLimits.{second, three_of}
 use Rattle.py_parser.proofs.Endings.{begins_suite, goes_inside, line_next, follows_inside, follows_pass}
 use Rattle.py_parser.proofs.Counting.{few_here}
@@ -31,6 +31,12 @@ record FirstUnder (q : Limits) (m : Level) (n : ℕ) (h : Head) (line : Line) : 
   tokens_are : line.tokens ≡ head_tokens head
   may_follow : follows (inside m h inner) head ≡ true
   may_be : may q (inside m h inner) n head ≡ true
+
+same_token : (a b : Token) (x y : List Token) → a ∷ x ≡ b ∷ y → a ≡ b
+same_token a b x y is = cc
+
+none_there : (t : Token) (ts : List Token) → [] ≡ t ∷ ts → ⊥
+none_there t ts is = cc
 
 same_first : (a b : Line) (x y : List Line) → a ∷ x ≡ b ∷ y → a ≡ b
 same_first a b x y is = cc
@@ -107,6 +113,7 @@ module _ (cs : List ℕ) (m : Level) (n : ℕ) (h : Head) (at : Pos) (line : Lin
     reads = first_reads None (at_token line.indent [] t) refl;
     few = few_here n few;
     shallow = inl refl;
+    order = λ stmt. absurd (false≢true (sym none ∙ stmt));
     none = none_so;
   }
     where
@@ -130,6 +137,7 @@ module _ (cs : List ℕ) (m : Level) (n : ℕ) (h : Head) (at : Pos) (line : Lin
     reads = first_reads None (at_token line.indent [] t) refl;
     few = few_here n few;
     shallow = inl refl;
+    order = tt;
     none = none_so;
   }
     where
@@ -155,7 +163,9 @@ module _ (cs : List ℕ) (m : Level) (n : ℕ) (h : Head) (at : Pos) (line : Lin
   beyond deep halt why = by line.tokens refl halt why
     where
       by : (ts : List Token) → line.tokens ≡ ts → (halt : Halt) → BeyondFirst h n at ts lines halt → RefusedUnder cs m n h at (line ∷ lines) halt
-      by ts is (TooDeep place) why = too_deep_at cs m n h at place line lines open_is deeper within few deep (why ∙ ap (first_place at) (sym is))
+      by [] is (TooDeep place) why = too_deep_at cs m n h at place line lines open_is deeper within few deep (why ∙ ap (first_place at) (sym is)) (λ t ts there. absurd (none_there t ts (sym is ∙ there)))
+      by (t ∷ ts) is (TooDeep place) why = too_deep_at cs m n h at place line lines open_is deeper within few deep (why.0 ∙ ap (first_place at) (sym is))
+          (λ u us there stmt. why.1 (ap (λ (v : Token). is_stmt_kind v.kind) (same_token t u ts us (sym is ∙ there)) ∙ stmt))
       by (t ∷ ts) is (TooMany place) why = one_more t ts place is why.0 why.1 why.2
       by (t ∷ ts) is (AtToken lines_left left) why = none_begins t ts lines_left left is why.0 why.1 why.2 why.3
       by [] is (TooMany place) why = absurd why

@@ -1,6 +1,6 @@
 -- What is read of a line of a suite: what the first token tells, the limits, and what is refused.
 use Rattle.std.proofs.Common.{◌≡◌, inl, inr, ℕ, ◌+◌, ◌<◌, ◌≤◌, suc, nat_le, Bool, true, false, not, ◌&&◌, ◌||◌, ◌==◌, List, [], ◌∷◌, ◌++◌, length, Option, Some, None, is_some, is_none, if◌then◌else◌, refl, ap, sym, ◌∙◌, arith, subst, append-nil, ◌⊎◌, codes}
-use Rattle.std.specs.Prelude.{slice_get}
+use Rattle.std.specs.Prelude.{⊤, slice_get}
 use Rattle.std.specs.Int.{from_bool}
 use Rattle.std.proofs.lemmas.Bool.{eqb-true, leb-true, leb-false, le-leb, false≢true}
 use Rattle.std.proofs.lemmas.Option.{same_Some}
@@ -23,18 +23,18 @@ use Rattle.py_grammar.specs.Layout.{IsLine}
 use Rattle.py_grammar.specs.StatementTokens.{simple_tokens, one_target_tokens}
 use Rattle.py_grammar.specs.Written.{Simple, pass, named as named_target, one_target}
 use Rattle.py_grammar.specs.LineReader.{Head, simple_head, if_head, elif_head, else_head, while_head, for_head, try_head, except_head, with_head, def_head, class_head, global_head, head_tokens, colon_tokens}
-use Rattle.py_grammar.specs.ParsedHead.{Context, lacks_handler, word_may, is_compound, is_compound_kind, head_stands, head_depth, behind_in, HeadFound, HeadRefused, IsAmissHead, ShownBy, GoesOnLine, ReadsDel, ReadsFor, StartsHead, BeginsHead, kind_may, may_begin, FirstMay, ShowsOnLine, head_lies, behind_first, StartsBehind, DelStarts, del_name, IsAheadOnLine, UnreadLine}
+use Rattle.py_grammar.specs.ParsedHead.{Context, lacks_handler, word_may, is_compound, is_compound_kind, head_stands, head_depth, behind_in, HeadFound, HeadRefused, IsAmissHead, ShownBy, GoesOnLine, ReadsDel, ReadsFor, BeginsHead, DeepHead, kind_may, may_begin, FirstMay, ShowsOnLine, head_lies, behind_first, StartsBehind, DelStarts, del_name, IsAheadOnLine, UnreadLine}
 use Rattle.py_grammar.specs.Lies.{over, is_place}
 use Rattle.py_grammar.specs.Parsed.{IsAtFirst}
 use Rattle.py_parser.specs.Limits.{Limits, profile}
 use Rattle.py_parser.specs.Rows.{Level, Begun, is_stmt, is_every, counted, follows, may}
-use Rattle.py_parser.specs.Faults.{last_place, Point, at_token, at_end, shows, IsLow, ReadsBehindDel, ReadsBehindFor, Opens, OpensDel, OpensFor, GoesOnWith, Next, few_suites, few_statements, line_fault}
-use Rattle.py_parser.specs.ParsedBlocks.{limit_by, limit_at, is_stmt_kind, RowsBegin, LineRead, RefusedLine, LineStopped, Asks, MarksToken, halt_of, RowsFollow, NoneRows, Passes, RowsLimit, OneMoreFrom, deep_at}
+use Rattle.py_parser.specs.Faults.{last_place, Point, at_token, at_end, shows, Said, low_elsewhere, first_deep_at, LiesSaid, IsLow, ReadsBehindDel, ReadsBehindFor, Opens, OpensDel, OpensFor, GoesOnWith, Next, few_suites, few_statements, is_stmt_kind, line_fault}
+use Rattle.py_parser.specs.ParsedBlocks.{limit_by, limit_at, RowsBegin, LineRead, RefusedLine, LineStopped, Asks, MarksToken, halt_of, RowsFollow, NoneRows, Passes, RowsLimit, KeepsBy, CountsFrom, OrderBy, NonePass, KeepsPass, halt_limit, deep_at}
 use Rattle.py_grammar.proofs.LyingLines.{head_low}
 use Rattle.py_grammar.proofs.LineFirsts.{same_first, head_some, simple_not_compound, both_true, misplaced_head}
 use Rattle.py_parser.specs.Grouped.{no_spot}
 use Rattle.py_grammar.proofs.HeadReading.{same_head}
-use Rattle.py_parser.proofs.Endings.{begins_here, begins_line, follows_line, follows_pass}
+use Rattle.py_parser.proofs.Endings.{line_of, passed_at, passed_fits, passed_may, begins_here, begins_line, follows_line, follows_pass}
 use Rattle.py_parser.proofs.RowRefusals.{none_line, ends_begun, first_reads}
 
 -- ---- truth values
@@ -297,9 +297,9 @@ amiss q m n begins limit h k fault asks same is fine bad = by fault asks bad
 
 -- ---- the tokens before the faulty one
 
-goes_with : (place : Option Pos) (indent : ℕ) (tokens : List Token) (x : List Line) → Opens place indent tokens x ⊎ (OpensDel place indent tokens x ⊎ OpensFor place indent tokens x) → GoesOnWith place indent tokens x
-goes_with place indent [] x is = tt
-goes_with place indent (f ∷ fs) x is = is
+goes_with : (said : Said) (indent : ℕ) (tokens : List Token) (x : List Line) → Opens (LiesSaid said tokens) indent tokens x ⊎ (OpensDel said indent tokens x ⊎ OpensFor said indent tokens x) → GoesOnWith said indent tokens x
+goes_with said indent [] x is = tt
+goes_with said indent (f ∷ fs) x is = is
 
 -- a line with `del` and a name
 record DelLine (c : Context) (given : List (List ℕ)) (opened : List Token) : Type 0 where
@@ -337,48 +337,51 @@ behind_for = one_target_tokens (named_target no_spot (codes "name")) ++ (keyword
 for_low : (spot : Spot) (other : Pos) → head_lies (for_line spot) other ≤ 100
 for_low spot other = let one = name_lies (is_place no_spot.at other) in omega (arith, one)
 
-everywhere : (place : Option Pos) (lies : Pos → ℕ) → ((other : Pos) → lies other ≤ 100) → IsLow place lies
-everywhere None lies low = tt
-everywhere (Some at) lies low = λ other apart. low other
-
--- the first tokens of a line that may stand there, or of what is read of it, where what begins elsewhere lies so
-record SomeLine (place : Option Pos) (c : Context) (given : List (List ℕ)) (tokens : List Token) : Type 0 where
+-- the first tokens of a line that may stand there, or of what is read of it, of which this is said
+record SomeLine (said : Said) (c : Context) (given : List (List ℕ)) (tokens : List Token) : Type 0 where
   head : Head
   stands : head_stands c given head ≡ true
   more : List Token
   tokens_are : head_tokens head ≡ tokens ++ more
-  low : IsLow place (head_lies head)
+  lies_so : LiesSaid said tokens (head_lies head) more
 
-abbrev LineStarts : Option Pos → Context → List (List ℕ) → List Token → Type 0
-LineStarts place c given tokens = SomeLine place c given tokens ⊎ (ReadsDel c given (ReadsBehindDel place) tokens ⊎ ReadsFor c (ReadsBehindFor place) tokens)
+abbrev LineStarts : Said → Context → List (List ℕ) → List Token → Type 0
+LineStarts said c given tokens = SomeLine said c given tokens ⊎ (ReadsDel c given (ReadsBehindDel said) tokens ⊎ ReadsFor c (ReadsBehindFor said) tokens)
 
-anywhere : (c : Context) (given : List (List ℕ)) (tokens : List Token) → StartsHead c given tokens → LineStarts None c given tokens
-anywhere c given tokens (inl b) = inl (record { head = b.some; stands = b.is_so; more = b.more; tokens_are = b.tokens_are; low = tt })
-anywhere c given tokens (inr r) = inr r
+deep_first : (place : Pos) (c : Context) (given : List (List ℕ)) (tokens : List Token) → DeepHead c given tokens place → LineStarts (first_deep_at place) c given tokens
+deep_first place c given tokens (inl b) = inl (record {
+  head = b.some;
+  stands = b.is_so;
+  more = b.more;
+  tokens_are = b.tokens_are;
+  lies_so = record { ahead = b.ahead; named = b.named; between = b.between; tokens_are = b.front_is; named_is = b.named_is; deep = b.deep; within = b.within };
+})
+deep_first place c given tokens (inr (inl d)) = inr (inl (record { opened = d.opened; starts = d.starts; inside = d.inside; begins = d.begins; front_is = d.front_is }))
+deep_first place c given tokens (inr (inr f)) = inr (inr (record { may = f.may; spot = f.spot; inside = f.inside; begins = f.begins; front_is = f.front_is }))
 
-elsewhere : (at : Pos) (c : Context) (given : List (List ℕ)) (tokens : List Token) → BeginsHead c given tokens → LineStarts (Some at) c given tokens
-elsewhere at c given tokens (inl b) = let one = b at in inl (record { head = one.some; stands = one.is_so; more = one.more; tokens_are = one.tokens_are; low = one.within })
+elsewhere : (at : Pos) (c : Context) (given : List (List ℕ)) (tokens : List Token) → BeginsHead c given tokens → LineStarts (low_elsewhere at) c given tokens
+elsewhere at c given tokens (inl b) = let one = b at in inl (record { head = one.some; stands = one.is_so; more = one.more; tokens_are = one.tokens_are; lies_so = one.within })
 elsewhere at c given tokens (inr (inl d)) = inr (inl (record { opened = d.opened; starts = d.starts; inside = d.inside; begins = d.begins at; front_is = d.front_is }))
 elsewhere at c given tokens (inr (inr f)) = inr (inr (record { may = f.may; spot = f.spot; inside = f.inside; begins = f.begins at; front_is = f.front_is }))
 
-begins_head : (place : Option Pos) (m : Level) (tokens : List Token) (p : Point) → (m.context.may_declare ≡ true → m.of_def ≡ true) → LineStarts place m.context m.given tokens → ((x : List Line) → GoesOnWith place m.indent tokens x → Next place p x) → RowsBegin place m [] p
-begins_head place m tokens p declares (inl b) next =
-    begins_line m b.head tokens b.more p b.tokens_are (follows_there m b.head declares b.stands) b.stands b.low (λ x opens. next x (goes_with place m.indent tokens x (inl opens)))
-begins_head place m tokens p declares (inr (inl d)) next =
+begins_head : (said : Said) (m : Level) (tokens : List Token) (p : Point) → (m.context.may_declare ≡ true → m.of_def ≡ true) → LineStarts said m.context m.given tokens → ((x : List Line) → GoesOnWith said m.indent tokens x → Next said p x) → RowsBegin said m [] p
+begins_head said m tokens p declares (inl b) next =
+    begins_line m b.head tokens b.more p b.tokens_are (follows_there m b.head declares b.stands) b.stands (LiesSaid said tokens) b.lies_so (λ x opens. next x (goes_with said m.indent tokens x (inl opens)))
+begins_head said m tokens p declares (inr (inl d)) next =
     let l = del_line m.context m.given d.opened d.starts in
-    begins_line m l.line (d.opened ++ simple_tokens (del_name no_spot)) [] p l.tokens_are (follows_there m l.line declares l.stands) l.stands (everywhere place (head_lies l.line) l.low)
-    (λ x opens. next x (goes_with place m.indent tokens x (inr (inl (record { opened = d.opened; spot = no_spot; opens = opens; inside = d.inside; begins = d.begins; tokens_are = d.front_is })))))
-begins_head place m tokens p declares (inr (inr f)) next =
+    begins_line m l.line (d.opened ++ simple_tokens (del_name no_spot)) [] p l.tokens_are (follows_there m l.line declares l.stands) l.stands IsLow l.low
+    (λ x opens. next x (goes_with said m.indent tokens x (inr (inl (record { opened = d.opened; spot = no_spot; opens = opens; inside = d.inside; begins = d.begins; tokens_are = d.front_is })))))
+begins_head said m tokens p declares (inr (inr f)) next =
     let stands : head_stands m.context m.given (for_line f.spot) ≡ true = both_true _ _ f.may refl in
-    begins_line m (for_line f.spot) (keyword (codes "for") f.spot) behind_for p refl (follows_there m (for_line f.spot) declares stands) stands (everywhere place (head_lies (for_line f.spot)) (for_low f.spot))
-    (λ x opens. next x (goes_with place m.indent tokens x (inr (inr (record { spot = f.spot; opens = opens; inside = f.inside; begins = f.begins; tokens_are = f.front_is })))))
+    begins_line m (for_line f.spot) (keyword (codes "for") f.spot) behind_for p refl (follows_there m (for_line f.spot) declares stands) stands IsLow (for_low f.spot)
+    (λ x opens. next x (goes_with said m.indent tokens x (inr (inr (record { spot = f.spot; opens = opens; inside = f.inside; begins = f.begins; tokens_are = f.front_is })))))
 
-begins_token : (m : Level) (indent : ℕ) (front : List Token) (shown : Token) → (m.context.may_declare ≡ true → m.of_def ≡ true) → BeginsHead m.context m.given front → indent ≡ m.indent → (place : Pos) → RowsBegin (Some place) m [] (at_token indent front shown)
+begins_token : (m : Level) (indent : ℕ) (front : List Token) (shown : Token) → (m.context.may_declare ≡ true → m.of_def ≡ true) → BeginsHead m.context m.given front → indent ≡ m.indent → (place : Pos) → RowsBegin (low_elsewhere place) m [] (at_token indent front shown)
 begins_token m indent front shown declares begun same place =
-    begins_head (Some place) m front (at_token indent front shown) declares (elsewhere place m.context m.given front begun) (λ x goes. subst (λ d. GoesOnWith (Some place) d front x) (sym same) goes)
+    begins_head (low_elsewhere place) m front (at_token indent front shown) declares (elsewhere place m.context m.given front begun) (λ x goes. subst (λ d. GoesOnWith (low_elsewhere place) d front x) (sym same) goes)
 
-begins_ended : (place : Option Pos) (m : Level) (indent : ℕ) (tokens : List Token) → (m.context.may_declare ≡ true → m.of_def ≡ true) → LineStarts place m.context m.given tokens → indent ≡ m.indent → RowsBegin place m [] (at_end indent tokens)
-begins_ended place m indent tokens declares begun same = begins_head place m tokens (at_end indent tokens) declares begun (λ x goes. subst (λ d. GoesOnWith place d tokens x) (sym same) goes)
+begins_ended : (said : Said) (m : Level) (indent : ℕ) (tokens : List Token) → (m.context.may_declare ≡ true → m.of_def ≡ true) → LineStarts said m.context m.given tokens → indent ≡ m.indent → RowsBegin said m [] (at_end indent tokens)
+begins_ended said m indent tokens declares begun same = begins_head said m tokens (at_end indent tokens) declares begun (λ x goes. subst (λ d. GoesOnWith said d tokens x) (sym same) goes)
 
 -- the token that shows the fault, and what stands behind it
 marked_shown : (line : Line) (lines : List Line) (front : List Token) (t : Token) (behind : List Token) (fault : Fault) → line.tokens ≡ front ++ t ∷ behind → ShowsOnLine t behind fault
@@ -442,30 +445,57 @@ passes_there within m n line t rest front shown behind declares tokens before b 
           passing q asks h first_is.0 (is ∙ first_is.1) (ap (λ g. is_some (behind_in g)) one ∙ ap is_some (b.behind_is (pass no_spot))) fine);
     }
 
--- with the statement behind the `:` there are 20,001
-counts_there : (m : Level) (n : ℕ) (line : Line) (t : Token) (begins : Bool) (limit : Option Limit) (front : List Token) (shown : Token) (behind : List Token) → Opened m n line t begins limit → (m.context.may_declare ≡ true → m.of_def ≡ true)
-    → n ≤ 20000 → (begins ≡ true → (n < 20000) ⊎ (lacks_handler m.context.last ≡ true)) → line.tokens ≡ front ++ shown ∷ behind → StartsBehind m.context m.given pass front → limit ≡ Some Number → OneMoreFrom n [] front
-counts_there m n line t begins limit front shown behind o declares few unless_lacking before b passed =
+free_number : (a b : Bool) → limit_by a b ≡ Some Depth → a ≡ false
+free_number true b is = cc
+free_number false true is = refl
+free_number false false is = cc
+
+-- how many statements there are with the one behind the `:`
+number_there : (m : Level) (n : ℕ) (line : Line) (t : Token) (begins : Bool) (limit : Option Limit) (front : List Token) (shown : Token) (behind : List Token) → Opened m n line t begins limit → line.tokens ≡ front ++ shown ∷ behind → StartsBehind m.context m.given pass front
+    → CountsFrom n [] (n + from_bool begins + 1) front
+number_there m n line t begins limit front shown behind o before b =
     let first_is = first_kept front (keyword (codes "pass") no_spot) behind shown t o.rest (starts_some m.context m.given front b) (sym before ∙ o.tokens_are) in
     let made = b.made (pass no_spot) in
     let same : begins ≡ is_stmt made = begins_as m n line t begins limit o made first_is.0 (b.tokens_are (pass no_spot) ∙ first_is.1) in
-    let fewer = fewer_there m n made begins same declares (b.stands no_spot) unless_lacking in
     record {
       at = no_spot;
       next = made;
       next_is = b.tokens_are (pass no_spot);
       before = 0;
       counts = refl;
-      number_is = full n begins (is_stmt made) (behind_in made) same few fewer (number_by _ _ (sym o.limit_is ∙ passed)) (b.behind_is (pass no_spot));
+      number_is = all n begins (is_stmt made) (behind_in made) same (b.behind_is (pass no_spot));
     }
   where
-    full : (n : ℕ) (begins is : Bool) (behind : Option Simple) → begins ≡ is → n ≤ 20000 → (begins ≡ true → n < 20000) → nat_le 20000 (n + from_bool begins) ≡ true → behind ≡ Some (pass no_spot)
-        → n + 0 + ((if is then 1 else 0) + (if is_none behind then 0 else 1)) ≡ 20001
-    full n true true (Some s) same few fewer many is = let less = fewer refl in omega (arith, less, leb-true 20000 (n + 1) many)
-    full n false false (Some s) same few fewer many is = omega (arith, few, leb-true 20000 (n + 0) many)
-    full n true false behind same few fewer many is = absurd (false≢true (sym same))
-    full n false true behind same few fewer many is = absurd (false≢true same)
-    full n begins is None same few fewer many there = cc
+    all : (n : ℕ) (begins is : Bool) (behind : Option Simple) → begins ≡ is → behind ≡ Some (pass no_spot) → n + 0 + ((if is then 1 else 0) + (if is_none behind then 0 else 1)) ≡ n + from_bool begins + 1
+    all n true true (Some s) same there = omega arith
+    all n false false (Some s) same there = omega arith
+    all n true false behind same there = absurd (false≢true (sym same))
+    all n false true behind same there = absurd (false≢true same)
+    all n begins is None same there = cc
+
+-- there are 20,001
+counts_there : (m : Level) (n : ℕ) (line : Line) (t : Token) (begins : Bool) (limit : Option Limit) (front : List Token) (shown : Token) (behind : List Token) → Opened m n line t begins limit → (m.context.may_declare ≡ true → m.of_def ≡ true)
+    → n ≤ 20000 → (begins ≡ true → (n < 20000) ⊎ (lacks_handler m.context.last ≡ true)) → line.tokens ≡ front ++ shown ∷ behind → StartsBehind m.context m.given pass front → limit ≡ Some Number → CountsFrom n [] 20001 front
+counts_there m n line t begins limit front shown behind o declares few unless_lacking before b passed =
+    let first_is = first_kept front (keyword (codes "pass") no_spot) behind shown t o.rest (starts_some m.context m.given front b) (sym before ∙ o.tokens_are) in
+    let made = b.made (pass no_spot) in
+    let same : begins ≡ is_stmt made = begins_as m n line t begins limit o made first_is.0 (b.tokens_are (pass no_spot) ∙ first_is.1) in
+    let fewer = fewer_there m n made begins same declares (b.stands no_spot) unless_lacking in
+    let low = few_now n begins few fewer in
+    let high = leb-true 20000 (n + from_bool begins) (number_by _ _ (sym o.limit_is ∙ passed)) in
+    subst (λ k. CountsFrom n [] k front) (full (n + from_bool begins) low high) (number_there m n line t begins limit front shown behind o before b)
+  where
+    full : (a : ℕ) → a ≤ 20000 → 20000 ≤ a → a + 1 ≡ 20001
+    full a low high = omega (arith, low, high)
+
+-- there are no more than there may be
+keeps_there : (m : Level) (n : ℕ) (line : Line) (t : Token) (begins : Bool) (limit : Option Limit) (front : List Token) (shown : Token) (behind : List Token) → Opened m n line t begins limit → line.tokens ≡ front ++ shown ∷ behind → StartsBehind m.context m.given pass front
+    → limit ≡ Some Depth → KeepsBy (CountsFrom n []) front
+keeps_there m n line t begins limit front shown behind o before b passed = record {
+  number = n + from_bool begins + 1;
+  counts_are = number_there m n line t begins limit front shown behind o before b;
+  within = let less = leb-false 20000 (n + from_bool begins) (free_number _ _ (sym o.limit_is ∙ passed)) in omega (arith, less);
+}
 
 -- with TooDeep and TooMany, what passes the limit
 limit_shown : (m : Level) (n : ℕ) (line : Line) (t : Token) (begins : Bool) (limit : Option Limit) (k : ℕ) (front : List Token) (shown : Token) (behind : List Token) (fault : Fault) → Opened m n line t begins limit
@@ -478,10 +508,14 @@ limit_shown m n line t begins limit k front shown behind (TooMany place) o decla
   counts_there m n line t begins limit front shown behind o declares most fewer before goes.1 goes.0,
 )
 limit_shown m n line t begins limit k front shown behind (TooDeep place) o declares most fewer before (inr goes) none same =
-    inr (goes.2, passes_there few_suites m n line t o.rest front shown behind declares o.tokens_are before goes.1 same (suites_passing m n line t begins limit o goes.0))
+    inr (
+      goes.2,
+      passes_there few_suites m n line t o.rest front shown behind declares o.tokens_are before goes.1 same (suites_passing m n line t begins limit o goes.0),
+      λ is. keeps_there m n line t begins limit front shown behind o before goes.1 goes.0,
+    )
 limit_shown m n line t begins limit k front shown behind (TooDeep place) o declares most fewer before (inl begun) none same =
     inl (record {
-      goes_on = begins_ended None m line.indent (front ++ shown ∷ []) declares (anywhere m.context m.given (front ++ shown ∷ []) begun) same;
+      goes_on = begins_ended (first_deep_at place) m line.indent (front ++ shown ∷ []) declares (deep_first place m.context m.given (front ++ shown ∷ []) begun) same;
       there = λ h more is. by h more is (none h more is);
     })
   where
@@ -494,6 +528,41 @@ limit_shown m n line t begins limit k front shown behind (TooDeep place) o decla
           none_ends few_suites m n line.indent (head_tokens h) same (λ q few g same_tokens fine.
               suites_passing m n line t begins limit o passed.0 q few g next.0 (same_tokens ∙ is ∙ next.1) (ap (λ f. is_some (behind_in f)) (same_head g h same_tokens) ∙ some_behind (behind_in h) place passed.1) fine),
         )
+
+-- a first token with which a statement begins passes no limit, where one may stand
+order_first : (m : Level) (n d : ℕ) (t : Token) → d ≡ m.indent → (is_stmt_kind t.kind ≡ true → (n < 20000) ⊎ (lacks_handler m.context.last ≡ true)) → is_stmt_kind t.kind ≡ true → NonePass m n [] d ⊎ KeepsPass m n [] d
+order_first m n d t same fewer stmt = by (lacks_handler m.context.last) refl
+  where
+    absent : lacks_handler m.context.last ≡ true → NonePass m n [] d
+    absent lacks at = none_ends (λ q. ⊤) m n d (keyword (codes "pass") at) same (λ q asks h is fine.
+        let one : h ≡ simple_head (pass at) = same_head h (simple_head (pass at)) is in
+        let stands : head_stands m.context m.given h ≡ true = (each_true (head_stands m.context m.given h) (nat_le (head_depth h) q.height) (nat_le (n + counted h) q.number) (is_none (behind_in h) || nat_le (suc m.depth) q.suites) fine).0 in
+        never_both (lacks_handler m.context.last) lacks (left_of (not (lacks_handler m.context.last)) _ (sym (ap (head_stands m.context m.given) one) ∙ stands)))
+
+    keeps : n < 20000 → lacks_handler m.context.last ≡ false → KeepsPass m n [] d
+    keeps less lacks = record {
+      number = record { number = n + 1; counts_are = record { at = no_spot; next = simple_head (pass no_spot); next_is = refl; before = 0; counts = refl; number_is = omega arith }; within = omega (arith, less) };
+      suites = λ room at. record {
+        rows = passed_at at m;
+        fits = passed_fits at m lacks;
+        may_be = passed_may 50 at m n lacks;
+        line = line_of m.indent (simple_head (pass at));
+        more = [];
+        lines_are = refl;
+        line_is = record { indent_is = sym same; tokens_are = refl };
+      };
+    }
+
+    by : (b : Bool) → lacks_handler m.context.last ≡ b → NonePass m n [] d ⊎ KeepsPass m n [] d
+    by true lacks = inl (absent lacks)
+    by false lacks = elim (fewer stmt) [ inl less ↦ inr (keeps less lacks) | inr lacking ↦ absurd (false≢true (sym lacks ∙ lacking)) ]
+
+line_order : (m : Level) (n : ℕ) (line : Line) (t : Token) (begins : Bool) (limit : Option Limit) → Opened m n line t begins limit → (m.context.may_declare ≡ true → m.of_def ≡ true) → n ≤ 20000 → (begins ≡ true → (n < 20000) ⊎ (lacks_handler m.context.last ≡ true))
+    → (front : List Token) (shown : Token) (behind : List Token) (named : Bool) → line.tokens ≡ front ++ shown ∷ behind → line.indent ≡ m.indent → OrderBy (NonePass m n []) (KeepsPass m n []) named (at_token line.indent front shown)
+line_order m n line t begins limit o declares few fewer [] shown behind false before same =
+    λ stmt. order_first m n line.indent shown same (λ is. fewer (o.begins_is ∙ ap (λ (u : Token). is_stmt_kind u.kind) (same_first t shown o.rest behind (sym o.tokens_are ∙ before)) ∙ is)) stmt
+line_order m n line t begins limit o declares few fewer (f ∷ fs) shown behind false before same = tt
+line_order m n line t begins limit o declares few fewer front shown behind true before same = tt
 
 -- what is read behind `del` and `for`
 line_reads : (k : ℕ) (front : List Token) (t : Token) (fault : Fault) → UnreadLine front t fault → UnreadLine front t (line_fault (deep_at (halt_of k fault)))
@@ -513,6 +582,7 @@ shown_line m n at line lines t begins limit fault o declares most fewer s = reco
   begun = begun_token line.indent s.front s.shown_by;
   begins = begins_token m line.indent s.front s.shown_by declares s.begun;
   reads = line_reads (length lines) s.front s.shown_by fault s.goes_on.1;
+  order = λ same. line_order m n line t begins limit o declares most fewer s.front s.shown_by s.behind (halt_limit (halt_of (length lines) fault)) s.before_is same;
   none = λ q asks other more h there tokens_are goes_on fine.
       let is = sym tokens_are ∙ there.1.tokens_are in
       let opens = front_first s.front s.shown_by s.behind there.1.more t o.rest (sym s.before_is ∙ o.tokens_are) in
@@ -528,9 +598,9 @@ line_goes_on m n at line lines t begins limit (TooDeep place) o declares most fe
 line_goes_on m n at line lines t begins limit Memory o declares most fewer is = tt
 
 -- the first token may not stand there
-line_never : (m : Level) (n : ℕ) (at : Pos) (line : Line) (lines : List Line) (t : Token) (rest : List Token) (fault : Fault) → line.tokens ≡ t ∷ rest → kind_may m.context t.kind ≡ false → IsAtFirst (t ∷ rest) (Here fault)
+line_never : (m : Level) (n : ℕ) (at : Pos) (line : Line) (lines : List Line) (t : Token) (rest : List Token) (fault : Fault) → (is_stmt_kind t.kind ≡ true → (n < 20000) ⊎ (lacks_handler m.context.last ≡ true)) → line.tokens ≡ t ∷ rest → kind_may m.context t.kind ≡ false → IsAtFirst (t ∷ rest) (Here fault)
     → LineStopped m n at line lines (halt_of (length lines) fault)
-line_never m n at line lines t rest fault tokens absent first = by fault first
+line_never m n at line lines t rest fault fewer tokens absent first = by fault first
   where
     refused : (left : ℕ) → left ≡ length rest → RefusedLine m n at line lines (AtToken (length lines) left)
     refused left left_is = record {
@@ -542,6 +612,7 @@ line_never m n at line lines t rest fault tokens absent first = by fault first
       begun = begun_token line.indent [] t;
       begins = λ same place. begins_here m (at_token line.indent [] t) refl;
       reads = first_reads None (at_token line.indent [] t) refl;
+      order = λ same. order_first m n line.indent t same fewer;
       none = λ q asks other more h there tokens_are goes_on fine.
           false≢true (sym (misplaced_head m.context m.given h t there.1.more (sym tokens_are ∙ there.1.tokens_are) absent)
           ∙ (each_true (head_stands m.context m.given h) (nat_le (head_depth h) q.height) (nat_le (n + counted h) q.number) (is_none (behind_in h) || nat_le (suc m.depth) q.suites) fine).0);
@@ -557,7 +628,7 @@ pub line_refused : (m : Level) (n : ℕ) (at : Pos) (line : Line) (lines : List 
     → n ≤ 20000 → (begins ≡ true → (n < 20000) ⊎ (lacks_handler m.context.last ≡ true)) → FirstMay m.context line.tokens (Here fault) → HeadRefused m.context m.given limit line.tokens (Here fault) → LineStopped m n at line lines (halt_of (length lines) fault)
 line_refused m n at line lines t begins limit fault o declares most fewer (inl may) is = line_goes_on m n at line lines t begins limit fault o declares most fewer is
 line_refused m n at line lines t begins limit fault o declares most fewer (inr first) is =
-    line_never m n at line lines t o.rest fault o.tokens_are (sym (ap (may_begin m.context) o.tokens_are) ∙ first.0) (subst (λ (ts : List Token). IsAtFirst ts (Here fault)) o.tokens_are first.1)
+    line_never m n at line lines t o.rest fault (λ is. fewer (o.begins_is ∙ is)) o.tokens_are (sym (ap (may_begin m.context) o.tokens_are) ∙ first.0) (subst (λ (ts : List Token). IsAtFirst ts (Here fault)) o.tokens_are first.1)
 
 -- a line that ends too early
 pub line_ends : (m : Level) (n : ℕ) (at place : Pos) (line : Line) (lines : List Line) (t : Token) (begins : Bool) (limit : Option Limit) → Opened m n line t begins limit → (m.context.may_declare ≡ true → m.of_def ≡ true) → place ≡ last_place at line.tokens
@@ -569,8 +640,9 @@ line_ends m n at place line lines t begins limit o declares named e = record {
   marked = (refl, named);
   limit = λ same. tt;
   begun = begun_end line.indent line.tokens;
-  begins = λ same place. begins_ended (Some place) m line.indent line.tokens declares (elsewhere place m.context m.given line.tokens e.begun) same;
+  begins = λ same place. begins_ended (low_elsewhere place) m line.indent line.tokens declares (elsewhere place m.context m.given line.tokens e.begun) same;
   reads = tt;
+  order = λ same. tt;
   none = λ q asks other more h there tokens_are goes_on fine.
       false≢true (sym (e.none h (sym tokens_are ∙ there.1))
       ∙ (each_true (head_stands m.context m.given h) (nat_le (head_depth h) q.height) (nat_le (n + counted h) q.number) (is_none (behind_in h) || nat_le (suc m.depth) q.suites) fine).0);
@@ -593,6 +665,7 @@ line_is_empty m n at line lines empty = record {
   begun = begun_end line.indent [];
   begins = λ same place. begins_here m (at_end line.indent []) refl;
   reads = tt;
+  order = λ same. tt;
   none = λ q asks other more h there tokens_are goes_on fine. head_some h (sym tokens_are ∙ there.1);
 }
 
@@ -615,6 +688,7 @@ one_too_many m n at line lines t rest tokens begins lacks many few = record {
   begun = begun_token line.indent [] t;
   begins = λ same place. begins_here m (at_token line.indent [] t) refl;
   reads = first_reads None (at_token line.indent [] t) refl;
+  order = λ same. tt;
   none = λ q asks other more h there tokens_are goes_on fine. no_more q asks h t there.1.more begins (sym tokens_are ∙ there.1.tokens_are) fine;
 }
   where

@@ -6,7 +6,7 @@ use Rattle.py_grammar.specs.LineReader.{Head, head_tokens}
 use Rattle.py_grammar.specs.Layout.{IsLine}
 use Rattle.py_parser.specs.Faults.{Counts}
 use Rattle.py_parser.specs.Rows.{Rows, end_rows, row, Under, nothing, block, rows_lines, under_lines, Level, counted, after, inside, Leads, FitsUnder, FitsRows, rows_size, under_size}
-use Rattle.py_parser.specs.ParsedBlocks.{Few, OneMoreFrom}
+use Rattle.py_parser.specs.ParsedBlocks.{Few, CountsFrom}
 
 counts_same : (a b : ℕ) (lines : List Line) → a ≡ b → Counts a lines → Counts b lines
 counts_same a b lines same counts = subst (λ k. Counts k lines) same counts
@@ -46,10 +46,10 @@ few_under m n h line front is f = record { number = counted h + f.number; counts
 pub few_here : (n : ℕ) → n ≤ 20000 → Few n []
 few_here n low = record { number = 0; counts = refl; within = omega (arith, low) }
 
--- a statement more than there may be
+-- so many statements with the one that is next
 
-pub more_behind : (l m : Level) (n k : ℕ) (rows : Rows) (front : List Line) (tokens : List Token) → Leads l rows m → k ≡ n + rows_size rows → OneMoreFrom k front tokens → OneMoreFrom n (rows_lines rows ++ front) tokens
-more_behind l m n k rows front tokens leads count_is o = record {
+pub more_behind : (l m : Level) (n k : ℕ) (rows : Rows) (front : List Line) (number : ℕ) (tokens : List Token) → Leads l rows m → k ≡ n + rows_size rows → CountsFrom k front number tokens → CountsFrom n (rows_lines rows ++ front) number tokens
+more_behind l m n k rows front number tokens leads count_is o = record {
   at = o.at;
   next = o.next;
   next_is = o.next_is;
@@ -58,8 +58,8 @@ more_behind l m n k rows front tokens leads count_is o = record {
   number_is = let all = o.number_is in omega (arith, count_is, all);
 }
 
-pub more_under : (m : Level) (n : ℕ) (h : Head) (line : Line) (front : List Line) (tokens : List Token) → IsLine line m.indent (head_tokens h) → OneMoreFrom (n + counted h) front tokens → OneMoreFrom n (line ∷ front) tokens
-more_under m n h line front tokens is o = record {
+pub more_under : (m : Level) (n : ℕ) (h : Head) (line : Line) (front : List Line) (number : ℕ) (tokens : List Token) → IsLine line m.indent (head_tokens h) → CountsFrom (n + counted h) front number tokens → CountsFrom n (line ∷ front) number tokens
+more_under m n h line front number tokens is o = record {
   at = o.at;
   next = o.next;
   next_is = o.next_is;

@@ -1,5 +1,5 @@
 -- How rows that have begun may go on to their end, so that the lines before a fault are those of some script.
-use Rattle.std.proofs.Common.{◌≡◌, inl, inr, ℕ, ◌+◌, ◌<◌, ◌≤◌, suc, nat_le, Bool, true, false, ◌&&◌, ◌||◌, not, List, [], ◌∷◌, ◌++◌, Option, Some, is_none, codes, refl, ap, sym, ◌∙◌, subst, arith, append_assoc, append-nil, le-leb, leb-true}
+use Rattle.std.proofs.Common.{◌≡◌, inl, inr, ℕ, ◌+◌, ◌<◌, ◌≤◌, suc, nat_le, Bool, true, false, ◌&&◌, ◌||◌, not, List, [], ◌∷◌, ◌++◌, Some, is_none, codes, refl, ap, sym, ◌∙◌, subst, arith, append_assoc, append-nil, le-leb, leb-true}
 use Rattle.std.proofs.lemmas.Bool.{false≢true}
 use Rattle.prov_base.specs.declared.place.Pos.{Pos}
 use Rattle.py_lines.specs.declared.parts.Line.{Line}
@@ -14,7 +14,7 @@ use Rattle.py_grammar.specs.LineReader.{Head, simple_head, except_head, head_tok
 use Rattle.py_grammar.specs.Layout.{IsLine}
 use Rattle.py_grammar.specs.ParsedHead.{takes_handler, lacks_handler, head_stands, head_depth, head_lies, behind_in, del_name}
 use Rattle.py_parser.specs.Limits.{Limits, profile}
-use Rattle.py_parser.specs.Faults.{IsLow, Opens, GoesOnWith, Point, at_token, at_end, at_line, below, no_line, tokens_before, Next, IsAt, IsPass, IsPassBefore, IsHandler}
+use Rattle.py_parser.specs.Faults.{Said, LiesSaid, IsLow, Opens, GoesOnWith, Point, at_token, at_end, at_line, below, no_line, tokens_before, Next, IsAt, IsPass, IsPassBefore, IsHandler}
 use Rattle.py_parser.specs.Rows.{Rows, end_rows, row, Under, nothing, block, rows_lines, under_lines, Level, is_every, counted, opens, last_after, after, inside, follows, Leads, FitsUnder, FitsRows, may, rows_may, under_may, rows_stand, under_stand, rows_size, under_size}
 use Rattle.py_parser.specs.Grouped.{no_spot}
 use Rattle.py_parser.specs.ParsedBlocks.{wide, RowsBegin, UnderBegins, RowsWithin, UnderWithin, RowsGoOn, UnderGoesOn, RowsFollow, UnderFollows}
@@ -114,37 +114,37 @@ join_stands l m (row line h under rest) b leads one other =
 
 -- ---- what stands next
 
-opens_more : (place : Option Pos) (indent : ℕ) (tokens : List Token) (x y : List Line) → Opens place indent tokens x → Opens place indent tokens (x ++ y)
-opens_more place indent tokens [] y is = absurd is
-opens_more place indent tokens (line ∷ x) y is = is
+opens_more : (so : (Pos → ℕ) → List Token → Type 0) (indent : ℕ) (tokens : List Token) (x y : List Line) → Opens so indent tokens x → Opens so indent tokens (x ++ y)
+opens_more so indent tokens [] y is = absurd is
+opens_more so indent tokens (line ∷ x) y is = is
 
-goes_more : (place : Option Pos) (indent : ℕ) (tokens : List Token) (x y : List Line) → GoesOnWith place indent tokens x → GoesOnWith place indent tokens (x ++ y)
-goes_more place indent [] x y is = tt
-goes_more place indent (f ∷ fs) x y (inl is) = inl (opens_more place indent (f ∷ fs) x y is)
-goes_more place indent (f ∷ fs) x y (inr (inl d)) =
-    inr (inl (record { opened = d.opened; spot = d.spot; opens = opens_more place indent (d.opened ++ simple_tokens (del_name d.spot)) x y d.opens; inside = d.inside; begins = d.begins; tokens_are = d.tokens_are }))
-goes_more place indent (f ∷ fs) x y (inr (inr d)) =
-    inr (inr (record { spot = d.spot; opens = opens_more place indent (keyword (codes "for") d.spot) x y d.opens; inside = d.inside; begins = d.begins; tokens_are = d.tokens_are }))
+goes_more : (said : Said) (indent : ℕ) (tokens : List Token) (x y : List Line) → GoesOnWith said indent tokens x → GoesOnWith said indent tokens (x ++ y)
+goes_more said indent [] x y is = tt
+goes_more said indent (f ∷ fs) x y (inl is) = inl (opens_more (LiesSaid said (f ∷ fs)) indent (f ∷ fs) x y is)
+goes_more said indent (f ∷ fs) x y (inr (inl d)) =
+    inr (inl (record { opened = d.opened; spot = d.spot; opens = opens_more IsLow indent (d.opened ++ simple_tokens (del_name d.spot)) x y d.opens; inside = d.inside; begins = d.begins; tokens_are = d.tokens_are }))
+goes_more said indent (f ∷ fs) x y (inr (inr d)) =
+    inr (inr (record { spot = d.spot; opens = opens_more IsLow indent (keyword (codes "for") d.spot) x y d.opens; inside = d.inside; begins = d.begins; tokens_are = d.tokens_are }))
 
-next_more : (place : Option Pos) (p : Point) (x y : List Line) → Next place p x → Next place p (x ++ y)
-next_more place (at_token indent tokens t) x y is = goes_more place indent tokens x y is
-next_more place (at_end indent tokens) x y is = goes_more place indent tokens x y is
-next_more place (at_line indent) x y is = tt
-next_more place (below indent) x y is = tt
-next_more place no_line x y is = tt
+next_more : (said : Said) (p : Point) (x y : List Line) → Next said p x → Next said p (x ++ y)
+next_more said (at_token indent tokens t) x y is = goes_more said indent tokens x y is
+next_more said (at_end indent tokens) x y is = goes_more said indent tokens x y is
+next_more said (at_line indent) x y is = tt
+next_more said (below indent) x y is = tt
+next_more said no_line x y is = tt
 
-pub next_here : (place : Option Pos) (p : Point) (x : List Line) → tokens_before p ≡ [] → Next place p x
-next_here place (at_token indent [] t) x is = tt
-next_here place (at_token indent (f ∷ fs) t) x is = cc
-next_here place (at_end indent []) x is = tt
-next_here place (at_end indent (f ∷ fs)) x is = cc
-next_here place (at_line indent) x is = tt
-next_here place (below indent) x is = tt
-next_here place no_line x is = tt
+pub next_here : (said : Said) (p : Point) (x : List Line) → tokens_before p ≡ [] → Next said p x
+next_here said (at_token indent [] t) x is = tt
+next_here said (at_token indent (f ∷ fs) t) x is = cc
+next_here said (at_end indent []) x is = tt
+next_here said (at_end indent (f ∷ fs)) x is = cc
+next_here said (at_line indent) x is = tt
+next_here said (below indent) x is = tt
+next_here said no_line x is = tt
 
 -- ---- where rows begin so
 
-pub begins_here : {place : Option Pos} (m : Level) (p : Point) → tokens_before p ≡ [] → RowsBegin place m [] p
+pub begins_here : {said : Said} (m : Level) (p : Point) → tokens_before p ≡ [] → RowsBegin said m [] p
 begins_here m p is = record { rows = ending m; fits = ending_fits m; more = rows_lines (ending m); lines_are = refl; next = next_here _ p (rows_lines (ending m)) is; stands = ending_stands m }
 
 abbrev under_by : Bool → Level → Head → Under
@@ -166,18 +166,18 @@ under_stands m h = by (opens h)
     by false = refl
 
 -- a line that begins with these tokens
-pub begins_line : {place : Option Pos} (m : Level) (h : Head) (tokens rest : List Token) (p : Point) → head_tokens h ≡ tokens ++ rest → follows m h ≡ true → head_stands m.context m.given h ≡ true → IsLow place (head_lies h)
-    → ((x : List Line) → Opens place m.indent tokens x → Next place p x) → RowsBegin place m [] p
-begins_line m h tokens rest p is may_follow may_stand low next = record {
+pub begins_line : {said : Said} (m : Level) (h : Head) (tokens rest : List Token) (p : Point) → head_tokens h ≡ tokens ++ rest → follows m h ≡ true → head_stands m.context m.given h ≡ true → (so : (Pos → ℕ) → List Token → Type 0)
+    → so (head_lies h) rest → ((x : List Line) → Opens so m.indent tokens x → Next said p x) → RowsBegin said m [] p
+begins_line m h tokens rest p is may_follow may_stand so lies_so next = record {
   rows = row (line_of m.indent h) h (under_by (opens h) m h) (ending (after m h));
   fits = (record { indent_is = refl; tokens_are = refl }, may_follow, under_fits m h, ending_fits (after m h));
   more = line_of m.indent h ∷ under_lines (under_by (opens h) m h) ++ rows_lines (ending (after m h));
   lines_are = refl;
-  next = next (line_of m.indent h ∷ under_lines (under_by (opens h) m h) ++ rows_lines (ending (after m h))) (refl, record { head = h; line_is = refl; more = rest; tokens_are = is; low = low });
+  next = next (line_of m.indent h ∷ under_lines (under_by (opens h) m h) ++ rows_lines (ending (after m h))) (refl, record { head = h; line_is = refl; more = rest; tokens_are = is; lies_so = lies_so });
   stands = all_three (head_stands m.context m.given h) _ _ may_stand (under_stands m h) (ending_stands (after m h));
 }
 
-pub begins_behind : {place : Option Pos} (l m : Level) (rows : Rows) (front : List Line) (p : Point) → Leads l rows m → rows_stand l rows ≡ true → RowsBegin place m front p → RowsBegin place l (rows_lines rows ++ front) p
+pub begins_behind : {said : Said} (l m : Level) (rows : Rows) (front : List Line) (p : Point) → Leads l rows m → rows_stand l rows ≡ true → RowsBegin said m front p → RowsBegin said l (rows_lines rows ++ front) p
 begins_behind l m rows front p leads standing b = record {
   rows = join rows b.rows;
   fits = join_fits l m rows b.rows leads b.fits;
@@ -187,10 +187,10 @@ begins_behind l m rows front p leads standing b = record {
   stands = join_stands l m rows b.rows leads standing b.stands;
 }
 
-pub begins_end : {place : Option Pos} (l m : Level) (rows : Rows) (p : Point) → Leads l rows m → rows_stand l rows ≡ true → RowsBegin place m [] p → RowsBegin place l (rows_lines rows) p
-begins_end {place} l m rows p leads standing b = subst (λ ls. RowsBegin place l ls p) (append-nil (rows_lines rows)) (begins_behind l m rows [] p leads standing b)
+pub begins_end : {said : Said} (l m : Level) (rows : Rows) (p : Point) → Leads l rows m → rows_stand l rows ≡ true → RowsBegin said m [] p → RowsBegin said l (rows_lines rows) p
+begins_end {said} l m rows p leads standing b = subst (λ ls. RowsBegin said l ls p) (append-nil (rows_lines rows)) (begins_behind l m rows [] p leads standing b)
 
-pub begins_under : {place : Option Pos} (m : Level) (h : Head) (line : Line) (front : List Line) (p : Point) → IsLine line m.indent (head_tokens h) → follows m h ≡ true → head_stands m.context m.given h ≡ true → UnderBegins place m h front p → RowsBegin place m (line ∷ front) p
+pub begins_under : {said : Said} (m : Level) (h : Head) (line : Line) (front : List Line) (p : Point) → IsLine line m.indent (head_tokens h) → follows m h ≡ true → head_stands m.context m.given h ≡ true → UnderBegins said m h front p → RowsBegin said m (line ∷ front) p
 begins_under m h line front p is may_follow may_stand b = record {
   rows = row line h b.under (ending (after m h));
   fits = (is, may_follow, b.fits, ending_fits (after m h));
@@ -200,10 +200,10 @@ begins_under m h line front p is may_follow may_stand b = record {
   stands = all_three (head_stands m.context m.given h) _ _ may_stand b.stands (ending_stands (after m h));
 }
 
-pub begins_inside : {place : Option Pos} (m : Level) (h : Head) (k : ℕ) (front : List Line) (p : Point) → opens h ≡ true → m.indent < k → RowsBegin place (inside m h k) front p → UnderBegins place m h front p
+pub begins_inside : {said : Said} (m : Level) (h : Head) (k : ℕ) (front : List Line) (p : Point) → opens h ≡ true → m.indent < k → RowsBegin said (inside m h k) front p → UnderBegins said m h front p
 begins_inside m h k front p open_is deeper b = record { under = block k b.rows; fits = (open_is, deeper, b.fits); more = b.more; lines_are = b.lines_are; next = b.next; stands = b.stands }
 
-pub begins_suite : {place : Option Pos} (m : Level) (h : Head) (p : Point) → opens h ≡ true → tokens_before p ≡ [] → UnderBegins place m h [] p
+pub begins_suite : {said : Said} (m : Level) (h : Head) (p : Point) → opens h ≡ true → tokens_before p ≡ [] → UnderBegins said m h [] p
 begins_suite m h p open_is is = begins_inside m h (suc m.indent) [] p open_is (omega arith) (begins_here (inside m h (suc m.indent)) p is)
 
 -- ---- what may stand there

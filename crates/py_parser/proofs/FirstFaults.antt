@@ -1,5 +1,5 @@
 -- Which fault is answered where the lines stop: what is found by counting from the end is what stands before the point.
-use Rattle.std.proofs.Common.{◌≡◌, ℕ, suc, ◌+◌, ◌-◌, List, [], ◌∷◌, ◌++◌, length, take, drop, get_or, Option, Some, None, IfSome, IfNone, ap, sym, ◌∙◌, subst, arith, refl}
+use Rattle.std.proofs.Common.{◌≡◌, ℕ, suc, ◌+◌, ◌-◌, List, [], ◌∷◌, ◌++◌, length, take, drop, get_or, Option, Some, None, IfSome, IfNone, false, ap, sym, ◌∙◌, subst, arith, refl}
 use Rattle.std.proofs.Math.Seq.{take-append_seam, drop-append_seam, drop-append-add, get_or-append_seam, take-length}
 use Rattle.std.proofs.lemmas.List.{length-append}
 use Rattle.prov_base.specs.declared.place.Pos.{Pos}
@@ -11,12 +11,12 @@ use Rattle.py_parser.specs.declared.fault.Halt.TheVariants.{AtToken, AtEnd, NoLi
 use Rattle.py_parser.specs.declared.fault.ParseFault.{ParseFault}
 use Rattle.py_parser.specs.declared.fault.ParseFault.TheVariants.{Unexpected, BadIndent, TooDeep, TooMany}
 use Rattle.py_parser.specs.Limits.{Limits}
-use Rattle.py_parser.specs.Faults.{Point, at_token, at_end, at_line, below, no_line, shows, NamesToken, NamesEnd, names, Asks, origin, last_token, FirstFault, NamesLimit, ReadsNoFurther, deep_place}
-use Rattle.py_parser.specs.ParsedBlocks.{marks, Asks as AsksHalt, FirstHalt, deep_at}
+use Rattle.py_parser.specs.Faults.{Point, at_token, at_end, at_line, below, no_line, shows, NamesToken, NamesEnd, names, Asks, origin, last_token, FirstFault, NamesLimit, ReadsNoFurther, KeepsOrder, deep_place, names_limit}
+use Rattle.py_parser.specs.ParsedBlocks.{marks, Asks as AsksHalt, FirstHalt, deep_at, halt_limit}
 
 -- where the fault is named there, it is the first one
-as_fault : (lines : List Line) (halt : Halt) (fault : ParseFault) → (h : FirstHalt lines halt) → deep_at halt ≡ deep_place fault → ((q : Limits) → Asks fault q → AsksHalt halt q) → NamesLimit fault h.front h.point → names h.front h.behind h.point fault → FirstFault lines fault
-as_fault lines halt fault h deep asked limit named = record {
+as_fault : (lines : List Line) (halt : Halt) (fault : ParseFault) → (h : FirstHalt lines halt) → deep_at halt ≡ deep_place fault → halt_limit halt ≡ names_limit fault → ((q : Limits) → Asks fault q → AsksHalt halt q) → NamesLimit fault h.front h.point → names h.front h.behind h.point fault → FirstFault lines fault
+as_fault lines halt fault h deep kind asked limit named = record {
   front = h.front;
   behind = h.behind;
   point = h.point;
@@ -29,6 +29,7 @@ as_fault lines halt fault h deep asked limit named = record {
   reads = subst (λ o. ReadsNoFurther o h.point) deep h.reads;
   few = h.few;
   shallow = h.shallow;
+  order = subst (λ b. KeepsOrder b h.front h.point) kind h.order;
   none = λ limits asks. h.none limits (asked limits asks);
 }
 
@@ -106,12 +107,12 @@ token_named front behind lines (at_line d) l k at line tokens u fault is shown m
 token_named front behind lines (below d) l k at line tokens u fault is shown marked line_is tokens_are u_is named = absurd marked
 token_named front behind lines no_line l k at line tokens u fault is shown marked line_is tokens_are u_is named = absurd marked
 
-pub token_fault : (lines : List Line) (l k : ℕ) (line : Line) (tokens : List Token) (u : Token) (fault : ParseFault) → FirstHalt lines (AtToken l k) → deep_place fault ≡ None → ((front : List Line) (point : Point) → NamesLimit fault front point)
+pub token_fault : (lines : List Line) (l k : ℕ) (line : Line) (tokens : List Token) (u : Token) (fault : ParseFault) → FirstHalt lines (AtToken l k) → deep_place fault ≡ None → names_limit fault ≡ false → ((front : List Line) (point : Point) → NamesLimit fault front point)
     → line ≡ get_or lines (length lines - l - 1) line → tokens ≡ line.tokens → u ≡ get_or tokens (length tokens - k - 1) u
     → Named line.indent (take (length lines - l - 1) lines) (take (length tokens - k - 1) tokens) (take (length tokens - (length tokens - k - 1)) (drop (length tokens - k - 1) tokens)) u fault
     → FirstFault lines fault
-token_fault lines l k line tokens u fault h deep limit line_is tokens_are u_is named =
-    as_fault lines (AtToken l k) fault h (sym deep) (λ q asks. tt) (limit h.front h.point) (token_named h.front h.behind lines h.point l k (last_token origin h.front) line tokens u fault h.lines_are h.shown h.marked line_is tokens_are u_is named)
+token_fault lines l k line tokens u fault h deep kind limit line_is tokens_are u_is named =
+    as_fault lines (AtToken l k) fault h (sym deep) (sym kind) (λ q asks. tt) (limit h.front h.point) (token_named h.front h.behind lines h.point l k (last_token origin h.front) line tokens u fault h.lines_are h.shown h.marked line_is tokens_are u_is named)
 
 -- ---- at the end of a line
 
@@ -137,15 +138,15 @@ end_named front behind lines (at_line d) l place line tokens fault is shown mark
 end_named front behind lines (below d) l place line tokens fault is shown marked line_is tokens_are named = absurd marked
 end_named front behind lines no_line l place line tokens fault is shown marked line_is tokens_are named = absurd marked
 
-pub end_fault : (lines : List Line) (l : ℕ) (place : Pos) (line : Line) (tokens : List Token) (fault : ParseFault) → FirstHalt lines (AtEnd l place) → deep_place fault ≡ None → ((front : List Line) (point : Point) → NamesLimit fault front point)
+pub end_fault : (lines : List Line) (l : ℕ) (place : Pos) (line : Line) (tokens : List Token) (fault : ParseFault) → FirstHalt lines (AtEnd l place) → deep_place fault ≡ None → names_limit fault ≡ false → ((front : List Line) (point : Point) → NamesLimit fault front point)
     → line ≡ get_or lines (length lines - l - 1) line → tokens ≡ line.tokens → Ended line.indent (take (length lines - l - 1) lines) tokens place fault → FirstFault lines fault
-end_fault lines l place line tokens fault h deep limit line_is tokens_are named =
-    as_fault lines (AtEnd l place) fault h (sym deep) (λ q asks. tt) (limit h.front h.point) (end_named h.front h.behind lines h.point l place line tokens fault h.lines_are h.shown h.marked line_is tokens_are named)
+end_fault lines l place line tokens fault h deep kind limit line_is tokens_are named =
+    as_fault lines (AtEnd l place) fault h (sym deep) (sym kind) (λ q asks. tt) (limit h.front h.point) (end_named h.front h.behind lines h.point l place line tokens fault h.lines_are h.shown h.marked line_is tokens_are named)
 
 -- ---- elsewhere
 
 pub last_fault : (lines : List Line) (place : Pos) → FirstHalt lines (NoLine place) → FirstFault lines (Unexpected place)
-last_fault lines place h = as_fault lines (NoLine place) (Unexpected place) h refl (λ q asks. tt) tt (by h.behind h.point h.marked)
+last_fault lines place h = as_fault lines (NoLine place) (Unexpected place) h refl refl (λ q asks. tt) tt (by h.behind h.point h.marked)
   where
     by : (behind : List Line) (point : Point) → marks (last_token origin h.front) behind point (NoLine place) → names h.front behind point (Unexpected place)
     by [] (at_token d before t) marked = absurd marked
@@ -157,7 +158,7 @@ last_fault lines place h = as_fault lines (NoLine place) (Unexpected place) h re
     by behind no_line marked = marked
 
 pub indent_fault : (lines : List Line) (place : Pos) → FirstHalt lines (IndentHalt place) → FirstFault lines (BadIndent place)
-indent_fault lines place h = as_fault lines (IndentHalt place) (BadIndent place) h refl (λ q asks. tt) tt (by h.behind h.point h.marked)
+indent_fault lines place h = as_fault lines (IndentHalt place) (BadIndent place) h refl refl (λ q asks. tt) tt (by h.behind h.point h.marked)
   where
     by : (behind : List Line) (point : Point) → marks (last_token origin h.front) behind point (IndentHalt place) → names h.front behind point (BadIndent place)
     by [] (at_token d before t) marked = absurd marked
@@ -169,7 +170,7 @@ indent_fault lines place h = as_fault lines (IndentHalt place) (BadIndent place)
     by behind no_line marked = absurd marked
 
 pub deep_fault : (lines : List Line) (place : Pos) → FirstHalt lines (DeepHalt place) → FirstFault lines (TooDeep place)
-deep_fault lines place h = as_fault lines (DeepHalt place) (TooDeep place) h refl (λ q asks. asks) h.limit (by h.behind h.point h.marked)
+deep_fault lines place h = as_fault lines (DeepHalt place) (TooDeep place) h refl refl (λ q asks. asks) h.limit (by h.behind h.point h.marked)
   where
     by : (behind : List Line) (point : Point) → marks (last_token origin h.front) behind point (DeepHalt place) → names h.front behind point (TooDeep place)
     by behind (at_token d before t) marked = tt
@@ -180,7 +181,7 @@ deep_fault lines place h = as_fault lines (DeepHalt place) (TooDeep place) h ref
     by behind no_line marked = absurd marked
 
 pub many_fault : (lines : List Line) (place : Pos) → FirstHalt lines (ManyHalt place) → FirstFault lines (TooMany place)
-many_fault lines place h = as_fault lines (ManyHalt place) (TooMany place) h refl (λ q asks. asks) h.limit (by h.behind h.point h.marked)
+many_fault lines place h = as_fault lines (ManyHalt place) (TooMany place) h refl refl (λ q asks. asks) h.limit (by h.behind h.point h.marked)
   where
     by : (behind : List Line) (point : Point) → marks (last_token origin h.front) behind point (ManyHalt place) → names h.front behind point (TooMany place)
     by [] (at_token d before t) marked = absurd marked

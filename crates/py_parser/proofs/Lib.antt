@@ -11,6 +11,7 @@ pub mod Endings
 pub mod FirstFaults
 pub mod Grown
 pub mod Lacking
+pub mod Ordered
 pub mod Parsing
 pub mod Peeled
 pub mod RowFits

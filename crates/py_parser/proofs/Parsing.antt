@@ -1,5 +1,6 @@
 -- A whole script: what is read of all its lines, and what is refused.
-use Rattle.std.proofs.Common.{◌≡◌, inl, inr, ◌⊎◌, ℕ, ◌<◌, ◌≤◌, ◌+◌, true, List, [], ◌∷◌, ◌++◌, refl, ap, sym, ◌∙◌, subst, arith, append-nil, map, codes, Vec, Global, Option, Some, None}
+use Rattle.std.proofs.Common.{◌≡◌, inl, inr, ◌⊎◌, ℕ, ◌<◌, ◌≤◌, ◌+◌, Bool, true, false, List, [], ◌∷◌, ◌++◌, refl, ap, sym, ◌∙◌, subst, arith, append-nil, map, codes, Vec, Global}
+use Rattle.std.specs.Prelude.{⊤}
 use Rattle.std.proofs.lemmas.Bool.{false≢true}
 use Rattle.prov_base.specs.declared.place.Pos.{Pos}
 use Rattle.py_lines.specs.declared.parts.Line.{Line}
@@ -24,11 +25,11 @@ use Rattle.py_grammar.specs.Tokens.{keyword}
 use Rattle.py_grammar.specs.LineReader.{head_tokens}
 use Rattle.py_grammar.specs.Layout.{IsLine}
 use Rattle.py_parser.specs.Script.{IsScript}
-use Rattle.py_parser.specs.Faults.{Point, at_token, at_end, at_line, below, no_line, shows, first_place, first_token, Asks, origin, BeginsScript, SomeFollows, SomeStands, FollowsWithin, MayFollow, StandsFor, LieWithin, IsAt, IsPass, IsPassBefore, IsHandler, MayStandAt, LacksStatement, InColumn, FirstFault, IsFault, NoneWithin, few_suites, few_statements, PassesLimit, LiesDeep}
+use Rattle.py_parser.specs.Faults.{Said, low_elsewhere, first_deep_at, Point, at_token, at_end, at_line, below, no_line, shows, first_place, first_token, Asks, origin, BeginsScript, SomeFollows, SomeStands, FollowsWithin, MayFollow, StandsFor, LieWithin, KeepsOrder, IsAt, IsPass, IsPassBefore, IsHandler, MayStandAt, LacksStatement, InColumn, FirstFault, IsFault, NoneWithin, few_suites, few_statements, CountsWithPass, PassesLimit, LiesDeep}
 use Rattle.py_parser.specs.Rows.{Rows, end_rows, row, rows_lines, rows_size, rows_may, rows_stand, start, Level, FitsRows, FitsStart, Begun}
 use Rattle.py_parser.specs.Grouped.{script_rows, script_of}
 use Rattle.py_parser.specs.RowForms.{suite_list, grow}
-use Rattle.py_parser.specs.ParsedBlocks.{RowsFollow, NoneRows, Passes, Deep, RowsLimit, ScriptLimit, Asks as AsksHalt, wide, trees_of, RowsBegin, RowsWithin, RowsGoOn, RowsLie, NoRows, MayStand, Lacks, Placed, Refused, RowsStopped, RowsRead, FirstHalt, IsHalt}
+use Rattle.py_parser.specs.ParsedBlocks.{RowsFollow, NoneRows, Passes, Deep, RowsLimit, CountsFrom, halt_limit, OrderBy, IsPassAt, NonePass, KeepsPass, ScriptLimit, Asks as AsksHalt, wide, trees_of, RowsBegin, RowsWithin, RowsGoOn, RowsLie, NoRows, MayStand, Lacks, Placed, Refused, RowsStopped, RowsRead, FirstHalt, IsHalt}
 use Rattle.py_parser.proofs.RowLines.{script_same}
 use Rattle.py_parser.proofs.RowFits.{script_fits}
 use Rattle.py_parser.proofs.RowStatements.{script_is}
@@ -124,8 +125,8 @@ script_standing rows fits standing =
     none_more a = omega arith
 
 -- rows that begin so are those of a script
-script_begins : (place : Option Pos) (front : List Line) (p : Point) → RowsBegin place start front p → BeginsScript place front p
-script_begins place front p b =
+script_begins : (said : Said) (front : List Line) (p : Point) → RowsBegin said start front p → BeginsScript said front p
+script_begins said front p b =
     let s = script_is b.rows (starts b.rows b.fits) in
     record {
       some = script_of b.rows;
@@ -225,21 +226,25 @@ passes_limit within front d tokens s = record {
   none = none_script within front (at_end d (tokens ++ keyword (codes "pass") s.at)) (ends_some front d (tokens ++ keyword (codes "pass") s.at)) s.none_so;
 }
 
-lies_deep : (place : Pos) (front : List Line) (d : ℕ) (tokens : List Token) (next : Token) → Deep (RowsBegin None start front) (λ d ts. NoneRows few_suites start 0 front (at_end d ts)) place d tokens next → LiesDeep place front d tokens next
+lies_deep : (place : Pos) (front : List Line) (d : ℕ) (tokens : List Token) (next : Token) → Deep (λ said. RowsBegin said start front) (λ d ts. NoneRows few_suites start 0 front (at_end d ts)) place d tokens next → LiesDeep place front d tokens next
 lies_deep place front d tokens next s = record {
-  goes_on = script_begins None front (at_end d (tokens ++ next ∷ [])) s.goes_on;
+  goes_on = script_begins (first_deep_at place) front (at_end d (tokens ++ next ∷ [])) s.goes_on;
   there = λ h more is. elim (s.there h more is) [ inl lies ↦ inl lies | inr far ↦ inr (far.0, none_script few_suites front (at_end d (head_tokens h)) (ends_some front d (head_tokens h)) far.1) ];
 }
 
+counts_pass : (number : ℕ) (front : List Line) (tokens : List Token) → CountsFrom 0 front number tokens → CountsWithPass number front tokens
+counts_pass number front tokens c = record { at = c.at; next = c.next; next_is = c.next_is; before = c.before; counts = c.counts; number_is = let all = c.number_is in omega (arith, all) }
+
 script_limit : (front : List Line) (halt : Halt) (p : Point) → RowsLimit start 0 front halt p → ScriptLimit halt front p
 script_limit front (DeepHalt place) (at_token d tokens t) (inl s) = inl (lies_deep place front d tokens t s)
-script_limit front (DeepHalt place) (at_token d tokens t) (inr (at, s)) = inr (at, passes_limit few_suites front d tokens s)
+script_limit front (DeepHalt place) (at_token d tokens t) (inr (at, s, few)) =
+    inr (at, passes_limit few_suites front d tokens s, λ is. (let k = few is in record { number = k.number; counts = counts_pass k.number front tokens k.counts_are; within = k.within }))
 script_limit front (DeepHalt place) (at_end d tokens) (none, s) = (none, passes_limit few_suites front d [] s)
 script_limit front (DeepHalt place) (at_line d) limit = limit
 script_limit front (DeepHalt place) (below d) limit = limit
 script_limit front (DeepHalt place) no_line limit = limit
 script_limit front (ManyHalt place) (at_token d tokens t) s =
-    (passes_limit few_statements front d tokens s.0, record { at = s.1.at; next = s.1.next; next_is = s.1.next_is; before = s.1.before; counts = s.1.counts; number_is = let all = s.1.number_is in omega (arith, all) })
+    (passes_limit few_statements front d tokens s.0, counts_pass 20001 front tokens s.1)
 script_limit front (ManyHalt place) (at_end d tokens) limit = limit
 script_limit front (ManyHalt place) (at_line d) limit = limit
 script_limit front (ManyHalt place) (below d) limit = limit
@@ -249,6 +254,25 @@ script_limit front (AtEnd lines_left place) p limit = tt
 script_limit front (NoLine place) p limit = tt
 script_limit front (IndentHalt place) p limit = tt
 script_limit front MemoryHalt p limit = tt
+
+script_order : (front : List Line) (limit : Bool) (p : Point) → OrderBy (NonePass start 0 front) (KeepsPass start 0 front) limit p → KeepsOrder limit front p
+script_order front false (at_token d [] t) order = λ stmt. elim (order stmt) [
+  | inl absent ↦ inl (λ at. none_script (λ q. ⊤) front (at_end d (keyword (codes "pass") at)) (ends_some front d (keyword (codes "pass") at)) (absent at))
+  | inr keeps ↦ inr (record {
+    number = record { number = keeps.number.number; counts = counts_pass keeps.number.number front [] keeps.number.counts_are; within = keeps.number.within };
+    suites = λ at. script_within 50 (IsPassAt at d) front (keeps.suites (λ lacks. absurd (false≢true lacks)) at);
+  })
+]
+script_order front false (at_token d (f ∷ fs) t) order = tt
+script_order front false (at_end d tokens) order = tt
+script_order front false (at_line d) order = tt
+script_order front false (below d) order = tt
+script_order front false no_line order = tt
+script_order front true (at_token d tokens t) order = tt
+script_order front true (at_end d tokens) order = tt
+script_order front true (at_line d) order = tt
+script_order front true (below d) order = tt
+script_order front true no_line order = tt
 
 first_halt : (lines : List Line) (halt : Halt) → Refused [] start 0 origin lines halt → FirstHalt lines halt
 first_halt lines halt r = record {
@@ -260,10 +284,11 @@ first_halt lines halt r = record {
   marked = r.marked;
   limit = script_limit r.front halt r.point r.limit;
   column = in_column r.front r.point r.begun r.placed;
-  begins = λ place. script_begins (Some place) r.front r.point (r.begins place);
+  begins = λ place. script_begins (low_elsewhere place) r.front r.point (r.begins place);
   reads = r.reads;
   few = record { number = r.few.number; counts = r.few.counts; within = let low = r.few.within in omega (arith, low) };
   shallow = script_lies r.front (r.shallow (λ lacks. absurd (false≢true lacks)));
+  order = script_order r.front (halt_limit halt) r.point (r.order);
   none = none_script (AsksHalt halt) r.front r.point (λ rest shown_it. some_lines 0 (r.front ++ rest) (r.begun rest shown_it)) r.none;
 }
 
@@ -302,6 +327,7 @@ indented_first line lines all is other = record {
   reads = tt;
   few = record { number = 0; counts = refl; within = omega arith };
   shallow = λ before last at is. absurd (no_last before last is);
+  order = tt;
   none = λ limits asks s fits fine rest shown_it same. never s rest fits same (begun rest shown_it);
 }
   where

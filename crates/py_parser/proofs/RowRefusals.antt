@@ -1,12 +1,13 @@
 -- Where the lines of a script stop being rows: how a refusal further on is one of what stands before it.
-use Rattle.std.proofs.Common.{◌≡◌, inl, inr, ◌⊎◌, ℕ, ◌+◌, ◌<◌, ◌≤◌, suc, nat_le, Bool, true, false, ◌&&◌, List, [], ◌∷◌, ◌++◌, refl, ap, sym, ◌∙◌, subst, arith, append_assoc, append-nil, leb-true, length, codes, Option, Some, None}
+use Rattle.std.proofs.Common.{◌≡◌, inl, inr, ◌⊎◌, ℕ, ◌+◌, ◌<◌, ◌≤◌, suc, nat_le, Bool, true, false, ◌&&◌, List, [], ◌∷◌, ◌++◌, refl, ap, sym, ◌∙◌, subst, arith, append_assoc, append-nil, leb-true, length, codes, Option, Some}
+use Rattle.std.specs.Prelude.{⊤}
 use Rattle.std.proofs.lemmas.Bool.{false≢true}
 use Rattle.prov_base.specs.declared.place.Pos.{Pos}
 use Rattle.py_lines.specs.declared.parts.Line.{Line}
 use Rattle.py_lines.specs.declared.parts.Token.{Token}
 use Rattle.py_parser.specs.declared.fault.Halt.{Halt}
 use Rattle.py_parser.specs.declared.fault.Halt.TheVariants.{AtToken, AtEnd, NoLine, BadIndent, TooDeep, TooMany, Memory}
-use Rattle.py_grammar.specs.LineReader.{Head, head_tokens}
+use Rattle.py_grammar.specs.LineReader.{Head, simple_head, head_tokens}
 use Rattle.py_grammar.specs.Layout.{IsLine}
 use Rattle.py_grammar.specs.Follows.{Below}
 use Rattle.py_parser.specs.Limits.{Limits, profile}
@@ -15,14 +16,16 @@ use Rattle.py_lines.specs.declared.parts.TokenKind.TheVariants.{Keyword}
 use Rattle.py_grammar.specs.declared.fault.Fault.{Fault}
 use Rattle.py_grammar.specs.ParsedHead.{UnreadLine, lacks_handler, head_stands}
 use Rattle.py_grammar.specs.Tokens.{keyword, token}
+use Rattle.py_grammar.specs.Written.{pass}
 use Rattle.py_parser.specs.Grouped.{no_spot}
-use Rattle.py_parser.specs.Faults.{NoLess, Point, at_token, at_end, at_line, below, no_line, shows, first_place, last_place, last_token, IsAt, IsPass, IsPassBefore, IsHandler, IsOpenAt, few_suites, few_statements, tokens_before, ReadsNoFurther, line_fault}
-use Rattle.py_parser.specs.ParsedBlocks.{RowsBegin, RowsFollow, UnderFollows, NoneRows, NoneUnder, Passes, Deep, LimitBy, RowsLimit, UnderLimit, NoLimit, Few, OneMoreFrom, is_column, columns_under, RowsGoOn, UnderGoesOn, NoRows, NoUnder, MayStand, MayStandUnder, Placed, PlacedUnder, IsOnLine, UnderBegins, Refused, RefusedHere, RefusedUnder, RefusedLine, Asks, marks, MarksFirst, deep_at}
+use Rattle.py_parser.specs.Faults.{NoLess, Said, low_elsewhere, first_deep_at, Point, at_token, at_end, at_line, below, no_line, shows, first_place, last_place, last_token, IsAt, IsPass, IsPassBefore, IsHandler, IsOpenAt, few_suites, few_statements, is_stmt_kind, tokens_before, ReadsNoFurther, line_fault}
+use Rattle.py_parser.specs.ParsedBlocks.{RowsBegin, RowsFollow, UnderFollows, NoneRows, NoneUnder, Passes, Deep, LimitBy, RowsLimit, UnderLimit, NoLimit, Few, CountsFrom, is_column, columns_under, RowsGoOn, UnderGoesOn, NoRows, NoUnder, MayStand, MayStandUnder, Placed, PlacedUnder, IsOnLine, UnderBegins, Refused, RefusedHere, RefusedUnder, RefusedLine, Asks, marks, MarksFirst, deep_at, halt_limit, NonePass, KeepsPass, NonePassUnder, KeepsPassUnder, NoneHere}
 use Rattle.py_parser.proofs.Columns.{leads_low, under_low, less_in, all_front, open_behind, open_first, none_open, open_split, open_apart, open_low, no_open_rows, column_inside, own_column, column_here}
 use Rattle.py_parser.proofs.Endings.{begins_here, begins_behind, begins_end, begins_under, begins_inside, begins_suite, handler_next, pass_next, pass_before, line_next, goes_behind, goes_end, goes_under, goes_inside, follows_behind, follows_under, follows_inside, follows_pass}
 use Rattle.py_parser.proofs.Lacking.{indent_stays, lacks_behind, lacks_end, lacks_under, lacks_inside}
 use Rattle.py_parser.proofs.Counting.{few_behind, few_under, few_here, more_behind, more_under}
 use Rattle.py_parser.proofs.RowNeeds.{head_standing, rows_standing}
+use Rattle.py_parser.proofs.Ordered.{order_more, order_here, keeps_behind, keeps_under, keeps_inside}
 use Rattle.py_parser.proofs.Shallow.{rows_room, rows_lie, lie_behind, lie_under, lie_inside}
 use Rattle.py_parser.proofs.Peeled.{begun_rows, one_indent, edge_under, head_is, left_over, peeled}
 
@@ -127,15 +130,18 @@ begun_there i d front (at_line indent) at begun = absurd at
 begun_there i d front (below indent) at begun = absurd at
 begun_there i d front no_line at begun = absurd at
 
+token_stands : (p : Point) (d : ℕ) (t : Token) → p ≡ at_token d [] t → stands_at p d
+token_stands p d t is = subst (λ (q : Point). stands_at q d) (sym is) refl
+
 pub ends_begun : (d : ℕ) (tokens : List Token) (rest : List Line) → shows (at_end d tokens) rest → Begun d rest
 ends_begun d tokens [] shown = absurd shown
 ends_begun d tokens (line ∷ rest) shown = shown.0
 
 -- what passes a limit, said of more lines
-limit_more : (begins more_begins : Point → Type 0) (follow more_follow : (Line → Type 0) → Type 0) (none more_none : (Limits → Type 0) → ℕ → List Token → Type 0) (count more_count : List Token → Type 0) (halt : Halt) (p : Point)
-    → ((p : Point) → begins p → more_begins p)
+limit_more : (begins more_begins : Said → Point → Type 0) (follow more_follow : (Line → Type 0) → Type 0) (none more_none : (Limits → Type 0) → ℕ → List Token → Type 0) (count more_count : ℕ → List Token → Type 0) (halt : Halt) (p : Point)
+    → ((said : Said) (p : Point) → begins said p → more_begins said p)
     → ((is : Line → Type 0) → follow is → more_follow is) → ((within : Limits → Type 0) (d : ℕ) (tokens : List Token) → stands_at p d → none within d tokens → more_none within d tokens)
-    → ((tokens : List Token) → count tokens → more_count tokens) → LimitBy begins follow none count halt p → LimitBy more_begins more_follow more_none more_count halt p
+    → ((number : ℕ) (tokens : List Token) → count number tokens → more_count number tokens) → LimitBy begins follow none count halt p → LimitBy more_begins more_follow more_none more_count halt p
 limit_more begins more_begins follow more_follow none more_none count more_count halt p one two three four limit = by halt p three limit
   where
     passes : (within : Limits → Type 0) (d : ℕ) (tokens : List Token) → ((ts : List Token) → none within d ts → more_none within d ts) → Passes follow (none within) d tokens → Passes more_follow (more_none within) d tokens
@@ -143,18 +149,19 @@ limit_more begins more_begins follow more_follow none more_none count more_count
 
     deeper : (place : Pos) (d : ℕ) (tokens : List Token) (next : Token) → ((ts : List Token) → none few_suites d ts → more_none few_suites d ts) → Deep begins (none few_suites) place d tokens next → Deep more_begins (more_none few_suites) place d tokens next
     deeper place d tokens next more s = record {
-      goes_on = one (at_end d (tokens ++ next ∷ [])) s.goes_on;
+      goes_on = one (first_deep_at place) (at_end d (tokens ++ next ∷ [])) s.goes_on;
       there = λ h rest is. elim (s.there h rest is) [ inl lies ↦ inl lies | inr far ↦ inr (far.0, more (head_tokens h) far.1) ];
     }
 
     by : (halt : Halt) (p : Point) → ((within : Limits → Type 0) (d : ℕ) (tokens : List Token) → stands_at p d → none within d tokens → more_none within d tokens) → LimitBy begins follow none count halt p → LimitBy more_begins more_follow more_none more_count halt p
     by (TooDeep place) (at_token d tokens t) three (inl s) = inl (deeper place d tokens t (λ ts. three few_suites d ts refl) s)
-    by (TooDeep place) (at_token d tokens t) three (inr (at, s)) = inr (at, passes few_suites d tokens (λ ts. three few_suites d ts refl) s)
+    by (TooDeep place) (at_token d tokens t) three (inr (at, s, few)) =
+        inr (at, passes few_suites d tokens (λ ts. three few_suites d ts refl) s, λ is. (let k = few is in record { number = k.number; counts_are = four k.number tokens k.counts_are; within = k.within }))
     by (TooDeep place) (at_end d tokens) three (none, s) = (none, passes few_suites d [] (λ ts. three few_suites d ts refl) s)
     by (TooDeep place) (at_line d) three limit = limit
     by (TooDeep place) (below d) three limit = limit
     by (TooDeep place) no_line three limit = limit
-    by (TooMany place) (at_token d tokens t) three s = (passes few_statements d tokens (λ ts. three few_statements d ts refl) s.0, four tokens s.1)
+    by (TooMany place) (at_token d tokens t) three s = (passes few_statements d tokens (λ ts. three few_statements d ts refl) s.0, four 20001 tokens s.1)
     by (TooMany place) (at_end d tokens) three limit = limit
     by (TooMany place) (at_line d) three limit = limit
     by (TooMany place) (below d) three limit = limit
@@ -175,10 +182,10 @@ none_behind within l m n k rows front p leads count_is begun none q asks rest ot
 limit_behind : (l m : Level) (n k : ℕ) (rows : Rows) (front : List Line) (fault : Halt) (p : Point) → Leads l rows m → rows_stand l rows ≡ true → k ≡ n + rows_size rows → ((rest : List Line) → shows p rest → Begun m.indent (front ++ rest)) → RowsLimit m k front fault p
     → RowsLimit l n (rows_lines rows ++ front) fault p
 limit_behind l m n k rows front fault p leads standing count_is begun limit =
-    limit_more (RowsBegin None m front) (RowsBegin None l (rows_lines rows ++ front)) (λ is. RowsFollow m is front) (λ is. RowsFollow l is (rows_lines rows ++ front))
-    (λ within d tokens. NoneRows within m k front (at_end d tokens)) (λ within d tokens. NoneRows within l n (rows_lines rows ++ front) (at_end d tokens)) (OneMoreFrom k front) (OneMoreFrom n (rows_lines rows ++ front)) fault p
-    (λ p b. begins_behind l m rows front p leads standing b) (λ is f. follows_behind l m rows is front leads standing f)
-    (λ within d tokens at none. none_behind within l m n k rows front (at_end d tokens) leads count_is (λ rest shown. begun_there m.indent d front p at begun rest (ends_begun d tokens rest shown)) none) (λ tokens o. more_behind l m n k rows front tokens leads count_is o) limit
+    limit_more (λ said. RowsBegin said m front) (λ said. RowsBegin said l (rows_lines rows ++ front)) (λ is. RowsFollow m is front) (λ is. RowsFollow l is (rows_lines rows ++ front))
+    (λ within d tokens. NoneRows within m k front (at_end d tokens)) (λ within d tokens. NoneRows within l n (rows_lines rows ++ front) (at_end d tokens)) (CountsFrom k front) (CountsFrom n (rows_lines rows ++ front)) fault p
+    (λ said p b. begins_behind l m rows front p leads standing b) (λ is f. follows_behind l m rows is front leads standing f)
+    (λ within d tokens at none. none_behind within l m n k rows front (at_end d tokens) leads count_is (λ rest shown. begun_there m.indent d front p at begun rest (ends_begun d tokens rest shown)) none) (λ number tokens o. more_behind l m n k rows front number tokens leads count_is o) limit
 
 pub refused_behind : (cs : List ℕ) (l m : Level) (n k : ℕ) (at now : Pos) (before left : List Line) (rows : Rows) (fault : Halt) → before ≡ rows_lines rows ++ left → Leads l rows m → rows_may profile l n rows ≡ true → k ≡ n + rows_size rows → now ≡ last_token at (rows_lines rows)
     → Refused cs m k now left fault → Refused cs l n at before fault
@@ -196,6 +203,10 @@ refused_behind cs l m n k at now before left rows fault is leads kept count_is n
   reads = r.reads;
   few = few_behind l m n k rows r.front leads count_is r.few;
   shallow = λ room. lie_behind l m n k rows r.front leads kept count_is room r.shallow;
+  order = order_more (NonePass m k r.front) (NonePass l n (rows_lines rows ++ r.front)) (KeepsPass m k r.front) (KeepsPass l n (rows_lines rows ++ r.front)) (halt_limit fault) r.point
+      (λ d t here absent at. none_behind (λ q. ⊤) l m n k rows r.front (at_end d (keyword (codes "pass") at)) leads count_is
+      (λ rest shown. begun_there m.indent d r.front r.point (token_stands r.point d t here) r.begun rest (ends_begun d (keyword (codes "pass") at) rest shown)) (absent at))
+      (λ d keeps. keeps_behind l m n k rows r.front d leads kept count_is keeps) r.order;
   none = none_behind (Asks fault) l m n k rows r.front r.point leads count_is r.begun r.none;
 }
 
@@ -266,12 +277,20 @@ refused_end cs l m n k at now before left rows fault is leads kept count_is now_
   reads = first_reads (deep_at fault) r.point r.before;
   few = subst (Few n) (append-nil (rows_lines rows)) (few_behind l m n k rows [] leads count_is (few_here k low));
   shallow = λ room. rows_lie l m n rows leads kept (rows_room l m n rows leads kept room);
+  order = order_here m left (NonePass l n (rows_lines rows)) (KeepsPass l n (rows_lines rows)) (halt_limit fault) r.point none_passes r.order;
   none = λ q asks rest others s shows_it fits may_be low same.
       let indent = indent_stays l m rows leads in
       let p = peeled q l m n rows others rest s leads fits may_be low (r.edge rows rest shows_it l (sym indent) leads edge) same in
       r.none q asks rest p.left s shows_it p.fits (subst (λ j. rows_may q m j p.left ≡ true) (sym count_is) p.may_be) (subst (λ d. Below d s) (sym indent) low) p.lines_are;
 }
   where
+    none_passes : (d : ℕ) → NoneHere m left d → NonePass l n (rows_lines rows) d
+    none_passes d absent at q asks rest others s shows_it fits may_be low same =
+        let indent = indent_stays l m rows leads in
+        let begun_it = ends_begun d (keyword (codes "pass") at) rest shows_it in
+        let p = peeled q l m n rows others rest s leads fits may_be low (absent.edge rows rest begun_it edge) same in
+        absent.none rest p.left s begun_it p.fits (subst (λ d. Below d s) (sym indent) low) p.lines_are
+
     no_limit : (halt : Halt) → NoLimit halt → RowsLimit l n (rows_lines rows) halt r.point
     no_limit (AtToken lines_left left) named = tt
     no_limit (AtEnd lines_left place) named = tt
@@ -304,8 +323,8 @@ shifted : (line other : Line) (a b x c : List Line) → (line ∷ a ++ b) ++ x �
 shifted line other a b x c is = sym (append_assoc a b x) ∙ other_lines line other _ _ is
 
 -- a suite with these first lines lies further in
-further_in : (place : Option Pos) (m : Level) (h : Head) (front : List Line) (p : Point) → UnderBegins place m h front p → NoLess m.indent front
-further_in place m h front p b = all_front m.indent front b.more (subst (NoLess m.indent) b.lines_are (less_in m.indent (suc m.indent) (under_lines b.under) (omega arith) (under_low m h b.under b.fits)))
+further_in : (said : Said) (m : Level) (h : Head) (front : List Line) (p : Point) → UnderBegins said m h front p → NoLess m.indent front
+further_in said m h front p b = all_front m.indent front b.more (subst (NoLess m.indent) b.lines_are (less_in m.indent (suc m.indent) (under_lines b.under) (omega arith) (under_low m h b.under b.fits)))
 
 may_under : (cs : List ℕ) (m : Level) (n : ℕ) (h : Head) (d : ℕ) (line : Line) (front : List Line) → IsLine line m.indent (head_tokens h) → follows m h ≡ true → may profile m n h ≡ true → m.depth ≤ 50 → NoLess m.indent front → MayStandUnder (columns_under cs m) m (n + counted h) h d front → MayStand cs m n d (line ∷ front)
 may_under cs m n h d line front is may_follow kept deep low (inl g) = inl (goes_under m n h line (IsAt d) front is may_follow kept deep g)
@@ -358,10 +377,10 @@ none_under within m n h line front p is none q asks rest (row line_2 h_2 under_2
 
 limit_under : (m : Level) (n : ℕ) (h : Head) (line : Line) (front : List Line) (fault : Halt) (p : Point) → IsLine line m.indent (head_tokens h) → follows m h ≡ true → head_stands m.context m.given h ≡ true → UnderLimit m (n + counted h) h front fault p → RowsLimit m n (line ∷ front) fault p
 limit_under m n h line front fault p is may_follow may_stand limit =
-    limit_more (UnderBegins None m h front) (RowsBegin None m (line ∷ front)) (λ is. UnderFollows m h is front) (λ is. RowsFollow m is (line ∷ front))
-    (λ within d tokens. NoneUnder within m (n + counted h) h front (at_end d tokens)) (λ within d tokens. NoneRows within m n (line ∷ front) (at_end d tokens)) (OneMoreFrom (n + counted h) front) (OneMoreFrom n (line ∷ front)) fault p
-    (λ p b. begins_under m h line front p is may_follow may_stand b) (λ so f. follows_under m h line so front is may_follow may_stand f)
-    (λ within d tokens at none. none_under within m n h line front (at_end d tokens) is none) (λ tokens o. more_under m n h line front tokens is o) limit
+    limit_more (λ said. UnderBegins said m h front) (λ said. RowsBegin said m (line ∷ front)) (λ is. UnderFollows m h is front) (λ is. RowsFollow m is (line ∷ front))
+    (λ within d tokens. NoneUnder within m (n + counted h) h front (at_end d tokens)) (λ within d tokens. NoneRows within m n (line ∷ front) (at_end d tokens)) (CountsFrom (n + counted h) front) (CountsFrom n (line ∷ front)) fault p
+    (λ said p b. begins_under m h line front p is may_follow may_stand b) (λ so f. follows_under m h line so front is may_follow may_stand f)
+    (λ within d tokens at none. none_under within m n h line front (at_end d tokens) is none) (λ number tokens o. more_under m n h line front number tokens is o) limit
 
 pub refused_under : (cs : List ℕ) (m : Level) (n : ℕ) (h : Head) (at : Pos) (line : Line) (lines : List Line) (fault : Halt) → IsLine line m.indent (head_tokens h) → follows m h ≡ true → may profile m n h ≡ true → m.depth ≤ 50
     → RefusedUnder cs m (n + counted h) h (last_place at line.tokens) lines fault → Refused cs m n at (line ∷ lines) fault
@@ -373,12 +392,15 @@ refused_under cs m n h at line lines fault is may_follow kept deep r = record {
   shown = r.shown;
   marked = r.marked;
   limit = limit_under m n h line r.front fault r.point is may_follow (head_standing profile m n h kept) r.limit;
-  placed = placed_under cs m n h line r.front r.point is may_follow kept deep (further_in (Some at) m h r.front r.point (r.begins at)) r.placed;
+  placed = placed_under cs m n h line r.front r.point is may_follow kept deep (further_in (low_elsewhere at) m h r.front r.point (r.begins at)) r.placed;
   begun = λ rest shows_it. is.indent_is;
   begins = λ place. begins_under m h line r.front r.point is may_follow (head_standing profile m n h kept) (r.begins place);
   reads = r.reads;
   few = few_under m n h line r.front is r.few;
   shallow = λ room. lie_under m n h line is may_follow kept r.front room r.shallow;
+  order = order_more (NonePassUnder m (n + counted h) h r.front) (NonePass m n (line ∷ r.front)) (KeepsPassUnder m (n + counted h) h r.front) (KeepsPass m n (line ∷ r.front)) (halt_limit fault) r.point
+      (λ d t here absent at. none_under (λ q. ⊤) m n h line r.front (at_end d (keyword (codes "pass") at)) is (absent at))
+      (λ d keeps. keeps_under m n h line r.front d is may_follow kept keeps) r.order;
   none = none_under (Asks fault) m n h line r.front r.point is r.none;
 }
 
@@ -420,6 +442,7 @@ refused_line cs m n at line lines fault deep few is r = record {
   reads = r.reads;
   few = few_here n few;
   shallow = λ room. inl refl;
+  order = r.order is;
   none = none_line (Asks fault) m n r.point (λ rest shown. subst (λ d. Begun d rest) is (r.begun rest shown)) r.none;
 }
 
@@ -459,10 +482,10 @@ none_inside within m n k h front p open_is begun none q asks rest (block j rows)
 limit_inside : (m : Level) (n k : ℕ) (h : Head) (front : List Line) (fault : Halt) (p : Point) → opens h ≡ true → m.indent < k → ((rest : List Line) → shows p rest → Begun k (front ++ rest)) → RowsLimit (inside m h k) n front fault p
     → UnderLimit m n h front fault p
 limit_inside m n k h front fault p open_is deeper begun limit =
-    limit_more (RowsBegin None (inside m h k) front) (UnderBegins None m h front) (λ is. RowsFollow (inside m h k) is front) (λ is. UnderFollows m h is front)
-    (λ within d tokens. NoneRows within (inside m h k) n front (at_end d tokens)) (λ within d tokens. NoneUnder within m n h front (at_end d tokens)) (OneMoreFrom n front) (OneMoreFrom n front) fault p
-    (λ p b. begins_inside m h k front p open_is deeper b) (λ is f. follows_inside m h k is front open_is deeper f)
-    (λ within d tokens at none. none_inside within m n k h front (at_end d tokens) open_is (λ rest shown. begun_there k d front p at begun rest (ends_begun d tokens rest shown)) none) (λ tokens o. o) limit
+    limit_more (λ said. RowsBegin said (inside m h k) front) (λ said. UnderBegins said m h front) (λ is. RowsFollow (inside m h k) is front) (λ is. UnderFollows m h is front)
+    (λ within d tokens. NoneRows within (inside m h k) n front (at_end d tokens)) (λ within d tokens. NoneUnder within m n h front (at_end d tokens)) (CountsFrom n front) (CountsFrom n front) fault p
+    (λ said p b. begins_inside m h k front p open_is deeper b) (λ is f. follows_inside m h k is front open_is deeper f)
+    (λ within d tokens at none. none_inside within m n k h front (at_end d tokens) open_is (λ rest shown. begun_there k d front p at begun rest (ends_begun d tokens rest shown)) none) (λ number tokens o. o) limit
 
 pub refused_inside : (cs : List ℕ) (m : Level) (n k : ℕ) (h : Head) (at : Pos) (lines : List Line) (fault : Halt) → opens h ≡ true → m.indent < k → m.depth < 50 → Refused (columns_under cs m) (inside m h k) n at lines fault
     → RefusedUnder cs m n h at lines fault
@@ -479,6 +502,10 @@ refused_inside cs m n k h at lines fault open_is deeper low r = record {
   reads = r.reads;
   few = r.few;
   shallow = lie_inside m n k h r.front open_is deeper low r.shallow;
+  order = order_more (NonePass (inside m h k) n r.front) (NonePassUnder m n h r.front) (KeepsPass (inside m h k) n r.front) (KeepsPassUnder m n h r.front) (halt_limit fault) r.point
+      (λ d t here absent at. none_inside (λ q. ⊤) m n k h r.front (at_end d (keyword (codes "pass") at)) open_is
+      (λ rest shown. begun_there k d r.front r.point (token_stands r.point d t here) r.begun rest (ends_begun d (keyword (codes "pass") at) rest shown)) (absent at))
+      (λ d keeps. keeps_inside m n h k r.front d open_is deeper low keeps) r.order;
   none = none_inside (Asks fault) m n k h r.front r.point open_is r.begun r.none;
 }
 
@@ -501,6 +528,7 @@ no_suite cs m n h at lines open_is within few low = record {
   reads = tt;
   few = few_here n few;
   shallow = inl refl;
+  order = tt;
   none = none;
 }
   where
@@ -513,8 +541,9 @@ none_deeper : (q : Limits) (m : Level) (n : ℕ) (h : Head) (under : Under) → 
 none_deeper q m n h nothing few open_is deep fits may_be = absurd (false≢true (sym fits ∙ open_is))
 none_deeper q m n h (block j rows) few open_is deep fits may_be = let low = leb-true (suc m.depth) q.suites (first (nat_le (suc m.depth) q.suites) _ may_be) in absurd (omega (arith, few, deep, low))
 
-pub too_deep_at : (cs : List ℕ) (m : Level) (n : ℕ) (h : Head) (at place : Pos) (line : Line) (lines : List Line) → opens h ≡ true → m.indent < line.indent → m.depth ≤ 50 → n ≤ 20000 → 50 ≤ m.depth → place ≡ first_place at line.tokens → RefusedUnder cs m n h at (line ∷ lines) (TooDeep place)
-too_deep_at cs m n h at place line lines open_is deeper within few_so_far deep first = by line.tokens refl
+pub too_deep_at : (cs : List ℕ) (m : Level) (n : ℕ) (h : Head) (at place : Pos) (line : Line) (lines : List Line) → opens h ≡ true → m.indent < line.indent → m.depth ≤ 50 → n ≤ 20000 → 50 ≤ m.depth → place ≡ first_place at line.tokens
+    → ((t : Token) (ts : List Token) → line.tokens ≡ t ∷ ts → is_stmt_kind t.kind ≡ true → n < 20000) → RefusedUnder cs m n h at (line ∷ lines) (TooDeep place)
+too_deep_at cs m n h at place line lines open_is deeper within few_so_far deep first fewer = by line.tokens refl
   where
     next : UnderGoesOn m n h (IsAt line.indent) []
     next = goes_inside m n h line.indent (IsAt line.indent) [] open_is deeper within (line_next (inside m h line.indent) n (λ lacks. absurd (false≢true lacks)))
@@ -541,6 +570,7 @@ too_deep_at cs m n h at place line lines open_is deeper within few_so_far deep f
       reads = tt;
       few = few_here n few_so_far;
       shallow = inl refl;
+      order = tt;
       none = λ q asks rest under s shows_it fits may_be edge same. none_deeper q m n h under asks.1 open_is deep fits may_be;
     }
     by (t ∷ ts) is = record {
@@ -550,12 +580,13 @@ too_deep_at cs m n h at place line lines open_is deeper within few_so_far deep f
       lines_are = refl;
       shown = (refl, record { more = ts; tokens_are = is });
       marked = tt;
-      limit = inr (first ∙ ap (first_place at) is, passes);
+      limit = inr (first ∙ ap (first_place at) is, passes, λ stmt. record { number = n + 1; counts_are = record { at = no_spot; next = simple_head (pass no_spot); next_is = refl; before = 0; counts = refl; number_is = omega arith }; within = (let less = fewer t ts is stmt in omega (arith, less)) });
       placed = inl next;
       begins = λ place. begins_suite m h (at_token line.indent [] t) open_is refl;
       reads = first_reads (Some place) (at_token line.indent [] t) refl;
       few = few_here n few_so_far;
       shallow = inl refl;
+      order = tt;
       none = λ q asks rest under s shows_it fits may_be edge same. none_deeper q m n h under asks.1 open_is deep fits may_be;
     }
 
@@ -617,6 +648,7 @@ refused_indent cs m n at line lines deep column further other ends = record {
     none = λ first more rows r is fits low same. none_there m line first more rows r other ends is fits low same;
   };
   before = refl;
+  order = tt;
   edge = λ rows rest shows_it l indent leads edge. edge_1 rows rest shows_it edge;
   none = λ q asks rest rows r shows_it fits may_be low same. none_1 rest rows r shows_it fits low same;
 }
@@ -647,6 +679,7 @@ refused_first cs m n at line lines halt deep marked column lacks other ends = by
       limit = tt;
       placed = inr (inl column, handler_next m n deep lacks);
       before = refl;
+      order = tt;
       edge = λ rows rest shows_it l indent leads edge. edge_1 rows rest shows_it edge;
       none = λ q asks rest rows r shows_it fits may_be low same. none_1 rest rows r shows_it fits low same;
     }
@@ -665,10 +698,19 @@ refused_first cs m n at line lines halt deep marked column lacks other ends = by
       limit = tt;
       placed = inr (inl column, handler_next m n deep lacks);
       before = refl;
+      order = record { edge = edge_at; none = none_at };
       edge = λ rows rest shows_it l indent leads edge. edge_1 rows rest shows_it edge;
       none = λ q asks rest rows r shows_it fits may_be low same. none_1 rest rows r shows_it fits low same;
     }
       where
+        edge_at : (rows : Rows) (rest : List Line) → Begun line.indent rest → LastEdge rows (line ∷ lines) → LastEdge rows rest
+        edge_at rows [] begun_it edge = absurd begun_it
+        edge_at rows (first ∷ more) begun_it edge = edge_same rows line first lines more begun_it edge
+
+        none_at : (rest : List Line) (rows : Rows) (r : List Line) → Begun line.indent rest → FitsRows m rows → Below m.indent r → rows_lines rows ++ r ≡ rest → ⊥
+        none_at [] rows r begun_it fits low same = absurd begun_it
+        none_at (first ∷ more) rows r begun_it fits low same = none_there m line first more rows r other ends begun_it fits low same
+
         edge_1 : (rows : Rows) (rest : List Line) → shows (at_token line.indent [] t) rest → LastEdge rows (line ∷ lines) → LastEdge rows rest
         edge_1 rows [] shows_it edge = absurd shows_it
         edge_1 rows (first ∷ more) shows_it edge = edge_same rows line first lines more shows_it.0 edge
@@ -698,6 +740,7 @@ refused_nothing cs m n at deep lacks ends = record {
   limit = tt;
   placed = handler_next m n deep lacks;
   before = refl;
+  order = tt;
   edge = λ rows rest shows_it l indent leads edge. edge_1 rows rest shows_it;
   none = λ q asks rest rows r shows_it fits may_be low same. none_1 rest rows r shows_it fits same;
 }
@@ -719,6 +762,7 @@ refused_empty cs m n at lines low lacks empty ends = record {
   limit = tt;
   placed = (pass_next m n m.indent lacks (omega arith), inr (record { empty = empty; indent_is = refl; of_def = inr refl; globals_are = tt }));
   before = refl;
+  order = tt;
   edge = λ rows rest shows_it l indent leads edge. edge_below l m rows rest leads (subst (λ d. Below d rest) (sym indent) shows_it);
   none = λ q asks rest rows r shows_it fits may_be lower same. none_goes_on m rest rows r fits same (λ begun. not_below m.indent rest begun shows_it) (λ done all. ends done);
 }

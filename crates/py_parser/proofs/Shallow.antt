@@ -157,7 +157,7 @@ module _ (m : Level) (n : ℕ) (h : Head) (line : Line) (is : IsLine line m.inde
       }
 
   -- lines under it lie in its suite
-  under_room : (so : Line → Type 0) (front : List Line) → UnderWithin 50 m (n + counted h) h so front → m.depth < 50
+  pub under_room : (so : Line → Type 0) (front : List Line) → UnderWithin 50 m (n + counted h) h so front → m.depth < 50
   under_room so front g = by g.under (n + counted h + under_size g.under) (g.may_be (n + counted h + under_size g.under) (omega arith)) g.lines_are
     where
       some_line : (ls : List Line) (first : Line) (more : List Line) → [] ≡ ls ++ first ∷ more → ⊥

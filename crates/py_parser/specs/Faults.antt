@@ -1,8 +1,10 @@
 -- The first fault of lines that are no script: where it is shown, and which scripts it rules out.
-use Rattle.std.specs.Prelude.{◌≡◌, true, ⊤, ◌⊎◌, ℕ, suc, ◌+◌, ◌<◌, ◌≤◌, List, [], ◌∷◌, ◌++◌, length, drop, codes, Option, Some, None}
+use Rattle.std.specs.Prelude.{◌≡◌, Bool, true, false, not, ◌||◌, ◌==◌, ⊤, ◌⊎◌, ℕ, suc, ◌+◌, ◌<◌, ◌≤◌, List, [], ◌∷◌, ◌++◌, length, drop, codes, Option, Some, None}
 use Rattle.prov_base.specs.declared.place.Pos.{Pos}
 use Rattle.py_lines.specs.declared.parts.Line.{Line}
 use Rattle.py_lines.specs.declared.parts.Token.{Token}
+use Rattle.py_lines.specs.declared.parts.TokenKind.{TokenKind}
+use Rattle.py_lines.specs.declared.parts.TokenKind.TheVariants.{Keyword}
 use Rattle.py_parser.specs.declared.fault.ParseFault.{ParseFault}
 use Rattle.py_parser.specs.declared.fault.ParseFault.TheVariants.{Unexpected, Unsupported, BadIndent, TooDeep, TooMany, Memory}
 use Rattle.py_grammar.specs.declared.fault.Fault.{Fault as LineFault}
@@ -13,8 +15,9 @@ use Rattle.py_grammar.specs.StatementTokens.{simple_tokens}
 use Rattle.py_grammar.specs.Follows.{Below}
 use Rattle.py_grammar.specs.LineReader.{Head, head_tokens}
 use Rattle.py_grammar.specs.Layout.{IsLine}
-use Rattle.py_grammar.specs.ParsedSimple.{StartsDel, CompletesDel}
-use Rattle.py_grammar.specs.ParsedHead.{StartsTargets, CompletesTargets, del_name, UnreadLine, behind_in, head_lies, behind_first}
+use Rattle.py_grammar.specs.Lies.{IsApart}
+use Rattle.py_grammar.specs.ParsedSimple.{CompletesDel, FirstDeepDel}
+use Rattle.py_grammar.specs.ParsedHead.{CompletesTargets, FirstDeepTargets, del_name, UnreadLine, behind_in, head_lies, behind_first}
 use Rattle.py_grammar.specs.Written.{Script}
 use Rattle.py_grammar.specs.Grammar.{script_lines, FitsScript}
 use Rattle.py_grammar.specs.WellPlaced.{script_stands}
@@ -127,73 +130,93 @@ tokens_before (at_line indent) = []
 tokens_before (below indent) = []
 tokens_before no_line = []
 
--- Where a place is named, what begins elsewhere lies at most 100 deep. There those tokens stand that are put behind what has begun.
-abbrev pub IsLow : Option Pos → (lies : Pos → ℕ) → Type 0
-IsLow None lies = ⊤
-IsLow (Some at) lies = (other : Pos) → (other ≡ at → ⊥) → lies other ≤ 100
+-- What is said of what begins on the line of a fault: that nothing lies too deep in it but at this place, where those tokens stand that are put behind
+-- what has begun; or that the first that lies too deep begins at this place.
+pub data Said : Type 0 where
+  low_elsewhere : Pos → Said
+  first_deep_at : Pos → Said
 
--- the first tokens of what is read behind `del`, and behind `for`, where what begins elsewhere lies so
-abbrev pub ReadsBehindDel : Option Pos → List Token → Type 0
-ReadsBehindDel None = StartsDel
-ReadsBehindDel (Some at) = λ tokens. CompletesDel tokens at
+-- Of what lies deeper than 100 the first begins at this place: a token of these stands there, and what begins at no token from that one on lies at most
+-- 100 deep.
+pub record IsFirstDeep (place : Pos) (lies : Pos → ℕ) (tokens more : List Token) : Type 0 where
+  pub ahead : List Token
+  pub named : Token
+  pub between : List Token
+  pub tokens_are : tokens ≡ ahead ++ named ∷ between
+  pub named_is : named.at ≡ place
+  pub deep : 100 < lies place
+  pub within : (other : Pos) → IsApart other (named ∷ (between ++ more)) → lies other ≤ 100
 
-abbrev pub ReadsBehindFor : Option Pos → List Token → Type 0
-ReadsBehindFor None = StartsTargets
-ReadsBehindFor (Some at) = λ tokens. CompletesTargets 100 tokens at
+abbrev pub LiesSaid : Said → List Token → (Pos → ℕ) → List Token → Type 0
+LiesSaid (low_elsewhere at) tokens lies more = (other : Pos) → (other ≡ at → ⊥) → lies other ≤ 100
+LiesSaid (first_deep_at place) tokens lies more = IsFirstDeep place lies tokens more
 
--- a line of the grammar with these first tokens, where what begins elsewhere lies so
-pub record LineBegins (place : Option Pos) (tokens : List Token) (line : Line) : Type 0 where
+-- nothing lies too deep
+abbrev pub IsLow : (Pos → ℕ) → List Token → Type 0
+IsLow lies more = (other : Pos) → lies other ≤ 100
+
+-- the first tokens of what is read behind `del`, and behind `for`, of which the same is said
+abbrev pub ReadsBehindDel : Said → List Token → Type 0
+ReadsBehindDel (low_elsewhere at) = λ tokens. CompletesDel tokens at
+ReadsBehindDel (first_deep_at place) = λ tokens. FirstDeepDel tokens place
+
+abbrev pub ReadsBehindFor : Said → List Token → Type 0
+ReadsBehindFor (low_elsewhere at) = λ tokens. CompletesTargets 100 tokens at
+ReadsBehindFor (first_deep_at place) = λ tokens. FirstDeepTargets 100 tokens place
+
+-- a line of the grammar with these first tokens, which is so with those behind them
+pub record LineBegins (so : (Pos → ℕ) → List Token → Type 0) (tokens : List Token) (line : Line) : Type 0 where
   pub head : Head
   pub line_is : line.tokens ≡ head_tokens head
   pub more : List Token
   pub tokens_are : head_tokens head ≡ tokens ++ more
-  pub low : IsLow place (head_lies head)
+  pub lies_so : so (head_lies head) more
 
 -- the first line stands at this indentation and begins with these tokens
-abbrev pub Opens : Option Pos → ℕ → List Token → List Line → Type 0
-Opens place indent tokens [] = ⊥
-Opens place indent tokens (line ∷ lines) = (line.indent ≡ indent) × LineBegins place tokens line
+abbrev pub Opens : ((Pos → ℕ) → List Token → Type 0) → ℕ → List Token → List Line → Type 0
+Opens so indent tokens [] = ⊥
+Opens so indent tokens (line ∷ lines) = (line.indent ≡ indent) × LineBegins so tokens line
 
 -- The first line has `del` and a name, where these tokens have `del` and the first tokens of an expression, which is read before it is asked
 -- whether it is a target.
-pub record OpensDel (place : Option Pos) (indent : ℕ) (tokens : List Token) (lines : List Line) : Type 0 where
+pub record OpensDel (said : Said) (indent : ℕ) (tokens : List Token) (lines : List Line) : Type 0 where
   pub opened : List Token
   pub spot : Spot
-  pub opens : Opens place indent (opened ++ simple_tokens (del_name spot)) lines
+  pub opens : Opens IsLow indent (opened ++ simple_tokens (del_name spot)) lines
   pub inside : List Token
-  pub begins : ReadsBehindDel place inside
+  pub begins : ReadsBehindDel said inside
   pub tokens_are : tokens ≡ opened ++ inside
 
 -- The first line begins with `for`, as these tokens do. Behind it they have targets with a comma each and the first tokens of a sum, which is
 -- read before it is asked whether it is a target.
-pub record OpensFor (place : Option Pos) (indent : ℕ) (tokens : List Token) (lines : List Line) : Type 0 where
+pub record OpensFor (said : Said) (indent : ℕ) (tokens : List Token) (lines : List Line) : Type 0 where
   pub spot : Spot
-  pub opens : Opens place indent (keyword (codes "for") spot) lines
+  pub opens : Opens IsLow indent (keyword (codes "for") spot) lines
   pub inside : List Token
-  pub begins : ReadsBehindFor place inside
+  pub begins : ReadsBehindFor said inside
   pub tokens_are : tokens ≡ keyword (codes "for") spot ++ inside
 
 -- the next line begins with these tokens, or as far as they are read as expressions behind `del` or `for`
-abbrev pub GoesOnWith : Option Pos → ℕ → List Token → List Line → Type 0
-GoesOnWith place indent [] more = ⊤
-GoesOnWith place indent (f ∷ fs) more = Opens place indent (f ∷ fs) more ⊎ (OpensDel place indent (f ∷ fs) more ⊎ OpensFor place indent (f ∷ fs) more)
+abbrev pub GoesOnWith : Said → ℕ → List Token → List Line → Type 0
+GoesOnWith said indent [] more = ⊤
+GoesOnWith said indent (f ∷ fs) more = Opens (LiesSaid said (f ∷ fs)) indent (f ∷ fs) more ⊎ (OpensDel said indent (f ∷ fs) more ⊎ OpensFor said indent (f ∷ fs) more)
 
 -- the next line begins with the tokens before what is shown
-abbrev pub Next : Option Pos → Point → List Line → Type 0
-Next place (at_token indent tokens t) more = GoesOnWith place indent tokens more
-Next place (at_end indent tokens) more = GoesOnWith place indent tokens more
-Next place (at_line indent) more = ⊤
-Next place (below indent) more = ⊤
-Next place no_line more = ⊤
+abbrev pub Next : Said → Point → List Line → Type 0
+Next said (at_token indent tokens t) more = GoesOnWith said indent tokens more
+Next said (at_end indent tokens) more = GoesOnWith said indent tokens more
+Next said (at_line indent) more = ⊤
+Next said (below indent) more = ⊤
+Next said no_line more = ⊤
 
 -- Some script of the grammar whose statements stand where they may begins with these lines, and goes on with what stands before the fault. It may
--- be of any depth and number; where a place is named, what begins elsewhere on the line that has begun lies at most 100 deep.
-pub record BeginsScript (place : Option Pos) (front : List Line) (point : Point) : Type 0 where
+-- be of any depth and number, but for what is said of the line that has begun.
+pub record BeginsScript (said : Said) (front : List Line) (point : Point) : Type 0 where
   pub some : Script
   pub fits : FitsScript some
   pub more : List Line
   pub lines_are : script_lines some ≡ front ++ more
-  pub next : Next place point more
+  pub next : Next said point more
   pub stands : script_stands some ≡ true
 
 -- ---- at which indentation
@@ -346,17 +369,28 @@ pub record PassesLimit (within : Limits → Type 0) (front : List Line) (indent 
   pub goes_on : SomeStands (λ line. IsLine line indent (tokens ++ keyword (codes "pass") at)) front
   pub none : NoneWithin within front (at_end indent (tokens ++ keyword (codes "pass") at))
 
--- Some script of the grammar whose statements stand where they may goes on with these tokens and the next one, and every line of the grammar that
--- does has an expression that begins at this place and lies deeper than 100, or the statement behind its `:` begins there and lies in more than
+-- Some script of the grammar whose statements stand where they may goes on with these tokens and the next one, so that the first expression that lies
+-- too deep begins at this place, and every line of the grammar that does has an expression that begins at this place and lies deeper than 100, or the statement behind its `:` begins there and lies in more than
 -- 50 suites.
 pub record LiesDeep (at : Pos) (front : List Line) (indent : ℕ) (tokens : List Token) (next : Token) : Type 0 where
-  pub goes_on : BeginsScript None front (at_end indent (tokens ++ next ∷ []))
+  pub goes_on : BeginsScript (first_deep_at at) front (at_end indent (tokens ++ next ∷ []))
   pub there : (h : Head) (more : List Token) → head_tokens h ≡ tokens ++ next ∷ more → (100 < head_lies h at) ⊎ (behind_first (behind_in h) at × NoneWithin few_suites front (at_end indent (head_tokens h)))
 
--- What TooDeep says: an expression lies too deep that begins at this place, or the statement does that the token begins which shows it (a line without tokens, where
--- one has to stand, begins no statement).
+-- a statement begins with such a token, and no part of one (`elif`, `else`, `except`) or `global` line
+abbrev pub is_stmt_kind : TokenKind → Bool
+is_stmt_kind (Keyword n) = not ((n == 13) || (n == 14) || (n == 15) || (n == 19))
+is_stmt_kind kind = true
+
+-- with `pass` behind these tokens there are not too many statements yet
+pub record KeepsNumber (front : List Line) (tokens : List Token) : Type 0 where
+  pub number : ℕ
+  pub counts : CountsWithPass number front tokens
+  pub within : number ≤ 20000
+
+-- What TooDeep says: an expression lies too deep that begins at this place, or the statement does that the token begins which shows it and that is not one
+-- too many (a line without tokens, where one has to stand, begins no statement).
 abbrev pub IsDeepAt : Pos → List Line → Point → Type 0
-IsDeepAt at front (at_token indent tokens t) = LiesDeep at front indent tokens t ⊎ ((at ≡ t.at) × PassesLimit few_suites front indent tokens)
+IsDeepAt at front (at_token indent tokens t) = LiesDeep at front indent tokens t ⊎ ((at ≡ t.at) × PassesLimit few_suites front indent tokens × (is_stmt_kind t.kind ≡ true → KeepsNumber front tokens))
 IsDeepAt at front (at_end indent tokens) = (tokens ≡ []) × PassesLimit few_suites front indent []
 IsDeepAt at front point = ⊥
 
@@ -380,6 +414,28 @@ StandsFor at last line = (line ≡ last) ⊎ (BeginsSuite last × IsLine line la
 -- with the last one or what stands for it.
 abbrev pub LieWithin : List Line → Type 0
 LieWithin front = (before : List Line) (last : Line) (at : Spot) → front ≡ before ++ last ∷ [] → FollowsWithin 50 (StandsFor at last) before
+
+-- ---- the order of faults at one token
+
+-- no statement may stand at this indentation
+abbrev pub NoneBegins : List Line → ℕ → Type 0
+NoneBegins front indent = (at : Spot) → NoneWithin (λ q. ⊤) front (at_end indent (keyword (codes "pass") at))
+
+-- a statement at this indentation is not one too many, and lies in at most 50 suites
+pub record KeepsLimits (front : List Line) (indent : ℕ) : Type 0 where
+  pub number : KeepsNumber front []
+  pub suites : (at : Spot) → FollowsWithin 50 (λ line. IsLine line indent (keyword (codes "pass") at)) front
+
+-- it names a limit
+abbrev pub names_limit : ParseFault → Bool
+names_limit (TooDeep at) = true
+names_limit (TooMany at) = true
+names_limit fault = false
+
+-- With a fault that names no limit, and is shown by the first token of a line with which a statement begins, none may stand there, or one that passes no limit.
+abbrev pub KeepsOrder : (limit : Bool) → List Line → Point → Type 0
+KeepsOrder false front (at_token indent [] t) = is_stmt_kind t.kind ≡ true → NoneBegins front indent ⊎ KeepsLimits front indent
+KeepsOrder limit front point = ⊤
 
 -- ---- what is read behind `del` and `for`
 
@@ -413,10 +469,11 @@ pub record FirstFault (lines : List Line) (fault : ParseFault) : Type 0 where
   pub named : names front behind point fault
   pub limit : NamesLimit fault front point
   pub column : InColumn front point
-  pub begins : (at : Pos) → BeginsScript (Some at) front point
+  pub begins : (at : Pos) → BeginsScript (low_elsewhere at) front point
   pub reads : ReadsNoFurther (deep_place fault) point
   pub few : BeginAtMost 20000 front
   pub shallow : LieWithin front
+  pub order : KeepsOrder (names_limit fault) front point
   pub none : NoneWithin (Asks fault) front point
 
 abbrev pub IsFault : List Line → ParseFault → Type 0

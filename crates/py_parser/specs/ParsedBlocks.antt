@@ -1,11 +1,9 @@
 -- What the parser answers of the lines of a script. No public clause speaks of it.
-use Rattle.std.specs.Prelude.{◌≡◌, ⊤, ◌⊎◌, ℕ, suc, length, ◌+◌, ◌<◌, ◌≤◌, nat_le, Bool, true, false, ◌==◌, ◌||◌, not, List, [], ◌∷◌, ◌++◌, map, codes, Option, Some, None}
+use Rattle.std.specs.Prelude.{◌≡◌, ⊤, ◌⊎◌, ℕ, suc, length, ◌+◌, ◌<◌, ◌≤◌, nat_le, Bool, true, false, ◌==◌, List, [], ◌∷◌, ◌++◌, map, codes, Option, Some, None}
 use Rattle.std.specs.List.{list_any}
 use Rattle.prov_base.specs.declared.place.Pos.{Pos}
 use Rattle.py_lines.specs.declared.parts.Line.{Line}
 use Rattle.py_lines.specs.declared.parts.Token.{Token}
-use Rattle.py_lines.specs.declared.parts.TokenKind.{TokenKind}
-use Rattle.py_lines.specs.declared.parts.TokenKind.TheVariants.{Keyword}
 use Rattle.py_tree.specs.Erasure.{stmt_of}
 use Rattle.py_tree.specs.Tree.{StmtTree}
 use Rattle.py_grammar.specs.declared.context.Last.TheVariants.{Nothing}
@@ -28,7 +26,7 @@ use Rattle.py_grammar.specs.Concrete.{Spot}
 use Rattle.py_grammar.specs.Tokens.{keyword}
 use Rattle.py_grammar.specs.ParsedHead.{IsWhat, IsBehind, lacks_handler, behind_in, behind_first, head_lies}
 use Rattle.py_parser.specs.Limits.{Limits, profile}
-use Rattle.py_parser.specs.Faults.{last_token, Point, at_token, at_end, at_line, below, no_line, IsAt, IsPass, IsPassBefore, IsHandler, IsOpenAt, AreGlobal, LacksStatement, InColumn, BeginsScript, ReadsNoFurther, NoneWithin, few_suites, few_statements, StandsFor, LieWithin, Counts, BeginAtMost, IsDeepAt, IsOneMore, shows, first_place, first_token, last_place, origin, tokens_before, Next}
+use Rattle.py_parser.specs.Faults.{last_token, Said, low_elsewhere, first_deep_at, Point, at_token, at_end, at_line, below, no_line, IsAt, IsPass, IsPassBefore, IsHandler, IsOpenAt, AreGlobal, LacksStatement, InColumn, BeginsScript, ReadsNoFurther, NoneWithin, few_suites, few_statements, is_stmt_kind, StandsFor, LieWithin, KeepsOrder, Counts, BeginAtMost, IsDeepAt, IsOneMore, shows, first_place, first_token, last_place, origin, tokens_before, Next}
 use Rattle.py_parser.specs.Rows.{Begun, Rows, Under, rows_lines, under_lines, Level, counted, after, is_def, is_done, opens, follows, Leads, FitsUnder, FitsRows, may, rows_may, under_may, rows_stand, under_stand, rows_size, under_size, Edge, LastEdge}
 use Rattle.py_parser.specs.RowForms.{suite_list, grown, inner_number, declared, row_globals, under_globals, grow, below_tree}
 
@@ -56,11 +54,6 @@ is_here indent (line ∷ lines) = line.indent == indent
 
 abbrev pub trees_of : Built → List StmtTree
 trees_of b = map stmt_of b.list.items
-
--- a statement begins with such a token, and no part of one or `global` line
-abbrev pub is_stmt_kind : TokenKind → Bool
-is_stmt_kind (Keyword n) = not ((n == 13) || (n == 14) || (n == 15) || (n == 19))
-is_stmt_kind kind = true
 
 -- the limit that a statement behind the `:` would pass
 abbrev pub limit_by : Bool → Bool → Option Limit
@@ -315,7 +308,8 @@ Asks halt q = ⊤
 -- why no line may stand in the suite of this, where it lies too deep, behind so many statements: with its first token a statement would begin that
 -- is one too many, or none may begin, or else it is the suite
 abbrev pub BeyondFirst : Head → ℕ → Pos → List Token → List Line → Halt → Type 0
-BeyondFirst h n before tokens lines (TooDeep place) = place ≡ first_place before tokens
+BeyondFirst h n before [] lines (TooDeep place) = place ≡ before
+BeyondFirst h n before (t ∷ ts) lines (TooDeep place) = (place ≡ t.at) × (is_stmt_kind t.kind ≡ true → n < 20000)
 BeyondFirst h n before (t ∷ ts) lines (TooMany place) = (is_stmt_kind t.kind ≡ true) × (20000 ≤ n) × (place ≡ t.at)
 BeyondFirst h n before (t ∷ ts) lines (AtToken lines_left left) = (is_stmt_kind t.kind ≡ false) × (is_def h ≡ false) × (lines_left ≡ length lines) × (left ≡ length ts)
 BeyondFirst h n before tokens lines halt = ⊥
@@ -326,20 +320,20 @@ BeyondSuites h n before line lines halt = BeyondFirst h n before line.tokens lin
 -- ---- what is refused
 
 -- Some rows at this level that may stand there, whatever their depth and number, begin with these lines, and go on with what stands before the fault.
-pub record RowsBegin (place : Option Pos) (l : Level) (front : List Line) (point : Point) : Type 0 where
+pub record RowsBegin (said : Said) (l : Level) (front : List Line) (point : Point) : Type 0 where
   pub rows : Rows
   pub fits : FitsRows l rows
   pub more : List Line
   pub lines_are : rows_lines rows ≡ front ++ more
-  pub next : Next place point more
+  pub next : Next said point more
   pub stands : rows_stand l rows ≡ true
 
-pub record UnderBegins (place : Option Pos) (m : Level) (h : Head) (front : List Line) (point : Point) : Type 0 where
+pub record UnderBegins (said : Said) (m : Level) (h : Head) (front : List Line) (point : Point) : Type 0 where
   pub under : Under
   pub fits : FitsUnder m h under
   pub more : List Line
   pub lines_are : under_lines under ≡ front ++ more
-  pub next : Next place point more
+  pub next : Next said point more
   pub stands : under_stand m h under ≡ true
 
 -- ---- what passes a limit
@@ -378,39 +372,45 @@ pub record Passes (follows : (Line → Type 0) → Type 0) (none : ℕ → List 
   pub goes_on : follows (λ line. IsLine line indent (tokens ++ keyword (codes "pass") at))
   pub none_so : none indent (tokens ++ keyword (codes "pass") at)
 
-pub record Deep (begins : Point → Type 0) (none : ℕ → List Token → Type 0) (place : Pos) (indent : ℕ) (tokens : List Token) (next : Token) : Type 0 where
-  pub goes_on : begins (at_end indent (tokens ++ next ∷ []))
+pub record Deep (begins : Said → Point → Type 0) (none : ℕ → List Token → Type 0) (place : Pos) (indent : ℕ) (tokens : List Token) (next : Token) : Type 0 where
+  pub goes_on : begins (first_deep_at place) (at_end indent (tokens ++ next ∷ []))
   pub there : (h : Head) (more : List Token) → head_tokens h ≡ tokens ++ next ∷ more → (100 < head_lies h place) ⊎ (behind_first (behind_in h) place × none indent (head_tokens h))
 
-abbrev pub DeepBy : (Point → Type 0) → ((Line → Type 0) → Type 0) → (ℕ → List Token → Type 0) → Pos → Point → Type 0
-DeepBy begins follows none place (at_token indent tokens t) = Deep begins none place indent tokens t ⊎ ((place ≡ t.at) × Passes follows none indent tokens)
-DeepBy begins follows none place (at_end indent tokens) = (tokens ≡ []) × Passes follows none indent []
-DeepBy begins follows none place point = ⊥
+-- with `pass` behind these tokens there are not too many statements yet
+pub record KeepsBy (counts : ℕ → List Token → Type 0) (tokens : List Token) : Type 0 where
+  pub number : ℕ
+  pub counts_are : counts number tokens
+  pub within : number ≤ 20000
 
-abbrev pub ManyBy : ((Line → Type 0) → Type 0) → (ℕ → List Token → Type 0) → (counts : List Token → Type 0) → Point → Type 0
-ManyBy follows none counts (at_token indent tokens t) = Passes follows none indent tokens × counts tokens
+abbrev pub DeepBy : (Said → Point → Type 0) → ((Line → Type 0) → Type 0) → (ℕ → List Token → Type 0) → (counts : ℕ → List Token → Type 0) → Pos → Point → Type 0
+DeepBy begins follows none counts place (at_token indent tokens t) = Deep begins none place indent tokens t ⊎ ((place ≡ t.at) × Passes follows none indent tokens × (is_stmt_kind t.kind ≡ true → KeepsBy counts tokens))
+DeepBy begins follows none counts place (at_end indent tokens) = (tokens ≡ []) × Passes follows none indent []
+DeepBy begins follows none counts place point = ⊥
+
+abbrev pub ManyBy : ((Line → Type 0) → Type 0) → (ℕ → List Token → Type 0) → (counts : ℕ → List Token → Type 0) → Point → Type 0
+ManyBy follows none counts (at_token indent tokens t) = Passes follows none indent tokens × counts 20001 tokens
 ManyBy follows none counts point = ⊥
 
 -- with TooDeep and TooMany, what passes the limit
-abbrev pub LimitBy : (Point → Type 0) → ((Line → Type 0) → Type 0) → ((Limits → Type 0) → ℕ → List Token → Type 0) → (counts : List Token → Type 0) → Halt → Point → Type 0
-LimitBy begins follows none counts (TooDeep place) point = DeepBy begins follows (none few_suites) place point
+abbrev pub LimitBy : (Said → Point → Type 0) → ((Line → Type 0) → Type 0) → ((Limits → Type 0) → ℕ → List Token → Type 0) → (counts : ℕ → List Token → Type 0) → Halt → Point → Type 0
+LimitBy begins follows none counts (TooDeep place) point = DeepBy begins follows (none few_suites) counts place point
 LimitBy begins follows none counts (TooMany place) point = ManyBy follows (none few_statements) counts point
 LimitBy begins follows none counts halt point = ⊤
 
--- behind so many statements, 20,001 of them begin with `pass` behind these tokens
-pub record OneMoreFrom (n : ℕ) (front : List Line) (tokens : List Token) : Type 0 where
+-- behind so many statements, this many have begun with `pass` behind these tokens
+pub record CountsFrom (n : ℕ) (front : List Line) (number : ℕ) (tokens : List Token) : Type 0 where
   pub at : Spot
   pub next : Head
   pub next_is : head_tokens next ≡ tokens ++ keyword (codes "pass") at
   pub before : ℕ
   pub counts : Counts before front
-  pub number_is : n + before + counted next ≡ 20001
+  pub number_is : n + before + counted next ≡ number
 
 abbrev pub RowsLimit : Level → ℕ → List Line → Halt → Point → Type 0
-RowsLimit l n front halt point = LimitBy (RowsBegin None l front) (λ is. RowsFollow l is front) (λ within indent tokens. NoneRows within l n front (at_end indent tokens)) (OneMoreFrom n front) halt point
+RowsLimit l n front halt point = LimitBy (λ said. RowsBegin said l front) (λ is. RowsFollow l is front) (λ within indent tokens. NoneRows within l n front (at_end indent tokens)) (CountsFrom n front) halt point
 
 abbrev pub UnderLimit : Level → ℕ → Head → List Line → Halt → Point → Type 0
-UnderLimit m n h front halt point = LimitBy (UnderBegins None m h front) (λ is. UnderFollows m h is front) (λ within indent tokens. NoneUnder within m n h front (at_end indent tokens)) (OneMoreFrom n front) halt point
+UnderLimit m n h front halt point = LimitBy (λ said. UnderBegins said m h front) (λ is. UnderFollows m h is front) (λ within indent tokens. NoneUnder within m n h front (at_end indent tokens)) (CountsFrom n front) halt point
 
 -- the place that TooDeep names
 abbrev pub deep_at : Halt → Option Pos
@@ -423,15 +423,53 @@ NoLimit (TooDeep place) = ⊥
 NoLimit (TooMany place) = ⊥
 NoLimit halt = ⊤
 
+-- where a handler is missing, it lies in at most 50 suites with what stands under it
+abbrev pub HasRoom : Level → Type 0
+HasRoom l = lacks_handler l.context.last ≡ true → l.depth < 50
+
+-- it names a limit
+abbrev pub halt_limit : Halt → Bool
+halt_limit (TooDeep place) = true
+halt_limit (TooMany place) = true
+halt_limit halt = false
+
+-- With a fault that names no limit, shown by a first token with which a statement begins, none may stand there, or one that passes no limit.
+abbrev pub OrderBy : (none kept : ℕ → Type 0) → (limit : Bool) → Point → Type 0
+OrderBy none kept false (at_token indent [] t) = is_stmt_kind t.kind ≡ true → none indent ⊎ kept indent
+OrderBy none kept limit point = ⊤
+
+-- the statement `pass` at this indentation
+abbrev pub IsPassAt : Spot → ℕ → Line → Type 0
+IsPassAt at indent line = IsLine line indent (keyword (codes "pass") at)
+
+abbrev pub NonePass : Level → ℕ → List Line → ℕ → Type 0
+NonePass l n front indent = (at : Spot) → NoneRows (λ q. ⊤) l n front (at_end indent (keyword (codes "pass") at))
+
+pub record KeepsPass (l : Level) (n : ℕ) (front : List Line) (indent : ℕ) : Type 0 where
+  pub number : KeepsBy (CountsFrom n front) []
+  pub suites : HasRoom l → (at : Spot) → RowsWithin 50 l n (IsPassAt at indent) front
+
+abbrev pub NonePassUnder : Level → ℕ → Head → List Line → ℕ → Type 0
+NonePassUnder m n h front indent = (at : Spot) → NoneUnder (λ q. ⊤) m n h front (at_end indent (keyword (codes "pass") at))
+
+pub record KeepsPassUnder (m : Level) (n : ℕ) (h : Head) (front : List Line) (indent : ℕ) : Type 0 where
+  pub number : KeepsBy (CountsFrom n front) []
+  pub suites : (at : Spot) → UnderWithin 50 m n h (IsPassAt at indent) front
+
+-- The same where a suite ends: no line at this indentation, whatever its tokens, goes on with it.
+pub record NoneHere (m : Level) (lines : List Line) (indent : ℕ) : Type 0 where
+  pub edge : (rows : Rows) (rest : List Line) → Begun indent rest → LastEdge rows lines → LastEdge rows rest
+  pub none : (rest : List Line) (rows : Rows) (r : List Line) → Begun indent rest → FitsRows m rows → Below m.indent r → rows_lines rows ++ r ≡ rest → ⊥
+
+abbrev pub OrderHere : Level → List Line → (limit : Bool) → Point → Type 0
+OrderHere m lines false (at_token indent [] t) = NoneHere m lines indent
+OrderHere m lines limit point = ⊤
+
 -- what TooDeep and TooMany say of the lines of a script
 abbrev pub ScriptLimit : Halt → List Line → Point → Type 0
 ScriptLimit (TooDeep place) front point = IsDeepAt place front point
 ScriptLimit (TooMany place) front point = IsOneMore front point
 ScriptLimit halt front point = ⊤
-
--- where a handler is missing, it lies in at most 50 suites with what stands under it
-abbrev pub HasRoom : Level → Type 0
-HasRoom l = lacks_handler l.context.last ≡ true → l.depth < 50
 
 -- Some rows within 50 suites have the lines before the last of these, and behind them that one or what stands for it.
 pub record RowsEnd (l : Level) (n : ℕ) (front : List Line) : Type 0 where
@@ -470,10 +508,11 @@ pub record Refused (cs : List ℕ) (l : Level) (n : ℕ) (at : Pos) (lines : Lis
   pub limit : RowsLimit l n front fault point
   pub placed : Placed cs l n front point
   pub begun : (rest : List Line) → shows point rest → Begun l.indent (front ++ rest)
-  pub begins : (place : Pos) → RowsBegin (Some place) l front point
+  pub begins : (place : Pos) → RowsBegin (low_elsewhere place) l front point
   pub reads : ReadsNoFurther (deep_at fault) point
   pub few : Few n front
   pub shallow : HasRoom l → RowsLie l n front
+  pub order : OrderBy (NonePass l n front) (KeepsPass l n front) (halt_limit fault) point
   pub none : NoneRows (Asks fault) l n front point
 
 abbrev pub RowsStopped : List ℕ → Level → ℕ → Pos → List Line → Halt → Type 0
@@ -489,6 +528,7 @@ pub record RefusedHere (cs : List ℕ) (m : Level) (n : ℕ) (at : Pos) (lines :
   pub placed : Placed cs m n [] point
   pub before : tokens_before point ≡ []
   pub edge : (rows : Rows) (rest : List Line) → shows point rest → (l : Level) → l.indent ≡ m.indent → Leads l rows m → LastEdge rows lines → LastEdge rows rest
+  pub order : OrderHere m lines (halt_limit fault) point
   pub none : (q : Limits) → Asks fault q → (rest : List Line) (rows : Rows) (r : List Line) → shows point rest → FitsRows m rows → rows_may q m n rows ≡ true → Below m.indent r → rows_lines rows ++ r ≡ rest → ⊥
 
 -- Nothing that may stand under a line that begins this has these first lines up to and with what is shown.
@@ -501,10 +541,11 @@ pub record RefusedUnder (cs : List ℕ) (m : Level) (n : ℕ) (h : Head) (at : P
   pub marked : marks (last_token at front) behind point fault
   pub limit : UnderLimit m n h front fault point
   pub placed : PlacedUnder (columns_under cs m) m n h front point
-  pub begins : (place : Pos) → UnderBegins (Some place) m h front point
+  pub begins : (place : Pos) → UnderBegins (low_elsewhere place) m h front point
   pub reads : ReadsNoFurther (deep_at fault) point
   pub few : Few n front
   pub shallow : UnderLie m n h front
+  pub order : OrderBy (NonePassUnder m n h front) (KeepsPassUnder m n h front) (halt_limit fault) point
   pub none : NoneUnder (Asks fault) m n h front point
 
 abbrev pub UnderStopped : List ℕ → Level → ℕ → Head → Pos → List Line → Halt → Type 0
@@ -519,8 +560,9 @@ pub record RefusedLine (m : Level) (n : ℕ) (at : Pos) (line : Line) (lines : L
   pub marked : marks at (line ∷ lines) point fault
   pub limit : line.indent ≡ m.indent → RowsLimit m n [] fault point
   pub begun : (rest : List Line) → shows point rest → Begun line.indent rest
-  pub begins : line.indent ≡ m.indent → (place : Pos) → RowsBegin (Some place) m [] point
+  pub begins : line.indent ≡ m.indent → (place : Pos) → RowsBegin (low_elsewhere place) m [] point
   pub reads : ReadsNoFurther (deep_at fault) point
+  pub order : line.indent ≡ m.indent → OrderBy (NonePass m n []) (KeepsPass m n []) (halt_limit fault) point
   pub none : (q : Limits) → Asks fault q → (other : Line) (more : List Line) (h : Head) → shows point (other ∷ more) → other.tokens ≡ head_tokens h → follows m h ≡ true → may q m n h ≡ true → ⊥
 
 abbrev pub LineStopped : Level → ℕ → Pos → Line → List Line → Halt → Type 0
@@ -559,10 +601,11 @@ pub record FirstHalt (lines : List Line) (halt : Halt) : Type 0 where
   pub marked : marks (last_token origin front) behind point halt
   pub limit : ScriptLimit halt front point
   pub column : InColumn front point
-  pub begins : (place : Pos) → BeginsScript (Some place) front point
+  pub begins : (place : Pos) → BeginsScript (low_elsewhere place) front point
   pub reads : ReadsNoFurther (deep_at halt) point
   pub few : BeginAtMost 20000 front
   pub shallow : LieWithin front
+  pub order : KeepsOrder (halt_limit halt) front point
   pub none : NoneWithin (Asks halt) front point
 
 abbrev pub IsHalt : List Line → Halt → Type 0

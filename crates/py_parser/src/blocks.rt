@@ -13,8 +13,8 @@ ghost use Rattle.py_grammar.specs.ParsedSimple.{around_of};
 ghost use Rattle.py_grammar.specs.ParsedHead.{IsWhat, IsBehind, IsThere, behind_in, lacks_handler};
 ghost use Rattle.py_parser.specs.Rows.{start, Level, counted, is_global, is_def as def_begins, is_stmt, opens as head_opens, after, head_around, head_given, last_after, lets_declare};
 ghost use Rattle.py_parser.specs.RowForms.{begun, form_begun, suite_list, grown as grown_trees, below_tree, declared, with_elif as with_elif_tree, with_else as with_else_tree, with_handler as with_handler_tree, with_part as with_part_tree, longer};
-ghost use Rattle.py_parser.specs.Faults.{first_place, last_place};
-ghost use Rattle.py_parser.specs.ParsedBlocks.{limit_at, AreBelow, level_of, level_at, is_here, is_stmt_kind, halt_of, MarksFirst, BeyondSuites, IsUnderOf, IsClosed, NotClosed, IsNoHandler, trees_of, IsHead, LineRead, LineStopped, RowsRead, RowRead, RowsStopped, UnderRead, UnderStopped};
+ghost use Rattle.py_parser.specs.Faults.{first_place, last_place, is_stmt_kind};
+ghost use Rattle.py_parser.specs.ParsedBlocks.{limit_at, AreBelow, level_of, level_at, is_here, halt_of, MarksFirst, BeyondSuites, IsUnderOf, IsClosed, NotClosed, IsNoHandler, trees_of, IsHead, LineRead, LineStopped, RowsRead, RowRead, RowsStopped, UnderRead, UnderStopped};
 
 use crate::fault::Halt;
 use prov_base::{Name, Pos, Span};
