@@ -1,4 +1,5 @@
 pub mod LastTokens
+pub mod OnePlace
 pub mod OneSpelling
 pub mod WrongForms
 pub mod WholeAnswer

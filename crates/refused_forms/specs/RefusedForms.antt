@@ -51,12 +51,13 @@ named_place Target = None
 named_place (Field place) = Some place
 named_place (Wrong place) = Some place
 
--- where the first of these tokens stands, if it is a text
+-- where these tokens are a text and nothing behind it
 abbrev pub text_place : List Token → Option Pos
 text_place [] = None
-text_place (t ∷ ts) = if is_text t.kind then Some t.at else None
+text_place (t ∷ []) = if is_text t.kind then Some t.at else None
+text_place (t ∷ u ∷ ts) = None
 
--- a text in a class that is not alone
+-- a text in a class behind which something else stands
 abbrev pub text_in_class : Standing → List Token → Option Pos
 text_in_class s front = if in_class s front then text_place (statement front) else None
 

@@ -25,23 +25,23 @@ fn is_in_class(place: Standing, front: &[Token]) -> bool
     }
 }
 
-/// Where the first of these tokens stands, if it is a text.
+/// Where these tokens are a text and nothing behind it.
 fn text_place(tokens: &[Token]) -> Option<Pos>
     ensures { result ≡ spec.text_place tokens.now }
 {
-    match tokens.split_first() {
-        None => None,
-        Some((token, _)) => {
+    match tokens {
+        [token] => {
             if is_text(&token.kind) {
                 Some(token.at)
             } else {
                 None
             }
         }
+        _ => None,
     }
 }
 
-/// Where a text stands in a class that is not alone.
+/// Where a text stands in a class behind which something else stands.
 fn text_in_class(place: Standing, front: &[Token]) -> Option<Pos>
     ensures { result ≡ spec.text_in_class place front.now }
 {

@@ -9,6 +9,7 @@ mod brackets;
 mod earlier;
 mod forms;
 mod kinds;
+mod laws;
 mod spellings;
 mod standing;
 mod statements;
@@ -16,4 +17,5 @@ mod table;
 mod words;
 
 pub use forms::refused_form;
+pub use laws::one_place;
 pub use standing::Standing;
