@@ -12,10 +12,13 @@ use Rattle.py_grammar.specs.ParsedHead.{Context, head_stands, head_depth, behind
 use Rattle.py_grammar.specs.LineReader.{Head, head_tokens}
 use Rattle.py_grammar.specs.ParsedNames.{BeginsFine, IsNotDeep, ShownAmiss, RefusedAmiss}
 use Rattle.py_grammar.proofs.Refusals.{begins_so, finds_same, finds_weaker}
-use Rattle.py_grammar.proofs.Stops.{shows_on_line}
+use Rattle.py_grammar.proofs.Stops.{shows_on_line, some_spot}
 use Rattle.py_grammar.proofs.NoDel.{is_simple_head}
 use Rattle.py_grammar.proofs.Unread.{PassesFor}
-use Rattle.py_grammar.proofs.HeadParts.{OnlyHead, HeadTurns, turned_head, BeginsOpening, begins_opening, shown_head, ahead_of_part, ended_line, finds_head_same, first_shown}
+use Rattle.py_grammar.proofs.HeadParts.{OnlyHead, HeadTurns, turned_head, BeginsOpening, begins_opening, shown_head, ahead_of_part, ended_line, finds_head_same, first_shown, is_free}
+use Rattle.py_lines.specs.declared.parts.TokenKind.TheVariants.{Sign}
+use Rattle.py_grammar.proofs.BehindColon.{StaysAhead, stays_front}
+use Rattle.py_grammar.specs.Tokens.{token}
 
 -- ---- refusals as such
 
@@ -92,11 +95,11 @@ amiss_here p amiss before front (t ∷ ts) End is at begins none_end none_there 
 
 -- a part of which nothing is amiss begins behind these tokens, and so does a line that may stand there
 pub begins_fine_head : {B : Type 0} (c : Context) (given : List (List ℕ)) (q : Production B) (inner : Stop → B → Type 0) (front : List Token) (h : B → Head) (tail : B → List Token)
-    → ((b : B) → ((stop : Stop) → inner stop b → ⊥) → head_stands c given (h b) ≡ true) → ((b : B) → is_simple_head (h b) ≡ false) → ((b : B) → behind_in (h b) ≡ None) → ((b : B) → head_tokens (h b) ≡ front ++ (q.tokens b ++ tail b))
+    → ((b : B) → ((stop : Stop) → inner stop b → ⊥) → head_stands c given (h b) ≡ true) → ((b : B) → is_simple_head (h b) ≡ false) → ((b : B) → behind_in (h b) ≡ None) → ((b : B) → tail b ≡ [] → ⊥) → ((b : B) → head_tokens (h b) ≡ front ++ (q.tokens b ++ tail b))
     → ((b : B) → head_depth (h b) ≤ 100)
     → (tokens : List Token) → BeginsFine q inner tokens → BeginsOpening c given (front ++ tokens)
-begins_fine_head c given q inner front h tail stands compound empty spells fits tokens b =
-    begins_opening c given q front h tail b.some (stands b.some b.fine) (compound b.some) (empty b.some) (spells b.some) (fits b.some) tokens b.more b.tokens_are
+begins_fine_head c given q inner front h tail stands compound empty some spells fits tokens b =
+    begins_opening c given q front h tail b.some (stands b.some b.fine) (compound b.some) (empty b.some) (some b.some) (spells b.some) (fits b.some) tokens b.more b.tokens_are
 
 -- a part of a line stands behind these tokens: how it begins, and what is read there
 record StandsSo {B : Type 0} (c : Context) (given : List (List ℕ)) (limit : Option Limit) (q : Production B) (inner : Stop → B → Type 0) (front rest : List Token) : Type 0 where
@@ -106,17 +109,17 @@ record StandsSo {B : Type 0} (c : Context) (given : List (List ℕ)) (limit : Op
   turns : HeadTurns q front rest g
   each : (why : Stop) (n : ℕ) (b : B) (left : List Token) → inner why b → OnlyHead (IsAmissHead c given limit why) (g n b left)
 
-not_deep_line : (c : Context) (given : List (List ℕ)) (limit : Option Limit) (front : List Token) (t : Token) (behind : List Token) (fault : Fault) → ShowsAt behind fault → IsNotDeep fault → GoesOnLine c given limit front t fault
-not_deep_line c given limit front t behind (Unexpected left) shows low = tt
-not_deep_line c given limit front t behind (TooDeep at) shows low = absurd low
-not_deep_line c given limit front t behind (TooMany at) shows low = absurd shows
-not_deep_line c given limit front t behind Memory shows low = absurd shows
+not_deep_line : (c : Context) (given : List (List ℕ)) (limit : Option Limit) (front : List Token) (t : Token) (behind : List Token) (fault : Fault) → StaysAhead (front ++ t ∷ []) → ShowsAt behind fault → IsNotDeep fault → GoesOnLine c given limit front t fault
+not_deep_line c given limit front t behind (Unexpected left) ahead shows low = is_free c given limit (front ++ t ∷ []) ahead
+not_deep_line c given limit front t behind (TooDeep at) ahead shows low = absurd low
+not_deep_line c given limit front t behind (TooMany at) ahead shows low = absurd shows
+not_deep_line c given limit front t behind Memory ahead shows low = absurd shows
 
 shown_so : {B : Type 0} (c : Context) (given : List (List ℕ)) (limit : Option Limit) (q : Production B) (inner : Stop → B → Type 0) (front rest before : List Token) (fault : Fault) → before ≡ front ++ rest → StandsSo c given limit q inner front rest
     → ShownAmiss q inner rest fault → ShownBy (BeginsHead c given) (IsAheadOnLine c given limit) head_tokens (λ fault a. IsAmissHead c given limit (Here fault) a) before fault
 shown_so c given limit q inner front rest before fault is part s = shown_head c given limit (front ++ s.front) s.shown_by s.behind before fault
     (is ∙ ap (λ ts. front ++ ts) s.before_is ∙ sym (append_assoc front s.front (s.shown_by ∷ s.behind))) (shows_on_line s.shown_by s.behind fault s.left_is) (part.begins s.front s.begins).begun
-    (ahead_of_part c given limit front rest s.front s.shown_by s.behind fault part.other (sym (ap first_token s.before_is)) (part.begins s.front s.begins).clear (not_deep_line c given limit (front ++ s.front) s.shown_by s.behind fault s.left_is s.not_deep))
+    (ahead_of_part c given limit front rest s.front s.shown_by s.behind fault part.other (sym (ap first_token s.before_is)) (part.begins s.front s.begins).clear (not_deep_line c given limit (front ++ s.front) s.shown_by s.behind fault ((part.begins s.front s.begins).ahead s.shown_by) s.left_is s.not_deep))
     (λ more. finds_head_same _ _ _ (append_assoc front s.front (s.shown_by ∷ more))
     (turned_head _ _ q front rest (s.front ++ s.shown_by ∷ more) part.g part.turns (first_shown s.front s.shown_by more s.behind ∙ sym (ap first_token s.before_is)) (part.each (Here fault)) (s.none more)))
 
@@ -126,7 +129,7 @@ refused_so c given limit q inner front rest before (Here (Unexpected at)) is par
 refused_so c given limit q inner front rest before (Here (TooDeep at)) is part refused = shown_so c given limit q inner front rest before (TooDeep at) is part refused
 refused_so c given limit q inner front rest before (Here (TooMany at)) is part refused = absurd refused.left_is
 refused_so c given limit q inner front rest before End is part refused =
-    ended_line c given limit (front ++ rest) before End is (part.begins rest refused.0).begun (turned_head _ _ q front rest rest part.g part.turns refl (part.each End) refused.1)
+    ended_line c given limit (front ++ rest) before End is (part.begins rest refused.0).begun (stays_front (front ++ rest) (token (Sign 7) some_spot ∷ []) ((part.begins rest refused.0).ahead (token (Sign 7) some_spot))) (turned_head _ _ q front rest rest part.g part.turns refl (part.each End) refused.1)
 
 -- a part is refused behind these tokens
 pub amiss_head : {B : Type 0} (c : Context) (given : List (List ℕ)) (limit : Option Limit) (q : Production B) (inner : Stop → B → Type 0) (front rest before : List Token) (stop : Stop) (g : ℕ → B → List Token → Option Head) → before ≡ front ++ rest

@@ -1,7 +1,6 @@
 -- The `:` of a line and what stands behind it: what is read there, and how it is refused.
-use Rattle.std.proofs.Common.{◌≡◌, inl, inr, ℕ, ◌+◌, ◌≤◌, max, Bool, true, false, List, [], ◌∷◌, ◌++◌, Option, Some, None, option_map, is_some, refl, ap, sym, ◌∙◌, arith, subst, append_assoc, if◌then◌else◌}
-use Rattle.std.proofs.lemmas.List.{append_cancel_left}
-use Rattle.std.proofs.lemmas.Option.{same_Some}
+use Rattle.std.proofs.Common.{◌≡◌, inl, inr, ℕ, ◌+◌, ◌≤◌, max, Bool, true, false, List, [], ◌∷◌, ◌++◌, Option, Some, None, option_map, is_some, refl, ap, sym, ◌∙◌, arith, subst, append_assoc, if◌then◌else◌, append-nil, ◌<◌}
+use Rattle.std.specs.Bool.{⊤}
 use Rattle.prov_base.specs.declared.place.Pos.{Pos}
 use Rattle.py_lines.specs.declared.parts.Token.{Token}
 use Rattle.py_lines.specs.declared.parts.TokenKind.TheVariants.{Sign}
@@ -17,20 +16,20 @@ use Rattle.py_grammar.specs.Tokens.{token}
 use Rattle.py_grammar.specs.Written.{Simple, pass}
 use Rattle.py_grammar.specs.StatementTokens.{simple_tokens}
 use Rattle.py_grammar.specs.WellPlaced.{simple_stands}
-use Rattle.py_grammar.specs.LineReader.{Head, behind_tokens, head_tokens, then_read, read_colon, read_behind, read_head}
+use Rattle.py_grammar.specs.LineReader.{Head, head_tokens, then_read, read_colon, read_behind}
 use Rattle.py_grammar.specs.Reader.{is_sign, spot_of, read_sign}
-use Rattle.py_grammar.specs.Parsed.{Refused, one_sign}
-use Rattle.py_grammar.specs.ParsedRows.{first_token}
-use Rattle.py_grammar.specs.ParsedHead.{Context, word_may, inner_around, behind_depth, IsBehind, BehindFound, HeadFound, Opening, IsAmissPlaced, IsAmissHead, BeginsPlaced, DeepPlaced, BeginsHead, DeepHead, StartsBehind, del_name, GoesOnPlaced, IsAheadPlaced, GoesOnLine, IsAheadOnLine, ShownBy, EndedBy, BehindRefused, HeadRefused, behind_first}
+use Rattle.py_grammar.specs.Parsed.{Refused, one_sign, Begins, Finds, IsDeep, Only}
+use Rattle.py_grammar.specs.ParsedHead.{Context, word_may, inner_around, behind_depth, IsBehind, BehindFound, HeadFound, Opening, IsAmissPlaced, IsAmissHead, BeginsPlaced, DeepPlaced, BeginsHead, DeepHead, StartsBehind, del_name, GoesOnPlaced, IsAheadPlaced, GoesOnLine, IsAheadOnLine, ShownBy, EndedBy, BehindRefused, HeadRefused, behind_first, BeginsThere, IsFreeBehind, EndsHead, head_lies}
 use Rattle.py_grammar.proofs.Refusals.{max_below}
 use Rattle.py_grammar.proofs.SimpleParts.{none_deeper, not_deeper}
 use Rattle.py_grammar.proofs.LyingLines.{head_low}
-use Rattle.py_grammar.proofs.HeadReading.{head_reads}
-use Rattle.py_grammar.proofs.HeadParts.{spelled_part, refused_part_head}
+use Rattle.py_grammar.proofs.HeadParts.{spelled_part, refused_part_head, is_free}
 use Rattle.py_grammar.proofs.PlacedParts.{pass_stands, del_stands}
 use Rattle.py_grammar.proofs.NoDel.{has_del, without, no_del_front}
 use Rattle.py_grammar.proofs.Unread.{past_clear, passes_past, unread_behind}
-use Rattle.py_grammar.proofs.LineFirsts.{and_false, both_true, not_nothing, same_behind}
+use Rattle.py_grammar.proofs.LineFirsts.{and_false, both_true}
+use Rattle.py_grammar.proofs.BehindColon.{StaysAhead, stays, stays_front, free_behind, made_of, made_with, shown_some}
+use Rattle.py_grammar.specs.declared.context.Limit.TheVariants.{Depth}
 
 -- ---- the `:`
 
@@ -41,6 +40,29 @@ colon_turn n made (t ∷ ts) = by (is_sign 7 t.kind)
     by : (b : Bool) → (if b then option_map (made (spot_of t)) (read_behind n ts) else None) ≡ then_read (if b then Some (spot_of t, ts) else None) (λ colon rest. option_map (made colon) (read_behind n rest))
     by true = refl
     by false = refl
+
+-- Up to its `:` nothing stands behind one.
+module _ (c : Context) (word : ℕ) (before after : List Token) (what : What) (o : Opening c word before what after) where
+  colon_ahead : (k : Spot) (tokens more : List Token) → token (Sign 7) k ∷ [] ≡ tokens ++ more → (tokens ≡ token (Sign 7) k ∷ [] → ⊥) → (t : Token) → StaysAhead ((o.front ++ tokens) ++ t ∷ [])
+  colon_ahead k tokens [] is part t = absurd (part (sym (append-nil tokens) ∙ sym is))
+  colon_ahead k tokens (m ∷ ms) is part t =
+      stays (o.made k None) (o.behind_is k None) (o.front ++ tokens) m (ms ++ []) (spelled_part (one_sign 7) o.front (λ colon. o.made colon None) (λ colon. []) k (o.tokens_are k None) tokens (m ∷ ms) is) t
+
+  -- the `:` alone is read
+  unread_colon : (k : Token) (P : Spot → Type 0) → is_sign 7 k.kind ≡ true → (more : List Token) → Finds P (λ n ts. read_sign 7 ts) (k ∷ more) → P (spot_of k)
+  unread_colon k P is more finds = by (is_sign 7 k.kind) is (finds.only 0)
+    where
+      by : (b : Bool) → b ≡ true → Only P (if b then Some (spot_of k, more) else None) → P (spot_of k)
+      by true same only = only
+      by false same only = cc
+
+  pub shown_ahead : (tokens : List Token) (t : Token) → Begins (one_sign 7) tokens → (why : Stop) → ((more : List Token) → Finds (λ b. IsDeep why 0 (λ at. 0)) (λ n ts. read_sign 7 ts) (tokens ++ t ∷ more)) → StaysAhead ((o.front ++ tokens) ++ t ∷ [])
+  shown_ahead tokens t b why none = colon_ahead b.some tokens b.more b.tokens_are (λ whole. not_deeper why 0
+      (unread_colon (token (Sign 7) b.some) (λ spot. IsDeep why 0 (λ at. 0)) refl (t ∷ []) (subst (λ ts. Finds (λ spot. IsDeep why 0 (λ at. 0)) (λ n ts. read_sign 7 ts) (ts ++ t ∷ [])) whole (none [])))) t
+
+  pub ended_ahead : (tokens : List Token) → Begins (one_sign 7) tokens → Finds (λ b. ⊥) (λ n ts. read_sign 7 ts) tokens → StaysAhead (o.front ++ tokens)
+  ended_ahead tokens b none = stays_front (o.front ++ tokens) (token (Sign 7) b.some ∷ [])
+      (colon_ahead b.some tokens b.more b.tokens_are (λ whole. unread_colon (token (Sign 7) b.some) (λ spot. ⊥) refl [] (subst (Finds (λ spot. ⊥) (λ n ts. read_sign 7 ts)) whole none)) (token (Sign 7) b.some))
 
 -- no `:` stands where one has to
 pub colon_refused : (c : Context) (given : List (List ℕ)) (limit : Option Limit) (word : ℕ) (before after : List Token) (what : What) (stop : Stop) → Opening c word before what after → word_may c word ≡ true → Refused (one_sign 7) 0 after stop → HeadRefused c given limit before stop
@@ -56,55 +78,14 @@ colon_refused c given limit word before after what stop o may refused =
       });
       first = λ tokens place f. absurd (none_deeper 0 f.deep);
       clear = λ tokens b. without o.front tokens (past_clear o.front o.past) (no_del_front tokens b.more (subst (λ (ts : List Token). has_del ts ≡ false) b.tokens_are refl));
+      ahead = shown_ahead c word before after what o;
+      ended = ended_ahead c word before after what o;
     })
     (passes_past o.front after o.past)
     (record { before = o.steps; behind = 0; turns = λ n more first. o.reads n more first ∙ colon_turn (n + o.left) o.made more })
     (λ why n colon left deep. absurd (not_deeper why 0 deep)) refused
 
 -- ---- what stands behind it
-
--- a line with these tokens is this one
-pub record IsMade (made : Option Simple → Head) (tail : List Token) (h : Head) : Type 0 where
-  pub behind : Option Simple
-  pub tokens_are : behind_tokens behind ≡ tail
-  pub is : h ≡ made behind
-
-pub made_of : (c : Context) (word : ℕ) (before after rest : List Token) (what : What) (spot : Spot) → (o : Opening c word before what after) → after ≡ token (Sign 7) spot ∷ rest
-    → (tail : List Token) (h : Head) → head_tokens h ≡ o.front ++ token (Sign 7) spot ∷ tail → IsMade (o.made spot) tail h
-made_of c word before after rest what spot o after_is tail h is =
-    let r = head_reads h in
-    let sum : r.steps + o.steps ≡ o.steps + r.steps = omega arith in
-    let read : read_colon (r.steps + o.left) o.made (token (Sign 7) spot ∷ tail) ≡ Some h =
-    sym (o.reads r.steps (token (Sign 7) spot ∷ tail) (sym (ap first_token after_is)))
-    ∙ ap (read_head (r.steps + o.steps)) (sym is) ∙ ap (λ m. read_head m (head_tokens h)) sum ∙ r.reads o.steps in
-    by (read_behind (r.steps + o.left) tail) read
-  where
-    by : (b : Option (Option Simple)) → option_map (o.made spot) b ≡ Some h → IsMade (o.made spot) tail h
-    by None none = cc
-    by (Some behind) some =
-        let same : o.made spot behind ≡ h = same_Some _ _ some in
-        record {
-          behind = behind;
-          tokens_are = same_behind _ _ (behind_tokens behind) tail (append_cancel_left o.front _ _ (sym (o.tokens_are spot behind) ∙ ap head_tokens same ∙ is));
-          is = sym same;
-        }
-
--- where something stands behind the `:`
-pub record IsMadeWith (made : Option Simple → Head) (tail : List Token) (h : Head) : Type 0 where
-  pub s : Simple
-  pub tokens_are : simple_tokens s ≡ tail
-  pub is : h ≡ made (Some s)
-
-pub made_with : (made : Option Simple → Head) (tail : List Token) (h : Head) → (tail ≡ [] → ⊥) → IsMade made tail h → IsMadeWith made tail h
-made_with made tail h some m = by m.behind m.tokens_are m.is
-  where
-    by : (behind : Option Simple) → behind_tokens behind ≡ tail → h ≡ made behind → IsMadeWith made tail h
-    by None tokens is = absurd (some (sym tokens))
-    by (Some s) tokens is = record { s = s; tokens_are = tokens; is = is }
-
-pub shown_some : (front : List Token) (t : Token) (more : List Token) → front ++ t ∷ more ≡ [] → ⊥
-shown_some [] t more is = not_nothing t more is
-shown_some (first ∷ front) t more is = not_nothing first _ is
 
 -- what is amiss of the statement is amiss of the line
 amiss_line : (c : Context) (given : List (List ℕ)) (limit : Option Limit) (word : ℕ) (before after : List Token) (what : What) (spot : Spot) → (o : Opening c word before what after) → (stop : Stop) (s : Simple)
@@ -170,30 +151,63 @@ deep_line c given word before after what spot o may tokens place (inr b) = inr (
   front_is = sym (append_assoc o.front (token (Sign 7) spot ∷ []) tokens);
 }))
 
+-- with TooDeep, an expression that begins at the place lies too deep in it, where no limit is given
+abbrev IsDeepThere : (limit : Option Limit) → Fault → Head → Type 0
+IsDeepThere None (TooDeep at) h = 100 < head_lies h at
+IsDeepThere limit fault h = ⊤
+
+deep_there : (c : Context) (given : List (List ℕ)) (limit : Option Limit) (fault : Fault) (h : Head) → IsAmissHead c given limit (Here fault) h → IsDeepThere limit fault h
+deep_there c given None (TooDeep at) h (inl deep) = deep
+deep_there c given None (TooDeep at) h (inr passed) = absurd (let no : None ≡ Some Depth = passed.0 in cc)
+deep_there c given None (TooMany at) h amiss = tt
+deep_there c given None (Unexpected left) h amiss = tt
+deep_there c given None Memory h amiss = tt
+deep_there c given (Some l) fault h amiss = tt
+
 -- a statement goes on behind the `:`, and so does the line; where a limit is passed, any may stand there
-goes_behind : (c : Context) (given : List (List ℕ)) (limit : Option Limit) (word : ℕ) (before after : List Token) (what : What) (spot : Spot) → (o : Opening c word before what after) → word_may c word ≡ true → (tokens : List Token) (t : Token) (fault : Fault)
+goes_behind : (c : Context) (given : List (List ℕ)) (limit : Option Limit) (word : ℕ) (before after rest : List Token) (what : What) (spot : Spot) → (o : Opening c word before what after) → word_may c word ≡ true → after ≡ token (Sign 7) spot ∷ rest → (tokens : List Token) (t : Token) (fault : Fault)
+    → ((h : Head) (more : List Token) → head_tokens h ≡ (o.front ++ token (Sign 7) spot ∷ tokens) ++ t ∷ more → IsDeepThere limit fault h)
     → GoesOnPlaced (inner_around word c.around) limit tokens t fault → GoesOnLine c given limit (o.front ++ token (Sign 7) spot ∷ tokens) t fault
-goes_behind c given limit word before after what spot o may tokens t (TooDeep at) (inl b) =
-    inl (subst (λ (ts : List Token). DeepHead c given ts at) (sym (append_assoc o.front (token (Sign 7) spot ∷ tokens) (t ∷ []))) (deep_line c given word before after what spot o may (tokens ++ t ∷ []) at b))
-goes_behind c given limit word before after what spot o may tokens t (TooDeep at) (inr passed) =
-    inr (passed.0, subst (λ (ts : List Token). StartsBehind c given pass (o.front ++ token (Sign 7) spot ∷ ts)) (sym passed.1) (starts_behind c given word before after what spot o may pass (pass_stands (inner_around word c.around))), passed.2)
-goes_behind c given limit word before after what spot o may tokens t (TooMany at) passed =
-    (passed.0, subst (λ (ts : List Token). StartsBehind c given pass (o.front ++ token (Sign 7) spot ∷ ts)) (sym passed.1) (starts_behind c given word before after what spot o may pass (pass_stands (inner_around word c.around))))
-goes_behind c given limit word before after what spot o may tokens t (Unexpected left) goes = tt
-goes_behind c given limit word before after what spot o may tokens t Memory goes = tt
+goes_behind c given limit word before after rest what spot o may is tokens t fault lies goes = by fault lies goes
+  where
+    front : List Token
+    front = o.front ++ token (Sign 7) spot ∷ tokens
+
+    -- no limit is given
+    unlimited : limit ≡ None → IsFreeBehind c given limit (front ++ t ∷ [])
+    unlimited free = subst (IsFreeBehind c given limit) (sym (append_assoc o.front (token (Sign 7) spot ∷ tokens) (t ∷ []))) (free_behind c given limit word before after rest what spot o may is free (tokens ++ t ∷ []))
+
+    -- nothing has begun behind the `:`
+    alone : tokens ≡ [] → IsFreeBehind c given limit front
+    alone none = subst (λ ts. IsFreeBehind c given limit (o.front ++ token (Sign 7) spot ∷ ts)) (sym none)
+        (is_free c given limit (o.front ++ token (Sign 7) spot ∷ []) (stays (o.made spot None) (o.behind_is spot None) o.front (token (Sign 7) spot) [] (o.tokens_are spot None) (token (Sign 7) spot)))
+
+    starts : tokens ≡ [] → StartsBehind c given pass front
+    starts none = subst (λ (ts : List Token). StartsBehind c given pass (o.front ++ token (Sign 7) spot ∷ ts)) (sym none) (starts_behind c given word before after what spot o may pass (pass_stands (inner_around word c.around)))
+
+    by : (fault : Fault) → ((h : Head) (more : List Token) → head_tokens h ≡ front ++ t ∷ more → IsDeepThere limit fault h) → GoesOnPlaced (inner_around word c.around) limit tokens t fault → GoesOnLine c given limit front t fault
+    by (TooDeep at) lies (inl b) = inl (
+      subst (λ (ts : List Token). DeepHead c given ts at) (sym (append_assoc o.front (token (Sign 7) spot ∷ tokens) (t ∷ []))) (deep_line c given word before after what spot o may (tokens ++ t ∷ []) at b.1),
+      (λ h more same. subst (λ (l : Option Limit). IsDeepThere l (TooDeep at) h) b.0 (lies h more same)),
+      unlimited b.0,
+    )
+    by (TooDeep at) lies (inr passed) = inr (passed.0, starts passed.1, passed.2, alone passed.1)
+    by (TooMany at) lies passed = (passed.0, starts passed.1, alone passed.1)
+    by (Unexpected left) lies free = unlimited free
+    by Memory lies goes = tt
 
 behind_shown : (c : Context) (given : List (List ℕ)) (limit : Option Limit) (word : ℕ) (before after rest : List Token) (what : What) (spot : Spot) → (o : Opening c word before what after) → word_may c word ≡ true → after ≡ token (Sign 7) spot ∷ rest → (fault : Fault)
-    → ShownBy (BeginsPlaced (inner_around word c.around)) (IsAheadPlaced (inner_around word c.around) limit) simple_tokens (λ fault a. IsAmissPlaced (inner_around word c.around) limit (Here fault) a) rest fault → ShownBy (BeginsHead c given) (IsAheadOnLine c given limit) head_tokens (λ fault a. IsAmissHead c given limit (Here fault) a) before fault
+    → ShownBy (BeginsThere (inner_around word c.around) limit) (IsAheadPlaced (inner_around word c.around) limit) simple_tokens (λ fault a. IsAmissPlaced (inner_around word c.around) limit (Here fault) a) rest fault → ShownBy (BeginsHead c given) (IsAheadOnLine c given limit) head_tokens (λ fault a. IsAmissHead c given limit (Here fault) a) before fault
 behind_shown c given limit word before after rest what spot o may is fault s = record {
   front = o.front ++ token (Sign 7) spot ∷ s.front;
   shown_by = s.shown_by;
   behind = s.behind;
   before_is = o.before_is ∙ ap (λ ts. o.front ++ ts) (is ∙ ap (λ ts. token (Sign 7) spot ∷ ts) s.before_is) ∙ sym (append_assoc o.front (token (Sign 7) spot ∷ s.front) (s.shown_by ∷ s.behind));
   left_is = s.left_is;
-  begun = begins_line c given word before after what spot o may s.front s.begun;
+  begun = begins_line c given word before after what spot o may s.front s.begun.1;
   goes_on = (
-    goes_behind c given limit word before after what spot o may s.front s.shown_by fault s.goes_on.0,
-    unread_behind (inner_around word c.around) o.front (token (Sign 7) spot) s.front s.shown_by fault o.past refl s.begun s.goes_on.1,
+    goes_behind c given limit word before after rest what spot o may is s.front s.shown_by fault (λ h more same. deep_there c given limit fault h (none_there h more same)) s.goes_on.0,
+    unread_behind (inner_around word c.around) o.front (token (Sign 7) spot) s.front s.shown_by fault o.past refl s.begun.1 s.goes_on.1,
   );
   none = λ h more same. none_there h more same;
 }
@@ -205,12 +219,17 @@ behind_shown c given limit word before after rest what spot o may is fault s = r
         subst (IsAmissHead c given limit (Here fault)) (sym m.is) (amiss_line c given limit word before after what spot o (Here fault) m.s (s.none m.s more m.tokens_are))
 
 behind_ended : (c : Context) (given : List (List ℕ)) (limit : Option Limit) (word : ℕ) (before after rest : List Token) (what : What) (spot : Spot) → (o : Opening c word before what after) → word_may c word ≡ true → after ≡ token (Sign 7) spot ∷ rest → (stop : Stop) → (rest ≡ [] → ⊥)
-    → EndedBy (BeginsPlaced (inner_around word c.around)) simple_tokens (IsAmissPlaced (inner_around word c.around) limit stop) rest → EndedBy (BeginsHead c given) head_tokens (IsAmissHead c given limit stop) before
+    → EndedBy (BeginsThere (inner_around word c.around) limit) simple_tokens (IsAmissPlaced (inner_around word c.around) limit stop) rest → EndedBy (EndsHead c given limit) head_tokens (IsAmissHead c given limit stop) before
 behind_ended c given limit word before after rest what spot o may is stop some e = record {
-  begun = subst (BeginsHead c given) (sym (o.before_is ∙ ap (λ ts. o.front ++ ts) is)) (begins_line c given word before after what spot o may rest e.begun);
+  begun = subst (EndsHead c given limit) (sym (o.before_is ∙ ap (λ ts. o.front ++ ts) is))
+      (begins_line c given word before after what spot o may rest e.begun.1, free_behind c given limit word before after rest what spot o may is (unlimited limit e.begun.0) rest);
   none = λ h same. none_there h same;
 }
   where
+    unlimited : (limit : Option Limit) → (is_some limit ≡ true → rest ≡ []) → limit ≡ None
+    unlimited None begun = refl
+    unlimited (Some l) begun = absurd (some (begun refl))
+
     none_there : (h : Head) → head_tokens h ≡ before → IsAmissHead c given limit stop h
     none_there h same =
         let m = made_with (o.made spot) rest h some (made_of c word before after rest what spot o is rest h (same ∙ o.before_is ∙ ap (λ ts. o.front ++ ts) is)) in

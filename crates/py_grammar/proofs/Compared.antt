@@ -20,7 +20,7 @@ use Rattle.py_grammar.specs.Lies.{begins, deeper_of, cmp_lies, sum_lies, sum_dee
 use Rattle.py_grammar.proofs.Lying.{above_left, sum_low, sum_above}
 use Rattle.py_grammar.proofs.Deepest.{deeper_same, sum_is_first}
 use Rattle.py_grammar.specs.Reader.{go_on, next_level, no_second, read_cmp_sign, read_cmp, cmp_rest, read_sum}
-use Rattle.py_grammar.specs.Parsed.{cmp_part, sum_part, one_cmp_sign, TakenCmp, Found, IsAtFirst, IsDeep, Only, Finds, Begins, Refused, IsTooDeep}
+use Rattle.py_grammar.specs.Parsed.{cmp_part, sum_part, one_cmp_sign, TakenCmp, Found, IsAtFirst, IsDeep, Only, Finds, Refused, IsTooDeep}
 use Rattle.py_grammar.proofs.Leading.{Reads}
 use Rattle.py_grammar.proofs.Reading.{if_true, sum_leads, sum_stops, cmp_level}
 use Rattle.py_grammar.proofs.Refusals.{first_of, Inside, only_any, only_if, only_is, finds_first, finds_step, finds_behind, finds_behind_now, first_alike, finds_now, finds_anything, finds_same, deep_left, deep_right, refused_inside, refused_same, begins_whole, node_within, fits_below, alone_elsewhere, first_full, full, over_both, fits_above, next_level_same, keyword_next_same}

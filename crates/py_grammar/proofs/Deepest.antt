@@ -8,7 +8,7 @@ use Rattle.py_grammar.specs.Concrete.{Expr, plain_expr, choice, Or, plain_or, or
 use Rattle.py_grammar.specs.Tokens.{keyword, sign, word, add_sign, mul_sign, cmp_tokens, expr_tokens, or_tokens, and_tokens, not_tokens, cmp_tokens_of, sum_tokens, term_tokens, unary_tokens, prim_tokens, index_tokens, bound_tokens, atom_tokens, exprs_tokens, rest_tokens, items_tokens, pairs_tokens}
 use Rattle.py_grammar.specs.Depth.{expr_depth, or_depth, and_depth, not_depth, cmp_depth, sum_depth, term_depth, unary_depth, prim_depth, index_depth, bound_depth, atom_depth, exprs_depth, rest_depth, items_depth, pairs_depth}
 use Rattle.py_grammar.specs.Lies.{is_place, begins, over, expr_lies, or_lies, and_lies, not_lies, cmp_lies, sum_lies, term_lies, unary_lies, prim_lies, index_lies, bound_lies, atom_lies, exprs_lies, rest_lies, items_lies, pairs_lies, deeper_of, expr_deepest, or_deepest, and_deepest, not_deepest, cmp_deepest, sum_deepest, term_deepest, unary_deepest, prim_deepest, index_deepest, bound_deepest, atom_deepest, exprs_deepest, rest_deepest, items_deepest, pairs_deepest, IsApart, IsFirst}
-use Rattle.py_grammar.proofs.Lying.{expr_low, or_low, and_low, sum_low, term_low, unary_low, not_low, prim_low, index_low, bound_low, exprs_low, rest_low, items_low, pairs_low, both_low, expr_above, or_above, and_above, not_above, sum_above, term_above, unary_above, prim_above, exprs_above, same_place, alone_here, over_is, is_here}
+use Rattle.py_grammar.proofs.Lying.{expr_low, or_low, and_low, sum_low, term_low, unary_low, not_low, prim_low, index_low, bound_low, rest_low, items_low, pairs_low, both_low, expr_above, or_above, and_above, not_above, sum_above, term_above, unary_above, prim_above, exprs_above, same_place, alone_here, over_is, is_here}
 
 -- ---- of two neighbours
 

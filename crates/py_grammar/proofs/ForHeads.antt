@@ -24,7 +24,7 @@ use Rattle.py_grammar.specs.LineReader.{Head, for_head, head_tokens, colon_token
 use Rattle.py_grammar.specs.Reader.{read_keyword, read_exprs}
 use Rattle.py_grammar.specs.Parsed.{IsDeep, Refused, FoundRow, Taken, one_keyword, exprs_part}
 use Rattle.py_grammar.specs.ParsedRows.{first_token, IsRead}
-use Rattle.py_grammar.specs.ParsedHead.{Took, target_part, Context, word_may, head_lies, behind_lies, IsAmissHead, BeginsHead, DeepHead, passed_tokens, BeginsTargets, FirstDeepTargets, GoesOnLine, UnreadTargets, UnreadLine, IsAheadOnLine, ShownBy, EndedBy, HeadRefused, OpeningFound, OpeningRefused}
+use Rattle.py_grammar.specs.ParsedHead.{Took, target_part, Context, word_may, head_lies, behind_lies, IsAmissHead, BeginsHead, DeepHead, passed_tokens, BeginsTargets, FirstDeepTargets, GoesOnLine, UnreadTargets, UnreadLine, IsAheadOnLine, ShownBy, EndedBy, HeadRefused, OpeningFound, OpeningRefused, EndsHead}
 use Rattle.py_grammar.specs.ParsedNames.{Followed, followed_tokens, GoesOnTargets, IsAheadOfTargets, TargetsRefused, TargetsEnd, TargetFound}
 use Rattle.py_grammar.proofs.Stops.{some_spot, spot_at}
 use Rattle.py_grammar.specs.Lies.{nowhere}
@@ -38,8 +38,9 @@ use Rattle.py_grammar.proofs.ClosedParts.{not_deep}
 use Rattle.py_grammar.proofs.LineFirsts.{same_behind, both_true}
 use Rattle.py_grammar.proofs.NoDel.{has_del, without, no_del_front, del_absent, no_del_one_target, no_del_sum}
 use Rattle.py_grammar.proofs.Unread.{PassesFor, unread_clear}
-use Rattle.py_grammar.proofs.HeadParts.{clear_before, FindsHead, HeadTurns, finds_written, begins_part_head, refused_part_head, turns_on, ColonReads, colon_on, row_is_read}
+use Rattle.py_grammar.proofs.HeadParts.{clear_before, FindsHead, HeadTurns, finds_written, begins_part_head, refused_part_head, turns_on, ColonReads, colon_on, row_is_read, is_free}
 use Rattle.py_grammar.proofs.NameHeads.{only_then, only_colon}
+use Rattle.py_grammar.proofs.BehindColon.{StaysAhead, stays_front, for_stays}
 
 abbrev for_target_of : Spot → ℕ → Target → List Token → Option Head
 for_target_of spot n t more = then_read (read_keyword 22 more) (λ in_word more_2. then_read (read_exprs n more_2) (λ e rest. read_colon n (for_head spot t in_word e) rest))
@@ -96,6 +97,13 @@ for_there spot h more is =
     behind_it : (a b : Token) (x y : List Token) → a ∷ x ≡ b ∷ y → x ≡ y
     behind_it a b x y is = cc
 
+for_lies : (why : Stop) (lies : Pos → ℕ) (h : Head) → IsDeep why 100 lies → ((at : Pos) → lies at ≤ head_lies h at) → IsDeep why 100 (head_lies h)
+for_lies (Here (TooDeep at)) lies h deep higher = let high = higher at in omega (arith, deep, high)
+for_lies (Here (Unexpected at)) lies h deep higher = absurd deep
+for_lies (Here (TooMany at)) lies h deep higher = absurd deep
+for_lies (Here Memory) lies h deep higher = absurd deep
+for_lies End lies h deep higher = absurd deep
+
 for_amiss : (c : Context) (given : List (List ℕ)) (limit : Option Limit) (why : Stop) (lies : Pos → ℕ) (h : Head) → IsDeep why 100 lies → ((at : Pos) → lies at ≤ head_lies h at) → IsAmissHead c given limit why h
 for_amiss c given limit (Here (TooDeep at)) lies h deep higher = inl (let high = higher at in omega (arith, deep, high))
 for_amiss c given limit (Here (Unexpected at)) lies h deep higher = absurd deep
@@ -109,11 +117,16 @@ for_begins c given spot ts may b = inr (inr (record { may = may; spot = spot; in
 for_deep : (c : Context) (given : List (List ℕ)) (spot : Spot) (ts : List Token) (place : Pos) → word_may c 17 ≡ true → FirstDeepTargets 100 ts place → DeepHead c given (token (Keyword 17) spot ∷ ts) place
 for_deep c given spot ts place may b = inr (inr (record { may = may; spot = spot; inside = ts; begins = b; front_is = refl }))
 
-goes_for : (c : Context) (given : List (List ℕ)) (limit : Option Limit) (spot : Spot) (tokens : List Token) (t : Token) (fault : Fault) → word_may c 17 ≡ true → GoesOnTargets 100 tokens t fault → GoesOnLine c given limit (token (Keyword 17) spot ∷ tokens) t fault
-goes_for c given limit spot tokens t (TooDeep at) may b = inl (for_deep c given spot (tokens ++ t ∷ []) at may b)
-goes_for c given limit spot tokens t (TooMany at) may goes = absurd goes
-goes_for c given limit spot tokens t (Unexpected left) may goes = tt
-goes_for c given limit spot tokens t Memory may goes = tt
+goes_for : (c : Context) (given : List (List ℕ)) (limit : Option Limit) (spot : Spot) (tokens : List Token) (t : Token) (fault : Fault) → word_may c 17 ≡ true → StaysAhead ((token (Keyword 17) spot ∷ tokens) ++ t ∷ []) → ((h : Head) (more : List Token) → head_tokens h ≡ (token (Keyword 17) spot ∷ tokens) ++ t ∷ more → IsDeep (Here fault) 100 (head_lies h))
+    → GoesOnTargets 100 tokens t fault → GoesOnLine c given limit (token (Keyword 17) spot ∷ tokens) t fault
+goes_for c given limit spot tokens t (TooDeep at) may ahead lies b = inl (for_deep c given spot (tokens ++ t ∷ []) at may b, lies, is_free c given limit ((token (Keyword 17) spot ∷ tokens) ++ t ∷ []) ahead)
+goes_for c given limit spot tokens t (TooMany at) may ahead lies goes = absurd goes
+goes_for c given limit spot tokens t (Unexpected left) may ahead lies goes = is_free c given limit ((token (Keyword 17) spot ∷ tokens) ++ t ∷ []) ahead
+goes_for c given limit spot tokens t Memory may ahead lies goes = tt
+
+-- nothing stands behind a `:` yet
+for_ahead : (spot : Spot) (tokens : List Token) (t : Token) → BeginsTargets 100 tokens → StaysAhead ((token (Keyword 17) spot ∷ tokens) ++ t ∷ [])
+for_ahead spot tokens t b = let k = b nowhere in for_stays spot tokens k.passed k.some k.more k.tokens_are t
 
 -- no `del` stands in targets
 no_del_passed : (passed : List (OneTarget × Spot)) → has_del (passed_tokens passed) ≡ false
@@ -156,15 +169,20 @@ module _ (c : Context) (given : List (List ℕ)) (limit : Option Limit) (spot : 
     before_is = ap (λ ts. token (Keyword 17) spot ∷ ts) s.before_is;
     left_is = s.left_is;
     begun = for_begins c given spot s.front may s.begun;
-    goes_on = (goes_for c given limit spot s.front s.shown_by fault may s.goes_on.0, unread_for spot s.front s.shown_by fault s.begun s.goes_on.1);
+    goes_on = (
+      goes_for c given limit spot s.front s.shown_by fault may (for_ahead spot s.front s.shown_by s.begun) (λ h more is.
+          let f = for_there spot h (s.front ++ s.shown_by ∷ more) is in
+          for_lies (Here fault) (target_lies f.part.part) h (s.none f.part more f.tokens_are) f.higher) s.goes_on.0,
+      unread_for spot s.front s.shown_by fault s.begun s.goes_on.1,
+    );
     none = λ h more is.
         let f = for_there spot h (s.front ++ s.shown_by ∷ more) is in
         for_amiss c given limit (Here fault) (target_lies f.part.part) h (s.none f.part more f.tokens_are) f.higher;
   }
 
-  ended_for : (stop : Stop) → EndedBy (BeginsTargets 100) (followed_tokens target_part) (λ w. IsDeep stop 100 (target_lies w.part)) before → EndedBy (BeginsHead c given) head_tokens (IsAmissHead c given limit stop) (token (Keyword 17) spot ∷ before)
+  ended_for : (stop : Stop) → EndedBy (BeginsTargets 100) (followed_tokens target_part) (λ w. IsDeep stop 100 (target_lies w.part)) before → EndedBy (EndsHead c given limit) head_tokens (IsAmissHead c given limit stop) (token (Keyword 17) spot ∷ before)
   ended_for stop e = record {
-    begun = for_begins c given spot before may e.begun;
+    begun = (for_begins c given spot before may e.begun, is_free c given limit (token (Keyword 17) spot ∷ before) (stays_front (token (Keyword 17) spot ∷ before) (token (Sign 7) some_spot ∷ []) (for_ahead spot before (token (Sign 7) some_spot) e.begun)));
     none = λ h is. let f = for_there spot h before is in for_amiss c given limit stop (target_lies f.part.part) h (e.none f.part f.tokens_are) f.higher;
   }
 
@@ -197,7 +215,7 @@ for_in_refused c tree before middle stop found is = record {
       refused_part_head c given limit (one_keyword 22) 0 (token (Keyword 17) spot ∷ target_tokens t.written) middle (token (Keyword 17) spot ∷ before) stop (λ n. for_in spot t.written (n + t.is_read.steps))
       (ap (λ ts. token (Keyword 17) spot ∷ ts) t.before_is)
       (begins_part_head c given (one_keyword 22) 0 (token (Keyword 17) spot ∷ target_tokens t.written) (λ at b. for_head spot t.written b (some_exprs at) (spot_at at) None) (λ at b. exprs_tokens (some_exprs at) ++ colon_tokens (spot_at at) None)
-      (λ at b. both_true _ true may refl) (λ at b. refl) (λ at b. refl) (λ at b. refl)
+      (λ at b. both_true _ true may refl) (λ at b. refl) (λ at b. refl) (λ at b is. cc) (λ at b. refl)
       (λ at other apart b any. let alone = alone_exprs at other apart in let low = target_low t.written other in let fits = t.fits in omega (arith, alone, low, fits)) (λ at place b deep. absurd (none_deeper 0 deep)))
       (passes_target spot (target_tokens t.written) middle found.ends) (in_turns spot t) (λ why n b left deep. absurd (not_deep why deep)) is;
 }
@@ -221,7 +239,7 @@ for_items_refused c tree before middle behind at stop found k is = record {
       refused_part_head c given limit exprs_part 100 ((token (Keyword 17) spot ∷ target_tokens t.written) ++ token (Keyword 22) k.spot ∷ []) behind (token (Keyword 17) spot ∷ before) stop
       (λ n. for_exprs spot t.written k.spot ((n + 0) + t.is_read.steps)) (for_before spot t k)
       (begins_part_head c given exprs_part 100 ((token (Keyword 17) spot ∷ target_tokens t.written) ++ token (Keyword 22) k.spot ∷ []) (λ at e. for_head spot t.written k.spot e (spot_at at) None) (λ at e. colon_tokens (spot_at at) None)
-      (λ at e. both_true _ true may refl) (λ at e. refl) (λ at e. refl)
+      (λ at e. both_true _ true may refl) (λ at e. refl) (λ at e. refl) (λ at e is. cc)
       (λ at e. sym (append_assoc (token (Keyword 17) spot ∷ target_tokens t.written) (token (Keyword 22) k.spot ∷ []) (exprs_tokens e ++ colon_tokens (spot_at at) None)))
       (λ at other apart e inner. let low = target_low t.written other in let fits = t.fits in omega (arith, inner, low, fits))
       (λ at place e deep. let one = le-max_right (target_lies t.written place) (exprs_lies e place) in let high = le-max_left (max (target_lies t.written place) (exprs_lies e place)) 0 in omega (arith, deep, one, high)))

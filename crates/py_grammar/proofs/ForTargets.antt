@@ -333,7 +333,7 @@ full_deep t comma place is depth_is =
           let there : one_target_lies t place ≡ one_target_depth t = ap (one_target_lies t) is ∙ first.lies_is in
           full_high (one_target_lies t place) (sum_lies (target_sum (some_there place)) place) (one_target_depth t) there depth_is;
       within = λ other apart.
-          let less = first.less other (apart_front other (first.named ∷ first.later) (token (Sign 6) comma ∷ []) (apart_front other (first.named ∷ (first.later ++ token (Sign 6) comma ∷ [])) (sum_tokens (target_sum (some_there place))) apart)) in
+          let less = first.less other (apart_front other (first.named ∷ first.later) (token (Sign 6) comma ∷ []) apart) in
           let none : sum_lies (target_sum (some_there place)) other ≡ 0 = alone_elsewhere place other (apart_there first.named.at other place apart.0 (first.named_is ∙ sym is)) in
           full_low (one_target_lies t other) (sum_lies (target_sum (some_there place)) other) (one_target_depth t) less none depth_is;
     }

@@ -18,17 +18,18 @@ use Rattle.py_grammar.specs.LineReader.{Head, colon_tokens, head_tokens, then_re
 use Rattle.py_grammar.specs.Reader.{Read, next_level, starts, is_keyword, is_sign}
 use Rattle.py_grammar.specs.Parsed.{Production, ShowsAt, IsDeep, Only, Finds, Begins, BeginsWithin, IsFirstDeep, GoesDeep, Shown, Refused, Found, FoundRow, one_keyword, one_sign, one_name, expr_part, exprs_part}
 use Rattle.py_grammar.specs.ParsedRows.{first_token, IsRead}
-use Rattle.py_grammar.specs.ParsedHead.{Context, head_stands, head_depth, head_lies, behind_in, IsPast, IsAmissHead, ShowsOnLine, BeginsHead, DeepHead, GoesOnLine, IsAheadOnLine, ShownBy, EndedBy, HeadRefused}
+use Rattle.py_grammar.specs.ParsedHead.{Context, head_stands, head_depth, head_lies, behind_in, IsPast, IsAmissHead, ShowsOnLine, BeginsHead, DeepHead, IsFreeBehind, GoesOnLine, IsAheadOnLine, ShownBy, EndedBy, EndsHead, HeadRefused}
 use Rattle.py_grammar.proofs.Reading.{expr_reads}
 use Rattle.py_grammar.proofs.RowReads.{row_reads}
 use Rattle.py_grammar.proofs.Refusals.{begins_so, first_of, next_level_same}
-use Rattle.py_grammar.specs.Lies.{nowhere, IsApart}
-use Rattle.py_grammar.proofs.Deepest.{apart_front, apart_there}
+use Rattle.py_grammar.specs.Lies.{nowhere}
+use Rattle.py_grammar.proofs.Deepest.{apart_there}
 use Rattle.py_grammar.proofs.LyingLines.{head_low}
 use Rattle.py_grammar.proofs.HeadReading.{head_reads}
-use Rattle.py_grammar.proofs.Stops.{shows_on_line}
+use Rattle.py_grammar.proofs.Stops.{shows_on_line, some_spot}
 use Rattle.py_grammar.proofs.NoDel.{has_del, no_del_front, del_absent, is_simple_head, no_del_head}
 use Rattle.py_grammar.proofs.Unread.{PassesFor, other_word, unread_clear}
+use Rattle.py_grammar.proofs.BehindColon.{StaysAhead, stays, stays_front}
 
 -- ---- what the reader gives
 
@@ -219,10 +220,12 @@ spelled_part q front h tail b spells tokens more is = spells ∙ ap (λ ts. fron
     regroup : (w x y z : List Token) → w ++ ((x ++ y) ++ z) ≡ (w ++ x) ++ (y ++ z)
     regroup w x y z = ap (λ ts. w ++ ts) (append_assoc x y z) ∙ sym (append_assoc w x (y ++ z))
 
--- A line that may stand there begins so, and no `del` stands in it. Nothing that has begun lies too deep.
+-- A line that may stand there begins so, and no `del` stands in it. Nothing that has begun lies too deep, nor anything behind a `:`, whatever
+-- comes next.
 pub record BeginsOpening (c : Context) (given : List (List ℕ)) (front : List Token) : Type 0 where
   pub begun : BeginsHead c given front
   pub clear : has_del front ≡ false
+  pub ahead : (t : Token) → StaysAhead (front ++ t ∷ [])
 
 -- A part begins behind these tokens, and so does a line, in which no `del` stands: within the room where the part does, and what lies too
 -- deep first in the part does so in the line.
@@ -230,26 +233,35 @@ pub record CarriesHead {B : Type 0} (c : Context) (given : List (List ℕ)) (q :
   pub within : (tokens : List Token) → BeginsWithin q inner tokens → BeginsHead c given (front ++ tokens)
   pub first : (tokens : List Token) (place : Pos) → IsFirstDeep q inner tokens place → DeepHead c given (front ++ tokens) place
   pub clear : (tokens : List Token) → Begins q tokens → has_del (front ++ tokens) ≡ false
+  pub ahead : (tokens : List Token) (t : Token) → Begins q tokens → (why : Stop) → ((more : List Token) → Finds (λ b. IsDeep why inner (q.lies b)) q.read (tokens ++ t ∷ more)) → StaysAhead ((front ++ tokens) ++ t ∷ [])
+  pub ended : (tokens : List Token) → Begins q tokens → Finds (λ b. ⊥) q.read tokens → StaysAhead (front ++ tokens)
 
 -- what begins a compound statement, a part of one or a `global` line, with nothing behind its `:`
 pub clear_before : (h : Head) (front more : List Token) → is_simple_head h ≡ false → behind_in h ≡ None → head_tokens h ≡ front ++ more → has_del front ≡ false
 clear_before h front more compound empty is = no_del_front front more (subst (λ (ts : List Token). has_del ts ≡ false) is (no_del_head h compound empty))
 
+-- nothing stands behind the `:` yet, where a line with nothing behind it goes on with something
+pub stays_before : (h : Head) (front more tail : List Token) → behind_in h ≡ None → (tail ≡ [] → ⊥) → head_tokens h ≡ front ++ (more ++ tail) → (t : Token) → StaysAhead (front ++ t ∷ [])
+stays_before h front [] [] empty some is t = absurd (some refl)
+stays_before h front [] (u ∷ us) empty some is t = stays h empty front u us is t
+stays_before h front (m ∷ ms) tail empty some is t = stays h empty front m (ms ++ tail) is t
+
 pub begins_opening : {B : Type 0} (c : Context) (given : List (List ℕ)) (q : Production B) (front : List Token) (h : B → Head) (tail : B → List Token) (b : B) → head_stands c given (h b) ≡ true → is_simple_head (h b) ≡ false → behind_in (h b) ≡ None
-    → head_tokens (h b) ≡ front ++ (q.tokens b ++ tail b) → head_depth (h b) ≤ 100 → (tokens more : List Token) → q.tokens b ≡ tokens ++ more → BeginsOpening c given (front ++ tokens)
-begins_opening c given q front h tail b stands compound empty spells fits tokens more same =
+    → (tail b ≡ [] → ⊥) → head_tokens (h b) ≡ front ++ (q.tokens b ++ tail b) → head_depth (h b) ≤ 100 → (tokens more : List Token) → q.tokens b ≡ tokens ++ more → BeginsOpening c given (front ++ tokens)
+begins_opening c given q front h tail b stands compound empty some spells fits tokens more same =
     let is = spelled_part q front h tail b spells tokens more same in
     record {
       begun = spelled_head c given (λ at. h b) (front ++ tokens) (λ at. more ++ tail b) (λ at. stands) (λ at. is) (λ at other apart. head_within (h b) fits other);
       clear = clear_before (h b) (front ++ tokens) (more ++ tail b) compound empty is;
+      ahead = stays_before (h b) (front ++ tokens) more (tail b) empty some is;
     }
 
 -- what is put behind the part stands at the chosen place
 pub begins_part_head : {B : Type 0} (c : Context) (given : List (List ℕ)) (q : Production B) (inner : ℕ) (front : List Token) (h : Pos → B → Head) (tail : Pos → B → List Token) → ((at : Pos) (b : B) → head_stands c given (h at b) ≡ true)
-    → ((at : Pos) (b : B) → is_simple_head (h at b) ≡ false) → ((at : Pos) (b : B) → behind_in (h at b) ≡ None) → ((at : Pos) (b : B) → head_tokens (h at b) ≡ front ++ (q.tokens b ++ tail at b))
+    → ((at : Pos) (b : B) → is_simple_head (h at b) ≡ false) → ((at : Pos) (b : B) → behind_in (h at b) ≡ None) → ((at : Pos) (b : B) → tail at b ≡ [] → ⊥) → ((at : Pos) (b : B) → head_tokens (h at b) ≡ front ++ (q.tokens b ++ tail at b))
     → ((at other : Pos) → (other ≡ at → ⊥) → (b : B) → q.lies b other ≤ inner → head_lies (h at b) other ≤ 100)
     → ((at place : Pos) (b : B) → inner < q.lies b place → 100 < head_lies (h at b) place) → CarriesHead c given q inner front
-begins_part_head c given q inner front h tail stands compound empty spells low high = record {
+begins_part_head c given q inner front h tail stands compound empty some spells low high = record {
   within = λ tokens b. inl (λ at. let k = b at in record {
     some = h at k.some;
     is_so = stands at k.some;
@@ -268,13 +280,18 @@ begins_part_head c given q inner front h tail stands compound empty spells low h
     front_is = ap (λ ts. front ++ ts) f.front_is ∙ sym (append_assoc front f.ahead (f.named ∷ f.between));
     named_is = f.named_is;
     deep = high place place f.some f.deep;
-    within = λ other apart. low place other (apart_there f.named.at other place apart.0 f.named_is) f.some
-        (f.within other (apart.0, apart_front other (f.between ++ f.more) (tail place f.some) (subst (IsApart other) (sym (append_assoc f.between f.more (tail place f.some))) apart.1)));
+    within = λ other apart. low place other (apart_there f.named.at other place apart.0 f.named_is) f.some (f.within other apart);
   });
   clear = λ tokens b.
       clear_before (h nowhere b.some) (front ++ tokens) (b.more ++ tail nowhere b.some) (compound nowhere b.some) (empty nowhere b.some)
       (spelled_part q front (h nowhere) (tail nowhere) b.some (spells nowhere b.some) tokens b.more b.tokens_are);
+  ahead = λ tokens t b why none. there tokens b t;
+  ended = λ tokens b none. stays_front (front ++ tokens) (token (Sign 7) some_spot ∷ []) (there tokens b (token (Sign 7) some_spot));
 }
+  where
+    there : (tokens : List Token) → Begins q tokens → (t : Token) → StaysAhead ((front ++ tokens) ++ t ∷ [])
+    there tokens b = stays_before (h nowhere b.some) (front ++ tokens) b.more (tail nowhere b.some) (empty nowhere b.some) (some nowhere b.some)
+        (spelled_part q front (h nowhere) (tail nowhere) b.some (spells nowhere b.some) tokens b.more b.tokens_are)
 
 -- what begins so up to its `:`, with another keyword than `for`
 pub past_opening : (word : ℕ) (spot : Spot) (tokens : List Token) (h : Head) (colon : Spot) → is_keyword 17 (Keyword word) ≡ false → is_simple_head h ≡ false → behind_in h ≡ None → head_tokens h ≡ (token (Keyword word) spot ∷ tokens) ++ colon_tokens colon None
@@ -307,18 +324,24 @@ shown_head c given limit front t behind before fault is named begun goes finds =
   none = λ h more same. finds_written _ (front ++ t ∷ more) h (finds more) same;
 }
 
-pub ended_line : (c : Context) (given : List (List ℕ)) (limit : Option Limit) (tokens before : List Token) (stop : Stop) → before ≡ tokens → BeginsHead c given tokens → FindsHead (IsAmissHead c given limit stop) tokens
-    → EndedBy (BeginsHead c given) head_tokens (IsAmissHead c given limit stop) before
-ended_line c given limit tokens before stop is begun finds = subst (λ (ts : List Token). EndedBy (BeginsHead c given) head_tokens (IsAmissHead c given limit stop) ts) (sym is)
-    (record { begun = begun; none = λ h same. finds_written _ tokens h finds same })
+-- where nothing stands behind a `:`, no limit is passed there
+pub is_free : (c : Context) (given : List (List ℕ)) (limit : Option Limit) (tokens : List Token) → StaysAhead tokens → IsFreeBehind c given limit tokens
+is_free c given limit tokens ahead opened t rest is some h at same = absurd (ahead opened t rest is some h at same)
+
+pub ended_line : (c : Context) (given : List (List ℕ)) (limit : Option Limit) (tokens before : List Token) (stop : Stop) → before ≡ tokens → BeginsHead c given tokens → StaysAhead tokens → FindsHead (IsAmissHead c given limit stop) tokens
+    → EndedBy (EndsHead c given limit) head_tokens (IsAmissHead c given limit stop) before
+ended_line c given limit tokens before stop is begun ahead finds = subst (λ (ts : List Token). EndedBy (EndsHead c given limit) head_tokens (IsAmissHead c given limit stop) ts) (sym is)
+    (record { begun = (begun, is_free c given limit tokens ahead); none = λ h same. finds_written _ tokens h finds same })
 
 -- a part goes on with this token, and so does the line
 goes_on_line : {B : Type 0} (c : Context) (given : List (List ℕ)) (limit : Option Limit) (q : Production B) (inner : ℕ) (front tokens : List Token) (t : Token) (behind : List Token) (fault : Fault)
-    → ((ts : List Token) (place : Pos) → IsFirstDeep q inner ts place → DeepHead c given (front ++ ts) place) → ShowsAt behind fault → GoesDeep q inner tokens t fault → GoesOnLine c given limit (front ++ tokens) t fault
-goes_on_line c given limit q inner front tokens t behind (Unexpected left) first shows goes = tt
-goes_on_line c given limit q inner front tokens t behind (TooDeep at) first shows goes = inl (subst (λ (ts : List Token). DeepHead c given ts at) (sym (append_assoc front tokens (t ∷ []))) (first (tokens ++ t ∷ []) at goes))
-goes_on_line c given limit q inner front tokens t behind (TooMany at) first shows goes = absurd shows
-goes_on_line c given limit q inner front tokens t behind Memory first shows goes = absurd shows
+    → ((ts : List Token) (place : Pos) → IsFirstDeep q inner ts place → DeepHead c given (front ++ ts) place) → StaysAhead ((front ++ tokens) ++ t ∷ []) → ((h : Head) (more : List Token) → head_tokens h ≡ (front ++ tokens) ++ t ∷ more → IsDeep (Here fault) 100 (head_lies h))
+    → ShowsAt behind fault → GoesDeep q inner tokens t fault → GoesOnLine c given limit (front ++ tokens) t fault
+goes_on_line c given limit q inner front tokens t behind (Unexpected left) first ahead lies shows goes = is_free c given limit ((front ++ tokens) ++ t ∷ []) ahead
+goes_on_line c given limit q inner front tokens t behind (TooDeep at) first ahead lies shows goes =
+    inl (subst (λ (ts : List Token). DeepHead c given ts at) (sym (append_assoc front tokens (t ∷ []))) (first (tokens ++ t ∷ []) at goes), lies, is_free c given limit ((front ++ tokens) ++ t ∷ []) ahead)
+goes_on_line c given limit q inner front tokens t behind (TooMany at) first ahead lies shows goes = absurd shows
+goes_on_line c given limit q inner front tokens t behind Memory first ahead lies shows goes = absurd shows
 
 -- of what goes on so, where no `del` stands and nothing goes on behind a `for`
 pub ahead_of_part : (c : Context) (given : List (List ℕ)) (limit : Option Limit) (front rest tokens : List Token) (t : Token) (behind : List Token) (fault : Fault) → PassesFor front rest → first_token (tokens ++ t ∷ behind) ≡ first_token rest
@@ -336,9 +359,13 @@ shown_there : {B : Type 0} (c : Context) (given : List (List ℕ)) (limit : Opti
 shown_there c given limit q inner front rest before fault is part s = shown_head c given limit (front ++ s.front) s.shown_by s.behind before fault
     (is ∙ ap (λ ts. front ++ ts) s.before_is ∙ sym (append_assoc front s.front (s.shown_by ∷ s.behind))) (shows_on_line s.shown_by s.behind fault s.left_is) (part.begins.within s.front s.begins)
     (ahead_of_part c given limit front rest s.front s.shown_by s.behind fault part.other (sym (ap first_token s.before_is)) (part.begins.clear s.front (begins_so q inner s.front s.begins))
-    (goes_on_line c given limit q inner front s.front s.shown_by s.behind fault part.begins.first s.left_is s.goes_on))
-    (λ more. finds_head_same _ _ _ (append_assoc front s.front (s.shown_by ∷ more))
-    (finds_head_weaker _ _ _ (amiss_deep c given limit (Here fault)) (part.finds (Here fault) (s.front ++ s.shown_by ∷ more) (first_shown s.front s.shown_by more s.behind ∙ sym (ap first_token s.before_is)) (s.none more))))
+    (goes_on_line c given limit q inner front s.front s.shown_by s.behind fault part.begins.first (part.begins.ahead s.front s.shown_by (begins_so q inner s.front s.begins) (Here fault) s.none)
+    (λ h more same. finds_written _ ((front ++ s.front) ++ s.shown_by ∷ more) h (lies more) same) s.left_is s.goes_on))
+    (λ more. finds_head_weaker _ _ _ (amiss_deep c given limit (Here fault)) (lies more))
+  where
+    lies : (more : List Token) → FindsHead (λ h. IsDeep (Here fault) 100 (head_lies h)) ((front ++ s.front) ++ s.shown_by ∷ more)
+    lies more = finds_head_same _ _ _ (append_assoc front s.front (s.shown_by ∷ more))
+        (part.finds (Here fault) (s.front ++ s.shown_by ∷ more) (first_shown s.front s.shown_by more s.behind ∙ sym (ap first_token s.before_is)) (s.none more))
 
 refused_there : {B : Type 0} (c : Context) (given : List (List ℕ)) (limit : Option Limit) (q : Production B) (inner : ℕ) (front rest before : List Token) (stop : Stop) → before ≡ front ++ rest → StandsThere c given q inner front rest → Refused q inner rest stop → HeadRefused c given limit before stop
 refused_there c given limit q inner front rest before (Here Memory) is part refused = tt
@@ -346,7 +373,7 @@ refused_there c given limit q inner front rest before (Here (Unexpected at)) is 
 refused_there c given limit q inner front rest before (Here (TooDeep at)) is part refused = shown_there c given limit q inner front rest before (TooDeep at) is part refused
 refused_there c given limit q inner front rest before (Here (TooMany at)) is part refused = absurd refused.left_is
 refused_there c given limit q inner front rest before End is part refused =
-    ended_line c given limit (front ++ rest) before End is (part.begins.within rest refused.0) (finds_head_weaker _ _ _ (amiss_deep c given limit End) (part.finds End rest refl refused.1))
+    ended_line c given limit (front ++ rest) before End is (part.begins.within rest refused.0) (part.begins.ended rest (begins_so q inner rest refused.0) refused.1) (finds_head_weaker _ _ _ (amiss_deep c given limit End) (part.finds End rest refl refused.1))
 
 -- a part is refused behind these tokens
 pub refused_part_head : {B : Type 0} (c : Context) (given : List (List ℕ)) (limit : Option Limit) (q : Production B) (inner : ℕ) (front rest before : List Token) (stop : Stop) (g : ℕ → B → List Token → Option Head) → before ≡ front ++ rest

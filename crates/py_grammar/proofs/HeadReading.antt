@@ -191,7 +191,7 @@ pub record ReadsParams (tokens : List Token) (value : Params) : Type 0 where
   pub steps : ℕ
   pub reads : (n : ℕ) (closing : Spot) (rest : List Token) → read_params (n + steps) (tokens ++ (token (Sign 1) closing ∷ rest)) ≡ Some (value, token (Sign 1) closing ∷ rest)
 
-params_reads : (given : Params) → ReadsParams (params_tokens given) given
+pub params_reads : (given : Params) → ReadsParams (params_tokens given) given
 params_reads no_params = record { steps = 0; reads = λ n closing rest. refl }
 params_reads (params names) = let is = names_reads names in record {
   steps = is.steps;
@@ -207,15 +207,15 @@ params_reads (params_comma names comma) = let is = names_reads names in record {
       ∙ ap (λ r. go_on r params_after) (is.reads n (token (Sign 6) comma ∷ token (Sign 1) closing ∷ rest) refl);
 }
 
-naming_reads : (called : Naming) (colon : Spot) (rest : List Token) → read_naming (naming_tokens called ++ (token (Sign 7) colon ∷ rest)) ≡ Some (called, token (Sign 7) colon ∷ rest)
+pub naming_reads : (called : Naming) (colon : Spot) (rest : List Token) → read_naming (naming_tokens called ++ (token (Sign 7) colon ∷ rest)) ≡ Some (called, token (Sign 7) colon ∷ rest)
 naming_reads no_naming colon rest = refl
 naming_reads (naming as_word name_at bytes) colon rest = refl
 
-naming_level : (called : Naming) (colon : Spot) (rest : List Token) → next_level (naming_tokens called ++ (token (Sign 7) colon ∷ rest)) ≡ 9
+pub naming_level : (called : Naming) (colon : Spot) (rest : List Token) → next_level (naming_tokens called ++ (token (Sign 7) colon ∷ rest)) ≡ 9
 naming_level no_naming colon rest = refl
 naming_level (naming as_word name_at bytes) colon rest = refl
 
-base_reads : (of : Base) (colon : Spot) (rest : List Token) → read_base (base_tokens of ++ (token (Sign 7) colon ∷ rest)) ≡ Some (of, token (Sign 7) colon ∷ rest)
+pub base_reads : (of : Base) (colon : Spot) (rest : List Token) → read_base (base_tokens of ++ (token (Sign 7) colon ∷ rest)) ≡ Some (of, token (Sign 7) colon ∷ rest)
 base_reads no_base colon rest = refl
 base_reads (empty_base opening closing) colon rest = refl
 base_reads (base opening name_at bytes closing) colon rest = refl
@@ -231,7 +231,7 @@ begins_true c above = by (nat_lt 0 c) refl
     by true is = refl
     by false is = absurd (omega (arith, above, leb-false 1 c is))
 
-kind_reads : (kind : Kind) → ReadsKind (kind_tokens kind) kind
+pub kind_reads : (kind : Kind) → ReadsKind (kind_tokens kind) kind
 kind_reads every_kind = record { steps = 0; reads = λ n colon rest. refl }
 kind_reads (one_kind e called) = let is = expr_reads e in record {
   steps = is.steps;

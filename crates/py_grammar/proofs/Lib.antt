@@ -2,6 +2,7 @@ pub mod AmissParts
 pub mod AtomParts
 pub mod AugForms
 pub mod AugRefusals
+pub mod BehindColon
 pub mod BracketParts
 pub mod Chains
 pub mod Choices

@@ -1,5 +1,6 @@
 -- The lines that have no `:` or nothing before it, and the tokens with which none may begin.
-use Rattle.std.proofs.Common.{◌≡◌, inl, inr, ℕ, Bool, true, false, not, List, [], ◌∷◌, ◌++◌, length, Option, None, refl, ap, sym, ◌∙◌, arith, subst, Some}
+use Rattle.std.proofs.Common.{◌≡◌, inl, inr, ℕ, Bool, true, false, not, List, [], ◌∷◌, ◌++◌, length, Option, None, refl, ap, sym, ◌∙◌, arith, subst, Some, ◌<◌}
+use Rattle.std.specs.Bool.{⊤}
 use Rattle.std.proofs.Math.Nat.{le-max_right}
 use Rattle.prov_base.specs.declared.place.Pos.{Pos}
 use Rattle.py_lines.specs.declared.parts.Token.{Token}
@@ -24,14 +25,15 @@ use Rattle.py_grammar.specs.WellPlaced.{Around, simple_stands}
 use Rattle.py_grammar.specs.LineReader.{Head, simple_head, else_head, try_head, except_head, global_head, head_tokens}
 use Rattle.py_grammar.specs.Lies.{simple_lies}
 use Rattle.py_grammar.specs.Parsed.{IsAtFirst, Taken, Refused, one_sign}
-use Rattle.py_grammar.specs.ParsedHead.{Context, lacks_handler, takes_handler, BeginsPlaced, DeepPlaced, kind_may, may_begin, is_compound_kind, begins_compound, PlacedFound, HeadFound, OpeningFound, OpeningRefused, BehindFound, BehindRefused, inner_around, is_compound, IsAmissPlaced, IsAmissHead, BeginsHead, DeepHead, GoesOnPlaced, IsAheadPlaced, GoesOnLine, IsAheadOnLine, ShownBy, EndedBy, PlacedRefused, HeadRefused, IsFirstRefused, GlobalFound, GlobalRefused, word_may, Misplaced}
+use Rattle.py_grammar.specs.ParsedHead.{Context, lacks_handler, takes_handler, BeginsPlaced, DeepPlaced, kind_may, may_begin, is_compound_kind, begins_compound, PlacedFound, HeadFound, OpeningFound, OpeningRefused, BehindFound, BehindRefused, inner_around, is_compound, IsAmissPlaced, IsAmissHead, BeginsHead, DeepHead, GoesOnPlaced, IsAheadPlaced, GoesOnLine, IsAheadOnLine, ShownBy, EndedBy, PlacedRefused, HeadRefused, IsFirstRefused, GlobalFound, GlobalRefused, word_may, Misplaced, IsFreeBehind, EndsHead, head_lies, BeginsThere}
 use Rattle.py_grammar.proofs.Stops.{some_spot, spot_at}
-use Rattle.py_grammar.proofs.HeadParts.{spelled_head, past_opening}
+use Rattle.py_grammar.proofs.HeadParts.{spelled_head, past_opening, is_free}
 use Rattle.py_grammar.proofs.Unread.{unread_at_first, unread_simple}
-use Rattle.py_grammar.proofs.ColonParts.{shown_some, colon_refused, behind_refused, line_found}
+use Rattle.py_grammar.proofs.ColonParts.{colon_refused, behind_refused, line_found}
 use Rattle.py_grammar.proofs.PlacedParts.{none_there, pass_stands, del_stands}
 use Rattle.py_grammar.proofs.LineFirsts.{and_false, both_true, not_nothing, simple_some, head_some, head_simple, may_as_simple, may_as_word, misplaced_head}
 use Rattle.py_grammar.specs.declared.context.Limit.TheVariants.{Number as ByNumber, Depth}
+use Rattle.py_grammar.proofs.BehindColon.{simple_stays, shown_some}
 
 -- ---- where no line may begin
 
@@ -52,6 +54,18 @@ some_line c given = by (lacks_handler c.last) refl
         (λ at. both_true (takes_handler c.last) _ (handler_may c.last is) refl) (λ at. refl) (λ at other apart. omega arith)
     by false is = spelled_head c given (λ at. simple_head (pass (spot_at at))) [] (λ at. simple_tokens (pass (spot_at at))) (λ at. both_true _ _ (ap not is) (pass_stands c.around (spot_at at))) (λ at. refl) (λ at other apart. omega arith)
 
+-- a line's first token stands behind no `:`
+first_free : (c : Context) (given : List (List ℕ)) (limit : Option Limit) (t : Token) → IsFreeBehind c given limit (t ∷ [])
+first_free c given limit t [] u rest is some h at same = absurd (some refl)
+first_free c given limit t (o ∷ os) u rest is some h at same = absurd (never os u rest (rest_same t o (os ++ u ∷ rest) is))
+  where
+    rest_same : (a b : Token) (x : List Token) → a ∷ [] ≡ b ∷ x → [] ≡ x
+    rest_same a b x is = cc
+
+    never : (os : List Token) (u : Token) (rest : List Token) → [] ≡ os ++ u ∷ rest → ⊥
+    never [] u rest is = cc
+    never (o ∷ os) u rest is = cc
+
 at_first_token : (c : Context) (given : List (List ℕ)) (limit : Option Limit) (t : Token) (behind : List Token) (left : ℕ) → left ≡ length behind → ((h : Head) (more : List Token) → head_tokens h ≡ t ∷ more → IsAmissHead c given limit (Here (Unexpected left)) h)
     → ShownBy (BeginsHead c given) (IsAheadOnLine c given limit) head_tokens (λ fault a. IsAmissHead c given limit (Here fault) a) (t ∷ behind) (Unexpected left)
 at_first_token c given limit t behind left at_it none = record {
@@ -61,7 +75,7 @@ at_first_token c given limit t behind left at_it none = record {
   before_is = refl;
   left_is = at_it;
   begun = some_line c given;
-  goes_on = (tt, unread_at_first t (Unexpected left));
+  goes_on = (first_free c given limit t, unread_at_first t (Unexpected left));
   none = none;
 }
 
@@ -78,12 +92,12 @@ word_is_placed c n spot before rest is present may = sym (may_as_word c n presen
 
 -- ---- simple statements
 
-is_free : (c : Context) (before : List Token) → begins_compound before ≡ false → may_begin c before ≡ true → (before ≡ [] → ⊥) → not (lacks_handler c.last) ≡ true
-is_free c [] absent may some = absurd (some refl)
-is_free c (t ∷ ts) absent may some = sym (may_as_simple c t.kind absent) ∙ may
+may_be_simple : (c : Context) (before : List Token) → begins_compound before ≡ false → may_begin c before ≡ true → (before ≡ [] → ⊥) → not (lacks_handler c.last) ≡ true
+may_be_simple c [] absent may some = absurd (some refl)
+may_be_simple c (t ∷ ts) absent may some = sym (may_as_simple c t.kind absent) ∙ may
 
 no_handler_lacks : (c : Context) (before : List Token) (s : Simple) → before ≡ simple_tokens s → begins_compound before ≡ false → may_begin c before ≡ true → not (lacks_handler c.last) ≡ true
-no_handler_lacks c before s is absent may = is_free c before absent may (λ none. simple_some s (sym is ∙ none))
+no_handler_lacks c before s is absent may = may_be_simple c before absent may (λ none. simple_some s (sym is ∙ none))
 
 pub simple_line : (c : Context) (given : List (List ℕ)) (limit : Option Limit) (before : List Token) (form : Form) → may_begin c before ≡ true → begins_compound before ≡ false → PlacedFound c.around before form
     → HeadFound c given limit before (record { what = SimpleIs form; behind = None })
@@ -96,6 +110,18 @@ simple_line c given limit before form may absent f = record {
   stands = both_true _ _ (no_handler_lacks c before f.written f.before_is absent may) f.stands;
   within = λ passed. refl;
 }
+
+-- with TooDeep, an expression that begins at the place lies too deep in it
+abbrev IsDeepLine : Fault → Head → Type 0
+IsDeepLine (TooDeep at) h = 100 < head_lies h at
+IsDeepLine fault h = ⊤
+
+deep_simple : (c : Context) (fault : Fault) (s : Simple) → IsAmissPlaced c.around None (Here fault) s → IsDeepLine fault (simple_head s)
+deep_simple c (TooDeep at) s (inl deep) = deep
+deep_simple c (TooDeep at) s (inr absent) = absurd (let no : None ≡ Some Depth = absent.0 in cc)
+deep_simple c (TooMany at) s amiss = tt
+deep_simple c (Unexpected left) s amiss = tt
+deep_simple c Memory s amiss = tt
 
 amiss_simple : (c : Context) (given : List (List ℕ)) (limit : Option Limit) (stop : Stop) (s : Simple) → IsAmissPlaced c.around None stop s → IsAmissHead c given limit stop (simple_head s)
 amiss_simple c given limit (Here (TooDeep at)) s (inl deep) = inl deep
@@ -127,12 +153,13 @@ deep_simple_line c given tokens place free (inl b) = inl (record {
 deep_simple_line c given tokens place free (inr b) =
     inr (inl (record { opened = []; starts = inl (refl, λ spot. both_true _ _ free (del_stands c.around b.0 spot)); inside = tokens; begins = b.1; front_is = refl }))
 
-goes_simple : (c : Context) (given : List (List ℕ)) (limit : Option Limit) (tokens : List Token) (t : Token) (fault : Fault) → not (lacks_handler c.last) ≡ true → GoesOnPlaced c.around None tokens t fault → GoesOnLine c given limit tokens t fault
-goes_simple c given limit tokens t (TooDeep at) free (inl b) = inl (deep_simple_line c given (tokens ++ t ∷ []) at free b)
-goes_simple c given limit tokens t (TooDeep at) free (inr passed) = absurd (let no : None ≡ Some Depth = passed.0 in cc)
-goes_simple c given limit tokens t (TooMany at) free passed = absurd (let no : None ≡ Some ByNumber = passed.0 in cc)
-goes_simple c given limit tokens t (Unexpected left) free goes = tt
-goes_simple c given limit tokens t Memory free goes = tt
+goes_simple : (c : Context) (given : List (List ℕ)) (limit : Option Limit) (tokens : List Token) (t : Token) (fault : Fault) → not (lacks_handler c.last) ≡ true → begins_compound (tokens ++ t ∷ []) ≡ false
+    → ((h : Head) (more : List Token) → head_tokens h ≡ tokens ++ t ∷ more → IsDeepLine fault h) → GoesOnPlaced c.around None tokens t fault → GoesOnLine c given limit tokens t fault
+goes_simple c given limit tokens t (TooDeep at) free absent lies (inl b) = inl (deep_simple_line c given (tokens ++ t ∷ []) at free b.1, lies, is_free c given limit (tokens ++ t ∷ []) (simple_stays (tokens ++ t ∷ []) absent))
+goes_simple c given limit tokens t (TooDeep at) free absent lies (inr passed) = absurd (let no : None ≡ Some Depth = passed.0 in cc)
+goes_simple c given limit tokens t (TooMany at) free absent lies passed = absurd (let no : None ≡ Some ByNumber = passed.0 in cc)
+goes_simple c given limit tokens t (Unexpected left) free absent lies goes = is_free c given limit (tokens ++ t ∷ []) (simple_stays (tokens ++ t ∷ []) absent)
+goes_simple c given limit tokens t Memory free absent lies goes = tt
 
 -- a line with these tokens is a simple statement
 only_simple : (P : Head → Type 0) (before : List Token) (h : Head) → begins_compound before ≡ false → head_tokens h ≡ before → ((s : Simple) → simple_tokens s ≡ before → P (simple_head s)) → P h
@@ -145,7 +172,7 @@ same_begins : (front : List Token) (t : Token) (a b : List Token) → begins_com
 same_begins [] t a b = refl
 same_begins (first ∷ front) t a b = refl
 
-simple_shown : (c : Context) (given : List (List ℕ)) (limit : Option Limit) (before : List Token) (fault : Fault) → begins_compound before ≡ false → may_begin c before ≡ true → ShownBy (BeginsPlaced c.around) (IsAheadPlaced c.around None) simple_tokens (λ fault a. IsAmissPlaced c.around None (Here fault) a) before fault
+simple_shown : (c : Context) (given : List (List ℕ)) (limit : Option Limit) (before : List Token) (fault : Fault) → begins_compound before ≡ false → may_begin c before ≡ true → ShownBy (BeginsThere c.around None) (IsAheadPlaced c.around None) simple_tokens (λ fault a. IsAmissPlaced c.around None (Here fault) a) before fault
     → ShownBy (BeginsHead c given) (IsAheadOnLine c given limit) head_tokens (λ fault a. IsAmissHead c given limit (Here fault) a) before fault
 simple_shown c given limit before fault absent may s = record {
   front = s.front;
@@ -153,28 +180,34 @@ simple_shown c given limit before fault absent may s = record {
   behind = s.behind;
   before_is = s.before_is;
   left_is = s.left_is;
-  begun = begins_simple_line c given s.front free s.begun;
-  goes_on = (goes_simple c given limit s.front s.shown_by fault free s.goes_on.0, unread_simple c.around s.front s.shown_by fault s.begun s.goes_on.1 (λ spot inside is. no_for spot inside is));
-  none = λ h more same. only_simple (IsAmissHead c given limit (Here fault)) (s.front ++ s.shown_by ∷ more) h (same_begins s.front s.shown_by more s.behind ∙ sym (ap begins_compound s.before_is) ∙ absent) same
-      (λ a is. amiss_simple c given limit (Here fault) a (s.none a more is));
+  begun = begins_simple_line c given s.front free s.begun.1;
+  goes_on = (
+    goes_simple c given limit s.front s.shown_by fault free (simple [])
+        (λ h more same. only_simple (IsDeepLine fault) (s.front ++ s.shown_by ∷ more) h (simple more) same (λ a is. deep_simple c fault a (s.none a more is))) s.goes_on.0,
+    unread_simple c.around s.front s.shown_by fault s.begun.1 s.goes_on.1 (λ spot inside is. no_for spot inside is),
+  );
+  none = λ h more same. only_simple (IsAmissHead c given limit (Here fault)) (s.front ++ s.shown_by ∷ more) h (simple more) same (λ a is. amiss_simple c given limit (Here fault) a (s.none a more is));
 }
   where
     free : not (lacks_handler c.last) ≡ true
-    free = is_free c before absent may (λ none. shown_some s.front s.shown_by s.behind (sym s.before_is ∙ none))
+    free = may_be_simple c before absent may (λ none. shown_some s.front s.shown_by s.behind (sym s.before_is ∙ none))
+
+    simple : (more : List Token) → begins_compound (s.front ++ s.shown_by ∷ more) ≡ false
+    simple more = same_begins s.front s.shown_by more s.behind ∙ sym (ap begins_compound s.before_is) ∙ absent
 
     no_for : (spot : Spot) (inside : List Token) → s.front ≡ token (Keyword 17) spot ∷ inside → ⊥
     no_for spot inside is = let no : true ≡ false = sym (ap (λ (ts : List Token). begins_compound (ts ++ s.shown_by ∷ s.behind)) is) ∙ sym (ap begins_compound s.before_is) ∙ absent in cc
 
-simple_ended : (c : Context) (given : List (List ℕ)) (limit : Option Limit) (before : List Token) (stop : Stop) → begins_compound before ≡ false → may_begin c before ≡ true → EndedBy (BeginsPlaced c.around) simple_tokens (IsAmissPlaced c.around None stop) before
-    → EndedBy (BeginsHead c given) head_tokens (IsAmissHead c given limit stop) before
+simple_ended : (c : Context) (given : List (List ℕ)) (limit : Option Limit) (before : List Token) (stop : Stop) → begins_compound before ≡ false → may_begin c before ≡ true → EndedBy (BeginsThere c.around None) simple_tokens (IsAmissPlaced c.around None stop) before
+    → EndedBy (EndsHead c given limit) head_tokens (IsAmissHead c given limit stop) before
 simple_ended c given limit before stop absent may e = record {
-  begun = by before absent may e.begun;
+  begun = (by before absent may e.begun.1, is_free c given limit before (simple_stays before absent));
   none = λ h same. only_simple (IsAmissHead c given limit stop) before h absent same (λ a is. amiss_simple c given limit stop a (e.none a is));
 }
   where
     by : (before : List Token) → begins_compound before ≡ false → may_begin c before ≡ true → BeginsPlaced c.around before → BeginsHead c given before
     by [] absent may begun = some_line c given
-    by (t ∷ ts) absent may begun = begins_simple_line c given (t ∷ ts) (is_free c (t ∷ ts) absent may (not_nothing t ts)) begun
+    by (t ∷ ts) absent may begun = begins_simple_line c given (t ∷ ts) (may_be_simple c (t ∷ ts) absent may (not_nothing t ts)) begun
 
 pub simple_line_refused : (c : Context) (given : List (List ℕ)) (limit : Option Limit) (before : List Token) (stop : Stop) → begins_compound before ≡ false → may_begin c before ≡ true → PlacedRefused c.around None before stop → HeadRefused c given limit before stop
 simple_line_refused c given limit before (Here Memory) absent may is = tt

@@ -6,8 +6,7 @@ use Rattle.std.proofs.lemmas.Bool.{eqb-false}
 use Rattle.prov_base.specs.declared.place.Pos.{Pos}
 use Rattle.py_grammar.specs.Concrete.{Expr, plain_expr, choice, Or, plain_or, or_more, And, plain_and, and_more, Not, plain_not, not_of, Cmp, plain_cmp, compared, Sum, plain_sum, sum_more, Term, plain_term, term_more, Unary, plain_unary, signed, Prim, plain_prim, call, part, attribute, Index, one_index, range_index, Bound, no_bound, bound, Atom, name, number, text, none, true_word, false_word, empty_tuple, group, list, dict, Exprs, one_expr, several, Rest, end_rest, last_rest, more_rest, Items, no_items, items, Pairs, no_pairs, last_pair, more_pairs}
 use Rattle.py_grammar.specs.Depth.{expr_depth, or_depth, and_depth, not_depth, cmp_depth, sum_depth, term_depth, unary_depth, prim_depth, index_depth, bound_depth, atom_depth, exprs_depth, rest_depth, items_depth, pairs_depth}
-use Rattle.py_grammar.specs.Tokens.{or_tokens, and_tokens, sum_tokens, term_tokens, prim_tokens, expr_tokens}
-use Rattle.py_grammar.specs.Lies.{is_place, begins, over, expr_lies, or_lies, and_lies, not_lies, cmp_lies, sum_lies, term_lies, unary_lies, prim_lies, index_lies, bound_lies, atom_lies, exprs_lies, rest_lies, items_lies, pairs_lies}
+use Rattle.py_grammar.specs.Lies.{is_place, over, expr_lies, or_lies, and_lies, not_lies, cmp_lies, sum_lies, term_lies, unary_lies, prim_lies, index_lies, bound_lies, atom_lies, exprs_lies, rest_lies, items_lies, pairs_lies}
 
 -- ---- no deeper than the whole goes
 

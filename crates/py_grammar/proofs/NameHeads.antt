@@ -29,12 +29,13 @@ use Rattle.py_grammar.proofs.LyingLines.{base_low}
 use Rattle.py_grammar.proofs.RowParts.{more_steps}
 use Rattle.py_grammar.proofs.SimpleParts.{none_deeper}
 use Rattle.py_grammar.proofs.ClosedParts.{not_deep}
-use Rattle.py_grammar.proofs.HeadParts.{OnlyHead, HeadTurns, shown_head, spelled_head, begins_part_head, refused_part_head, past_opening}
+use Rattle.py_grammar.proofs.HeadParts.{OnlyHead, HeadTurns, shown_head, spelled_head, begins_part_head, refused_part_head, past_opening, is_free}
 use Rattle.py_grammar.proofs.Unread.{unread_clear, unread_word, passes_word}
 use Rattle.py_grammar.proofs.AmissParts.{amiss_head, begins_fine_head}
 use Rattle.py_grammar.proofs.FreshNames.{are_so}
 use Rattle.py_grammar.proofs.FixedNames.{fixed_name, fixed_refused}
 use Rattle.py_grammar.proofs.LineFirsts.{both_true}
+use Rattle.py_grammar.proofs.BehindColon.{stays}
 
 -- ---- what is read up to the end of the line
 
@@ -74,7 +75,7 @@ class_name_refused c before stop is = record {
   there = λ given limit spot may.
       refused_part_head c given limit (fixed_name []) 0 (token (Keyword 9) spot ∷ []) before (token (Keyword 9) spot ∷ before) stop (class_named spot) refl
       (begins_part_head c given (fixed_name []) 0 (token (Keyword 9) spot ∷ []) (λ at found. class_head spot found.0 [] no_base (spot_at at) None) (λ at found. colon_tokens (spot_at at) None) (λ at found. both_true _ true may refl) (λ at found. refl)
-      (λ at found. refl) (λ at found. refl) (λ at other apart found low. omega arith) (λ at place found deep. absurd (none_deeper 0 deep)))
+      (λ at found. refl) (λ at found is. cc) (λ at found. refl) (λ at other apart found low. omega arith) (λ at place found deep. absurd (none_deeper 0 deep)))
       (passes_word 9 spot [] before refl) (class_turns spot before) (λ why n found left deep. absurd (not_deep why deep)) (fixed_refused [] before stop is);
 }
 
@@ -84,7 +85,7 @@ class_base_refused c place name before after stop f is = record {
       refused_part_head c given limit base_part 100 (token (Keyword 9) spot ∷ word name f.spot) after (token (Keyword 9) spot ∷ before) stop (λ n of rest. read_colon n (class_head spot f.spot name of) rest)
       (ap (λ ts. token (Keyword 9) spot ∷ ts) f.before_is)
       (begins_part_head c given base_part 100 (token (Keyword 9) spot ∷ word name f.spot) (λ at of. class_head spot f.spot name of (spot_at at) None) (λ at of. colon_tokens (spot_at at) None) (λ at of. both_true _ true may refl) (λ at of. refl)
-      (λ at of. refl) (λ at of. refl) (λ at other apart of any. let low = base_low of other in omega (arith, low)) (λ at place of deep. absurd (none_deeper 100 deep)))
+      (λ at of. refl) (λ at of some. cc) (λ at of. refl) (λ at other apart of any. let low = base_low of other in omega (arith, low)) (λ at place of deep. absurd (none_deeper 100 deep)))
       (passes_word 9 spot (word name f.spot) after refl) (base_turns spot f.spot name after) (λ why n of left deep. absurd (not_deep_there why deep)) is;
 }
 
@@ -176,7 +177,7 @@ def_name_refused c before stop is = record {
       refused_part_head c given limit (fixed_name []) 0 (token (Keyword 11) spot ∷ []) before (token (Keyword 11) spot ∷ before) stop (def_named spot) refl
       (begins_part_head c given (fixed_name []) 0 (token (Keyword 11) spot ∷ []) (λ at found. def_head spot found.0 [] (spot_at at) no_params (spot_at at) (spot_at at) None)
       (λ at found. token (Sign 0) (spot_at at) ∷ token (Sign 1) (spot_at at) ∷ colon_tokens (spot_at at) None)
-      (λ at found. unnamed_stands c given spot found.0 (spot_at at) may) (λ at found. refl) (λ at found. refl) (λ at found. refl) (λ at other apart found low. omega arith) (λ at place found deep. absurd (none_deeper 0 deep)))
+      (λ at found. unnamed_stands c given spot found.0 (spot_at at) may) (λ at found. refl) (λ at found. refl) (λ at found is. cc) (λ at found. refl) (λ at other apart found low. omega arith) (λ at place found deep. absurd (none_deeper 0 deep)))
       (passes_word 11 spot [] before refl) (def_turns spot before) (λ why n found left deep. absurd (not_deep why deep)) (fixed_refused [] before stop is);
 }
 
@@ -193,8 +194,11 @@ def_no_method c place name before after left f inner other counted = record {
   there = λ given limit spot may. shown_head c given limit (token (Keyword 11) spot ∷ []) (token (Word name) f.spot) after (token (Keyword 11) spot ∷ before) (Unexpected left)
       (ap (λ ts. token (Keyword 11) spot ∷ ts) f.before_is) counted
       (spelled_head c given (λ at. def_head spot (spot_at at) [] (spot_at at) no_params (spot_at at) (spot_at at) None) (token (Keyword 11) spot ∷ [])
-      (λ at. word [] (spot_at at) ++ (token (Sign 0) (spot_at at) ∷ token (Sign 1) (spot_at at) ∷ colon_tokens (spot_at at) None)) (λ at. unnamed_stands c given spot (spot_at at) (spot_at at) may) (λ at. refl) (λ at other apart. omega arith))
-      (tt, unread_clear (token (Keyword 11) spot ∷ []) (token (Word name) f.spot) (Unexpected left) refl (unread_word 11 spot [] (token (Word name) f.spot) (Unexpected left) refl))
+      (λ at. word [] (spot_at at) ++ (token (Sign 0) (spot_at at) ∷ token (Sign 1) (spot_at at) ∷ colon_tokens (spot_at at) None)) (λ at. unnamed_stands c given spot (spot_at at) (spot_at at) may) (λ at. refl) (λ at other apart. omega arith)) (
+        is_free c given limit (token (Keyword 11) spot ∷ token (Word name) f.spot ∷ [])
+            (stays (def_head spot some_spot [] some_spot no_params some_spot some_spot None) refl (token (Keyword 11) spot ∷ []) (token (Word []) some_spot) (token (Sign 0) some_spot ∷ token (Sign 1) some_spot ∷ colon_tokens some_spot None) refl (token (Word name) f.spot)),
+        unread_clear (token (Keyword 11) spot ∷ []) (token (Word name) f.spot) (Unexpected left) refl (unread_word 11 spot [] (token (Word name) f.spot) (Unexpected left) refl),
+      )
       (λ more. record {
         steps = 0;
         only = λ n. only_then _ (read_sign 0 more) _ (λ opening more_2. only_then _ (read_params (n + 0) more_2) _ (λ names more_3. only_then _ (read_sign 1 more_3) _ (λ closing rest.
@@ -232,7 +236,7 @@ def_params_refused c place name before after stop f method is = record {
       amiss_head c given limit bracket_part IsRepeatedIn (token (Keyword 11) spot ∷ word name f.spot) after (token (Keyword 11) spot ∷ before) stop (def_bracket spot f.spot name)
       (ap (λ ts. token (Keyword 11) spot ∷ ts) f.before_is)
       (begins_fine_head c given bracket_part IsRepeatedIn (token (Keyword 11) spot ∷ word name f.spot) (λ w. def_head spot f.spot name w.0 w.1 w.2 some_spot None) (λ w. colon_tokens some_spot None)
-      (λ w fine. def_may c given spot f.spot name w method (are_so w.1 fine) may some_spot) (λ w. refl) (λ w. refl) (λ w. def_spells spot f.spot name w some_spot None) (λ w. omega arith))
+      (λ w fine. def_may c given spot f.spot name w method (are_so w.1 fine) may some_spot) (λ w. refl) (λ w. refl) (λ w is. cc) (λ w. def_spells spot f.spot name w some_spot None) (λ w. omega arith))
       (passes_word 11 spot (word name f.spot) after refl) (bracket_turns spot f.spot name after) (λ why n w left is. repeated_amiss c given limit spot f.spot name why n w left is) is;
 }
 

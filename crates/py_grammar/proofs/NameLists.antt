@@ -22,7 +22,7 @@ use Rattle.py_grammar.specs.StatementTokens.{names_tokens, params_tokens}
 use Rattle.py_grammar.specs.StatementTrees.{names_list, params_list}
 use Rattle.py_grammar.specs.Reader.{Read, go_on, is_sign, read_name}
 use Rattle.py_grammar.specs.StatementReader.{whole}
-use Rattle.py_grammar.specs.LineReader.{global_head, is_word, begins_name, read_names, names_after, params_after, read_params, then_read, global_end}
+use Rattle.py_grammar.specs.LineReader.{global_head, is_word, begins_name, read_names, names_after, params_after, read_params, then_read, global_end, head_tokens}
 use Rattle.py_grammar.specs.WellPlaced.{is_special, is_in, are_different, none_given}
 use Rattle.py_grammar.specs.Parsed.{Only, Finds, Refused, Taken, TakenName, one_name, is_sign_next, IsAtFirst, IsMemory}
 use Rattle.py_grammar.specs.ParsedRows.{first_token}
@@ -34,12 +34,13 @@ use Rattle.py_grammar.proofs.Refusals.{only_any, only_go_on, only_if, only_is, f
 use Rattle.py_grammar.proofs.ClosedParts.{not_deep}
 use Rattle.py_grammar.proofs.PrimParts.{go_on_once}
 use Rattle.py_grammar.proofs.RowParts.{more_steps, sign_first}
-use Rattle.py_grammar.proofs.HeadParts.{HeadTurns, first_same}
+use Rattle.py_grammar.proofs.HeadParts.{HeadTurns, first_same, BeginsOpening, spelled_head, clear_before}
 use Rattle.py_grammar.proofs.Unread.{passes_word}
-use Rattle.py_grammar.proofs.AmissParts.{NoneAmiss, AmissInside, amiss_of_refused, amiss_same, amiss_inside, begins_with, amiss_here, begins_fine_head, amiss_head}
+use Rattle.py_grammar.proofs.AmissParts.{NoneAmiss, AmissInside, amiss_of_refused, amiss_same, amiss_inside, begins_with, amiss_here, amiss_head}
 use Rattle.py_grammar.proofs.FixedNames.{fixed_name, fixed_refused}
 use Rattle.py_grammar.proofs.FreshNames.{fresh, fresh_is_new, none_repeated, none_is_given, none_so}
 use Rattle.py_grammar.proofs.LineFirsts.{both_true}
+use Rattle.py_grammar.proofs.BehindColon.{global_stays}
 
 -- ---- whether a name is among others
 
@@ -370,10 +371,19 @@ given_amiss c given limit spot (Here (TooMany at)) names is = absurd is
 given_amiss c given limit spot (Here Memory) names is = absurd is
 given_amiss c given limit spot End names is = absurd is
 
+global_begins : (c : Context) (given : List (List ℕ)) (spot : Spot) → word_may c 19 ≡ true → (tokens : List Token) → BeginsFine all_names (IsGiven given) tokens → BeginsOpening c given (token (Keyword 19) spot ∷ tokens)
+global_begins c given spot may tokens b =
+    let is : head_tokens (global_head spot b.some) ≡ (token (Keyword 19) spot ∷ tokens) ++ b.more = ap (λ ts. token (Keyword 19) spot ∷ ts) b.tokens_are in
+    record {
+      begun = spelled_head c given (λ at. global_head spot b.some) (token (Keyword 19) spot ∷ tokens) (λ at. b.more) (λ at. both_true _ _ may (none_so given b.some b.fine)) (λ at. is) (λ at other apart. omega arith);
+      clear = clear_before (global_head spot b.some) (token (Keyword 19) spot ∷ tokens) b.more refl refl is;
+      ahead = λ t. global_stays spot (tokens ++ t ∷ []);
+    }
+
 pub global_refused : (given : List (List ℕ)) (before : List Token) (stop : Stop) → RefusedAmiss all_names (IsGiven given) before stop → GlobalRefused given before stop
 global_refused given before stop is = record {
   there = λ c limit spot may. amiss_head c given limit all_names (IsGiven given) (token (Keyword 19) spot ∷ []) before (token (Keyword 19) spot ∷ before) stop (λ n names rest. Some (global_head spot names)) refl
-      (begins_fine_head c given all_names (IsGiven given) (token (Keyword 19) spot ∷ []) (global_head spot) (λ names. []) (λ names fine. both_true _ _ may (none_so given names fine)) (λ names. refl) (λ names. refl) (λ names. ap (λ ts. token (Keyword 19) spot ∷ ts) (sym (append-nil (names_tokens names)))) (λ names. omega arith))
+      (global_begins c given spot may)
       (passes_word 19 spot [] before refl) (global_turns spot before) (λ why n names left is. given_amiss c given limit spot why names is) is;
 }
 

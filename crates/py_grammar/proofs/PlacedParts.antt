@@ -23,7 +23,7 @@ use Rattle.py_grammar.specs.Reader.{spot_of, is_keyword}
 use Rattle.py_grammar.specs.StatementReader.{read_simple}
 use Rattle.py_grammar.specs.Parsed.{ShowsAt, Only, Finds}
 use Rattle.py_grammar.specs.ParsedSimple.{leaving_none, simple_part, has_place, SimpleFound, IsAmiss, NamesDeep, BeginsSimple, DeepSimple, SimpleShown, SimpleEnds, SimpleRefused}
-use Rattle.py_grammar.specs.ParsedHead.{PlacedFound, IsAmissPlaced, del_name, BeginsPlaced, DeepPlaced, GoesOnPlaced, IsAheadPlaced, begins_at, ShownBy, EndedBy, PlacedRefused, BehindRefused, BehindFound, is_compound_kind, may_be_alone, is_refused_kind, is_text_kind, limit_fault, IsRefusedInClass, ShowsOnLine, left_in_class, stands_first}
+use Rattle.py_grammar.specs.ParsedHead.{PlacedFound, IsAmissPlaced, del_name, BeginsPlaced, BeginsThere, DeepPlaced, GoesOnPlaced, IsAheadPlaced, begins_at, ShownBy, EndedBy, PlacedRefused, BehindRefused, BehindFound, is_compound_kind, may_be_alone, is_refused_kind, is_text_kind, limit_fault, IsRefusedInClass, ShowsOnLine, left_in_class, stands_first}
 use Rattle.py_grammar.specs.Depth.{simple_depth}
 use Rattle.py_grammar.specs.Lies.{nowhere, simple_lies}
 use Rattle.py_grammar.proofs.NoDel.{no_del_unread}
@@ -54,39 +54,43 @@ amiss_placed around limit (Here Memory) s amiss = absurd amiss
 amiss_placed around limit End s amiss = and_false _ (form_stands around (simple_form s)) amiss
 
 -- a limit is none of the grammar's faults
-goes_placed : (around : Around) (limit : Option Limit) (front : List Token) (t : Token) (behind : List Token) (fault : Fault) → ShowsAt behind fault → NamesDeep (DeepPlaced around) front t fault → GoesOnPlaced around limit front t fault
-goes_placed around limit front t behind (TooDeep at) named goes = inl goes
-goes_placed around limit front t behind (Unexpected left) named goes = tt
-goes_placed around limit front t behind (TooMany at) named goes = absurd named
-goes_placed around limit front t behind Memory named goes = tt
+goes_placed : (around : Around) (front : List Token) (t : Token) (behind : List Token) (fault : Fault) → ShowsAt behind fault → NamesDeep (DeepPlaced around) front t fault → GoesOnPlaced around None front t fault
+goes_placed around front t behind (TooDeep at) named goes = inl (refl, goes)
+goes_placed around front t behind (Unexpected left) named goes = refl
+goes_placed around front t behind (TooMany at) named goes = absurd named
+goes_placed around front t behind Memory named goes = tt
+
+-- where no limit is given any tokens may have begun
+begun_free : (around : Around) (front : List Token) → BeginsPlaced around front → BeginsThere around None front
+begun_free around front b = ((λ some. let wrong : false ≡ true = some in cc), b)
 
 -- what has begun in these tokens may stand there, beside its form
 record Places (around : Around) (before : List Token) : Type 0 where
   within : (tokens rest : List Token) → before ≡ tokens ++ rest → BeginsSimple (has_place around) tokens → BeginsPlaced around tokens
   first : (fault : Fault) (s : SimpleShown around before fault) → NamesDeep (DeepPlaced around) s.front s.shown_by fault
 
-placed_shown : (around : Around) (limit : Option Limit) (before : List Token) (fault : Fault) → Places around before → SimpleShown around before fault
-    → ShownBy (BeginsPlaced around) (IsAheadPlaced around limit) simple_tokens (λ fault a. IsAmissPlaced around limit (Here fault) a) before fault
-placed_shown around limit before fault places s = record {
+placed_shown : (around : Around) (before : List Token) (fault : Fault) → Places around before → SimpleShown around before fault
+    → ShownBy (BeginsThere around None) (IsAheadPlaced around None) simple_tokens (λ fault a. IsAmissPlaced around None (Here fault) a) before fault
+placed_shown around before fault places s = record {
   front = s.front;
   shown_by = s.shown_by;
   behind = s.behind;
   before_is = s.before_is;
   left_is = shows_on_line s.shown_by s.behind fault s.left_is;
-  begun = places.within s.front (s.shown_by ∷ s.behind) s.before_is s.begins;
-  goes_on = (goes_placed around limit s.front s.shown_by s.behind fault s.left_is (places.first fault s), s.unread);
-  none = λ a more same. amiss_placed around limit (Here fault) a (finds_simple _ (s.front ++ s.shown_by ∷ more) a (s.none more) same);
+  begun = begun_free around s.front (places.within s.front (s.shown_by ∷ s.behind) s.before_is s.begins);
+  goes_on = (goes_placed around s.front s.shown_by s.behind fault s.left_is (places.first fault s), s.unread);
+  none = λ a more same. amiss_placed around None (Here fault) a (finds_simple _ (s.front ++ s.shown_by ∷ more) a (s.none more) same);
 }
 
-placed_ended : (around : Around) (limit : Option Limit) (before : List Token) (stop : Stop) → Places around before → SimpleEnds around before stop → EndedBy (BeginsPlaced around) simple_tokens (IsAmissPlaced around limit stop) before
-placed_ended around limit before stop places e = record { begun = places.within before [] (sym (append-nil before)) e.begins; none = λ a same. amiss_placed around limit stop a (finds_simple _ before a e.none same) }
+placed_ended : (around : Around) (before : List Token) (stop : Stop) → Places around before → SimpleEnds around before stop → EndedBy (BeginsThere around None) simple_tokens (IsAmissPlaced around None stop) before
+placed_ended around before stop places e = record { begun = begun_free around before (places.within before [] (sym (append-nil before)) e.begins); none = λ a same. amiss_placed around None stop a (finds_simple _ before a e.none same) }
 
-placed_refused : (around : Around) (limit : Option Limit) (before : List Token) (stop : Stop) → Places around before → SimpleRefused around before stop → PlacedRefused around limit before stop
-placed_refused around limit before (Here Memory) places is = tt
-placed_refused around limit before (Here (Unexpected at)) places is = placed_shown around limit before (Unexpected at) places is
-placed_refused around limit before (Here (TooDeep at)) places is = placed_shown around limit before (TooDeep at) places is
-placed_refused around limit before (Here (TooMany at)) places is = absurd is.left_is
-placed_refused around limit before End places is = placed_ended around limit before End places is
+placed_refused : (around : Around) (before : List Token) (stop : Stop) → Places around before → SimpleRefused around before stop → PlacedRefused around None before stop
+placed_refused around before (Here Memory) places is = tt
+placed_refused around before (Here (Unexpected at)) places is = placed_shown around before (Unexpected at) places is
+placed_refused around before (Here (TooDeep at)) places is = placed_shown around before (TooDeep at) places is
+placed_refused around before (Here (TooMany at)) places is = absurd is.left_is
+placed_refused around before End places is = placed_ended around before End places is
 
 -- `pass` may stand everywhere
 pub pass_stands : (around : Around) (spot : Spot) → simple_stands around (pass spot) ≡ true
@@ -102,18 +106,18 @@ pass_begins around = inl (λ at. record { some = pass (spot_at at); is_so = pass
 -- nothing stands there
 pub placed_end : (around : Around) (limit : Option Limit) (before : List Token) → before ≡ [] → PlacedRefused around limit before End
 placed_end around limit before is = subst (λ (ts : List Token). PlacedRefused around limit ts End) (sym is)
-    (record { begun = pass_begins around; none = λ s same. absurd (simple_some s same) })
+    (record { begun = ((λ some. refl), pass_begins around); none = λ s same. absurd (simple_some s same) })
 
 -- the first token shows it
 at_first_token : (around : Around) (limit : Option Limit) (t : Token) (behind : List Token) (fault : Fault) → ShowsOnLine t behind fault → GoesOnPlaced around limit [] t fault
-    → ((s : Simple) (more : List Token) → simple_tokens s ≡ t ∷ more → IsAmissPlaced around limit (Here fault) s) → ShownBy (BeginsPlaced around) (IsAheadPlaced around limit) simple_tokens (λ fault a. IsAmissPlaced around limit (Here fault) a) (t ∷ behind) fault
+    → ((s : Simple) (more : List Token) → simple_tokens s ≡ t ∷ more → IsAmissPlaced around limit (Here fault) s) → ShownBy (BeginsThere around limit) (IsAheadPlaced around limit) simple_tokens (λ fault a. IsAmissPlaced around limit (Here fault) a) (t ∷ behind) fault
 at_first_token around limit t behind fault named goes none = record {
   front = [];
   shown_by = t;
   behind = behind;
   before_is = refl;
   left_is = named;
-  begun = pass_begins around;
+  begun = ((λ some. refl), pass_begins around);
   goes_on = (goes, no_del_unread [] t fault refl);
   none = none;
 }
@@ -137,8 +141,8 @@ refused_is_compound (Keyword n) is = by (n == 11) refl (n == 9) refl (n == 19) r
     by false one false other true last any = ap (λ m. is_compound_kind (Keyword m)) (eqb-true n 19 last)
     by false one false other false last any = cc
 
-pub placed_word : (around : Around) (limit : Option Limit) (t : Token) (behind : List Token) (left : ℕ) → is_refused_kind t.kind ≡ true → left ≡ length behind → PlacedRefused around limit (t ∷ behind) (Here (Unexpected left))
-placed_word around limit t behind left is counted = at_first_token around limit t behind (Unexpected left) counted tt (λ s more same. absurd (no_such s more same))
+pub placed_word : (around : Around) (limit : Option Limit) (t : Token) (behind : List Token) (left : ℕ) → limit ≡ None → is_refused_kind t.kind ≡ true → left ≡ length behind → PlacedRefused around limit (t ∷ behind) (Here (Unexpected left))
+placed_word around limit t behind left free is counted = at_first_token around limit t behind (Unexpected left) counted free (λ s more same. absurd (no_such s more same))
   where
     no_such : (s : Simple) (more : List Token) → simple_tokens s ≡ t ∷ more → ⊥
     no_such s more same = let absent : true ≡ false = sym (refused_is_compound t.kind is) ∙ simple_not_compound s t more same in cc
@@ -201,31 +205,31 @@ text_behind (Number value) is absent = cc
 text_behind (Keyword n) is absent = cc
 text_behind (Sign n) is absent = cc
 
-text_in_class : (around : Around) (limit : Option Limit) (t : Token) (behind : List Token) (left : ℕ) → around.in_class ≡ true → may_be_alone t.kind behind ≡ false → is_text_kind t.kind ≡ true → left ≡ left_in_class true behind
-    → ShownBy (BeginsPlaced around) (IsAheadPlaced around limit) simple_tokens (λ fault a. IsAmissPlaced around limit (Here fault) a) (t ∷ behind) (Unexpected left)
-text_in_class around limit t [] left inside absent is counted = absurd (text_behind t.kind is absent)
-text_in_class around limit t (u ∷ us) left inside absent is counted = record {
+text_in_class : (around : Around) (t : Token) (behind : List Token) (left : ℕ) → around.in_class ≡ true → may_be_alone t.kind behind ≡ false → is_text_kind t.kind ≡ true → left ≡ left_in_class true behind
+    → ShownBy (BeginsThere around None) (IsAheadPlaced around None) simple_tokens (λ fault a. IsAmissPlaced around None (Here fault) a) (t ∷ behind) (Unexpected left)
+text_in_class around t [] left inside absent is counted = absurd (text_behind t.kind is absent)
+text_in_class around t (u ∷ us) left inside absent is counted = record {
   front = t ∷ [];
   shown_by = u;
   behind = us;
-  goes_on = (tt, no_del_unread (t ∷ []) u (Unexpected left) (text_no_del t.kind is));
+  goes_on = (refl, no_del_unread (t ∷ []) u (Unexpected left) (text_no_del t.kind is));
   before_is = refl;
   left_is = counted;
-  begun = begins_text around t is;
+  begun = begun_free around (t ∷ []) (begins_text around t is);
   none = λ s more same. not_alone around s inside (ap are_alone same);
 }
 
-other_in_class : (around : Around) (limit : Option Limit) (t : Token) (behind : List Token) (left : ℕ) → around.in_class ≡ true → may_be_alone t.kind behind ≡ false → (b : Bool) → is_text_kind t.kind ≡ b → left ≡ left_in_class b behind
-    → ShownBy (BeginsPlaced around) (IsAheadPlaced around limit) simple_tokens (λ fault a. IsAmissPlaced around limit (Here fault) a) (t ∷ behind) (Unexpected left)
-other_in_class around limit t behind left inside absent true is counted = text_in_class around limit t behind left inside absent is counted
-other_in_class around limit t behind left inside absent false is counted = at_first_token around limit t behind (Unexpected left) counted tt (λ s more same. amiss_in_class around t behind inside absent is s more same)
+other_in_class : (around : Around) (t : Token) (behind : List Token) (left : ℕ) → around.in_class ≡ true → may_be_alone t.kind behind ≡ false → (b : Bool) → is_text_kind t.kind ≡ b → left ≡ left_in_class b behind
+    → ShownBy (BeginsThere around None) (IsAheadPlaced around None) simple_tokens (λ fault a. IsAmissPlaced around None (Here fault) a) (t ∷ behind) (Unexpected left)
+other_in_class around t behind left inside absent true is counted = text_in_class around t behind left inside absent is counted
+other_in_class around t behind left inside absent false is counted = at_first_token around None t behind (Unexpected left) counted refl (λ s more same. amiss_in_class around t behind inside absent is s more same)
 
-pub placed_in_class : (around : Around) (limit : Option Limit) (t : Token) (behind : List Token) (stop : Stop) → around.in_class ≡ true → may_be_alone t.kind behind ≡ false → IsRefusedInClass (t ∷ behind) stop → PlacedRefused around limit (t ∷ behind) stop
-placed_in_class around limit t behind (Here (Unexpected left)) inside absent is = other_in_class around limit t behind left inside absent (is_text_kind t.kind) refl is
-placed_in_class around limit t behind (Here (TooDeep place)) inside absent is = absurd is
-placed_in_class around limit t behind (Here (TooMany place)) inside absent is = absurd is
-placed_in_class around limit t behind (Here Memory) inside absent is = absurd is
-placed_in_class around limit t behind End inside absent is = absurd is
+pub placed_in_class : (around : Around) (t : Token) (behind : List Token) (stop : Stop) → around.in_class ≡ true → may_be_alone t.kind behind ≡ false → IsRefusedInClass (t ∷ behind) stop → PlacedRefused around None (t ∷ behind) stop
+placed_in_class around t behind (Here (Unexpected left)) inside absent is = other_in_class around t behind left inside absent (is_text_kind t.kind) refl is
+placed_in_class around t behind (Here (TooDeep place)) inside absent is = absurd is
+placed_in_class around t behind (Here (TooMany place)) inside absent is = absurd is
+placed_in_class around t behind (Here Memory) inside absent is = absurd is
+placed_in_class around t behind End inside absent is = absurd is
 
 -- ---- what is found
 
@@ -389,17 +393,17 @@ limit_there around limit l before t behind fault some is at =
     subst (λ w. PlacedRefused around limit before (Here w)) (sym at)
     (subst (λ o. PlacedRefused around o before (Here (limit_fault l t.at))) (sym some) (subst (PlacedThere around (Some l) (Here (limit_fault l t.at))) (sym is) (placed_limited around l t behind)))
 
-pub word_there : (around : Around) (limit : Option Limit) (before : List Token) (t : Token) (behind : List Token) (left : ℕ) → before ≡ t ∷ behind → is_refused_kind t.kind ≡ true → left ≡ length behind → PlacedRefused around limit before (Here (Unexpected left))
-word_there around limit before t behind left is kind counted = subst (PlacedThere around limit (Here (Unexpected left))) (sym is) (placed_word around limit t behind left kind counted)
+pub word_there : (around : Around) (limit : Option Limit) (before : List Token) (t : Token) (behind : List Token) (left : ℕ) → limit ≡ None → before ≡ t ∷ behind → is_refused_kind t.kind ≡ true → left ≡ length behind → PlacedRefused around limit before (Here (Unexpected left))
+word_there around limit before t behind left free is kind counted = subst (PlacedThere around limit (Here (Unexpected left))) (sym is) (placed_word around limit t behind left free kind counted)
 
-pub class_there : (around : Around) (limit : Option Limit) (before : List Token) (t : Token) (behind : List Token) (stop : Stop) → before ≡ t ∷ behind → around.in_class ≡ true → may_be_alone t.kind behind ≡ false → IsRefusedInClass before stop → PlacedRefused around limit before stop
-class_there around limit before t behind stop is inside alone refused =
-    subst (PlacedThere around limit stop) (sym is) (placed_in_class around limit t behind stop inside alone (subst (λ (ts : List Token). IsRefusedInClass ts stop) is refused))
+pub class_there : (around : Around) (limit : Option Limit) (before : List Token) (t : Token) (behind : List Token) (stop : Stop) → limit ≡ None → before ≡ t ∷ behind → around.in_class ≡ true → may_be_alone t.kind behind ≡ false → IsRefusedInClass before stop → PlacedRefused around limit before stop
+class_there around limit before t behind stop free is inside alone refused =
+    subst (λ l. PlacedRefused around l before stop) (sym free) (subst (PlacedThere around None stop) (sym is) (placed_in_class around t behind stop inside alone (subst (λ (ts : List Token). IsRefusedInClass ts stop) is refused)))
 
-pub refused_there : (around : Around) (limit : Option Limit) (before : List Token) (t : Token) (behind : List Token) (stop : Stop) → before ≡ t ∷ behind → (around.in_class ≡ true → may_be_alone t.kind behind ≡ true) → SimpleRefused around before stop
+pub refused_there : (around : Around) (limit : Option Limit) (before : List Token) (t : Token) (behind : List Token) (stop : Stop) → limit ≡ None → before ≡ t ∷ behind → (around.in_class ≡ true → may_be_alone t.kind behind ≡ true) → SimpleRefused around before stop
     → PlacedRefused around limit before stop
-refused_there around limit before t behind stop is alone refused =
-    subst (PlacedThere around limit stop) (sym is) (placed_refused around limit (t ∷ behind) stop (places around t behind alone) (subst (λ (ts : List Token). SimpleRefused around ts stop) is refused))
+refused_there around limit before t behind stop free is alone refused =
+    subst (λ l. PlacedRefused around l before stop) (sym free) (subst (PlacedThere around None stop) (sym is) (placed_refused around (t ∷ behind) stop (places around t behind alone) (subst (λ (ts : List Token). SimpleRefused around ts stop) is refused)))
 
 pub found_there : (around : Around) (before : List Token) (t : Token) (behind : List Token) (form : Form) → before ≡ t ∷ behind → (around.in_class ≡ true → may_be_alone t.kind behind ≡ true) → SimpleFound around before form → PlacedFound around before form
 found_there around before t behind form is alone f =

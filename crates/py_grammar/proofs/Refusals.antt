@@ -12,8 +12,8 @@ use Rattle.py_grammar.specs.declared.fault.Fault.{Fault}
 use Rattle.py_grammar.specs.declared.fault.Fault.TheVariants.{Unexpected, TooDeep, TooMany, Memory}
 use Rattle.py_grammar.specs.declared.fault.Stop.{Stop}
 use Rattle.py_grammar.specs.declared.fault.Stop.TheVariants.{Here, End}
-use Rattle.py_grammar.specs.Parsed.{Production, IsDeep, Only, Finds, Begins, Completes, BeginsWithin, IsFirstDeep, GoesDeep, GoesOn, Shown, Refused, IsTooDeep, is_keyword_next}
-use Rattle.py_grammar.specs.Lies.{is_place, over, nowhere, IsApart, IsFirst}
+use Rattle.py_grammar.specs.Parsed.{Production, IsDeep, Only, Finds, Begins, BeginsWithin, IsFirstDeep, GoesDeep, Shown, Refused, IsTooDeep, is_keyword_next}
+use Rattle.py_grammar.specs.Lies.{is_place, over, nowhere, IsFirst}
 use Rattle.py_grammar.proofs.Lying.{over_more, over_left}
 use Rattle.py_grammar.proofs.Deepest.{apart_front, apart_there}
 use Rattle.py_grammar.specs.Reader.{Read, go_on, next_level, kind_level, is_keyword}
@@ -184,13 +184,6 @@ elsewhere at other apart = by (is_place at other) refl
 pub alone_elsewhere : (at other : Pos) → (other ≡ at → ⊥) → over (is_place at other) 0 ≡ 0
 alone_elsewhere at other apart = ap (λ b. over b 0) (elsewhere at other apart)
 
--- what goes on with a token there goes on with it behind other tokens too
-pub goes_inside : (inner outer : List Token → Type 0) (front part : List Token) (t : Token) (fault : Fault) → ((tokens : List Token) → inner tokens → outer (front ++ tokens)) → GoesOn inner part t fault → GoesOn outer (front ++ part) t fault
-goes_inside inner outer front part t (TooDeep at) begins goes = subst outer (sym (append_assoc front part (t ∷ []))) (begins (part ++ t ∷ []) goes)
-goes_inside inner outer front part t (Unexpected left) begins goes = tt
-goes_inside inner outer front part t (TooMany at) begins goes = tt
-goes_inside inner outer front part t Memory begins goes = tt
-
 -- the first that lies too deep in the part is so in the whole
 first_inside : {A B : Type 0} (p : Production A) (room : ℕ) (q : Production B) (inner : ℕ) (front part : List Token) (place : Pos) → ((at : Pos) (b : B) → Holds p room q inner front at b) → IsFirstDeep q inner part place → IsFirstDeep p room (front ++ part) place
 first_inside p room q inner front part place begins f =
@@ -205,8 +198,7 @@ first_inside p room q inner front part place begins f =
       front_is = ap (λ ts. front ++ ts) f.front_is ∙ sym (append_assoc front f.ahead (f.named ∷ f.between));
       named_is = f.named_is;
       deep = whole.deep (Here (TooDeep place)) f.deep;
-      within = λ other apart. whole.within other (apart_there f.named.at other place apart.0 f.named_is)
-          (f.within other (apart.0, apart_front other (f.between ++ f.more) whole.more (subst (IsApart other) (sym (append_assoc f.between f.more whole.more)) apart.1)));
+      within = λ other apart. whole.within other (apart_there f.named.at other place apart.0 f.named_is) (f.within other apart);
     }
 
 deep_inside : {A B : Type 0} (p : Production A) (room : ℕ) (q : Production B) (inner : ℕ) (front part : List Token) (t : Token) (fault : Fault) → ((at : Pos) (b : B) → Holds p room q inner front at b) → GoesDeep q inner part t fault → GoesDeep p room (front ++ part) t fault
@@ -214,13 +206,6 @@ deep_inside p room q inner front part t (TooDeep place) begins goes = subst (λ 
 deep_inside p room q inner front part t (Unexpected left) begins goes = tt
 deep_inside p room q inner front part t (TooMany place) begins goes = tt
 deep_inside p room q inner front part t Memory begins goes = tt
-
--- what lies too deep goes on there
-pub deep_goes_on : {A : Type 0} (p : Production A) (room : ℕ) (front : List Token) (t : Token) (fault : Fault) → GoesDeep p room front t fault → GoesOn (Begins p) front t fault
-deep_goes_on p room front t (TooDeep place) goes = record { some = goes.some; more = goes.more; tokens_are = goes.tokens_are }
-deep_goes_on p room front t (Unexpected left) goes = tt
-deep_goes_on p room front t (TooMany place) goes = tt
-deep_goes_on p room front t Memory goes = tt
 
 shown_inside : {A B : Type 0} (p : Production A) (room : ℕ) (q : Production B) (inner : ℕ) (front rest : List Token) (fault : Fault) → Inside p room q inner front rest → Shown q inner rest fault → Shown p room (front ++ rest) fault
 shown_inside p room q inner front rest fault inside s = record {
@@ -324,7 +309,7 @@ first_full p room front t some more here f g height depth place deepest is lies_
       let whole = lies_is place in
       omega (arith, there, deeper_there, whole, full, height_is);
   within = λ other apart.
-      let less = first.less other (apart_front other (first.named ∷ first.later) (t ∷ []) (apart_front other (first.named ∷ (first.later ++ t ∷ [])) more apart)) in
+      let less = first.less other (apart_front other (first.named ∷ first.later) (t ∷ []) apart) in
       let none = alone other (apart_there first.named.at other place apart.0 (first.named_is ∙ sym place_is)) in
       let whole = lies_is other in
       let low = fits_below (here other) (f other) (g other) room (omega (arith, less, height_is, fits)) (omega (arith, none, height_is, above, fits)) in

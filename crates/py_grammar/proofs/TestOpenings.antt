@@ -112,7 +112,7 @@ test_refused word head what is c before stop refused = record {
   there = λ given limit spot may.
       refused_part_head c given limit expr_part 100 (token (Keyword word) spot ∷ []) before (token (Keyword word) spot ∷ before) stop (test_turn head spot) refl
       (begins_part_head c given expr_part 100 (token (Keyword word) spot ∷ []) (λ at e. head spot e (spot_at at) None) (λ at e. colon_tokens (spot_at at) None) (λ at e. is.stands c given spot e (spot_at at) None ∙ both_true _ true may refl)
-      (λ at e. is.compound spot e (spot_at at) None) (λ at e. is.behind_is spot e (spot_at at) None) (λ at e. is.tokens_are spot e (spot_at at) None)
+      (λ at e. is.compound spot e (spot_at at) None) (λ at e. is.behind_is spot e (spot_at at) None) (λ at e some. cc) (λ at e. is.tokens_are spot e (spot_at at) None)
       (λ at other apart e low. let same = is.lies_is spot e (spot_at at) None other in omega (arith, same, low)) (λ at place e deep. let same = is.lies_is spot e (spot_at at) None place in let high = le-max_left (expr_lies e place) 0 in omega (arith, same, deep, high)))
       (passes_word word spot [] before is.other)
       (test_turns word head what is spot before)
@@ -149,7 +149,7 @@ pub with_refused : (c : Context) (before : List Token) (stop : Stop) → Refused
 with_refused c before stop refused = record {
   there = λ given limit spot may.
       refused_part_head c given limit expr_part 100 (token (Keyword 33) spot ∷ []) before (token (Keyword 33) spot ∷ before) stop (with_turn spot) refl
-      (begins_part_head c given expr_part 100 (token (Keyword 33) spot ∷ []) (λ at e. with_head spot e no_naming (spot_at at) None) (λ at e. colon_tokens (spot_at at) None) (λ at e. both_true _ true may refl) (λ at e. refl) (λ at e. refl) (λ at e. refl)
+      (begins_part_head c given expr_part 100 (token (Keyword 33) spot ∷ []) (λ at e. with_head spot e no_naming (spot_at at) None) (λ at e. colon_tokens (spot_at at) None) (λ at e. both_true _ true may refl) (λ at e. refl) (λ at e. refl) (λ at e some. cc) (λ at e. refl)
       (λ at other apart e low. omega (arith, low)) (λ at place e deep. omega (arith, deep)))
       (passes_word 33 spot [] before refl) (with_turns spot before) (λ why n e left deep. deep_naming why n spot e left deep) refused;
 }
@@ -175,7 +175,7 @@ with_name_refused c before after part stop f refused = record {
       refused_part_head c given limit naming_part 100 (token (Keyword 33) spot ∷ expr_tokens f.written) after (token (Keyword 33) spot ∷ before) stop (λ n. called_turn spot f.written (n + (expr_is_read f).steps))
       (ap (λ ts. token (Keyword 33) spot ∷ ts) f.before_is)
       (begins_part_head c given naming_part 100 (token (Keyword 33) spot ∷ expr_tokens f.written) (λ at called. with_head spot f.written called (spot_at at) None) (λ at called. colon_tokens (spot_at at) None) (λ at called. both_true _ true may refl)
-      (λ at called. refl) (λ at called. refl) (λ at called. refl) (λ at other apart called any. let low = expr_within f.written (expr_fits f) other in omega (arith, low)) (λ at place called deep. absurd (none_deeper 100 deep)))
+      (λ at called. refl) (λ at called. refl) (λ at called some. cc) (λ at called. refl) (λ at other apart called any. let low = expr_within f.written (expr_fits f) other in omega (arith, low)) (λ at place called deep. absurd (none_deeper 100 deep)))
       (passes_word 33 spot (expr_tokens f.written) after refl)
       (called_turns spot before after part f)
       (λ why n called left deep. deep_colon why ((n + (expr_is_read f).steps) + 0) (with_head spot f.written called) left 100 (λ at. 0) (expr_lies f.written) (λ colon behind at. refl) (λ at some. omega arith) deep) refused;
@@ -249,7 +249,7 @@ except_refused c before stop begins refused = record {
   there = λ given limit spot may.
       refused_part_head c given limit expr_part 100 (token (Keyword 15) spot ∷ []) before (token (Keyword 15) spot ∷ before) stop (except_turn spot) refl
       (begins_part_head c given expr_part 100 (token (Keyword 15) spot ∷ []) (λ at e. except_head spot (one_kind e no_naming) (spot_at at) None) (λ at e. colon_tokens (spot_at at) None)
-      (λ at e. both_true _ true may refl) (λ at e. refl) (λ at e. refl) (λ at e. ap (λ ts. token (Keyword 15) spot ∷ ts) (append_assoc (expr_tokens e) [] (colon_tokens (spot_at at) None))) (λ at other apart e low. omega (arith, low)) (λ at place e deep. omega (arith, deep)))
+      (λ at e. both_true _ true may refl) (λ at e. refl) (λ at e. refl) (λ at e some. cc) (λ at e. ap (λ ts. token (Keyword 15) spot ∷ ts) (append_assoc (expr_tokens e) [] (colon_tokens (spot_at at) None))) (λ at other apart e low. omega (arith, low)) (λ at place e deep. omega (arith, deep)))
       (passes_word 15 spot [] before refl) (except_turns spot before begins) (λ why n e left deep. deep_naming why n spot e left deep) refused;
 }
   where
@@ -275,7 +275,7 @@ except_name_refused c before after part stop begins f refused = record {
       refused_part_head c given limit naming_part 100 (token (Keyword 15) spot ∷ expr_tokens f.written) after (token (Keyword 15) spot ∷ before) stop (λ n. class_turn spot f.written (n + (expr_is_read f).steps))
       (ap (λ ts. token (Keyword 15) spot ∷ ts) f.before_is)
       (begins_part_head c given naming_part 100 (token (Keyword 15) spot ∷ expr_tokens f.written) (λ at called. except_head spot (one_kind f.written called) (spot_at at) None) (λ at called. colon_tokens (spot_at at) None)
-      (λ at called. both_true _ true may refl) (λ at called. refl) (λ at called. refl) (λ at called. ap (λ ts. token (Keyword 15) spot ∷ ts) (append_assoc (expr_tokens f.written) (naming_tokens called) (colon_tokens (spot_at at) None)))
+      (λ at called. both_true _ true may refl) (λ at called. refl) (λ at called. refl) (λ at called some. cc) (λ at called. ap (λ ts. token (Keyword 15) spot ∷ ts) (append_assoc (expr_tokens f.written) (naming_tokens called) (colon_tokens (spot_at at) None)))
       (λ at other apart called any. let low = expr_within f.written (expr_fits f) other in omega (arith, low)) (λ at place called deep. absurd (none_deeper 100 deep)))
       (passes_word 15 spot (expr_tokens f.written) after refl)
       (class_turns spot before after part begins f)

@@ -151,7 +151,7 @@ abbrev pub BeginsWithin : {A : Type 0} → Production A → ℕ → List Token �
 BeginsWithin p room front = (at : Pos) → Completes p room front at
 
 -- Some such part has these first tokens, and there is no room for it: of the expressions in it that lie too deep the first
--- begins at this place. A token of these stands there, and what begins at no token from that one on lies within the room.
+-- begins at this place. A token of these stands there, and what begins at none of these from that one on lies within the room.
 pub record IsFirstDeep {A : Type 0} (p : Production A) (room : ℕ) (front : List Token) (place : Pos) : Type 0 where
   pub some : A
   pub more : List Token
@@ -162,17 +162,12 @@ pub record IsFirstDeep {A : Type 0} (p : Production A) (room : ℕ) (front : Lis
   pub front_is : front ≡ ahead ++ named ∷ between
   pub named_is : named.at ≡ place
   pub deep : room < p.lies some place
-  pub within : (other : Pos) → IsApart other (named ∷ (between ++ more)) → p.lies some other ≤ room
+  pub within : (other : Pos) → IsApart other (named ∷ between) → p.lies some other ≤ room
 
 -- with TooDeep, some such part goes on with the token that shows it, and the first that lies too deep in it is named
 abbrev pub GoesDeep : {A : Type 0} → Production A → ℕ → List Token → Token → Fault → Type 0
 GoesDeep p room front t (TooDeep place) = IsFirstDeep p room (front ++ t ∷ []) place
 GoesDeep p room front t fault = ⊤
-
--- with TooDeep, what is asked for goes on with the token that shows it
-abbrev pub GoesOn : (begins : List Token → Type 0) → List Token → Token → Fault → Type 0
-GoesOn begins front t (TooDeep place) = begins (front ++ t ∷ [])
-GoesOn begins front t fault = ⊤
 
 -- The tokens before this one begin such a part, in which nothing lies too deep yet, and those up to and with it begin none:
 -- with TooDeep, some that there is no room for.

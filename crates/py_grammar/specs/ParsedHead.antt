@@ -21,7 +21,7 @@ use Rattle.py_grammar.specs.declared.head.What.TheVariants.{Simple as SimpleIs, 
 use Rattle.py_grammar.specs.declared.head.LineHead.{LineHead}
 use Rattle.py_grammar.specs.declared.head.Behind.{Behind}
 use Rattle.py_grammar.specs.Concrete.{Spot, Expr, Sum}
-use Rattle.py_grammar.specs.Tokens.{token, expr_tokens, sum_tokens}
+use Rattle.py_grammar.specs.Tokens.{token, keyword, expr_tokens, sum_tokens}
 use Rattle.py_grammar.specs.Trees.{expr_tree, exprs_tree}
 use Rattle.py_grammar.specs.Written.{OneTarget, named, Simple, del, pass, Names, Params, Naming, Kind, Base, Target}
 use Rattle.py_grammar.specs.StatementTokens.{simple_tokens, one_target_tokens, target_tokens, names_tokens, params_tokens, naming_tokens, kind_tokens, base_tokens}
@@ -340,15 +340,8 @@ pub record ReadsDel (c : Context) (given : List (List ℕ)) (so : List Token →
   pub begins : so inside
   pub front_is : front ≡ opened ++ inside
 
--- targets with a comma behind each, and the first tokens of a sum, which is read before it is asked whether it is a target
-pub record StartsTargets (front : List Token) : Type 0 where
-  pub passed : List (OneTarget × Spot)
-  pub some : Sum
-  pub more : List Token
-  pub tokens_are : passed_tokens passed ++ sum_tokens some ≡ front ++ more
-
--- The same, where what begins before the rest lies within the room: whatever place is chosen for the tokens that are put
--- behind, expressions that begin elsewhere lie so.
+-- Targets with a comma behind each, and the first tokens of a sum, which is read before it is asked whether it is a target. What begins
+-- before the rest lies within the room: whatever place is chosen for the tokens that are put behind, expressions that begin elsewhere lie so.
 pub record CompletesTargets (room : ℕ) (front : List Token) (at : Pos) : Type 0 where
   pub passed : List (OneTarget × Spot)
   pub some : Sum
@@ -360,7 +353,7 @@ abbrev pub BeginsTargets : ℕ → List Token → Type 0
 BeginsTargets room front = (at : Pos) → CompletesTargets room front at
 
 -- Targets and a sum have these first tokens, and there is no room for them: of what lies too deep in them the first begins at this
--- place. A token of these stands there, and what begins at no token from that one on lies within the room.
+-- place. A token of these stands there, and what begins at none of these from that one on lies within the room.
 pub record FirstDeepTargets (room : ℕ) (front : List Token) (place : Pos) : Type 0 where
   pub passed : List (OneTarget × Spot)
   pub some : Sum
@@ -372,7 +365,7 @@ pub record FirstDeepTargets (room : ℕ) (front : List Token) (place : Pos) : Ty
   pub front_is : front ≡ ahead ++ named ∷ between
   pub named_is : named.at ≡ place
   pub deep : room_behind room passed < max (passed_lies passed place) (sum_lies some place)
-  pub within : (other : Pos) → IsApart other (named ∷ (between ++ more)) → max (passed_lies passed other) (sum_lies some other) ≤ room_behind room passed
+  pub within : (other : Pos) → IsApart other (named ∷ between) → max (passed_lies passed other) (sum_lies some other) ≤ room_behind room passed
 
 -- the same behind a `for` that may stand there: `so` says that targets begin with the tokens
 pub record ReadsFor (c : Context) (so : List Token → Type 0) (front : List Token) : Type 0 where
@@ -406,21 +399,40 @@ BeginsPlaced around front = BeginsSome simple_part (simple_stands around) front 
 abbrev pub DeepPlaced : Around → List Token → Pos → Type 0
 DeepPlaced around front place = FirstDeepSome simple_part (simple_stands around) front place ⊎ ((around.in_class ≡ false) × FirstDeepDel front place)
 
+-- The same, where nothing has begun if a limit is given.
+abbrev pub BeginsThere : Around → (limit : Option Limit) → List Token → Type 0
+BeginsThere around limit front = (is_some limit ≡ true → front ≡ []) × BeginsPlaced around front
+
 -- With TooDeep, a simple statement goes on with the token that shows it, in which the first that lies too deep begins at the place, or
 -- a limit is passed: then whatever stands first shows it.
 abbrev pub GoesOnPlaced : Around → (limit : Option Limit) → List Token → Token → Fault → Type 0
-GoesOnPlaced around limit front t (TooDeep at) = DeepPlaced around (front ++ t ∷ []) at ⊎ ((limit ≡ Some Depth) × (front ≡ []) × (at ≡ t.at))
+GoesOnPlaced around limit front t (TooDeep at) = ((limit ≡ None) × DeepPlaced around (front ++ t ∷ []) at) ⊎ ((limit ≡ Some Depth) × (front ≡ []) × (at ≡ t.at))
 GoesOnPlaced around limit front t (TooMany at) = (limit ≡ Some Number) × (front ≡ [])
+GoesOnPlaced around limit front t (Unexpected left) = limit ≡ None
 GoesOnPlaced around limit front t fault = ⊤
 
 -- of a statement, what stands ahead of the token that shows it
 abbrev pub IsAheadPlaced : Around → (limit : Option Limit) → List Token → Token → Fault → Type 0
 IsAheadPlaced around limit front t fault = GoesOnPlaced around limit front t fault × UnreadDel front t fault
 
--- the same of a line, where a limit is that of the statement behind the `:`
+-- Where the tokens up to one of these, but the line's first, are a line with `pass` in its place, that one begins what stands behind a `:`. Then no
+-- limit is given, and the line with `pass` may stand there and does not lie too deep.
+abbrev pub IsFreeBehind : Context → List (List ℕ) → (limit : Option Limit) → List Token → Type 0
+IsFreeBehind c given limit tokens = (opened : List Token) (t : Token) (rest : List Token) → tokens ≡ opened ++ t ∷ rest → (opened ≡ [] → ⊥) → (h : Head) (at : Spot) → head_tokens h ≡ opened ++ keyword (codes "pass") at
+    → (limit ≡ None) × (head_stands c given h ≡ true) × (head_depth h ≤ 100)
+
+-- every line that goes on with this token has an expression that begins at this place and lies deeper than 100
+abbrev pub LiesDeepThere : List Token → Token → Pos → Type 0
+LiesDeepThere front t at = (h : Head) (more : List Token) → head_tokens h ≡ front ++ t ∷ more → 100 < head_lies h at
+
+-- What stands ahead of the token that shows a fault of a line, where a limit is that of the statement behind the `:`. With TooDeep either a line goes on with that
+-- token, in which the first that lies too deep begins at the place, as in every line that goes on so; or the limit of suites is passed, whatever stands
+-- there. Where the fault is no limit of the statement behind the `:`, none is passed by a statement that begins with that token or before.
 abbrev pub GoesOnLine : Context → List (List ℕ) → (limit : Option Limit) → List Token → Token → Fault → Type 0
-GoesOnLine c given limit front t (TooDeep at) = DeepHead c given (front ++ t ∷ []) at ⊎ ((limit ≡ Some Depth) × StartsBehind c given pass front × (at ≡ t.at))
-GoesOnLine c given limit front t (TooMany at) = (limit ≡ Some Number) × StartsBehind c given pass front
+GoesOnLine c given limit front t (TooDeep at) = (DeepHead c given (front ++ t ∷ []) at × LiesDeepThere front t at × IsFreeBehind c given limit (front ++ t ∷ []))
+    ⊎ ((limit ≡ Some Depth) × StartsBehind c given pass front × (at ≡ t.at) × IsFreeBehind c given limit front)
+GoesOnLine c given limit front t (TooMany at) = (limit ≡ Some Number) × StartsBehind c given pass front × IsFreeBehind c given limit front
+GoesOnLine c given limit front t (Unexpected left) = IsFreeBehind c given limit (front ++ t ∷ [])
 GoesOnLine c given limit front t fault = ⊤
 
 -- no sum goes on with this token behind targets with a comma each, but where something lies too deep
@@ -460,15 +472,21 @@ LineRefused begins goes tokens amiss before (Here fault) = ShownBy begins goes t
 LineRefused begins goes tokens amiss before End = EndedBy begins tokens (amiss End) before
 
 abbrev pub PlacedRefused : Around → (limit : Option Limit) → List Token → Stop → Type 0
-PlacedRefused around limit before stop = LineRefused (BeginsPlaced around) (IsAheadPlaced around limit) simple_tokens (IsAmissPlaced around limit) before stop
+PlacedRefused around limit before stop = LineRefused (BeginsThere around limit) (IsAheadPlaced around limit) simple_tokens (IsAmissPlaced around limit) before stop
 
 -- what stands behind a `:` is refused: something does stand there
 pub record BehindRefused (around : Around) (limit : Option Limit) (before : List Token) (stop : Stop) : Type 0 where
   pub placed : PlacedRefused around limit before stop
   pub some : before ≡ [] → ⊥
 
+-- the tokens of a line that ends too early
+abbrev pub EndsHead : Context → List (List ℕ) → (limit : Option Limit) → List Token → Type 0
+EndsHead c given limit tokens = BeginsHead c given tokens × IsFreeBehind c given limit tokens
+
 abbrev pub HeadRefused : Context → List (List ℕ) → (limit : Option Limit) → List Token → Stop → Type 0
-HeadRefused c given limit before stop = LineRefused (BeginsHead c given) (IsAheadOnLine c given limit) head_tokens (IsAmissHead c given limit) before stop
+HeadRefused c given limit before (Here Memory) = ⊤
+HeadRefused c given limit before (Here fault) = ShownBy (BeginsHead c given) (IsAheadOnLine c given limit) head_tokens (λ fault a. IsAmissHead c given limit (Here fault) a) before fault
+HeadRefused c given limit before End = EndedBy (EndsHead c given limit) head_tokens (IsAmissHead c given limit End) before
 
 -- behind this keyword
 abbrev pub OpeningFound : Context → ℕ → List Token → What → List Token → Type 0

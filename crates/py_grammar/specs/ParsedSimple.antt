@@ -59,15 +59,8 @@ IsAmiss around (Here (Unexpected left)) s = form_stands around (simple_form s) �
 IsAmiss around End s = form_stands around (simple_form s) ≡ false
 IsAmiss around stop s = ⊥
 
--- `del` and the first tokens of an expression, which is read before it is asked whether it is a target
-pub record StartsDel (front : List Token) : Type 0 where
-  pub spot : Spot
-  pub some : Expr
-  pub more : List Token
-  pub tokens_are : token (Keyword 12) spot ∷ expr_tokens some ≡ front ++ more
-
--- The same, where what begins before the rest lies at most 100 deep: whatever place is chosen for the tokens that are put
--- behind, expressions that begin elsewhere lie so.
+-- `del` and the first tokens of an expression, which is read before it is asked whether it is a target. What begins before the rest lies
+-- at most 100 deep: whatever place is chosen for the tokens that are put behind, expressions that begin elsewhere lie so.
 pub record CompletesDel (front : List Token) (at : Pos) : Type 0 where
   pub spot : Spot
   pub some : Expr
@@ -91,7 +84,7 @@ abbrev pub BeginsSome : {A : Type 0} → Production A → (A → Bool) → List 
 BeginsSome p is front = (at : Pos) → CompletesSome p is front at
 
 -- Some such part that passes this test has these first tokens, and of the expressions in it that lie deeper than 100 the first
--- begins at this place. A token of these stands there, and what begins at no token from that one on lies at most 100 deep.
+-- begins at this place. A token of these stands there, and what begins at none of these from that one on lies at most 100 deep.
 pub record FirstDeepSome {A : Type 0} (p : Production A) (is : A → Bool) (front : List Token) (place : Pos) : Type 0 where
   pub some : A
   pub is_so : is some ≡ true
@@ -103,7 +96,7 @@ pub record FirstDeepSome {A : Type 0} (p : Production A) (is : A → Bool) (fron
   pub front_is : front ≡ ahead ++ named ∷ between
   pub named_is : named.at ≡ place
   pub deep : 100 < p.lies some place
-  pub within : (other : Pos) → IsApart other (named ∷ (between ++ more)) → p.lies some other ≤ 100
+  pub within : (other : Pos) → IsApart other (named ∷ between) → p.lies some other ≤ 100
 
 -- the same of `del` and an expression
 pub record FirstDeepDel (front : List Token) (place : Pos) : Type 0 where
@@ -117,7 +110,7 @@ pub record FirstDeepDel (front : List Token) (place : Pos) : Type 0 where
   pub front_is : front ≡ ahead ++ named ∷ between
   pub named_is : named.at ≡ place
   pub deep : 100 < expr_lies some place
-  pub within : (other : Pos) → IsApart other (named ∷ (between ++ more)) → expr_lies some other ≤ 100
+  pub within : (other : Pos) → IsApart other (named ∷ between) → expr_lies some other ≤ 100
 
 -- with TooDeep, what goes on with the token that shows it is such that the first that lies too deep begins at the place
 abbrev pub NamesDeep : (deep : List Token → Pos → Type 0) → List Token → Token → Fault → Type 0

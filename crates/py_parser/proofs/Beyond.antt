@@ -17,12 +17,13 @@ use Rattle.py_parser.specs.Limits.{Limits}
 use Rattle.py_parser.specs.Grouped.{no_spot}
 use Rattle.py_parser.specs.Rows.{end_rows, row, Under, nothing, block, rows_lines, under_lines, Level, is_stmt, is_def, counted, opens, inside, follows, FitsUnder, may, under_may}
 use Rattle.py_parser.specs.Faults.{at_token, at_end, first_place, IsAt, few_statements, is_stmt_kind}
-use Rattle.py_parser.specs.ParsedBlocks.{UnderGoesOn, UnderFollows, NoneUnder, Passes, RefusedUnder, BeyondFirst, BeyondSuites}
+use Rattle.py_parser.specs.ParsedBlocks.{UnderGoesOn, UnderFollows, NoneUnder, NonePassUnder, KeepsPassUnder, Passes, RefusedUnder, BeyondFirst, BeyondSuites}
 use Rattle.py_parser.proofs.RowLimits.{second, three_of}
 use Rattle.py_parser.proofs.Endings.{begins_suite, goes_inside, line_next, follows_inside, follows_pass}
 use Rattle.py_parser.proofs.Counting.{few_here}
+use Rattle.py_parser.proofs.Ordered.{no_order}
 use Rattle.py_parser.proofs.RowRefusals.{first_reads, too_deep_at}
-use Rattle.py_parser.proofs.BlockLines.{kind_tells}
+use Rattle.py_parser.proofs.ScriptHeads.{kind_tells}
 
 -- the first line under what begins a suite
 record FirstUnder (q : Limits) (m : Level) (n : ℕ) (h : Head) (line : Line) : Type 0 where
@@ -113,7 +114,8 @@ module _ (cs : List ℕ) (m : Level) (n : ℕ) (h : Head) (at : Pos) (line : Lin
     reads = first_reads None (at_token line.indent [] t) refl;
     few = few_here n few;
     shallow = inl refl;
-    order = λ stmt. absurd (false≢true (sym none ∙ stmt));
+    order = no_order (NonePassUnder m n h []) (KeepsPassUnder m n h []) line.indent;
+    passes = λ stmt. absurd (false≢true (sym none ∙ stmt));
     none = none_so;
   }
     where
@@ -131,13 +133,14 @@ module _ (cs : List ℕ) (m : Level) (n : ℕ) (h : Head) (at : Pos) (line : Lin
     lines_are = refl;
     shown = (refl, record { more = ts; tokens_are = is });
     marked = place_is;
-    limit = (passes, record { at = no_spot; next = simple_head (pass no_spot); next_is = refl; before = 0; counts = refl; number_is = omega (arith, many, few) });
+    limit = (passes, record { at = no_spot; next = simple_head (pass no_spot); next_is = refl; before = 0; counts = refl; number_is = omega (arith, many, few) }, begins_one);
     placed = inl next;
     begins = λ place. begins_suite m h (at_token line.indent [] t) open_is refl;
     reads = first_reads None (at_token line.indent [] t) refl;
     few = few_here n few;
     shallow = inl refl;
-    order = tt;
+    order = no_order (NonePassUnder m n h []) (KeepsPassUnder m n h []) line.indent;
+    passes = tt;
     none = none_so;
   }
     where
@@ -159,15 +162,15 @@ module _ (cs : List ℕ) (m : Level) (n : ℕ) (h : Head) (at : Pos) (line : Lin
         none_so = none_passes;
       }
 
-  pub beyond : 50 ≤ m.depth → (halt : Halt) → BeyondSuites h n at line lines halt → RefusedUnder cs m n h at (line ∷ lines) halt
-  beyond deep halt why = by line.tokens refl halt why
+  pub beyond : 50 ≤ m.depth → is_def h ≡ false → (halt : Halt) → BeyondSuites n at line lines halt → RefusedUnder cs m n h at (line ∷ lines) halt
+  beyond deep other halt why = by line.tokens refl halt why
     where
-      by : (ts : List Token) → line.tokens ≡ ts → (halt : Halt) → BeyondFirst h n at ts lines halt → RefusedUnder cs m n h at (line ∷ lines) halt
+      by : (ts : List Token) → line.tokens ≡ ts → (halt : Halt) → BeyondFirst n at ts lines halt → RefusedUnder cs m n h at (line ∷ lines) halt
       by [] is (TooDeep place) why = too_deep_at cs m n h at place line lines open_is deeper within few deep (why ∙ ap (first_place at) (sym is)) (λ t ts there. absurd (none_there t ts (sym is ∙ there)))
       by (t ∷ ts) is (TooDeep place) why = too_deep_at cs m n h at place line lines open_is deeper within few deep (why.0 ∙ ap (first_place at) (sym is))
-          (λ u us there stmt. why.1 (ap (λ (v : Token). is_stmt_kind v.kind) (same_token t u ts us (sym is ∙ there)) ∙ stmt))
+          (λ u us there. (sym (ap (λ (v : Token). is_stmt_kind v.kind) (same_token t u ts us (sym is ∙ there))) ∙ why.1, why.2))
       by (t ∷ ts) is (TooMany place) why = one_more t ts place is why.0 why.1 why.2
-      by (t ∷ ts) is (AtToken lines_left left) why = none_begins t ts lines_left left is why.0 why.1 why.2 why.3
+      by (t ∷ ts) is (AtToken lines_left left) why = none_begins t ts lines_left left is why.0 other why.1 why.2
       by [] is (TooMany place) why = absurd why
       by [] is (AtToken lines_left left) why = absurd why
       by [] is (AtEnd lines_left place) why = absurd why

@@ -1,13 +1,12 @@
 -- What is read of a line of a suite: what the first token tells, the limits, and what is refused.
-use Rattle.std.proofs.Common.{◌≡◌, inl, inr, ℕ, ◌+◌, ◌<◌, ◌≤◌, suc, nat_le, Bool, true, false, not, ◌&&◌, ◌||◌, ◌==◌, List, [], ◌∷◌, ◌++◌, length, Option, Some, None, is_some, is_none, if◌then◌else◌, refl, ap, sym, ◌∙◌, arith, subst, append-nil, ◌⊎◌, codes}
+use Rattle.std.proofs.Common.{◌≡◌, inl, inr, ℕ, ◌+◌, ◌<◌, ◌≤◌, suc, nat_le, Bool, true, false, not, ◌&&◌, ◌||◌, List, [], ◌∷◌, ◌++◌, length, Option, Some, None, is_some, is_none, if◌then◌else◌, refl, ap, sym, ◌∙◌, arith, subst, append_assoc, append-nil, ◌⊎◌, codes}
 use Rattle.std.specs.Prelude.{⊤, slice_get}
 use Rattle.std.specs.Int.{from_bool}
-use Rattle.std.proofs.lemmas.Bool.{eqb-true, leb-true, leb-false, le-leb, false≢true}
+use Rattle.std.proofs.lemmas.Bool.{leb-true, leb-false, le-leb, false≢true}
 use Rattle.std.proofs.lemmas.Option.{same_Some}
 use Rattle.prov_base.specs.declared.place.Pos.{Pos}
 use Rattle.py_lines.specs.declared.parts.Line.{Line}
 use Rattle.py_lines.specs.declared.parts.Token.{Token}
-use Rattle.py_lines.specs.declared.parts.TokenKind.{TokenKind}
 use Rattle.py_lines.specs.declared.parts.TokenKind.TheVariants.{Keyword}
 use Rattle.py_grammar.specs.declared.context.Limit.{Limit}
 use Rattle.py_grammar.specs.declared.context.Limit.TheVariants.{Number, Depth}
@@ -23,19 +22,22 @@ use Rattle.py_grammar.specs.Layout.{IsLine}
 use Rattle.py_grammar.specs.StatementTokens.{simple_tokens, one_target_tokens}
 use Rattle.py_grammar.specs.Written.{Simple, pass, named as named_target, one_target}
 use Rattle.py_grammar.specs.LineReader.{Head, simple_head, if_head, elif_head, else_head, while_head, for_head, try_head, except_head, with_head, def_head, class_head, global_head, head_tokens, colon_tokens}
-use Rattle.py_grammar.specs.ParsedHead.{Context, lacks_handler, word_may, is_compound, is_compound_kind, head_stands, head_depth, behind_in, HeadFound, HeadRefused, IsAmissHead, ShownBy, GoesOnLine, ReadsDel, ReadsFor, BeginsHead, DeepHead, kind_may, may_begin, FirstMay, ShowsOnLine, head_lies, behind_first, StartsBehind, DelStarts, del_name, IsAheadOnLine, UnreadLine}
+use Rattle.py_grammar.specs.ParsedHead.{Context, lacks_handler, word_may, head_stands, head_depth, behind_in, HeadFound, HeadRefused, IsAmissHead, ShownBy, GoesOnLine, ReadsDel, ReadsFor, BeginsHead, DeepHead, kind_may, may_begin, FirstMay, ShowsOnLine, head_lies, behind_first, StartsBehind, IsFreeBehind, DelStarts, del_name, IsAheadOnLine, UnreadLine}
 use Rattle.py_grammar.specs.Lies.{over, is_place}
 use Rattle.py_grammar.specs.Parsed.{IsAtFirst}
 use Rattle.py_parser.specs.Limits.{Limits, profile}
 use Rattle.py_parser.specs.Rows.{Level, Begun, is_stmt, is_every, counted, follows, may}
-use Rattle.py_parser.specs.Faults.{last_place, Point, at_token, at_end, shows, Said, low_elsewhere, first_deep_at, LiesSaid, IsLow, ReadsBehindDel, ReadsBehindFor, Opens, OpensDel, OpensFor, GoesOnWith, Next, few_suites, few_statements, is_stmt_kind, line_fault}
-use Rattle.py_parser.specs.ParsedBlocks.{limit_by, limit_at, RowsBegin, LineRead, RefusedLine, LineStopped, Asks, MarksToken, halt_of, RowsFollow, NoneRows, Passes, RowsLimit, KeepsBy, CountsFrom, OrderBy, NonePass, KeepsPass, halt_limit, deep_at}
+use Rattle.py_parser.specs.Faults.{last_place, Point, at_token, at_end, shows, Said, low_elsewhere, first_deep_at, LiesSaid, IsLow, del_spot, ReadsBehindDel, ReadsBehindFor, Opens, OpensDel, OpensFor, GoesOnWith, Next, few_suites, few_statements, is_stmt_kind, begins_there, line_fault}
+use Rattle.py_parser.specs.ParsedBlocks.{limit_by, limit_at, RowsBegin, LineRead, RefusedLine, LineStopped, Asks, MarksToken, halt_of, RowsFollow, NoneRows, Passes, RowsLimit, KeepsBy, CountsFrom, KeepsOrderBy, PassesThere, IsPassAt, NonePass, KeepsPass, halt_limit, deep_at}
 use Rattle.py_grammar.proofs.LyingLines.{head_low}
-use Rattle.py_grammar.proofs.LineFirsts.{same_first, head_some, simple_not_compound, both_true, misplaced_head}
+use Rattle.py_grammar.proofs.LineFirsts.{same_first, head_some, both_true, misplaced_head}
 use Rattle.py_parser.specs.Grouped.{no_spot}
 use Rattle.py_grammar.proofs.HeadReading.{same_head}
-use Rattle.py_parser.proofs.Endings.{line_of, passed_at, passed_fits, passed_may, begins_here, begins_line, follows_line, follows_pass}
+use Rattle.py_parser.proofs.Endings.{line_of, passed_at, passed_fits, passed_may, begins_here, begins_line, follows_line, follows_pass, line_within}
+use Rattle.py_grammar.proofs.BehindColon.{pass_there}
+use Rattle.py_parser.proofs.ScriptHeads.{kind_tells}
 use Rattle.py_parser.proofs.RowRefusals.{none_line, ends_begun, first_reads}
+use Rattle.py_parser.proofs.Ordered.{none_split}
 
 -- ---- truth values
 
@@ -50,6 +52,10 @@ right_of false b is = absurd (false≢true is)
 or_left : (a b : Bool) → a ≡ true → (a || b) ≡ true
 or_left true b is = refl
 or_left false b is = absurd (false≢true is)
+
+or_other : (a b : Bool) → b ≡ true → (a || b) ≡ true
+or_other true b is = refl
+or_other false b is = is
 
 all_true : (a b c d : Bool) → a ≡ true → b ≡ true → c ≡ true → d ≡ true → (a && b && c && d) ≡ true
 all_true true true true true one two three four = refl
@@ -82,43 +88,6 @@ first_there (u ∷ us) t is = (us, ap (λ v. v ∷ us) (sym (same_Some t u is)))
 pub none_there : (ts : List Token) → None ≡ slice_get ts 0 → ts ≡ []
 none_there [] is = refl
 none_there (u ∷ us) is = cc
-
-no_part : (p q r s : Bool) → p ≡ false → q ≡ false → r ≡ false → s ≡ false → not (p || q || r || s) ≡ true
-no_part false false false false one two three four = refl
-no_part true q r s one two three four = absurd (false≢true (sym one))
-no_part false true r s one two three four = absurd (false≢true (sym two))
-no_part false false true s one two three four = absurd (false≢true (sym three))
-no_part false false false true one two three four = absurd (false≢true (sym four))
-
--- what is no keyword of a line that is more than a simple statement begins a statement
-begins_simple : (kind : TokenKind) → is_compound_kind kind ≡ false → is_stmt_kind kind ≡ true
-begins_simple (Keyword n) other = no_part (n == 13) (n == 14) (n == 15) (n == 19) (differs 13 refl) (differs 14 refl) (differs 15 refl) (differs 19 refl)
-  where
-    by : (k : ℕ) (b : Bool) → (n == k) ≡ b → is_compound k ≡ true → b ≡ false
-    by k false is compound = refl
-    by k true is compound = absurd (false≢true (sym other ∙ (ap is_compound (eqb-true n k is) ∙ compound)))
-
-    differs : (k : ℕ) → is_compound k ≡ true → (n == k) ≡ false
-    differs k compound = by k (n == k) refl compound
-begins_simple kind other = refl
-
-by_word : (k : ℕ) (spot : Spot) (rest : List Token) (t : Token) (ts : List Token) → token (Keyword k) spot ∷ rest ≡ t ∷ ts → is_stmt_kind t.kind ≡ is_stmt_kind (Keyword k)
-by_word k spot rest t ts is = ap (λ (u : Token). is_stmt_kind u.kind) (sym (same_first (token (Keyword k) spot) t rest ts is))
-
--- the first token tells whether a statement begins on the line
-pub kind_tells : (h : Head) (t : Token) (ts : List Token) → head_tokens h ≡ t ∷ ts → is_stmt_kind t.kind ≡ is_stmt h
-kind_tells (simple_head s) t ts is = begins_simple t.kind (simple_not_compound s t ts is)
-kind_tells (if_head at test colon b) t ts is = by_word 20 at _ t ts is
-kind_tells (elif_head at test colon b) t ts is = by_word 13 at _ t ts is
-kind_tells (else_head at colon b) t ts is = by_word 14 at _ t ts is
-kind_tells (while_head at test colon b) t ts is = by_word 32 at _ t ts is
-kind_tells (for_head at target in_word e colon b) t ts is = by_word 17 at _ t ts is
-kind_tells (try_head at colon b) t ts is = by_word 31 at _ t ts is
-kind_tells (except_head at kind colon b) t ts is = by_word 15 at _ t ts is
-kind_tells (with_head at e called colon b) t ts is = by_word 33 at _ t ts is
-kind_tells (def_head at name_at bytes opening given closing colon b) t ts is = by_word 11 at _ t ts is
-kind_tells (class_head at name_at bytes of colon b) t ts is = by_word 9 at _ t ts is
-kind_tells (global_head at names) t ts is = by_word 19 at _ t ts is
 
 -- ---- what may stand there follows
 
@@ -302,9 +271,9 @@ goes_with said indent [] x is = tt
 goes_with said indent (f ∷ fs) x is = is
 
 -- a line with `del` and a name
-record DelLine (c : Context) (given : List (List ℕ)) (opened : List Token) : Type 0 where
+record DelLine (spot : Spot) (c : Context) (given : List (List ℕ)) (opened : List Token) : Type 0 where
   line : Head
-  tokens_are : head_tokens line ≡ (opened ++ simple_tokens (del_name no_spot)) ++ []
+  tokens_are : head_tokens line ≡ (opened ++ simple_tokens (del_name spot)) ++ []
   stands : head_stands c given line ≡ true
   low : (other : Pos) → head_lies line other ≤ 100
 
@@ -313,18 +282,18 @@ name_lies : (b : Bool) → over b 0 ≤ 1
 name_lies true = omega arith
 name_lies false = omega arith
 
-del_line : (c : Context) (given : List (List ℕ)) (opened : List Token) → DelStarts c given opened → DelLine c given opened
-del_line c given opened (inl start) = record {
-  line = simple_head (del_name no_spot);
-  tokens_are = ap (λ ts. ts ++ simple_tokens (del_name no_spot)) (sym start.0) ∙ sym (append-nil (opened ++ simple_tokens (del_name no_spot)));
-  stands = start.1 no_spot;
-  low = λ other. let one = name_lies (is_place no_spot.at other) in omega (arith, one);
+del_line : (spot : Spot) (c : Context) (given : List (List ℕ)) (opened : List Token) → DelStarts c given opened → DelLine spot c given opened
+del_line spot c given opened (inl start) = record {
+  line = simple_head (del_name spot);
+  tokens_are = ap (λ ts. ts ++ simple_tokens (del_name spot)) (sym start.0) ∙ sym (append-nil (opened ++ simple_tokens (del_name spot)));
+  stands = start.1 spot;
+  low = λ other. let one = name_lies (is_place spot.at other) in omega (arith, one);
 }
-del_line c given opened (inr b) = record {
-  line = b.made (del_name no_spot);
-  tokens_are = b.tokens_are (del_name no_spot) ∙ sym (append-nil (opened ++ simple_tokens (del_name no_spot)));
-  stands = b.stands no_spot;
-  low = λ other. let one = name_lies (is_place no_spot.at other) in let most = b.within (del_name no_spot) other in omega (arith, one, most);
+del_line spot c given opened (inr b) = record {
+  line = b.made (del_name spot);
+  tokens_are = b.tokens_are (del_name spot) ∙ sym (append-nil (opened ++ simple_tokens (del_name spot)));
+  stands = b.stands spot;
+  low = λ other. let one = name_lies (is_place spot.at other) in let most = b.within (del_name spot) other in omega (arith, one, most);
 }
 
 -- `for name in None:`
@@ -368,9 +337,10 @@ begins_head : (said : Said) (m : Level) (tokens : List Token) (p : Point) → (m
 begins_head said m tokens p declares (inl b) next =
     begins_line m b.head tokens b.more p b.tokens_are (follows_there m b.head declares b.stands) b.stands (LiesSaid said tokens) b.lies_so (λ x opens. next x (goes_with said m.indent tokens x (inl opens)))
 begins_head said m tokens p declares (inr (inl d)) next =
-    let l = del_line m.context m.given d.opened d.starts in
-    begins_line m l.line (d.opened ++ simple_tokens (del_name no_spot)) [] p l.tokens_are (follows_there m l.line declares l.stands) l.stands IsLow l.low
-    (λ x opens. next x (goes_with said m.indent tokens x (inr (inl (record { opened = d.opened; spot = no_spot; opens = opens; inside = d.inside; begins = d.begins; tokens_are = d.front_is })))))
+    let spot = del_spot said d.inside d.begins in
+    let l = del_line spot m.context m.given d.opened d.starts in
+    begins_line m l.line (d.opened ++ simple_tokens (del_name spot)) [] p l.tokens_are (follows_there m l.line declares l.stands) l.stands IsLow l.low
+    (λ x opens. next x (goes_with said m.indent tokens x (inr (inl (record { opened = d.opened; spot = spot; opens = opens; inside = d.inside; begins = d.begins; spot_is = refl; tokens_are = d.front_is })))))
 begins_head said m tokens p declares (inr (inr f)) next =
     let stands : head_stands m.context m.given (for_line f.spot) ≡ true = both_true _ _ f.may refl in
     begins_line m (for_line f.spot) (keyword (codes "for") f.spot) behind_for p refl (follows_there m (for_line f.spot) declares stands) stands IsLow (for_low f.spot)
@@ -406,6 +376,10 @@ starts_some c given front b none =
     never : (o : Option Simple) → o ≡ Some (pass no_spot) → o ≡ None → ⊥
     never None is none = cc
     never (Some s) is none = cc
+
+some_there : (front : List Token) (t : Token) → (front ≡ [] → ⊥) → begins_there front t ≡ true
+some_there [] t some = absurd (some refl)
+some_there (f ∷ fs) t some = refl
 
 first_kept : (front ts behind : List Token) (shown t : Token) (rest : List Token) → (front ≡ [] → ⊥) → front ++ shown ∷ behind ≡ t ∷ rest → (r : List Token) × (front ++ ts ≡ t ∷ r)
 first_kept [] ts behind shown t rest some is = absurd (some refl)
@@ -497,49 +471,17 @@ keeps_there m n line t begins limit front shown behind o before b passed = recor
   within = let less = leb-false 20000 (n + from_bool begins) (free_number _ _ (sym o.limit_is ∙ passed)) in omega (arith, less);
 }
 
--- with TooDeep and TooMany, what passes the limit
-limit_shown : (m : Level) (n : ℕ) (line : Line) (t : Token) (begins : Bool) (limit : Option Limit) (k : ℕ) (front : List Token) (shown : Token) (behind : List Token) (fault : Fault) → Opened m n line t begins limit
-    → (m.context.may_declare ≡ true → m.of_def ≡ true) → n ≤ 20000 → (begins ≡ true → (n < 20000) ⊎ (lacks_handler m.context.last ≡ true)) → line.tokens ≡ front ++ shown ∷ behind → GoesOnLine m.context m.given limit front shown fault
-    → ((h : Head) (more : List Token) → head_tokens h ≡ front ++ shown ∷ more → IsAmissHead m.context m.given limit (Here fault) h) → line.indent ≡ m.indent → RowsLimit m n [] (halt_of k fault) (at_token line.indent front shown)
-limit_shown m n line t begins limit k front shown behind (Unexpected left) o declares most fewer before goes none same = tt
-limit_shown m n line t begins limit k front shown behind Memory o declares most fewer before goes none same = tt
-limit_shown m n line t begins limit k front shown behind (TooMany place) o declares most fewer before goes none same = (
-  passes_there few_statements m n line t o.rest front shown behind declares o.tokens_are before goes.1 same (number_passing m n line t begins limit o goes.0),
-  counts_there m n line t begins limit front shown behind o declares most fewer before goes.1 goes.0,
-)
-limit_shown m n line t begins limit k front shown behind (TooDeep place) o declares most fewer before (inr goes) none same =
-    inr (
-      goes.2,
-      passes_there few_suites m n line t o.rest front shown behind declares o.tokens_are before goes.1 same (suites_passing m n line t begins limit o goes.0),
-      λ is. keeps_there m n line t begins limit front shown behind o before goes.1 goes.0,
-    )
-limit_shown m n line t begins limit k front shown behind (TooDeep place) o declares most fewer before (inl begun) none same =
-    inl (record {
-      goes_on = begins_ended (first_deep_at place) m line.indent (front ++ shown ∷ []) declares (deep_first place m.context m.given (front ++ shown ∷ []) begun) same;
-      there = λ h more is. by h more is (none h more is);
-    })
-  where
-    by : (h : Head) (more : List Token) → head_tokens h ≡ front ++ shown ∷ more → IsAmissHead m.context m.given limit (Here (TooDeep place)) h → (100 < head_lies h place) ⊎ (behind_first (behind_in h) place × NoneRows few_suites m n [] (at_end line.indent (head_tokens h)))
-    by h more is (inl lies) = inl lies
-    by h more is (inr passed) =
-        let next = front_first front shown behind more t o.rest (sym before ∙ o.tokens_are) in
-        inr (
-          passed.1,
-          none_ends few_suites m n line.indent (head_tokens h) same (λ q few g same_tokens fine.
-              suites_passing m n line t begins limit o passed.0 q few g next.0 (same_tokens ∙ is ∙ next.1) (ap (λ f. is_some (behind_in f)) (same_head g h same_tokens) ∙ some_behind (behind_in h) place passed.1) fine),
-        )
-
 -- a first token with which a statement begins passes no limit, where one may stand
-order_first : (m : Level) (n d : ℕ) (t : Token) → d ≡ m.indent → (is_stmt_kind t.kind ≡ true → (n < 20000) ⊎ (lacks_handler m.context.last ≡ true)) → is_stmt_kind t.kind ≡ true → NonePass m n [] d ⊎ KeepsPass m n [] d
+order_first : (m : Level) (n d : ℕ) (t : Token) → d ≡ m.indent → (is_stmt_kind t.kind ≡ true → (n < 20000) ⊎ (lacks_handler m.context.last ≡ true)) → is_stmt_kind t.kind ≡ true → NonePass m n [] d [] ⊎ KeepsPass m n [] d []
 order_first m n d t same fewer stmt = by (lacks_handler m.context.last) refl
   where
-    absent : lacks_handler m.context.last ≡ true → NonePass m n [] d
+    absent : lacks_handler m.context.last ≡ true → NonePass m n [] d []
     absent lacks at = none_ends (λ q. ⊤) m n d (keyword (codes "pass") at) same (λ q asks h is fine.
         let one : h ≡ simple_head (pass at) = same_head h (simple_head (pass at)) is in
         let stands : head_stands m.context m.given h ≡ true = (each_true (head_stands m.context m.given h) (nat_le (head_depth h) q.height) (nat_le (n + counted h) q.number) (is_none (behind_in h) || nat_le (suc m.depth) q.suites) fine).0 in
         never_both (lacks_handler m.context.last) lacks (left_of (not (lacks_handler m.context.last)) _ (sym (ap (head_stands m.context m.given) one) ∙ stands)))
 
-    keeps : n < 20000 → lacks_handler m.context.last ≡ false → KeepsPass m n [] d
+    keeps : n < 20000 → lacks_handler m.context.last ≡ false → KeepsPass m n [] d []
     keeps less lacks = record {
       number = record { number = n + 1; counts_are = record { at = no_spot; next = simple_head (pass no_spot); next_is = refl; before = 0; counts = refl; number_is = omega arith }; within = omega (arith, less) };
       suites = λ room at. record {
@@ -553,16 +495,107 @@ order_first m n d t same fewer stmt = by (lacks_handler m.context.last) refl
       };
     }
 
-    by : (b : Bool) → lacks_handler m.context.last ≡ b → NonePass m n [] d ⊎ KeepsPass m n [] d
+    by : (b : Bool) → lacks_handler m.context.last ≡ b → NonePass m n [] d [] ⊎ KeepsPass m n [] d []
     by true lacks = inl (absent lacks)
     by false lacks = elim (fewer stmt) [ inl less ↦ inr (keeps less lacks) | inr lacking ↦ absurd (false≢true (sym lacks ∙ lacking)) ]
 
-line_order : (m : Level) (n : ℕ) (line : Line) (t : Token) (begins : Bool) (limit : Option Limit) → Opened m n line t begins limit → (m.context.may_declare ≡ true → m.of_def ≡ true) → n ≤ 20000 → (begins ≡ true → (n < 20000) ⊎ (lacks_handler m.context.last ≡ true))
-    → (front : List Token) (shown : Token) (behind : List Token) (named : Bool) → line.tokens ≡ front ++ shown ∷ behind → line.indent ≡ m.indent → OrderBy (NonePass m n []) (KeepsPass m n []) named (at_token line.indent front shown)
-line_order m n line t begins limit o declares few fewer [] shown behind false before same =
-    λ stmt. order_first m n line.indent shown same (λ is. fewer (o.begins_is ∙ ap (λ (u : Token). is_stmt_kind u.kind) (same_first t shown o.rest behind (sym o.tokens_are ∙ before)) ∙ is)) stmt
-line_order m n line t begins limit o declares few fewer (f ∷ fs) shown behind false before same = tt
-line_order m n line t begins limit o declares few fewer front shown behind true before same = tt
+-- a statement behind the `:` of a line that may stand there passes no limit, where none is given
+keeps_line : (m : Level) (n d : ℕ) (begins : Bool) (h : Head) (opened : List Token) (at : Spot) → d ≡ m.indent → (m.context.may_declare ≡ true → m.of_def ≡ true) → begins ≡ is_stmt h → n + from_bool begins < 20000 → m.depth < 50 → (opened ≡ [] → ⊥)
+    → head_tokens h ≡ opened ++ keyword (codes "pass") at
+    → ((g : Head) (other : Spot) → head_tokens g ≡ opened ++ keyword (codes "pass") other → (head_stands m.context m.given g ≡ true) × (head_depth g ≤ 100)) → KeepsPass m n [] d opened
+keeps_line m n d begins h opened at same declares begins_is less low some tokens free = record {
+  number = record { number = n + counted h; counts_are = record { at = at; next = h; next_is = tokens; before = 0; counts = refl; number_is = omega arith }; within = fits h begins_is };
+  suites = λ room other.
+      let p = pass_there h opened at other some tokens in
+      let one = free p.head other p.tokens_are in
+      line_within m n p.head (IsPassAt other d opened) (follows_there m p.head declares one.0) (may_be p.head one.0 one.1 (first_is p.head other p.tokens_are)) low (record { indent_is = sym same; tokens_are = p.tokens_are });
+}
+  where
+    one_more : (begins is : Bool) (behind : Option Simple) → begins ≡ is → n + from_bool begins < 20000 → n + ((if is then 1 else 0) + (if is_none behind then 0 else 1)) ≤ 20000
+    one_more true true None is less = omega (arith, less)
+    one_more true true (Some s) is less = omega (arith, less)
+    one_more false false None is less = omega (arith, less)
+    one_more false false (Some s) is less = omega (arith, less)
+    one_more true false behind is less = absurd (false≢true (sym is))
+    one_more false true behind is less = absurd (false≢true is)
+
+    fits : (g : Head) → begins ≡ is_stmt g → n + counted g ≤ 20000
+    fits g is = one_more begins (is_stmt g) (behind_in g) is less
+
+    first_is : (g : Head) (other : Spot) → head_tokens g ≡ opened ++ keyword (codes "pass") other → begins ≡ is_stmt g
+    first_is g other is = by opened some tokens is
+      where
+        by : (opened : List Token) → (opened ≡ [] → ⊥) → head_tokens h ≡ opened ++ keyword (codes "pass") at → head_tokens g ≡ opened ++ keyword (codes "pass") other → begins ≡ is_stmt g
+        by [] some one two = absurd (some refl)
+        by (f ∷ fs) some one two = begins_is ∙ sym (kind_tells h f (fs ++ keyword (codes "pass") at) one) ∙ kind_tells g f (fs ++ keyword (codes "pass") other) two
+
+    may_be : (g : Head) → head_stands m.context m.given g ≡ true → head_depth g ≤ 100 → begins ≡ is_stmt g → may profile m n g ≡ true
+    may_be g stands most is = all_true (head_stands m.context m.given g) (nat_le (head_depth g) 100) (nat_le (n + counted g) 20000) (is_none (behind_in g) || nat_le (suc m.depth) 50)
+        stands (le-leb _ _ most) (le-leb _ _ (fits g is)) (or_other (is_none (behind_in g)) (nat_le (suc m.depth) 50) (le-leb (suc m.depth) 50 (omega (arith, low))))
+
+-- no token of a line passes a limit, where a statement begins with it, up to where nothing behind a `:` does
+line_keeps : (m : Level) (n : ℕ) (line : Line) (t : Token) (begins : Bool) (limit : Option Limit) → Opened m n line t begins limit → (m.context.may_declare ≡ true → m.of_def ≡ true) → (begins ≡ true → (n < 20000) ⊎ (lacks_handler m.context.last ≡ true))
+    → (tokens behind : List Token) → line.tokens ≡ tokens ++ behind → IsFreeBehind m.context m.given limit tokens → line.indent ≡ m.indent → KeepsOrderBy (NonePass m n []) (KeepsPass m n []) line.indent tokens
+line_keeps m n line t begins limit o declares fewer tokens behind is free same [] u rest split =
+    λ stmt h at opened_is. order_first m n line.indent u same (λ is_one. fewer (o.begins_is ∙ ap (λ (v : Token). is_stmt_kind v.kind) (same_first t u o.rest (rest ++ behind) (sym o.tokens_are ∙ is ∙ ap (λ ts. ts ++ behind) split)) ∙ is_one)) stmt
+line_keeps m n line t begins limit o declares fewer tokens behind is free same (f ∷ fs) u rest split =
+    λ stmt h at opened_is.
+    let some : f ∷ fs ≡ [] → ⊥ = λ none. cc in
+    let first_is : t ≡ f = same_first t f o.rest ((fs ++ u ∷ rest) ++ behind) (sym o.tokens_are ∙ is ∙ ap (λ ts. ts ++ behind) split) in
+    let clear = none_by (nat_le 20000 (n + from_bool begins)) (nat_le 50 m.depth) (sym o.limit_is ∙ (free (f ∷ fs) u rest split some h at opened_is).0) in
+    let less = leb-false 20000 (n + from_bool begins) clear.0 in
+    let low = leb-false 50 m.depth clear.1 in
+    inr (keeps_line m n line.indent begins h (f ∷ fs) at same declares (o.begins_is ∙ ap (λ (v : Token). is_stmt_kind v.kind) first_is ∙ kind_tells h f (fs ++ keyword (codes "pass") at) opened_is) (omega (arith, less)) (omega (arith, low)) some opened_is
+    (λ g other g_is. let one = free (f ∷ fs) u rest split some g other g_is in (one.1, one.2)))
+
+-- the same of fewer tokens
+free_less : (c : Context) (given : List (List ℕ)) (limit : Option Limit) (a b : List Token) → IsFreeBehind c given limit (a ++ b) → IsFreeBehind c given limit a
+free_less c given limit a b free opened u rest split = free opened u (rest ++ b) (ap (λ ts. ts ++ b) split ∙ append_assoc opened (u ∷ rest) b)
+
+free_before : (c : Context) (given : List (List ℕ)) (limit : Option Limit) (front : List Token) (t : Token) (behind : List Token) (fault : Fault) → ShowsOnLine t behind fault → GoesOnLine c given limit front t fault → IsFreeBehind c given limit front
+free_before c given limit front t behind (Unexpected left) shown goes = free_less c given limit front (t ∷ []) goes
+free_before c given limit front t behind (TooDeep place) shown (inl goes) = free_less c given limit front (t ∷ []) goes.2
+free_before c given limit front t behind (TooDeep place) shown (inr goes) = goes.3
+free_before c given limit front t behind (TooMany place) shown goes = goes.2
+free_before c given limit front t behind Memory shown goes = absurd shown
+
+all_before : (front : List Token) (t : Token) (behind : List Token) → front ++ t ∷ behind ≡ (front ++ t ∷ []) ++ behind
+all_before front t behind = sym (append_assoc front (t ∷ []) behind)
+
+-- the token that shows a fault which names no limit
+line_passes : (m : Level) (n : ℕ) (line : Line) (t : Token) (begins : Bool) (limit : Option Limit) (k : ℕ) → Opened m n line t begins limit → (m.context.may_declare ≡ true → m.of_def ≡ true) → (begins ≡ true → (n < 20000) ⊎ (lacks_handler m.context.last ≡ true))
+    → (front : List Token) (shown : Token) (behind : List Token) (fault : Fault) → ShowsOnLine shown behind fault → line.tokens ≡ front ++ shown ∷ behind → GoesOnLine m.context m.given limit front shown fault → line.indent ≡ m.indent
+    → PassesThere (NonePass m n []) (KeepsPass m n []) (halt_limit (halt_of k fault)) (at_token line.indent front shown)
+line_passes m n line t begins limit k o declares fewer front shown behind (Unexpected left) shows_it is goes same =
+    line_keeps m n line t begins limit o declares fewer (front ++ shown ∷ []) behind (is ∙ all_before front shown behind) goes same front shown [] refl
+line_passes m n line t begins limit k o declares fewer front shown behind (TooDeep place) shows_it is goes same = tt
+line_passes m n line t begins limit k o declares fewer front shown behind (TooMany place) shows_it is goes same = tt
+line_passes m n line t begins limit k o declares fewer front shown behind Memory shows_it is goes same = absurd shows_it
+
+-- with TooDeep and TooMany, what passes the limit
+limit_shown : (m : Level) (n : ℕ) (line : Line) (t : Token) (begins : Bool) (limit : Option Limit) (k : ℕ) (front : List Token) (shown : Token) (behind : List Token) (fault : Fault) → Opened m n line t begins limit
+    → (m.context.may_declare ≡ true → m.of_def ≡ true) → n ≤ 20000 → (begins ≡ true → (n < 20000) ⊎ (lacks_handler m.context.last ≡ true)) → line.tokens ≡ front ++ shown ∷ behind → GoesOnLine m.context m.given limit front shown fault
+    → ((h : Head) (more : List Token) → head_tokens h ≡ front ++ shown ∷ more → IsAmissHead m.context m.given limit (Here fault) h) → line.indent ≡ m.indent → RowsLimit m n [] (halt_of k fault) (at_token line.indent front shown)
+limit_shown m n line t begins limit k front shown behind (Unexpected left) o declares most fewer before goes none same = tt
+limit_shown m n line t begins limit k front shown behind Memory o declares most fewer before goes none same = tt
+limit_shown m n line t begins limit k front shown behind (TooMany place) o declares most fewer before goes none same = (
+  passes_there few_statements m n line t o.rest front shown behind declares o.tokens_are before goes.1 same (number_passing m n line t begins limit o goes.0),
+  counts_there m n line t begins limit front shown behind o declares most fewer before goes.1 goes.0,
+  some_there front shown (starts_some m.context m.given front goes.1),
+)
+limit_shown m n line t begins limit k front shown behind (TooDeep place) o declares most fewer before (inr goes) none same =
+    inr (
+      goes.2,
+      passes_there few_suites m n line t o.rest front shown behind declares o.tokens_are before goes.1 same (suites_passing m n line t begins limit o goes.0),
+      some_there front shown (starts_some m.context m.given front goes.1),
+      keeps_there m n line t begins limit front shown behind o before goes.1 goes.0,
+    )
+limit_shown m n line t begins limit k front shown behind (TooDeep place) o declares most fewer before (inl goes) none same =
+    inl (record {
+      goes_on = begins_ended (first_deep_at place) m line.indent (front ++ shown ∷ []) declares (deep_first place m.context m.given (front ++ shown ∷ []) goes.0) same;
+      there = goes.1;
+      order = line_keeps m n line t begins limit o declares fewer (front ++ shown ∷ []) behind (before ∙ all_before front shown behind) goes.2 same front shown [] refl;
+    })
 
 -- what is read behind `del` and `for`
 line_reads : (k : ℕ) (front : List Token) (t : Token) (fault : Fault) → UnreadLine front t fault → UnreadLine front t (line_fault (deep_at (halt_of k fault)))
@@ -582,7 +615,8 @@ shown_line m n at line lines t begins limit fault o declares most fewer s = reco
   begun = begun_token line.indent s.front s.shown_by;
   begins = begins_token m line.indent s.front s.shown_by declares s.begun;
   reads = line_reads (length lines) s.front s.shown_by fault s.goes_on.1;
-  order = λ same. line_order m n line t begins limit o declares most fewer s.front s.shown_by s.behind (halt_limit (halt_of (length lines) fault)) s.before_is same;
+  order = λ same. line_keeps m n line t begins limit o declares fewer s.front (s.shown_by ∷ s.behind) s.before_is (free_before m.context m.given limit s.front s.shown_by s.behind fault s.left_is s.goes_on.0) same;
+  passes = λ same. line_passes m n line t begins limit (length lines) o declares fewer s.front s.shown_by s.behind fault s.left_is s.before_is s.goes_on.0 same;
   none = λ q asks other more h there tokens_are goes_on fine.
       let is = sym tokens_are ∙ there.1.tokens_are in
       let opens = front_first s.front s.shown_by s.behind there.1.more t o.rest (sym s.before_is ∙ o.tokens_are) in
@@ -612,7 +646,8 @@ line_never m n at line lines t rest fault fewer tokens absent first = by fault f
       begun = begun_token line.indent [] t;
       begins = λ same place. begins_here m (at_token line.indent [] t) refl;
       reads = first_reads None (at_token line.indent [] t) refl;
-      order = λ same. order_first m n line.indent t same fewer;
+      order = λ same opened u inside is. absurd (none_split opened u inside is);
+      passes = λ same stmt h at is. order_first m n line.indent t same fewer stmt;
       none = λ q asks other more h there tokens_are goes_on fine.
           false≢true (sym (misplaced_head m.context m.given h t there.1.more (sym tokens_are ∙ there.1.tokens_are) absent)
           ∙ (each_true (head_stands m.context m.given h) (nat_le (head_depth h) q.height) (nat_le (n + counted h) q.number) (is_none (behind_in h) || nat_le (suc m.depth) q.suites) fine).0);
@@ -631,18 +666,19 @@ line_refused m n at line lines t begins limit fault o declares most fewer (inr f
     line_never m n at line lines t o.rest fault (λ is. fewer (o.begins_is ∙ is)) o.tokens_are (sym (ap (may_begin m.context) o.tokens_are) ∙ first.0) (subst (λ (ts : List Token). IsAtFirst ts (Here fault)) o.tokens_are first.1)
 
 -- a line that ends too early
-pub line_ends : (m : Level) (n : ℕ) (at place : Pos) (line : Line) (lines : List Line) (t : Token) (begins : Bool) (limit : Option Limit) → Opened m n line t begins limit → (m.context.may_declare ≡ true → m.of_def ≡ true) → place ≡ last_place at line.tokens
+pub line_ends : (m : Level) (n : ℕ) (at place : Pos) (line : Line) (lines : List Line) (t : Token) (begins : Bool) (limit : Option Limit) → Opened m n line t begins limit → (m.context.may_declare ≡ true → m.of_def ≡ true) → (begins ≡ true → (n < 20000) ⊎ (lacks_handler m.context.last ≡ true)) → place ≡ last_place at line.tokens
     → HeadRefused m.context m.given limit line.tokens End → RefusedLine m n at line lines (AtEnd (length lines) place)
-line_ends m n at place line lines t begins limit o declares named e = record {
+line_ends m n at place line lines t begins limit o declares fewer named e = record {
   point = at_end line.indent line.tokens;
   on_line = tt;
   shown = (refl, refl);
   marked = (refl, named);
   limit = λ same. tt;
   begun = begun_end line.indent line.tokens;
-  begins = λ same place. begins_ended (low_elsewhere place) m line.indent line.tokens declares (elsewhere place m.context m.given line.tokens e.begun) same;
+  begins = λ same place. begins_ended (low_elsewhere place) m line.indent line.tokens declares (elsewhere place m.context m.given line.tokens e.begun.0) same;
   reads = tt;
-  order = λ same. tt;
+  order = λ same. line_keeps m n line t begins limit o declares fewer line.tokens [] (sym (append-nil line.tokens)) e.begun.1 same;
+  passes = λ same. tt;
   none = λ q asks other more h there tokens_are goes_on fine.
       false≢true (sym (e.none h (sym tokens_are ∙ there.1))
       ∙ (each_true (head_stands m.context m.given h) (nat_le (head_depth h) q.height) (nat_le (n + counted h) q.number) (is_none (behind_in h) || nat_le (suc m.depth) q.suites) fine).0);
@@ -665,7 +701,8 @@ line_is_empty m n at line lines empty = record {
   begun = begun_end line.indent [];
   begins = λ same place. begins_here m (at_end line.indent []) refl;
   reads = tt;
-  order = λ same. tt;
+  order = λ same opened u inside is. absurd (none_split opened u inside is);
+  passes = λ same. tt;
   none = λ q asks other more h there tokens_are goes_on fine. head_some h (sym tokens_are ∙ there.1);
 }
 
@@ -684,11 +721,13 @@ one_too_many m n at line lines t rest tokens begins lacks many few = record {
       none_so = none_ends few_statements m n line.indent (keyword (codes "pass") no_spot) same (λ q most h is fine. no_more q most h pass_token [] refl is fine);
     },
     record { at = no_spot; next = simple_head (pass no_spot); next_is = refl; before = 0; counts = refl; number_is = omega (arith, many, few) },
+    sym begins,
   );
   begun = begun_token line.indent [] t;
   begins = λ same place. begins_here m (at_token line.indent [] t) refl;
   reads = first_reads None (at_token line.indent [] t) refl;
-  order = λ same. tt;
+  order = λ same opened u inside is. absurd (none_split opened u inside is);
+  passes = λ same. tt;
   none = λ q asks other more h there tokens_are goes_on fine. no_more q asks h t there.1.more begins (sym tokens_are ∙ there.1.tokens_are) fine;
 }
   where

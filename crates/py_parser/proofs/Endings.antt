@@ -122,7 +122,7 @@ goes_more : (said : Said) (indent : ℕ) (tokens : List Token) (x y : List Line)
 goes_more said indent [] x y is = tt
 goes_more said indent (f ∷ fs) x y (inl is) = inl (opens_more (LiesSaid said (f ∷ fs)) indent (f ∷ fs) x y is)
 goes_more said indent (f ∷ fs) x y (inr (inl d)) =
-    inr (inl (record { opened = d.opened; spot = d.spot; opens = opens_more IsLow indent (d.opened ++ simple_tokens (del_name d.spot)) x y d.opens; inside = d.inside; begins = d.begins; tokens_are = d.tokens_are }))
+    inr (inl (record { opened = d.opened; spot = d.spot; opens = opens_more IsLow indent (d.opened ++ simple_tokens (del_name d.spot)) x y d.opens; inside = d.inside; begins = d.begins; spot_is = d.spot_is; tokens_are = d.tokens_are }))
 goes_more said indent (f ∷ fs) x y (inr (inr d)) =
     inr (inr (record { spot = d.spot; opens = opens_more IsLow indent (keyword (codes "for") d.spot) x y d.opens; inside = d.inside; begins = d.begins; tokens_are = d.tokens_are }))
 
@@ -419,3 +419,25 @@ follows_line m h is may_follow may_stand so = record {
 -- the statement `pass`
 pub follows_pass : (m : Level) (is : Line → Type 0) → lacks_handler m.context.last ≡ false → is (line_of m.indent pass_head) → RowsFollow m is []
 follows_pass m is lacks so = record { rows = passed m; fits = passed_fits no_spot m lacks; line = line_of m.indent pass_head; more = []; lines_are = refl; line_is = so; stands = all_three (head_stands m.context m.given pass_head) true true (pass_stands no_spot m lacks) refl refl }
+
+-- a line that begins this, with its end within 50 suites
+pub line_within : (m : Level) (n : ℕ) (h : Head) (is : Line → Type 0) → follows m h ≡ true → may profile m n h ≡ true → m.depth < 50 → is (line_of m.indent h) → RowsWithin 50 m n is []
+line_within m n h is may_follow may_be low so = record {
+  rows = row (line_of m.indent h) h (under_by (opens h) m h) (ending (after m h));
+  fits = (record { indent_is = refl; tokens_are = refl }, may_follow, under_fits m h, ending_fits (after m h));
+  may_be = λ k room. all_three (may (wide 50 k) m n h) (under_may (wide 50 k) m (n + counted h) h (under_by (opens h) m h)) _
+      (may_wide 50 m n h k (omega arith) may_be (omega (arith, room)))
+      (under_within (opens h) k (omega (arith, room)))
+      (ending_may 50 (after m h) (n + counted h + under_size (under_by (opens h) m h)) k (λ lacks. omega (arith, low)) (omega (arith, room)));
+  line = line_of m.indent h;
+  more = under_lines (under_by (opens h) m h) ++ rows_lines (ending (after m h));
+  lines_are = refl;
+  line_is = so;
+}
+  where
+    deep : suc m.depth ≤ 50
+    deep = omega (arith, low)
+
+    under_within : (b : Bool) (k : ℕ) → n + counted h + under_size (under_by b m h) ≤ k → under_may (wide 50 k) m (n + counted h) h (under_by b m h) ≡ true
+    under_within true k room = both (nat_le (suc m.depth) 50) _ (le-leb (suc m.depth) 50 deep) (ending_may 50 (inside m h (suc m.indent)) (n + counted h) k (λ never. absurd (false≢true never)) room)
+    under_within false k room = refl

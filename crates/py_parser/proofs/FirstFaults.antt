@@ -11,7 +11,7 @@ use Rattle.py_parser.specs.declared.fault.Halt.TheVariants.{AtToken, AtEnd, NoLi
 use Rattle.py_parser.specs.declared.fault.ParseFault.{ParseFault}
 use Rattle.py_parser.specs.declared.fault.ParseFault.TheVariants.{Unexpected, BadIndent, TooDeep, TooMany}
 use Rattle.py_parser.specs.Limits.{Limits}
-use Rattle.py_parser.specs.Faults.{Point, at_token, at_end, at_line, below, no_line, shows, NamesToken, NamesEnd, names, Asks, origin, last_token, FirstFault, NamesLimit, ReadsNoFurther, KeepsOrder, deep_place, names_limit}
+use Rattle.py_parser.specs.Faults.{Point, at_token, at_end, at_line, below, no_line, shows, NamesToken, NamesEnd, names, Asks, origin, last_token, FirstFault, NamesLimit, ReadsNoFurther, PassesNoneThere, deep_place, names_limit}
 use Rattle.py_parser.specs.ParsedBlocks.{marks, Asks as AsksHalt, FirstHalt, deep_at, halt_limit}
 
 -- where the fault is named there, it is the first one
@@ -29,7 +29,8 @@ as_fault lines halt fault h deep kind asked limit named = record {
   reads = subst (λ o. ReadsNoFurther o h.point) deep h.reads;
   few = h.few;
   shallow = h.shallow;
-  order = subst (λ b. KeepsOrder b h.front h.point) kind h.order;
+  order = h.order;
+  passes = subst (λ b. PassesNoneThere b h.front h.point) kind h.passes;
   none = λ limits asks. h.none limits (asked limits asks);
 }
 

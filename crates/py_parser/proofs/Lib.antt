@@ -7,13 +7,19 @@ pub mod CloseParts
 pub mod Columns
 pub mod Counting
 pub mod CycleParts
+pub mod EarlierFaults
 pub mod Endings
 pub mod FirstFaults
 pub mod Grown
 pub mod Lacking
+pub mod LineWalks
+pub mod NoHandler
+pub mod OneFault
 pub mod Ordered
 pub mod Parsing
+pub mod PassedLimits
 pub mod Peeled
+pub mod PlacedTokens
 pub mod RowFits
 pub mod RowKept
 pub mod RowLimits
@@ -22,5 +28,7 @@ pub mod RowNeeds
 pub mod RowRefusals
 pub mod RowStatements
 pub mod RowsStanding
+pub mod SameLine
+pub mod ScriptHeads
 pub mod Shallow
 pub mod UnderParts

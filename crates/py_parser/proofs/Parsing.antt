@@ -13,7 +13,7 @@ use Rattle.py_parser.specs.declared.fault.ParseFault.{ParseFault}
 use Rattle.py_parser.specs.declared.fault.ParseFault.TheVariants.{Unexpected, Unsupported, BadIndent, TooDeep, TooMany, Memory}
 use Rattle.py_parser.specs.declared.fault.Halt.{Halt}
 use Rattle.py_parser.specs.declared.fault.Halt.TheVariants.{AtToken, AtEnd, NoLine, BadIndent as IndentHalt, TooDeep as DeepHalt, TooMany as ManyHalt, Memory as MemoryHalt}
-use Rattle.py_grammar.specs.Written.{Script, empty_script, script}
+use Rattle.py_grammar.specs.Written.{Script, empty_script}
 use Rattle.py_grammar.specs.Grammar.{script_lines, FitsScript}
 use Rattle.py_grammar.specs.StatementTrees.{script_body}
 use Rattle.py_grammar.specs.WellPlaced.{script_stands}
@@ -22,16 +22,14 @@ use Rattle.py_parser.specs.declared.blocks.Built.{Built}
 use Rattle.py_parser.specs.Limits.{Limits, profile}
 use Rattle.py_lines.specs.declared.parts.Token.{Token}
 use Rattle.py_grammar.specs.Tokens.{keyword}
-use Rattle.py_grammar.specs.LineReader.{head_tokens}
 use Rattle.py_grammar.specs.Layout.{IsLine}
 use Rattle.py_parser.specs.Script.{IsScript}
-use Rattle.py_parser.specs.Faults.{Said, low_elsewhere, first_deep_at, Point, at_token, at_end, at_line, below, no_line, shows, first_place, first_token, Asks, origin, BeginsScript, SomeFollows, SomeStands, FollowsWithin, MayFollow, StandsFor, LieWithin, KeepsOrder, IsAt, IsPass, IsPassBefore, IsHandler, MayStandAt, LacksStatement, InColumn, FirstFault, IsFault, NoneWithin, few_suites, few_statements, CountsWithPass, PassesLimit, LiesDeep}
+use Rattle.py_parser.specs.Faults.{Said, low_elsewhere, first_deep_at, Point, at_token, at_end, at_line, below, no_line, shows, first_place, first_token, Asks, origin, BeginsScript, SomeFollows, SomeStands, FollowsWithin, MayFollow, StandsFor, LieWithin, NoneBegins, KeepsLimits, PassesNone, InOrder, PassesNoneThere, IsAt, IsPass, IsPassBefore, IsHandler, MayStandAt, LacksStatement, InColumn, FirstFault, IsFault, NoneWithin, few_suites, few_statements, CountsWithPass, PassesLimit, LiesDeep}
 use Rattle.py_parser.specs.Rows.{Rows, end_rows, row, rows_lines, rows_size, rows_may, rows_stand, start, Level, FitsRows, FitsStart, Begun}
 use Rattle.py_parser.specs.Grouped.{script_rows, script_of}
 use Rattle.py_parser.specs.RowForms.{suite_list, grow}
-use Rattle.py_parser.specs.ParsedBlocks.{RowsFollow, NoneRows, Passes, Deep, RowsLimit, CountsFrom, halt_limit, OrderBy, IsPassAt, NonePass, KeepsPass, ScriptLimit, Asks as AsksHalt, wide, trees_of, RowsBegin, RowsWithin, RowsGoOn, RowsLie, NoRows, MayStand, Lacks, Placed, Refused, RowsStopped, RowsRead, FirstHalt, IsHalt}
+use Rattle.py_parser.specs.ParsedBlocks.{RowsFollow, NoneRows, Passes, Deep, RowsLimit, CountsFrom, halt_limit, PassesBy, OrderBy, PassesThere, IsPassAt, NonePass, KeepsPass, ScriptLimit, Asks as AsksHalt, wide, trees_of, RowsBegin, RowsWithin, RowsGoOn, RowsLie, NoRows, MayStand, Lacks, Placed, Refused, RowsStopped, RowsRead, IsShallow, FirstHalt, IsHalt}
 use Rattle.py_parser.proofs.RowLines.{script_same}
-use Rattle.py_parser.proofs.RowFits.{script_fits}
 use Rattle.py_parser.proofs.RowStatements.{script_is}
 use Rattle.py_parser.proofs.Grown.{script_grown, script_size}
 use Rattle.py_parser.proofs.RowLimits.{script_may}
@@ -43,6 +41,7 @@ use Rattle.py_parser.proofs.Peeled.{one_indent}
 use Rattle.py_parser.proofs.Columns.{none_open}
 use Rattle.py_parser.proofs.Endings.{pass_before}
 use Rattle.py_parser.proofs.Shallow.{no_last, same_last}
+use Rattle.py_parser.proofs.ScriptHeads.{fits_start}
 
 abbrev pub tree_of : SuiteTree → ℕ → ScriptTree
 tree_of body count = record { body = body; count = count }
@@ -97,15 +96,6 @@ pub empty_script_is : (lines read : List Line) (v : Vec Stmt Global) → read �
 empty_script_is lines read v same none items = as_script lines v 0 (subst (λ (ss : List Stmt). IsScript lines (tree_by (map stmt_of ss) 0)) (sym items) (no_statements lines (sym same ∙ none)))
 
 -- ---- what is refused
-
--- the rows of a script with lines fit
-fits_start : (s : Script) (x : List Line) → FitsScript s → script_lines s ≡ x → (x ≡ [] → ⊥) → FitsRows start (script_rows s)
-fits_start empty_script x fits same some = absurd (some (sym same))
-fits_start (script body) x fits same some = by (script_rows (script body)) (script_fits (script body) fits) refl
-  where
-    by : (rows : Rows) → FitsStart rows → script_rows (script body) ≡ rows → FitsRows start (script_rows (script body))
-    by end_rows all is = absurd (some (sym same ∙ sym (script_same (script body)) ∙ ap rows_lines is))
-    by (row line h under rest) all is = subst (FitsRows start) (sym is) all
 
 some_lines : (d : ℕ) (x : List Line) → Begun d x → x ≡ [] → ⊥
 some_lines d [] begun none = begun
@@ -226,25 +216,57 @@ passes_limit within front d tokens s = record {
   none = none_script within front (at_end d (tokens ++ keyword (codes "pass") s.at)) (ends_some front d (tokens ++ keyword (codes "pass") s.at)) s.none_so;
 }
 
-lies_deep : (place : Pos) (front : List Line) (d : ℕ) (tokens : List Token) (next : Token) → Deep (λ said. RowsBegin said start front) (λ d ts. NoneRows few_suites start 0 front (at_end d ts)) place d tokens next → LiesDeep place front d tokens next
-lies_deep place front d tokens next s = record {
-  goes_on = script_begins (first_deep_at place) front (at_end d (tokens ++ next ∷ [])) s.goes_on;
-  there = λ h more is. elim (s.there h more is) [ inl lies ↦ inl lies | inr far ↦ inr (far.0, none_script few_suites front (at_end d (head_tokens h)) (ends_some front d (head_tokens h)) far.1) ];
-}
-
 counts_pass : (number : ℕ) (front : List Line) (tokens : List Token) → CountsFrom 0 front number tokens → CountsWithPass number front tokens
 counts_pass number front tokens c = record { at = c.at; next = c.next; next_is = c.next_is; before = c.before; counts = c.counts; number_is = let all = c.number_is in omega (arith, all) }
 
+script_none : (front : List Line) (d : ℕ) (tokens : List Token) → NonePass start 0 front d tokens → NoneBegins front d tokens
+script_none front d tokens absent at = none_script (λ q. ⊤) front (at_end d (tokens ++ keyword (codes "pass") at)) (ends_some front d (tokens ++ keyword (codes "pass") at)) (absent at)
+
+script_keeps : (front : List Line) (d : ℕ) (tokens : List Token) → KeepsPass start 0 front d tokens → KeepsLimits front d tokens
+script_keeps front d tokens keeps = record {
+  number = record { number = keeps.number.number; counts = counts_pass keeps.number.number front tokens keeps.number.counts_are; within = keeps.number.within };
+  suites = λ at. script_within 50 (IsPassAt at d tokens) front (keeps.suites (λ lacks. absurd (false≢true lacks)) at);
+}
+
+script_passes : (front : List Line) (d : ℕ) (tokens : List Token) (t : Token) → PassesBy (NonePass start 0 front) (KeepsPass start 0 front) d tokens t → PassesNone front d tokens t
+script_passes front d tokens t passes = λ begins h at is. elim (passes begins h at is) [ inl absent ↦ inl (script_none front d tokens absent) | inr keeps ↦ inr (script_keeps front d tokens keeps) ]
+
+script_order : (front : List Line) (p : Point) → OrderBy (NonePass start 0 front) (KeepsPass start 0 front) p → InOrder front p
+script_order front (at_token d tokens t) order = λ opened u rest is. script_passes front d opened u (order opened u rest is)
+script_order front (at_end d tokens) order = λ opened u rest is. script_passes front d opened u (order opened u rest is)
+script_order front (at_line d) order = tt
+script_order front (below d) order = tt
+script_order front no_line order = tt
+
+script_there : (front : List Line) (limit : Bool) (p : Point) → PassesThere (NonePass start 0 front) (KeepsPass start 0 front) limit p → PassesNoneThere limit front p
+script_there front false (at_token d tokens t) passes = script_passes front d tokens t passes
+script_there front true (at_token d tokens t) passes = tt
+script_there front false (at_end d tokens) passes = tt
+script_there front true (at_end d tokens) passes = tt
+script_there front false (at_line d) passes = tt
+script_there front true (at_line d) passes = tt
+script_there front false (below d) passes = tt
+script_there front true (below d) passes = tt
+script_there front false no_line passes = tt
+script_there front true no_line passes = tt
+
+lies_deep : (place : Pos) (front : List Line) (d : ℕ) (tokens : List Token) (next : Token) → Deep (λ said. RowsBegin said start front) (NonePass start 0 front) (KeepsPass start 0 front) place d tokens next → LiesDeep place front d tokens next
+lies_deep place front d tokens next s = record {
+  goes_on = script_begins (first_deep_at place) front (at_end d (tokens ++ next ∷ [])) s.goes_on;
+  there = s.there;
+  order = script_passes front d tokens next s.order;
+}
+
 script_limit : (front : List Line) (halt : Halt) (p : Point) → RowsLimit start 0 front halt p → ScriptLimit halt front p
 script_limit front (DeepHalt place) (at_token d tokens t) (inl s) = inl (lies_deep place front d tokens t s)
-script_limit front (DeepHalt place) (at_token d tokens t) (inr (at, s, few)) =
-    inr (at, passes_limit few_suites front d tokens s, λ is. (let k = few is in record { number = k.number; counts = counts_pass k.number front tokens k.counts_are; within = k.within }))
+script_limit front (DeepHalt place) (at_token d tokens t) (inr (at, s, begins, k)) =
+    inr (at, passes_limit few_suites front d tokens s, begins, record { number = k.number; counts = counts_pass k.number front tokens k.counts_are; within = k.within })
 script_limit front (DeepHalt place) (at_end d tokens) (none, s) = (none, passes_limit few_suites front d [] s)
 script_limit front (DeepHalt place) (at_line d) limit = limit
 script_limit front (DeepHalt place) (below d) limit = limit
 script_limit front (DeepHalt place) no_line limit = limit
 script_limit front (ManyHalt place) (at_token d tokens t) s =
-    (passes_limit few_statements front d tokens s.0, counts_pass 20001 front tokens s.1)
+    (passes_limit few_statements front d tokens s.0, counts_pass 20001 front tokens s.1, s.2)
 script_limit front (ManyHalt place) (at_end d tokens) limit = limit
 script_limit front (ManyHalt place) (at_line d) limit = limit
 script_limit front (ManyHalt place) (below d) limit = limit
@@ -254,25 +276,6 @@ script_limit front (AtEnd lines_left place) p limit = tt
 script_limit front (NoLine place) p limit = tt
 script_limit front (IndentHalt place) p limit = tt
 script_limit front MemoryHalt p limit = tt
-
-script_order : (front : List Line) (limit : Bool) (p : Point) → OrderBy (NonePass start 0 front) (KeepsPass start 0 front) limit p → KeepsOrder limit front p
-script_order front false (at_token d [] t) order = λ stmt. elim (order stmt) [
-  | inl absent ↦ inl (λ at. none_script (λ q. ⊤) front (at_end d (keyword (codes "pass") at)) (ends_some front d (keyword (codes "pass") at)) (absent at))
-  | inr keeps ↦ inr (record {
-    number = record { number = keeps.number.number; counts = counts_pass keeps.number.number front [] keeps.number.counts_are; within = keeps.number.within };
-    suites = λ at. script_within 50 (IsPassAt at d) front (keeps.suites (λ lacks. absurd (false≢true lacks)) at);
-  })
-]
-script_order front false (at_token d (f ∷ fs) t) order = tt
-script_order front false (at_end d tokens) order = tt
-script_order front false (at_line d) order = tt
-script_order front false (below d) order = tt
-script_order front false no_line order = tt
-script_order front true (at_token d tokens t) order = tt
-script_order front true (at_end d tokens) order = tt
-script_order front true (at_line d) order = tt
-script_order front true (below d) order = tt
-script_order front true no_line order = tt
 
 first_halt : (lines : List Line) (halt : Halt) → Refused [] start 0 origin lines halt → FirstHalt lines halt
 first_halt lines halt r = record {
@@ -288,7 +291,8 @@ first_halt lines halt r = record {
   reads = r.reads;
   few = record { number = r.few.number; counts = r.few.counts; within = let low = r.few.within in omega (arith, low) };
   shallow = script_lies r.front (r.shallow (λ lacks. absurd (false≢true lacks)));
-  order = script_order r.front (halt_limit halt) r.point (r.order);
+  order = script_order r.front r.point r.order;
+  passes = script_there r.front (halt_limit halt) r.point r.passes;
   none = none_script (AsksHalt halt) r.front r.point (λ rest shown_it. some_lines 0 (r.front ++ rest) (r.begun rest shown_it)) r.none;
 }
 
@@ -304,9 +308,9 @@ stopped_script lines l halt is r = by halt (subst (λ (k : Level). RowsStopped [
     by (DeepHalt place) r = first_halt lines (DeepHalt place) r
     by (ManyHalt place) r = first_halt lines (ManyHalt place) r
 
-pub stopped_there : (lines read : List Line) (cs : List ℕ) (l : Level) (halt : Halt) → read ≡ lines → cs ≡ [] → l ≡ start → RowsStopped cs l 0 origin read halt → IsHalt lines halt
+pub stopped_there : (lines read : List Line) (cs : List ℕ) (l : Level) (halt : Halt) → read ≡ lines → cs ≡ [] → l ≡ start → (IsShallow l → RowsStopped cs l 0 origin read halt) → IsHalt lines halt
 stopped_there lines read cs l halt same columns is r =
-    subst (λ (ls : List Line). IsHalt ls halt) same (stopped_script read l halt is (subst (λ (xs : List ℕ). RowsStopped xs l 0 origin read halt) columns r))
+    subst (λ (ls : List Line). IsHalt ls halt) same (stopped_script read l halt is (subst (λ (xs : List ℕ). RowsStopped xs l 0 origin read halt) columns (r (subst (λ (k : Level). IsShallow k) (sym is) (λ there. refl, λ there. absurd (false≢true there))))))
 
 -- the first line of a script is not indented
 zero_first : (rows : Rows) (rest : List Line) → FitsRows start rows → rows_lines rows ≡ rest → Begun 0 rest
@@ -328,6 +332,7 @@ indented_first line lines all is other = record {
   few = record { number = 0; counts = refl; within = omega arith };
   shallow = λ before last at is. absurd (no_last before last is);
   order = tt;
+  passes = tt;
   none = λ limits asks s fits fine rest shown_it same. never s rest fits same (begun rest shown_it);
 }
   where

@@ -11,21 +11,21 @@ use Rattle.py_grammar.specs.LineReader.{Head, simple_head, head_tokens}
 use Rattle.py_grammar.specs.Layout.{IsLine}
 use Rattle.py_grammar.specs.Follows.{Below}
 use Rattle.py_parser.specs.Limits.{Limits, profile}
-use Rattle.py_parser.specs.Rows.{Rows, end_rows, row, Under, nothing, block, rows_lines, under_lines, Level, counted, opens, after, inside, is_done, follows, Leads, FitsUnder, FitsRows, may, rows_may, under_may, rows_stand, rows_size, Edge, LastEdge, Begun}
+use Rattle.py_parser.specs.Rows.{Rows, end_rows, row, Under, nothing, block, rows_lines, under_lines, Level, counted, opens, after, inside, is_done, follows, Leads, FitsUnder, FitsRows, may, rows_may, under_may, rows_size, Edge, LastEdge, Begun}
 use Rattle.py_lines.specs.declared.parts.TokenKind.TheVariants.{Keyword}
 use Rattle.py_grammar.specs.declared.fault.Fault.{Fault}
-use Rattle.py_grammar.specs.ParsedHead.{UnreadLine, lacks_handler, head_stands}
+use Rattle.py_grammar.specs.ParsedHead.{UnreadLine, lacks_handler}
 use Rattle.py_grammar.specs.Tokens.{keyword, token}
 use Rattle.py_grammar.specs.Written.{pass}
 use Rattle.py_parser.specs.Grouped.{no_spot}
 use Rattle.py_parser.specs.Faults.{NoLess, Said, low_elsewhere, first_deep_at, Point, at_token, at_end, at_line, below, no_line, shows, first_place, last_place, last_token, IsAt, IsPass, IsPassBefore, IsHandler, IsOpenAt, few_suites, few_statements, is_stmt_kind, tokens_before, ReadsNoFurther, line_fault}
-use Rattle.py_parser.specs.ParsedBlocks.{RowsBegin, RowsFollow, UnderFollows, NoneRows, NoneUnder, Passes, Deep, LimitBy, RowsLimit, UnderLimit, NoLimit, Few, CountsFrom, is_column, columns_under, RowsGoOn, UnderGoesOn, NoRows, NoUnder, MayStand, MayStandUnder, Placed, PlacedUnder, IsOnLine, UnderBegins, Refused, RefusedHere, RefusedUnder, RefusedLine, Asks, marks, MarksFirst, deep_at, halt_limit, NonePass, KeepsPass, NonePassUnder, KeepsPassUnder, NoneHere}
+use Rattle.py_parser.specs.ParsedBlocks.{RowsBegin, RowsFollow, UnderFollows, NoneRows, NoneUnder, Passes, NoneBy, Deep, LimitBy, RowsLimit, UnderLimit, NoLimit, Few, CountsFrom, is_column, columns_under, RowsGoOn, UnderGoesOn, NoRows, NoUnder, MayStand, MayStandUnder, Placed, PlacedUnder, IsOnLine, UnderBegins, Refused, RefusedHere, RefusedUnder, RefusedLine, Asks, marks, MarksFirst, deep_at, halt_limit, NonePass, KeepsPass, NonePassUnder, KeepsPassUnder, NoneHere}
 use Rattle.py_parser.proofs.Columns.{leads_low, under_low, less_in, all_front, open_behind, open_first, none_open, open_split, open_apart, open_low, no_open_rows, column_inside, own_column, column_here}
 use Rattle.py_parser.proofs.Endings.{begins_here, begins_behind, begins_end, begins_under, begins_inside, begins_suite, handler_next, pass_next, pass_before, line_next, goes_behind, goes_end, goes_under, goes_inside, follows_behind, follows_under, follows_inside, follows_pass}
 use Rattle.py_parser.proofs.Lacking.{indent_stays, lacks_behind, lacks_end, lacks_under, lacks_inside}
 use Rattle.py_parser.proofs.Counting.{few_behind, few_under, few_here, more_behind, more_under}
 use Rattle.py_parser.proofs.RowNeeds.{head_standing, rows_standing}
-use Rattle.py_parser.proofs.Ordered.{order_more, order_here, keeps_behind, keeps_under, keeps_inside}
+use Rattle.py_parser.proofs.Ordered.{stands_at, no_order, passes_more, order_more, there_more, order_here, there_here, keeps_behind, keeps_under, keeps_inside}
 use Rattle.py_parser.proofs.Shallow.{rows_room, rows_lie, lie_behind, lie_under, lie_inside}
 use Rattle.py_parser.proofs.Peeled.{begun_rows, one_indent, edge_under, head_is, left_over, peeled}
 
@@ -107,12 +107,6 @@ placed_behind cs l m n rows front behind (at_line d) leads may_be shown begun is
 placed_behind cs l m n rows front behind (below d) leads may_be shown begun is = (goes_behind l m n rows (IsPass d) front leads may_be is.0, lacks_behind l m rows d front leads is.1)
 placed_behind cs l m n rows front behind no_line leads may_be shown begun is = goes_behind l m n rows IsHandler front leads may_be is
 
--- where a line stands that is shown
-abbrev pub stands_at : Point → ℕ → Type 0
-stands_at (at_token indent tokens t) d = d ≡ indent
-stands_at (at_end indent tokens) d = d ≡ indent
-stands_at point d = ⊥
-
 -- what begins with a line there begins with any line there
 begun_with : (i d : ℕ) (front : List Line) (some : Line) → some.indent ≡ d → Begun i (front ++ some ∷ []) → (rest : List Line) → Begun d rest → Begun i (front ++ rest)
 begun_with i d [] some at begun [] there = absurd there
@@ -130,38 +124,36 @@ begun_there i d front (at_line indent) at begun = absurd at
 begun_there i d front (below indent) at begun = absurd at
 begun_there i d front no_line at begun = absurd at
 
-token_stands : (p : Point) (d : ℕ) (t : Token) → p ≡ at_token d [] t → stands_at p d
-token_stands p d t is = subst (λ (q : Point). stands_at q d) (sym is) refl
-
 pub ends_begun : (d : ℕ) (tokens : List Token) (rest : List Line) → shows (at_end d tokens) rest → Begun d rest
 ends_begun d tokens [] shown = absurd shown
 ends_begun d tokens (line ∷ rest) shown = shown.0
 
 -- what passes a limit, said of more lines
-limit_more : (begins more_begins : Said → Point → Type 0) (follow more_follow : (Line → Type 0) → Type 0) (none more_none : (Limits → Type 0) → ℕ → List Token → Type 0) (count more_count : ℕ → List Token → Type 0) (halt : Halt) (p : Point)
+limit_more : (begins more_begins : Said → Point → Type 0) (follow more_follow : (Line → Type 0) → Type 0) (none more_none : (Limits → Type 0) → ℕ → List Token → Type 0) (kept more_kept : ℕ → List Token → Type 0) (count more_count : ℕ → List Token → Type 0) (halt : Halt) (p : Point)
     → ((said : Said) (p : Point) → begins said p → more_begins said p)
-    → ((is : Line → Type 0) → follow is → more_follow is) → ((within : Limits → Type 0) (d : ℕ) (tokens : List Token) → stands_at p d → none within d tokens → more_none within d tokens)
-    → ((number : ℕ) (tokens : List Token) → count number tokens → more_count number tokens) → LimitBy begins follow none count halt p → LimitBy more_begins more_follow more_none more_count halt p
-limit_more begins more_begins follow more_follow none more_none count more_count halt p one two three four limit = by halt p three limit
+    → ((is : Line → Type 0) → follow is → more_follow is) → ((within : Limits → Type 0) (d : ℕ) (tokens : List Token) → stands_at p d → none within d tokens → more_none within d tokens) → ((d : ℕ) (tokens : List Token) → kept d tokens → more_kept d tokens)
+    → ((number : ℕ) (tokens : List Token) → count number tokens → more_count number tokens) → LimitBy begins follow none kept count halt p → LimitBy more_begins more_follow more_none more_kept more_count halt p
+limit_more begins more_begins follow more_follow none more_none kept more_kept count more_count halt p one two three keeps four limit = by halt p three limit
   where
     passes : (within : Limits → Type 0) (d : ℕ) (tokens : List Token) → ((ts : List Token) → none within d ts → more_none within d ts) → Passes follow (none within) d tokens → Passes more_follow (more_none within) d tokens
     passes within d tokens more s = record { at = s.at; goes_on = two (λ line. IsLine line d (tokens ++ keyword (codes "pass") s.at)) s.goes_on; none_so = more (tokens ++ keyword (codes "pass") s.at) s.none_so }
 
-    deeper : (place : Pos) (d : ℕ) (tokens : List Token) (next : Token) → ((ts : List Token) → none few_suites d ts → more_none few_suites d ts) → Deep begins (none few_suites) place d tokens next → Deep more_begins (more_none few_suites) place d tokens next
+    deeper : (place : Pos) (d : ℕ) (tokens : List Token) (next : Token) → ((within : Limits → Type 0) (ts : List Token) → none within d ts → more_none within d ts) → Deep begins (NoneBy none) kept place d tokens next → Deep more_begins (NoneBy more_none) more_kept place d tokens next
     deeper place d tokens next more s = record {
       goes_on = one (first_deep_at place) (at_end d (tokens ++ next ∷ [])) s.goes_on;
-      there = λ h rest is. elim (s.there h rest is) [ inl lies ↦ inl lies | inr far ↦ inr (far.0, more (head_tokens h) far.1) ];
+      there = s.there;
+      order = passes_more (NoneBy none) (NoneBy more_none) kept more_kept d tokens next (λ absent at. more (λ q. ⊤) (tokens ++ keyword (codes "pass") at) (absent at)) (keeps d tokens) s.order;
     }
 
-    by : (halt : Halt) (p : Point) → ((within : Limits → Type 0) (d : ℕ) (tokens : List Token) → stands_at p d → none within d tokens → more_none within d tokens) → LimitBy begins follow none count halt p → LimitBy more_begins more_follow more_none more_count halt p
-    by (TooDeep place) (at_token d tokens t) three (inl s) = inl (deeper place d tokens t (λ ts. three few_suites d ts refl) s)
-    by (TooDeep place) (at_token d tokens t) three (inr (at, s, few)) =
-        inr (at, passes few_suites d tokens (λ ts. three few_suites d ts refl) s, λ is. (let k = few is in record { number = k.number; counts_are = four k.number tokens k.counts_are; within = k.within }))
+    by : (halt : Halt) (p : Point) → ((within : Limits → Type 0) (d : ℕ) (tokens : List Token) → stands_at p d → none within d tokens → more_none within d tokens) → LimitBy begins follow none kept count halt p → LimitBy more_begins more_follow more_none more_kept more_count halt p
+    by (TooDeep place) (at_token d tokens t) three (inl s) = inl (deeper place d tokens t (λ within ts. three within d ts refl) s)
+    by (TooDeep place) (at_token d tokens t) three (inr (at, s, begins_it, k)) =
+        inr (at, passes few_suites d tokens (λ ts. three few_suites d ts refl) s, begins_it, record { number = k.number; counts_are = four k.number tokens k.counts_are; within = k.within })
     by (TooDeep place) (at_end d tokens) three (none, s) = (none, passes few_suites d [] (λ ts. three few_suites d ts refl) s)
     by (TooDeep place) (at_line d) three limit = limit
     by (TooDeep place) (below d) three limit = limit
     by (TooDeep place) no_line three limit = limit
-    by (TooMany place) (at_token d tokens t) three s = (passes few_statements d tokens (λ ts. three few_statements d ts refl) s.0, four 20001 tokens s.1)
+    by (TooMany place) (at_token d tokens t) three s = (passes few_statements d tokens (λ ts. three few_statements d ts refl) s.0, four 20001 tokens s.1, s.2)
     by (TooMany place) (at_end d tokens) three limit = limit
     by (TooMany place) (at_line d) three limit = limit
     by (TooMany place) (below d) three limit = limit
@@ -179,13 +171,13 @@ none_behind within l m n k rows front p leads count_is begun none q asks rest ot
     let left = peeled q l m n rows others (front ++ rest) s leads fits may_be low (last_edge l m rows (front ++ rest) leads (subst (λ d. Begun d (front ++ rest)) indent (begun rest shows_it))) (same ∙ append_assoc (rows_lines rows) front rest) in
     none q asks rest left.left s shows_it left.fits (subst (λ j. rows_may q m j left.left ≡ true) (sym count_is) left.may_be) (subst (λ d. Below d s) (sym indent) low) left.lines_are
 
-limit_behind : (l m : Level) (n k : ℕ) (rows : Rows) (front : List Line) (fault : Halt) (p : Point) → Leads l rows m → rows_stand l rows ≡ true → k ≡ n + rows_size rows → ((rest : List Line) → shows p rest → Begun m.indent (front ++ rest)) → RowsLimit m k front fault p
+limit_behind : (l m : Level) (n k : ℕ) (rows : Rows) (front : List Line) (fault : Halt) (p : Point) → Leads l rows m → rows_may profile l n rows ≡ true → k ≡ n + rows_size rows → ((rest : List Line) → shows p rest → Begun m.indent (front ++ rest)) → RowsLimit m k front fault p
     → RowsLimit l n (rows_lines rows ++ front) fault p
-limit_behind l m n k rows front fault p leads standing count_is begun limit =
+limit_behind l m n k rows front fault p leads may_be count_is begun limit =
     limit_more (λ said. RowsBegin said m front) (λ said. RowsBegin said l (rows_lines rows ++ front)) (λ is. RowsFollow m is front) (λ is. RowsFollow l is (rows_lines rows ++ front))
-    (λ within d tokens. NoneRows within m k front (at_end d tokens)) (λ within d tokens. NoneRows within l n (rows_lines rows ++ front) (at_end d tokens)) (CountsFrom k front) (CountsFrom n (rows_lines rows ++ front)) fault p
-    (λ said p b. begins_behind l m rows front p leads standing b) (λ is f. follows_behind l m rows is front leads standing f)
-    (λ within d tokens at none. none_behind within l m n k rows front (at_end d tokens) leads count_is (λ rest shown. begun_there m.indent d front p at begun rest (ends_begun d tokens rest shown)) none) (λ number tokens o. more_behind l m n k rows front number tokens leads count_is o) limit
+    (λ within d tokens. NoneRows within m k front (at_end d tokens)) (λ within d tokens. NoneRows within l n (rows_lines rows ++ front) (at_end d tokens)) (KeepsPass m k front) (KeepsPass l n (rows_lines rows ++ front)) (CountsFrom k front) (CountsFrom n (rows_lines rows ++ front)) fault p
+    (λ said p b. begins_behind l m rows front p leads (rows_standing profile l n rows may_be) b) (λ is f. follows_behind l m rows is front leads (rows_standing profile l n rows may_be) f)
+    (λ within d tokens at none. none_behind within l m n k rows front (at_end d tokens) leads count_is (λ rest shown. begun_there m.indent d front p at begun rest (ends_begun d tokens rest shown)) none) (λ d tokens keeps. keeps_behind l m n k rows front d tokens leads may_be count_is keeps) (λ number tokens o. more_behind l m n k rows front number tokens leads count_is o) limit
 
 pub refused_behind : (cs : List ℕ) (l m : Level) (n k : ℕ) (at now : Pos) (before left : List Line) (rows : Rows) (fault : Halt) → before ≡ rows_lines rows ++ left → Leads l rows m → rows_may profile l n rows ≡ true → k ≡ n + rows_size rows → now ≡ last_token at (rows_lines rows)
     → Refused cs m k now left fault → Refused cs l n at before fault
@@ -196,19 +188,24 @@ refused_behind cs l m n k at now before left rows fault is leads kept count_is n
   lines_are = is ∙ ap (λ ls. rows_lines rows ++ ls) r.lines_are ∙ sym (append_assoc (rows_lines rows) r.front r.behind);
   shown = r.shown;
   marked = subst (λ p. marks p r.behind r.point fault) (ap (λ p. last_token p r.front) now_is ∙ sym (tokens_append at (rows_lines rows) r.front)) r.marked;
-  limit = limit_behind l m n k rows r.front fault r.point leads (rows_standing profile l n rows kept) count_is r.begun r.limit;
+  limit = limit_behind l m n k rows r.front fault r.point leads kept count_is r.begun r.limit;
   placed = placed_behind cs l m n rows r.front r.behind r.point leads kept r.shown r.begun (subst (λ j. Placed cs m j r.front r.point) count_is r.placed);
   begun = λ rest shows_it. subst (Begun l.indent) (sym (append_assoc (rows_lines rows) r.front rest)) (begun_first l m rows (r.front ++ rest) leads (r.begun rest shows_it));
   begins = λ place. begins_behind l m rows r.front r.point leads (rows_standing profile l n rows kept) (r.begins place);
   reads = r.reads;
   few = few_behind l m n k rows r.front leads count_is r.few;
   shallow = λ room. lie_behind l m n k rows r.front leads kept count_is room r.shallow;
-  order = order_more (NonePass m k r.front) (NonePass l n (rows_lines rows ++ r.front)) (KeepsPass m k r.front) (KeepsPass l n (rows_lines rows ++ r.front)) (halt_limit fault) r.point
-      (λ d t here absent at. none_behind (λ q. ⊤) l m n k rows r.front (at_end d (keyword (codes "pass") at)) leads count_is
-      (λ rest shown. begun_there m.indent d r.front r.point (token_stands r.point d t here) r.begun rest (ends_begun d (keyword (codes "pass") at) rest shown)) (absent at))
-      (λ d keeps. keeps_behind l m n k rows r.front d leads kept count_is keeps) r.order;
+  order = order_more (NonePass m k r.front) (NonePass l n (rows_lines rows ++ r.front)) (KeepsPass m k r.front) (KeepsPass l n (rows_lines rows ++ r.front)) r.point none_more keeps_more r.order;
+  passes = there_more (NonePass m k r.front) (NonePass l n (rows_lines rows ++ r.front)) (KeepsPass m k r.front) (KeepsPass l n (rows_lines rows ++ r.front)) (halt_limit fault) r.point none_more keeps_more r.passes;
   none = none_behind (Asks fault) l m n k rows r.front r.point leads count_is r.begun r.none;
 }
+  where
+    none_more : (d : ℕ) (tokens : List Token) → stands_at r.point d → NonePass m k r.front d tokens → NonePass l n (rows_lines rows ++ r.front) d tokens
+    none_more d tokens here absent at = none_behind (λ q. ⊤) l m n k rows r.front (at_end d (tokens ++ keyword (codes "pass") at)) leads count_is
+        (λ rest shown. begun_there m.indent d r.front r.point here r.begun rest (ends_begun d (tokens ++ keyword (codes "pass") at) rest shown)) (absent at)
+
+    keeps_more : (d : ℕ) (tokens : List Token) → KeepsPass m k r.front d tokens → KeepsPass l n (rows_lines rows ++ r.front) d tokens
+    keeps_more d tokens keeps = keeps_behind l m n k rows r.front d tokens leads kept count_is keeps
 
 may_end : (cs : List ℕ) (l m : Level) (n : ℕ) (rows : Rows) (d : ℕ) → Leads l rows m → rows_may profile l n rows ≡ true → MayStand cs m (n + rows_size rows) d [] → MayStand cs l n d (rows_lines rows)
 may_end cs l m n rows d leads may_be (inl g) = inl (goes_end l m n rows (IsAt d) leads may_be g)
@@ -277,14 +274,15 @@ refused_end cs l m n k at now before left rows fault is leads kept count_is now_
   reads = first_reads (deep_at fault) r.point r.before;
   few = subst (Few n) (append-nil (rows_lines rows)) (few_behind l m n k rows [] leads count_is (few_here k low));
   shallow = λ room. rows_lie l m n rows leads kept (rows_room l m n rows leads kept room);
-  order = order_here m left (NonePass l n (rows_lines rows)) (KeepsPass l n (rows_lines rows)) (halt_limit fault) r.point none_passes r.order;
+  order = order_here (NonePass l n (rows_lines rows)) (KeepsPass l n (rows_lines rows)) r.point r.before;
+  passes = there_here m left (NonePass l n (rows_lines rows)) (KeepsPass l n (rows_lines rows)) (halt_limit fault) r.point r.before none_passes r.passes;
   none = λ q asks rest others s shows_it fits may_be low same.
       let indent = indent_stays l m rows leads in
       let p = peeled q l m n rows others rest s leads fits may_be low (r.edge rows rest shows_it l (sym indent) leads edge) same in
       r.none q asks rest p.left s shows_it p.fits (subst (λ j. rows_may q m j p.left ≡ true) (sym count_is) p.may_be) (subst (λ d. Below d s) (sym indent) low) p.lines_are;
 }
   where
-    none_passes : (d : ℕ) → NoneHere m left d → NonePass l n (rows_lines rows) d
+    none_passes : (d : ℕ) → NoneHere m left d → NonePass l n (rows_lines rows) d []
     none_passes d absent at q asks rest others s shows_it fits may_be low same =
         let indent = indent_stays l m rows leads in
         let begun_it = ends_begun d (keyword (codes "pass") at) rest shows_it in
@@ -375,12 +373,12 @@ none_under within m n h line front p is none q asks rest (row line_2 h_2 under_2
     let under_is : under_may q m (n + counted h) h under_2 ≡ true = ap (λ g. under_may q m (n + counted g) g under_2) head ∙ middle (may q m n h_2) (under_may q m (n + counted h_2) h_2 under_2) _ may_be in
     none q asks rest under_2 (rows_lines rest_2 ++ s) shows_it below_2 under_is (edge_under m h h under_2 rest_2 s below_2 rest_fits low) (shifted line_2 line (under_lines under_2) (rows_lines rest_2) s (front ++ rest) same)
 
-limit_under : (m : Level) (n : ℕ) (h : Head) (line : Line) (front : List Line) (fault : Halt) (p : Point) → IsLine line m.indent (head_tokens h) → follows m h ≡ true → head_stands m.context m.given h ≡ true → UnderLimit m (n + counted h) h front fault p → RowsLimit m n (line ∷ front) fault p
-limit_under m n h line front fault p is may_follow may_stand limit =
+limit_under : (m : Level) (n : ℕ) (h : Head) (line : Line) (front : List Line) (fault : Halt) (p : Point) → IsLine line m.indent (head_tokens h) → follows m h ≡ true → may profile m n h ≡ true → UnderLimit m (n + counted h) h front fault p → RowsLimit m n (line ∷ front) fault p
+limit_under m n h line front fault p is may_follow may_be limit =
     limit_more (λ said. UnderBegins said m h front) (λ said. RowsBegin said m (line ∷ front)) (λ is. UnderFollows m h is front) (λ is. RowsFollow m is (line ∷ front))
-    (λ within d tokens. NoneUnder within m (n + counted h) h front (at_end d tokens)) (λ within d tokens. NoneRows within m n (line ∷ front) (at_end d tokens)) (CountsFrom (n + counted h) front) (CountsFrom n (line ∷ front)) fault p
-    (λ said p b. begins_under m h line front p is may_follow may_stand b) (λ so f. follows_under m h line so front is may_follow may_stand f)
-    (λ within d tokens at none. none_under within m n h line front (at_end d tokens) is none) (λ number tokens o. more_under m n h line front number tokens is o) limit
+    (λ within d tokens. NoneUnder within m (n + counted h) h front (at_end d tokens)) (λ within d tokens. NoneRows within m n (line ∷ front) (at_end d tokens)) (KeepsPassUnder m (n + counted h) h front) (KeepsPass m n (line ∷ front)) (CountsFrom (n + counted h) front) (CountsFrom n (line ∷ front)) fault p
+    (λ said p b. begins_under m h line front p is may_follow (head_standing profile m n h may_be) b) (λ so f. follows_under m h line so front is may_follow (head_standing profile m n h may_be) f)
+    (λ within d tokens at none. none_under within m n h line front (at_end d tokens) is none) (λ d tokens keeps. keeps_under m n h line front d tokens is may_follow may_be keeps) (λ number tokens o. more_under m n h line front number tokens is o) limit
 
 pub refused_under : (cs : List ℕ) (m : Level) (n : ℕ) (h : Head) (at : Pos) (line : Line) (lines : List Line) (fault : Halt) → IsLine line m.indent (head_tokens h) → follows m h ≡ true → may profile m n h ≡ true → m.depth ≤ 50
     → RefusedUnder cs m (n + counted h) h (last_place at line.tokens) lines fault → Refused cs m n at (line ∷ lines) fault
@@ -391,18 +389,23 @@ refused_under cs m n h at line lines fault is may_follow kept deep r = record {
   lines_are = ap (λ ls. line ∷ ls) r.lines_are;
   shown = r.shown;
   marked = r.marked;
-  limit = limit_under m n h line r.front fault r.point is may_follow (head_standing profile m n h kept) r.limit;
+  limit = limit_under m n h line r.front fault r.point is may_follow kept r.limit;
   placed = placed_under cs m n h line r.front r.point is may_follow kept deep (further_in (low_elsewhere at) m h r.front r.point (r.begins at)) r.placed;
   begun = λ rest shows_it. is.indent_is;
   begins = λ place. begins_under m h line r.front r.point is may_follow (head_standing profile m n h kept) (r.begins place);
   reads = r.reads;
   few = few_under m n h line r.front is r.few;
   shallow = λ room. lie_under m n h line is may_follow kept r.front room r.shallow;
-  order = order_more (NonePassUnder m (n + counted h) h r.front) (NonePass m n (line ∷ r.front)) (KeepsPassUnder m (n + counted h) h r.front) (KeepsPass m n (line ∷ r.front)) (halt_limit fault) r.point
-      (λ d t here absent at. none_under (λ q. ⊤) m n h line r.front (at_end d (keyword (codes "pass") at)) is (absent at))
-      (λ d keeps. keeps_under m n h line r.front d is may_follow kept keeps) r.order;
+  order = order_more (NonePassUnder m (n + counted h) h r.front) (NonePass m n (line ∷ r.front)) (KeepsPassUnder m (n + counted h) h r.front) (KeepsPass m n (line ∷ r.front)) r.point none_more keeps_more r.order;
+  passes = there_more (NonePassUnder m (n + counted h) h r.front) (NonePass m n (line ∷ r.front)) (KeepsPassUnder m (n + counted h) h r.front) (KeepsPass m n (line ∷ r.front)) (halt_limit fault) r.point none_more keeps_more r.passes;
   none = none_under (Asks fault) m n h line r.front r.point is r.none;
 }
+  where
+    none_more : (d : ℕ) (tokens : List Token) → stands_at r.point d → NonePassUnder m (n + counted h) h r.front d tokens → NonePass m n (line ∷ r.front) d tokens
+    none_more d tokens here absent at = none_under (λ q. ⊤) m n h line r.front (at_end d (tokens ++ keyword (codes "pass") at)) is (absent at)
+
+    keeps_more : (d : ℕ) (tokens : List Token) → KeepsPassUnder m (n + counted h) h r.front d tokens → KeepsPass m n (line ∷ r.front) d tokens
+    keeps_more d tokens keeps = keeps_under m n h line r.front d tokens is may_follow kept keeps
 
 -- ---- at a line
 
@@ -443,6 +446,7 @@ refused_line cs m n at line lines fault deep few is r = record {
   few = few_here n few;
   shallow = λ room. inl refl;
   order = r.order is;
+  passes = r.passes is;
   none = none_line (Asks fault) m n r.point (λ rest shown. subst (λ d. Begun d rest) is (r.begun rest shown)) r.none;
 }
 
@@ -479,13 +483,13 @@ none_inside within m n k h front p open_is begun none q asks rest (block j rows)
     let one : j ≡ k = one_indent j k (rows_lines rows ++ s) (front ++ rest) (begun_rows (inside m h j) rows s refl fits.2) (begun rest shows_it) same in
     none q asks rest rows s shows_it (subst (λ d. FitsRows (inside m h d) rows) one fits.2) (subst (λ d. rows_may q (inside m h d) n rows ≡ true) one (second (nat_le (suc m.depth) q.suites) _ may_be)) (subst (λ d. Below d s) one edge) same
 
-limit_inside : (m : Level) (n k : ℕ) (h : Head) (front : List Line) (fault : Halt) (p : Point) → opens h ≡ true → m.indent < k → ((rest : List Line) → shows p rest → Begun k (front ++ rest)) → RowsLimit (inside m h k) n front fault p
+limit_inside : (m : Level) (n k : ℕ) (h : Head) (front : List Line) (fault : Halt) (p : Point) → opens h ≡ true → m.indent < k → m.depth < 50 → ((rest : List Line) → shows p rest → Begun k (front ++ rest)) → RowsLimit (inside m h k) n front fault p
     → UnderLimit m n h front fault p
-limit_inside m n k h front fault p open_is deeper begun limit =
+limit_inside m n k h front fault p open_is deeper low begun limit =
     limit_more (λ said. RowsBegin said (inside m h k) front) (λ said. UnderBegins said m h front) (λ is. RowsFollow (inside m h k) is front) (λ is. UnderFollows m h is front)
-    (λ within d tokens. NoneRows within (inside m h k) n front (at_end d tokens)) (λ within d tokens. NoneUnder within m n h front (at_end d tokens)) (CountsFrom n front) (CountsFrom n front) fault p
+    (λ within d tokens. NoneRows within (inside m h k) n front (at_end d tokens)) (λ within d tokens. NoneUnder within m n h front (at_end d tokens)) (KeepsPass (inside m h k) n front) (KeepsPassUnder m n h front) (CountsFrom n front) (CountsFrom n front) fault p
     (λ said p b. begins_inside m h k front p open_is deeper b) (λ is f. follows_inside m h k is front open_is deeper f)
-    (λ within d tokens at none. none_inside within m n k h front (at_end d tokens) open_is (λ rest shown. begun_there k d front p at begun rest (ends_begun d tokens rest shown)) none) (λ number tokens o. o) limit
+    (λ within d tokens at none. none_inside within m n k h front (at_end d tokens) open_is (λ rest shown. begun_there k d front p at begun rest (ends_begun d tokens rest shown)) none) (λ d tokens keeps. keeps_inside m n h k front d tokens open_is deeper low keeps) (λ number tokens o. o) limit
 
 pub refused_inside : (cs : List ℕ) (m : Level) (n k : ℕ) (h : Head) (at : Pos) (lines : List Line) (fault : Halt) → opens h ≡ true → m.indent < k → m.depth < 50 → Refused (columns_under cs m) (inside m h k) n at lines fault
     → RefusedUnder cs m n h at lines fault
@@ -496,18 +500,23 @@ refused_inside cs m n k h at lines fault open_is deeper low r = record {
   lines_are = r.lines_are;
   shown = r.shown;
   marked = r.marked;
-  limit = limit_inside m n k h r.front fault r.point open_is deeper r.begun r.limit;
+  limit = limit_inside m n k h r.front fault r.point open_is deeper low r.begun r.limit;
   placed = placed_inside (columns_under cs m) m n h k r.front r.point open_is deeper (omega (arith, low)) r.begun r.placed;
   begins = λ place. begins_inside m h k r.front r.point open_is deeper (r.begins place);
   reads = r.reads;
   few = r.few;
   shallow = lie_inside m n k h r.front open_is deeper low r.shallow;
-  order = order_more (NonePass (inside m h k) n r.front) (NonePassUnder m n h r.front) (KeepsPass (inside m h k) n r.front) (KeepsPassUnder m n h r.front) (halt_limit fault) r.point
-      (λ d t here absent at. none_inside (λ q. ⊤) m n k h r.front (at_end d (keyword (codes "pass") at)) open_is
-      (λ rest shown. begun_there k d r.front r.point (token_stands r.point d t here) r.begun rest (ends_begun d (keyword (codes "pass") at) rest shown)) (absent at))
-      (λ d keeps. keeps_inside m n h k r.front d open_is deeper low keeps) r.order;
+  order = order_more (NonePass (inside m h k) n r.front) (NonePassUnder m n h r.front) (KeepsPass (inside m h k) n r.front) (KeepsPassUnder m n h r.front) r.point none_more keeps_more r.order;
+  passes = there_more (NonePass (inside m h k) n r.front) (NonePassUnder m n h r.front) (KeepsPass (inside m h k) n r.front) (KeepsPassUnder m n h r.front) (halt_limit fault) r.point none_more keeps_more r.passes;
   none = none_inside (Asks fault) m n k h r.front r.point open_is r.begun r.none;
 }
+  where
+    none_more : (d : ℕ) (tokens : List Token) → stands_at r.point d → NonePass (inside m h k) n r.front d tokens → NonePassUnder m n h r.front d tokens
+    none_more d tokens here absent at = none_inside (λ q. ⊤) m n k h r.front (at_end d (tokens ++ keyword (codes "pass") at)) open_is
+        (λ rest shown. begun_there k d r.front r.point here r.begun rest (ends_begun d (tokens ++ keyword (codes "pass") at) rest shown)) (absent at)
+
+    keeps_more : (d : ℕ) (tokens : List Token) → KeepsPass (inside m h k) n r.front d tokens → KeepsPassUnder m n h r.front d tokens
+    keeps_more d tokens keeps = keeps_inside m n h k r.front d tokens open_is deeper low keeps
 
 not_above : (d k : ℕ) (x : List Line) → d < k → Begun k x → Below (suc d) x → ⊥
 not_above d k [] less begun low = begun
@@ -529,6 +538,7 @@ no_suite cs m n h at lines open_is within few low = record {
   few = few_here n few;
   shallow = inl refl;
   order = tt;
+  passes = tt;
   none = none;
 }
   where
@@ -542,7 +552,7 @@ none_deeper q m n h nothing few open_is deep fits may_be = absurd (false≢true 
 none_deeper q m n h (block j rows) few open_is deep fits may_be = let low = leb-true (suc m.depth) q.suites (first (nat_le (suc m.depth) q.suites) _ may_be) in absurd (omega (arith, few, deep, low))
 
 pub too_deep_at : (cs : List ℕ) (m : Level) (n : ℕ) (h : Head) (at place : Pos) (line : Line) (lines : List Line) → opens h ≡ true → m.indent < line.indent → m.depth ≤ 50 → n ≤ 20000 → 50 ≤ m.depth → place ≡ first_place at line.tokens
-    → ((t : Token) (ts : List Token) → line.tokens ≡ t ∷ ts → is_stmt_kind t.kind ≡ true → n < 20000) → RefusedUnder cs m n h at (line ∷ lines) (TooDeep place)
+    → ((t : Token) (ts : List Token) → line.tokens ≡ t ∷ ts → (is_stmt_kind t.kind ≡ true) × (n < 20000)) → RefusedUnder cs m n h at (line ∷ lines) (TooDeep place)
 too_deep_at cs m n h at place line lines open_is deeper within few_so_far deep first fewer = by line.tokens refl
   where
     next : UnderGoesOn m n h (IsAt line.indent) []
@@ -570,7 +580,8 @@ too_deep_at cs m n h at place line lines open_is deeper within few_so_far deep f
       reads = tt;
       few = few_here n few_so_far;
       shallow = inl refl;
-      order = tt;
+      order = no_order (NonePassUnder m n h []) (KeepsPassUnder m n h []) line.indent;
+      passes = tt;
       none = λ q asks rest under s shows_it fits may_be edge same. none_deeper q m n h under asks.1 open_is deep fits may_be;
     }
     by (t ∷ ts) is = record {
@@ -580,13 +591,14 @@ too_deep_at cs m n h at place line lines open_is deeper within few_so_far deep f
       lines_are = refl;
       shown = (refl, record { more = ts; tokens_are = is });
       marked = tt;
-      limit = inr (first ∙ ap (first_place at) is, passes, λ stmt. record { number = n + 1; counts_are = record { at = no_spot; next = simple_head (pass no_spot); next_is = refl; before = 0; counts = refl; number_is = omega arith }; within = (let less = fewer t ts is stmt in omega (arith, less)) });
+      limit = inr (first ∙ ap (first_place at) is, passes, (fewer t ts is).0, record { number = n + 1; counts_are = record { at = no_spot; next = simple_head (pass no_spot); next_is = refl; before = 0; counts = refl; number_is = omega arith }; within = (let less = (fewer t ts is).1 in omega (arith, less)) });
       placed = inl next;
       begins = λ place. begins_suite m h (at_token line.indent [] t) open_is refl;
       reads = first_reads (Some place) (at_token line.indent [] t) refl;
       few = few_here n few_so_far;
       shallow = inl refl;
-      order = tt;
+      order = no_order (NonePassUnder m n h []) (KeepsPassUnder m n h []) line.indent;
+      passes = tt;
       none = λ q asks rest under s shows_it fits may_be edge same. none_deeper q m n h under asks.1 open_is deep fits may_be;
     }
 
@@ -648,7 +660,7 @@ refused_indent cs m n at line lines deep column further other ends = record {
     none = λ first more rows r is fits low same. none_there m line first more rows r other ends is fits low same;
   };
   before = refl;
-  order = tt;
+  passes = tt;
   edge = λ rows rest shows_it l indent leads edge. edge_1 rows rest shows_it edge;
   none = λ q asks rest rows r shows_it fits may_be low same. none_1 rest rows r shows_it fits low same;
 }
@@ -679,7 +691,7 @@ refused_first cs m n at line lines halt deep marked column lacks other ends = by
       limit = tt;
       placed = inr (inl column, handler_next m n deep lacks);
       before = refl;
-      order = tt;
+      passes = tt;
       edge = λ rows rest shows_it l indent leads edge. edge_1 rows rest shows_it edge;
       none = λ q asks rest rows r shows_it fits may_be low same. none_1 rest rows r shows_it fits low same;
     }
@@ -698,7 +710,7 @@ refused_first cs m n at line lines halt deep marked column lacks other ends = by
       limit = tt;
       placed = inr (inl column, handler_next m n deep lacks);
       before = refl;
-      order = record { edge = edge_at; none = none_at };
+      passes = record { edge = edge_at; none = none_at };
       edge = λ rows rest shows_it l indent leads edge. edge_1 rows rest shows_it edge;
       none = λ q asks rest rows r shows_it fits may_be low same. none_1 rest rows r shows_it fits low same;
     }
@@ -740,7 +752,7 @@ refused_nothing cs m n at deep lacks ends = record {
   limit = tt;
   placed = handler_next m n deep lacks;
   before = refl;
-  order = tt;
+  passes = tt;
   edge = λ rows rest shows_it l indent leads edge. edge_1 rows rest shows_it;
   none = λ q asks rest rows r shows_it fits may_be low same. none_1 rest rows r shows_it fits same;
 }
@@ -762,7 +774,7 @@ refused_empty cs m n at lines low lacks empty ends = record {
   limit = tt;
   placed = (pass_next m n m.indent lacks (omega arith), inr (record { empty = empty; indent_is = refl; of_def = inr refl; globals_are = tt }));
   before = refl;
-  order = tt;
+  passes = tt;
   edge = λ rows rest shows_it l indent leads edge. edge_below l m rows rest leads (subst (λ d. Below d rest) (sym indent) shows_it);
   none = λ q asks rest rows r shows_it fits may_be lower same. none_goes_on m rest rows r fits same (λ begun. not_below m.indent rest begun shows_it) (λ done all. ends done);
 }

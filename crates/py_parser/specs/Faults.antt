@@ -17,7 +17,7 @@ use Rattle.py_grammar.specs.LineReader.{Head, head_tokens}
 use Rattle.py_grammar.specs.Layout.{IsLine}
 use Rattle.py_grammar.specs.Lies.{IsApart}
 use Rattle.py_grammar.specs.ParsedSimple.{CompletesDel, FirstDeepDel}
-use Rattle.py_grammar.specs.ParsedHead.{CompletesTargets, FirstDeepTargets, del_name, UnreadLine, behind_in, head_lies, behind_first}
+use Rattle.py_grammar.specs.ParsedHead.{CompletesTargets, FirstDeepTargets, del_name, UnreadLine, head_lies}
 use Rattle.py_grammar.specs.Written.{Script}
 use Rattle.py_grammar.specs.Grammar.{script_lines, FitsScript}
 use Rattle.py_grammar.specs.WellPlaced.{script_stands}
@@ -136,7 +136,7 @@ pub data Said : Type 0 where
   low_elsewhere : Pos → Said
   first_deep_at : Pos → Said
 
--- Of what lies deeper than 100 the first begins at this place: a token of these stands there, and what begins at no token from that one on lies at most
+-- Of what lies deeper than 100 the first begins at this place: a token of these stands there, and what begins at none of these from that one on lies at most
 -- 100 deep.
 pub record IsFirstDeep (place : Pos) (lies : Pos → ℕ) (tokens more : List Token) : Type 0 where
   pub ahead : List Token
@@ -145,7 +145,7 @@ pub record IsFirstDeep (place : Pos) (lies : Pos → ℕ) (tokens more : List To
   pub tokens_are : tokens ≡ ahead ++ named ∷ between
   pub named_is : named.at ≡ place
   pub deep : 100 < lies place
-  pub within : (other : Pos) → IsApart other (named ∷ (between ++ more)) → lies other ≤ 100
+  pub within : (other : Pos) → IsApart other (named ∷ between) → lies other ≤ 100
 
 abbrev pub LiesSaid : Said → List Token → (Pos → ℕ) → List Token → Type 0
 LiesSaid (low_elsewhere at) tokens lies more = (other : Pos) → (other ≡ at → ⊥) → lies other ≤ 100
@@ -163,6 +163,11 @@ ReadsBehindDel (first_deep_at place) = λ tokens. FirstDeepDel tokens place
 abbrev pub ReadsBehindFor : Said → List Token → Type 0
 ReadsBehindFor (low_elsewhere at) = λ tokens. CompletesTargets 100 tokens at
 ReadsBehindFor (first_deep_at place) = λ tokens. FirstDeepTargets 100 tokens place
+
+-- the `del` with which they begin
+abbrev pub del_spot : (said : Said) (tokens : List Token) → ReadsBehindDel said tokens → Spot
+del_spot (low_elsewhere at) tokens begins = begins.spot
+del_spot (first_deep_at place) tokens begins = begins.spot
 
 -- a line of the grammar with these first tokens, which is so with those behind them
 pub record LineBegins (so : (Pos → ℕ) → List Token → Type 0) (tokens : List Token) (line : Line) : Type 0 where
@@ -185,6 +190,7 @@ pub record OpensDel (said : Said) (indent : ℕ) (tokens : List Token) (lines : 
   pub opens : Opens IsLow indent (opened ++ simple_tokens (del_name spot)) lines
   pub inside : List Token
   pub begins : ReadsBehindDel said inside
+  pub spot_is : del_spot said inside begins ≡ spot
   pub tokens_are : tokens ≡ opened ++ inside
 
 -- The first line begins with `for`, as these tokens do. Behind it they have targets with a comma each and the first tokens of a sum, which is
@@ -328,6 +334,16 @@ InColumn front (at_line indent) = NoneStandsAt indent front
 InColumn front (below indent) = MayFollow (IsPass indent) front × LacksStatement indent front
 InColumn front no_line = MayFollow IsHandler front
 
+-- a statement begins with such a token, and no part of one (`elif`, `else`, `except`) or `global` line
+abbrev pub is_stmt_kind : TokenKind → Bool
+is_stmt_kind (Keyword n) = not ((n == 13) || (n == 14) || (n == 15) || (n == 19))
+is_stmt_kind kind = true
+
+-- A statement begins with this token behind these of its line: behind a `:` with any.
+abbrev pub begins_there : List Token → Token → Bool
+begins_there [] t = is_stmt_kind t.kind
+begins_there (f ∷ fs) t = true
+
 -- ---- how many statements
 
 -- so many statements begin on these lines
@@ -369,34 +385,43 @@ pub record PassesLimit (within : Limits → Type 0) (front : List Line) (indent 
   pub goes_on : SomeStands (λ line. IsLine line indent (tokens ++ keyword (codes "pass") at)) front
   pub none : NoneWithin within front (at_end indent (tokens ++ keyword (codes "pass") at))
 
--- Some script of the grammar whose statements stand where they may goes on with these tokens and the next one, so that the first expression that lies
--- too deep begins at this place, and every line of the grammar that does has an expression that begins at this place and lies deeper than 100, or the statement behind its `:` begins there and lies in more than
--- 50 suites.
-pub record LiesDeep (at : Pos) (front : List Line) (indent : ℕ) (tokens : List Token) (next : Token) : Type 0 where
-  pub goes_on : BeginsScript (first_deep_at at) front (at_end indent (tokens ++ next ∷ []))
-  pub there : (h : Head) (more : List Token) → head_tokens h ≡ tokens ++ next ∷ more → (100 < head_lies h at) ⊎ (behind_first (behind_in h) at × NoneWithin few_suites front (at_end indent (head_tokens h)))
-
--- a statement begins with such a token, and no part of one (`elif`, `else`, `except`) or `global` line
-abbrev pub is_stmt_kind : TokenKind → Bool
-is_stmt_kind (Keyword n) = not ((n == 13) || (n == 14) || (n == 15) || (n == 19))
-is_stmt_kind kind = true
-
 -- with `pass` behind these tokens there are not too many statements yet
 pub record KeepsNumber (front : List Line) (tokens : List Token) : Type 0 where
   pub number : ℕ
   pub counts : CountsWithPass number front tokens
   pub within : number ≤ 20000
 
+-- no statement may stand behind these tokens
+abbrev pub NoneBegins : List Line → ℕ → List Token → Type 0
+NoneBegins front indent tokens = (at : Spot) → NoneWithin (λ q. ⊤) front (at_end indent (tokens ++ keyword (codes "pass") at))
+
+-- a statement behind these tokens is not one too many, and lies in at most 50 suites
+pub record KeepsLimits (front : List Line) (indent : ℕ) (tokens : List Token) : Type 0 where
+  pub number : KeepsNumber front tokens
+  pub suites : (at : Spot) → FollowsWithin 50 (λ line. IsLine line indent (tokens ++ keyword (codes "pass") at)) front
+
+-- Where these tokens are a line with `pass` behind them and a statement begins with this one in its place, none may stand there, or one that passes no limit.
+abbrev pub PassesNone : List Line → ℕ → List Token → Token → Type 0
+PassesNone front indent tokens t = begins_there tokens t ≡ true → (h : Head) (at : Spot) → head_tokens h ≡ tokens ++ keyword (codes "pass") at → NoneBegins front indent tokens ⊎ KeepsLimits front indent tokens
+
+-- Some script of the grammar whose statements stand where they may goes on with these tokens and the next one, so that the first expression that lies
+-- too deep begins at this place, and every line of the grammar that does has an expression that begins at this place and lies deeper than 100. A statement that
+-- begins with the next one passes no limit.
+pub record LiesDeep (at : Pos) (front : List Line) (indent : ℕ) (tokens : List Token) (next : Token) : Type 0 where
+  pub goes_on : BeginsScript (first_deep_at at) front (at_end indent (tokens ++ next ∷ []))
+  pub there : (h : Head) (more : List Token) → head_tokens h ≡ tokens ++ next ∷ more → 100 < head_lies h at
+  pub order : PassesNone front indent tokens next
+
 -- What TooDeep says: an expression lies too deep that begins at this place, or the statement does that the token begins which shows it and that is not one
 -- too many (a line without tokens, where one has to stand, begins no statement).
 abbrev pub IsDeepAt : Pos → List Line → Point → Type 0
-IsDeepAt at front (at_token indent tokens t) = LiesDeep at front indent tokens t ⊎ ((at ≡ t.at) × PassesLimit few_suites front indent tokens × (is_stmt_kind t.kind ≡ true → KeepsNumber front tokens))
+IsDeepAt at front (at_token indent tokens t) = LiesDeep at front indent tokens t ⊎ ((at ≡ t.at) × PassesLimit few_suites front indent tokens × (begins_there tokens t ≡ true) × KeepsNumber front tokens)
 IsDeepAt at front (at_end indent tokens) = (tokens ≡ []) × PassesLimit few_suites front indent []
 IsDeepAt at front point = ⊥
 
 -- what TooMany says: a statement that the token begins which shows it passes the limit, and before it begin as many as there may be
 abbrev pub IsOneMore : List Line → Point → Type 0
-IsOneMore front (at_token indent tokens t) = PassesLimit few_statements front indent tokens × CountsWithPass 20001 front tokens
+IsOneMore front (at_token indent tokens t) = PassesLimit few_statements front indent tokens × CountsWithPass 20001 front tokens × (begins_there tokens t ≡ true)
 IsOneMore front point = ⊥
 
 abbrev pub NamesLimit : ParseFault → List Line → Point → Type 0
@@ -417,25 +442,26 @@ LieWithin front = (before : List Line) (last : Line) (at : Spot) → front ≡ b
 
 -- ---- the order of faults at one token
 
--- no statement may stand at this indentation
-abbrev pub NoneBegins : List Line → ℕ → Type 0
-NoneBegins front indent = (at : Spot) → NoneWithin (λ q. ⊤) front (at_end indent (keyword (codes "pass") at))
-
--- a statement at this indentation is not one too many, and lies in at most 50 suites
-pub record KeepsLimits (front : List Line) (indent : ℕ) : Type 0 where
-  pub number : KeepsNumber front []
-  pub suites : (at : Spot) → FollowsWithin 50 (λ line. IsLine line indent (keyword (codes "pass") at)) front
-
 -- it names a limit
 abbrev pub names_limit : ParseFault → Bool
 names_limit (TooDeep at) = true
 names_limit (TooMany at) = true
 names_limit fault = false
 
--- With a fault that names no limit, and is shown by the first token of a line with which a statement begins, none may stand there, or one that passes no limit.
-abbrev pub KeepsOrder : (limit : Bool) → List Line → Point → Type 0
-KeepsOrder false front (at_token indent [] t) = is_stmt_kind t.kind ≡ true → NoneBegins front indent ⊎ KeepsLimits front indent
-KeepsOrder limit front point = ⊤
+-- a statement that begins on the line with one of these tokens passes no limit
+abbrev pub KeepsOrder : List Line → ℕ → List Token → Type 0
+KeepsOrder front indent tokens = (opened : List Token) (t : Token) (rest : List Token) → tokens ≡ opened ++ t ∷ rest → PassesNone front indent opened t
+
+-- with the tokens before what shows the fault
+abbrev pub InOrder : List Line → Point → Type 0
+InOrder front (at_token indent tokens t) = KeepsOrder front indent tokens
+InOrder front (at_end indent tokens) = KeepsOrder front indent tokens
+InOrder front point = ⊤
+
+-- Where a fault names no limit, with the token that shows it.
+abbrev pub PassesNoneThere : (limit : Bool) → List Line → Point → Type 0
+PassesNoneThere false front (at_token indent tokens t) = PassesNone front indent tokens t
+PassesNoneThere limit front point = ⊤
 
 -- ---- what is read behind `del` and `for`
 
@@ -460,6 +486,7 @@ ReadsNoFurther deep point = ⊤
 -- of these lines lies in a 51st suite.
 -- These lines up to and with what is shown begin no such script: with TooDeep none that keeps the limits of depth, with TooMany none that keeps
 -- the limit of number, and else none whatever its depth and number. What shows it is a line's indentation alone where no line may stand at it.
+-- A text has at most one (`text_has_one_fault`).
 pub record FirstFault (lines : List Line) (fault : ParseFault) : Type 0 where
   pub front : List Line
   pub behind : List Line
@@ -473,9 +500,22 @@ pub record FirstFault (lines : List Line) (fault : ParseFault) : Type 0 where
   pub reads : ReadsNoFurther (deep_place fault) point
   pub few : BeginAtMost 20000 front
   pub shallow : LieWithin front
-  pub order : KeepsOrder (names_limit fault) front point
+  pub order : InOrder front point
+  pub passes : PassesNoneThere (names_limit fault) front point
   pub none : NoneWithin (Asks fault) front point
 
 abbrev pub IsFault : List Line → ParseFault → Type 0
 IsFault lines Memory = ⊤
 IsFault lines fault = FirstFault lines fault
+
+-- ---- lines of tokens that stand at different places
+
+-- no two of these tokens stand at one place
+abbrev pub ArePlacedApart : List Token → Type 0
+ArePlacedApart [] = ⊤
+ArePlacedApart (t ∷ ts) = IsApart t.at ts × ArePlacedApart ts
+
+-- each line has a token, and no two tokens of one stand at the same place
+abbrev pub ArePlaced : List Line → Type 0
+ArePlaced [] = ⊤
+ArePlaced (line ∷ lines) = (line.tokens ≡ [] → ⊥) × ArePlacedApart line.tokens × ArePlaced lines

@@ -24,10 +24,10 @@ use Rattle.py_grammar.specs.StatementTrees.{end_of}
 use Rattle.py_grammar.specs.ParsedSimple.{around_of}
 use Rattle.py_grammar.specs.Concrete.{Spot}
 use Rattle.py_grammar.specs.Tokens.{keyword}
-use Rattle.py_grammar.specs.ParsedHead.{IsWhat, IsBehind, lacks_handler, behind_in, behind_first, head_lies}
+use Rattle.py_grammar.specs.ParsedHead.{IsWhat, IsBehind, lacks_handler, behind_in, head_lies}
 use Rattle.py_parser.specs.Limits.{Limits, profile}
-use Rattle.py_parser.specs.Faults.{last_token, Said, low_elsewhere, first_deep_at, Point, at_token, at_end, at_line, below, no_line, IsAt, IsPass, IsPassBefore, IsHandler, IsOpenAt, AreGlobal, LacksStatement, InColumn, BeginsScript, ReadsNoFurther, NoneWithin, few_suites, few_statements, is_stmt_kind, StandsFor, LieWithin, KeepsOrder, Counts, BeginAtMost, IsDeepAt, IsOneMore, shows, first_place, first_token, last_place, origin, tokens_before, Next}
-use Rattle.py_parser.specs.Rows.{Begun, Rows, Under, rows_lines, under_lines, Level, counted, after, is_def, is_done, opens, follows, Leads, FitsUnder, FitsRows, may, rows_may, under_may, rows_stand, under_stand, rows_size, under_size, Edge, LastEdge}
+use Rattle.py_parser.specs.Faults.{last_token, Said, low_elsewhere, first_deep_at, Point, at_token, at_end, at_line, below, no_line, IsAt, IsPass, IsPassBefore, IsHandler, IsOpenAt, AreGlobal, LacksStatement, InColumn, BeginsScript, ReadsNoFurther, NoneWithin, few_suites, few_statements, is_stmt_kind, begins_there, StandsFor, LieWithin, InOrder, PassesNoneThere, Counts, BeginAtMost, IsDeepAt, IsOneMore, shows, first_place, first_token, last_place, origin, tokens_before, Next}
+use Rattle.py_parser.specs.Rows.{Begun, Rows, Under, rows_lines, under_lines, Level, counted, after, is_done, opens, follows, Leads, FitsUnder, FitsRows, may, rows_may, under_may, rows_stand, under_stand, rows_size, under_size, Edge, LastEdge}
 use Rattle.py_parser.specs.RowForms.{suite_list, grown, inner_number, declared, row_globals, under_globals, grow, below_tree}
 
 -- ---- where the code is
@@ -64,6 +64,10 @@ limit_by false false = None
 -- behind so many statements and in so many suites
 abbrev pub limit_at : ℕ → ℕ → Option Limit
 limit_at count depth = limit_by (nat_le 20000 count) (nat_le 50 depth)
+
+-- Directly in the script no suite lies around, and directly in a class only one.
+abbrev pub IsShallow : Level → Type 0
+IsShallow l = (l.context.around.at_module_level ≡ true → l.depth ≡ 0) × (l.context.around.in_class ≡ true → l.depth ≤ 1)
 
 -- a line that begins this was read at this level behind so many statements, and its suite is what comes
 pub record IsUnderOf (p : Place) (count : ℕ) (m : Level) (n : ℕ) (h : Head) : Type 0 where
@@ -305,17 +309,17 @@ Asks (TooDeep at) q = (q.height ≤ 100) × (q.suites ≤ 50)
 Asks (TooMany at) q = q.number ≤ 20000
 Asks halt q = ⊤
 
--- why no line may stand in the suite of this, where it lies too deep, behind so many statements: with its first token a statement would begin that
--- is one too many, or none may begin, or else it is the suite
-abbrev pub BeyondFirst : Head → ℕ → Pos → List Token → List Line → Halt → Type 0
-BeyondFirst h n before [] lines (TooDeep place) = place ≡ before
-BeyondFirst h n before (t ∷ ts) lines (TooDeep place) = (place ≡ t.at) × (is_stmt_kind t.kind ≡ true → n < 20000)
-BeyondFirst h n before (t ∷ ts) lines (TooMany place) = (is_stmt_kind t.kind ≡ true) × (20000 ≤ n) × (place ≡ t.at)
-BeyondFirst h n before (t ∷ ts) lines (AtToken lines_left left) = (is_stmt_kind t.kind ≡ false) × (is_def h ≡ false) × (lines_left ≡ length lines) × (left ≡ length ts)
-BeyondFirst h n before tokens lines halt = ⊥
+-- why no line may stand in a suite that lies too deep, behind so many statements: with its first token none begins, or one would that is one too many, or
+-- else it is the suite
+abbrev pub BeyondFirst : ℕ → Pos → List Token → List Line → Halt → Type 0
+BeyondFirst n before [] lines (TooDeep place) = place ≡ before
+BeyondFirst n before (t ∷ ts) lines (TooDeep place) = (place ≡ t.at) × (is_stmt_kind t.kind ≡ true) × (n < 20000)
+BeyondFirst n before (t ∷ ts) lines (TooMany place) = (is_stmt_kind t.kind ≡ true) × (20000 ≤ n) × (place ≡ t.at)
+BeyondFirst n before (t ∷ ts) lines (AtToken lines_left left) = (is_stmt_kind t.kind ≡ false) × (lines_left ≡ length lines) × (left ≡ length ts)
+BeyondFirst n before tokens lines halt = ⊥
 
-abbrev pub BeyondSuites : Head → ℕ → Pos → Line → List Line → Halt → Type 0
-BeyondSuites h n before line lines halt = BeyondFirst h n before line.tokens lines halt
+abbrev pub BeyondSuites : ℕ → Pos → Line → List Line → Halt → Type 0
+BeyondSuites n before line lines halt = BeyondFirst n before line.tokens lines halt
 
 -- ---- what is refused
 
@@ -372,9 +376,18 @@ pub record Passes (follows : (Line → Type 0) → Type 0) (none : ℕ → List 
   pub goes_on : follows (λ line. IsLine line indent (tokens ++ keyword (codes "pass") at))
   pub none_so : none indent (tokens ++ keyword (codes "pass") at)
 
-pub record Deep (begins : Said → Point → Type 0) (none : ℕ → List Token → Type 0) (place : Pos) (indent : ℕ) (tokens : List Token) (next : Token) : Type 0 where
+-- no statement may stand behind these tokens
+abbrev pub NoneBy : ((Limits → Type 0) → ℕ → List Token → Type 0) → ℕ → List Token → Type 0
+NoneBy none indent tokens = (at : Spot) → none (λ q. ⊤) indent (tokens ++ keyword (codes "pass") at)
+
+-- Where these tokens are a line with `pass` behind them and a statement begins with this one in its place, none may stand there, or one that passes no limit.
+abbrev pub PassesBy : (none kept : ℕ → List Token → Type 0) → ℕ → List Token → Token → Type 0
+PassesBy none kept indent tokens t = begins_there tokens t ≡ true → (h : Head) (at : Spot) → head_tokens h ≡ tokens ++ keyword (codes "pass") at → none indent tokens ⊎ kept indent tokens
+
+pub record Deep (begins : Said → Point → Type 0) (none kept : ℕ → List Token → Type 0) (place : Pos) (indent : ℕ) (tokens : List Token) (next : Token) : Type 0 where
   pub goes_on : begins (first_deep_at place) (at_end indent (tokens ++ next ∷ []))
-  pub there : (h : Head) (more : List Token) → head_tokens h ≡ tokens ++ next ∷ more → (100 < head_lies h place) ⊎ (behind_first (behind_in h) place × none indent (head_tokens h))
+  pub there : (h : Head) (more : List Token) → head_tokens h ≡ tokens ++ next ∷ more → 100 < head_lies h place
+  pub order : PassesBy none kept indent tokens next
 
 -- with `pass` behind these tokens there are not too many statements yet
 pub record KeepsBy (counts : ℕ → List Token → Type 0) (tokens : List Token) : Type 0 where
@@ -382,20 +395,20 @@ pub record KeepsBy (counts : ℕ → List Token → Type 0) (tokens : List Token
   pub counts_are : counts number tokens
   pub within : number ≤ 20000
 
-abbrev pub DeepBy : (Said → Point → Type 0) → ((Line → Type 0) → Type 0) → (ℕ → List Token → Type 0) → (counts : ℕ → List Token → Type 0) → Pos → Point → Type 0
-DeepBy begins follows none counts place (at_token indent tokens t) = Deep begins none place indent tokens t ⊎ ((place ≡ t.at) × Passes follows none indent tokens × (is_stmt_kind t.kind ≡ true → KeepsBy counts tokens))
-DeepBy begins follows none counts place (at_end indent tokens) = (tokens ≡ []) × Passes follows none indent []
-DeepBy begins follows none counts place point = ⊥
+abbrev pub DeepBy : (Said → Point → Type 0) → ((Line → Type 0) → Type 0) → ((Limits → Type 0) → ℕ → List Token → Type 0) → (kept : ℕ → List Token → Type 0) → (counts : ℕ → List Token → Type 0) → Pos → Point → Type 0
+DeepBy begins follows none kept counts place (at_token indent tokens t) = Deep begins (NoneBy none) kept place indent tokens t ⊎ ((place ≡ t.at) × Passes follows (none few_suites) indent tokens × (begins_there tokens t ≡ true) × KeepsBy counts tokens)
+DeepBy begins follows none kept counts place (at_end indent tokens) = (tokens ≡ []) × Passes follows (none few_suites) indent []
+DeepBy begins follows none kept counts place point = ⊥
 
 abbrev pub ManyBy : ((Line → Type 0) → Type 0) → (ℕ → List Token → Type 0) → (counts : ℕ → List Token → Type 0) → Point → Type 0
-ManyBy follows none counts (at_token indent tokens t) = Passes follows none indent tokens × counts 20001 tokens
+ManyBy follows none counts (at_token indent tokens t) = Passes follows none indent tokens × counts 20001 tokens × (begins_there tokens t ≡ true)
 ManyBy follows none counts point = ⊥
 
 -- with TooDeep and TooMany, what passes the limit
-abbrev pub LimitBy : (Said → Point → Type 0) → ((Line → Type 0) → Type 0) → ((Limits → Type 0) → ℕ → List Token → Type 0) → (counts : ℕ → List Token → Type 0) → Halt → Point → Type 0
-LimitBy begins follows none counts (TooDeep place) point = DeepBy begins follows (none few_suites) counts place point
-LimitBy begins follows none counts (TooMany place) point = ManyBy follows (none few_statements) counts point
-LimitBy begins follows none counts halt point = ⊤
+abbrev pub LimitBy : (Said → Point → Type 0) → ((Line → Type 0) → Type 0) → ((Limits → Type 0) → ℕ → List Token → Type 0) → (kept : ℕ → List Token → Type 0) → (counts : ℕ → List Token → Type 0) → Halt → Point → Type 0
+LimitBy begins follows none kept counts (TooDeep place) point = DeepBy begins follows none kept counts place point
+LimitBy begins follows none kept counts (TooMany place) point = ManyBy follows (none few_statements) counts point
+LimitBy begins follows none kept counts halt point = ⊤
 
 -- behind so many statements, this many have begun with `pass` behind these tokens
 pub record CountsFrom (n : ℕ) (front : List Line) (number : ℕ) (tokens : List Token) : Type 0 where
@@ -406,11 +419,34 @@ pub record CountsFrom (n : ℕ) (front : List Line) (number : ℕ) (tokens : Lis
   pub counts : Counts before front
   pub number_is : n + before + counted next ≡ number
 
+-- where a handler is missing, it lies in at most 50 suites with what stands under it
+abbrev pub HasRoom : Level → Type 0
+HasRoom l = lacks_handler l.context.last ≡ true → l.depth < 50
+
+-- `pass` behind these tokens, at this indentation
+abbrev pub IsPassAt : Spot → ℕ → List Token → Line → Type 0
+IsPassAt at indent tokens line = IsLine line indent (tokens ++ keyword (codes "pass") at)
+
+-- no statement may stand behind these tokens, or one that passes no limit
+abbrev pub NonePass : Level → ℕ → List Line → ℕ → List Token → Type 0
+NonePass l n front indent tokens = (at : Spot) → NoneRows (λ q. ⊤) l n front (at_end indent (tokens ++ keyword (codes "pass") at))
+
+pub record KeepsPass (l : Level) (n : ℕ) (front : List Line) (indent : ℕ) (tokens : List Token) : Type 0 where
+  pub number : KeepsBy (CountsFrom n front) tokens
+  pub suites : HasRoom l → (at : Spot) → RowsWithin 50 l n (IsPassAt at indent tokens) front
+
+abbrev pub NonePassUnder : Level → ℕ → Head → List Line → ℕ → List Token → Type 0
+NonePassUnder m n h front indent tokens = (at : Spot) → NoneUnder (λ q. ⊤) m n h front (at_end indent (tokens ++ keyword (codes "pass") at))
+
+pub record KeepsPassUnder (m : Level) (n : ℕ) (h : Head) (front : List Line) (indent : ℕ) (tokens : List Token) : Type 0 where
+  pub number : KeepsBy (CountsFrom n front) tokens
+  pub suites : (at : Spot) → UnderWithin 50 m n h (IsPassAt at indent tokens) front
+
 abbrev pub RowsLimit : Level → ℕ → List Line → Halt → Point → Type 0
-RowsLimit l n front halt point = LimitBy (λ said. RowsBegin said l front) (λ is. RowsFollow l is front) (λ within indent tokens. NoneRows within l n front (at_end indent tokens)) (CountsFrom n front) halt point
+RowsLimit l n front halt point = LimitBy (λ said. RowsBegin said l front) (λ is. RowsFollow l is front) (λ within indent tokens. NoneRows within l n front (at_end indent tokens)) (KeepsPass l n front) (CountsFrom n front) halt point
 
 abbrev pub UnderLimit : Level → ℕ → Head → List Line → Halt → Point → Type 0
-UnderLimit m n h front halt point = LimitBy (λ said. UnderBegins said m h front) (λ is. UnderFollows m h is front) (λ within indent tokens. NoneUnder within m n h front (at_end indent tokens)) (CountsFrom n front) halt point
+UnderLimit m n h front halt point = LimitBy (λ said. UnderBegins said m h front) (λ is. UnderFollows m h is front) (λ within indent tokens. NoneUnder within m n h front (at_end indent tokens)) (KeepsPassUnder m n h front) (CountsFrom n front) halt point
 
 -- the place that TooDeep names
 abbrev pub deep_at : Halt → Option Pos
@@ -423,38 +459,26 @@ NoLimit (TooDeep place) = ⊥
 NoLimit (TooMany place) = ⊥
 NoLimit halt = ⊤
 
--- where a handler is missing, it lies in at most 50 suites with what stands under it
-abbrev pub HasRoom : Level → Type 0
-HasRoom l = lacks_handler l.context.last ≡ true → l.depth < 50
-
 -- it names a limit
 abbrev pub halt_limit : Halt → Bool
 halt_limit (TooDeep place) = true
 halt_limit (TooMany place) = true
 halt_limit halt = false
 
--- With a fault that names no limit, shown by a first token with which a statement begins, none may stand there, or one that passes no limit.
-abbrev pub OrderBy : (none kept : ℕ → Type 0) → (limit : Bool) → Point → Type 0
-OrderBy none kept false (at_token indent [] t) = is_stmt_kind t.kind ≡ true → none indent ⊎ kept indent
-OrderBy none kept limit point = ⊤
+-- a statement that begins on the line with one of these tokens passes no limit
+abbrev pub KeepsOrderBy : (none kept : ℕ → List Token → Type 0) → ℕ → List Token → Type 0
+KeepsOrderBy none kept indent tokens = (opened : List Token) (t : Token) (rest : List Token) → tokens ≡ opened ++ t ∷ rest → PassesBy none kept indent opened t
 
--- the statement `pass` at this indentation
-abbrev pub IsPassAt : Spot → ℕ → Line → Type 0
-IsPassAt at indent line = IsLine line indent (keyword (codes "pass") at)
+-- with the tokens before what shows the fault
+abbrev pub OrderBy : (none kept : ℕ → List Token → Type 0) → Point → Type 0
+OrderBy none kept (at_token indent tokens t) = KeepsOrderBy none kept indent tokens
+OrderBy none kept (at_end indent tokens) = KeepsOrderBy none kept indent tokens
+OrderBy none kept point = ⊤
 
-abbrev pub NonePass : Level → ℕ → List Line → ℕ → Type 0
-NonePass l n front indent = (at : Spot) → NoneRows (λ q. ⊤) l n front (at_end indent (keyword (codes "pass") at))
-
-pub record KeepsPass (l : Level) (n : ℕ) (front : List Line) (indent : ℕ) : Type 0 where
-  pub number : KeepsBy (CountsFrom n front) []
-  pub suites : HasRoom l → (at : Spot) → RowsWithin 50 l n (IsPassAt at indent) front
-
-abbrev pub NonePassUnder : Level → ℕ → Head → List Line → ℕ → Type 0
-NonePassUnder m n h front indent = (at : Spot) → NoneUnder (λ q. ⊤) m n h front (at_end indent (keyword (codes "pass") at))
-
-pub record KeepsPassUnder (m : Level) (n : ℕ) (h : Head) (front : List Line) (indent : ℕ) : Type 0 where
-  pub number : KeepsBy (CountsFrom n front) []
-  pub suites : (at : Spot) → UnderWithin 50 m n h (IsPassAt at indent) front
+-- where a fault names no limit, with the token that shows it
+abbrev pub PassesThere : (none kept : ℕ → List Token → Type 0) → (limit : Bool) → Point → Type 0
+PassesThere none kept false (at_token indent tokens t) = PassesBy none kept indent tokens t
+PassesThere none kept limit point = ⊤
 
 -- The same where a suite ends: no line at this indentation, whatever its tokens, goes on with it.
 pub record NoneHere (m : Level) (lines : List Line) (indent : ℕ) : Type 0 where
@@ -512,7 +536,8 @@ pub record Refused (cs : List ℕ) (l : Level) (n : ℕ) (at : Pos) (lines : Lis
   pub reads : ReadsNoFurther (deep_at fault) point
   pub few : Few n front
   pub shallow : HasRoom l → RowsLie l n front
-  pub order : OrderBy (NonePass l n front) (KeepsPass l n front) (halt_limit fault) point
+  pub order : OrderBy (NonePass l n front) (KeepsPass l n front) point
+  pub passes : PassesThere (NonePass l n front) (KeepsPass l n front) (halt_limit fault) point
   pub none : NoneRows (Asks fault) l n front point
 
 abbrev pub RowsStopped : List ℕ → Level → ℕ → Pos → List Line → Halt → Type 0
@@ -528,7 +553,7 @@ pub record RefusedHere (cs : List ℕ) (m : Level) (n : ℕ) (at : Pos) (lines :
   pub placed : Placed cs m n [] point
   pub before : tokens_before point ≡ []
   pub edge : (rows : Rows) (rest : List Line) → shows point rest → (l : Level) → l.indent ≡ m.indent → Leads l rows m → LastEdge rows lines → LastEdge rows rest
-  pub order : OrderHere m lines (halt_limit fault) point
+  pub passes : OrderHere m lines (halt_limit fault) point
   pub none : (q : Limits) → Asks fault q → (rest : List Line) (rows : Rows) (r : List Line) → shows point rest → FitsRows m rows → rows_may q m n rows ≡ true → Below m.indent r → rows_lines rows ++ r ≡ rest → ⊥
 
 -- Nothing that may stand under a line that begins this has these first lines up to and with what is shown.
@@ -545,7 +570,8 @@ pub record RefusedUnder (cs : List ℕ) (m : Level) (n : ℕ) (h : Head) (at : P
   pub reads : ReadsNoFurther (deep_at fault) point
   pub few : Few n front
   pub shallow : UnderLie m n h front
-  pub order : OrderBy (NonePassUnder m n h front) (KeepsPassUnder m n h front) (halt_limit fault) point
+  pub order : OrderBy (NonePassUnder m n h front) (KeepsPassUnder m n h front) point
+  pub passes : PassesThere (NonePassUnder m n h front) (KeepsPassUnder m n h front) (halt_limit fault) point
   pub none : NoneUnder (Asks fault) m n h front point
 
 abbrev pub UnderStopped : List ℕ → Level → ℕ → Head → Pos → List Line → Halt → Type 0
@@ -562,7 +588,8 @@ pub record RefusedLine (m : Level) (n : ℕ) (at : Pos) (line : Line) (lines : L
   pub begun : (rest : List Line) → shows point rest → Begun line.indent rest
   pub begins : line.indent ≡ m.indent → (place : Pos) → RowsBegin (low_elsewhere place) m [] point
   pub reads : ReadsNoFurther (deep_at fault) point
-  pub order : line.indent ≡ m.indent → OrderBy (NonePass m n []) (KeepsPass m n []) (halt_limit fault) point
+  pub order : line.indent ≡ m.indent → OrderBy (NonePass m n []) (KeepsPass m n []) point
+  pub passes : line.indent ≡ m.indent → PassesThere (NonePass m n []) (KeepsPass m n []) (halt_limit fault) point
   pub none : (q : Limits) → Asks fault q → (other : Line) (more : List Line) (h : Head) → shows point (other ∷ more) → other.tokens ≡ head_tokens h → follows m h ≡ true → may q m n h ≡ true → ⊥
 
 abbrev pub LineStopped : Level → ℕ → Pos → Line → List Line → Halt → Type 0
@@ -605,7 +632,8 @@ pub record FirstHalt (lines : List Line) (halt : Halt) : Type 0 where
   pub reads : ReadsNoFurther (deep_at halt) point
   pub few : BeginAtMost 20000 front
   pub shallow : LieWithin front
-  pub order : KeepsOrder (halt_limit halt) front point
+  pub order : InOrder front point
+  pub passes : PassesNoneThere (halt_limit halt) front point
   pub none : NoneWithin (Asks halt) front point
 
 abbrev pub IsHalt : List Line → Halt → Type 0

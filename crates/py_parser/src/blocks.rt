@@ -14,7 +14,7 @@ ghost use Rattle.py_grammar.specs.ParsedHead.{IsWhat, IsBehind, IsThere, behind_
 ghost use Rattle.py_parser.specs.Rows.{start, Level, counted, is_global, is_def as def_begins, is_stmt, opens as head_opens, after, head_around, head_given, last_after, lets_declare};
 ghost use Rattle.py_parser.specs.RowForms.{begun, form_begun, suite_list, grown as grown_trees, below_tree, declared, with_elif as with_elif_tree, with_else as with_else_tree, with_handler as with_handler_tree, with_part as with_part_tree, longer};
 ghost use Rattle.py_parser.specs.Faults.{first_place, last_place, is_stmt_kind};
-ghost use Rattle.py_parser.specs.ParsedBlocks.{limit_at, AreBelow, level_of, level_at, is_here, halt_of, MarksFirst, BeyondSuites, IsUnderOf, IsClosed, NotClosed, IsNoHandler, trees_of, IsHead, LineRead, LineStopped, RowsRead, RowRead, RowsStopped, UnderRead, UnderStopped};
+ghost use Rattle.py_parser.specs.ParsedBlocks.{limit_at, AreBelow, level_of, level_at, is_here, halt_of, MarksFirst, BeyondSuites, IsUnderOf, IsClosed, NotClosed, IsNoHandler, IsShallow, trees_of, IsHead, LineRead, LineStopped, RowsRead, RowRead, RowsStopped, UnderRead, UnderStopped};
 
 use crate::fault::Halt;
 use prov_base::{Name, Pos, Span};
@@ -84,7 +84,7 @@ impl<'a> Blocks<'a> {
         requires few { self.old.count ≤ 20000 }
         requires columns { AreBelow place.indent self.old.columns.items }
         ensures found { IfOk result (λ built. RowsRead (level_of place given.now) self.old.count self.old.before self.old.rest.now built self.new.count self.new.before self.new.rest.now) }
-        ensures refused { IfErr result (RowsStopped self.old.columns.items (level_of place given.now) self.old.count self.old.before self.old.rest.now) }
+        ensures refused { IsShallow (level_of place given.now) → IfErr result (RowsStopped self.old.columns.items (level_of place given.now) self.old.count self.old.before self.old.rest.now) }
         ensures columns { IfOk result (λ _. self.new.columns.items ≡ self.old.columns.items) }
     {
         let mut built = Built::new(alloc, place);
@@ -110,7 +110,7 @@ impl<'a> Blocks<'a> {
         requires declares { built.may_declare ≡ true → place.of_def ≡ true }
         requires columns { AreBelow place.indent self.old.columns.items }
         ensures found { IfOk result (λ more. RowRead (level_at place given.now built) self.old.count self.old.before self.old.rest.now built more (level_at place given.now more) self.new.count self.new.before self.new.rest.now) }
-        ensures refused { IfErr result (RowsStopped self.old.columns.items (level_at place given.now built) self.old.count self.old.before self.old.rest.now) }
+        ensures refused { IsShallow (level_at place given.now built) → IfErr result (RowsStopped self.old.columns.items (level_at place given.now built) self.old.count self.old.before self.old.rest.now) }
         ensures columns { IfOk result (λ _. self.new.columns.items ≡ self.old.columns.items) }
     {
         let Some((line, rest)) = self.rest.split_first() else {
@@ -185,7 +185,7 @@ impl<'a> Blocks<'a> {
         requires columns { AreBelow place.indent self.old.columns.items }
         ensures found { (m : Level) (n : ℕ) (h : Head) → IsUnderOf place self.old.count m n h → IsHead what.now line.now h → IsBehind behind (behind_in h)
             → IfOk result (λ built. UnderRead m n h line.now.span.to self.old.before self.old.rest.now built self.new.count self.new.before self.new.rest.now) }
-        ensures refused { (m : Level) (n : ℕ) (h : Head) → IsUnderOf place self.old.count m n h → IsHead what.now line.now h → IsBehind behind (behind_in h)
+        ensures refused { (m : Level) (n : ℕ) (h : Head) → IsShallow m → IsUnderOf place self.old.count m n h → IsHead what.now line.now h → IsBehind behind (behind_in h)
             → IfErr result (UnderStopped self.old.columns.items m (n + counted h) h self.old.before self.old.rest.now) }
         ensures columns { IfOk result (λ _. self.new.columns.items ≡ self.old.columns.items) }
     {
@@ -208,7 +208,7 @@ impl<'a> Blocks<'a> {
         requires columns { AreBelow place.indent self.old.columns.items }
         ensures found { (m : Level) (n : ℕ) (h : Head) → IsUnderOf place self.old.count m n h → IsWhat what.now h → head_opens h ≡ true
             → IfOk result (λ built. (to : ℕ) → UnderRead m n h to self.old.before self.old.rest.now built self.new.count self.new.before self.new.rest.now) }
-        ensures refused { (m : Level) (n : ℕ) (h : Head) → IsUnderOf place self.old.count m n h → IsWhat what.now h → head_opens h ≡ true
+        ensures refused { (m : Level) (n : ℕ) (h : Head) → IsShallow m → IsUnderOf place self.old.count m n h → IsWhat what.now h → head_opens h ≡ true
             → IfErr result (UnderStopped self.old.columns.items m (n + counted h) h self.old.before self.old.rest.now) }
         ensures columns { IfOk result (λ _. self.new.columns.items ≡ self.old.columns.items) }
     {
@@ -219,7 +219,7 @@ impl<'a> Blocks<'a> {
             return Err(Halt::BadIndent(self.before));
         }
         if SUITES <= place.depth {
-            return Err(beyond_suites(next, lines, what, self.count, self.before));
+            return Err(beyond_suites(next, lines, self.count, self.before));
         }
         let inner = Place {
             indent: next.indent,
@@ -297,18 +297,18 @@ fn at_first(tokens: &[Token], lines: &[Line], before: Pos) -> Halt
     }
 }
 
-/// Why no line may stand in the suite of what the line before begins, where it lies too deep: so many statements have begun, and
-/// `lines` stand behind it.
-fn beyond_suites(line: &Line, lines: &[Line], what: &What, count: u32, before: Pos) -> Halt
-    ensures { (h : Head) → IsWhat what.now h → BeyondSuites h count before line.now lines.now result }
+/// Why no line may stand in a suite that lies too deep: so many statements have begun, and `lines` stand behind it. Only a `def` has a
+/// suite that a `global` line begins, and none lies so deep.
+fn beyond_suites(line: &Line, lines: &[Line], count: u32, before: Pos) -> Halt
+    ensures { BeyondSuites count before line.now lines.now result }
 {
     let Some((first, behind)) = line.tokens.as_slice().split_first() else {
         return Halt::TooDeep(before);
     };
-    if !begins_stmt(&first.kind) && !is_def(what) {
+    if !begins_stmt(&first.kind) {
         return Halt::AtToken(lines.len(), behind.len());
     }
-    if begins_stmt(&first.kind) && STATEMENTS <= count {
+    if STATEMENTS <= count {
         return Halt::TooMany(first.at);
     }
     Halt::TooDeep(first.at)

@@ -10,8 +10,10 @@
 
 mod blocks;
 mod fault;
+mod laws;
 mod script;
 mod told;
 
 pub use fault::ParseFault;
+pub use laws::{one_fault, text_has_one_fault};
 pub use script::parse;

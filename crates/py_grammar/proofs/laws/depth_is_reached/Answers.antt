@@ -1,4 +1,3 @@
-use Rattle.py_grammar.proofs.WorkedLies.{product_first}
 use Rattle.py_grammar.specs.Lies.{exprs_deepest}
 use Rattle.py_grammar.proofs.Lying.{exprs_low}
 use Rattle.py_grammar.proofs.Deepest.{exprs_are_first}

@@ -16,17 +16,17 @@ returns-in-Some-limit-clause-refused c =
 -- src/head.rt
 pub returns-then-not-is_alone-clause-refused : goal.returns-then-not-is_alone-clause-refused
 returns-then-not-is_alone-clause-refused c =
-    class_there (around_of c.args.around) c.args.limit c.args.self.now.rest.now c.in-Some.token.now _ _ c.in-Some.ensures.cases.0 c.if-around.true (sym c.is_alone.ensures ∙ c.if-not-is_alone.true) c.refuse_in_class.ensures
+    class_there (around_of c.args.around) c.args.limit c.args.self.now.rest.now c.in-Some.token.now _ _ c.in_default-limit.is c.in-Some.ensures.cases.0 c.if-around.true (sym c.is_alone.ensures ∙ c.if-not-is_alone.true) c.refuse_in_class.ensures
 
 -- src/head.rt
 pub returns-then-is_refused_word-clause-refused : goal.returns-then-is_refused_word-clause-refused
 returns-then-is_refused_word-clause-refused c =
-    word_there (around_of c.args.around) c.args.limit c.args.self.now.rest.now c.in-Some.token.now _ _ c.in-Some.ensures.cases.0 (sym c.is_refused_word.ensures ∙ c.if-is_refused_word.true) refl
+    word_there (around_of c.args.around) c.args.limit c.args.self.now.rest.now c.in-Some.token.now _ _ c.in_default-limit.is c.in-Some.ensures.cases.0 (sym c.is_refused_word.ensures ∙ c.if-is_refused_word.true) refl
 
 -- src/head.rt
 pub returns-in_err-form-clause-refused : goal.returns-in_err-form-clause-refused
 returns-in_err-form-clause-refused c =
-    let is = refused_there (around_of c.args.around) c.args.limit c.args.self.now.rest.now c.in-Some.token.now _ _ c.in-Some.ensures.cases.0
+    let is = refused_there (around_of c.args.around) c.args.limit c.args.self.now.rest.now c.in-Some.token.now _ _ c.in_default-limit.is c.in-Some.ensures.cases.0
     (elim c.else-around.branch [
       | else-around-via-then-around+else-not-is_alone w ↦ (λ inside. sym w.is_alone.ensures ∙ w.if-not-is_alone.false)
       | else-around-via-else-around w ↦ outside _ _ w.if-around.false

@@ -11,15 +11,15 @@ use Rattle.py_parser.proofs.blocks.Blocks.+blocks.Goals as goal
 
 -- src/blocks.rt
 pub row-returns-in_err-what-clause-refused : goal.row-returns-in_err-what-clause-refused
-row-returns-in_err-what-clause-refused t c =
+row-returns-in_err-what-clause-refused t c shallow =
     let is = line_stopped_there c.args.self.now.columns.items (level_at c.args.place c.args.given.now c.args.built) c.args.self.now.count c.args.self.now.before c.args.self.now.rest.now c.in-Some.line.now _ _ c.requires.deep c.requires.few c.in-Some.ensures.cases.0 c.requires.here c.in_err-what.ensures.refused in
     search (rules, is)
 
 -- src/blocks.rt
 pub row-returns-in_err-under-clause-refused : goal.row-returns-in_err-under-clause-refused
-row-returns-in_err-under-clause-refused t c =
+row-returns-in_err-under-clause-refused t c shallow =
     let is = under_stopped_there c.args.self.now.columns.items _ c.args.place c.args.given.now c.args.self.now.count c.line.new.self.count c.args.self.now.before c.last_of-self.result c.args.self.now.rest.now c.in-Some.line.now _ c.args.built _ _ c.requires.deep (ap (λ v. v.items) c.in_ok-what.ensures.columns) c.in-Some.ensures.cases.0 c.requires.here
-    (c.last_of-self.ensures ∙ ap (λ at. last_place at c.as_slice.result.now) c.in_ok-what.ensures.before ∙ ap (last_place c.args.self.now.before) c.as_slice.ensures) c.in_ok-what.ensures.found c.in_err-under.ensures.refused in
+    (c.last_of-self.ensures ∙ ap (λ at. last_place at c.as_slice.result.now) c.in_ok-what.ensures.before ∙ ap (last_place c.args.self.now.before) c.as_slice.ensures) c.in_ok-what.ensures.found shallow c.in_err-under.ensures.refused in
     search (rules, is)
 
 -- src/blocks.rt
@@ -48,9 +48,9 @@ rows-row-requires t c =
 
 -- src/blocks.rt
 pub rows-returns-in_err-built-clause-refused : goal.rows-returns-in_err-built-clause-refused
-rows-returns-in_err-built-clause-refused t c =
+rows-returns-in_err-built-clause-refused t c shallow =
     let is = stopped_behind_there c.args.self.now.columns.items _ (level_of c.args.place c.args.given.now) (level_at c.args.place c.args.given.now c.loop-alloc.built) c.args.self.now.count c.loop-alloc.self.count c.args.self.now.before c.loop-alloc.self.before c.args.self.now.rest.now c.loop-alloc.self.rest.now
-    c.loop-alloc.built _ c.loop-alloc.invariant.1 c.loop-alloc.invariant.0 c.in_err-built.ensures.refused in
+    c.loop-alloc.built _ c.loop-alloc.invariant.1 c.loop-alloc.invariant.0 (c.in_err-built.ensures.refused shallow) in
     search (rules, is)
 
 -- src/blocks.rt
@@ -63,7 +63,7 @@ rows-loop-alloc-preserved t c = (
 
 -- src/blocks.rt
 pub rows-returns-in_err-close-clause-refused : goal.rows-returns-in_err-close-clause-refused
-rows-returns-in_err-close-clause-refused t c =
+rows-returns-in_err-close-clause-refused t c shallow =
     let is = stopped_end_there c.args.self.now.columns.items _ c.args.place c.args.given.now c.args.self.now.count c.loop-alloc.self.count c.args.self.now.before c.loop-alloc.self.before c.args.self.now.rest.now c.loop-alloc.self.rest.now c.loop-alloc.built _
     c.requires.deep c.loop-alloc.invariant.1 c.requires.here (sym c.is_here.ensures ∙ c.loop-alloc-test.false) c.loop-alloc.invariant.0 c.in_err-close.ensures.refused in
     search (rules, is)
@@ -75,24 +75,24 @@ rows-returns-clause-found t c =
 
 -- src/blocks.rt
 pub suite-returns-in_default-clause-refused : goal.suite-returns-in_default-clause-refused
-suite-returns-in_default-clause-refused t c m n h u what open_is =
+suite-returns-in_default-clause-refused t c m n h shallow u what open_is =
     no_line_below c.args.self.now.columns.items c.args.place c.args.self.now.count m n h c.args.self.now.before c.args.self.now.rest.now c.requires.deep (nothing_below _ c.in_default.ensures.cases) u open_is
 
 -- src/blocks.rt
 pub suite-returns-then-next-place-clause-refused : goal.suite-returns-then-next-place-clause-refused
-suite-returns-then-next-place-clause-refused t c m n h u what open_is =
+suite-returns-then-next-place-clause-refused t c m n h shallow u what open_is =
     not_below c.args.self.now.columns.items c.args.place c.args.self.now.count m n h c.args.self.now.before c.in-Some.next.now _ c.args.self.now.rest.now c.requires.deep c.in-Some.ensures.cases.0 u c.if-next-place.true open_is
 
 -- src/blocks.rt
 pub suite-returns-then-place-ge-SUITES-clause-refused : goal.suite-returns-then-place-ge-SUITES-clause-refused
-suite-returns-then-place-ge-SUITES-clause-refused t c m n h u what open_is =
-    beyond_below c.args.self.now.columns.items c.args.place c.args.self.now.count m n h c.args.self.now.before c.in-Some.next.now c.in-Some.lines.now c.args.self.now.rest.now _ c.requires.deep c.in-Some.ensures.cases.0 u c.if-next-place.false c.if-place-ge-SUITES.true open_is
-    (c.beyond_suites.ensures h what)
+suite-returns-then-place-ge-SUITES-clause-refused t c m n h shallow u what open_is =
+    beyond_below c.args.self.now.columns.items c.args.place c.args.self.now.count m n h c.args.self.now.before c.in-Some.next.now c.in-Some.lines.now c.args.self.now.rest.now _ c.requires.deep c.in-Some.ensures.cases.0 shallow u c.if-next-place.false c.if-place-ge-SUITES.true open_is
+    c.beyond_suites.ensures
 
 -- src/blocks.rt
 pub suite-returns-in_err-built-clause-refused : goal.suite-returns-in_err-built-clause-refused
-suite-returns-in_err-built-clause-refused t c m n h u what open_is =
-    let is = suite_stopped_there c.args.self.now.columns.items _ c.args.place (inner_place c.in-Some.next.now.indent (c.args.place.depth + 1) c.inner_around.result c.is_def.result) c.given_of.result.now c.args.self.now.count m n h c.args.self.now.before c.args.self.now.rest.now _ c.if-place-ge-SUITES.false u open_is refl
+suite-returns-in_err-built-clause-refused t c m n h shallow u what open_is =
+    let is = suite_stopped_there c.args.self.now.columns.items _ c.args.place (inner_place c.in-Some.next.now.indent (c.args.place.depth + 1) c.inner_around.result c.is_def.result) c.given_of.result.now c.args.self.now.count m n h c.args.self.now.before c.args.self.now.rest.now _ c.if-place-ge-SUITES.false shallow u open_is refl
     (c.inner_around.ensures h what) (c.is_def.ensures h what) (c.given_of.ensures h what) c.if-next-place.false c.in_ok-push.ensures.items c.in_err-built.ensures.refused in
     search (rules, is)
 
@@ -121,3 +121,8 @@ suite-rows-requires t c =
     let columns = still_below c.in-Some.next.now.indent (c.args.self.now.columns.items ++ c.args.place.indent ∷ []) c.push.new.self.items c.in_ok-push.ensures.items
     (below_inside c.args.place.indent c.in-Some.next.now.indent c.args.self.now.columns.items c.if-next-place.false c.requires.columns) in
     search (rules, columns)
+
+-- src/blocks.rt
+pub under-returns-in-None-clause-refused : goal.under-returns-in-None-clause-refused
+under-returns-in-None-clause-refused t c m n h shallow u head there =
+    c.suite.ensures.refused m n h shallow u head.0 (sym (c.opens.ensures h head.0 (is_none_behind (behind_in h) (no_behind c.args.behind h c.in-None.is there))) ∙ c.if-opens.true)

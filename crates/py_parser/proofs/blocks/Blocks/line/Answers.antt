@@ -54,8 +54,14 @@ returns-in-Err-Here-clause-refused c =
 -- src/blocks.rt
 pub returns-in-Err-End-clause-refused : goal.returns-in-Err-End-clause-refused
 returns-in-Err-End-clause-refused c =
+    let fewer : c.begins_stmt-begins.result ≡ true → (c.args.self.now.count < 20000) ⊎ (lacks_handler c.args.built.now.last ≡ true) =
+    elim c.else-begins.branch [
+      | else-begins-via-then-begins+else-finished w ↦ λ _. inr (not_false _ _ c.is_finished-finished.ensures w.if-finished.false)
+      | else-begins-via-then-begins+then-finished+else-self-ge-STATEMENTS w ↦ λ _. inl w.if-self-ge-STATEMENTS.false
+      | else-begins-via-else-begins w ↦ λ is. absurd (false≢true (sym w.if-begins.false ∙ is))
+    ] in
     let o = opened (level_at c.args.place c.args.given.now c.args.built.now) c.args.self.now.count c.args.line.now c.as_slice.result.now c.in-Some.first.now c.begins_stmt-begins.result c.limit_of-limit.result c.from.result
     c.as_slice.ensures c.in-Some.ensures.value c.begins_stmt-begins.ensures c.from.ensures c.limit_of-limit.ensures in
-    line_ends (level_at c.args.place c.args.given.now c.args.built.now) c.args.self.now.count _ _ c.args.line.now c.args.lines.now c.in-Some.first.now c.begins_stmt-begins.result c.limit_of-limit.result o c.requires.declares
+    line_ends (level_at c.args.place c.args.given.now c.args.built.now) c.args.self.now.count _ _ c.args.line.now c.args.lines.now c.in-Some.first.now c.begins_stmt-begins.result c.limit_of-limit.result o c.requires.declares fewer
     (c.last_of.ensures ∙ ap (last_place c.args.self.now.before) c.as_slice-in-Err-End.ensures)
     (refused_at (level_at c.args.place c.args.given.now c.args.built.now) c.limit_of-limit.result c.as_slice-2.result.now _ c.in-Err-End.field-0 End c.as_slice-2.ensures c.in-Err-End.field-0-is c.in-Err-End.ensures.refused)
