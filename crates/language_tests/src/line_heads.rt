@@ -261,6 +261,8 @@ try: => try
 try: a = 1 => try : = a@1:6 1@1:10
 with a: => with a@1:6
 with open(a) as b: => with (call@1:10 open@1:6 a@1:11) as b@1:17
+with (a, b): => with (tuple@1:8 a@1:7 b@1:10)
+with (a, b) as c: => with (tuple@1:8 a@1:7 b@1:10) as c@1:16
 def f(): => def f
 def f(a, b,): return a => def f a b : return a@1:22
 class A: pass => class A : pass

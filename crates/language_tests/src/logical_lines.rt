@@ -238,6 +238,7 @@ fn left_open(rt: HostRuntime) -> Result<(), Fail> {
         ("'''a", "OpenBracket 1:1"),
         ("('''a\n", "OpenBracket 1:1"),
         ("'''a\\", "OpenBracket 1:1"),
+        ("x = (\"\"\"\\", "OpenBracket 1:5"),
         ("(\n", "OpenBracket 1:1"),
         ("f(a,\n[b", "OpenBracket 1:2"),
     ] {

@@ -383,7 +383,14 @@ del a < b not c => Unexpected 1:11
 del f(); a => Unsupported 1:5
 del (a).b => Unsupported 1:8
 for a[b in c], d in e: f => 2 statements
-for a, b + c, f() in d: e => Unsupported 1:8"#,
+for a, b + c, f() in d: e => Unsupported 1:8
+for 1, + in a: b => Unsupported 1:5
+for a, 1, not in b: c => Unsupported 1:8
+for a, + in b: c => Unexpected 1:10
+for 1 a in b: c => Unsupported 1:5
+for "" => Unsupported 1:5
+del 1 a => Unsupported 1:5
+del a = b => Unexpected 1:7"#,
     )
 }
 
@@ -452,7 +459,33 @@ fn depth_of_expressions(rt: HostRuntime) -> Result<(), Fail> {
     check_repeated(&rt, alloc, ("not ", 99, "a"), "1 statements")?;
     check_repeated(&rt, alloc, ("not ", 100, "a"), "TooDeep 1:401")?;
     check_repeated(&rt, alloc, ("a if b else ", 99, "a"), "1 statements")?;
-    check_repeated(&rt, alloc, ("a if b else ", 100, "a"), "TooDeep 1:1189")
+    check_repeated(&rt, alloc, ("a if b else ", 100, "a"), "TooDeep 1:1189")?;
+    check_repeated(&rt, alloc, ("a.", 99, "a"), "1 statements")?;
+    check_repeated(&rt, alloc, ("a.", 100, "a"), "TooDeep 1:1")?;
+    check_repeated(&rt, alloc, ("a or ", 99, "a"), "1 statements")?;
+    check_repeated(&rt, alloc, ("a or ", 100, "a"), "TooDeep 1:1")
+}
+
+// What stands behind an expression that lies just deep enough: what would put it deeper comes before what is wrong with it.
+#[test]
+fn behind_the_deepest_expression(rt: HostRuntime) -> Result<(), Fail> {
+    let alloc = rt.alloc();
+    for (end, expected) in [
+        ("a", "1 statements"),
+        ("a not b", "TooDeep 1:1"),
+        ("a not in b", "TooDeep 1:1"),
+        ("a if", "TooDeep 1:1"),
+        ("a,", "TooDeep 1:1"),
+        ("a is lambda", "TooDeep 1:1"),
+        ("a b", "Unexpected 1:399"),
+        ("a for", "Unexpected 1:399"),
+        ("a = b", "Unsupported 1:1"),
+        ("a; b", "Unsupported 1:398"),
+        ("a: b", "Unexpected 1:398"),
+    ] {
+        check_repeated(&rt, alloc, ("a + ", 99, end), expected)?;
+    }
+    Ok(())
 }
 
 // Brackets around a name, and calls behind one.
@@ -479,7 +512,53 @@ fn depth_of_brackets(rt: HostRuntime) -> Result<(), Fail> {
     check_brackets(&rt, alloc, ("", "f", "()"), 99, "1 statements")?;
     check_brackets(&rt, alloc, ("", "f", "()"), 100, "TooDeep 1:1")?;
     check_brackets(&rt, alloc, ("[", "a", "]"), 99, "1 statements")?;
-    check_brackets(&rt, alloc, ("[", "a", "]"), 100, "TooDeep 1:101")
+    check_brackets(&rt, alloc, ("[", "a", "]"), 100, "TooDeep 1:101")?;
+    check_brackets(&rt, alloc, ("(", "", ")"), 100, "1 statements")?;
+    check_brackets(&rt, alloc, ("(", "", ")"), 101, "TooDeep 1:101")?;
+    check_brackets(&rt, alloc, ("(", "a, b", ")"), 98, "1 statements")?;
+    check_brackets(&rt, alloc, ("(", "a, b", ")"), 99, "TooDeep 1:100")?;
+    check_brackets(&rt, alloc, ("{a: ", "b", "}"), 99, "1 statements")?;
+    check_brackets(&rt, alloc, ("{a: ", "b", "}"), 100, "TooDeep 1:398")?;
+    check_brackets(&rt, alloc, ("a[", "b", "]"), 99, "1 statements")?;
+    check_brackets(&rt, alloc, ("a[", "b", "]"), 100, "TooDeep 1:199")?;
+    check_brackets(&rt, alloc, ("a[:", "b", "]"), 99, "1 statements")?;
+    check_brackets(&rt, alloc, ("f(", "a", ")"), 100, "TooDeep 1:199")?;
+    check_brackets(&rt, alloc, ("(", "=", ")"), 100, "Unexpected 1:101")?;
+    check_brackets(&rt, alloc, ("(", "lambda", ")"), 100, "Unsupported 1:101")?;
+    check_brackets(&rt, alloc, ("f(", "*a", ")"), 99, "Unsupported 1:199")
+}
+
+// Brackets around a name, with something before them and behind them.
+fn check_between(
+    rt: &impl Abort,
+    alloc: Global,
+    parts: (&str, u32, &str),
+    expected: &str,
+) -> Result<(), Fail> {
+    let (before, times, behind) = parts;
+    let mut text = String::from_str(alloc, before)?;
+    repeated(&mut text, "(", times)?;
+    text.push_str("a")?;
+    repeated(&mut text, ")", times)?;
+    text.push_str(behind)?;
+    check_text(rt, alloc, &text, expected)
+}
+
+// A target lies as deep as the expression of its form, and several targets as deep as those of a tuple.
+#[test]
+fn depth_of_targets(rt: HostRuntime) -> Result<(), Fail> {
+    let alloc = rt.alloc();
+    check_between(&rt, alloc, ("", 98, ".b = c"), "1 statements")?;
+    check_between(&rt, alloc, ("", 99, ".b = c"), "TooDeep 1:100")?;
+    check_between(&rt, alloc, ("", 97, ".b, c = d"), "1 statements")?;
+    check_between(&rt, alloc, ("", 98, ".b, c = d"), "TooDeep 1:99")?;
+    check_between(&rt, alloc, ("", 98, "[0] += c"), "1 statements")?;
+    check_between(&rt, alloc, ("del ", 98, "[0]"), "1 statements")?;
+    check_between(&rt, alloc, ("del ", 99, "[0]"), "TooDeep 1:104")?;
+    check_between(&rt, alloc, ("for ", 97, ".b, c in d: e"), "2 statements")?;
+    check_between(&rt, alloc, ("for ", 98, ".b, c in d: e"), "TooDeep 1:103")?;
+    check_between(&rt, alloc, ("for b, ", 97, ".b in d: e"), "2 statements")?;
+    check_between(&rt, alloc, ("for b, ", 98, ".b in d: e"), "TooDeep 1:106")
 }
 
 // As many suites in one another, and what stands in the innermost.
@@ -554,6 +633,27 @@ fn number_of_statements(rt: HostRuntime) -> Result<(), Fail> {
         "Unexpected 20001:1",
     )?;
     check_repeated(&rt, alloc, ("x\n", 19998, "if x: y"), "20000 statements")
+}
+
+// What may stand behind the last statement that there may be.
+#[test]
+fn behind_the_last_statement(rt: HostRuntime) -> Result<(), Fail> {
+    let alloc = rt.alloc();
+    for (end, expected) in [
+        ("if x: y\nelse: z", "TooMany 20000:7"),
+        ("while x: y\nelse: z", "Unsupported 20000:1"),
+        ("with x: y\nglobal z", "Unsupported 20000:1"),
+        ("class A:\n 'a'\n else: x", "Unexpected 20001:2"),
+    ] {
+        check_repeated(&rt, alloc, ("x\n", 19998, end), expected)?;
+    }
+    for (end, expected) in [
+        ("def f():\n global a", "BadIndent 20001:9"),
+        ("def f():\n global a\n b", "TooMany 20002:2"),
+    ] {
+        check_repeated(&rt, alloc, ("x\n", 19999, end), expected)?;
+    }
+    Ok(())
 }
 
 // So many statements, and then one in a suite too many.
