@@ -28,22 +28,3 @@ pub fn blanked(alloc: Global, text: &[u8], marks: &[bool]) -> Result<Vec<u8>, Al
     }
     Ok(cut)
 }
-
-#[cfg(test)]
-mod tests {
-    use super::*;
-    use std::test::Fail;
-
-    #[test]
-    fn blanks_lines_without_marks(rt: HostRuntime) -> Result<(), Fail> {
-        for (marks, cut) in [
-            ([true, false, true], "a = 1\n     \nc = a\n"),
-            ([false, true, false], "     \nb = 2\n     \n"),
-            ([false, false, false], "     \n     \n     \n"),
-        ] {
-            let text = blanked(rt.alloc(), b"a = 1\nb = 2\nc = a\n", &marks)?;
-            assert_eq!(rt; text.as_slice(), cut.as_bytes());
-        }
-        Ok(())
-    }
-}

@@ -11,8 +11,6 @@ mod path;
 mod pieces;
 mod reply;
 mod script;
-#[cfg(test)]
-mod tests;
 mod top;
 mod word;
 mod words;

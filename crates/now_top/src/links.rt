@@ -53,31 +53,3 @@ pub fn lines_needed(alloc: Global, links: &[Link], asked: usize) -> Result<Vec<b
     }
     Ok(marks)
 }
-
-#[cfg(test)]
-mod tests {
-    use super::*;
-    use std::test::Fail;
-
-    #[test]
-    fn follows_ties_all_the_way(rt: HostRuntime) -> Result<(), Fail> {
-        let links = [
-            Link::Empty,
-            Link::Binding(None, None),
-            Link::Binding(Some(1), None),
-            Link::Binding(None, None),
-            Link::Binding(Some(2), Some(3)),
-            Link::Binding(Some(3), Some(3)),
-        ];
-        for (asked, needed) in [
-            (0, [true, false, false, false, false, false]),
-            (2, [false, true, true, false, false, false]),
-            (4, [false, true, true, true, true, false]),
-            (5, [false, false, false, true, false, true]),
-        ] {
-            let marks = lines_needed(rt.alloc(), &links, asked)?;
-            assert_eq!(rt; marks.as_slice(), needed.as_slice(), "for {asked}");
-        }
-        Ok(())
-    }
-}

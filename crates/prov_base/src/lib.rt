@@ -12,5 +12,3 @@ pub use place::{Digest, Pos, Span};
 pub use refusal::{Failed, Memory};
 pub use text::{Bytes, Name, Names};
 
-#[cfg(test)]
-mod tests;

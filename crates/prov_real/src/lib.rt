@@ -12,7 +12,8 @@
 //!   fault where the system named none, tells as little as the real one;
 //! - which stream, which path and which bytes an adapter hands to the loops.
 //!
-//! The tests run each real call once.
+//! The loops are public, so that sources and sinks which fail in mid-stream can be put to them from outside.
+//! `outside_cases` does so, and runs each real call.
 #![tactic(auto)]
 
 mod console;
@@ -20,8 +21,8 @@ mod faults;
 mod folder;
 mod lines;
 mod stream;
-#[cfg(test)]
-mod tests;
 
 pub use console::RealConsole;
 pub use folder::RealFolder;
+pub use lines::Unread;
+pub use stream::{read_whole, write_whole};

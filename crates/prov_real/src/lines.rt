@@ -21,7 +21,7 @@ const CHUNK: usize = 4096;
 /// The bytes that were read of a source and that no line has taken yet, seen as their list. They are few: a line that
 /// is too long already is not read on.
 #[derive(Drop)]
-pub(crate) struct Unread {
+pub struct Unread {
     bytes: Vec<u8>,
     // Lines took the bytes before this place.
     start: usize,
@@ -42,7 +42,7 @@ impl Model for Unread {
 
 impl Unread {
     /// Nothing was read so far. It takes no memory.
-    pub(crate) fn new(alloc: Global) -> Unread
+    pub fn new(alloc: Global) -> Unread
         ensures { result ≡ [] }
     {
         Unread {
@@ -55,7 +55,7 @@ impl Unread {
     /// The next line without its LF, or `None` at the end of the source, which is where it gives nothing. The last
     /// line may lack its LF, and is a line where it is not empty. A line of more than 1,048,576 bytes is a fault, and
     /// stays in front. After an `Err` no byte is lost.
-    pub(crate) fn next_line<R: Read>(
+    pub fn next_line<R: Read>(
         &mut self,
         alloc: Global,
         source: &mut R,

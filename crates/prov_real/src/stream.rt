@@ -17,7 +17,7 @@ const CHUNK: usize = 4096;
 /// Writes all the bytes, and has the sink pass on what it keeps back, so that all of it has reached the system at
 /// `Ok`. (std keeps nothing back at standard output and at files; there the flush costs nothing.) A sink that takes
 /// nothing of what is left has failed. After an `Err` a prefix of the bytes was written. No memory is taken.
-pub(crate) fn write_whole<W: Write>(sink: &mut W, bytes: &[u8]) -> Result<(), Trouble>
+pub fn write_whole<W: Write>(sink: &mut W, bytes: &[u8]) -> Result<(), Trouble>
     ensures written { OnOk result (Appends (W.contents sink.old) (W.contents sink.new) bytes.now) }
     ensures prefix { OnErr result ((n : ℕ) × Appends (W.contents sink.old) (W.contents sink.new) (take n bytes.now)) }
     ensures fault { IfErr result (λ trouble. trouble ≡ Failed) }
@@ -37,7 +37,7 @@ pub(crate) fn write_whole<W: Write>(sink: &mut W, bytes: &[u8]) -> Result<(), Tr
 
 /// Reads a source to its end, which is where it gives nothing. One of more than 16,777,216 bytes is too large. The
 /// answer is never `Absent` or `Failed`.
-pub(crate) fn read_whole<R: Read>(alloc: Global, source: &mut R) -> Result<Found, Trouble>
+pub fn read_whole<R: Read>(alloc: Global, source: &mut R) -> Result<Found, Trouble>
     ensures answer { IfOk result IsAnswer }
     ensures found { IfSome (R.remaining source.old) (λ content. IfOk result (IsFound (Some content))) }
 {

@@ -1,0 +1,194 @@
+// What the commands have set up for the next call of the program, and the one place where a command is told from others.
+use crate::texts::{bytes_of, halves, number, write_rows};
+use crate::{base, devices, streams};
+use now_top::now;
+use prov_base::{Bytes, Name};
+use prov_outside::{MemoryConsole, MemoryFolder};
+use std::alloc::{AllocError, Global};
+
+/// The one file of the folder, and the numbers of the calls of the console and of the folder that fail. 0 is none.
+#[derive(Drop)]
+pub struct Bench {
+    path: String,
+    text: Vec<u8>,
+    console_fails: u64,
+    folder_fails: u64,
+}
+
+impl Bench {
+    pub fn new(alloc: Global) -> Result<Bench, AllocError> {
+        Ok(Bench {
+            path: String::new(alloc),
+            text: Vec::new(alloc),
+            console_fails: 0,
+            folder_fails: 0,
+        })
+    }
+
+    /// Answers a line: writes what its command answers, and an LF. A line that is no text, an empty one and one that begins with
+    /// `#` answer nothing.
+    pub fn answer(
+        &mut self,
+        rt: &HostRuntime,
+        line: &[u8],
+        out: &mut Vec<u8>,
+    ) -> Result<(), AllocError> {
+        let Ok(line) = str::from_utf8(line) else {
+            return Ok(());
+        };
+        let (command, words) = halves(line, ' ');
+        if self.sets_up(rt.alloc(), command, words)? {
+            return Ok(());
+        }
+        out.extend_from_slice(line.as_bytes())?;
+        out.extend_from_slice(b"\n    ")?;
+        if command == "call" {
+            self.call(rt.alloc(), words, out)?;
+        } else {
+            answer_device(rt, command, words, out)?;
+        }
+        out.push(b'\n')?;
+        Ok(())
+    }
+
+    /// Whether the command is one that sets up a call. It does so.
+    fn sets_up(&mut self, alloc: Global, command: &str, words: &str) -> Result<bool, AllocError> {
+        match command {
+            "" | "#" => {}
+            "path" => self.path = word_of(alloc, words)?,
+            "text" => self.text = bytes_of(alloc, words)?,
+            "repeat" => {
+                let (times, text) = halves(words, ' ');
+                self.repeat(&bytes_of(alloc, text)?, number(times))?;
+            }
+            "chain" => self.chain(alloc, number(words))?,
+            "fails" => {
+                let (console, folder) = halves(words, ' ');
+                self.console_fails = number(console);
+                self.folder_fails = number(folder);
+            }
+            _ => return Ok(false),
+        }
+        Ok(true)
+    }
+
+    /// Puts a text behind the file's so many times.
+    fn repeat(&mut self, text: &[u8], times: u64) -> Result<(), AllocError> {
+        for _ in 0..times {
+            self.text.extend_from_slice(text)?;
+        }
+        Ok(())
+    }
+
+    /// Makes the file a chain of so many lines, each of which needs the one before.
+    fn chain(&mut self, alloc: Global, lines: u64) -> Result<(), AllocError> {
+        self.text = Vec::from_slice(alloc, b"x0 = 1\n")?;
+        for (i, next) in (1..lines).enumerate() {
+            self.text
+                .extend_from_slice(format!(in alloc; "x{next} = x{i} + 1\n")?.as_bytes())?;
+        }
+        Ok(())
+    }
+
+    fn file(&self) -> Result<(Name, Bytes), AllocError> {
+        let name = Name::of(self.path.clone()?);
+        Ok((name, Bytes::of(self.text.clone()?)))
+    }
+
+    fn folder(&self, alloc: Global) -> Result<MemoryFolder, AllocError> {
+        let failing = vec![in alloc; self.folder_fails]?;
+        let files = vec![in alloc; self.file()?]?;
+        Ok(MemoryFolder::of(files, failing))
+    }
+
+    fn console(&self, alloc: Global) -> Result<MemoryConsole, AllocError> {
+        let failing = vec![in alloc; self.console_fails]?;
+        Ok(MemoryConsole::of(Bytes::of(Vec::new(alloc)), failing))
+    }
+
+    /// Makes a call of the program, its words with `|` between them. It writes the status, what stands on the console, and whether
+    /// the file is another one afterwards.
+    fn call(&mut self, alloc: Global, words: &str, out: &mut Vec<u8>) -> Result<(), AllocError> {
+        let list = words_of(alloc, words)?;
+        let mut console = self.console(alloc)?;
+        let mut folder = self.folder(alloc)?;
+        let status = now(alloc, &list, &mut console, &mut folder);
+        self.write_call(
+            alloc,
+            status,
+            console.written(),
+            folder.bytes(self.path.as_str()),
+            out,
+        )
+    }
+
+    fn write_call(
+        &self,
+        alloc: Global,
+        status: u8,
+        written: &[u8],
+        file: Option<&[u8]>,
+        out: &mut Vec<u8>,
+    ) -> Result<(), AllocError> {
+        out.extend_from_slice(format!(in alloc; "{status} ")?.as_bytes())?;
+        self.write_console(alloc, written, out)?;
+        if file != Some(self.text.as_slice()) {
+            out.extend_from_slice(b" and another file")?;
+        }
+        Ok(())
+    }
+
+    fn write_console(
+        &self,
+        alloc: Global,
+        written: &[u8],
+        out: &mut Vec<u8>,
+    ) -> Result<(), AllocError> {
+        if written == self.text.as_slice() {
+            out.extend_from_slice(b"the file itself")
+        } else {
+            write_rows(alloc, out, written)
+        }
+    }
+}
+
+/// The words of a call, with `|` between them.
+fn words_of(alloc: Global, words: &str) -> Result<Vec<String>, AllocError> {
+    let mut list = Vec::new(alloc);
+    if !words.is_empty() {
+        for word in words.split('|') {
+            list.push(word_of(alloc, word)?)?;
+        }
+    }
+    Ok(list)
+}
+
+/// A word that a readable text stands for, or an empty one where its bytes are no text.
+fn word_of(alloc: Global, word: &str) -> Result<String, AllocError> {
+    Ok(String::from_utf8(bytes_of(alloc, word)?).unwrap_or(String::new(alloc)))
+}
+
+fn answer_device(
+    rt: &HostRuntime,
+    command: &str,
+    words: &str,
+    out: &mut Vec<u8>,
+) -> Result<(), AllocError> {
+    let alloc = rt.alloc();
+    match command {
+        "decimal" => base::digits(alloc, words, out),
+        "bytes" => base::kept_bytes(alloc, words, out),
+        "names" => base::kept_names(alloc, words, out),
+        "order" => out.extend_from_slice(base::order(words).as_bytes()),
+        "console" => devices::console(alloc, words, out),
+        "folder" => devices::folder(alloc, words, out),
+        "size" => devices::size(alloc, words, out),
+        "lines" => streams::lines(alloc, words, out),
+        "longest" => streams::longest(alloc, words, out),
+        "largest" => streams::largest(alloc, words, out),
+        "whole" => streams::whole(alloc, words, out),
+        "sinks" => streams::sinks(alloc, words, out),
+        "real" => streams::folder(rt, words, out),
+        _ => out.extend_from_slice(b"no such command"),
+    }
+}
