@@ -11,4 +11,3 @@ pub use number::decimal;
 pub use place::{Digest, Pos, Span};
 pub use refusal::{Failed, Memory};
 pub use text::{Bytes, Name, Names};
-
