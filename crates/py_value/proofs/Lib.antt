@@ -1,8 +1,10 @@
 pub mod Equality
 pub mod Interning
+pub mod KeyFaults
 pub mod KeyNotes
 pub mod NormalForms
 pub mod SameContents
+pub mod SameTests
 pub mod SeenLocations
 pub mod Worked
 pub mod WorkedKeys

@@ -5,17 +5,15 @@ use Rattle.py_value.proofs.Interning.{below_more}
 use Rattle.py_value.specs.declared.value.Value.{Value}
 use Rattle.py_value.specs.declared.value.Value.TheVariants.{None as Nothing, Bool as Truth, Int, Text, Tuple, Range, Fn, Class, Exc, Builtin, Object}
 use Rattle.py_value.specs.Values.{ValuesView, AreInterned, IsBelow, AreBelow, IsNamed, Keeps}
-use Rattle.py_value.specs.Contents.{Contents, Parts, plain, text, tuple, no_parts, part, parts_by, contents_to, contents}
+use Rattle.py_value.specs.Contents.{Contents, Parts, nothing, text, tuple, no_parts, part, parts_by, contents_to, contents}
 
 abbrev pub bytes_of : Contents → List ℕ
-bytes_of (plain v) = []
 bytes_of (text bytes) = bytes
-bytes_of (tuple parts) = []
+bytes_of other = []
 
 abbrev pub parts_of : Contents → Parts
-parts_of (plain v) = no_parts
-parts_of (text bytes) = no_parts
 parts_of (tuple parts) = parts
+parts_of other = no_parts
 
 pub item_at : {A : Type 0} (xs : List (List A)) (i : ℕ) → i < length xs → (ys : List A) × (slice_get xs i ≡ Some ys) × (unwrap_or (slice_get xs i) [] ≡ ys)
 item_at [] i within = absurd (omega (arith, within))
@@ -41,27 +39,20 @@ module _ (view : ValuesView) (interned : AreInterned view) where
   same_lists n same [] (w ∷ ws) a b is = cc
   same_lists n same (v ∷ vs) [] a b is = cc
   same_lists n same (v ∷ vs) (w ∷ ws) a b is = cons_same v w vs ws
-      (same v w (a 0 v refl) (b 0 w refl) (ap (first_of (plain Nothing)) is))
+      (same v w (a 0 v refl) (b 0 w refl) (ap (first_of nothing) is))
       (same_lists n same vs ws (λ i item at. a (suc i) item at) (λ i item at. b (suc i) item at) (ap rest_of is))
-
-  -- what is neither a text nor a tuple
-  plain_only : (n : ℕ) (v w : Value) → plain v ≡ contents_to n view w → v ≡ w
-  plain_only n v (Text j) is = cc
-  plain_only zero v (Tuple j) is = cc
-  plain_only (suc n) v (Tuple j) is = cc
-  plain_only n v w is = cc
 
   -- the values, of which tuples have numbers below n
   same_to : (n : ℕ) → n ≤ length view.tuples → (v w : Value) → IsBelow (length view.texts) n v → IsBelow (length view.texts) n w → contents_to n view v ≡ contents_to n view w → v ≡ w
-  same_to n few Nothing w a b is = plain_only n Nothing w is
-  same_to n few (Truth t) w a b is = plain_only n (Truth t) w is
-  same_to n few (Int k) w a b is = plain_only n (Int k) w is
-  same_to n few (Range start end step) w a b is = plain_only n (Range start end step) w is
-  same_to n few (Fn place) w a b is = plain_only n (Fn place) w is
-  same_to n few (Class place) w a b is = plain_only n (Class place) w is
-  same_to n few (Exc number) w a b is = plain_only n (Exc number) w is
-  same_to n few (Builtin number) w a b is = plain_only n (Builtin number) w is
-  same_to n few (Object object) w a b is = plain_only n (Object object) w is
+  same_to n few Nothing Nothing a b is = refl
+  same_to n few (Truth t) (Truth u) a b is = cc
+  same_to n few (Int k) (Int l) a b is = cc
+  same_to n few (Range start end step) (Range begin stop other) a b is = cc
+  same_to n few (Fn place) (Fn other) a b is = cc
+  same_to n few (Class place) (Class other) a b is = cc
+  same_to n few (Exc number) (Exc other) a b is = cc
+  same_to n few (Builtin number) (Builtin other) a b is = cc
+  same_to n few (Object name) (Object other) a b is = cc
   same_to n few (Text i) (Text j) a b is =
       let x = item_at view.texts i a in
       let y = item_at view.texts j b in

@@ -2,7 +2,7 @@
 use Rattle.std.proofs.Common.{◌≡◌, [], ◌∷◌, codes, refl}
 use Rattle.py_value.specs.declared.value.Value.TheVariants.{Text, Tuple, Object}
 use Rattle.py_value.specs.Values.{ValuesView}
-use Rattle.py_value.specs.Contents.{plain, text, tuple, no_parts, part, contents}
+use Rattle.py_value.specs.Contents.{nothing, object as an_object, text, tuple, no_parts, part, contents}
 
 -- the text `ab`, the empty tuple, and the tuple of the two
 abbrev pub view : ValuesView
@@ -17,5 +17,5 @@ empty = refl
 both : contents view (Tuple 1) ≡ tuple (part (text (codes "ab")) (part (tuple no_parts) no_parts))
 both = refl
 
-object : contents view (Object 7) ≡ plain (Object 7)
+object : contents view (Object 7) ≡ an_object 7
 object = refl

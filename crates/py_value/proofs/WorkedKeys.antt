@@ -5,7 +5,7 @@ use Rattle.std.proofs.Common.{None as Nothing}
 use Rattle.py_value.specs.declared.value.Value.TheVariants.{Bool as Truth, Int, Text, Tuple, Range, Object}
 use Rattle.py_value.specs.declared.key.KeyFault.TheVariants.{NoKey, TooDeep}
 use Rattle.py_value.specs.Values.{ValuesView}
-use Rattle.py_value.specs.Contents.{plain, text, tuple, no_parts, part, contents}
+use Rattle.py_value.specs.Contents.{int, text, tuple, no_parts, part, contents}
 use Rattle.py_value.specs.KeyOf.{fault_within, normal}
 
 -- `('a', True)`, `(range(0), object 5)`, and `((..),)`
@@ -21,5 +21,5 @@ object_first = refl
 too_deep : fault_within 1 view (Tuple 2) ≡ Some TooDeep
 too_deep = refl
 
-true_is_one : normal (contents view (Tuple 0)) ≡ tuple (part (text (codes "a")) (part (plain (Int (pos 1))) no_parts))
+true_is_one : normal (contents view (Tuple 0)) ≡ tuple (part (text (codes "a")) (part (int (pos 1)) no_parts))
 true_is_one = refl

@@ -4,11 +4,11 @@ use Rattle.std.specs.Prelude.{◌≡◌, ℕ, zero, suc, true, false, List, [], 
 use Rattle.std.specs.Option.{option_or}
 use Rattle.std.specs.Prelude.{None as Nothing}
 use Rattle.py_value.specs.declared.value.Value.{Value}
-use Rattle.py_value.specs.declared.value.Value.TheVariants.{Bool as Truth, Int, Tuple, Range, Fn, Class, Exc, Builtin, Object}
+use Rattle.py_value.specs.declared.value.Value.TheVariants.{Tuple, Range, Fn, Class, Exc, Builtin, Object}
 use Rattle.py_value.specs.declared.key.KeyFault.{KeyFault}
 use Rattle.py_value.specs.declared.key.KeyFault.TheVariants.{NoKey, NotHere, TooDeep}
 use Rattle.py_value.specs.Values.{ValuesView, IsNamed}
-use Rattle.py_value.specs.Contents.{Contents, Parts, plain, text, tuple, no_parts, part, contents}
+use Rattle.py_value.specs.Contents.{Contents, Parts, truth, int, tuple, range, function, class, exception_class, builtin, object, no_parts, part, contents}
 
 -- what is refused first of a list
 abbrev pub first_fault : (Value → Option KeyFault) → List Value → Option KeyFault
@@ -18,7 +18,7 @@ first_fault fault (item ∷ items) = option_or (fault item) (first_fault fault i
 -- What is refused first of a value, its parts in their order, where so many tuples may stand inside one another: an
 -- object, a value of another kind that is no key, or one tuple too many.
 abbrev pub fault_within : ℕ → ValuesView → Value → Option KeyFault
-fault_within levels view (Object object) = Some (NoKey object)
+fault_within levels view (Object number) = Some (NoKey number)
 fault_within zero view (Tuple id) = Some TooDeep
 fault_within (suc levels) view (Tuple id) = first_fault (fault_within levels view) (unwrap_or (slice_get view.tuples id) [])
 fault_within levels view (Range start end step) = Some NotHere
@@ -28,18 +28,30 @@ fault_within levels view (Exc number) = Some NotHere
 fault_within levels view (Builtin number) = Some NotHere
 fault_within levels view value = Nothing
 
--- a truth value is the integer 0 or 1
-abbrev pub normal_value : Value → Value
-normal_value (Truth true) = Int (pos 1)
-normal_value (Truth false) = Int (pos 0)
-normal_value value = value
+-- the same of contents
+abbrev mutual
+  pub key_fault : ℕ → Contents → Option KeyFault
+  key_fault levels (object number) = Some (NoKey number)
+  key_fault zero (tuple parts) = Some TooDeep
+  key_fault (suc levels) (tuple parts) = parts_fault levels parts
+  key_fault levels (range start end step) = Some NotHere
+  key_fault levels (function place) = Some NotHere
+  key_fault levels (class place) = Some NotHere
+  key_fault levels (exception_class number) = Some NotHere
+  key_fault levels (builtin number) = Some NotHere
+  key_fault levels other = Nothing
 
--- the normal form of a key, inside tuples too
+  pub parts_fault : ℕ → Parts → Option KeyFault
+  parts_fault levels no_parts = Nothing
+  parts_fault levels (part first rest) = option_or (key_fault levels first) (parts_fault levels rest)
+
+-- The normal form of a key, inside tuples too: a truth value is the integer 0 or 1.
 abbrev mutual
   pub normal : Contents → Contents
-  normal (plain value) = plain (normal_value value)
-  normal (text bytes) = text bytes
+  normal (truth true) = int (pos 1)
+  normal (truth false) = int (pos 0)
   normal (tuple parts) = tuple (normal_parts parts)
+  normal other = other
 
   pub normal_parts : Parts → Parts
   normal_parts no_parts = no_parts

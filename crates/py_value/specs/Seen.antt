@@ -6,18 +6,22 @@ use Rattle.std.specs.Str.{bytes_eq}
 use Rattle.std.specs.Cmp.Lexicographic.{pointwise}
 use Rattle.prov_base.specs.declared.place.Pos.{Pos}
 use Rattle.py_value.specs.declared.value.Value.{Value}
-use Rattle.py_value.specs.declared.value.Value.TheVariants.{Text as TextValue, Tuple as TupleValue}
+use Rattle.py_value.specs.declared.value.Value.TheVariants.{None as NoneValue, Bool as TruthValue, Int as IntValue, Text as TextValue, Tuple as TupleValue, Range as RangeValue, Fn as FnValue, Class as ClassValue, Exc as ExcValue, Builtin as BuiltinValue, Object as ObjectValue}
 use Rattle.py_value.specs.contracts.value.ValuePartialEq.TheImpl.{ghosts as values_eq}
 use Rattle.py_value.specs.declared.key.Key.{Key}
 use Rattle.py_value.specs.declared.access.Location.{Location}
 use Rattle.py_value.specs.declared.access.Location.TheVariants.{Var, Len, Item, Entry, Order, File, Offset, Closed, Method, Base}
 use Rattle.py_value.specs.declared.access.Content.{Content}
 use Rattle.py_value.specs.declared.access.Content.TheVariants.{Var as VarContent, Len as LenContent, Item as ItemContent, Entry as EntryContent, Order as OrderContent, File as FileContent, Offset as OffsetContent, Closed as ClosedContent, Method as MethodContent, Base as BaseContent}
+use Rattle.py_value.specs.declared.access.Change.{Change}
+use Rattle.py_value.specs.declared.access.Change.TheVariants.{Insert, Delete, Append}
+use Rattle.py_value.specs.declared.access.Access.{Access}
+use Rattle.py_value.specs.declared.access.Access.TheVariants.{Read, Set, Update}
 use Rattle.py_value.specs.declared.access.Kind.{Kind}
 use Rattle.py_value.specs.declared.access.Kind.TheVariants.{List as ListKind, Dict as DictKind, Instance as InstanceKind, File as FileKind}
 use Rattle.py_value.specs.declared.access.Mode.{Mode}
 use Rattle.py_value.specs.Values.{ValuesView, IsNamed}
-use Rattle.py_value.specs.Contents.{Contents, Parts, plain, text, tuple, no_parts, part, contents}
+use Rattle.py_value.specs.Contents.{Contents, Parts, nothing, truth, int, text, tuple, range, function, class, exception_class, builtin, object, no_parts, part, contents}
 
 -- a location: names, paths and keys are their contents
 pub data SeenLocation : Type 0 where
@@ -44,6 +48,18 @@ pub data SeenContent : Type 0 where
   closed_is : Bool → SeenContent
   method_is : Pos → SeenContent
   base_is : Option Contents → SeenContent
+
+-- a change that keeps the rest of what stands at a location
+pub data SeenChange : Type 0 where
+  key_inserted : Contents → SeenChange
+  key_deleted : Contents → SeenChange
+  bytes_appended : List ℕ → SeenChange
+
+-- one thing that is done to the store
+pub data SeenAccess : Type 0 where
+  reads : SeenLocation → SeenAccess
+  sets : SeenLocation → SeenContent → SeenAccess
+  updates : SeenLocation → SeenChange → SeenAccess
 
 -- what an object is
 pub data SeenKind : Type 0 where
@@ -72,8 +88,8 @@ location_seen view (Order o) = order_at o
 location_seen view (File path) = file_at (bytes_of view path)
 location_seen view (Offset o) = offset_at o
 location_seen view (Closed o) = closed_at o
-location_seen view (Method class name) = method_at class (bytes_of view name)
-location_seen view (Base class) = base_at class
+location_seen view (Method place name) = method_at place (bytes_of view name)
+location_seen view (Base place) = base_at place
 
 abbrev pub content_seen : ValuesView → Content → SeenContent
 content_seen view (VarContent value) = var_is (option_map (contents view) value)
@@ -87,10 +103,20 @@ content_seen view (ClosedContent is_closed) = closed_is is_closed
 content_seen view (MethodContent place) = method_is place
 content_seen view (BaseContent base) = base_is (option_map (contents view) base)
 
+abbrev pub change_seen : ValuesView → Change → SeenChange
+change_seen view (Insert key) = key_inserted (contents view key)
+change_seen view (Delete key) = key_deleted (contents view key)
+change_seen view (Append bytes) = bytes_appended (bytes_of view bytes)
+
+abbrev pub access_seen : ValuesView → Access → SeenAccess
+access_seen view (Read l) = reads (location_seen view l)
+access_seen view (Set l content) = sets (location_seen view l) (content_seen view content)
+access_seen view (Update l change) = updates (location_seen view l) (change_seen view change)
+
 abbrev pub kind_seen : ValuesView → Kind → SeenKind
 kind_seen view ListKind = a_list
 kind_seen view DictKind = a_dict
-kind_seen view (InstanceKind class) = an_instance (contents view class)
+kind_seen view (InstanceKind of) = an_instance (contents view of)
 kind_seen view (FileKind path mode) = a_file (bytes_of view path) mode
 
 -- the texts and tuples that a location names were named before
@@ -98,7 +124,7 @@ abbrev pub IsNamedLocation : ValuesView → Location → Type 0
 IsNamedLocation view (Var scope name) = name < length view.texts
 IsNamedLocation view (Entry o key) = IsNamed view key.value
 IsNamedLocation view (File path) = path < length view.texts
-IsNamedLocation view (Method class name) = name < length view.texts
+IsNamedLocation view (Method place name) = name < length view.texts
 IsNamedLocation view l = ⊤
 
 -- the number of the first of a list that passes
@@ -109,7 +135,15 @@ number_by test (x ∷ xs) = if test x then Some 0 else option_map suc (number_by
 -- the value with these contents, where there is one
 abbrev mutual
   pub value_at : ValuesView → Contents → Option Value
-  value_at view (plain value) = Some value
+  value_at view nothing = Some NoneValue
+  value_at view (truth b) = Some (TruthValue b)
+  value_at view (int i) = Some (IntValue i)
+  value_at view (range start end step) = Some (RangeValue start end step)
+  value_at view (function place) = Some (FnValue place)
+  value_at view (class place) = Some (ClassValue place)
+  value_at view (exception_class number) = Some (ExcValue number)
+  value_at view (builtin number) = Some (BuiltinValue number)
+  value_at view (object name) = Some (ObjectValue name)
   value_at view (text bytes) = option_map TextValue (number_by (bytes_eq bytes) view.texts)
   value_at view (tuple parts) = option_and_then (λ items. option_map TupleValue (number_by (pointwise values_eq.eq items) view.tuples)) (values_at view parts)
 
@@ -130,5 +164,5 @@ location_at view (order_at o) = Some (Order o)
 location_at view (file_at path) = option_map File (number_by (bytes_eq path) view.texts)
 location_at view (offset_at o) = Some (Offset o)
 location_at view (closed_at o) = Some (Closed o)
-location_at view (method_at class name) = option_map (Method class) (number_by (bytes_eq name) view.texts)
-location_at view (base_at class) = Some (Base class)
+location_at view (method_at place name) = option_map (Method place) (number_by (bytes_eq name) view.texts)
+location_at view (base_at place) = Some (Base place)

@@ -6,6 +6,7 @@
 
 mod access;
 mod key;
+mod laws;
 mod value;
 mod values;
 
@@ -13,5 +14,6 @@ pub use access::{
     Access, Accesses, Change, Content, Kind, Location, Mode, equality_is_same, locations_tell,
 };
 pub use key::{Key, KeyFault};
+pub use laws::{key_faults_of_contents, same_key_same_normal_contents, tests_are_equality};
 pub use value::{Keys, Value};
 pub use values::{Values, contents_stay, contents_tell};
