@@ -10,6 +10,7 @@ use Rattle.py_value.specs.declared.access.Content.{Content}
 use Rattle.py_value.specs.declared.access.Content.TheVariants.{Order as OrderContent}
 use Rattle.py_value.specs.declared.access.Location.{Location}
 use Rattle.py_value.specs.declared.access.Location.TheVariants.{Item, Order, File}
+use Rattle.py_value.specs.Seen.{bytes_of as bytes_of_text}
 use Rattle.py_value.specs.Values.{ValuesView}
 use Rattle.object_store.specs.File.{FileView}
 use Rattle.object_store.specs.Object.{ObjectView, no_object}
@@ -31,10 +32,6 @@ slot_in room path = lookup (nat_eq path) room.files
 abbrev pub bytes_in : Room → ℕ → ℕ
 bytes_in room path = unwrap_or (option_map (λ (file : FileView). file.spare) (slot_in room path)) 0
 
--- the bytes of a text
-abbrev pub text_in : ValuesView → ℕ → List ℕ
-text_in values text = unwrap_or (slice_get values.texts text) []
-
 -- there is room to set this content
 abbrev pub HasRoomToSet : Room → Location → Content → Type 0
 HasRoomToSet room (Item o i) content = (o < length room.objects) × (i < length (object_in room o).items)
@@ -47,7 +44,7 @@ HasRoomToSet room l content = 0 < room.cells
 abbrev pub HasRoomToUpdate : ValuesView → Room → Location → Change → Type 0
 HasRoomToUpdate values room (Order o) (Insert key) = (o < length room.objects) × (0 < (object_in room o).spare)
 HasRoomToUpdate values room (Order o) (Delete key) = o < length room.objects
-HasRoomToUpdate values room (File path) (Append text) = IsSome (slot_in room path) × (length (text_in values text) ≤ bytes_in room path)
+HasRoomToUpdate values room (File path) (Append text) = IsSome (slot_in room path) × (length (bytes_of_text values text) ≤ bytes_in room path)
 HasRoomToUpdate values room l change = ⊤
 
 -- how many cells a write takes at most
@@ -79,7 +76,7 @@ keys_of (Update l change) = keys_put change
 
 -- how many bytes it puts into a file
 abbrev pub bytes_put : ValuesView → Change → ℕ
-bytes_put values (Append text) = length (text_in values text)
+bytes_put values (Append text) = length (bytes_of_text values text)
 bytes_put values (Insert key) = 0
 bytes_put values (Delete key) = 0
 

@@ -17,10 +17,11 @@ use Rattle.py_value.specs.declared.access.Content.TheVariants.{Var as VarContent
 use Rattle.py_value.specs.contracts.access.LocationPartialEq.TheImpl.{ghosts as locations}
 use Rattle.object_store.specs.declared.cell.Cell.{Cell}
 use Rattle.object_store.specs.Cell.{content_of}
+use Rattle.py_value.specs.Seen.{bytes_of}
 use Rattle.py_value.specs.Values.{ValuesView}
 use Rattle.object_store.specs.File.{FileView}
 use Rattle.object_store.specs.Object.{ObjectView, item_of, with_keys, with_key, without_key}
-use Rattle.object_store.specs.Room.{Room, object_in, text_in, cells_in, keys_in, bytes_in_all, AreCounted, HasPlaces, IsReserved}
+use Rattle.object_store.specs.Room.{Room, object_in, cells_in, keys_in, bytes_in_all, AreCounted, HasPlaces, IsReserved}
 
 -- What contracts see: the objects in the order in which they were made, what was set that is no item, order or file, the
 -- files by their path's text, the noted names; and the room: the object that is made next, and for how many more objects and cells there is room.
@@ -101,7 +102,7 @@ written content = whole content
 
 -- the text of an append
 abbrev pub text_of_change : ValuesView → Change → List ℕ
-text_of_change values (Append text) = text_in values text
+text_of_change values (Append text) = bytes_of values text
 text_of_change values change = []
 
 -- what stands at a location once it is changed

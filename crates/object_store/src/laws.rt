@@ -7,7 +7,7 @@ ghost use Rattle.py_value.specs.declared.access.Location.{Location as OneLocatio
 ghost use Rattle.object_store.specs.Seen.{held_seen, store_seen};
 ghost use Rattle.object_store.specs.Store.{StoreView, Held, Writes, held_at};
 
-use py_value::{equality_is_same, locations_tell};
+use py_value::{equality_is_same, same_place_same_location};
 
 /// The law that a store is one map over contents: at what a location is without numbers stands what stands at the
 /// location, without numbers too; and a write there changes that place alone.
@@ -20,5 +20,5 @@ pub fn store_over_contents()
         → (location_seen values m ≡ location_seen values l → ⊥) → (store_seen values new).at (location_seen values m) ≡ (store_seen values old).at (location_seen values m) }
 {
     equality_is_same();
-    locations_tell();
+    same_place_same_location();
 }

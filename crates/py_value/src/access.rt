@@ -38,7 +38,7 @@ pub enum Kind {
 /// A place of the store.
 #[derive(Clone, Copy, Debug, PartialEq, Eq, Hash)]
 pub enum Location {
-    /// A variable: the number of its frame, and that of its name's text. Frame 0 is the script's own.
+    /// A variable: the number of its activation, and that of its name's text. Activation 0 is the script's own.
     Var(u32, u32),
     /// The length of a list.
     Len(u32),
@@ -146,7 +146,7 @@ pub fn equality_is_same()
 
 /// The law that locations are told apart by what they are without numbers of texts and tuples: that leads back to the
 /// location.
-pub fn locations_tell()
+pub fn same_place_same_location()
     ensures back { (view : ValuesView) (l : OneLocation) → AreInterned view → IsNamedLocation view l → location_at view (location_seen view l) ≡ Some l }
     ensures tell { (view : ValuesView) (l m : OneLocation) → AreInterned view → IsNamedLocation view l → IsNamedLocation view m
         → location_seen view l ≡ location_seen view m → l ≡ m }

@@ -11,9 +11,9 @@ mod value;
 mod values;
 
 pub use access::{
-    Access, Accesses, Change, Content, Kind, Location, Mode, equality_is_same, locations_tell,
+    Access, Accesses, Change, Content, Kind, Location, Mode, equality_is_same, same_place_same_location,
 };
 pub use key::{Key, KeyFault};
 pub use laws::{key_faults_of_contents, same_key_same_normal_contents, tests_are_equality};
 pub use value::{Keys, Value};
-pub use values::{Values, contents_stay, contents_tell};
+pub use values::{Values, contents_stay, same_contents_same_value};

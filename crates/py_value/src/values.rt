@@ -12,7 +12,7 @@ use std::marker::Model;
 
 /// The law that values are told apart by their contents: two values whose texts and tuples have numbers in one `Values`
 /// have equal contents only where they are the same value.
-pub fn contents_tell()
+pub fn same_contents_same_value()
     ensures { (view : ValuesView) (v w : OneValue) → AreInterned view → IsNamed view v → IsNamed view w
         → contents view v ≡ contents view w → v ≡ w }
 {}

@@ -17,16 +17,16 @@ other_stays true w other apart = absurd (apart refl)
 other_stays false w other apart = refl
 
 pub returns-clause-held : goal.returns-clause-held
-returns-clause-held c = λ values store l interned named. seen_there values store l (c.locations_tell.ensures.back values l interned named)
+returns-clause-held c = λ values store l interned named. seen_there values store l (c.same_place_same_location.ensures.back values l interned named)
 
 pub returns-clause-written : goal.returns-clause-written
 returns-clause-written c = λ values old new l w interned named writes.
-    seen_there values new l (c.locations_tell.ensures.back values l interned named)
+    seen_there values new l (c.same_place_same_location.ensures.back values l interned named)
     ∙ ap (option_map (held_seen values)) (writes.held l ∙ ap (λ b. if b then Some w else held_at old l) ((c.equality_is_same.ensures.locations l l).1 refl))
 
 pub returns-clause-others : goal.returns-clause-others
 returns-clause-others c = λ values old new l m w interned named writes apart.
-    let back = c.locations_tell.ensures.back values m interned named in
+    let back = c.same_place_same_location.ensures.back values m interned named in
     seen_there values new m back
     ∙ ap (option_map (held_seen values))
     (writes.held m ∙ other_stays (locations.eq l m) w (held_at old m) (λ is. apart (ap (location_seen values) (sym ((c.equality_is_same.ensures.locations l m).0 is)))))

@@ -2,7 +2,7 @@ use Rattle.std.proofs.Common.{sym, ap, ◌∙◌}
 use Rattle.std.proofs.lemmas.Option.{same_Some}
 use Rattle.py_value.specs.Seen.{location_at}
 use Rattle.py_value.proofs.SeenLocations.{location_back}
-use Rattle.py_value.proofs.access.locations_tell.Goals as goal
+use Rattle.py_value.proofs.access.same_place_same_location.Goals as goal
 
 pub returns-clause-back : goal.returns-clause-back
 returns-clause-back c = λ view l interned named. location_back view interned l named
