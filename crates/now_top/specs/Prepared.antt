@@ -26,6 +26,11 @@ reply_text NothingThere = []
 reply_text (FolderFailed file) = []
 reply_text OutOfMemory = []
 
+-- the folder failed at the script's file
+abbrev pub IsFolderFailed : Reply → Type 0
+IsFolderFailed (FolderFailed file) = Unit {0}
+IsFolderFailed reply = ⊥
+
 -- what a text comes to at a line, counted from 1
 abbrev pub FromText : List ℕ → List ℕ → ℕ → Reply → Type 0
 FromText file text line (Slice bytes) = (length text ≤ longest_script) × IsSliceOf text line bytes.items

@@ -3,7 +3,7 @@ ghost use Rattle.std.specs.Prelude.{◌≡◌, ◌≤◌, ◌⊎◌, ◌++◌, [
 ghost use Rattle.std.specs.String.{string_bytes};
 ghost use Rattle.prov_outside.specs.Count.{Rose};
 ghost use Rattle.prov_outside.specs.Tells.{Tells};
-ghost use Rattle.now_top.specs.Prepared.{ending_of, reply_text};
+ghost use Rattle.now_top.specs.Prepared.{ending_of, reply_text, IsFolderFailed};
 ghost use Rattle.now_top.specs.Reply.{Ending, done, refused, folder_failed, closing_line, status_of};
 ghost use Rattle.now_top.specs.Delivered.{GotLine, Delivers};
 
@@ -52,6 +52,7 @@ fn close_with<C: Console>(
 ) -> u8
     ensures delivers { (planned : Ending) → IfOk line (λ text. string_bytes text ≡ closing_line planned) → status ≡ status_of planned
         → Delivers planned [] (Rose (C.out_faults console.old) (C.out_faults console.new)) (C.told console.old) (C.told console.new) result }
+    ensures answer { (result ≡ status) ⊎ (result ≡ 8) }
     ensures in_faults { C.in_faults console.new ≡ C.in_faults console.old }
     ensures out_faults { C.out_faults console.old ≤ C.out_faults console.new }
 {
@@ -65,6 +66,7 @@ fn close_with<C: Console>(
 fn deliver_slice<C: Console>(alloc: Global, console: &mut C, slice: &[u8]) -> u8
     ensures delivers { Delivers done slice.now (Rose (C.out_faults console.old) (C.out_faults console.new))
         (C.told console.old) (C.told console.new) result }
+    ensures no_fault { result ≡ 0 → C.out_faults console.new ≡ C.out_faults console.old }
     ensures in_faults { C.in_faults console.new ≡ C.in_faults console.old }
     ensures out_faults { C.out_faults console.old ≤ C.out_faults console.new }
 {
@@ -79,6 +81,8 @@ fn deliver_slice<C: Console>(alloc: Global, console: &mut C, slice: &[u8]) -> u8
 pub fn deliver<C: Console>(alloc: Global, console: &mut C, reply: &Reply<'_>) -> u8
     ensures delivers { Delivers (ending_of reply.now) (reply_text reply.now) (Rose (C.out_faults console.old) (C.out_faults console.new))
         (C.told console.old) (C.told console.new) result }
+    ensures no_fault { result ≡ 0 → C.out_faults console.new ≡ C.out_faults console.old }
+    ensures folder_failed { IsFolderFailed reply.now → (result ≡ 6) ⊎ (result ≡ 8) }
     ensures in_faults { C.in_faults console.new ≡ C.in_faults console.old }
     ensures out_faults { C.out_faults console.old ≤ C.out_faults console.new }
 {

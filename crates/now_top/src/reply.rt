@@ -3,7 +3,7 @@ ghost use Rattle.std.specs.Prelude.{◌≡◌, ◌≤◌, ◌⊎◌, map};
 ghost use Rattle.std.specs.String.{string_bytes};
 ghost use Rattle.prov_outside.specs.Count.{Rose};
 ghost use Rattle.prov_outside.specs.Tells.{Tells};
-ghost use Rattle.now_top.specs.Prepared.{FromText, Prepared};
+ghost use Rattle.now_top.specs.Prepared.{FromText, Prepared, IsFolderFailed};
 ghost use Rattle.now_top.specs.Reply.{IsUsage, HasNoPath};
 
 use crate::blank::blanked;
@@ -68,6 +68,7 @@ pub fn prepare<'w, F: Folder>(alloc: Global, words: &'w [String], folder: &mut F
     ensures get_faults { F.get_faults folder.new ≡ F.get_faults folder.old }
     ensures put_faults { F.put_faults folder.new ≡ F.put_faults folder.old }
     ensures source_faults { F.source_faults folder.old ≤ F.source_faults folder.new }
+    ensures no_fault { (F.source_faults folder.new ≡ F.source_faults folder.old) ⊎ IsFolderFailed result }
     ensures unasked { IsUsage (map string_bytes words.now) ⊎ HasNoPath (map string_bytes words.now) → F.source_faults folder.new ≡ F.source_faults folder.old }
 {
     let Some((file, line)) = read_words(words) else {

@@ -50,6 +50,10 @@ pub fn now<C: Console, F: Folder>(
     ensures source_faults { F.source_faults folder.old ≤ F.source_faults folder.new }
     ensures out_faults { C.out_faults console.old ≤ C.out_faults console.new }
 
+    // With status 0 the console counted no fault. With another status than 6 and 8 the folder counted none.
+    ensures console_well { result ≡ 0 → C.out_faults console.new ≡ C.out_faults console.old }
+    ensures folder_well { (F.source_faults folder.new ≡ F.source_faults folder.old) ⊎ ((result ≡ 6) ⊎ (result ≡ 8)) }
+
     // The folder is asked only for a path.
     ensures unasked { IsUsage (map string_bytes words.now) ⊎ HasNoPath (map string_bytes words.now) → F.source_faults folder.new ≡ F.source_faults folder.old }
 {

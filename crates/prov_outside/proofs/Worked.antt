@@ -2,7 +2,7 @@
 use Rattle.std.proofs.Common.{◌≡◌, ℕ, List, [], ◌∷◌, Some, None, refl}
 use Rattle.prov_outside.specs.MemoryConsole.{lines_of}
 use Rattle.prov_outside.specs.MemoryFolder.{last_of}
-use Rattle.prov_outside.specs.Numbering.{one_more}
+use Rattle.prov_outside.specs.Count.{one_more}
 
 abbrev pub a : List ℕ
 a = 97 ∷ []

@@ -3,7 +3,7 @@ ghost use Rattle.std.specs.Prelude.{position, ◌==◌, ◌≡◌, ◌↔◌, �
 ghost use Rattle.prov_outside.specs.Console.{IsLine, ReadsLine, Writes};
 ghost use Rattle.prov_outside.specs.Count.{Counts};
 ghost use Rattle.prov_outside.specs.MemoryConsole.{console_view, lines_of};
-ghost use Rattle.prov_outside.specs.Numbering.{NextFails, after_call, faults_after};
+ghost use Rattle.prov_outside.specs.Numbering.{NextFails, after_call};
 
 use crate::calls::Calls;
 use crate::{Console, Trouble};
@@ -103,7 +103,6 @@ impl Console for MemoryConsole {
         ensures no_lf { IfOk result (λ line. IfSome line IsLine) }
         ensures fails { IsErrOf result Trouble.Failed ↔ NextFails self.old.calls }
         ensures numbered { self.new.calls ≡ after_call self.old.calls }
-        ensures counted { self.new.in_faults ≡ faults_after result self.old.in_faults }
     {
         if self.calls.next_fails() {
             self.in_faults = self.in_faults.saturating_add(1);
@@ -127,7 +126,6 @@ impl Console for MemoryConsole {
         ensures others { self.new.in_faults ≡ self.old.in_faults }
         ensures fails { IsErrOf result Trouble.Failed ↔ NextFails self.old.calls }
         ensures numbered { self.new.calls ≡ after_call self.old.calls }
-        ensures counted { self.new.out_faults ≡ faults_after result self.old.out_faults }
         ensures nothing { OnErr result (self.new.written ≡ self.old.written) }
     {
         if self.calls.next_fails() {

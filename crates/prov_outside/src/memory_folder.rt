@@ -3,7 +3,7 @@ ghost use Rattle.std.specs.Prelude.{◌≡◌, ◌↔◌, Some, IfOk, IfErr, IsE
 ghost use Rattle.prov_outside.specs.Count.{Counts};
 ghost use Rattle.prov_outside.specs.Folder.{IsAnswer, IsFound, Gets, Puts};
 ghost use Rattle.prov_outside.specs.MemoryFolder.{last_of};
-ghost use Rattle.prov_outside.specs.Numbering.{NextFails, after_call, faults_after};
+ghost use Rattle.prov_outside.specs.Numbering.{NextFails, after_call};
 
 use crate::calls::Calls;
 use crate::{Folder, Found, Trouble};
@@ -126,7 +126,6 @@ impl Folder for MemoryFolder {
         ensures put_faults { self.new.put_faults ≡ self.old.put_faults }
         ensures fails { IsErrOf result Trouble.Failed ↔ NextFails self.old.calls }
         ensures numbered { self.new.calls ≡ after_call self.old.calls }
-        ensures counted { self.new.get_faults ≡ faults_after result self.old.get_faults }
     {
         if self.calls.next_fails() {
             self.get_faults = self.get_faults.saturating_add(1);
@@ -144,7 +143,6 @@ impl Folder for MemoryFolder {
         ensures put_faults { self.new.put_faults ≡ self.old.put_faults }
         ensures fails { IsErrOf result Trouble.Failed ↔ NextFails self.old.calls }
         ensures numbered { self.new.calls ≡ after_call self.old.calls }
-        ensures counted { self.new.source_faults ≡ faults_after result self.old.source_faults }
     {
         if self.calls.next_fails() {
             self.source_faults = self.source_faults.saturating_add(1);
@@ -161,7 +159,6 @@ impl Folder for MemoryFolder {
         ensures source_faults { self.new.source_faults ≡ self.old.source_faults }
         ensures fails { IsErrOf result Trouble.Failed ↔ NextFails self.old.calls }
         ensures numbered { self.new.calls ≡ after_call self.old.calls }
-        ensures counted { self.new.put_faults ≡ faults_after result self.old.put_faults }
         ensures unchanged { OnErr result (self.new.files ≡ self.old.files) }
     {
         if self.calls.next_fails() {

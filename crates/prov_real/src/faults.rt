@@ -2,7 +2,6 @@
 // answered that was not counted.
 ghost use Rattle.std.specs.Prelude.{◌≡◌};
 ghost use Rattle.prov_outside.specs.Count.{Counts};
-ghost use Rattle.prov_real.specs.Faults.{faults_after};
 
 use prov_outside::Trouble;
 
@@ -10,7 +9,6 @@ use prov_outside::Trouble;
 /// 2^64 - 1 once it is there. Want of memory is no fault.
 pub(crate) fn counted<T>(faults: &mut u64, answer: Result<T, Trouble>) -> Result<T, Trouble>
     ensures same { result ≡ answer }
-    ensures count { faults.new ≡ faults_after answer faults.old }
     ensures cause { Counts faults.old faults.new answer }
 {
     let is_fault = matches!(answer, Err(Trouble::Failed));
