@@ -1,9 +1,9 @@
 -- Bytes that are searched for an LF in two parts, the second of them last.
-use Rattle.std.proofs.Common.{◌≡◌, ◌≢◌, ℕ, ◌+◌, ◌-◌, ◌≤◌, List, ◌∷◌, ◌++◌, length, take, drop, Some, sym, ◌∙◌, ap, add_assoc, arith}
+use Rattle.std.proofs.Common.{◌≡◌, ◌≢◌, ℕ, ◌+◌, ◌-◌, ◌<◌, ◌≤◌, List, ◌∷◌, ◌++◌, subst, length, take, drop, Some, sym, ◌∙◌, ap, add_assoc, arith}
 use Rattle.std.proofs.Math.Seq.{take-add}
-use Rattle.std.proofs.lemmas.List.{take-append-drop, take_all, take_rest, drop-drop, drop-append-le}
-use Rattle.std.proofs.lemmas.List.Elements.{All-append}
-use Rattle.prov_real.specs.Lines.{IsLine, IsLineFeed, IsSearched}
+use Rattle.std.proofs.lemmas.List.{take-append-drop, take-take, take_all, take_rest, drop-drop, drop-append-le}
+use Rattle.std.proofs.lemmas.List.Elements.{All-append, All-take}
+use Rattle.prov_real.specs.Lines.{IsLine, IsLineFeed, IsSearched, IsTooLong}
 
 -- what is unread, as the code takes it from a slice of the items
 pub unread_is : (slice items : List ℕ) (start : ℕ) → slice ≡ items → take (length slice - start) (drop start slice) ≡ drop start items
@@ -19,6 +19,13 @@ pub line_in_parts : (bytes : List ℕ) (n : ℕ) → IsLine (take n bytes) → I
 line_in_parts bytes n front back =
     let whole = All-append (λ byte. byte ≢ 10) (take n bytes) (drop n bytes) front back in
     rw (take-append-drop n bytes) at whole
+
+-- a line that is too long, whatever stands behind it
+pub too_long : (longest n : ℕ) (bytes before : List ℕ) → bytes ≡ before → IsLine (take n bytes) → longest < n → n ≤ length bytes → IsTooLong longest before
+too_long longest n bytes before is line long within = subst (IsTooLong longest) is (record {
+  more = omega (arith, long, within);
+  line = subst IsLine (take-take (longest + 1) n bytes (omega (arith, long))) (All-take (λ byte. byte ≢ 10) (longest + 1) (take n bytes) line);
+})
 
 -- then all that is unread was searched
 pub searched_to_end : (items : List ℕ) (start : ℕ) → start ≤ length items → IsLine (drop start items) → IsSearched items start (length (drop start items))

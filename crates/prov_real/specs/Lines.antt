@@ -21,11 +21,17 @@ WhereKnown None after P = Unit {0}
 WhereKnown (Some before) None P = ⊥
 WhereKnown (Some before) (Some after) P = P before after
 
--- A line that ends within the bytes read so far is taken from them with its LF. It is refused only where it is too long.
+-- more bytes stand there than the longest line has, with no LF among the first of them
+pub record IsTooLong (longest : ℕ) (bytes : List ℕ) : Type 0 where
+  pub more : longest < length bytes
+  pub line : IsLine (take (longest + 1) bytes)
+
+-- A line that ends within the bytes read so far is taken from them with its LF. It is refused only where it is too long, whatever
+-- stands behind it.
 abbrev pub GivesWholeLine : ℕ → Result (Option (List ℕ)) Trouble → List ℕ → List ℕ → Type 0
 GivesWholeLine longest (Ok (Some line)) before after = IsLine line × (length line ≤ longest) × (before ≡ line ++ 10 ∷ after)
 GivesWholeLine longest (Ok None) before after = IsLine before × (after ≡ before)
-GivesWholeLine longest (Err Failed) before after = (longest < length before) × (after ≡ before)
+GivesWholeLine longest (Err Failed) before after = IsTooLong longest before × (after ≡ before)
 GivesWholeLine longest (Err Memory) before after = after ≡ before
 
 -- all that is left is the line
