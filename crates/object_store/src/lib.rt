@@ -8,8 +8,6 @@ mod laws;
 mod need;
 mod object;
 mod store;
-#[cfg(test)]
-mod tests;
 
 pub use laws::store_over_contents;
 pub use store::Store;

@@ -11,7 +11,8 @@ mod value;
 mod values;
 
 pub use access::{
-    Access, Accesses, Change, Content, Kind, Location, Mode, equality_is_same, same_place_same_location,
+    Access, Accesses, Change, Content, Kind, Location, Mode, equality_is_same,
+    same_place_same_location,
 };
 pub use key::{Key, KeyFault};
 pub use laws::{key_faults_of_contents, same_key_same_normal_contents, tests_are_equality};

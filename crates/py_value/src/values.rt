@@ -148,5 +148,3 @@ impl Values {
 }
 
 mod keys;
-#[cfg(test)]
-mod tests;

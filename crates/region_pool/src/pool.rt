@@ -131,6 +131,3 @@ impl<T: Drop> Pool<T> {
         self.len = len;
     }
 }
-
-#[cfg(test)]
-mod tests;

@@ -281,6 +281,3 @@ impl Values {
         }
     }
 }
-
-#[cfg(test)]
-mod tests;

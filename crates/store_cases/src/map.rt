@@ -1,27 +1,34 @@
 // The whole map of a store, compared with a line of the table: the kinds of its objects, then a word for each location
 // at which something stands. An order without keys is left out, since it is none.
-use super::rows::{parse_content, parse_kind, parse_location, parse_value, place};
-use crate::Store;
+use crate::rows::{parse_content, parse_kind, parse_location, parse_value, place};
+use object_store::Store;
 use py_value::{Content, Key, Location, Value};
-use std::alloc::Global;
-use std::process::Abort;
-use std::test::Fail;
+use std::alloc::{AllocError, Global};
 
-// Each word stands, and there are as many locations at which something stands.
-pub fn expect_map(rt: &impl Abort, alloc: Global, store: &Store, map: &str) -> Result<(), Fail> {
-    let Some((kinds, words)) = map.split_once(' ') else {
-        panic!(rt; "no map: {map}");
-    };
-    let are_kinds = has_kinds(store, kinds);
-    assert!(rt; are_kinds, "other kinds than {map}");
+/// Writes `ok` where each word stands, and there are as many locations at which something stands; else what does not.
+pub fn write_map(
+    alloc: Global,
+    store: &Store,
+    map: &str,
+    out: &mut Vec<u8>,
+) -> Result<(), AllocError> {
+    let (kinds, words) = map.split_once(' ').unwrap_or((map, ""));
+    if !has_kinds(store, kinds) {
+        return out.extend_from_slice(b"other kinds");
+    }
     let mut count = 0_u32;
     for word in words.split(' ') {
-        let stands = stands(alloc, store, word)?;
-        assert!(rt; stands, "not {word} of {map}");
+        if !stands(alloc, store, word)? {
+            out.extend_from_slice(b"not ")?;
+            return out.extend_from_slice(word.as_bytes());
+        }
         count = count.saturating_add(1);
     }
-    assert_eq!(rt; count_all(store), count, "more or less than {map}");
-    Ok(())
+    out.extend_from_slice(if count_all(store) == count {
+        b"ok"
+    } else {
+        b"more or less"
+    })
 }
 
 // The objects are of these kinds.
@@ -37,7 +44,7 @@ fn has_kinds(store: &Store, kinds: &str) -> bool {
 }
 
 // At the location that the word names stands what it says.
-fn stands(alloc: Global, store: &Store, word: &str) -> Result<bool, Fail> {
+fn stands(alloc: Global, store: &Store, word: &str) -> Result<bool, AllocError> {
     let Some((place, text)) = word.split_once('=') else {
         return Ok(false);
     };
@@ -72,7 +79,7 @@ fn has_bytes(store: &Store, path: u32, text: &str) -> bool {
 }
 
 // A content is compared as it prints.
-fn has_content(alloc: Global, store: &Store, l: Location, text: &str) -> Result<bool, Fail> {
+fn has_content(alloc: Global, store: &Store, l: Location, text: &str) -> Result<bool, AllocError> {
     let got = format!(in alloc; "{:?}", read(store, l))?;
     let want = format!(in alloc; "{:?}", parse_content(l, text))?;
     Ok(got.as_str() == want.as_str())

@@ -1,9 +1,7 @@
-// How the rows of the table are read: kinds, values, locations, contents, and plans of them.
+// How rows are read: kinds, values, locations, contents, and plans of them.
 use prov_base::Pos;
 use py_value::{Access, Change, Content, Key, Keys, Kind, Location, Mode, Value};
-use std::alloc::Global;
-use std::process::Abort;
-use std::test::Fail;
+use std::alloc::{AllocError, Global};
 
 pub fn parse_kind(word: &str) -> Option<Kind> {
     match word {
@@ -45,7 +43,24 @@ fn parse_numbered(word: &str) -> Option<Value> {
     if let Some(line) = word.strip_prefix('c') {
         return Some(Value::Class(place(parse_number(line)?)));
     }
-    Some(Value::Int(i64::from(parse_number(word)?)))
+    parse_other(word)
+}
+
+// A range from a start to 3, a function by its line, an exception class or a built-in by its number, or an integer.
+fn parse_other(word: &str) -> Option<Value> {
+    if let Some(start) = word.strip_prefix('r') {
+        return Some(Value::Range(i64::from(parse_number(start)?), 3, 1));
+    }
+    if let Some(line) = word.strip_prefix('f') {
+        return Some(Value::Fn(place(parse_number(line)?)));
+    }
+    if let Some(number) = word.strip_prefix('e') {
+        return Some(Value::Exc(u64::from(parse_number(number)?)));
+    }
+    if let Some(number) = word.strip_prefix('b') {
+        return Some(Value::Builtin(u64::from(parse_number(number)?)));
+    }
+    Some(Value::Int(word.parse::<i64>().ok()?))
 }
 
 // A value, or none where `-` stands.
@@ -116,7 +131,7 @@ pub fn parse_content(l: Location, text: &str) -> Option<Content> {
 }
 
 // Values with commas between them.
-fn parse_keys(alloc: Global, text: &str) -> Result<Keys, Fail> {
+fn parse_keys(alloc: Global, text: &str) -> Result<Keys, AllocError> {
     let mut keys = Vec::new(alloc);
     for word in text.split(',') {
         if let Some(key) = parse_value(word) {
@@ -135,7 +150,7 @@ fn parse_change(l: Location, sign: char, text: &str) -> Option<Change> {
 }
 
 // One write of a plan: `=` sets a location, `+` adds a key or a text to it, and `-` takes a key out of it.
-fn parse_access(alloc: Global, word: &str) -> Result<Option<Access>, Fail> {
+fn parse_access(alloc: Global, word: &str) -> Result<Option<Access>, AllocError> {
     if let Some((place, text)) = word.split_once('=') {
         return match parse_location(place) {
             Some(Location::Order(o)) => {
@@ -163,13 +178,33 @@ fn parse_update(word: &str) -> Option<Access> {
     Some(Access::Update(l, parse_change(l, '-', text)?))
 }
 
-pub fn parse_plan(rt: &impl Abort, alloc: Global, words: &str) -> Result<Vec<Access>, Fail> {
+/// The accesses of a plan, none where a word is no write.
+pub fn parse_plan(alloc: Global, words: &str) -> Result<Option<Vec<Access>>, AllocError> {
     let mut plan = Vec::new(alloc);
     for word in words.split(' ') {
         let Some(access) = parse_access(alloc, word)? else {
-            panic!(rt; "no write: {word}");
+            return Ok(None);
         };
         plan.push(access)?;
     }
-    Ok(plan)
+    Ok(Some(plan))
+}
+
+/// Writes a value as the rows have it.
+pub fn write_value(alloc: Global, value: Value, out: &mut Vec<u8>) -> Result<(), AllocError> {
+    let word = match value {
+        Value::None => String::from_str(alloc, "N"),
+        Value::Bool(true) => String::from_str(alloc, "T"),
+        Value::Bool(false) => String::from_str(alloc, "F"),
+        Value::Int(i) => format!(in alloc; "{i}"),
+        Value::Text(id) => format!(in alloc; "t{id}"),
+        Value::Tuple(id) => format!(in alloc; "u{id}"),
+        Value::Range(start, _, _) => format!(in alloc; "r{start}"),
+        Value::Fn(at) => format!(in alloc; "f{}", at.line),
+        Value::Class(at) => format!(in alloc; "c{}", at.line),
+        Value::Exc(number) => format!(in alloc; "e{number}"),
+        Value::Builtin(number) => format!(in alloc; "b{number}"),
+        Value::Object(object) => format!(in alloc; "o{object}"),
+    };
+    out.extend_from_slice(word?.as_bytes())
 }

@@ -1,8 +1,8 @@
-use Rattle.std.proofs.Common.{◌≡◌, Some, sym, ap, ◌∙◌, arith, rules}
+use Rattle.std.proofs.Common.{Some, sym, ap, ◌∙◌, arith, rules}
 use Rattle.std.proofs.lemmas.Option.{slice_get-get_or, slice_get_within}
 use Rattle.object_store.specs.Room.{IsNamedAccess}
-use Rattle.object_store.proofs.Reserving.{up_to}
-use Rattle.object_store.proofs.tests.table.are_named.Goals as goal
+use Rattle.store_cases.proofs.UpTo.{up_to}
+use Rattle.store_cases.proofs.table.are_named.Goals as goal
 
 pub loop-access-preserved : goal.loop-access-preserved
 loop-access-preserved c = λ values below.
