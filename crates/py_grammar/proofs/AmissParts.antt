@@ -2,23 +2,24 @@
 use Rattle.std.proofs.Common.{◌≡◌, ℕ, ◌≤◌, true, false, List, [], ◌∷◌, ◌++◌, Option, None, refl, ap, sym, ◌∙◌, subst, append_assoc, append-nil}
 use Rattle.py_lines.specs.declared.parts.Token.{Token}
 use Rattle.py_grammar.specs.declared.context.Limit.{Limit}
-use Rattle.py_grammar.specs.declared.fault.Fault.{Fault}
-use Rattle.py_grammar.specs.declared.fault.Fault.TheVariants.{Unexpected, TooDeep, TooMany, Memory}
-use Rattle.py_grammar.specs.declared.fault.Stop.{Stop}
-use Rattle.py_grammar.specs.declared.fault.Stop.TheVariants.{Here, End}
-use Rattle.py_grammar.specs.Parsed.{Production, ShowsAt, IsAtFirst, IsDeep, Finds, Begins, Refused}
-use Rattle.py_grammar.specs.ParsedRows.{first_token}
+use Rattle.py_expressions.specs.declared.fault.Fault.{Fault}
+use Rattle.py_expressions.specs.declared.fault.Fault.TheVariants.{Unexpected, TooDeep, TooMany, Memory}
+use Rattle.py_expressions.specs.declared.fault.Stop.{Stop}
+use Rattle.py_expressions.specs.declared.fault.Stop.TheVariants.{Here, End}
+use Rattle.py_expressions.specs.Parsed.{Production, ShowsAt, IsAtFirst, IsDeep, Finds, Begins, Refused}
+use Rattle.py_expressions.specs.ParsedRows.{first_token}
 use Rattle.py_grammar.specs.ParsedHead.{Context, head_stands, head_depth, behind_in, IsAmissHead, BeginsHead, GoesOnLine, IsAheadOnLine, ShownBy, HeadRefused}
 use Rattle.py_grammar.specs.LineReader.{Head, head_tokens}
 use Rattle.py_grammar.specs.ParsedNames.{BeginsFine, IsNotDeep, ShownAmiss, RefusedAmiss}
-use Rattle.py_grammar.proofs.Refusals.{begins_so, finds_same, finds_weaker}
-use Rattle.py_grammar.proofs.Stops.{shows_on_line, some_spot}
+use Rattle.py_expressions.proofs.Refusals.{begins_so, finds_same, finds_weaker}
+use Rattle.py_grammar.proofs.ShownLines.{shows_on_line}
+use Rattle.py_expressions.proofs.Stops.{some_spot}
 use Rattle.py_grammar.proofs.NoDel.{is_simple_head}
 use Rattle.py_grammar.proofs.Unread.{PassesFor}
 use Rattle.py_grammar.proofs.HeadParts.{OnlyHead, HeadTurns, turned_head, BeginsOpening, begins_opening, shown_head, ahead_of_part, ended_line, finds_head_same, first_shown, is_free}
 use Rattle.py_lines.specs.declared.parts.TokenKind.TheVariants.{Sign}
 use Rattle.py_grammar.proofs.BehindColon.{StaysAhead, stays_front}
-use Rattle.py_grammar.specs.Tokens.{token}
+use Rattle.py_expressions.specs.Tokens.{token}
 
 -- ---- refusals as such
 

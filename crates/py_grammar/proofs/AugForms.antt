@@ -8,7 +8,7 @@ use Rattle.py_lines.specs.declared.parts.TokenKind.{TokenKind}
 use Rattle.py_lines.specs.declared.parts.TokenKind.TheVariants.{Word, Keyword, Number, Text, Sign}
 use Rattle.py_lines.specs.Tables.{sign_number}
 use Rattle.py_tree.specs.declared.expr.BinOp.{BinOp}
-use Rattle.py_grammar.specs.Reader.{is_sign, spot_of}
+use Rattle.py_expressions.specs.Reader.{is_sign, spot_of}
 use Rattle.py_grammar.specs.StatementTokens.{aug_sign}
 use Rattle.py_grammar.specs.StatementTrees.{aug_op}
 use Rattle.py_grammar.specs.StatementReader.{aug_sign_of}

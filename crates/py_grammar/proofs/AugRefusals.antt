@@ -1,5 +1,5 @@
 -- Augmented assignments: what is read, and how it is refused.
-use Rattle.std.proofs.Common.{◌≡◌, ℕ, ◌≤◌, ◌<◌, true, false, List, [], ◌∷◌, ◌++◌, Option, Some, None, option_map, option_and_then, is_none, is_some, refl, ap, sym, ◌∙◌, arith, length}
+use Rattle.std.proofs.Common.{◌≡◌, ℕ, ◌≤◌, ◌<◌, true, false, List, [], ◌∷◌, ◌++◌, Option, Some, None, option_map, option_and_then, is_some, refl, ap, sym, ◌∙◌, arith, length}
 use Rattle.std.proofs.Math.Nat.{le-max_right}
 use Rattle.std.proofs.lemmas.Option.{same_Some}
 use Rattle.prov_base.specs.declared.place.Pos.{Pos}
@@ -10,26 +10,29 @@ use Rattle.py_tree.specs.declared.expr.Target.{Target as BuiltTarget}
 use Rattle.py_tree.specs.declared.stmt.Form.{Form}
 use Rattle.py_tree.specs.Erasure.{expr_of, form_of, target_of}
 use Rattle.py_tree.specs.Tree.{aug_form}
-use Rattle.py_grammar.specs.declared.fault.Fault.TheVariants.{Unexpected}
-use Rattle.py_grammar.specs.declared.fault.Stop.{Stop}
-use Rattle.py_grammar.specs.declared.fault.Stop.TheVariants.{Here}
-use Rattle.py_grammar.specs.declared.part.Part.{Part}
-use Rattle.py_grammar.specs.Concrete.{Spot, Exprs, one_expr, several}
-use Rattle.py_grammar.specs.Tokens.{token, exprs_tokens}
-use Rattle.py_grammar.specs.Trees.{expr_tree, exprs_tree}
-use Rattle.py_grammar.specs.Depth.{exprs_depth, one_target_depth}
-use Rattle.py_grammar.specs.Lies.{exprs_lies, one_target_lies}
-use Rattle.py_grammar.specs.Written.{AugSign, add_to, take_from, multiply_by, divide_by, leave_of, OneTarget, named, item, field, one_target, augmented}
+use Rattle.py_expressions.specs.declared.fault.Fault.TheVariants.{Unexpected}
+use Rattle.py_expressions.specs.declared.fault.Stop.{Stop}
+use Rattle.py_expressions.specs.declared.fault.Stop.TheVariants.{Here}
+use Rattle.py_expressions.specs.declared.part.Part.{Part}
+use Rattle.py_expressions.specs.Concrete.{Spot, Exprs, one_expr, several}
+use Rattle.py_expressions.specs.Tokens.{token, exprs_tokens}
+use Rattle.py_expressions.specs.Trees.{expr_tree, exprs_tree}
+use Rattle.py_expressions.specs.Depth.{exprs_depth}
+use Rattle.py_grammar.specs.StatementDepth.{one_target_depth}
+use Rattle.py_expressions.specs.Lies.{exprs_lies}
+use Rattle.py_grammar.specs.StatementLies.{one_target_lies}
+use Rattle.py_grammar.specs.Written.{AugSign, add_to, take_from, multiply_by, divide_by, leave_of, augmented}
+use Rattle.py_expressions.specs.Targets.{OneTarget, named, item, field, one_target, exprs_target, single_target, expr_target}
 use Rattle.py_grammar.specs.StatementTokens.{one_target_tokens}
 use Rattle.py_grammar.specs.StatementTrees.{aug_op, one_target_tree}
 use Rattle.py_grammar.specs.WellPlaced.{Around}
-use Rattle.py_grammar.specs.Reader.{kind_level, start_class, read_exprs}
-use Rattle.py_grammar.specs.StatementReader.{exprs_target, single_target, expr_target, whole, behind_exprs}
-use Rattle.py_grammar.specs.Parsed.{FoundRow, Refused, exprs_part}
+use Rattle.py_expressions.specs.Reader.{kind_level, start_class, read_exprs}
+use Rattle.py_grammar.specs.StatementReader.{whole, behind_exprs}
+use Rattle.py_expressions.specs.Parsed.{FoundRow, Refused, exprs_part}
 use Rattle.py_grammar.specs.ParsedSimple.{IsRow, SimpleRefused, FoundAfterOp, RefusedAfterOp, IsMore, is_tuple_tree, target_form}
-use Rattle.py_grammar.proofs.Refusals.{max_below}
-use Rattle.py_grammar.proofs.SimpleReading.{target_expr}
-use Rattle.py_grammar.proofs.TargetForms.{target_is, target_deep, target_spelled, target_tree_is}
+use Rattle.py_expressions.proofs.Refusals.{max_below}
+use Rattle.py_expressions.proofs.TargetReads.{target_expr, target_is}
+use Rattle.py_grammar.proofs.TargetForms.{target_deep, target_spelled, target_tree_is}
 use Rattle.py_grammar.proofs.AugForms.{aug_number}
 use Rattle.py_grammar.proofs.LyingLines.{one_target_low}
 use Rattle.py_grammar.proofs.SimpleParts.{row_fits}
@@ -121,27 +124,27 @@ aug_none : (around : Around) (e : Exprs) (which : AugSign) (spot : Spot) (before
 aug_none around e which spot before after left none fits counted is = sign_wrong around e (token (Sign (aug_number which)) spot) before after left fits counted (aug_level which) (aug_starts which)
     (λ n more. aug_reads which e spot n more ∙ ap (option_and_then (λ target. option_map (augmented target which spot) (whole (read_exprs n more)))) none) is
 
-pub aug_tuple : (first : Part) (at : Pos) (op : BinOp) (behind : List Token) (left : ℕ) → is_tuple_tree (expr_of first.expr) ≡ true → left ≡ length behind → RefusedAfterOp first at op behind (Here (Unexpected left))
+pub aug_tuple : (first : Part) (at : Pos) (op : BinOp) (behind : List Token) (left : ℕ) → is_tuple_tree (expr_of first.expr.value) ≡ true → left ≡ length behind → RefusedAfterOp first at op behind (Here (Unexpected left))
 aug_tuple first at op behind left tuple counted = record {
   there = λ around before middle f k.
       aug_none around f.written k.which k.spot before behind left (tuple_no_single f.written (ap is_tuple_tree (sym f.tree_is) ∙ tuple)) (row_fits f) counted (behind_sign f k.before_is);
 }
 
-pub aug_wrong : (first : Part) (at : Pos) (op : BinOp) (behind : List Token) (left : ℕ) → is_none first.wrong ≡ false → left ≡ length behind → RefusedAfterOp first at op behind (Here (Unexpected left))
+pub aug_wrong : (first : Part) (at : Pos) (op : BinOp) (behind : List Token) (left : ℕ) → first.is_target ≡ false → left ≡ length behind → RefusedAfterOp first at op behind (Here (Unexpected left))
 aug_wrong first at op behind left other counted = record {
   there = λ around before middle f k.
       aug_none around f.written k.which k.spot before behind left (no_single f.written (sym f.form_is ∙ other)) (row_fits f) counted (behind_sign f k.before_is);
 }
 
-first_single : {before middle : List Token} {first : Part} → (f : FoundRow 100 before first middle) → is_tuple_tree (expr_of first.expr) ≡ false → is_none first.wrong ≡ true → (t : OneTarget) × (single_target f.written ≡ Some t)
+first_single : {before middle : List Token} {first : Part} → (f : FoundRow 100 before first middle) → is_tuple_tree (expr_of first.expr.value) ≡ false → first.is_target ≡ true → (t : OneTarget) × (single_target f.written ≡ Some t)
 first_single f single fine = a_single f.written (ap is_tuple_tree (sym f.tree_is) ∙ single) (sym f.form_is ∙ fine)
 
-pub aug_is_target : (first : Part) → IsRow first → is_tuple_tree (expr_of first.expr) ≡ false → is_none first.wrong ≡ true → is_some (target_form (expr_of first.expr)) ≡ true
+pub aug_is_target : (first : Part) → IsRow first → is_tuple_tree (expr_of first.expr.value) ≡ false → first.is_target ≡ true → is_some (target_form (expr_of first.expr.value)) ≡ true
 aug_is_target first r single fine =
     let t = a_single r.written (ap is_tuple_tree (sym r.tree_is) ∙ single) (sym r.form_is ∙ fine) in
     ap (λ e. is_some (target_form e)) r.tree_is ∙ ap is_some (single_tree r.written t.0 t.1)
 
-pub aug_refused : (first : Part) (at : Pos) (op : BinOp) (behind : List Token) (stop : Stop) → is_tuple_tree (expr_of first.expr) ≡ false → is_none first.wrong ≡ true → Refused exprs_part 100 behind stop
+pub aug_refused : (first : Part) (at : Pos) (op : BinOp) (behind : List Token) (stop : Stop) → is_tuple_tree (expr_of first.expr.value) ≡ false → first.is_target ≡ true → Refused exprs_part 100 behind stop
     → RefusedAfterOp first at op behind stop
 aug_refused first at op behind stop single fine refused = record {
   there = λ around before middle f k.
@@ -149,7 +152,7 @@ aug_refused first at op behind stop single fine refused = record {
       value_refused around f.written (token (Sign (aug_number k.which)) k.spot) (augmented t.0 k.which k.spot) before behind stop (aug_builds f.written k.which k.spot t.0 t.1 (row_fits f)) (behind_sign f k.before_is) refused;
 }
 
-pub aug_more : (first : Part) (at : Pos) (op : BinOp) (behind last : List Token) (value : Part) (stop : Stop) → is_tuple_tree (expr_of first.expr) ≡ false → is_none first.wrong ≡ true → FoundRow 100 behind value last
+pub aug_more : (first : Part) (at : Pos) (op : BinOp) (behind last : List Token) (value : Part) (stop : Stop) → is_tuple_tree (expr_of first.expr.value) ≡ false → first.is_target ≡ true → FoundRow 100 behind value last
     → IsMore last stop → RefusedAfterOp first at op behind stop
 aug_more first at op behind last value stop single fine v more = record {
   there = λ around before middle f k.
@@ -157,12 +160,12 @@ aug_more first at op behind last value stop single fine v more = record {
       value_more around f.written (token (Sign (aug_number k.which)) k.spot) (augmented t.0 k.which k.spot) before behind last value stop (aug_builds f.written k.which k.spot t.0 t.1 (row_fits f)) (behind_sign f k.before_is) v more;
 }
 
-pub aug_found : (first : Part) (at : Pos) (op : BinOp) (behind last : List Token) (target : BuiltTarget) (value : Part) (form : Form) → is_tuple_tree (expr_of first.expr) ≡ false → is_none first.wrong ≡ true
-    → target_form (expr_of first.expr) ≡ Some (target_of target) → FoundRow 100 behind value last → last ≡ [] → form_of form ≡ aug_form (target_of target) op at (expr_of value.expr) → FoundAfterOp first at op behind form
+pub aug_found : (first : Part) (at : Pos) (op : BinOp) (behind last : List Token) (target : BuiltTarget) (value : Part) (form : Form) → is_tuple_tree (expr_of first.expr.value) ≡ false → first.is_target ≡ true
+    → target_form (expr_of first.expr.value) ≡ Some (target_of target) → FoundRow 100 behind value last → last ≡ [] → form_of form ≡ aug_form (target_of target) op at (expr_of value.expr.value) → FoundAfterOp first at op behind form
 aug_found first at op behind last target value form single fine built v ends tree around before middle f k =
     let t = first_single f single fine in
     let same : target_of target ≡ one_target_tree t.0 = same_Some _ _ (sym built ∙ ap target_form f.tree_is ∙ single_tree f.written t.0 t.1) in
     value_found around f.written (token (Sign (aug_number k.which)) k.spot) (augmented t.0 k.which k.spot) before behind last value form (aug_builds f.written k.which k.spot t.0 t.1 (row_fits f)) (behind_sign f k.before_is) v ends
-    (tree ∙ ap (λ t. aug_form t op at (expr_of value.expr)) same ∙ ap (λ o. aug_form (one_target_tree t.0) o at (expr_of value.expr)) k.op_is
-    ∙ ap (λ p. aug_form (one_target_tree t.0) (aug_op k.which) p (expr_of value.expr)) (sym k.at_is) ∙ ap (aug_form (one_target_tree t.0) (aug_op k.which) k.spot.at) v.tree_is)
+    (tree ∙ ap (λ t. aug_form t op at (expr_of value.expr.value)) same ∙ ap (λ o. aug_form (one_target_tree t.0) o at (expr_of value.expr.value)) k.op_is
+    ∙ ap (λ p. aug_form (one_target_tree t.0) (aug_op k.which) p (expr_of value.expr.value)) (sym k.at_is) ∙ ap (aug_form (one_target_tree t.0) (aug_op k.which) k.spot.at) v.tree_is)
     (let high = f.height_is in let low = f.fits in let deep = single_deep f.written t.0 t.1 in let high_2 = v.height_is in let low_2 = v.fits in max_below _ _ 100 (omega (arith, high, low, deep)) (omega (arith, high_2, low_2)))

@@ -7,21 +7,22 @@ use Rattle.py_lines.specs.declared.parts.Token.{Token}
 use Rattle.py_lines.specs.declared.parts.TokenKind.{TokenKind}
 use Rattle.py_lines.specs.declared.parts.TokenKind.TheVariants.{Word, Keyword, Sign}
 use Rattle.py_grammar.specs.declared.context.Limit.{Limit}
-use Rattle.py_grammar.specs.declared.fault.Stop.TheVariants.{End}
+use Rattle.py_expressions.specs.declared.fault.Stop.TheVariants.{End}
 use Rattle.py_grammar.specs.declared.head.What.{What}
-use Rattle.py_grammar.specs.Concrete.{Spot, CmpSign, equal, unequal, less, less_equal, greater, greater_equal, within, not_within, same, not_same, Expr, plain_expr, choice, Or, plain_or, or_more, And, plain_and, and_more, Not, plain_not, not_of, Cmp, plain_cmp, compared, Sum, plain_sum, sum_more, Term, plain_term, term_more, Unary, plain_unary, signed, Prim, plain_prim, call, part, attribute, Atom, name, number, text, none, true_word, false_word, empty_tuple, group, list, dict, Exprs, one_expr, several, Rest, end_rest, last_rest, more_rest}
-use Rattle.py_grammar.specs.Tokens.{token, keyword, cmp_tokens, expr_tokens, or_tokens, and_tokens, not_tokens, cmp_tokens_of, sum_tokens, term_tokens, unary_tokens, prim_tokens, atom_tokens, exprs_tokens, rest_tokens, items_tokens, index_tokens, pairs_tokens}
-use Rattle.py_grammar.specs.Written.{OneTarget, named, item, field, TargetRest, end_rest_target, last_target, more_target, Target, one_target, several_targets, Simple, expression, assign, augmented, del, pass, break, continue, return, return_value, raise, raise_value, assert, assert_message, import_module, Names, last_name, more_names, Naming, Kind, Params, Base}
+use Rattle.py_expressions.specs.Concrete.{Spot, CmpSign, equal, unequal, less, less_equal, greater, greater_equal, within, not_within, same, not_same, Expr, plain_expr, choice, Or, plain_or, or_more, And, plain_and, and_more, Not, plain_not, not_of, Cmp, plain_cmp, compared, Sum, plain_sum, sum_more, Term, plain_term, term_more, Unary, plain_unary, signed, Prim, plain_prim, call, part, attribute, Atom, name, number, text, none, true_word, false_word, empty_tuple, group, list, dict, Exprs, one_expr, several, Rest, end_rest, last_rest, more_rest}
+use Rattle.py_expressions.specs.Tokens.{token, keyword, cmp_tokens, expr_tokens, or_tokens, and_tokens, not_tokens, cmp_tokens_of, sum_tokens, term_tokens, unary_tokens, prim_tokens, atom_tokens, exprs_tokens, rest_tokens, items_tokens, index_tokens, pairs_tokens}
+use Rattle.py_expressions.specs.Targets.{OneTarget, named, item, field, TargetRest, end_rest_target, last_target, more_target, Target, one_target, several_targets}
+use Rattle.py_grammar.specs.Written.{Simple, expression, assign, augmented, del, pass, break, continue, return, return_value, raise, raise_value, assert, assert_message, import_module, Names, last_name, more_names, Naming, Kind, Params, Base}
 use Rattle.py_grammar.specs.StatementTokens.{one_target_tokens, target_rest_tokens, target_tokens, simple_tokens, names_tokens, params_tokens, naming_tokens, kind_tokens, base_tokens}
 use Rattle.py_grammar.specs.LineReader.{Head, simple_head, if_head, elif_head, else_head, while_head, for_head, try_head, except_head, with_head, def_head, class_head, global_head, behind_tokens, head_tokens, then_read, read_colon, read_behind, read_naming, read_kind, read_target, read_base, read_params, read_head}
-use Rattle.py_grammar.specs.Reader.{is_keyword, read_expr, read_exprs, read_sign, read_keyword}
+use Rattle.py_expressions.specs.Reader.{is_keyword, read_expr, read_exprs, read_sign, read_keyword}
 use Rattle.py_grammar.specs.StatementReader.{read_simple}
 use Rattle.py_grammar.specs.WellPlaced.{Around, simple_stands}
-use Rattle.py_grammar.specs.ParsedRows.{first_token}
+use Rattle.py_expressions.specs.ParsedRows.{first_token}
 use Rattle.py_grammar.specs.ParsedHead.{Context, word_may, inner_around, behind_in, head_stands, head_depth, begins_compound, is_compound, passed_tokens, Opening, IsFreeBehind}
 use Rattle.py_grammar.proofs.OneReading.{one_simple}
-use Rattle.py_grammar.proofs.Reading.{expr_reads, exprs_read}
-use Rattle.py_grammar.proofs.RowParts.{more_steps}
+use Rattle.py_expressions.proofs.Reading.{expr_reads, exprs_read}
+use Rattle.py_expressions.proofs.RowParts.{more_steps}
 use Rattle.py_grammar.proofs.HeadReading.{head_reads, kind_reads, target_reads, params_reads, naming_reads, naming_level, base_reads}
 use Rattle.py_grammar.proofs.LineFirsts.{both_true, not_nothing, same_first, same_behind, simple_some, simple_not_compound, head_simple}
 use Rattle.py_grammar.proofs.TargetSums.{Unread, unread_one, ends_one, ends_none}

@@ -5,22 +5,22 @@ use Rattle.prov_base.specs.declared.place.Pos.{Pos}
 use Rattle.py_lines.specs.declared.parts.Token.{Token}
 use Rattle.py_lines.specs.declared.parts.TokenKind.TheVariants.{Sign}
 use Rattle.py_grammar.specs.declared.context.Limit.{Limit}
-use Rattle.py_grammar.specs.declared.fault.Fault.{Fault}
-use Rattle.py_grammar.specs.declared.fault.Fault.TheVariants.{Unexpected, TooDeep, TooMany, Memory}
-use Rattle.py_grammar.specs.declared.fault.Stop.{Stop}
-use Rattle.py_grammar.specs.declared.fault.Stop.TheVariants.{Here, End}
+use Rattle.py_expressions.specs.declared.fault.Fault.{Fault}
+use Rattle.py_expressions.specs.declared.fault.Fault.TheVariants.{Unexpected, TooDeep, TooMany, Memory}
+use Rattle.py_expressions.specs.declared.fault.Stop.{Stop}
+use Rattle.py_expressions.specs.declared.fault.Stop.TheVariants.{Here, End}
 use Rattle.py_grammar.specs.declared.head.What.{What}
 use Rattle.py_grammar.specs.declared.head.LineHead.{LineHead}
-use Rattle.py_grammar.specs.Concrete.{Spot}
-use Rattle.py_grammar.specs.Tokens.{token}
+use Rattle.py_expressions.specs.Concrete.{Spot}
+use Rattle.py_expressions.specs.Tokens.{token}
 use Rattle.py_grammar.specs.Written.{Simple, pass}
 use Rattle.py_grammar.specs.StatementTokens.{simple_tokens}
 use Rattle.py_grammar.specs.WellPlaced.{simple_stands}
 use Rattle.py_grammar.specs.LineReader.{Head, head_tokens, then_read, read_colon, read_behind}
-use Rattle.py_grammar.specs.Reader.{is_sign, spot_of, read_sign}
-use Rattle.py_grammar.specs.Parsed.{Refused, one_sign, Begins, Finds, IsDeep, Only}
+use Rattle.py_expressions.specs.Reader.{is_sign, spot_of, read_sign}
+use Rattle.py_expressions.specs.Parsed.{Refused, one_sign, Begins, Finds, IsDeep, Only}
 use Rattle.py_grammar.specs.ParsedHead.{Context, word_may, inner_around, behind_depth, IsBehind, BehindFound, HeadFound, Opening, IsAmissPlaced, IsAmissHead, BeginsPlaced, DeepPlaced, BeginsHead, DeepHead, StartsBehind, del_name, GoesOnPlaced, IsAheadPlaced, GoesOnLine, IsAheadOnLine, ShownBy, EndedBy, BehindRefused, HeadRefused, behind_first, BeginsThere, IsFreeBehind, EndsHead, head_lies}
-use Rattle.py_grammar.proofs.Refusals.{max_below}
+use Rattle.py_expressions.proofs.Refusals.{max_below}
 use Rattle.py_grammar.proofs.SimpleParts.{none_deeper, not_deeper}
 use Rattle.py_grammar.proofs.LyingLines.{head_low}
 use Rattle.py_grammar.proofs.HeadParts.{spelled_part, refused_part_head, is_free}

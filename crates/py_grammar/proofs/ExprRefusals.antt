@@ -1,5 +1,5 @@
 -- Expressions that are a statement, and assignments: what is read, and how it is refused.
-use Rattle.std.proofs.Common.{◌≡◌, inl, inr, ℕ, suc, ◌+◌, ◌≤◌, ◌<◌, Bool, true, false, List, [], ◌∷◌, ◌++◌, Option, Some, None, option_map, option_and_then, is_none, is_some, refl, ap, sym, ◌∙◌, arith, subst, append_assoc, length}
+use Rattle.std.proofs.Common.{◌≡◌, inl, inr, ℕ, suc, ◌+◌, ◌≤◌, ◌<◌, Bool, true, false, List, [], ◌∷◌, ◌++◌, Option, Some, None, option_map, option_and_then, is_some, refl, ap, sym, ◌∙◌, arith, subst, append_assoc, length}
 use Rattle.std.specs.Prelude.{◌==◌}
 use Rattle.std.proofs.Math.Nat.{le-max_right}
 use Rattle.std.proofs.lemmas.Bool.{eqb-true}
@@ -12,30 +12,33 @@ use Rattle.py_tree.specs.declared.expr.Target.{Target as BuiltTarget}
 use Rattle.py_tree.specs.declared.stmt.Form.{Form}
 use Rattle.py_tree.specs.Erasure.{expr_of, form_of, target_of}
 use Rattle.py_tree.specs.Tree.{do_form, assign_form}
-use Rattle.py_grammar.specs.declared.fault.Fault.TheVariants.{Unexpected}
-use Rattle.py_grammar.specs.declared.fault.Stop.{Stop}
-use Rattle.py_grammar.specs.declared.fault.Stop.TheVariants.{Here}
-use Rattle.py_grammar.specs.declared.part.Part.{Part}
-use Rattle.py_grammar.specs.Concrete.{Spot, Exprs, one_expr, several}
-use Rattle.py_grammar.specs.Tokens.{token, exprs_tokens}
-use Rattle.py_grammar.specs.Depth.{exprs_depth, simple_depth}
-use Rattle.py_grammar.specs.Lies.{exprs_lies, one_target_lies, simple_lies, target_lies}
-use Rattle.py_grammar.specs.Written.{AugSign, OneTarget, Target, Simple, expression, assign, augmented}
+use Rattle.py_expressions.specs.declared.fault.Fault.TheVariants.{Unexpected}
+use Rattle.py_expressions.specs.declared.fault.Stop.{Stop}
+use Rattle.py_expressions.specs.declared.fault.Stop.TheVariants.{Here}
+use Rattle.py_expressions.specs.declared.part.Part.{Part}
+use Rattle.py_expressions.specs.Concrete.{Spot, Exprs, one_expr, several}
+use Rattle.py_expressions.specs.Tokens.{token, exprs_tokens}
+use Rattle.py_expressions.specs.Depth.{exprs_depth}
+use Rattle.py_grammar.specs.StatementDepth.{simple_depth}
+use Rattle.py_expressions.specs.Lies.{exprs_lies}
+use Rattle.py_grammar.specs.StatementLies.{one_target_lies, simple_lies, target_lies}
+use Rattle.py_grammar.specs.Written.{AugSign, Simple, expression, assign, augmented}
+use Rattle.py_expressions.specs.Targets.{OneTarget, Target, exprs_target, single_target}
 use Rattle.py_grammar.specs.StatementTokens.{simple_tokens}
 use Rattle.py_grammar.specs.StatementTrees.{target_tree, simple_form}
 use Rattle.py_grammar.specs.WellPlaced.{Around}
-use Rattle.py_grammar.specs.Reader.{is_sign, is_keyword, spot_of, kind_level, start_class, next_level, starts, read_exprs}
-use Rattle.py_grammar.specs.StatementReader.{exprs_target, single_target, aug_sign_of, whole, behind_exprs, read_simple}
-use Rattle.py_grammar.specs.Parsed.{IsDeep, Only, FoundRow, Refused, ends_open, is_keyword_next, is_sign_next, exprs_part}
+use Rattle.py_expressions.specs.Reader.{is_sign, is_keyword, spot_of, kind_level, start_class, next_level, starts, read_exprs}
+use Rattle.py_grammar.specs.StatementReader.{aug_sign_of, whole, behind_exprs, read_simple}
+use Rattle.py_expressions.specs.Parsed.{IsDeep, Only, FoundRow, Refused, ends_open, is_keyword_next, is_sign_next, exprs_part}
 use Rattle.py_grammar.specs.ParsedSimple.{leaving_none, has_place, IsRow, SimpleFound, SimpleRefused, FoundAnywhere, RefusedAnywhere, FoundAfter, RefusedAfter, aug_sign_next, is_word, is_word_kind, begins_word, IsMore, all_target_form}
-use Rattle.py_grammar.proofs.Firsts.{IsStart, exprs_starts}
-use Rattle.py_grammar.proofs.Reading.{if_false}
-use Rattle.py_grammar.proofs.RowReads.{row_reads}
-use Rattle.py_grammar.proofs.Refusals.{first_of, deeper, deep_same, deep_beside_left, max_below}
+use Rattle.py_expressions.proofs.Firsts.{IsStart, exprs_starts}
+use Rattle.py_expressions.proofs.Reading.{if_false}
+use Rattle.py_expressions.proofs.RowReads.{row_reads, row_all}
+use Rattle.py_expressions.proofs.Refusals.{first_of, deeper, deep_same, deep_beside_left, max_below}
 use Rattle.py_grammar.proofs.SimpleReading.{by_exprs, begins_with_exprs}
 use Rattle.py_grammar.proofs.TargetForms.{target_lies_so, targets_deep, targets_lie_so, targets_spelled, targets_tree_is}
 use Rattle.py_grammar.proofs.LyingLines.{target_low}
-use Rattle.py_grammar.proofs.SimpleParts.{ReadsNone, Turns, turned_none, turns_same, as_whole, map_whole, only_whole, only_map, only_if_simple, row_fits, spelled, begins_part, other_statement, refused_part, at_token, ended, row_all, row_goes}
+use Rattle.py_grammar.proofs.SimpleParts.{ReadsNone, Turns, turned_none, turns_same, as_whole, map_whole, only_whole, only_map, only_if_simple, row_fits, spelled, begins_part, other_statement, refused_part, at_token, ended, row_goes}
 
 -- ---- the expressions with which it begins
 
@@ -157,7 +160,7 @@ row_more before after part stop f other none more = record {
       ∙ ap (option_and_then (λ op. option_and_then (λ target. option_map (augmented target op (spot_of t)) (whole (read_exprs n rest))) (single_target f.written))) (subst (λ (ts : List Token). aug_sign_next ts ≡ None) is none)));
 }
 
-pub row_found : (before after : List Token) (part : Part) (form : Form) → FoundRow 100 before part after → after ≡ [] → form_of form ≡ do_form (expr_of part.expr) → FoundAnywhere before form
+pub row_found : (before after : List Token) (part : Part) (form : Form) → FoundRow 100 before part after → after ≡ [] → form_of form ≡ do_form (expr_of part.expr.value) → FoundAnywhere before form
 row_found before after part form f is tree around = record {
   written = expression f.written;
   before_is = row_all f is;
@@ -240,7 +243,7 @@ no_target : (o : Option Target) → is_some o ≡ false → o ≡ None
 no_target None is = refl
 no_target (Some t) is = cc
 
-first_target : {before middle : List Token} {first : Part} → (f : FoundRow 100 before first middle) → is_none first.wrong ≡ true → (t : Target) × (exprs_target f.written ≡ Some t)
+first_target : {before middle : List Token} {first : Part} → (f : FoundRow 100 before first middle) → first.is_target ≡ true → (t : Target) × (exprs_target f.written ≡ Some t)
 first_target f fine = a_target (exprs_target f.written) (sym f.form_is ∙ fine)
 
 assign_builds : (e : Exprs) (spot : Spot) (t : Target) → exprs_target e ≡ Some t → exprs_depth e ≤ 100 → Builds e (token (Sign 9) spot) (assign t spot)
@@ -255,7 +258,7 @@ assign_builds e spot t is low = record {
   fits = λ v inner. let deep = targets_deep e t is in max_below _ _ 100 (omega (arith, deep, low)) inner;
 }
 
-pub assign_wrong : (first : Part) (left : ℕ) (behind : List Token) → is_none first.wrong ≡ false → left ≡ length behind → RefusedAfter first behind (Here (Unexpected left))
+pub assign_wrong : (first : Part) (left : ℕ) (behind : List Token) → first.is_target ≡ false → left ≡ length behind → RefusedAfter first behind (Here (Unexpected left))
 assign_wrong first left behind other counted = record {
   there = λ around at before middle f k.
       sign_wrong around f.written (token (Sign 9) k.spot) before behind left (row_fits f) counted (omega arith) refl
@@ -263,30 +266,30 @@ assign_wrong first left behind other counted = record {
       (behind_sign f k.before_is);
 }
 
-pub assign_refused : (first : Part) (behind : List Token) (stop : Stop) → is_none first.wrong ≡ true → Refused exprs_part 100 behind stop → RefusedAfter first behind stop
+pub assign_refused : (first : Part) (behind : List Token) (stop : Stop) → first.is_target ≡ true → Refused exprs_part 100 behind stop → RefusedAfter first behind stop
 assign_refused first behind stop fine refused = record {
   there = λ around at before middle f k.
       let t = first_target f fine in
       value_refused around f.written (token (Sign 9) k.spot) (assign t.0 k.spot) before behind stop (assign_builds f.written k.spot t.0 t.1 (row_fits f)) (behind_sign f k.before_is) refused;
 }
 
-pub assign_more : (first : Part) (behind last : List Token) (value : Part) (stop : Stop) → is_none first.wrong ≡ true → FoundRow 100 behind value last → IsMore last stop → RefusedAfter first behind stop
+pub assign_more : (first : Part) (behind last : List Token) (value : Part) (stop : Stop) → first.is_target ≡ true → FoundRow 100 behind value last → IsMore last stop → RefusedAfter first behind stop
 assign_more first behind last value stop fine v more = record {
   there = λ around at before middle f k.
       let t = first_target f fine in
       value_more around f.written (token (Sign 9) k.spot) (assign t.0 k.spot) before behind last value stop (assign_builds f.written k.spot t.0 t.1 (row_fits f)) (behind_sign f k.before_is) v more;
 }
 
-pub assign_found : (first : Part) (behind last : List Token) (target : BuiltTarget) (value : Part) (form : Form) → is_none first.wrong ≡ true → all_target_form (expr_of first.expr) ≡ Some (target_of target)
-    → FoundRow 100 behind value last → last ≡ [] → form_of form ≡ assign_form (target_of target) (expr_of value.expr) → FoundAfter first behind form
+pub assign_found : (first : Part) (behind last : List Token) (target : BuiltTarget) (value : Part) (form : Form) → first.is_target ≡ true → all_target_form (expr_of first.expr.value) ≡ Some (target_of target)
+    → FoundRow 100 behind value last → last ≡ [] → form_of form ≡ assign_form (target_of target) (expr_of value.expr.value) → FoundAfter first behind form
 assign_found first behind last target value form fine built v ends tree around at before middle f k =
     let t = first_target f fine in
     let same : target_of target ≡ target_tree t.0 = same_Some _ _ (sym built ∙ ap all_target_form f.tree_is ∙ targets_tree_is f.written t.0 t.1) in
     value_found around f.written (token (Sign 9) k.spot) (assign t.0 k.spot) before behind last value form (assign_builds f.written k.spot t.0 t.1 (row_fits f)) (behind_sign f k.before_is) v ends
-    (tree ∙ ap (λ t. assign_form t (expr_of value.expr)) same ∙ ap (assign_form (target_tree t.0)) v.tree_is)
+    (tree ∙ ap (λ t. assign_form t (expr_of value.expr.value)) same ∙ ap (assign_form (target_tree t.0)) v.tree_is)
     (let high = f.height_is in let low = f.fits in let deep = targets_deep f.written t.0 t.1 in let high_2 = v.height_is in let low_2 = v.fits in max_below _ _ 100 (omega (arith, high, low, deep)) (omega (arith, high_2, low_2)))
 
-pub assign_is_target : (first : Part) → IsRow first → is_none first.wrong ≡ true → is_some (all_target_form (expr_of first.expr)) ≡ true
+pub assign_is_target : (first : Part) → IsRow first → first.is_target ≡ true → is_some (all_target_form (expr_of first.expr.value)) ≡ true
 assign_is_target first r fine =
     let t = a_target (exprs_target r.written) (sym r.form_is ∙ fine) in
     ap (λ e. is_some (all_target_form e)) r.tree_is ∙ ap is_some (targets_tree_is r.written t.0 t.1)

@@ -2,16 +2,16 @@
 use Rattle.std.proofs.Common.{ℕ, false, List, [], ◌∷◌, ◌++◌, refl, sym, subst, append-nil}
 use Rattle.py_lines.specs.declared.parts.Token.{Token}
 use Rattle.py_lines.specs.declared.parts.TokenKind.TheVariants.{Word}
-use Rattle.py_grammar.specs.declared.fault.Fault.TheVariants.{Unexpected, TooDeep, TooMany, Memory}
-use Rattle.py_grammar.specs.declared.fault.Stop.{Stop}
-use Rattle.py_grammar.specs.declared.fault.Stop.TheVariants.{Here, End}
-use Rattle.py_grammar.specs.Concrete.{Spot}
-use Rattle.py_grammar.specs.Tokens.{token, word}
-use Rattle.py_grammar.specs.Reader.{read_name}
-use Rattle.py_grammar.specs.Parsed.{Production, IsDeep, Only, Finds, Begins, BeginsWithin, Refused, one_name}
-use Rattle.py_grammar.proofs.Stops.{spot_at}
-use Rattle.py_grammar.proofs.ClosedParts.{not_deep}
-use Rattle.py_grammar.proofs.Refusals.{begins_so, begins_new}
+use Rattle.py_expressions.specs.declared.fault.Fault.TheVariants.{Unexpected, TooDeep, TooMany, Memory}
+use Rattle.py_expressions.specs.declared.fault.Stop.{Stop}
+use Rattle.py_expressions.specs.declared.fault.Stop.TheVariants.{Here, End}
+use Rattle.py_expressions.specs.Concrete.{Spot}
+use Rattle.py_expressions.specs.Tokens.{token, word}
+use Rattle.py_expressions.specs.Reader.{read_name}
+use Rattle.py_expressions.specs.Parsed.{Production, IsDeep, Only, Finds, Begins, BeginsWithin, Refused, one_name}
+use Rattle.py_expressions.proofs.Stops.{spot_at}
+use Rattle.py_expressions.proofs.ClosedParts.{not_deep}
+use Rattle.py_expressions.proofs.Refusals.{begins_so, begins_new}
 use Rattle.py_grammar.proofs.LineFirsts.{same_first}
 
 -- a name with these bytes, where any is read

@@ -7,34 +7,36 @@ use Rattle.py_lines.specs.declared.parts.TokenKind.TheVariants.{Keyword, Sign}
 use Rattle.py_tree.specs.declared.expr.Target.{Target as TargetRead}
 use Rattle.py_tree.specs.Erasure.{target_of}
 use Rattle.py_grammar.specs.declared.context.Limit.{Limit}
-use Rattle.py_grammar.specs.declared.fault.Fault.{Fault}
-use Rattle.py_grammar.specs.declared.fault.Fault.TheVariants.{Unexpected, TooDeep, TooMany, Memory}
-use Rattle.py_grammar.specs.declared.fault.Stop.{Stop}
-use Rattle.py_grammar.specs.declared.fault.Stop.TheVariants.{Here, End}
+use Rattle.py_expressions.specs.declared.fault.Fault.{Fault}
+use Rattle.py_expressions.specs.declared.fault.Fault.TheVariants.{Unexpected, TooDeep, TooMany, Memory}
+use Rattle.py_expressions.specs.declared.fault.Stop.{Stop}
+use Rattle.py_expressions.specs.declared.fault.Stop.TheVariants.{Here, End}
 use Rattle.py_grammar.specs.declared.head.What.TheVariants.{For}
-use Rattle.py_grammar.specs.declared.part.Part.{Part}
-use Rattle.py_grammar.specs.Concrete.{Spot, Sum, Exprs, one_expr}
-use Rattle.py_grammar.specs.Tokens.{token, sum_tokens, exprs_tokens}
-use Rattle.py_grammar.specs.Depth.{target_depth, exprs_depth}
-use Rattle.py_grammar.specs.Lies.{target_lies, exprs_lies, simple_lies}
-use Rattle.py_grammar.specs.Written.{Simple, OneTarget, Target, named}
+use Rattle.py_expressions.specs.declared.part.Part.{Part}
+use Rattle.py_expressions.specs.Concrete.{Spot, Sum, Exprs, one_expr}
+use Rattle.py_expressions.specs.Tokens.{token, sum_tokens, exprs_tokens}
+use Rattle.py_grammar.specs.StatementDepth.{target_depth}
+use Rattle.py_expressions.specs.Depth.{exprs_depth}
+use Rattle.py_grammar.specs.StatementLies.{target_lies, simple_lies}
+use Rattle.py_expressions.specs.Lies.{exprs_lies, nowhere}
+use Rattle.py_grammar.specs.Written.{Simple}
+use Rattle.py_expressions.specs.Targets.{OneTarget, Target, named}
 use Rattle.py_grammar.specs.StatementTokens.{one_target_tokens, target_tokens}
 use Rattle.py_grammar.specs.StatementTrees.{target_tree}
 use Rattle.py_grammar.specs.LineReader.{Head, for_head, head_tokens, colon_tokens, then_read, read_colon, read_head, read_target}
-use Rattle.py_grammar.specs.Reader.{read_keyword, read_exprs}
-use Rattle.py_grammar.specs.Parsed.{IsDeep, Refused, FoundRow, Taken, one_keyword, exprs_part}
-use Rattle.py_grammar.specs.ParsedRows.{first_token, IsRead}
+use Rattle.py_expressions.specs.Reader.{read_keyword, read_exprs}
+use Rattle.py_expressions.specs.Parsed.{IsDeep, Refused, FoundRow, Taken, one_keyword, exprs_part}
+use Rattle.py_expressions.specs.ParsedRows.{first_token, IsRead}
 use Rattle.py_grammar.specs.ParsedHead.{Took, target_part, Context, word_may, head_lies, behind_lies, IsAmissHead, BeginsHead, DeepHead, passed_tokens, BeginsTargets, FirstDeepTargets, GoesOnLine, UnreadTargets, UnreadLine, IsAheadOnLine, ShownBy, EndedBy, HeadRefused, OpeningFound, OpeningRefused, EndsHead}
 use Rattle.py_grammar.specs.ParsedNames.{Followed, followed_tokens, GoesOnTargets, IsAheadOfTargets, TargetsRefused, TargetsEnd, TargetFound}
-use Rattle.py_grammar.proofs.Stops.{some_spot, spot_at}
-use Rattle.py_grammar.specs.Lies.{nowhere}
-use Rattle.py_grammar.proofs.Lying.{exprs_low}
+use Rattle.py_expressions.proofs.Stops.{some_spot, spot_at}
+use Rattle.py_expressions.proofs.Lying.{exprs_low}
 use Rattle.py_grammar.proofs.LyingLines.{target_low}
-use Rattle.py_grammar.proofs.SimpleReading.{target_expr}
-use Rattle.py_grammar.proofs.Refusals.{alone_elsewhere, deep_beside_left, deep_beside_right}
-use Rattle.py_grammar.proofs.RowParts.{more_steps}
+use Rattle.py_expressions.proofs.TargetReads.{target_expr}
+use Rattle.py_expressions.proofs.Refusals.{alone_elsewhere, deep_beside_left, deep_beside_right}
+use Rattle.py_expressions.proofs.RowParts.{more_steps}
 use Rattle.py_grammar.proofs.SimpleParts.{none_deeper}
-use Rattle.py_grammar.proofs.ClosedParts.{not_deep}
+use Rattle.py_expressions.proofs.ClosedParts.{not_deep}
 use Rattle.py_grammar.proofs.LineFirsts.{same_behind, both_true}
 use Rattle.py_grammar.proofs.NoDel.{has_del, without, no_del_front, del_absent, no_del_one_target, no_del_sum}
 use Rattle.py_grammar.proofs.Unread.{PassesFor, unread_clear}
@@ -251,7 +253,7 @@ for_items_refused c tree before middle behind at stop found k is = record {
     items_deep why a b c deep = deep_beside_left why 100 (λ at. max (a at) (b at)) c (deep_beside_right why 100 a b deep)
 
 pub for_found : (c : Context) (target : TargetRead) (items : Part) (before middle behind after : List Token) (at : Pos) → TargetFound before (target_of target) middle → Taken (Keyword 22) middle at behind → FoundRow 100 behind items after
-    → OpeningFound c 17 before (For target items.expr) after
+    → OpeningFound c 17 before (For target items.expr.value) after
 for_found c target items before middle behind after at found k e spot =
     let t = found.took in
     let front : List Token = (token (Keyword 17) spot ∷ target_tokens t.written) ++ token (Keyword 22) k.spot ∷ [] in

@@ -1,5 +1,5 @@
 -- The target of a `for`: what is read of it, and how it is refused.
-use Rattle.std.proofs.Common.{◌≡◌, ◌⊎◌, inl, inr, ℕ, suc, ◌+◌, max, nat_lt, ◌≤◌, ◌<◌, Bool, true, false, ◌||◌, ◌==◌, List, [], ◌∷◌, ◌++◌, map, Option, Some, None, is_some, is_none, option_map, option_and_then, refl, ap, sym, ◌∙◌, arith, subst, append_assoc, append-nil, length, if◌then◌else◌}
+use Rattle.std.proofs.Common.{◌≡◌, ◌⊎◌, inl, inr, ℕ, suc, ◌+◌, max, nat_lt, ◌≤◌, ◌<◌, Bool, true, false, ◌||◌, ◌==◌, List, [], ◌∷◌, ◌++◌, map, Option, Some, None, is_some, option_map, option_and_then, refl, ap, sym, ◌∙◌, arith, subst, append_assoc, append-nil, length, if◌then◌else◌}
 use Rattle.std.proofs.Math.Nat.{le-max_left, le-max_right}
 use Rattle.std.proofs.lemmas.Option.{same_Some}
 use Rattle.std.proofs.lemmas.List.{append_cancel_left}
@@ -10,38 +10,39 @@ use Rattle.py_lines.specs.declared.parts.TokenKind.TheVariants.{Word, Keyword, N
 use Rattle.py_tree.specs.declared.expr.Expr.{Expr as ExprRead}
 use Rattle.py_tree.specs.Tree.{ExprTree, TargetTree, TargetsTree, many_target, more_targets, tuple_expr}
 use Rattle.py_tree.specs.Erasure.{expr_of, exprs_list}
-use Rattle.py_grammar.specs.declared.fault.Fault.{Fault}
-use Rattle.py_grammar.specs.declared.fault.Fault.TheVariants.{Unexpected, TooDeep, TooMany, Memory}
-use Rattle.py_grammar.specs.declared.fault.Stop.{Stop}
-use Rattle.py_grammar.specs.declared.fault.Stop.TheVariants.{Here, End}
-use Rattle.py_grammar.specs.declared.part.Part.{Part}
-use Rattle.py_grammar.specs.declared.rows.Row.{Row}
-use Rattle.py_grammar.specs.Concrete.{Spot, Sum}
-use Rattle.py_grammar.specs.Tokens.{token, sum_tokens}
-use Rattle.py_grammar.specs.Trees.{sum_tree}
-use Rattle.py_grammar.specs.Depth.{one_target_depth, target_rest_depth}
-use Rattle.py_grammar.specs.Lies.{begins, sum_lies, one_target_lies, target_rest_lies, target_lies, one_target_deepest}
-use Rattle.py_grammar.proofs.Lying.{above_left, over_least, over_right, sum_low}
+use Rattle.py_expressions.specs.declared.fault.Fault.{Fault}
+use Rattle.py_expressions.specs.declared.fault.Fault.TheVariants.{Unexpected, TooDeep, TooMany, Memory}
+use Rattle.py_expressions.specs.declared.fault.Stop.{Stop}
+use Rattle.py_expressions.specs.declared.fault.Stop.TheVariants.{Here, End}
+use Rattle.py_expressions.specs.declared.part.Part.{Part}
+use Rattle.py_expressions.specs.declared.rows.Row.{Row}
+use Rattle.py_expressions.specs.Concrete.{Spot, Sum}
+use Rattle.py_expressions.specs.Tokens.{token, sum_tokens}
+use Rattle.py_expressions.specs.Trees.{sum_tree}
+use Rattle.py_grammar.specs.StatementDepth.{one_target_depth, target_rest_depth}
+use Rattle.py_expressions.specs.Lies.{begins, sum_lies}
+use Rattle.py_grammar.specs.StatementLies.{one_target_lies, target_rest_lies, target_lies, one_target_deepest}
+use Rattle.py_expressions.proofs.Lying.{above_left, over_least, over_right, sum_low}
 use Rattle.py_grammar.proofs.LyingLines.{one_target_low}
-use Rattle.py_grammar.specs.Reader.{Read, go_on, next_level, kind_level, starts, begins_expr, is_sign, read_sign, read_sum}
-use Rattle.py_grammar.specs.Written.{OneTarget, named, item, field, TargetRest, end_rest_target, last_target, more_target, Target, one_target, several_targets}
+use Rattle.py_expressions.specs.Reader.{Read, go_on, next_level, kind_level, starts, begins_expr, is_sign, read_sign, read_sum}
+use Rattle.py_expressions.specs.Targets.{OneTarget, named, item, field, TargetRest, end_rest_target, last_target, more_target, Target, one_target, several_targets, expr_target}
 use Rattle.py_grammar.specs.StatementTokens.{one_target_tokens, target_rest_tokens, target_tokens}
 use Rattle.py_grammar.specs.StatementTrees.{one_target_tree, target_rest_tree, target_tree}
-use Rattle.py_grammar.specs.StatementReader.{expr_target}
 use Rattle.py_grammar.specs.LineReader.{read_one_target, read_target_rest, target_rest_after, read_target}
-use Rattle.py_grammar.specs.Parsed.{Production, sum_part, is_form, ShowsAt, IsDeep, Only, Finds, BeginsWithin, IsFirstDeep, GoesDeep, Shown, Refused, Found, Taken, is_sign_next, IsAtFirst, IsTooDeep}
-use Rattle.py_grammar.specs.ParsedRows.{first_token}
+use Rattle.py_expressions.specs.Parsed.{Production, sum_part, is_form, ShowsAt, IsDeep, Only, Finds, BeginsWithin, IsFirstDeep, GoesDeep, Shown, Refused, Found, Taken, is_sign_next, IsAtFirst, IsTooDeep}
+use Rattle.py_expressions.specs.ParsedRows.{first_token}
 use Rattle.py_grammar.specs.ParsedSimple.{target_form, targets_form, all_target_form}
 use Rattle.py_grammar.specs.ParsedHead.{Took, target_part, passed_tokens, passed_lies, room_behind, BeginsTargets, FirstDeepTargets, UnreadTargets, ShownBy, EndedBy}
 use Rattle.py_grammar.specs.ParsedNames.{target_rest_part, Followed, followed_tokens, GoesOnTargets, IsAheadOfTargets, TargetsRefused, TargetFound, TargetsEnd, ItemFound, WrongItem, ItemRefused, FoundTargets}
-use Rattle.py_grammar.proofs.Leading.{Reads}
-use Rattle.py_grammar.proofs.Reading.{if_false}
-use Rattle.py_grammar.proofs.Refusals.{begins_whole, alone_elsewhere, deeper, max_below}
-use Rattle.py_grammar.proofs.Deepest.{apart_front, apart_there}
-use Rattle.py_grammar.proofs.Stops.{spot_at, shows_on_line}
+use Rattle.py_expressions.proofs.Leading.{Reads}
+use Rattle.py_expressions.proofs.Reading.{if_false}
+use Rattle.py_expressions.proofs.Refusals.{begins_whole, alone_elsewhere, deeper, max_below}
+use Rattle.py_expressions.proofs.Deepest.{apart_front, apart_there}
+use Rattle.py_expressions.proofs.Stops.{spot_at}
+use Rattle.py_grammar.proofs.ShownLines.{shows_on_line}
 use Rattle.py_grammar.proofs.TargetForms.{target_spelled, target_deep, target_deepest_so, one_target_reached, one_target_is_first, target_tree_is}
-use Rattle.py_grammar.proofs.PrimParts.{go_on_once}
-use Rattle.py_grammar.proofs.RowParts.{more_steps, sign_first, no_start}
+use Rattle.py_expressions.proofs.PrimParts.{go_on_once}
+use Rattle.py_expressions.proofs.RowParts.{more_steps, sign_first, no_start}
 use Rattle.py_grammar.proofs.HeadReading.{ReadsTargets, one_target_reads, target_rest_reads, begins_target}
 use Rattle.py_grammar.proofs.TargetSums.{lift, target_sum, sum_spells, sum_lies_so, sum_form, sum_reads, same_sum, same_target, Unread, unread_sum, unread_wrong, unread_one, unread_passed, unread_full, ends_one, ends_none}
 use Rattle.py_grammar.proofs.HeadParts.{first_same, first_shown, level_same, starts_same}
@@ -52,7 +53,7 @@ a_form : (o : Option OneTarget) → is_form o ≡ true → (t : OneTarget) × (o
 a_form None is = absurd (let no : false ≡ true = is in cc)
 a_form (Some t) is = (t, refl)
 
-pub item_found : (room : ℕ) (before after : List Token) (part : Part) → Found sum_part sum_tree 3 room before part after → is_none part.wrong ≡ true → ItemFound room before part after
+pub item_found : (room : ℕ) (before after : List Token) (part : Part) → Found sum_part sum_tree 3 room before part after → part.is_target ≡ true → ItemFound room before part after
 item_found room before after part f fine =
     let t = a_form (expr_target (lift f.written)) (sym f.form_is ∙ fine) in
     record {
@@ -68,7 +69,7 @@ item_found room before after part f fine =
 pub item_unread : (room : ℕ) (before : List Token) (stop : Stop) → Refused sum_part room before stop → ItemRefused room before stop
 item_unread room before stop is = record { why = inl is }
 
-pub item_wrong : (room : ℕ) (before after : List Token) (part : Part) (stop : Stop) → Found sum_part sum_tree 3 room before part after → is_none part.wrong ≡ false → IsAtFirst after stop → ItemRefused room before stop
+pub item_wrong : (room : ℕ) (before after : List Token) (part : Part) (stop : Stop) → Found sum_part sum_tree 3 room before part after → part.is_target ≡ false → IsAtFirst after stop → ItemRefused room before stop
 item_wrong room before after part stop f other first = record { why = inr (record { part = part; after = after; stop_is = first; found = f; form = other }) }
 
 -- ---- how a target is refused where one stands
@@ -181,7 +182,7 @@ module _ {A : Type 0} (p : Production A) (room : ℕ) (front rest before : List 
     none = λ w same. found_deep End room (p.lies w.part) rest is.1 (there w rest (same ∙ before_is) refl);
   }
 
-  wrong_at : (part : Part) (after : List Token) → (f : Found sum_part sum_tree 3 room rest part after) → is_none part.wrong ≡ false → (ts : List Token) (stop : Stop) → after ≡ ts → IsAtFirst ts stop → TargetsRefused p room before stop
+  wrong_at : (part : Part) (after : List Token) → (f : Found sum_part sum_tree 3 room rest part after) → part.is_target ≡ false → (ts : List Token) (stop : Stop) → after ≡ ts → IsAtFirst ts stop → TargetsRefused p room before stop
   wrong_at part after f other [] (Here fault) is first = absurd (let no : Here fault ≡ End = first in cc)
   wrong_at part after f other [] End is first = record {
     begun = subst (BeginsTargets room) (sym (before_is ∙ ap (λ ts. front ++ ts) (f.before_is ∙ ap (λ ts. sum_tokens f.written ++ ts) is ∙ append-nil (sum_tokens f.written))))
@@ -555,7 +556,7 @@ one_within (p ∷ passed) t comma room at low one = max_below _ _ room (left_bel
     right_below a b c low = omega (arith, low)
 
 pub targets_next : (room : ℕ) (before after middle behind : List Token) (at : Pos) (old row row_2 : Row) (part : Part) → TargetsGo room before old after row → ItemFound room after part middle
-    → Taken (Sign 6) middle at behind → row_2.list.items ≡ row.list.items ++ part.expr ∷ [] → row_2.height ≡ max row.height part.height → TargetsGo room before old behind row_2
+    → Taken (Sign 6) middle at behind → row_2.list.items ≡ row.list.items ++ part.expr.value ∷ [] → row_2.height ≡ max row.height part.height → TargetsGo room before old behind row_2
 targets_next room before after middle behind at old row row_2 part g f k items_are higher = record {
   put = λ r. g.put (more_target f.target k.spot r);
   front = g.front ++ (one_target_tokens f.target ++ token (Sign 6) k.spot ∷ []);
@@ -564,10 +565,10 @@ targets_next room before after middle behind at old row row_2 part g f k items_a
   passed = g.passed ++ (f.target, k.spot) ∷ [];
   passed_is = one_passed g.passed f.target k.spot ∙ ap (λ ts. ts ++ (one_target_tokens f.target ++ token (Sign 6) k.spot ∷ [])) g.passed_is;
   passed_low = λ at. one_within g.passed f.target k.spot room at (g.passed_low at) (target_within f.target room (item_fits f) at);
-  trees = g.trees ++ expr_of part.expr ∷ [];
-  row_is = pushed_trees row.list.items row_2.list.items part.expr (map expr_of old.list.items) g.trees items_are g.row_is;
-  forms = λ es r is. ap (λ xs. targets_form (exprs_list xs)) (append_assoc g.trees (expr_of part.expr ∷ []) es)
-      ∙ g.forms (expr_of part.expr ∷ es) (more_target f.target k.spot r) (one_form (expr_of part.expr) es (one_target_tree f.target) (target_rest_tree r) f.tree_is is);
+  trees = g.trees ++ expr_of part.expr.value ∷ [];
+  row_is = pushed_trees row.list.items row_2.list.items part.expr.value (map expr_of old.list.items) g.trees items_are g.row_is;
+  forms = λ es r is. ap (λ xs. targets_form (exprs_list xs)) (append_assoc g.trees (expr_of part.expr.value ∷ []) es)
+      ∙ g.forms (expr_of part.expr.value ∷ es) (more_target f.target k.spot r) (one_form (expr_of part.expr.value) es (one_target_tree f.target) (target_rest_tree r) f.tree_is is);
   depth = max g.depth (one_target_depth f.target);
   height_is = higher ∙ ap (λ h. max h part.height) g.height_is ∙ ap (λ h. max (max old.height g.depth) h) f.height_is ∙ max_assoc old.height g.depth (one_target_depth f.target);
   depth_is = λ r. g.depth_is (more_target f.target k.spot r) ∙ sym (max_assoc g.depth (one_target_depth f.target) (target_rest_depth r));
@@ -614,13 +615,13 @@ last_step t m more is beyond other =
     ∙ if_false (next_level more == 8) _ _ other
 
 pub targets_last : (room : ℕ) (before after middle : List Token) (old row row_2 : Row) (part : Part) → TargetsGo room before old after row → ItemFound room after part middle
-    → is_sign_next 6 middle ≡ false → row_2.list.items ≡ row.list.items ++ part.expr ∷ [] → row_2.height ≡ max row.height part.height → FoundTargets room before old row_2 middle
+    → is_sign_next 6 middle ≡ false → row_2.list.items ≡ row.list.items ++ part.expr.value ∷ [] → row_2.height ≡ max row.height part.height → FoundTargets room before old row_2 middle
 targets_last room before after middle old row row_2 part g f other items_are higher = record {
   written = g.put (last_target f.target);
   before_is = g.before_is ∙ ap (λ ts. g.front ++ ts) f.before_is ∙ sym (append_assoc g.front (one_target_tokens f.target) middle) ∙ ap (λ ts. ts ++ middle) (sym (g.tokens_are (last_target f.target)));
-  trees = g.trees ++ expr_of part.expr ∷ [];
-  row_is = pushed_trees row.list.items row_2.list.items part.expr (map expr_of old.list.items) g.trees items_are g.row_is;
-  trees_are = g.forms (expr_of part.expr ∷ []) (last_target f.target) (one_form (expr_of part.expr) [] (one_target_tree f.target) (target_rest_tree end_rest_target) f.tree_is refl);
+  trees = g.trees ++ expr_of part.expr.value ∷ [];
+  row_is = pushed_trees row.list.items row_2.list.items part.expr.value (map expr_of old.list.items) g.trees items_are g.row_is;
+  trees_are = g.forms (expr_of part.expr.value ∷ []) (last_target f.target) (one_form (expr_of part.expr.value) [] (one_target_tree f.target) (target_rest_tree end_rest_target) f.tree_is refl);
   height_is = higher ∙ ap (λ h. max h part.height) g.height_is ∙ ap (λ h. max (max old.height g.depth) h) f.height_is ∙ max_assoc old.height g.depth (one_target_depth f.target) ∙ ap (max old.height) (sym (g.depth_is (last_target f.target)));
   fits = below_both row_2.height row.height part.height room higher g.fits f.fits;
   is_read = record {
@@ -745,7 +746,7 @@ target_is t n more is beyond other =
     then go_on (read_sign 6 rest) (λ comma more. go_on (read_target_rest (n + is.steps) more) (λ found left. Some (several_targets t comma found, left))) else Some (one_target t, rest))) (is.reads n more beyond)
     ∙ if_false (next_level more == 8) _ _ other
 
-pub one_found : (before after : List Token) (first : Part) (tree : TargetTree) → ItemFound 100 before first after → is_sign_next 6 after ≡ false → target_form (expr_of first.expr) ≡ Some tree → TargetFound before tree after
+pub one_found : (before after : List Token) (first : Part) (tree : TargetTree) → ItemFound 100 before first after → is_sign_next 6 after ≡ false → target_form (expr_of first.expr.value) ≡ Some tree → TargetFound before tree after
 one_found before after first tree f other built = record { took = took; ends = ends }
   where
     took : Took target_part target_tree before tree after
@@ -765,7 +766,7 @@ one_found before after first tree f other built = record { took = took; ends = e
       none = λ t more first_is passed s is. ends_one f.target t more (let level = level_same (t ∷ more) after first_is in let high = f.beyond in omega (arith, level, high)) (sign_first 6 after (t ∷ more) (first_same (t ∷ more) after first_is) ∙ other) passed s is;
     }
 
-pub one_is_target : (room : ℕ) (before after : List Token) (first : Part) → ItemFound room before first after → is_some (target_form (expr_of first.expr)) ≡ true
+pub one_is_target : (room : ℕ) (before after : List Token) (first : Part) → ItemFound room before first after → is_some (target_form (expr_of first.expr.value)) ≡ true
 one_is_target room before after first f = ap is_some f.tree_is
 
 several_is : (t : OneTarget) (comma : Spot) (r : TargetRest) (n steps : ℕ) (more : List Token) → (is : Reads read_one_target 1 (one_target_tokens t) t) → ((n : ℕ) → read_target_rest (n + steps) (target_rest_tokens r ++ more) ≡ Some (r, more))
@@ -785,14 +786,14 @@ several_is t comma r n steps more is reads =
 tuple_form : (at : Pos) (e : ExprTree) (es : List ExprTree) (t : TargetTree) (ts : TargetsTree) → target_form e ≡ Some t → targets_form (exprs_list es) ≡ Some ts → all_target_form (tuple_expr at (exprs_list (e ∷ es))) ≡ Some (many_target (more_targets t ts))
 tuple_form at e es t ts one rest = ap (option_map many_target) (one_form e es t ts one rest)
 
-pub all_form : (before middle behind after : List Token) (at : Pos) (first part : Part) (row more : Row) → (f : ItemFound 100 before first middle) → row.list.items ≡ first.expr ∷ [] → (r : FoundTargets 99 behind row more after)
-    → expr_of part.expr ≡ tuple_expr at (exprs_list (map expr_of more.list.items)) → all_target_form (expr_of part.expr) ≡ Some (many_target (more_targets (one_target_tree f.target) (target_rest_tree r.written)))
+pub all_form : (before middle behind after : List Token) (at : Pos) (first part : Part) (row more : Row) → (f : ItemFound 100 before first middle) → row.list.items ≡ first.expr.value ∷ [] → (r : FoundTargets 99 behind row more after)
+    → expr_of part.expr.value ≡ tuple_expr at (exprs_list (map expr_of more.list.items)) → all_target_form (expr_of part.expr.value) ≡ Some (many_target (more_targets (one_target_tree f.target) (target_rest_tree r.written)))
 all_form before middle behind after at first part row more f one r tree =
     ap all_target_form tree ∙ ap (λ es. all_target_form (tuple_expr at (exprs_list es))) (r.row_is ∙ ap (λ xs. map expr_of xs ++ r.trees) one)
-    ∙ tuple_form at (expr_of first.expr) r.trees (one_target_tree f.target) (target_rest_tree r.written) f.tree_is r.trees_are
+    ∙ tuple_form at (expr_of first.expr.value) r.trees (one_target_tree f.target) (target_rest_tree r.written) f.tree_is r.trees_are
 
-pub several_found : (before middle behind after : List Token) (at place : Pos) (first part : Part) (row more : Row) (tree : TargetTree) → ItemFound 100 before first middle → Taken (Sign 6) middle at behind → first.height < 100 → row.list.items ≡ first.expr ∷ []
-    → row.height ≡ first.height → FoundTargets 99 behind row more after → expr_of part.expr ≡ tuple_expr place (exprs_list (map expr_of more.list.items)) → all_target_form (expr_of part.expr) ≡ Some tree → TargetFound before tree after
+pub several_found : (before middle behind after : List Token) (at place : Pos) (first part : Part) (row more : Row) (tree : TargetTree) → ItemFound 100 before first middle → Taken (Sign 6) middle at behind → first.height < 100 → row.list.items ≡ first.expr.value ∷ []
+    → row.height ≡ first.height → FoundTargets 99 behind row more after → expr_of part.expr.value ≡ tuple_expr place (exprs_list (map expr_of more.list.items)) → all_target_form (expr_of part.expr.value) ≡ Some tree → TargetFound before tree after
 several_found before middle behind after at place first part row more tree f k less one height r tuple built = record { took = took; ends = ends }
   where
     rest_low : (a b c : ℕ) → a ≡ max b c → a ≤ 99 → c ≤ 99
@@ -837,8 +838,8 @@ item_shorter room before middle behind at part f k =
 
 -- ---- the row behind the first target
 
-pub row_is_first : (empty row : Row) (first : Part) → empty.list.items ≡ [] → row.list.items ≡ empty.list.items ++ first.expr ∷ [] → row.list.items ≡ first.expr ∷ []
-row_is_first empty row first none_there list_is = list_is ∙ ap (λ xs. xs ++ first.expr ∷ []) none_there
+pub row_is_first : (empty row : Row) (first : Part) → empty.list.items ≡ [] → row.list.items ≡ empty.list.items ++ first.expr.value ∷ [] → row.list.items ≡ first.expr.value ∷ []
+row_is_first empty row first none_there list_is = list_is ∙ ap (λ xs. xs ++ first.expr.value ∷ []) none_there
 
 pub row_height : (empty row : Row) (first : Part) → empty.height ≡ 0 → row.height ≡ max empty.height first.height → row.height ≡ first.height
 row_height empty row first low height_is = omega (arith, low, height_is)

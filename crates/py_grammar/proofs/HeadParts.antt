@@ -5,28 +5,29 @@ use Rattle.prov_base.specs.declared.place.Pos.{Pos}
 use Rattle.py_lines.specs.declared.parts.Token.{Token}
 use Rattle.py_lines.specs.declared.parts.TokenKind.TheVariants.{Keyword, Sign}
 use Rattle.py_grammar.specs.declared.context.Limit.{Limit}
-use Rattle.py_grammar.specs.declared.fault.Fault.{Fault}
-use Rattle.py_grammar.specs.declared.fault.Fault.TheVariants.{Unexpected, TooDeep, TooMany, Memory}
-use Rattle.py_grammar.specs.declared.fault.Stop.{Stop}
-use Rattle.py_grammar.specs.declared.fault.Stop.TheVariants.{Here, End}
-use Rattle.py_grammar.specs.declared.part.Part.{Part}
-use Rattle.py_grammar.specs.Concrete.{Spot}
-use Rattle.py_grammar.specs.Tokens.{token}
-use Rattle.py_grammar.specs.Trees.{expr_tree}
+use Rattle.py_expressions.specs.declared.fault.Fault.{Fault}
+use Rattle.py_expressions.specs.declared.fault.Fault.TheVariants.{Unexpected, TooDeep, TooMany, Memory}
+use Rattle.py_expressions.specs.declared.fault.Stop.{Stop}
+use Rattle.py_expressions.specs.declared.fault.Stop.TheVariants.{Here, End}
+use Rattle.py_expressions.specs.declared.part.Part.{Part}
+use Rattle.py_expressions.specs.Concrete.{Spot}
+use Rattle.py_expressions.specs.Tokens.{token}
+use Rattle.py_expressions.specs.Trees.{expr_tree}
 use Rattle.py_grammar.specs.Written.{Simple}
 use Rattle.py_grammar.specs.LineReader.{Head, colon_tokens, head_tokens, then_read, read_colon, read_head}
-use Rattle.py_grammar.specs.Reader.{Read, next_level, starts, is_keyword, is_sign}
-use Rattle.py_grammar.specs.Parsed.{Production, ShowsAt, IsDeep, Only, Finds, Begins, BeginsWithin, IsFirstDeep, GoesDeep, Shown, Refused, Found, FoundRow, one_keyword, one_sign, one_name, expr_part, exprs_part}
-use Rattle.py_grammar.specs.ParsedRows.{first_token, IsRead}
+use Rattle.py_expressions.specs.Reader.{Read, next_level, starts, is_keyword, is_sign}
+use Rattle.py_expressions.specs.Parsed.{Production, ShowsAt, IsDeep, Only, Finds, Begins, BeginsWithin, IsFirstDeep, GoesDeep, Shown, Refused, Found, FoundRow, one_keyword, one_sign, one_name, expr_part, exprs_part}
+use Rattle.py_expressions.specs.ParsedRows.{first_token, IsRead}
 use Rattle.py_grammar.specs.ParsedHead.{Context, head_stands, head_depth, head_lies, behind_in, IsPast, IsAmissHead, ShowsOnLine, BeginsHead, DeepHead, IsFreeBehind, GoesOnLine, IsAheadOnLine, ShownBy, EndedBy, EndsHead, HeadRefused}
-use Rattle.py_grammar.proofs.Reading.{expr_reads}
-use Rattle.py_grammar.proofs.RowReads.{row_reads}
-use Rattle.py_grammar.proofs.Refusals.{begins_so, first_of, next_level_same}
-use Rattle.py_grammar.specs.Lies.{nowhere}
-use Rattle.py_grammar.proofs.Deepest.{apart_there}
+use Rattle.py_expressions.proofs.Reading.{expr_reads}
+use Rattle.py_expressions.proofs.RowReads.{row_reads}
+use Rattle.py_expressions.proofs.Refusals.{begins_so, first_of, next_level_same}
+use Rattle.py_expressions.specs.Lies.{nowhere}
+use Rattle.py_expressions.proofs.Deepest.{apart_there}
 use Rattle.py_grammar.proofs.LyingLines.{head_low}
 use Rattle.py_grammar.proofs.HeadReading.{head_reads}
-use Rattle.py_grammar.proofs.Stops.{shows_on_line, some_spot}
+use Rattle.py_grammar.proofs.ShownLines.{shows_on_line}
+use Rattle.py_expressions.proofs.Stops.{some_spot}
 use Rattle.py_grammar.proofs.NoDel.{has_del, no_del_front, del_absent, is_simple_head, no_del_head}
 use Rattle.py_grammar.proofs.Unread.{PassesFor, other_word, unread_clear}
 use Rattle.py_grammar.proofs.BehindColon.{StaysAhead, stays, stays_front}

@@ -4,16 +4,17 @@ use Rattle.std.specs.Prelude.{◌==◌}
 use Rattle.std.proofs.lemmas.Bool.{leb-false}
 use Rattle.py_lines.specs.declared.parts.Token.{Token}
 use Rattle.py_lines.specs.declared.parts.TokenKind.TheVariants.{Keyword, Sign}
-use Rattle.py_grammar.specs.Concrete.{Spot, Expr, Prim, plain_prim, part, attribute, name, one_index, Exprs}
-use Rattle.py_grammar.specs.Tokens.{token, word, expr_tokens, exprs_tokens, prim_tokens}
-use Rattle.py_grammar.specs.Reader.{go_on, spot_of, start_class, starts, next_level, is_keyword, is_sign, read_sign, read_keyword, read_expr, read_exprs, read_prim, begins_expr}
-use Rattle.py_grammar.specs.StatementReader.{prim_target, read_simple}
+use Rattle.py_expressions.specs.Concrete.{Spot, Expr, Prim, plain_prim, part, attribute, name, one_index, Exprs}
+use Rattle.py_expressions.specs.Tokens.{token, word, expr_tokens, exprs_tokens, prim_tokens}
+use Rattle.py_expressions.specs.Reader.{go_on, spot_of, start_class, starts, next_level, is_keyword, is_sign, read_sign, read_keyword, read_expr, read_exprs, read_prim, begins_expr, begins_name}
+use Rattle.py_expressions.specs.Targets.{prim_target, OneTarget, named, item, field, TargetRest, end_rest_target, last_target, more_target, Target, one_target, several_targets}
+use Rattle.py_grammar.specs.StatementReader.{read_simple}
 use Rattle.py_grammar.specs.StatementTokens.{one_target_tokens, target_rest_tokens, target_tokens, simple_tokens, names_tokens, params_tokens, naming_tokens, kind_tokens, base_tokens}
-use Rattle.py_grammar.specs.LineReader.{Head, simple_head, if_head, elif_head, else_head, while_head, for_head, try_head, except_head, with_head, def_head, class_head, global_head, behind_tokens, colon_tokens, head_tokens, read_behind, read_colon, then_read, read_one_target, read_target_rest, target_rest_after, read_target, begins_name, read_names, names_after, params_after, read_params, read_naming, read_kind, read_base, global_end, read_head}
-use Rattle.py_grammar.specs.Written.{OneTarget, named, item, field, TargetRest, end_rest_target, last_target, more_target, Target, one_target, several_targets, Simple, expression, assign, augmented, add_to, take_from, multiply_by, divide_by, leave_of, del, pass, break, continue, return, return_value, raise, raise_value, assert, assert_message, import_module, Names, last_name, more_names, Params, no_params, params, params_comma, Naming, no_naming, naming, Kind, every_kind, one_kind, Base, no_base, empty_base, base}
-use Rattle.py_grammar.proofs.Leading.{Reads}
-use Rattle.py_grammar.proofs.Firsts.{IsStart, is_above, prim_starts, expr_starts}
-use Rattle.py_grammar.proofs.Reading.{expr_reads, exprs_read, prim_leads, prim_stops, if_false, if_true}
+use Rattle.py_grammar.specs.LineReader.{Head, simple_head, if_head, elif_head, else_head, while_head, for_head, try_head, except_head, with_head, def_head, class_head, global_head, behind_tokens, colon_tokens, head_tokens, read_behind, read_colon, then_read, read_one_target, read_target_rest, target_rest_after, read_target, read_names, names_after, params_after, read_params, read_naming, read_kind, read_base, global_end, read_head}
+use Rattle.py_grammar.specs.Written.{Simple, expression, assign, augmented, add_to, take_from, multiply_by, divide_by, leave_of, del, pass, break, continue, return, return_value, raise, raise_value, assert, assert_message, import_module, Names, last_name, more_names, Params, no_params, params, params_comma, Naming, no_naming, naming, Kind, every_kind, one_kind, Base, no_base, empty_base, base}
+use Rattle.py_expressions.proofs.Leading.{Reads}
+use Rattle.py_expressions.proofs.Firsts.{IsStart, is_above, prim_starts, expr_starts}
+use Rattle.py_expressions.proofs.Reading.{expr_reads, exprs_read, prim_leads, prim_stops, if_false, if_true}
 use Rattle.py_grammar.proofs.SimpleReading.{simple_reads, start_of_exprs, kw_class}
 
 more_steps : {A : Type 0} (f : ℕ → A) (m n : ℕ) → m ≡ n → f m ≡ f n

@@ -5,15 +5,16 @@ use Rattle.std.proofs.lemmas.Bool.{eqb-true, leb-false}
 use Rattle.py_lines.specs.declared.parts.Token.{Token}
 use Rattle.py_lines.specs.declared.parts.TokenKind.{TokenKind}
 use Rattle.py_lines.specs.declared.parts.TokenKind.TheVariants.{Word, Keyword, Number, Text, Sign}
-use Rattle.py_grammar.specs.Concrete.{Spot}
-use Rattle.py_grammar.specs.Tokens.{token, exprs_tokens}
-use Rattle.py_grammar.specs.Written.{Simple, expression, assign, augmented, add_to, take_from, multiply_by, divide_by, leave_of, del, pass, break, continue, return, return_value, raise, raise_value, assert, assert_message, import_module, one_target}
+use Rattle.py_expressions.specs.Concrete.{Spot}
+use Rattle.py_expressions.specs.Tokens.{token, exprs_tokens}
+use Rattle.py_grammar.specs.Written.{Simple, expression, assign, augmented, add_to, take_from, multiply_by, divide_by, leave_of, del, pass, break, continue, return, return_value, raise, raise_value, assert, assert_message, import_module}
+use Rattle.py_expressions.specs.Targets.{one_target}
 use Rattle.py_grammar.specs.StatementTokens.{simple_tokens, target_tokens, one_target_tokens}
 use Rattle.py_grammar.specs.LineReader.{Head, simple_head, if_head, elif_head, else_head, while_head, for_head, try_head, except_head, with_head, def_head, class_head, global_head, head_tokens}
-use Rattle.py_grammar.specs.Reader.{start_class, starts}
+use Rattle.py_expressions.specs.Reader.{start_class, starts}
 use Rattle.py_grammar.specs.ParsedSimple.{is_word_kind}
 use Rattle.py_grammar.specs.ParsedHead.{Context, lacks_handler, word_may, kind_may, is_compound, is_compound_kind, head_stands}
-use Rattle.py_grammar.proofs.Firsts.{IsStart, is_above}
+use Rattle.py_expressions.proofs.Firsts.{IsStart, is_above}
 use Rattle.py_grammar.proofs.SimpleReading.{start_of_exprs}
 use Rattle.py_grammar.proofs.HeadReading.{target_begins}
 

@@ -10,23 +10,23 @@ use Rattle.py_tree.specs.declared.stmt.Globals.{Globals}
 use Rattle.py_grammar.specs.declared.context.Last.{Last}
 use Rattle.py_grammar.specs.declared.context.Last.TheVariants.{Nothing, Loop, If as AfterIf, Try as AfterTry, Handler, Every}
 use Rattle.py_grammar.specs.declared.context.Limit.{Limit}
-use Rattle.py_grammar.specs.declared.fault.Fault.{Fault}
-use Rattle.py_grammar.specs.declared.fault.Fault.TheVariants.{Unexpected, TooDeep, TooMany, Memory}
-use Rattle.py_grammar.specs.declared.fault.Stop.{Stop}
-use Rattle.py_grammar.specs.declared.fault.Stop.TheVariants.{Here, End}
+use Rattle.py_expressions.specs.declared.fault.Fault.{Fault}
+use Rattle.py_expressions.specs.declared.fault.Fault.TheVariants.{Unexpected, TooDeep, TooMany, Memory}
+use Rattle.py_expressions.specs.declared.fault.Stop.{Stop}
+use Rattle.py_expressions.specs.declared.fault.Stop.TheVariants.{Here, End}
 use Rattle.py_grammar.specs.declared.head.What.{What}
 use Rattle.py_grammar.specs.declared.head.What.TheVariants.{Simple as SimpleIs, Else, Try, Global}
 use Rattle.py_grammar.specs.declared.head.Behind.{Behind}
-use Rattle.py_grammar.specs.Concrete.{Spot}
-use Rattle.py_grammar.specs.Tokens.{token}
+use Rattle.py_expressions.specs.Concrete.{Spot}
+use Rattle.py_expressions.specs.Tokens.{token}
 use Rattle.py_grammar.specs.Written.{Simple, pass, every_kind}
 use Rattle.py_grammar.specs.StatementTokens.{simple_tokens}
 use Rattle.py_grammar.specs.WellPlaced.{Around, simple_stands}
 use Rattle.py_grammar.specs.LineReader.{Head, simple_head, else_head, try_head, except_head, global_head, head_tokens}
-use Rattle.py_grammar.specs.Lies.{simple_lies}
-use Rattle.py_grammar.specs.Parsed.{IsAtFirst, Taken, Refused, one_sign}
+use Rattle.py_grammar.specs.StatementLies.{simple_lies}
+use Rattle.py_expressions.specs.Parsed.{IsAtFirst, Taken, Refused, one_sign}
 use Rattle.py_grammar.specs.ParsedHead.{Context, lacks_handler, takes_handler, BeginsPlaced, DeepPlaced, kind_may, may_begin, is_compound_kind, begins_compound, PlacedFound, HeadFound, OpeningFound, OpeningRefused, BehindFound, BehindRefused, inner_around, is_compound, IsAmissPlaced, IsAmissHead, BeginsHead, DeepHead, GoesOnPlaced, IsAheadPlaced, GoesOnLine, IsAheadOnLine, ShownBy, EndedBy, PlacedRefused, HeadRefused, IsFirstRefused, GlobalFound, GlobalRefused, word_may, Misplaced, IsFreeBehind, EndsHead, head_lies, BeginsThere}
-use Rattle.py_grammar.proofs.Stops.{some_spot, spot_at}
+use Rattle.py_expressions.proofs.Stops.{some_spot, spot_at}
 use Rattle.py_grammar.proofs.HeadParts.{spelled_head, past_opening, is_free}
 use Rattle.py_grammar.proofs.Unread.{unread_at_first, unread_simple}
 use Rattle.py_grammar.proofs.ColonParts.{colon_refused, behind_refused, line_found}

@@ -1,12 +1,13 @@
 -- How deep the expressions of statements and lines lie that begin at a place: never deeper than they go.
 use Rattle.std.proofs.Common.{◌≤◌, Option, Some, None, arith}
 use Rattle.prov_base.specs.declared.place.Pos.{Pos}
-use Rattle.py_grammar.specs.Written.{OneTarget, named, item, field, TargetRest, end_rest_target, last_target, more_target, Target, one_target, several_targets, Simple, expression, assign, augmented, del, pass, break, continue, return, return_value, raise, raise_value, assert, assert_message, import_module, Kind, every_kind, one_kind, Base, no_base, empty_base, base}
-use Rattle.py_grammar.specs.Depth.{one_target_depth, target_rest_depth, target_depth, simple_depth, kind_depth}
-use Rattle.py_grammar.specs.Lies.{one_target_lies, target_rest_lies, target_lies, simple_lies, kind_lies, base_lies}
+use Rattle.py_expressions.specs.Targets.{OneTarget, named, item, field, TargetRest, end_rest_target, last_target, more_target, Target, one_target, several_targets}
+use Rattle.py_grammar.specs.Written.{Simple, expression, assign, augmented, del, pass, break, continue, return, return_value, raise, raise_value, assert, assert_message, import_module, Kind, every_kind, one_kind, Base, no_base, empty_base, base}
+use Rattle.py_grammar.specs.StatementDepth.{one_target_depth, target_rest_depth, target_depth, simple_depth, kind_depth}
+use Rattle.py_grammar.specs.StatementLies.{one_target_lies, target_rest_lies, target_lies, simple_lies, kind_lies, base_lies}
 use Rattle.py_grammar.specs.LineReader.{Head, simple_head, if_head, elif_head, else_head, while_head, for_head, try_head, except_head, with_head, def_head, class_head, global_head}
 use Rattle.py_grammar.specs.ParsedHead.{behind_depth, behind_lies, head_depth, head_lies}
-use Rattle.py_grammar.proofs.Lying.{over_low, both_low, expr_low, exprs_low, prim_low}
+use Rattle.py_expressions.proofs.Lying.{over_low, both_low, expr_low, exprs_low, prim_low}
 
 pub one_target_low : (t : OneTarget) (at : Pos) → one_target_lies t at ≤ one_target_depth t
 one_target_low (named spot bytes) at = over_low _ 0 0 (omega arith)

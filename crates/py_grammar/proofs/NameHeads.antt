@@ -8,27 +8,27 @@ use Rattle.py_tree.specs.declared.expr.Expr.{Expr as ExprRead}
 use Rattle.py_tree.specs.declared.stmt.Params.{Params as ParamsRead}
 use Rattle.py_tree.specs.Erasure.{expr_of}
 use Rattle.py_grammar.specs.declared.context.Limit.{Limit}
-use Rattle.py_grammar.specs.declared.fault.Fault.TheVariants.{Unexpected, TooDeep, TooMany, Memory}
-use Rattle.py_grammar.specs.declared.fault.Stop.{Stop}
-use Rattle.py_grammar.specs.declared.fault.Stop.TheVariants.{Here, End}
+use Rattle.py_expressions.specs.declared.fault.Fault.TheVariants.{Unexpected, TooDeep, TooMany, Memory}
+use Rattle.py_expressions.specs.declared.fault.Stop.{Stop}
+use Rattle.py_expressions.specs.declared.fault.Stop.TheVariants.{Here, End}
 use Rattle.py_grammar.specs.declared.head.What.TheVariants.{Def, Class}
-use Rattle.py_grammar.specs.Concrete.{Spot}
-use Rattle.py_grammar.specs.Tokens.{token, word}
+use Rattle.py_expressions.specs.Concrete.{Spot}
+use Rattle.py_expressions.specs.Tokens.{token, word}
 use Rattle.py_grammar.specs.Written.{Simple, Params, no_params, no_base}
 use Rattle.py_grammar.specs.StatementTokens.{params_tokens, base_tokens}
 use Rattle.py_grammar.specs.StatementTrees.{params_list, base_tree}
 use Rattle.py_grammar.specs.LineReader.{Head, def_head, class_head, head_tokens, colon_tokens, then_read, read_colon, read_behind, read_head, read_params, read_base}
-use Rattle.py_grammar.specs.Reader.{Read, go_on, is_sign, read_sign}
+use Rattle.py_expressions.specs.Reader.{Read, go_on, is_sign, read_sign}
 use Rattle.py_grammar.specs.WellPlaced.{may_be_method, are_different, in_def_suite}
-use Rattle.py_grammar.specs.Lies.{simple_lies}
-use Rattle.py_grammar.specs.Parsed.{IsDeep, Refused, TakenName, one_name}
+use Rattle.py_grammar.specs.StatementLies.{simple_lies}
+use Rattle.py_expressions.specs.Parsed.{IsDeep, Refused, TakenName, one_name}
 use Rattle.py_grammar.specs.ParsedHead.{Took, base_part, Context, word_may, lacks_handler, behind_stands, head_stands, IsAmissHead, OpeningFound, OpeningRefused}
 use Rattle.py_grammar.specs.ParsedNames.{RefusedAmiss, BracketNames, bracket_tokens, read_bracket, bracket_part, ParamsFound, IsRepeatedIn}
-use Rattle.py_grammar.proofs.Stops.{some_spot, spot_at}
+use Rattle.py_expressions.proofs.Stops.{some_spot, spot_at}
 use Rattle.py_grammar.proofs.LyingLines.{base_low}
-use Rattle.py_grammar.proofs.RowParts.{more_steps}
+use Rattle.py_expressions.proofs.RowParts.{more_steps}
 use Rattle.py_grammar.proofs.SimpleParts.{none_deeper}
-use Rattle.py_grammar.proofs.ClosedParts.{not_deep}
+use Rattle.py_expressions.proofs.ClosedParts.{not_deep}
 use Rattle.py_grammar.proofs.HeadParts.{OnlyHead, HeadTurns, shown_head, spelled_head, begins_part_head, refused_part_head, past_opening, is_free}
 use Rattle.py_grammar.proofs.Unread.{unread_clear, unread_word, passes_word}
 use Rattle.py_grammar.proofs.AmissParts.{amiss_head, begins_fine_head}

@@ -12,28 +12,28 @@ use Rattle.py_lines.specs.declared.parts.TokenKind.{TokenKind}
 use Rattle.py_lines.specs.declared.parts.TokenKind.TheVariants.{Word, Keyword, Number, Text, Sign}
 use Rattle.py_tree.specs.declared.stmt.Globals.{Globals}
 use Rattle.py_grammar.specs.declared.context.Limit.{Limit}
-use Rattle.py_grammar.specs.declared.fault.Fault.TheVariants.{Unexpected, TooDeep, TooMany, Memory}
-use Rattle.py_grammar.specs.declared.fault.Stop.{Stop}
-use Rattle.py_grammar.specs.declared.fault.Stop.TheVariants.{Here, End}
-use Rattle.py_grammar.specs.Concrete.{Spot}
-use Rattle.py_grammar.specs.Tokens.{token, word}
+use Rattle.py_expressions.specs.declared.fault.Fault.TheVariants.{Unexpected, TooDeep, TooMany, Memory}
+use Rattle.py_expressions.specs.declared.fault.Stop.{Stop}
+use Rattle.py_expressions.specs.declared.fault.Stop.TheVariants.{Here, End}
+use Rattle.py_expressions.specs.Concrete.{Spot}
+use Rattle.py_expressions.specs.Tokens.{token, word}
 use Rattle.py_grammar.specs.Written.{Names, last_name, more_names, Params, no_params, params, params_comma}
 use Rattle.py_grammar.specs.StatementTokens.{names_tokens, params_tokens}
 use Rattle.py_grammar.specs.StatementTrees.{names_list, params_list}
-use Rattle.py_grammar.specs.Reader.{Read, go_on, is_sign, read_name}
+use Rattle.py_expressions.specs.Reader.{Read, go_on, is_sign, read_name, is_word, begins_name}
 use Rattle.py_grammar.specs.StatementReader.{whole}
-use Rattle.py_grammar.specs.LineReader.{global_head, is_word, begins_name, read_names, names_after, params_after, read_params, then_read, global_end, head_tokens}
+use Rattle.py_grammar.specs.LineReader.{global_head, read_names, names_after, params_after, read_params, then_read, global_end, head_tokens}
 use Rattle.py_grammar.specs.WellPlaced.{is_special, is_in, are_different, none_given}
-use Rattle.py_grammar.specs.Parsed.{Only, Finds, Refused, Taken, TakenName, one_name, is_sign_next, IsAtFirst, IsMemory}
-use Rattle.py_grammar.specs.ParsedRows.{first_token}
+use Rattle.py_expressions.specs.Parsed.{Only, Finds, Refused, Taken, TakenName, one_name, is_sign_next, IsAtFirst, IsMemory}
+use Rattle.py_expressions.specs.ParsedRows.{first_token}
 use Rattle.py_grammar.specs.ParsedSimple.{IsMore, leaving_none}
 use Rattle.py_grammar.specs.ParsedHead.{Context, word_may, params_part, IsAmissHead, GlobalFound, GlobalRefused}
 use Rattle.py_grammar.specs.ParsedNames.{BeginsFine, RefusedAmiss, all_names, IsGiven, OthersFound, IsRepeated, DifferentFound}
-use Rattle.py_grammar.proofs.Reading.{if_true, if_false}
-use Rattle.py_grammar.proofs.Refusals.{only_any, only_go_on, only_if, only_is, finds_same, finds_weaker}
-use Rattle.py_grammar.proofs.ClosedParts.{not_deep}
-use Rattle.py_grammar.proofs.PrimParts.{go_on_once}
-use Rattle.py_grammar.proofs.RowParts.{more_steps, sign_first}
+use Rattle.py_expressions.proofs.Reading.{if_true, if_false}
+use Rattle.py_expressions.proofs.Refusals.{only_any, only_go_on, only_if, only_is, finds_same, finds_weaker}
+use Rattle.py_expressions.proofs.ClosedParts.{not_deep}
+use Rattle.py_expressions.proofs.PrimParts.{go_on_once}
+use Rattle.py_expressions.proofs.RowParts.{more_steps, sign_first}
 use Rattle.py_grammar.proofs.HeadParts.{HeadTurns, first_same, BeginsOpening, spelled_head, clear_before}
 use Rattle.py_grammar.proofs.Unread.{passes_word}
 use Rattle.py_grammar.proofs.AmissParts.{NoneAmiss, AmissInside, amiss_of_refused, amiss_same, amiss_inside, begins_with, amiss_here, amiss_head}

@@ -7,19 +7,18 @@ use Rattle.py_tree.specs.declared.expr.Expr.TheVariants.{Var}
 use Rattle.py_tree.specs.Erasure.{expr_of}
 use Rattle.py_tree.specs.Tree.{var_expr}
 use Rattle.py_tree.proofs.ExprTrees.{var_tree}
-use Rattle.py_grammar.specs.declared.fault.Stop.{Stop}
-use Rattle.py_grammar.specs.Concrete.{Spot}
-use Rattle.py_grammar.specs.Tokens.{token, word}
+use Rattle.py_expressions.specs.declared.fault.Stop.{Stop}
+use Rattle.py_expressions.specs.Concrete.{Spot}
+use Rattle.py_expressions.specs.Tokens.{token, word}
 use Rattle.py_grammar.specs.Written.{naming, Base, empty_base, base}
 use Rattle.py_grammar.specs.StatementTrees.{naming_bound, base_tree}
-use Rattle.py_grammar.specs.LineReader.{begins_name, is_word}
-use Rattle.py_grammar.specs.Reader.{Read, go_on, read_name, read_sign}
-use Rattle.py_grammar.specs.Parsed.{Refused, Taken, TakenName, one_name, one_sign}
+use Rattle.py_expressions.specs.Reader.{begins_name, is_word, Read, go_on, read_name, read_sign}
+use Rattle.py_expressions.specs.Parsed.{Refused, Taken, TakenName, one_name, one_sign}
 use Rattle.py_grammar.specs.ParsedHead.{Took, naming_part, base_part}
-use Rattle.py_grammar.proofs.Refusals.{Inside, first_of, only_go_on, only_is, refused_inside, refused_same}
-use Rattle.py_grammar.proofs.ClosedParts.{not_deep}
-use Rattle.py_grammar.proofs.Stops.{spot_at}
-use Rattle.py_grammar.proofs.Reading.{if_true, if_false}
+use Rattle.py_expressions.proofs.Refusals.{Inside, first_of, only_go_on, only_is, refused_inside, refused_same}
+use Rattle.py_expressions.proofs.ClosedParts.{not_deep}
+use Rattle.py_expressions.proofs.Stops.{spot_at}
+use Rattle.py_expressions.proofs.Reading.{if_true, if_false}
 
 -- ---- `as` with a name
 

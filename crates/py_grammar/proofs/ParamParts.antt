@@ -3,22 +3,22 @@ use Rattle.std.proofs.Common.{◌≡◌, ℕ, ◌+◌, true, List, [], ◌∷◌
 use Rattle.prov_base.specs.declared.place.Pos.{Pos}
 use Rattle.py_lines.specs.declared.parts.Token.{Token}
 use Rattle.py_lines.specs.declared.parts.TokenKind.TheVariants.{Sign}
-use Rattle.py_grammar.specs.declared.fault.Stop.{Stop}
-use Rattle.py_grammar.specs.Concrete.{Spot}
-use Rattle.py_grammar.specs.Tokens.{token}
+use Rattle.py_expressions.specs.declared.fault.Stop.{Stop}
+use Rattle.py_expressions.specs.Concrete.{Spot}
+use Rattle.py_expressions.specs.Tokens.{token}
 use Rattle.py_grammar.specs.Written.{Params, no_params}
 use Rattle.py_grammar.specs.StatementTokens.{params_tokens}
 use Rattle.py_grammar.specs.StatementTrees.{params_list}
 use Rattle.py_grammar.specs.WellPlaced.{are_different}
-use Rattle.py_grammar.specs.Reader.{go_on, read_sign}
+use Rattle.py_expressions.specs.Reader.{go_on, read_sign}
 use Rattle.py_grammar.specs.LineReader.{read_params}
-use Rattle.py_grammar.specs.Parsed.{Refused, Taken, one_sign}
-use Rattle.py_grammar.specs.ParsedRows.{first_token, IsRead}
+use Rattle.py_expressions.specs.Parsed.{Refused, Taken, one_sign}
+use Rattle.py_expressions.specs.ParsedRows.{first_token, IsRead}
 use Rattle.py_grammar.specs.ParsedHead.{params_part}
 use Rattle.py_grammar.specs.ParsedNames.{RefusedAmiss, IsRepeated, DifferentFound, bracket_part, ParamsFound, IsRepeatedIn}
-use Rattle.py_grammar.proofs.Refusals.{only_any, only_go_on, only_is}
-use Rattle.py_grammar.proofs.ClosedParts.{not_deep}
-use Rattle.py_grammar.proofs.Stops.{some_spot}
+use Rattle.py_expressions.proofs.Refusals.{only_any, only_go_on, only_is}
+use Rattle.py_expressions.proofs.ClosedParts.{not_deep}
+use Rattle.py_expressions.proofs.Stops.{some_spot}
 use Rattle.py_grammar.proofs.FreshNames.{none_repeated}
 use Rattle.py_grammar.proofs.AmissParts.{NoneAmiss, AmissInside, amiss_inside, amiss_of_refused, amiss_same, begins_with}
 

@@ -9,27 +9,30 @@ use Rattle.py_lines.specs.declared.parts.TokenKind.TheVariants.{Word, Keyword, N
 use Rattle.py_tree.specs.declared.stmt.Form.{Form}
 use Rattle.py_grammar.specs.declared.context.Limit.{Limit}
 use Rattle.py_grammar.specs.declared.context.Limit.TheVariants.{Number as ByNumber, Depth as ByDepth}
-use Rattle.py_grammar.specs.declared.fault.Fault.{Fault}
-use Rattle.py_grammar.specs.declared.fault.Fault.TheVariants.{Unexpected, TooDeep, TooMany, Memory}
-use Rattle.py_grammar.specs.declared.fault.Stop.{Stop}
-use Rattle.py_grammar.specs.declared.fault.Stop.TheVariants.{Here, End}
-use Rattle.py_grammar.specs.Concrete.{Spot, plain_expr, plain_or, plain_and, plain_not, plain_cmp, plain_sum, plain_term, plain_unary, plain_prim, text, one_expr}
-use Rattle.py_grammar.specs.Tokens.{token, expr_tokens}
+use Rattle.py_expressions.specs.declared.fault.Fault.{Fault}
+use Rattle.py_expressions.specs.declared.fault.Fault.TheVariants.{Unexpected, TooDeep, TooMany, Memory}
+use Rattle.py_expressions.specs.declared.fault.Stop.{Stop}
+use Rattle.py_expressions.specs.declared.fault.Stop.TheVariants.{Here, End}
+use Rattle.py_expressions.specs.Concrete.{Spot, plain_expr, plain_or, plain_and, plain_not, plain_cmp, plain_sum, plain_term, plain_unary, plain_prim, text, one_expr}
+use Rattle.py_expressions.specs.Tokens.{token, expr_tokens}
 use Rattle.py_grammar.specs.Written.{Simple, expression, pass}
 use Rattle.py_grammar.specs.StatementTokens.{simple_tokens}
 use Rattle.py_grammar.specs.StatementTrees.{simple_form}
 use Rattle.py_grammar.specs.WellPlaced.{Around, form_stands, simple_stands, are_alone, alone_kind}
-use Rattle.py_grammar.specs.Reader.{spot_of, is_keyword}
+use Rattle.py_expressions.specs.Reader.{spot_of, is_keyword}
 use Rattle.py_grammar.specs.StatementReader.{read_simple}
-use Rattle.py_grammar.specs.Parsed.{ShowsAt, Only, Finds}
+use Rattle.py_expressions.specs.Parsed.{ShowsAt, Only, Finds}
 use Rattle.py_grammar.specs.ParsedSimple.{leaving_none, simple_part, has_place, SimpleFound, IsAmiss, NamesDeep, BeginsSimple, DeepSimple, SimpleShown, SimpleEnds, SimpleRefused}
 use Rattle.py_grammar.specs.ParsedHead.{PlacedFound, IsAmissPlaced, del_name, BeginsPlaced, BeginsThere, DeepPlaced, GoesOnPlaced, IsAheadPlaced, begins_at, ShownBy, EndedBy, PlacedRefused, BehindRefused, BehindFound, is_compound_kind, may_be_alone, is_refused_kind, is_text_kind, limit_fault, IsRefusedInClass, ShowsOnLine, left_in_class, stands_first}
-use Rattle.py_grammar.specs.Depth.{simple_depth}
-use Rattle.py_grammar.specs.Lies.{nowhere, simple_lies}
+use Rattle.py_grammar.specs.StatementDepth.{simple_depth}
+use Rattle.py_expressions.specs.Lies.{nowhere}
+use Rattle.py_grammar.specs.StatementLies.{simple_lies}
 use Rattle.py_grammar.proofs.NoDel.{no_del_unread}
-use Rattle.py_grammar.proofs.Stops.{spot_at, shows_on_line}
+use Rattle.py_expressions.proofs.Stops.{spot_at}
+use Rattle.py_grammar.proofs.ShownLines.{shows_on_line}
 use Rattle.py_grammar.proofs.SimpleReading.{simple_reads}
-use Rattle.py_grammar.proofs.SimpleParts.{simple_within, nothing_there}
+use Rattle.py_grammar.proofs.SimpleParts.{simple_within}
+use Rattle.py_expressions.proofs.RowReads.{nothing_there}
 use Rattle.py_grammar.proofs.LineFirsts.{and_false, simple_not_compound, simple_some, pass_is_alone, not_nothing, same_first, same_behind}
 
 -- a text or `pass` alone

@@ -1,33 +1,33 @@
 -- Simple statements: how what is read of a part, or not, tells what is read of the statement.
-use Rattle.std.proofs.Common.{◌≡◌, inl, ℕ, suc, ◌+◌, ◌≤◌, ◌<◌, Bool, true, false, List, [], ◌∷◌, ◌++◌, Option, Some, None, option_map, option_and_then, refl, ap, sym, ◌∙◌, arith, subst, append_assoc, append-nil, length, is_some, IfNone, if◌then◌else◌}
-use Rattle.std.specs.Prelude.{◌==◌}
-use Rattle.std.proofs.lemmas.Bool.{eqb-true}
+use Rattle.std.proofs.Common.{◌≡◌, inl, ℕ, ◌+◌, ◌≤◌, ◌<◌, Bool, true, false, List, [], ◌∷◌, ◌++◌, Option, Some, None, option_map, option_and_then, refl, ap, sym, ◌∙◌, arith, subst, append_assoc, append-nil, length, is_some, IfNone, if◌then◌else◌}
 use Rattle.prov_base.specs.declared.place.Pos.{Pos}
 use Rattle.py_lines.specs.declared.parts.Token.{Token}
 use Rattle.py_lines.specs.declared.parts.TokenKind.TheVariants.{Keyword}
-use Rattle.py_grammar.specs.declared.fault.Fault.{Fault}
-use Rattle.py_grammar.specs.declared.fault.Fault.TheVariants.{Unexpected, TooDeep, TooMany, Memory}
-use Rattle.py_grammar.specs.declared.fault.Stop.{Stop}
-use Rattle.py_grammar.specs.declared.fault.Stop.TheVariants.{Here, End}
-use Rattle.py_grammar.specs.declared.part.Part.{Part}
-use Rattle.py_grammar.specs.Concrete.{Spot, Expr}
-use Rattle.py_grammar.specs.Tokens.{token, expr_tokens, exprs_tokens}
-use Rattle.py_grammar.specs.Trees.{expr_tree}
+use Rattle.py_expressions.specs.declared.fault.Fault.{Fault}
+use Rattle.py_expressions.specs.declared.fault.Fault.TheVariants.{Unexpected, TooDeep, TooMany, Memory}
+use Rattle.py_expressions.specs.declared.fault.Stop.{Stop}
+use Rattle.py_expressions.specs.declared.fault.Stop.TheVariants.{Here, End}
+use Rattle.py_expressions.specs.declared.part.Part.{Part}
+use Rattle.py_expressions.specs.Concrete.{Spot, Expr}
+use Rattle.py_expressions.specs.Tokens.{token, expr_tokens, exprs_tokens}
+use Rattle.py_expressions.specs.Trees.{expr_tree}
 use Rattle.py_grammar.specs.Written.{Simple, pass}
 use Rattle.py_grammar.specs.StatementTokens.{simple_tokens}
-use Rattle.py_grammar.specs.Depth.{expr_depth, exprs_depth, simple_depth}
-use Rattle.py_grammar.specs.Lies.{expr_lies, simple_lies}
+use Rattle.py_expressions.specs.Depth.{expr_depth, exprs_depth}
+use Rattle.py_grammar.specs.StatementDepth.{simple_depth}
+use Rattle.py_expressions.specs.Lies.{expr_lies}
+use Rattle.py_grammar.specs.StatementLies.{simple_lies}
 use Rattle.py_grammar.specs.WellPlaced.{Around}
-use Rattle.py_grammar.specs.Reader.{Read, next_level, starts, read_expr, read_exprs}
+use Rattle.py_expressions.specs.Reader.{Read, next_level, starts, read_expr, read_exprs}
 use Rattle.py_grammar.specs.StatementReader.{whole, alone, read_simple}
-use Rattle.py_grammar.specs.Parsed.{Production, IsDeep, Only, Finds, BeginsWithin, IsFirstDeep, GoesDeep, Shown, is_keyword_next, Refused, Found, FoundRow, expr_part}
+use Rattle.py_expressions.specs.Parsed.{Production, IsDeep, Only, Finds, BeginsWithin, IsFirstDeep, GoesDeep, Shown, is_keyword_next, Refused, Found, FoundRow, expr_part}
 use Rattle.py_grammar.specs.ParsedSimple.{leaving_none, simple_part, NamesDeep, BeginsSimple, DeepSimple, has_place, UnreadDel, IsAmiss, SimpleShown, SimpleEnds, SimpleRefused, IsMore}
-use Rattle.py_grammar.proofs.Reading.{expr_reads}
-use Rattle.py_grammar.proofs.RowReads.{row_reads}
-use Rattle.py_grammar.proofs.Refusals.{first_of, only_is, finds_same, finds_weaker}
-use Rattle.py_grammar.proofs.Lying.{expr_low}
+use Rattle.py_expressions.proofs.Reading.{expr_reads}
+use Rattle.py_expressions.proofs.RowReads.{row_reads}
+use Rattle.py_expressions.proofs.Refusals.{first_of, only_is, finds_same, finds_weaker}
+use Rattle.py_expressions.proofs.Lying.{expr_low}
 use Rattle.py_grammar.proofs.LyingLines.{simple_low}
-use Rattle.py_grammar.proofs.Stops.{spot_at}
+use Rattle.py_expressions.proofs.Stops.{spot_at}
 
 -- ---- what the reader gives
 
@@ -285,9 +285,6 @@ misplaced around t behind left named amiss = record {
 pub expr_all : {room : ℕ} {before after : List Token} {part : Part} → (f : Found expr_part expr_tree 7 room before part after) → after ≡ [] → before ≡ expr_tokens f.written
 expr_all f is = f.before_is ∙ ap (λ ts. expr_tokens f.written ++ ts) is ∙ append-nil (expr_tokens f.written)
 
-pub row_all : {room : ℕ} {before after : List Token} {part : Part} → (f : FoundRow room before part after) → after ≡ [] → before ≡ exprs_tokens f.written
-row_all f is = f.before_is ∙ ap (λ ts. exprs_tokens f.written ++ ts) is ∙ append-nil (exprs_tokens f.written)
-
 -- they are read too where other tokens follow the next one
 pub expr_goes : {room : ℕ} {before after : List Token} {part : Part} → (f : Found expr_part expr_tree 7 room before part after) → (t : Token) (ts rest : List Token) → after ≡ t ∷ ts
     → (n : ℕ) → read_expr (n + (expr_reads f.written).steps) (expr_tokens f.written ++ t ∷ rest) ≡ Some (f.written, t ∷ rest)
@@ -308,16 +305,6 @@ not_deeper End depth deep = deep
 -- nothing lies too deep where nothing does
 pub none_deeper : (room : ℕ) → room < 0 → ⊥
 none_deeper room deep = absurd (omega (arith, deep))
-
--- ---- whether something stands there
-
-pub nothing_there : (ts : List Token) (b : Bool) → b ≡ (length ts == 0) → b ≡ true → ts ≡ []
-nothing_there [] b is empty = refl
-nothing_there (t ∷ ts) b is empty = let counted : (suc (length ts) == 0) ≡ true = sym is ∙ empty in absurd (omega (arith, eqb-true (suc (length ts)) 0 counted))
-
-pub something_there : (ts : List Token) (b : Bool) → b ≡ (length ts == 0) → b ≡ false → ts ≡ [] → ⊥
-something_there [] b is full none = let no : true ≡ false = sym is ∙ full in cc
-something_there (t ∷ ts) b is full none = cc
 
 -- what holds where nothing was taken
 pub from_none : {X : Type 0} (P : Type 0) (o : Option X) (b : Bool) → b ≡ is_some o → b ≡ false → IfNone o P → P

@@ -1,31 +1,23 @@
 -- Each simple statement is read from its tokens.
+use Rattle.py_expressions.proofs.TargetReads.{target_expr, start_of_expr}
 use Rattle.std.proofs.Common.{◌≡◌, ℕ, ◌+◌, ◌<◌, false, List, [], ◌∷◌, ◌++◌, Option, Some, option_map, option_and_then, refl, ap, sym, ◌∙◌, arith, subst, append-nil}
 use Rattle.std.specs.Prelude.{codes}
 use Rattle.py_lines.specs.declared.parts.Token.{Token}
 use Rattle.py_lines.specs.declared.parts.TokenKind.{TokenKind}
 use Rattle.py_lines.specs.declared.parts.TokenKind.TheVariants.{Keyword, Sign}
-use Rattle.py_grammar.specs.Concrete.{Spot, Expr, plain_expr, plain_or, plain_and, plain_not, plain_cmp, plain_sum, plain_term, plain_unary, Prim, plain_prim, part, attribute, one_index, name, Exprs, one_expr, several, Rest, end_rest, last_rest, more_rest}
-use Rattle.py_grammar.specs.Tokens.{token, sign, expr_tokens, exprs_tokens, rest_tokens}
-use Rattle.py_grammar.specs.Reader.{start_class, starts, is_keyword, read_expr, read_exprs}
+use Rattle.py_expressions.specs.Concrete.{Spot, Expr, Exprs, one_expr, several, Rest, end_rest, last_rest, more_rest}
+use Rattle.py_expressions.specs.Tokens.{token, sign, expr_tokens, exprs_tokens, rest_tokens}
+use Rattle.py_expressions.specs.Reader.{start_class, starts, is_keyword, read_expr, read_exprs}
 use Rattle.py_grammar.specs.StatementTokens.{one_target_tokens, target_rest_tokens, target_tokens, simple_tokens}
-use Rattle.py_grammar.specs.StatementReader.{expr_target, rest_target, exprs_target, whole, behind_exprs, after_test, after_return, after_raise, read_simple}
-use Rattle.py_grammar.specs.Written.{add_to, take_from, multiply_by, divide_by, leave_of, OneTarget, named, item, field, TargetRest, end_rest_target, last_target, more_target, Target, one_target, several_targets, Simple, expression, assign, augmented, del, pass, break, continue, return, return_value, raise, raise_value, assert, assert_message, import_module}
-use Rattle.py_grammar.proofs.Firsts.{IsStart, not_keyword, is_above, expr_starts, exprs_starts}
-use Rattle.py_grammar.proofs.Reading.{expr_reads, exprs_read, if_false}
+use Rattle.py_expressions.specs.Targets.{expr_target, rest_target, exprs_target, OneTarget, named, item, field, TargetRest, end_rest_target, last_target, more_target, Target, one_target, several_targets}
+use Rattle.py_grammar.specs.StatementReader.{whole, behind_exprs, after_test, after_return, after_raise, read_simple}
+use Rattle.py_grammar.specs.Written.{add_to, take_from, multiply_by, divide_by, leave_of, Simple, expression, assign, augmented, del, pass, break, continue, return, return_value, raise, raise_value, assert, assert_message, import_module}
+use Rattle.py_expressions.proofs.Firsts.{IsStart, not_keyword, is_above, exprs_starts}
+use Rattle.py_expressions.proofs.Reading.{expr_reads, exprs_read, if_false}
 
 pub record ReadsSimple (tokens : List Token) (value : Simple) : Type 0 where
   pub steps : ℕ
   pub reads : (n : ℕ) → read_simple (n + steps) tokens ≡ Some value
-
--- ---- targets are expressions
-
-abbrev pub prim_expr : Prim → Expr
-prim_expr p = plain_expr (plain_or (plain_and (plain_not (plain_cmp (plain_sum (plain_term (plain_unary p)))))))
-
-abbrev pub target_expr : OneTarget → Expr
-target_expr (named at bytes) = prim_expr (plain_prim (name at bytes))
-target_expr (item p opening index closing) = prim_expr (part p opening (one_index index) closing)
-target_expr (field p dot name_at bytes) = prim_expr (attribute p dot name_at bytes)
 
 target_spells : (t : OneTarget) → one_target_tokens t ≡ expr_tokens (target_expr t)
 target_spells (named at bytes) = refl
@@ -103,9 +95,6 @@ nonempty_return n at (t ∷ ts) start = refl
 nonempty_raise : (n : ℕ) (at : Spot) (ts : List Token) → IsStart (starts ts) → after_raise n at ts ≡ option_map (raise_value at) (whole (read_expr n ts))
 nonempty_raise n at [] start = absurd (omega (arith, is_above 0 start))
 nonempty_raise n at (t ∷ ts) start = refl
-
-pub start_of_expr : (e : Expr) → IsStart (starts (expr_tokens e))
-start_of_expr e = subst (λ ts. IsStart (starts ts)) (append-nil (expr_tokens e)) (expr_starts e [])
 
 pub start_of_exprs : (e : Exprs) → IsStart (starts (exprs_tokens e))
 start_of_exprs e = subst (λ ts. IsStart (starts ts)) (append-nil (exprs_tokens e)) (exprs_starts e [])

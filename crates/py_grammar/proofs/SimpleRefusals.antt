@@ -1,5 +1,5 @@
 -- `assert` and `del`: what is read, and how it is refused.
-use Rattle.std.proofs.Common.{◌≡◌, inr, ℕ, ◌+◌, ◌≤◌, Bool, true, false, List, [], ◌∷◌, ◌++◌, Option, Some, None, option_map, option_and_then, is_none, is_some, refl, ap, sym, ◌∙◌, arith, subst, append_assoc, append-nil}
+use Rattle.std.proofs.Common.{◌≡◌, inr, ℕ, ◌+◌, ◌≤◌, Bool, true, false, List, [], ◌∷◌, ◌++◌, Option, Some, None, option_map, option_and_then, is_some, refl, ap, sym, ◌∙◌, arith, subst, append_assoc, append-nil}
 use Rattle.std.proofs.lemmas.Option.{same_Some}
 use Rattle.std.proofs.Math.Nat.{le-max_right}
 use Rattle.prov_base.specs.declared.place.Pos.{Pos}
@@ -9,27 +9,30 @@ use Rattle.py_tree.specs.declared.expr.Target.{Target as BuiltTarget}
 use Rattle.py_tree.specs.declared.stmt.Form.{Form}
 use Rattle.py_tree.specs.Erasure.{expr_of, form_of, target_of}
 use Rattle.py_tree.specs.Tree.{ExprTree, assert_form, del_form, field_target, attr_expr}
-use Rattle.py_grammar.specs.declared.fault.Fault.{Fault}
-use Rattle.py_grammar.specs.declared.fault.Fault.TheVariants.{Unexpected, TooDeep, TooMany, Memory}
-use Rattle.py_grammar.specs.declared.fault.Stop.{Stop}
-use Rattle.py_grammar.specs.declared.fault.Stop.TheVariants.{Here, End}
-use Rattle.py_grammar.specs.declared.part.Part.{Part}
-use Rattle.py_grammar.specs.Concrete.{Spot, Expr}
-use Rattle.py_grammar.specs.Tokens.{token, expr_tokens}
-use Rattle.py_grammar.specs.Trees.{expr_tree}
-use Rattle.py_grammar.specs.Depth.{expr_depth}
-use Rattle.py_grammar.specs.Lies.{expr_lies, one_target_lies, simple_lies}
-use Rattle.py_grammar.specs.Written.{OneTarget, named, item, field, Simple, assert, assert_message, del}
+use Rattle.py_expressions.specs.declared.fault.Fault.{Fault}
+use Rattle.py_expressions.specs.declared.fault.Fault.TheVariants.{Unexpected, TooDeep, TooMany, Memory}
+use Rattle.py_expressions.specs.declared.fault.Stop.{Stop}
+use Rattle.py_expressions.specs.declared.fault.Stop.TheVariants.{Here, End}
+use Rattle.py_expressions.specs.declared.part.Part.{Part}
+use Rattle.py_expressions.specs.Concrete.{Spot, Expr}
+use Rattle.py_expressions.specs.Tokens.{token, expr_tokens}
+use Rattle.py_expressions.specs.Trees.{expr_tree}
+use Rattle.py_expressions.specs.Depth.{expr_depth}
+use Rattle.py_expressions.specs.Lies.{expr_lies}
+use Rattle.py_grammar.specs.StatementLies.{one_target_lies, simple_lies}
+use Rattle.py_expressions.specs.Targets.{OneTarget, named, item, field, expr_target}
+use Rattle.py_grammar.specs.Written.{Simple, assert, assert_message, del}
 use Rattle.py_grammar.specs.StatementTrees.{one_target_tree, simple_form}
 use Rattle.py_grammar.specs.WellPlaced.{Around, may_go, form_stands}
-use Rattle.py_grammar.specs.Reader.{Read, is_sign, spot_of, read_expr}
-use Rattle.py_grammar.specs.StatementReader.{expr_target, whole, after_test}
-use Rattle.py_grammar.specs.Parsed.{IsDeep, Only, Finds, Shown, Found, Refused, Taken, is_sign_next, is_form, expr_part, IsAtFirst}
+use Rattle.py_expressions.specs.Reader.{Read, is_sign, spot_of, read_expr}
+use Rattle.py_grammar.specs.StatementReader.{whole, after_test}
+use Rattle.py_expressions.specs.Parsed.{IsDeep, Only, Finds, Shown, Found, Refused, Taken, is_sign_next, is_form, expr_part, IsAtFirst}
 use Rattle.py_grammar.specs.ParsedSimple.{leaving_none, BeginsSimple, DeepSimple, has_place, UnreadDel, SimpleEnds, SimpleRefused, FoundBehindAny, RefusedBehindAny, IsMore, target_form}
-use Rattle.py_grammar.proofs.Reading.{expr_reads, if_false}
-use Rattle.py_grammar.proofs.Refusals.{only_is, begins_whole, deep_same, deep_beside_left, deep_beside_right, max_below}
-use Rattle.py_grammar.proofs.TargetForms.{target_is, target_deep, target_lies_so, target_spelled, target_tree_is}
-use Rattle.py_grammar.proofs.ExprForms.{is_attr_tree}
+use Rattle.py_expressions.proofs.Reading.{expr_reads, if_false}
+use Rattle.py_expressions.proofs.Refusals.{only_is, begins_whole, deep_same, deep_beside_left, deep_beside_right, max_below}
+use Rattle.py_expressions.proofs.TargetReads.{target_is}
+use Rattle.py_grammar.proofs.TargetForms.{target_deep, target_lies_so, target_spelled, target_tree_is}
+use Rattle.py_expressions.proofs.ExprForms.{is_attr_tree}
 use Rattle.py_grammar.proofs.SimpleParts.{Turns, turned_none, turns_same, as_whole, map_whole, only_whole, only_map, only_if_simple, none_found, expr_within, expr_fits, Carries, begins_part, refused_part, refused_behind, ended, ended_behind, expr_all, expr_goes}
 
 -- ---- `assert`
@@ -61,7 +64,7 @@ assert_more behind after part stop f other more = record {
       (λ n. if_false (is_sign 6 t.kind) _ _ (subst (λ (ts : List Token). is_sign_next 6 ts ≡ false) is other)));
 }
 
-pub assert_found : (behind after : List Token) (part : Part) (form : Form) → Found expr_part expr_tree 7 100 behind part after → after ≡ [] → form_of form ≡ assert_form (expr_of part.expr) None → FoundBehindAny 5 behind form
+pub assert_found : (behind after : List Token) (part : Part) (form : Form) → Found expr_part expr_tree 7 100 behind part after → after ≡ [] → form_of form ≡ assert_form (expr_of part.expr.value) None → FoundBehindAny 5 behind form
 assert_found behind after part form f is tree around spot = record {
   written = assert spot f.written;
   before_is = ap (λ ts. token (Keyword 5) spot ∷ ts) (expr_all f is);
@@ -115,11 +118,11 @@ message_more comma_at behind middle after last part message stop f k m more = re
 }
 
 pub message_found : (comma_at : Pos) (behind middle after last : List Token) (part message : Part) (form : Form) → Found expr_part expr_tree 7 100 behind part middle → Taken (Sign 6) middle comma_at after
-    → Found expr_part expr_tree 7 100 after message last → last ≡ [] → form_of form ≡ assert_form (expr_of part.expr) (Some (expr_of message.expr)) → FoundBehindAny 5 behind form
+    → Found expr_part expr_tree 7 100 after message last → last ≡ [] → form_of form ≡ assert_form (expr_of part.expr.value) (Some (expr_of message.expr.value)) → FoundBehindAny 5 behind form
 message_found comma_at behind middle after last part message form f k m is tree around spot = record {
   written = assert_message spot f.written k.spot m.written;
   before_is = ap (λ ts. token (Keyword 5) spot ∷ ts) (f.before_is ∙ ap (λ ts. expr_tokens f.written ++ ts) (k.before_is ∙ ap (λ ts. token (Sign 6) k.spot ∷ ts) (expr_all m is)));
-  tree_is = tree ∙ ap (λ e. assert_form e (Some (expr_of message.expr))) f.tree_is ∙ ap (λ e. assert_form (expr_tree f.written) (Some e)) m.tree_is;
+  tree_is = tree ∙ ap (λ e. assert_form e (Some (expr_of message.expr.value))) f.tree_is ∙ ap (λ e. assert_form (expr_tree f.written) (Some e)) m.tree_is;
   fits = let high = f.height_is in let low = f.fits in let high_2 = m.height_is in let low_2 = m.fits in max_below _ _ 100 (omega (arith, high, low)) (omega (arith, high_2, low_2));
   stands = refl;
 }
@@ -246,12 +249,12 @@ a_form : (o : Option OneTarget) → is_form o ≡ true → (t : OneTarget) × (o
 a_form None is = absurd (let no : false ≡ true = is in cc)
 a_form (Some t) is = (t, refl)
 
-pub del_wrong : (behind after : List Token) (part : Part) (stop : Stop) → Found expr_part expr_tree 7 100 behind part after → is_none part.wrong ≡ false → IsAtFirst after stop → RefusedBehindAny 12 behind stop
+pub del_wrong : (behind after : List Token) (part : Part) (stop : Stop) → Found expr_part expr_tree 7 100 behind part after → part.is_target ≡ false → IsAtFirst after stop → RefusedBehindAny 12 behind stop
 del_wrong behind after part stop f other first = del_stops behind after part stop f first
     (λ around spot. only_is _ _ None (ap (λ o. leaving_none (option_map (del spot) o)) (no_form _ (sym f.form_is ∙ other))) tt)
 
-pub del_attribute : (dot : Pos) (e : ExprTree) (name : List ℕ) (behind after : List Token) (part : Part) (stop : Stop) → Found expr_part expr_tree 7 100 behind part after → is_none part.wrong ≡ true
-    → expr_of part.expr ≡ attr_expr dot e name → IsAtFirst after stop → RefusedBehindAny 12 behind stop
+pub del_attribute : (dot : Pos) (e : ExprTree) (name : List ℕ) (behind after : List Token) (part : Part) (stop : Stop) → Found expr_part expr_tree 7 100 behind part after → part.is_target ≡ true
+    → expr_of part.expr.value ≡ attr_expr dot e name → IsAtFirst after stop → RefusedBehindAny 12 behind stop
 del_attribute dot e name behind after part stop f fine tree first = del_stops behind after part stop f first
     (λ around spot. only_is _ _ (Some (del spot t.0, [])) (ap (λ o. leaving_none (option_map (del spot) o)) t.1) (ap may_go stays))
   where
@@ -262,10 +265,10 @@ del_attribute dot e name behind after part stop f fine tree first = del_stops be
     stays = same_Some _ _ (sym (target_tree_is f.written t.0 t.1) ∙ ap target_form (sym f.tree_is ∙ tree))
 
 -- the target that the expression is
-pub del_target : {behind after : List Token} {part : Part} → (f : Found expr_part expr_tree 7 100 behind part after) → is_none part.wrong ≡ true → (t : OneTarget) × (expr_target f.written ≡ Some t)
+pub del_target : {behind after : List Token} {part : Part} → (f : Found expr_part expr_tree 7 100 behind part after) → part.is_target ≡ true → (t : OneTarget) × (expr_target f.written ≡ Some t)
 del_target f fine = a_form (expr_target f.written) (sym f.form_is ∙ fine)
 
-pub del_is_target : (behind after : List Token) (part : Part) → Found expr_part expr_tree 7 100 behind part after → is_none part.wrong ≡ true → is_some (target_form (expr_of part.expr)) ≡ true
+pub del_is_target : (behind after : List Token) (part : Part) → Found expr_part expr_tree 7 100 behind part after → part.is_target ≡ true → is_some (target_form (expr_of part.expr.value)) ≡ true
 del_is_target behind after part f fine = let t = del_target f fine in ap (λ e. is_some (target_form e)) f.tree_is ∙ ap is_some (target_tree_is f.written t.0 t.1)
 
 pub del_more : (behind after : List Token) (part : Part) (stop : Stop) → Found expr_part expr_tree 7 100 behind part after → IsMore after stop → RefusedBehindAny 12 behind stop
@@ -280,8 +283,8 @@ goes (named at bytes) e is other = refl
 goes (item p opening index closing) e is other = refl
 goes (field p dot name_at bytes) e is other = let no : true ≡ false = sym (ap (λ e. is_attr_tree (expr_tree e)) (target_is e (field p dot name_at bytes) is)) ∙ other in cc
 
-pub del_found : (behind after : List Token) (part : Part) (target : BuiltTarget) (form : Form) → Found expr_part expr_tree 7 100 behind part after → is_none part.wrong ≡ true → is_attr_tree (expr_of part.expr) ≡ false
-    → target_form (expr_of part.expr) ≡ Some (target_of target) → after ≡ [] → form_of form ≡ del_form (target_of target) → FoundBehindAny 12 behind form
+pub del_found : (behind after : List Token) (part : Part) (target : BuiltTarget) (form : Form) → Found expr_part expr_tree 7 100 behind part after → part.is_target ≡ true → is_attr_tree (expr_of part.expr.value) ≡ false
+    → target_form (expr_of part.expr.value) ≡ Some (target_of target) → after ≡ [] → form_of form ≡ del_form (target_of target) → FoundBehindAny 12 behind form
 del_found behind after part target form f fine other built is tree around spot =
     let t = del_target f fine in
     record {

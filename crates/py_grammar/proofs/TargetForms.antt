@@ -1,49 +1,22 @@
 -- Expressions that have the form of a target, and the target that they spell.
+use Rattle.py_expressions.proofs.TargetReads.{target_is, target_expr}
 use Rattle.std.proofs.Common.{◌≡◌, ◌+◌, max, Option, Some, None, option_map, option_and_then, refl, ap, sym, ◌∙◌}
 use Rattle.std.proofs.lemmas.Option.{same_Some}
 use Rattle.py_tree.specs.Tree.{many_target, more_targets}
-use Rattle.py_grammar.specs.Concrete.{Expr, plain_expr, choice, plain_or, or_more, plain_and, and_more, plain_not, not_of, plain_cmp, compared, plain_sum, sum_more, plain_term, term_more, plain_unary, signed, Prim, plain_prim, call, part, attribute, one_index, range_index, name, number, text, none, true_word, false_word, empty_tuple, group, list, dict, Exprs, one_expr, several, Rest, end_rest, last_rest, more_rest}
-use Rattle.py_grammar.specs.Tokens.{expr_tokens, exprs_tokens}
-use Rattle.py_grammar.specs.Trees.{expr_tree, rest_tree, exprs_tree}
-use Rattle.py_grammar.specs.Depth.{expr_depth, rest_depth, exprs_depth, one_target_depth, target_rest_depth, target_depth}
+use Rattle.py_expressions.specs.Concrete.{Expr, Exprs, one_expr, several, Rest, end_rest, last_rest, more_rest}
+use Rattle.py_expressions.specs.Tokens.{expr_tokens, exprs_tokens}
+use Rattle.py_expressions.specs.Trees.{expr_tree, rest_tree, exprs_tree}
+use Rattle.py_expressions.specs.Depth.{expr_depth, rest_depth, exprs_depth}
+use Rattle.py_grammar.specs.StatementDepth.{one_target_depth, target_rest_depth, target_depth}
 use Rattle.prov_base.specs.declared.place.Pos.{Pos}
-use Rattle.py_grammar.specs.Lies.{begins, over, expr_lies, exprs_lies, rest_lies, one_target_lies, target_rest_lies, target_lies, expr_deepest, one_target_deepest, IsFirst}
+use Rattle.py_expressions.specs.Lies.{begins, over, expr_lies, exprs_lies, rest_lies, expr_deepest, IsFirst}
+use Rattle.py_grammar.specs.StatementLies.{one_target_lies, target_rest_lies, target_lies, one_target_deepest}
 use Rattle.py_grammar.specs.StatementTokens.{one_target_tokens, target_tokens}
 use Rattle.py_grammar.specs.StatementTrees.{one_target_tree, target_rest_tree, target_tree}
-use Rattle.py_grammar.specs.StatementReader.{prim_target, expr_target, rest_target, exprs_target}
-use Rattle.py_grammar.specs.Written.{OneTarget, named, item, field, TargetRest, end_rest_target, last_target, more_target, Target, one_target, several_targets}
+use Rattle.py_expressions.specs.Targets.{expr_target, rest_target, exprs_target, OneTarget, named, item, field, TargetRest, end_rest_target, last_target, more_target, Target, one_target, several_targets}
 use Rattle.py_grammar.specs.ParsedSimple.{target_form, targets_form, all_target_form}
-use Rattle.py_grammar.proofs.Deepest.{expr_is_first}
-use Rattle.py_grammar.proofs.SimpleReading.{prim_expr, target_expr, rest_exprs, target_exprs, targets_spell}
-
--- ---- which expressions they are
-
-prim_is : (p : Prim) (t : OneTarget) → prim_target p ≡ Some t → prim_expr p ≡ target_expr t
-prim_is (plain_prim (name at bytes)) t is = ap target_expr (same_Some _ _ is)
-prim_is (plain_prim (number at n)) t is = cc
-prim_is (plain_prim (text at bytes)) t is = cc
-prim_is (plain_prim (none at)) t is = cc
-prim_is (plain_prim (true_word at)) t is = cc
-prim_is (plain_prim (false_word at)) t is = cc
-prim_is (plain_prim (empty_tuple opening closing)) t is = cc
-prim_is (plain_prim (group opening e closing)) t is = cc
-prim_is (plain_prim (list opening e closing)) t is = cc
-prim_is (plain_prim (dict opening pairs closing)) t is = cc
-prim_is (call p opening arguments closing) t is = cc
-prim_is (part p opening (one_index e) closing) t is = ap target_expr (same_Some _ _ is)
-prim_is (part p opening (range_index low colon high) closing) t is = cc
-prim_is (attribute p dot name_at bytes) t is = ap target_expr (same_Some _ _ is)
-
-pub target_is : (e : Expr) (t : OneTarget) → expr_target e ≡ Some t → e ≡ target_expr t
-target_is (plain_expr (plain_or (plain_and (plain_not (plain_cmp (plain_sum (plain_term (plain_unary p)))))))) t is = prim_is p t is
-target_is (choice chosen if_word test else_word other) t is = cc
-target_is (plain_expr (or_more left at right)) t is = cc
-target_is (plain_expr (plain_or (and_more left at right))) t is = cc
-target_is (plain_expr (plain_or (plain_and (not_of at e)))) t is = cc
-target_is (plain_expr (plain_or (plain_and (plain_not (compared left op right))))) t is = cc
-target_is (plain_expr (plain_or (plain_and (plain_not (plain_cmp (sum_more left at op right)))))) t is = cc
-target_is (plain_expr (plain_or (plain_and (plain_not (plain_cmp (plain_sum (term_more left at op right))))))) t is = cc
-target_is (plain_expr (plain_or (plain_and (plain_not (plain_cmp (plain_sum (plain_term (signed at op e)))))))) t is = cc
+use Rattle.py_expressions.proofs.Deepest.{expr_is_first}
+use Rattle.py_grammar.proofs.SimpleReading.{rest_exprs, target_exprs, targets_spell}
 
 -- both parts of what was put together
 both : {R : Type 0} (o : Option OneTarget) (p : Option TargetRest) (f : OneTarget → TargetRest → R) (r : R) → option_and_then (λ t. option_map (f t) p) o ≡ Some r

@@ -4,24 +4,24 @@ use Rattle.std.proofs.lemmas.Option.{same_Some}
 use Rattle.prov_base.specs.declared.place.Pos.{Pos}
 use Rattle.py_lines.specs.declared.parts.Token.{Token}
 use Rattle.py_lines.specs.declared.parts.TokenKind.TheVariants.{Sign}
-use Rattle.py_grammar.specs.declared.fault.Fault.TheVariants.{TooDeep}
-use Rattle.py_grammar.specs.declared.fault.Stop.{Stop}
-use Rattle.py_grammar.specs.declared.fault.Stop.TheVariants.{Here, End}
-use Rattle.py_grammar.specs.Concrete.{Spot, Expr, plain_expr, plain_or, plain_and, plain_not, plain_cmp, Sum, plain_sum, plain_term, plain_unary}
-use Rattle.py_grammar.specs.Tokens.{token, sum_tokens}
-use Rattle.py_grammar.specs.Lies.{sum_lies, one_target_lies}
-use Rattle.py_grammar.specs.Reader.{next_level, starts, is_sign, read_sum}
-use Rattle.py_grammar.specs.Written.{OneTarget, named, item, field, one_target}
+use Rattle.py_expressions.specs.declared.fault.Fault.TheVariants.{TooDeep}
+use Rattle.py_expressions.specs.declared.fault.Stop.{Stop}
+use Rattle.py_expressions.specs.declared.fault.Stop.TheVariants.{Here, End}
+use Rattle.py_expressions.specs.Concrete.{Spot, Expr, plain_expr, plain_or, plain_and, plain_not, plain_cmp, Sum, plain_sum, plain_term, plain_unary}
+use Rattle.py_expressions.specs.Tokens.{token, sum_tokens}
+use Rattle.py_expressions.specs.Lies.{sum_lies}
+use Rattle.py_grammar.specs.StatementLies.{one_target_lies}
+use Rattle.py_expressions.specs.Reader.{next_level, starts, is_sign, read_sum}
+use Rattle.py_expressions.specs.Targets.{OneTarget, named, item, field, one_target, expr_target}
 use Rattle.py_grammar.specs.StatementTokens.{one_target_tokens}
-use Rattle.py_grammar.specs.StatementReader.{expr_target}
 use Rattle.py_grammar.specs.LineReader.{read_one_target}
-use Rattle.py_grammar.specs.Parsed.{IsDeep, Only, Finds, is_form}
+use Rattle.py_expressions.specs.Parsed.{IsDeep, Only, Finds, is_form}
 use Rattle.py_grammar.specs.ParsedHead.{passed_tokens, passed_lies, room_behind}
-use Rattle.py_grammar.proofs.Leading.{Reads}
-use Rattle.py_grammar.proofs.Reading.{sum_leads, sum_stops}
-use Rattle.py_grammar.proofs.Firsts.{sum_starts, is_above}
-use Rattle.py_grammar.proofs.Refusals.{deeper}
-use Rattle.py_grammar.proofs.RowParts.{more_steps}
+use Rattle.py_expressions.proofs.Leading.{Reads}
+use Rattle.py_expressions.proofs.Reading.{sum_leads, sum_stops}
+use Rattle.py_expressions.proofs.Firsts.{sum_starts, is_above}
+use Rattle.py_expressions.proofs.Refusals.{deeper}
+use Rattle.py_expressions.proofs.RowParts.{more_steps}
 use Rattle.py_grammar.proofs.LineFirsts.{same_first, same_behind, not_nothing}
 use Rattle.py_grammar.proofs.HeadReading.{target_prim, one_target_reads, target_begins}
 

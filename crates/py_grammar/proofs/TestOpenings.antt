@@ -8,27 +8,28 @@ use Rattle.py_lines.specs.declared.parts.TokenKind.TheVariants.{Keyword}
 use Rattle.py_tree.specs.declared.expr.Expr.{Expr as BuiltExpr}
 use Rattle.py_tree.specs.declared.stmt.Bound.{Bound}
 use Rattle.py_tree.specs.Erasure.{expr_of}
-use Rattle.py_grammar.specs.declared.fault.Stop.{Stop}
-use Rattle.py_grammar.specs.declared.part.Part.{Part}
+use Rattle.py_expressions.specs.declared.fault.Stop.{Stop}
+use Rattle.py_expressions.specs.declared.part.Part.{Part}
 use Rattle.py_grammar.specs.declared.head.What.{What}
 use Rattle.py_grammar.specs.declared.head.What.TheVariants.{If, Elif, While, Except, With}
-use Rattle.py_grammar.specs.Concrete.{Spot, Expr}
-use Rattle.py_grammar.specs.Tokens.{token, expr_tokens}
-use Rattle.py_grammar.specs.Trees.{expr_tree}
-use Rattle.py_grammar.specs.Depth.{expr_depth}
-use Rattle.py_grammar.specs.Lies.{expr_lies, simple_lies}
+use Rattle.py_expressions.specs.Concrete.{Spot, Expr}
+use Rattle.py_expressions.specs.Tokens.{token, expr_tokens}
+use Rattle.py_expressions.specs.Trees.{expr_tree}
+use Rattle.py_expressions.specs.Depth.{expr_depth}
+use Rattle.py_expressions.specs.Lies.{expr_lies}
+use Rattle.py_grammar.specs.StatementLies.{simple_lies}
 use Rattle.py_grammar.specs.Written.{Simple, Naming, no_naming, every_kind, one_kind}
 use Rattle.py_grammar.specs.StatementTokens.{naming_tokens}
 use Rattle.py_grammar.specs.StatementTrees.{naming_bound}
 use Rattle.py_grammar.specs.LineReader.{Head, if_head, elif_head, while_head, except_head, with_head, colon_tokens, head_tokens, then_read, read_colon, read_behind, read_naming, read_head}
-use Rattle.py_grammar.specs.Reader.{Read, go_on, is_keyword, is_sign, spot_of, begins_expr, read_expr}
-use Rattle.py_grammar.specs.Parsed.{IsDeep, Refused, Found, expr_part}
+use Rattle.py_expressions.specs.Reader.{Read, go_on, is_keyword, is_sign, spot_of, begins_expr, read_expr}
+use Rattle.py_expressions.specs.Parsed.{IsDeep, Refused, Found, expr_part}
 use Rattle.py_grammar.specs.ParsedHead.{Context, Took, naming_part, word_may, inner_around, behind_stands, head_stands, behind_depth, behind_lies, head_depth, head_lies, behind_in, IsWhat, OpeningFound, OpeningRefused}
-use Rattle.py_grammar.proofs.Stops.{some_spot, spot_at}
-use Rattle.py_grammar.proofs.Lying.{expr_low}
+use Rattle.py_expressions.proofs.Stops.{some_spot, spot_at}
+use Rattle.py_expressions.proofs.Lying.{expr_low}
 use Rattle.py_grammar.proofs.SimpleParts.{expr_within, expr_fits, none_deeper}
-use Rattle.py_grammar.proofs.Reading.{if_true, if_false}
-use Rattle.py_grammar.proofs.Refusals.{deeper}
+use Rattle.py_expressions.proofs.Reading.{if_true, if_false}
+use Rattle.py_expressions.proofs.Refusals.{deeper}
 use Rattle.py_grammar.proofs.HeadParts.{OnlyHead, HeadTurns, turns_on, colon_on, expr_is_read, starts_same, begins_part_head, refused_part_head, past_opening}
 use Rattle.py_grammar.proofs.NoDel.{is_simple_head}
 use Rattle.py_grammar.proofs.Unread.{passes_word}
@@ -84,7 +85,7 @@ test_turns : (word : ℕ) (head : Spot → Expr → Spot → Option Simple → H
 test_turns word head what is spot next = record { before = 0; behind = 0; turns = λ n more first. is.reads (n + 0) spot more }
 
 test_found : (word : ℕ) (head : Spot → Expr → Spot → Option Simple → Head) (what : BuiltExpr → What) → Tested word head what → (c : Context) (before after : List Token) (part : Part)
-    → Found expr_part expr_tree 7 100 before part after → OpeningFound c word before (what part.expr) after
+    → Found expr_part expr_tree 7 100 before part after → OpeningFound c word before (what part.expr.value) after
 test_found word head what is c before after part f spot =
     let r = colon_on expr_part (token (Keyword word) spot ∷ []) before after (test_turn head spot) 0 (head spot f.written) f.written (test_turns word head what is spot before) (expr_is_read f) f.before_is (λ n more first. refl) in
     record {
@@ -95,7 +96,7 @@ test_found word head what is c before after part f spot =
       steps = r.steps;
       left = r.left;
       reads = r.reads;
-      what_is = λ colon behind. is.what_is part.expr spot f.written colon behind f.tree_is;
+      what_is = λ colon behind. is.what_is part.expr.value spot f.written colon behind f.tree_is;
       behind_is = λ colon behind. is.behind_is spot f.written colon behind;
       past = past_opening word spot (expr_tokens f.written) (head spot f.written some_spot None) some_spot is.other (is.compound spot f.written some_spot None) (is.behind_is spot f.written some_spot None) (is.tokens_are spot f.written some_spot None);
       depth = expr_depth f.written;
@@ -119,19 +120,19 @@ test_refused word head what is c before stop refused = record {
       (λ why n e left deep. deep_colon why (n + 0) (head spot e) left 100 (expr_lies e) (expr_lies e) (λ colon behind at. is.lies_is spot e colon behind at) (λ at some. omega arith) deep) refused;
 }
 
-pub if_found : (c : Context) (before after : List Token) (part : Part) → Found expr_part expr_tree 7 100 before part after → OpeningFound c 20 before (If part.expr) after
+pub if_found : (c : Context) (before after : List Token) (part : Part) → Found expr_part expr_tree 7 100 before part after → OpeningFound c 20 before (If part.expr.value) after
 if_found c before after part f = test_found 20 if_head If if_tested c before after part f
 
 pub if_refused : (c : Context) (before : List Token) (stop : Stop) → Refused expr_part 100 before stop → OpeningRefused c 20 before stop
 if_refused c before stop refused = test_refused 20 if_head If if_tested c before stop refused
 
-pub elif_found : (c : Context) (before after : List Token) (part : Part) → Found expr_part expr_tree 7 100 before part after → OpeningFound c 13 before (Elif part.expr) after
+pub elif_found : (c : Context) (before after : List Token) (part : Part) → Found expr_part expr_tree 7 100 before part after → OpeningFound c 13 before (Elif part.expr.value) after
 elif_found c before after part f = test_found 13 elif_head Elif elif_tested c before after part f
 
 pub elif_refused : (c : Context) (before : List Token) (stop : Stop) → Refused expr_part 100 before stop → OpeningRefused c 13 before stop
 elif_refused c before stop refused = test_refused 13 elif_head Elif elif_tested c before stop refused
 
-pub while_found : (c : Context) (before after : List Token) (part : Part) → Found expr_part expr_tree 7 100 before part after → OpeningFound c 32 before (While part.expr) after
+pub while_found : (c : Context) (before after : List Token) (part : Part) → Found expr_part expr_tree 7 100 before part after → OpeningFound c 32 before (While part.expr.value) after
 while_found c before after part f = test_found 32 while_head While while_tested c before after part f
 
 pub while_refused : (c : Context) (before : List Token) (stop : Stop) → Refused expr_part 100 before stop → OpeningRefused c 32 before stop
@@ -181,7 +182,7 @@ with_name_refused c before after part stop f refused = record {
       (λ why n called left deep. deep_colon why ((n + (expr_is_read f).steps) + 0) (with_head spot f.written called) left 100 (λ at. 0) (expr_lies f.written) (λ colon behind at. refl) (λ at some. omega arith) deep) refused;
 }
 
-pub with_found : (c : Context) (before middle after : List Token) (part : Part) (bound : Option Bound) → Found expr_part expr_tree 7 100 before part middle → Took naming_part naming_bound middle bound after → OpeningFound c 33 before (With part.expr bound) after
+pub with_found : (c : Context) (before middle after : List Token) (part : Part) (bound : Option Bound) → Found expr_part expr_tree 7 100 before part middle → Took naming_part naming_bound middle bound after → OpeningFound c 33 before (With part.expr.value bound) after
 with_found c before middle after part bound f took spot =
     let r = colon_on naming_part (token (Keyword 33) spot ∷ expr_tokens f.written) middle after (λ n. called_turn spot f.written (n + (expr_is_read f).steps)) ((expr_is_read f).steps) (with_head spot f.written took.written) took.written
     (called_turns spot before middle part f) took.is_read took.before_is (λ n more first. ap (λ m. read_colon m (with_head spot f.written took.written) more) (omega arith)) in
@@ -283,7 +284,7 @@ except_name_refused c before after part stop begins f refused = record {
 }
 
 pub except_found : (c : Context) (before middle after : List Token) (part : Part) (bound : Option Bound) → begins_expr before ≡ true → Found expr_part expr_tree 7 100 before part middle → Took naming_part naming_bound middle bound after
-    → OpeningFound c 15 before (Except (Some part.expr) bound) after
+    → OpeningFound c 15 before (Except (Some part.expr.value) bound) after
 except_found c before middle after part bound begins f took spot =
     let r = colon_on naming_part (token (Keyword 15) spot ∷ expr_tokens f.written) middle after (λ n. class_turn spot f.written (n + (expr_is_read f).steps)) ((expr_is_read f).steps) (except_head spot (one_kind f.written took.written)) took.written
     (class_turns spot before middle part begins f) took.is_read took.before_is (λ n more first. ap (λ m. read_colon m (except_head spot (one_kind f.written took.written)) more) (omega arith)) in

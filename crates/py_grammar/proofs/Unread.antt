@@ -3,19 +3,19 @@ use Rattle.std.proofs.Common.{◌≡◌, ℕ, max, Bool, true, false, List, [], 
 use Rattle.std.specs.Prelude.{◌||◌}
 use Rattle.py_lines.specs.declared.parts.Token.{Token}
 use Rattle.py_lines.specs.declared.parts.TokenKind.TheVariants.{Keyword}
-use Rattle.py_grammar.specs.declared.fault.Fault.{Fault}
-use Rattle.py_grammar.specs.declared.fault.Stop.TheVariants.{Here}
-use Rattle.py_grammar.specs.Concrete.{Spot, Sum}
-use Rattle.py_grammar.specs.Tokens.{token, sum_tokens}
-use Rattle.py_grammar.specs.Lies.{sum_lies}
-use Rattle.py_grammar.specs.Written.{OneTarget}
-use Rattle.py_grammar.specs.Reader.{is_keyword}
+use Rattle.py_expressions.specs.declared.fault.Fault.{Fault}
+use Rattle.py_expressions.specs.declared.fault.Stop.TheVariants.{Here}
+use Rattle.py_expressions.specs.Concrete.{Spot, Sum}
+use Rattle.py_expressions.specs.Tokens.{token, sum_tokens}
+use Rattle.py_expressions.specs.Lies.{sum_lies}
+use Rattle.py_expressions.specs.Targets.{OneTarget}
+use Rattle.py_expressions.specs.Reader.{is_keyword}
 use Rattle.py_grammar.specs.WellPlaced.{Around}
-use Rattle.py_grammar.specs.Parsed.{IsDeep}
-use Rattle.py_grammar.specs.ParsedRows.{first_token}
+use Rattle.py_expressions.specs.Parsed.{IsDeep}
+use Rattle.py_expressions.specs.ParsedRows.{first_token}
 use Rattle.py_grammar.specs.ParsedSimple.{UnreadDel}
 use Rattle.py_grammar.specs.ParsedHead.{passed_tokens, passed_lies, room_behind, IsPast, BeginsPlaced, UnreadLine}
-use Rattle.py_grammar.proofs.Firsts.{keyword_is}
+use Rattle.py_expressions.proofs.Firsts.{keyword_is}
 use Rattle.py_grammar.proofs.LineFirsts.{same_first, same_behind, not_nothing}
 use Rattle.py_grammar.proofs.NoDel.{has_del, without, del_absent, del_first}
 

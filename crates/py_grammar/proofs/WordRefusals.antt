@@ -7,28 +7,28 @@ use Rattle.py_lines.specs.declared.parts.TokenKind.TheVariants.{Word, Keyword}
 use Rattle.py_tree.specs.declared.stmt.Form.{Form}
 use Rattle.py_tree.specs.Erasure.{expr_of, form_of}
 use Rattle.py_tree.specs.Tree.{pass_form, break_form, continue_form, return_form, raise_form, import_form}
-use Rattle.py_grammar.specs.declared.fault.Fault.TheVariants.{Unexpected}
-use Rattle.py_grammar.specs.declared.fault.Stop.{Stop}
-use Rattle.py_grammar.specs.declared.fault.Stop.TheVariants.{Here, End}
-use Rattle.py_grammar.specs.declared.part.Part.{Part}
-use Rattle.py_grammar.specs.Concrete.{Spot, Expr, Exprs}
-use Rattle.py_grammar.specs.Tokens.{token, word, expr_tokens, exprs_tokens}
-use Rattle.py_grammar.specs.Trees.{expr_tree}
-use Rattle.py_grammar.specs.Depth.{simple_depth}
+use Rattle.py_expressions.specs.declared.fault.Fault.TheVariants.{Unexpected}
+use Rattle.py_expressions.specs.declared.fault.Stop.{Stop}
+use Rattle.py_expressions.specs.declared.fault.Stop.TheVariants.{Here, End}
+use Rattle.py_expressions.specs.declared.part.Part.{Part}
+use Rattle.py_expressions.specs.Concrete.{Spot, Expr, Exprs}
+use Rattle.py_expressions.specs.Tokens.{token, word, expr_tokens, exprs_tokens}
+use Rattle.py_expressions.specs.Trees.{expr_tree}
+use Rattle.py_grammar.specs.StatementDepth.{simple_depth}
 use Rattle.py_grammar.specs.Written.{Simple, pass, break, continue, return, return_value, raise, raise_value, import_module}
 use Rattle.py_grammar.specs.StatementTokens.{simple_tokens}
 use Rattle.py_grammar.specs.WellPlaced.{Around, is_module}
-use Rattle.py_grammar.specs.Reader.{read_name, read_expr, read_exprs}
+use Rattle.py_expressions.specs.Reader.{read_name, read_expr, read_exprs}
 use Rattle.py_grammar.specs.StatementReader.{whole, alone, read_simple}
-use Rattle.py_grammar.specs.Parsed.{Only, Found, FoundRow, Refused, TakenName, one_name, expr_part, exprs_part}
+use Rattle.py_expressions.specs.Parsed.{Only, Found, FoundRow, Refused, TakenName, one_name, expr_part, exprs_part}
 use Rattle.py_grammar.specs.ParsedSimple.{leaving_none, BeginsSimple, has_place, IsAmiss, SimpleEnds, FoundBehind, RefusedBehind, FoundBehindAny, RefusedBehindAny, IsMore}
-use Rattle.py_grammar.proofs.Reading.{expr_reads}
-use Rattle.py_grammar.proofs.RowReads.{row_reads}
-use Rattle.py_grammar.proofs.Refusals.{first_of, alone_elsewhere}
-use Rattle.py_grammar.proofs.Stops.{spot_at}
-use Rattle.py_grammar.proofs.Choices.{some_expr}
+use Rattle.py_expressions.proofs.Reading.{expr_reads}
+use Rattle.py_expressions.proofs.RowReads.{row_reads, row_all}
+use Rattle.py_expressions.proofs.Refusals.{first_of, alone_elsewhere}
+use Rattle.py_expressions.proofs.Stops.{spot_at}
+use Rattle.py_expressions.proofs.Choices.{some_expr}
 use Rattle.py_grammar.proofs.FixedNames.{fixed_name, fixed_refused}
-use Rattle.py_grammar.proofs.SimpleParts.{Turns, turned_none, one_found, expr_fits, row_fits, as_whole, map_whole, only_whole, only_map, only_alone, begins_part, refused_part, ended, misplaced, other_statement, row_all, row_goes, expr_all, expr_goes, none_deeper, not_deeper}
+use Rattle.py_grammar.proofs.SimpleParts.{Turns, turned_none, one_found, expr_fits, row_fits, as_whole, map_whole, only_whole, only_map, only_alone, begins_part, refused_part, ended, misplaced, other_statement, row_goes, expr_all, expr_goes, none_deeper, not_deeper}
 
 -- a token that a keyword alone does not have behind it
 none_behind : (around : Around) (word : ℕ) (s : Spot → Simple) (behind : List Token) (stop : Stop) → ((spot : Spot) → has_place around (s spot) ≡ true) → ((spot : Spot) → simple_depth (s spot) ≤ 100) → (word == 12) ≡ false → ((spot : Spot) → simple_tokens (s spot) ≡ token (Keyword word) spot ∷ [])
@@ -85,7 +85,7 @@ return_turns spot (t ∷ ts) other = record { before = 0; behind = 0; turns = λ
 pub return_found : (around : Around) (behind : List Token) (form : Form) → around.in_function ≡ true → behind ≡ [] → form_of form ≡ return_form None → FoundBehind 30 around behind form
 return_found around behind form inside is tree spot = record { written = return spot; before_is = ap (λ ts. token (Keyword 30) spot ∷ ts) is; tree_is = tree; fits = omega arith; stands = inside }
 
-pub return_value_found : (around : Around) (behind after : List Token) (part : Part) (form : Form) → around.in_function ≡ true → FoundRow 100 behind part after → after ≡ [] → form_of form ≡ return_form (Some (expr_of part.expr)) → FoundBehind 30 around behind form
+pub return_value_found : (around : Around) (behind after : List Token) (part : Part) (form : Form) → around.in_function ≡ true → FoundRow 100 behind part after → after ≡ [] → form_of form ≡ return_form (Some (expr_of part.expr.value)) → FoundBehind 30 around behind form
 return_value_found around behind after part form inside f is tree spot = record {
   written = return_value spot f.written;
   before_is = ap (λ ts. token (Keyword 30) spot ∷ ts) (row_all f is);
@@ -128,7 +128,7 @@ raise_turns spot (t ∷ ts) other = record { before = 0; behind = 0; turns = λ 
 pub raise_found : (around : Around) (behind : List Token) (form : Form) → around.in_handler ≡ true → behind ≡ [] → form_of form ≡ raise_form None → FoundBehind 29 around behind form
 raise_found around behind form inside is tree spot = record { written = raise spot; before_is = ap (λ ts. token (Keyword 29) spot ∷ ts) is; tree_is = tree; fits = omega arith; stands = inside }
 
-pub raise_value_found : (around : Around) (behind after : List Token) (part : Part) (form : Form) → Found expr_part expr_tree 7 100 behind part after → after ≡ [] → form_of form ≡ raise_form (Some (expr_of part.expr)) → FoundBehind 29 around behind form
+pub raise_value_found : (around : Around) (behind after : List Token) (part : Part) (form : Form) → Found expr_part expr_tree 7 100 behind part after → after ≡ [] → form_of form ≡ raise_form (Some (expr_of part.expr.value)) → FoundBehind 29 around behind form
 raise_value_found around behind after part form f is tree spot = record {
   written = raise_value spot f.written;
   before_is = ap (λ ts. token (Keyword 29) spot ∷ ts) (expr_all f is);

@@ -9,11 +9,12 @@ use Rattle.py_lines.specs.declared.parts.TokenKind.{TokenKind}
 use Rattle.py_lines.specs.declared.parts.TokenKind.TheVariants.{Word, Keyword, Number, Sign}
 use Rattle.py_tree.specs.declared.expr.Atom.TheVariants.{Int}
 use Rattle.py_tree.specs.Tree as T
-use Rattle.py_grammar.specs.Concrete as C
+use Rattle.py_expressions.specs.Concrete as C
 use Rattle.py_grammar.specs.Written as W
+use Rattle.py_expressions.specs.Targets.{one_target, named}
 use Rattle.py_grammar.specs.Grammar.{InGrammar}
 use Rattle.py_grammar.specs.WellPlaced.{script_stands}
-use Rattle.py_grammar.specs.Depth.{stmt_expr_depth, suites_in}
+use Rattle.py_grammar.specs.StatementDepth.{stmt_expr_depth, suites_in}
 
 -- a token on this line, from this column on, of so many bytes, where the line begins at this offset
 abbrev spot : ℕ → ℕ → ℕ → ℕ → C.Spot
@@ -30,7 +31,7 @@ of_number s n = C.plain_expr (C.plain_or (C.plain_and (C.plain_not (C.plain_cmp 
 
 -- `x = 0` with its places
 abbrev binding : C.Spot → List ℕ → C.Spot → C.Spot → ℕ → W.Simple
-binding x name equals value n = W.assign (W.one_target (W.named x name)) equals (C.one_expr (of_number value n))
+binding x name equals value n = W.assign (one_target (named x name)) equals (C.one_expr (of_number value n))
 
 -- the script
 --     if x: y = 1

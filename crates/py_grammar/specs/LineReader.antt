@@ -1,15 +1,14 @@
 -- A reader of the tokens of one line: a simple statement, or what begins a compound one or a part of it. Of it public clauses cite
 -- `Head` and `head_tokens` alone.
-use Rattle.std.specs.Prelude.{ℕ, zero, suc, ◌==◌, Bool, true, false, List, [], ◌∷◌, ◌++◌, codes, Option, Some, None, option_map, if◌then◌else◌}
+use Rattle.py_expressions.specs.Reader.{begins_name, Read, go_on, spot_of, is_keyword, is_sign, read_sign, read_keyword, read_name, read_expr, read_exprs, read_prim, next_level, begins_expr}
+use Rattle.std.specs.Prelude.{ℕ, zero, suc, ◌==◌, List, [], ◌∷◌, ◌++◌, codes, Option, Some, None, option_map, if◌then◌else◌}
 use Rattle.py_lines.specs.declared.parts.Token.{Token}
-use Rattle.py_lines.specs.declared.parts.TokenKind.{TokenKind}
-use Rattle.py_lines.specs.declared.parts.TokenKind.TheVariants.{Word}
-use Rattle.py_grammar.specs.Concrete.{Spot, Expr, Exprs}
-use Rattle.py_grammar.specs.Tokens.{keyword, sign, word, expr_tokens, exprs_tokens}
-use Rattle.py_grammar.specs.Reader.{Read, go_on, spot_of, is_keyword, is_sign, read_sign, read_keyword, read_name, read_expr, read_exprs, read_prim, next_level, begins_expr}
-use Rattle.py_grammar.specs.StatementReader.{prim_target, read_simple}
+use Rattle.py_expressions.specs.Concrete.{Spot, Expr, Exprs}
+use Rattle.py_expressions.specs.Tokens.{keyword, sign, word, expr_tokens, exprs_tokens}
+use Rattle.py_expressions.specs.Targets.{prim_target, OneTarget, TargetRest, end_rest_target, last_target, more_target, Target, one_target, several_targets}
+use Rattle.py_grammar.specs.StatementReader.{read_simple}
 use Rattle.py_grammar.specs.StatementTokens.{simple_tokens, target_tokens, names_tokens, params_tokens, naming_tokens, kind_tokens, base_tokens}
-use Rattle.py_grammar.specs.Written.{OneTarget, TargetRest, end_rest_target, last_target, more_target, Target, one_target, several_targets, Simple, Names, last_name, more_names, Params, no_params, params, params_comma, Naming, no_naming, naming, Kind, every_kind, one_kind, Base, no_base, empty_base, base}
+use Rattle.py_grammar.specs.Written.{Simple, Names, last_name, more_names, Params, no_params, params, params_comma, Naming, no_naming, naming, Kind, every_kind, one_kind, Base, no_base, empty_base, base}
 
 -- what one line begins, with the simple statement behind its `:`, if one stands there
 pub data Head : Type 0 where
@@ -79,14 +78,6 @@ abbrev mutual
 abbrev pub read_target : ℕ → List Token → Read Target
 read_target n ts = go_on (read_one_target n ts) (λ t rest. if next_level rest == 8
     then go_on (read_sign 6 rest) (λ comma more. go_on (read_target_rest n more) (λ found left. Some (several_targets t comma found, left))) else Some (one_target t, rest))
-
-abbrev pub is_word : TokenKind → Bool
-is_word (Word bytes) = true
-is_word kind = false
-
-abbrev pub begins_name : List Token → Bool
-begins_name [] = false
-begins_name (t ∷ ts) = is_word t.kind
 
 -- names up to one that no comma with a name follows
 abbrev mutual

@@ -12,26 +12,29 @@ use Rattle.py_grammar.specs.declared.context.Last.{Last}
 use Rattle.py_grammar.specs.declared.context.Limit.{Limit}
 use Rattle.py_grammar.specs.declared.context.Limit.TheVariants.{Number, Depth}
 use Rattle.py_grammar.specs.declared.context.Last.TheVariants.{If as AfterIf, Try as AfterTry, Handler}
-use Rattle.py_grammar.specs.declared.fault.Fault.{Fault}
-use Rattle.py_grammar.specs.declared.fault.Fault.TheVariants.{Unexpected, TooDeep, TooMany, Memory}
-use Rattle.py_grammar.specs.declared.fault.Stop.{Stop}
-use Rattle.py_grammar.specs.declared.fault.Stop.TheVariants.{Here, End}
+use Rattle.py_expressions.specs.declared.fault.Fault.{Fault}
+use Rattle.py_expressions.specs.declared.fault.Fault.TheVariants.{Unexpected, TooDeep, TooMany, Memory}
+use Rattle.py_expressions.specs.declared.fault.Stop.{Stop}
+use Rattle.py_expressions.specs.declared.fault.Stop.TheVariants.{Here, End}
 use Rattle.py_grammar.specs.declared.head.What.{What}
 use Rattle.py_grammar.specs.declared.head.What.TheVariants.{Simple as SimpleIs, If, Elif, Else, While, For, Try, Except, With, Def, Class, Global}
 use Rattle.py_grammar.specs.declared.head.LineHead.{LineHead}
 use Rattle.py_grammar.specs.declared.head.Behind.{Behind}
-use Rattle.py_grammar.specs.Concrete.{Spot, Expr, Sum}
-use Rattle.py_grammar.specs.Tokens.{token, keyword, expr_tokens, sum_tokens}
-use Rattle.py_grammar.specs.Trees.{expr_tree, exprs_tree}
-use Rattle.py_grammar.specs.Written.{OneTarget, named, Simple, del, pass, Names, Params, Naming, Kind, Base, Target}
+use Rattle.py_expressions.specs.Concrete.{Spot, Expr, Sum}
+use Rattle.py_expressions.specs.Tokens.{token, keyword, expr_tokens, sum_tokens}
+use Rattle.py_expressions.specs.Trees.{expr_tree, exprs_tree}
+use Rattle.py_expressions.specs.Targets.{OneTarget, named, Target}
+use Rattle.py_grammar.specs.Written.{Simple, del, pass, Names, Params, Naming, Kind, Base}
 use Rattle.py_grammar.specs.StatementTokens.{simple_tokens, one_target_tokens, target_tokens, names_tokens, params_tokens, naming_tokens, kind_tokens, base_tokens}
 use Rattle.py_grammar.specs.StatementTrees.{simple_form, target_tree, names_list, params_list, naming_bound, kind_class, kind_bound, base_tree}
-use Rattle.py_grammar.specs.Depth.{expr_depth, exprs_depth, simple_depth, target_depth, kind_depth}
-use Rattle.py_grammar.specs.Lies.{expr_lies, exprs_lies, sum_lies, one_target_lies, simple_lies, target_lies, kind_lies, base_lies, nowhere, target_deepest, kind_deepest, IsApart}
+use Rattle.py_expressions.specs.Depth.{expr_depth, exprs_depth}
+use Rattle.py_grammar.specs.StatementDepth.{simple_depth, target_depth, kind_depth}
+use Rattle.py_expressions.specs.Lies.{expr_lies, exprs_lies, sum_lies, nowhere, IsApart}
+use Rattle.py_grammar.specs.StatementLies.{one_target_lies, simple_lies, target_lies, kind_lies, base_lies, target_deepest, kind_deepest}
 use Rattle.py_grammar.specs.WellPlaced.{Around, in_suite, in_loop_suite, in_handler_suite, in_def_suite, in_class_suite, simple_stands, def_stands, none_given}
 use Rattle.py_grammar.specs.LineReader.{Head, simple_head, if_head, elif_head, else_head, while_head, for_head, try_head, except_head, with_head, def_head, class_head, global_head, behind_tokens, colon_tokens, head_tokens, read_colon, read_head, read_target, read_names, read_params, read_naming, read_kind, read_base}
-use Rattle.py_grammar.specs.Parsed.{Production, IsAtFirst, IsDeep, ShowsAt}
-use Rattle.py_grammar.specs.ParsedRows.{first_token, IsRead}
+use Rattle.py_expressions.specs.Parsed.{Production, IsAtFirst, IsDeep, ShowsAt}
+use Rattle.py_expressions.specs.ParsedRows.{first_token, IsRead}
 use Rattle.py_grammar.specs.ParsedSimple.{around_of, leaving_none, simple_part, BeginsSome, BeginsDel, FirstDeepSome, FirstDeepDel, UnreadDel}
 
 -- ---- the parts of a line

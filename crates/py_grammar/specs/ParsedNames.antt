@@ -1,29 +1,31 @@
 -- What the parser answers of names in a row, parameters and targets on a line. No public clause speaks of it.
-use Rattle.std.specs.Prelude.{◌≡◌, ⊤, ◌⊎◌, ℕ, ◌<◌, ◌≤◌, max, true, false, List, [], ◌∷◌, ◌++◌, map, Some, is_none}
+use Rattle.std.specs.Prelude.{◌≡◌, ⊤, ◌⊎◌, ℕ, ◌<◌, ◌≤◌, max, true, false, List, [], ◌∷◌, ◌++◌, map, Some}
 use Rattle.py_lines.specs.declared.parts.Token.{Token}
 use Rattle.py_lines.specs.declared.parts.TokenKind.TheVariants.{Keyword, Sign}
 use Rattle.py_tree.specs.Tree.{ExprTree, TargetTree}
 use Rattle.py_tree.specs.Erasure.{expr_of, exprs_list}
-use Rattle.py_grammar.specs.declared.part.Part.{Part}
-use Rattle.py_grammar.specs.declared.rows.Row.{Row}
-use Rattle.py_grammar.specs.declared.fault.Fault.{Fault}
-use Rattle.py_grammar.specs.declared.fault.Fault.TheVariants.{Unexpected, TooDeep, TooMany, Memory}
-use Rattle.py_grammar.specs.declared.fault.Stop.{Stop}
-use Rattle.py_grammar.specs.declared.fault.Stop.TheVariants.{Here, End}
-use Rattle.py_grammar.specs.Concrete.{Spot, Sum}
-use Rattle.py_grammar.specs.Tokens.{token, sum_tokens}
-use Rattle.py_grammar.specs.Written.{OneTarget, TargetRest, Names, Params}
+use Rattle.py_expressions.specs.declared.part.Part.{Part}
+use Rattle.py_expressions.specs.declared.rows.Row.{Row}
+use Rattle.py_expressions.specs.declared.fault.Fault.{Fault}
+use Rattle.py_expressions.specs.declared.fault.Fault.TheVariants.{Unexpected, TooDeep, TooMany, Memory}
+use Rattle.py_expressions.specs.declared.fault.Stop.{Stop}
+use Rattle.py_expressions.specs.declared.fault.Stop.TheVariants.{Here, End}
+use Rattle.py_expressions.specs.Concrete.{Spot, Sum}
+use Rattle.py_expressions.specs.Tokens.{token, sum_tokens}
+use Rattle.py_expressions.specs.Targets.{OneTarget, TargetRest}
+use Rattle.py_grammar.specs.Written.{Names, Params}
 use Rattle.py_grammar.specs.StatementTokens.{one_target_tokens, target_rest_tokens, target_tokens, names_tokens, params_tokens}
 use Rattle.py_grammar.specs.StatementTrees.{one_target_tree, target_rest_tree, target_tree, names_list, params_list}
-use Rattle.py_grammar.specs.Reader.{Read, go_on, next_level, read_sign}
-use Rattle.py_grammar.specs.Trees.{sum_tree}
-use Rattle.py_grammar.specs.Depth.{one_target_depth, target_rest_depth}
-use Rattle.py_grammar.specs.Lies.{nowhere, target_rest_lies, one_target_deepest, target_rest_deepest}
+use Rattle.py_expressions.specs.Reader.{Read, go_on, next_level, read_sign}
+use Rattle.py_expressions.specs.Trees.{sum_tree}
+use Rattle.py_grammar.specs.StatementDepth.{one_target_depth, target_rest_depth}
+use Rattle.py_expressions.specs.Lies.{nowhere}
+use Rattle.py_grammar.specs.StatementLies.{target_rest_lies, one_target_deepest, target_rest_deepest}
 use Rattle.py_grammar.specs.StatementReader.{whole}
 use Rattle.py_grammar.specs.LineReader.{read_target_rest, read_names, read_params}
 use Rattle.py_grammar.specs.WellPlaced.{are_different, none_given}
-use Rattle.py_grammar.specs.Parsed.{Production, ShowsAt, IsAtFirst, IsDeep, Finds, Refused, Found, sum_part}
-use Rattle.py_grammar.specs.ParsedRows.{first_token, IsRead}
+use Rattle.py_expressions.specs.Parsed.{Production, ShowsAt, IsAtFirst, IsDeep, Finds, Refused, Found, sum_part}
+use Rattle.py_expressions.specs.ParsedRows.{first_token, IsRead}
 use Rattle.py_grammar.specs.ParsedSimple.{leaving_none, target_form, targets_form}
 use Rattle.py_grammar.specs.ParsedHead.{Took, target_part, names_part, params_part, passed_tokens, BeginsTargets, FirstDeepTargets, UnreadTargets, LineRefused}
 
@@ -147,7 +149,7 @@ TargetsRefused p room before stop = LineRefused (BeginsTargets room) (IsAheadOfT
 pub record ItemFound (room : ℕ) (before : List Token) (part : Part) (after : List Token) : Type 0 where
   pub target : OneTarget
   pub before_is : before ≡ one_target_tokens target ++ after
-  pub tree_is : target_form (expr_of part.expr) ≡ Some (one_target_tree target)
+  pub tree_is : target_form (expr_of part.expr.value) ≡ Some (one_target_tree target)
   pub height_is : part.height ≡ one_target_depth target
   pub deepest_is : part.deepest ≡ one_target_deepest target
   pub fits : part.height ≤ room
@@ -159,7 +161,7 @@ pub record WrongItem (room : ℕ) (before : List Token) (stop : Stop) : Type 0 w
   pub after : List Token
   pub stop_is : IsAtFirst after stop
   pub found : Found sum_part sum_tree 3 room before part after
-  pub form : is_none part.wrong ≡ false
+  pub form : part.is_target ≡ false
 
 pub record ItemRefused (room : ℕ) (before : List Token) (stop : Stop) : Type 0 where
   pub why : Refused sum_part room before stop ⊎ WrongItem room before stop

@@ -1,5 +1,5 @@
 -- What the parser answers of the tokens of a simple statement.
-use Rattle.std.specs.Prelude.{◌≡◌, ⊤, ◌⊎◌, ℕ, ◌<◌, ◌≤◌, Bool, true, false, ◌||◌, ◌==◌, List, [], ◌∷◌, ◌++◌, length, Option, Some, None, option_map, option_and_then, is_some, is_none}
+use Rattle.std.specs.Prelude.{◌≡◌, ⊤, ◌⊎◌, ℕ, ◌<◌, ◌≤◌, Bool, true, false, ◌||◌, ◌==◌, List, [], ◌∷◌, ◌++◌, length, Option, Some, None, option_map, option_and_then, is_some}
 use Rattle.prov_base.specs.declared.place.Pos.{Pos}
 use Rattle.py_lines.specs.declared.parts.Token.{Token}
 use Rattle.py_lines.specs.declared.parts.TokenKind.{TokenKind}
@@ -9,23 +9,25 @@ use Rattle.py_tree.specs.declared.stmt.Form.{Form}
 use Rattle.py_tree.specs.Tree.{ExprTree, ExprsTree, TargetTree, TargetsTree, var_expr, attr_expr, part_expr, tuple_expr, end_exprs, more_exprs, var_target, part_target, field_target, many_target, end_targets, more_targets}
 use Rattle.py_tree.specs.Erasure.{expr_of, form_of}
 use Rattle.py_grammar.specs.declared.around.Around.{Around as Standing}
-use Rattle.py_grammar.specs.declared.fault.Fault.{Fault}
-use Rattle.py_grammar.specs.declared.fault.Fault.TheVariants.{Unexpected, TooDeep, Memory}
-use Rattle.py_grammar.specs.declared.fault.Stop.{Stop}
-use Rattle.py_grammar.specs.declared.fault.Stop.TheVariants.{Here, End}
-use Rattle.py_grammar.specs.declared.part.Part.{Part}
-use Rattle.py_grammar.specs.Concrete.{Spot, Expr, Exprs}
-use Rattle.py_grammar.specs.Trees.{exprs_tree}
+use Rattle.py_expressions.specs.declared.fault.Fault.{Fault}
+use Rattle.py_expressions.specs.declared.fault.Fault.TheVariants.{Unexpected, TooDeep, Memory}
+use Rattle.py_expressions.specs.declared.fault.Stop.{Stop}
+use Rattle.py_expressions.specs.declared.fault.Stop.TheVariants.{Here, End}
+use Rattle.py_expressions.specs.declared.part.Part.{Part}
+use Rattle.py_expressions.specs.Concrete.{Spot, Expr, Exprs}
+use Rattle.py_expressions.specs.Trees.{exprs_tree}
 use Rattle.py_grammar.specs.Written.{AugSign, Simple}
-use Rattle.py_grammar.specs.Tokens.{token, sign, expr_tokens}
+use Rattle.py_expressions.specs.Tokens.{token, sign, expr_tokens}
 use Rattle.py_grammar.specs.StatementTokens.{aug_sign, simple_tokens}
 use Rattle.py_grammar.specs.StatementTrees.{aug_op, simple_form}
-use Rattle.py_grammar.specs.Depth.{simple_depth}
-use Rattle.py_grammar.specs.Lies.{expr_lies, simple_lies, simple_deepest, IsApart}
+use Rattle.py_grammar.specs.StatementDepth.{simple_depth}
+use Rattle.py_expressions.specs.Lies.{expr_lies, IsApart}
+use Rattle.py_grammar.specs.StatementLies.{simple_lies, simple_deepest}
 use Rattle.py_grammar.specs.WellPlaced.{Around, form_stands}
-use Rattle.py_grammar.specs.Reader.{Read}
-use Rattle.py_grammar.specs.StatementReader.{aug_sign_of, exprs_target, read_simple}
-use Rattle.py_grammar.specs.Parsed.{ShowsAt, IsDeep, Production, Finds, Taken, FoundRow}
+use Rattle.py_expressions.specs.Reader.{Read}
+use Rattle.py_grammar.specs.StatementReader.{aug_sign_of, read_simple}
+use Rattle.py_expressions.specs.Targets.{exprs_target}
+use Rattle.py_expressions.specs.Parsed.{ShowsAt, IsDeep, Production, Finds, Taken, FoundRow}
 
 -- where the code is, in the words of the grammar
 abbrev pub around_of : Standing → Around
@@ -213,8 +215,8 @@ pub record TakenAug (before : List Token) (at : Pos) (op : BinOp) (after : List 
 -- expressions in a row were read as this
 pub record IsRow (part : Part) : Type 0 where
   pub written : Exprs
-  pub tree_is : expr_of part.expr ≡ exprs_tree written
-  pub form_is : is_none part.wrong ≡ is_some (exprs_target written)
+  pub tree_is : expr_of part.expr.value ≡ exprs_tree written
+  pub form_is : part.is_target ≡ is_some (exprs_target written)
 
 -- behind these expressions and `=`
 abbrev pub FoundAfter : Part → List Token → Form → Type 0

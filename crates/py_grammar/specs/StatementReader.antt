@@ -1,39 +1,11 @@
 -- A reader of simple statements, on the one of expressions. Of it public clauses cite what has the form of a target alone.
+use Rattle.py_expressions.specs.Targets.{single_target, exprs_target, expr_target}
 use Rattle.std.specs.Prelude.{ℕ, List, [], ◌∷◌, Option, Some, None, option_map, option_and_then, if◌then◌else◌}
 use Rattle.py_lines.specs.declared.parts.Token.{Token}
 use Rattle.py_lines.specs.declared.parts.TokenKind.{TokenKind}
-use Rattle.py_grammar.specs.Concrete.{Spot, Expr, plain_expr, plain_or, plain_and, plain_not, plain_cmp, plain_sum, plain_term, plain_unary, Prim, plain_prim, part, attribute, one_index, name, Exprs, one_expr, several, Rest, end_rest, last_rest, more_rest}
-use Rattle.py_grammar.specs.Reader.{Read, spot_of, is_keyword, is_sign, read_name, read_expr, read_exprs}
-use Rattle.py_grammar.specs.Written.{AugSign, add_to, take_from, multiply_by, divide_by, leave_of, OneTarget, named, item, field, TargetRest, end_rest_target, last_target, more_target, Target, one_target, several_targets, Simple, expression, assign, augmented, del, pass, break, continue, return, return_value, raise, raise_value, assert, assert_message, import_module}
-
--- the primary that an expression is, if it is one
-abbrev pub as_prim : Expr → Option Prim
-as_prim (plain_expr (plain_or (plain_and (plain_not (plain_cmp (plain_sum (plain_term (plain_unary p)))))))) = Some p
-as_prim e = None
-
--- the target of a primary's form
-abbrev pub prim_target : Prim → Option OneTarget
-prim_target (plain_prim (name at bytes)) = Some (named at bytes)
-prim_target (part p opening (one_index index) closing) = Some (item p opening index closing)
-prim_target (attribute p dot name_at bytes) = Some (field p dot name_at bytes)
-prim_target p = None
-
-abbrev pub expr_target : Expr → Option OneTarget
-expr_target e = option_and_then prim_target (as_prim e)
-
-abbrev pub rest_target : Rest → Option TargetRest
-rest_target end_rest = Some end_rest_target
-rest_target (last_rest e) = option_map last_target (expr_target e)
-rest_target (more_rest e comma rest) = option_and_then (λ t. option_map (more_target t comma) (rest_target rest)) (expr_target e)
-
--- the target that expressions in a row spell
-abbrev pub exprs_target : Exprs → Option Target
-exprs_target (one_expr e) = option_map one_target (expr_target e)
-exprs_target (several e comma rest) = option_and_then (λ t. option_map (several_targets t comma) (rest_target rest)) (expr_target e)
-
-abbrev pub single_target : Exprs → Option OneTarget
-single_target (one_expr e) = expr_target e
-single_target (several e comma rest) = None
+use Rattle.py_expressions.specs.Concrete.{Spot, Expr, Exprs}
+use Rattle.py_expressions.specs.Reader.{Read, spot_of, is_keyword, is_sign, read_name, read_expr, read_exprs}
+use Rattle.py_grammar.specs.Written.{AugSign, add_to, take_from, multiply_by, divide_by, leave_of, Simple, expression, assign, augmented, del, pass, break, continue, return, return_value, raise, raise_value, assert, assert_message, import_module}
 
 -- all tokens are read
 abbrev pub whole : {A : Type 0} → Read A → Option A

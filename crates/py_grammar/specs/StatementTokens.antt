@@ -1,8 +1,9 @@
 -- The tokens of statements as they are written.
 use Rattle.std.specs.Prelude.{ℕ, List, [], ◌++◌, codes}
 use Rattle.py_lines.specs.declared.parts.Token.{Token}
-use Rattle.py_grammar.specs.Tokens.{keyword, sign, word, expr_tokens, prim_tokens, exprs_tokens}
-use Rattle.py_grammar.specs.Written.{AugSign, add_to, take_from, multiply_by, divide_by, leave_of, OneTarget, named, item, field, TargetRest, end_rest_target, last_target, more_target, Target, one_target, several_targets, Simple, expression, assign, augmented, del, pass, break, continue, return, return_value, raise, raise_value, assert, assert_message, import_module, Names, last_name, more_names, Params, no_params, params, params_comma, Naming, no_naming, naming, Kind, every_kind, one_kind, Base, no_base, empty_base, base, Suite, on_line, block, DefSuite, def_line, def_block}
+use Rattle.py_expressions.specs.Tokens.{keyword, sign, word, expr_tokens, prim_tokens, exprs_tokens}
+use Rattle.py_grammar.specs.Written.{AugSign, add_to, take_from, multiply_by, divide_by, leave_of, Simple, expression, assign, augmented, del, pass, break, continue, return, return_value, raise, raise_value, assert, assert_message, import_module, Names, last_name, more_names, Params, no_params, params, params_comma, Naming, no_naming, naming, Kind, every_kind, one_kind, Base, no_base, empty_base, base, Suite, on_line, block, DefSuite, def_line, def_block}
+use Rattle.py_expressions.specs.Targets.{OneTarget, named, item, field, TargetRest, end_rest_target, last_target, more_target, Target, one_target, several_targets}
 
 abbrev pub aug_sign : AugSign → List ℕ
 aug_sign add_to = codes "+="

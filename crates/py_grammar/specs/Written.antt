@@ -1,8 +1,9 @@
 -- The concrete syntax of statements (The Python Language Reference 3.11, chapters 7 and 8, as far as this project's profile
 -- takes it): a constructor for each production, with the lines that it begins and the places of its own tokens.
+use Rattle.py_expressions.specs.Targets.{OneTarget, Target}
 use Rattle.std.specs.Prelude.{ℕ, List}
 use Rattle.py_lines.specs.declared.parts.Line.{Line}
-use Rattle.py_grammar.specs.Concrete.{Spot, Expr, Prim, Exprs}
+use Rattle.py_expressions.specs.Concrete.{Spot, Expr, Exprs}
 
 -- `+=`, `-=`, `*=`, `//=`, `%=`
 pub data AugSign : Type 0 where
@@ -11,22 +12,6 @@ pub data AugSign : Type 0 where
   multiply_by : AugSign
   divide_by : AugSign
   leave_of : AugSign
-
--- target1 = NAME | prim "[" exprs "]" | prim "." NAME
-pub data OneTarget : Type 0 where
-  named : Spot → List ℕ → OneTarget
-  item : Prim → (opening : Spot) → Exprs → (closing : Spot) → OneTarget
-  field : Prim → (dot : Spot) → (name_at : Spot) → (name : List ℕ) → OneTarget
-
--- target = target1 { "," target1 } [","]
-pub data TargetRest : Type 0 where
-  end_rest_target : TargetRest
-  last_target : OneTarget → TargetRest
-  more_target : OneTarget → (comma : Spot) → TargetRest → TargetRest
-
-pub data Target : Type 0 where
-  one_target : OneTarget → Target
-  several_targets : OneTarget → (comma : Spot) → TargetRest → Target
 
 -- a statement that is one line, or stands behind the `:` of one
 pub data Simple : Type 0 where

@@ -3,8 +3,8 @@ ghost use Rattle.std.specs.Prelude.{◌≡◌};
 ghost use Rattle.py_grammar.specs.ParsedHead.{limit_fault};
 
 use crate::around::Around;
-use crate::fault::Fault;
 use prov_base::Pos;
+use py_expressions::Fault;
 
 /// The statement before a line at its indentation, as far as a part of it may follow.
 #[derive(Clone, Copy, PartialEq, Eq)]

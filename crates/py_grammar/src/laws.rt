@@ -4,10 +4,6 @@ ghost use Rattle.py_lines.specs.declared.parts.Line.{Line};
 ghost use Rattle.py_lines.specs.Logical.{HasLines};
 ghost use Rattle.py_tree.specs.Tree.{ScriptTree};
 ghost use Rattle.py_grammar.specs.Grammar.{InGrammar};
-ghost use Rattle.py_grammar.specs.Concrete.{Exprs};
-ghost use Rattle.py_grammar.specs.Tokens.{exprs_tokens};
-ghost use Rattle.py_grammar.specs.Depth.{exprs_depth};
-ghost use Rattle.py_grammar.specs.Lies.{exprs_lies, exprs_deepest, IsReached, IsFirst};
 ghost use Rattle.prov_base.specs.declared.place.Pos.{Pos};
 ghost use Rattle.py_grammar.specs.LineReader.{Head};
 ghost use Rattle.py_grammar.specs.ParsedHead.{head_depth, head_lies};
@@ -16,18 +12,9 @@ ghost use Rattle.py_grammar.specs.StatementTokens.{simple_tokens};
 
 use py_lines::one_list_of_lines;
 
-/// The law that tokens spell at most one expression: the grammar of expressions is not ambiguous.
-pub fn one_expression()
-    ensures { (a b : Exprs) → exprs_tokens a ≡ exprs_tokens b → a ≡ b }
-{}
-
-/// The law of the depth of expressions: it is the greatest depth at which one lies that begins at some place, where the first of
-/// those begins nothing that begins ahead of it lies as deep, and none of a line lies deeper than the line goes.
-pub fn depth_is_reached()
-    ensures within { (e : Exprs) (at : Pos) → exprs_lies e at ≤ exprs_depth e }
-    ensures reached { (e : Exprs) → IsReached (exprs_lies e) (exprs_depth e) }
-    ensures first { (e : Exprs) → IsFirst (exprs_tokens e) (exprs_lies e) (exprs_depth e) (exprs_deepest e) }
-    ensures lines { (h : Head) (at : Pos) → head_lies h at ≤ head_depth h }
+/// The law of the depth of lines: none of a line's expressions lies deeper than the line goes.
+pub fn depth_of_lines()
+    ensures { (h : Head) (at : Pos) → head_lies h at ≤ head_depth h }
 {}
 
 /// The law that tokens spell at most one simple statement.

@@ -5,250 +5,252 @@ ghost use Rattle.py_tree.specs.Erasure.{expr_of};
 ghost use Rattle.py_grammar.specs.WellPlaced.{is_module as is_module_name};
 ghost use Rattle.py_grammar.specs.StatementReader.{aug_sign_of};
 ghost use Rattle.py_grammar.specs.StatementTrees.{aug_op};
-ghost use Rattle.py_grammar.specs.Parsed.{Taken};
+ghost use Rattle.py_expressions.specs.Parsed.{Taken};
 ghost use Rattle.py_grammar.specs.ParsedSimple.{around_of, SimpleFound, SimpleRefused, FoundAnywhere, RefusedAnywhere, FoundBehind, RefusedBehind, FoundBehindAny, RefusedBehindAny, IsMore, begins_word, is_word, IsRow, FoundAfter, RefusedAfter, FoundAfterOp, RefusedAfterOp, TakenAug, aug_sign_next, is_tuple_tree};
 
 use crate::around::Around;
-use crate::cursor::Cursor;
-use crate::fault::{Fault, Stop};
-use crate::part::Part;
 use crate::targets::{one_target, target_of};
-use crate::words::{
+use prov_base::{Name, Pos};
+use py_expressions::words::{
     ASSERT, ASSIGN, BREAK, COMMA, CONTINUE, DEL, FLOOR_DIVIDE_ASSIGN, IMPORT, MINUS_ASSIGN, PASS,
     PERCENT_ASSIGN, PLUS_ASSIGN, RAISE, RETURN, STAR_ASSIGN,
 };
-use prov_base::{Name, Pos};
+use py_expressions::{Cursor, Fault, Part, ROOM, Stop};
 use py_lines::TokenKind;
 use py_tree::{BinOp, Expr, Form};
 use std::alloc::Global;
 
-/// How deep an expression of a statement may go.
-pub(crate) const ROOM: u32 = 100;
-
-impl<'a> Cursor<'a> {
-    /// `simple`: the statement that all the tokens are.
-    pub(crate) fn simple(&mut self, alloc: Global, around: Around) -> Result<Form, Stop>
-        ensures found { IfOk result (SimpleFound (around_of around) self.old.rest.now) }
-        ensures refused { IfErr result (SimpleRefused (around_of around) self.old.rest.now) }
-    {
-        let Some((word, _)) = self.take_word() else {
-            return self.expression(alloc);
-        };
-        match word {
-            DEL => self.del(alloc),
-            PASS => self.pass(),
-            BREAK => self.break_loop(around),
-            CONTINUE => self.continue_loop(around),
-            RETURN => self.return_value(alloc, around),
-            RAISE => self.raise(alloc, around),
-            ASSERT => self.assert_test(alloc),
-            _ => self.import(alloc),
-        }
+/// `simple`: the statement that all the tokens are.
+pub(crate) fn simple(cursor: &mut Cursor<'_>, alloc: Global, around: Around) -> Result<Form, Stop>
+    ensures found { IfOk result (SimpleFound (around_of around) cursor.old.rest.now) }
+    ensures refused { IfErr result (SimpleRefused (around_of around) cursor.old.rest.now) }
+{
+    let Some((word, _)) = take_word(cursor) else {
+        return expression(cursor, alloc);
+    };
+    match word {
+        DEL => del(cursor, alloc),
+        PASS => pass(cursor),
+        BREAK => break_loop(cursor, around),
+        CONTINUE => continue_loop(cursor, around),
+        RETURN => return_value(cursor, alloc, around),
+        RAISE => raise(cursor, alloc, around),
+        ASSERT => assert_test(cursor, alloc),
+        _ => import(cursor, alloc),
     }
+}
 
-    /// The keyword of a simple statement, which is taken where it is the next token.
-    #[tactic(auto, using(crate::proofs::Taking::taken))]
-    fn take_word(&mut self) -> Option<(u8, Pos)>
-        ensures taken { IfSome result (λ found. Taken (Keyword found.0) self.old.rest.now found.1 self.new.rest.now) }
-        ensures word { IfSome result (λ found. is_word found.0 ≡ true) }
-        ensures absent { IfNone result (begins_word self.old.rest.now ≡ false) }
-        ensures kept { IfNone result (self.new.rest.now ≡ self.old.rest.now) }
-    {
-        let (token, rest) = self.rest.split_first()?;
-        match &token.kind {
-            TokenKind::Keyword(word) if begins_simple(*word) => {
-                self.rest = rest;
-                Some((*word, token.at))
-            }
-            _ => None,
+/// The keyword of a simple statement, which is taken where it is the next token.
+#[tactic(auto, using(py_expressions::proofs::Taking::taken))]
+fn take_word(cursor: &mut Cursor<'_>) -> Option<(u8, Pos)>
+    ensures taken { IfSome result (λ found. Taken (Keyword found.0) cursor.old.rest.now found.1 cursor.new.rest.now) }
+    ensures word { IfSome result (λ found. is_word found.0 ≡ true) }
+    ensures absent { IfNone result (begins_word cursor.old.rest.now ≡ false) }
+    ensures kept { IfNone result (cursor.new.rest.now ≡ cursor.old.rest.now) }
+{
+    let (token, rest) = cursor.rest.split_first()?;
+    match &token.kind {
+        TokenKind::Keyword(word) if begins_simple(*word) => {
+            cursor.rest = rest;
+            Some((*word, token.at))
         }
+        _ => None,
     }
+}
 
-    /// The line ends here.
-    pub(crate) fn end(&self) -> Result<(), Stop>
-        ensures ended { IfOk result (λ _. self.now.rest.now ≡ []) }
-        ensures more { IfErr result (IsMore self.now.rest.now) }
-    {
-        match self.rest.first() {
-            None => Ok(()),
-            Some(_) => Err(self.refuse()),
-        }
+/// The line ends here.
+pub(crate) fn end(cursor: &Cursor<'_>) -> Result<(), Stop>
+    ensures ended { IfOk result (λ _. cursor.now.rest.now ≡ []) }
+    ensures more { IfErr result (IsMore cursor.now.rest.now) }
+{
+    match cursor.rest.first() {
+        None => Ok(()),
+        Some(_) => Err(cursor.refuse()),
     }
+}
 
-    /// `pass`, behind it.
-    fn pass(&mut self) -> Result<Form, Stop>
-        ensures found { IfOk result (FoundBehindAny 28 self.old.rest.now) }
-        ensures refused { IfErr result (RefusedBehindAny 28 self.old.rest.now) }
-    {
-        self.end()?;
-        Ok(Form::Pass)
-    }
+/// `pass`, behind it.
+fn pass(cursor: &mut Cursor<'_>) -> Result<Form, Stop>
+    ensures found { IfOk result (FoundBehindAny 28 cursor.old.rest.now) }
+    ensures refused { IfErr result (RefusedBehindAny 28 cursor.old.rest.now) }
+{
+    end(cursor)?;
+    Ok(Form::Pass)
+}
 
-    /// `break`, behind it.
-    fn break_loop(&mut self, around: Around) -> Result<Form, Stop>
-        ensures found { IfOk result (FoundBehind 8 (around_of around) self.old.rest.now) }
-        ensures refused { IfErr result (RefusedBehind 8 (around_of around) self.old.rest.now) }
-    {
-        if !around.in_loop {
-            return Err(Stop::Here(Fault::Unexpected(self.rest.len())));
-        }
-        self.end()?;
-        Ok(Form::Break)
+/// `break`, behind it.
+fn break_loop(cursor: &mut Cursor<'_>, around: Around) -> Result<Form, Stop>
+    ensures found { IfOk result (FoundBehind 8 (around_of around) cursor.old.rest.now) }
+    ensures refused { IfErr result (RefusedBehind 8 (around_of around) cursor.old.rest.now) }
+{
+    if !around.in_loop {
+        return Err(Stop::Here(Fault::Unexpected(cursor.rest.len())));
     }
+    end(cursor)?;
+    Ok(Form::Break)
+}
 
-    /// `continue`, behind it.
-    fn continue_loop(&mut self, around: Around) -> Result<Form, Stop>
-        ensures found { IfOk result (FoundBehind 10 (around_of around) self.old.rest.now) }
-        ensures refused { IfErr result (RefusedBehind 10 (around_of around) self.old.rest.now) }
-    {
-        if !around.in_loop {
-            return Err(Stop::Here(Fault::Unexpected(self.rest.len())));
-        }
-        self.end()?;
-        Ok(Form::Continue)
+/// `continue`, behind it.
+fn continue_loop(cursor: &mut Cursor<'_>, around: Around) -> Result<Form, Stop>
+    ensures found { IfOk result (FoundBehind 10 (around_of around) cursor.old.rest.now) }
+    ensures refused { IfErr result (RefusedBehind 10 (around_of around) cursor.old.rest.now) }
+{
+    if !around.in_loop {
+        return Err(Stop::Here(Fault::Unexpected(cursor.rest.len())));
     }
+    end(cursor)?;
+    Ok(Form::Continue)
+}
 
-    /// `"return" [exprs]`, behind the `return`.
-    fn return_value(&mut self, alloc: Global, around: Around) -> Result<Form, Stop>
-        ensures found { IfOk result (FoundBehind 30 (around_of around) self.old.rest.now) }
-        ensures refused { IfErr result (RefusedBehind 30 (around_of around) self.old.rest.now) }
-    {
-        if !around.in_function {
-            return Err(Stop::Here(Fault::Unexpected(self.rest.len())));
-        }
-        if self.rest.is_empty() {
-            return Ok(Form::Return(None));
-        }
-        let value = self.exprs(alloc, ROOM)?;
-        self.end()?;
-        Ok(Form::Return(Some(value.expr)))
+/// `"return" [exprs]`, behind the `return`.
+fn return_value(cursor: &mut Cursor<'_>, alloc: Global, around: Around) -> Result<Form, Stop>
+    ensures found { IfOk result (FoundBehind 30 (around_of around) cursor.old.rest.now) }
+    ensures refused { IfErr result (RefusedBehind 30 (around_of around) cursor.old.rest.now) }
+{
+    if !around.in_function {
+        return Err(Stop::Here(Fault::Unexpected(cursor.rest.len())));
     }
+    if cursor.rest.is_empty() {
+        return Ok(Form::Return(None));
+    }
+    let value = cursor.exprs(alloc, ROOM)?;
+    end(cursor)?;
+    Ok(Form::Return(Some(Box::into_inner(value.expr))))
+}
 
-    /// `"raise" [expr]`, behind the `raise`.
-    fn raise(&mut self, alloc: Global, around: Around) -> Result<Form, Stop>
-        ensures found { IfOk result (FoundBehind 29 (around_of around) self.old.rest.now) }
-        ensures refused { IfErr result (RefusedBehind 29 (around_of around) self.old.rest.now) }
-    {
-        if self.rest.is_empty() {
-            if around.in_handler {
-                return Ok(Form::Raise(None));
-            }
-            return Err(Stop::End);
+/// `"raise" [expr]`, behind the `raise`.
+fn raise(cursor: &mut Cursor<'_>, alloc: Global, around: Around) -> Result<Form, Stop>
+    ensures found { IfOk result (FoundBehind 29 (around_of around) cursor.old.rest.now) }
+    ensures refused { IfErr result (RefusedBehind 29 (around_of around) cursor.old.rest.now) }
+{
+    if cursor.rest.is_empty() {
+        if around.in_handler {
+            return Ok(Form::Raise(None));
         }
-        let value = self.expr(alloc, ROOM)?;
-        self.end()?;
-        Ok(Form::Raise(Some(value.expr)))
+        return Err(Stop::End);
     }
+    let value = cursor.expr(alloc, ROOM)?;
+    end(cursor)?;
+    Ok(Form::Raise(Some(Box::into_inner(value.expr))))
+}
 
-    /// `"assert" expr ["," expr]`, behind the `assert`.
-    fn assert_test(&mut self, alloc: Global) -> Result<Form, Stop>
-        ensures found { IfOk result (FoundBehindAny 5 self.old.rest.now) }
-        ensures refused { IfErr result (RefusedBehindAny 5 self.old.rest.now) }
-    {
-        let test = self.expr(alloc, ROOM)?;
-        let Some(_) = self.take_sign(COMMA) else {
-            self.end()?;
-            return Ok(Form::Assert(test.expr, None));
-        };
-        let message = self.expr(alloc, ROOM)?;
-        self.end()?;
-        Ok(Form::Assert(test.expr, Some(message.expr)))
-    }
+/// `"assert" expr ["," expr]`, behind the `assert`.
+fn assert_test(cursor: &mut Cursor<'_>, alloc: Global) -> Result<Form, Stop>
+    ensures found { IfOk result (FoundBehindAny 5 cursor.old.rest.now) }
+    ensures refused { IfErr result (RefusedBehindAny 5 cursor.old.rest.now) }
+{
+    let test = cursor.expr(alloc, ROOM)?;
+    let Some(_) = cursor.take_sign(COMMA) else {
+        end(cursor)?;
+        return Ok(Form::Assert(Box::into_inner(test.expr), None));
+    };
+    let message = cursor.expr(alloc, ROOM)?;
+    end(cursor)?;
+    Ok(Form::Assert(
+        Box::into_inner(test.expr),
+        Some(Box::into_inner(message.expr)),
+    ))
+}
 
-    /// `"import" NAME`, behind the `import`: one of three modules.
-    fn import(&mut self, alloc: Global) -> Result<Form, Stop>
-        ensures found { IfOk result (FoundBehindAny 21 self.old.rest.now) }
-        ensures refused { IfErr result (RefusedBehindAny 21 self.old.rest.now) }
-    {
-        let (_, name) = self.name(alloc)?;
-        if !is_module(&name) {
-            return Err(Stop::Here(Fault::Unexpected(self.rest.len())));
-        }
-        self.end()?;
-        Ok(Form::Import(name))
+/// `"import" NAME`, behind the `import`: one of three modules.
+fn import(cursor: &mut Cursor<'_>, alloc: Global) -> Result<Form, Stop>
+    ensures found { IfOk result (FoundBehindAny 21 cursor.old.rest.now) }
+    ensures refused { IfErr result (RefusedBehindAny 21 cursor.old.rest.now) }
+{
+    let (_, name) = cursor.name(alloc)?;
+    if !is_module(&name) {
+        return Err(Stop::Here(Fault::Unexpected(cursor.rest.len())));
     }
+    end(cursor)?;
+    Ok(Form::Import(name))
+}
 
-    /// `"del" target1`, behind the `del`.
-    fn del(&mut self, alloc: Global) -> Result<Form, Stop>
-        ensures found { IfOk result (FoundBehindAny 12 self.old.rest.now) }
-        ensures refused { IfErr result (RefusedBehindAny 12 self.old.rest.now) }
-    {
-        let target = self.expr(alloc, ROOM)?;
-        if let Some(_) = target.wrong {
-            return Err(self.refuse());
-        }
-        if let Expr::Attr(_, _, _) = &target.expr {
-            return Err(self.refuse());
-        }
-        self.end()?;
-        Ok(Form::Del(one_target(target.expr)))
+/// `"del" target1`, behind the `del`.
+fn del(cursor: &mut Cursor<'_>, alloc: Global) -> Result<Form, Stop>
+    ensures found { IfOk result (FoundBehindAny 12 cursor.old.rest.now) }
+    ensures refused { IfErr result (RefusedBehindAny 12 cursor.old.rest.now) }
+{
+    let target = cursor.expr(alloc, ROOM)?;
+    if !target.is_target {
+        return Err(cursor.refuse());
     }
+    if let Expr::Attr(_, _, _) = &*target.expr {
+        return Err(cursor.refuse());
+    }
+    end(cursor)?;
+    Ok(Form::Del(one_target(target.expr)))
+}
 
-    /// `exprs`, `target "=" exprs`, or `target1` with an operator and `exprs`.
-    fn expression(&mut self, alloc: Global) -> Result<Form, Stop>
-        requires { begins_word self.old.rest.now ≡ false }
-        ensures found { IfOk result (FoundAnywhere self.old.rest.now) }
-        ensures refused { IfErr result (RefusedAnywhere self.old.rest.now) }
-    {
-        let first = self.exprs(alloc, ROOM)?;
-        if self.take_sign(ASSIGN).is_some() {
-            return self.assign(alloc, first);
-        }
-        if let Some((at, op)) = self.take_assigning() {
-            return self.augmented(alloc, first, at, op);
-        }
-        self.end()?;
-        Ok(Form::Do(first.expr))
+/// `exprs`, `target "=" exprs`, or `target1` with an operator and `exprs`.
+fn expression(cursor: &mut Cursor<'_>, alloc: Global) -> Result<Form, Stop>
+    requires { begins_word cursor.old.rest.now ≡ false }
+    ensures found { IfOk result (FoundAnywhere cursor.old.rest.now) }
+    ensures refused { IfErr result (RefusedAnywhere cursor.old.rest.now) }
+{
+    let first = cursor.exprs(alloc, ROOM)?;
+    if cursor.take_sign(ASSIGN).is_some() {
+        return assign(cursor, alloc, first);
     }
+    if let Some((at, op)) = take_assigning(cursor) {
+        return augmented(cursor, alloc, first, at, op);
+    }
+    end(cursor)?;
+    Ok(Form::Do(Box::into_inner(first.expr)))
+}
 
-    /// `target "=" exprs`, behind the `=`.
-    fn assign(&mut self, alloc: Global, first: Part) -> Result<Form, Stop>
-        requires first_is_row { IsRow first }
-        ensures found { IfOk result (FoundAfter first self.old.rest.now) }
-        ensures refused { IfErr result (RefusedAfter first self.old.rest.now) }
-    {
-        if let Some(_) = first.wrong {
-            return Err(Stop::Here(Fault::Unexpected(self.rest.len())));
-        }
-        let target = target_of(alloc, first.expr)?;
-        let value = self.exprs(alloc, ROOM)?;
-        self.end()?;
-        Ok(Form::Assign(target, value.expr))
+/// `target "=" exprs`, behind the `=`.
+fn assign(cursor: &mut Cursor<'_>, alloc: Global, first: Part) -> Result<Form, Stop>
+    requires first_is_row { IsRow first }
+    ensures found { IfOk result (FoundAfter first cursor.old.rest.now) }
+    ensures refused { IfErr result (RefusedAfter first cursor.old.rest.now) }
+{
+    if !first.is_target {
+        return Err(Stop::Here(Fault::Unexpected(cursor.rest.len())));
     }
+    let value = cursor.exprs(alloc, ROOM)?;
+    end(cursor)?;
+    let target = target_of(alloc, first.expr)?;
+    Ok(Form::Assign(target, Box::into_inner(value.expr)))
+}
 
-    /// `target1 ("+=" | "-=" | "*=" | "//=" | "%=") exprs`, behind the operator.
-    fn augmented(&mut self, alloc: Global, first: Part, at: Pos, op: BinOp) -> Result<Form, Stop>
-        requires first_is_row { IsRow first }
-        ensures found { IfOk result (FoundAfterOp first at op self.old.rest.now) }
-        ensures refused { IfErr result (RefusedAfterOp first at op self.old.rest.now) }
-    {
-        if is_tuple(&first.expr) {
-            return Err(Stop::Here(Fault::Unexpected(self.rest.len())));
-        }
-        if let Some(_) = first.wrong {
-            return Err(Stop::Here(Fault::Unexpected(self.rest.len())));
-        }
-        let target = one_target(first.expr);
-        let value = self.exprs(alloc, ROOM)?;
-        self.end()?;
-        Ok(Form::Aug(target, op, at, value.expr))
+/// `target1 ("+=" | "-=" | "*=" | "//=" | "%=") exprs`, behind the operator.
+fn augmented(
+    cursor: &mut Cursor<'_>,
+    alloc: Global,
+    first: Part,
+    at: Pos,
+    op: BinOp,
+) -> Result<Form, Stop>
+    requires first_is_row { IsRow first }
+    ensures found { IfOk result (FoundAfterOp first at op cursor.old.rest.now) }
+    ensures refused { IfErr result (RefusedAfterOp first at op cursor.old.rest.now) }
+{
+    if is_tuple(&*first.expr) {
+        return Err(Stop::Here(Fault::Unexpected(cursor.rest.len())));
     }
+    if !first.is_target {
+        return Err(Stop::Here(Fault::Unexpected(cursor.rest.len())));
+    }
+    let value = cursor.exprs(alloc, ROOM)?;
+    end(cursor)?;
+    let target = one_target(first.expr);
+    Ok(Form::Aug(target, op, at, Box::into_inner(value.expr)))
+}
 
-    /// The operator of an augmented assignment, which is taken where it is the next token.
-    #[tactic(auto, using(crate::proofs::AugForms::aug_taken))]
-    fn take_assigning(&mut self) -> Option<(Pos, BinOp)>
-        ensures taken { IfSome result (λ found. TakenAug self.old.rest.now found.0 found.1 self.new.rest.now) }
-        ensures absent { IfNone result (aug_sign_next self.old.rest.now ≡ None) }
-        ensures kept { IfNone result (self.new.rest.now ≡ self.old.rest.now) }
-    {
-        let (token, rest) = self.rest.split_first()?;
-        let TokenKind::Sign(number) = &token.kind else {
-            return None;
-        };
-        let op = assigning(*number)?;
-        self.rest = rest;
-        Some((token.at, op))
-    }
+/// The operator of an augmented assignment, which is taken where it is the next token.
+#[tactic(auto, using(crate::proofs::AugForms::aug_taken))]
+fn take_assigning(cursor: &mut Cursor<'_>) -> Option<(Pos, BinOp)>
+    ensures taken { IfSome result (λ found. TakenAug cursor.old.rest.now found.0 found.1 cursor.new.rest.now) }
+    ensures absent { IfNone result (aug_sign_next cursor.old.rest.now ≡ None) }
+    ensures kept { IfNone result (cursor.new.rest.now ≡ cursor.old.rest.now) }
+{
+    let (token, rest) = cursor.rest.split_first()?;
+    let TokenKind::Sign(number) = &token.kind else {
+        return None;
+    };
+    let op = assigning(*number)?;
+    cursor.rest = rest;
+    Some((token.at, op))
 }
 
 /// The keyword begins a simple statement.

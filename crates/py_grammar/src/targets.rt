@@ -7,8 +7,16 @@ use py_tree::{Expr, Exprs, Target, Targets};
 use std::alloc::{AllocError, Global};
 
 /// `target1 = NAME | prim "[" exprs "]" | prim "." NAME`
+pub(crate) fn one_target(expr: Box<Expr>) -> Target
+    requires form { is_some (target_form (expr_of expr.value)) ≡ true }
+    ensures { target_form (expr_of expr.value) ≡ Some (target_tree_of result) }
+{
+    item_target(Box::into_inner(expr))
+}
+
+/// The same, of one that stands in no box.
 #[tactic(auto, using(py_tree::proofs::ExprTrees::expr_trees, py_tree::proofs::TargetTrees::target_trees))]
-pub(crate) fn one_target(expr: Expr) -> Target
+fn item_target(expr: Expr) -> Target
     requires form { is_some (target_form (expr_of expr)) ≡ true }
     ensures { target_form (expr_of expr) ≡ Some (target_tree_of result) }
 {
@@ -31,19 +39,28 @@ fn targets_of(alloc: Global, exprs: Exprs) -> Result<Targets, AllocError>
 {
     let mut list = Vec::new(alloc);
     for expr in exprs.list {
-        list.push(one_target(expr))?;
+        list.push(item_target(expr))?;
     }
     Ok(Targets { list })
 }
 
 /// `target = target1 { "," target1 } [","]`
+pub(crate) fn target_of(alloc: Global, expr: Box<Expr>) -> Result<Target, AllocError>
+    requires form { is_some (all_target_form (expr_of expr.value)) ≡ true }
+    ensures { IfOk result (λ target. all_target_form (expr_of expr.value) ≡ Some (target_tree_of target)) }
+{
+    let target = row_target(alloc, Box::into_inner(expr))?;
+    Ok(target)
+}
+
+/// The same, of one that stands in no box.
 #[tactic(auto, using(py_tree::proofs::ExprTrees::expr_trees, py_tree::proofs::TargetTrees::target_trees))]
-pub(crate) fn target_of(alloc: Global, expr: Expr) -> Result<Target, AllocError>
+fn row_target(alloc: Global, expr: Expr) -> Result<Target, AllocError>
     requires form { is_some (all_target_form (expr_of expr)) ≡ true }
     ensures { IfOk result (λ target. all_target_form (expr_of expr) ≡ Some (target_tree_of target)) }
 {
     match expr {
         Expr::Tuple(_, exprs) => Ok(Target::Many(targets_of(alloc, exprs)?)),
-        single => Ok(one_target(single)),
+        single => Ok(item_target(single)),
     }
 }

@@ -6,7 +6,7 @@ use Rattle.prov_base.specs.declared.place.Pos.{Pos}
 use Rattle.py_lines.specs.declared.parts.Line.{Line}
 use Rattle.py_lines.specs.declared.parts.Token.{Token}
 use Rattle.py_lines.specs.declared.parts.TokenKind.TheVariants.{Keyword}
-use Rattle.py_grammar.specs.Tokens.{keyword, token}
+use Rattle.py_expressions.specs.Tokens.{keyword, token}
 use Rattle.py_grammar.specs.Written.{pass}
 use Rattle.py_grammar.specs.LineReader.{Head, simple_head, if_head, elif_head, else_head, while_head, for_head, try_head, except_head, with_head, def_head, class_head, global_head, head_tokens}
 use Rattle.py_grammar.specs.Layout.{IsLine}

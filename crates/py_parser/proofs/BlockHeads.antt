@@ -18,7 +18,7 @@ use Rattle.py_tree.proofs.StmtTrees.{stmt_tree}
 use Rattle.py_grammar.specs.declared.head.What.{What}
 use Rattle.py_grammar.specs.declared.head.What.TheVariants.{Simple as SimpleIs, If, Elif, Else, While, For, Try, Except, With, Def, Class, Global as GlobalIs}
 use Rattle.py_grammar.specs.declared.head.Behind.{Behind}
-use Rattle.py_grammar.specs.Trees.{expr_tree}
+use Rattle.py_expressions.specs.Trees.{expr_tree}
 use Rattle.py_grammar.specs.Written.{Simple}
 use Rattle.py_grammar.specs.StatementTokens.{simple_tokens}
 use Rattle.py_grammar.specs.StatementTrees.{target_tree, simple_form}

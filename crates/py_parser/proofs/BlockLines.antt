@@ -10,21 +10,22 @@ use Rattle.py_lines.specs.declared.parts.Token.{Token}
 use Rattle.py_lines.specs.declared.parts.TokenKind.TheVariants.{Keyword}
 use Rattle.py_grammar.specs.declared.context.Limit.{Limit}
 use Rattle.py_grammar.specs.declared.context.Limit.TheVariants.{Number, Depth}
-use Rattle.py_grammar.specs.declared.fault.Fault.{Fault}
-use Rattle.py_grammar.specs.declared.fault.Fault.TheVariants.{Unexpected, TooDeep, TooMany, Memory}
+use Rattle.py_expressions.specs.declared.fault.Fault.{Fault}
+use Rattle.py_expressions.specs.declared.fault.Fault.TheVariants.{Unexpected, TooDeep, TooMany, Memory}
 use Rattle.py_parser.specs.declared.fault.Halt.TheVariants.{AtEnd, TooMany as ManyHalt, AtToken}
-use Rattle.py_grammar.specs.declared.fault.Stop.{Stop}
-use Rattle.py_grammar.specs.declared.fault.Stop.TheVariants.{Here, End}
+use Rattle.py_expressions.specs.declared.fault.Stop.{Stop}
+use Rattle.py_expressions.specs.declared.fault.Stop.TheVariants.{Here, End}
 use Rattle.py_grammar.specs.declared.head.LineHead.{LineHead}
-use Rattle.py_grammar.specs.Concrete.{Spot, plain_expr, plain_or, plain_and, plain_not, plain_cmp, plain_sum, plain_term, plain_unary, plain_prim, none as none_atom, one_expr}
-use Rattle.py_grammar.specs.Tokens.{token, keyword}
+use Rattle.py_expressions.specs.Concrete.{Spot, plain_expr, plain_or, plain_and, plain_not, plain_cmp, plain_sum, plain_term, plain_unary, plain_prim, none as none_atom, one_expr}
+use Rattle.py_expressions.specs.Tokens.{token, keyword}
 use Rattle.py_grammar.specs.Layout.{IsLine}
 use Rattle.py_grammar.specs.StatementTokens.{simple_tokens, one_target_tokens}
-use Rattle.py_grammar.specs.Written.{Simple, pass, named as named_target, one_target}
+use Rattle.py_grammar.specs.Written.{Simple, pass}
+use Rattle.py_expressions.specs.Targets.{named as named_target, one_target}
 use Rattle.py_grammar.specs.LineReader.{Head, simple_head, if_head, elif_head, else_head, while_head, for_head, try_head, except_head, with_head, def_head, class_head, global_head, head_tokens, colon_tokens}
 use Rattle.py_grammar.specs.ParsedHead.{Context, lacks_handler, word_may, head_stands, head_depth, behind_in, HeadFound, HeadRefused, IsAmissHead, ShownBy, GoesOnLine, ReadsDel, ReadsFor, BeginsHead, DeepHead, kind_may, may_begin, FirstMay, ShowsOnLine, head_lies, behind_first, StartsBehind, IsFreeBehind, DelStarts, del_name, IsAheadOnLine, UnreadLine}
-use Rattle.py_grammar.specs.Lies.{over, is_place}
-use Rattle.py_grammar.specs.Parsed.{IsAtFirst}
+use Rattle.py_expressions.specs.Lies.{over, is_place}
+use Rattle.py_expressions.specs.Parsed.{IsAtFirst}
 use Rattle.py_parser.specs.Limits.{Limits, profile}
 use Rattle.py_parser.specs.Rows.{Level, Begun, is_stmt, is_every, counted, follows, may}
 use Rattle.py_parser.specs.Faults.{last_place, Point, at_token, at_end, shows, Said, low_elsewhere, first_deep_at, LiesSaid, IsLow, del_spot, ReadsBehindDel, ReadsBehindFor, Opens, OpensDel, OpensFor, GoesOnWith, Next, few_suites, few_statements, is_stmt_kind, begins_there, line_fault}

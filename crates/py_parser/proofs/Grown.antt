@@ -8,7 +8,7 @@ use Rattle.py_tree.specs.Tree.{ExprTree, StmtTree, FormTree, SuiteTree, Branches
 use Rattle.py_tree.specs.Numbering.{size_stmt, size_form, size_suite, size_branches, size_else, size_handlers, numbered_stmt, numbered_form, numbered_suite, numbered_branches, numbered_else, numbered_handlers}
 use Rattle.py_grammar.specs.Written.{Simple, expression, assign, augmented, del, pass, break, continue, return, return_value, raise, raise_value, assert, assert_message, import_module, Stmt, simple, if_stmt, while_stmt, for_stmt, try_stmt, with_stmt, def_stmt, class_stmt, Suite, on_line, block, Body, last_stmt, more_stmt, Elifs, no_elif, elif, Else, no_else_part, else_part, Handlers, last_handler, more_handler, DefSuite, def_line, def_block, DefBody, end_def, stmt_in_def, global_in_def, Script, empty_script, script}
 use Rattle.py_grammar.specs.StatementTokens.{simple_tokens}
-use Rattle.py_grammar.specs.Trees.{expr_tree, exprs_tree}
+use Rattle.py_expressions.specs.Trees.{expr_tree, exprs_tree}
 use Rattle.py_grammar.specs.StatementTrees.{target_tree, names_list, params_list, naming_bound, kind_class, kind_bound, base_tree, simple_form, simple_tree, stmt_of_tokens, end_of, globals_of, def_globals, stmt_tree, suite_tree, body_tree, elif_trees, else_tree, handler_trees, def_tree, def_body_tree, script_body}
 use Rattle.py_grammar.specs.Layout.{suite_lines, elif_lines, else_lines, handler_lines}
 use Rattle.py_parser.specs.Rows.{Rows, end_rows, under_lines, rows_size, under_size}

@@ -21,7 +21,7 @@ use Rattle.py_grammar.specs.Follows.{Below}
 use Rattle.py_parser.specs.declared.blocks.Built.{Built}
 use Rattle.py_parser.specs.Limits.{Limits, profile}
 use Rattle.py_lines.specs.declared.parts.Token.{Token}
-use Rattle.py_grammar.specs.Tokens.{keyword}
+use Rattle.py_expressions.specs.Tokens.{keyword}
 use Rattle.py_grammar.specs.Layout.{IsLine}
 use Rattle.py_parser.specs.Script.{IsScript}
 use Rattle.py_parser.specs.Faults.{Said, low_elsewhere, first_deep_at, Point, at_token, at_end, at_line, below, no_line, shows, first_place, first_token, Asks, origin, BeginsScript, SomeFollows, SomeStands, FollowsWithin, MayFollow, StandsFor, LieWithin, NoneBegins, KeepsLimits, PassesNone, InOrder, PassesNoneThere, IsAt, IsPass, IsPassBefore, IsHandler, MayStandAt, LacksStatement, InColumn, FirstFault, IsFault, NoneWithin, few_suites, few_statements, CountsWithPass, PassesLimit, LiesDeep}

@@ -6,8 +6,8 @@ use Rattle.py_lines.specs.declared.parts.Token.{Token}
 use Rattle.py_lines.specs.declared.parts.TokenKind.TheVariants.{Keyword}
 use Rattle.refused_forms.specs.declared.standing.Standing.{Standing}
 use Rattle.refused_forms.specs.RefusedForms.{IsRefusedForm}
-use Rattle.py_grammar.specs.Concrete.{Spot}
-use Rattle.py_grammar.specs.Tokens.{keyword, token}
+use Rattle.py_expressions.specs.Concrete.{Spot}
+use Rattle.py_expressions.specs.Tokens.{keyword, token}
 use Rattle.py_grammar.specs.LineReader.{Head, simple_head, head_tokens}
 use Rattle.py_grammar.specs.ParsedHead.{behind_in}
 use Rattle.py_grammar.specs.Written.{Simple, pass}

@@ -15,7 +15,7 @@ use Rattle.py_lines.specs.Written.{Written, last, more, pieces_of, behind_line, 
 use Rattle.py_lines.specs.Logical.{HasLines}
 use Rattle.py_lines.proofs.PlaceLemmas.{place_behind-append, place-front}
 use Rattle.py_lines.proofs.Snoc.{text_of-append}
-use Rattle.py_grammar.specs.Lies.{is_place, IsApart}
+use Rattle.py_expressions.specs.Lies.{is_place, IsApart}
 use Rattle.py_parser.specs.Faults.{ArePlacedApart, ArePlaced}
 
 -- ---- places in order

@@ -5,9 +5,9 @@ use Rattle.py_lines.specs.declared.parts.Line.{Line}
 use Rattle.py_lines.specs.declared.parts.Token.{Token}
 use Rattle.py_grammar.specs.declared.context.Last.{Last}
 use Rattle.py_grammar.specs.declared.context.Last.TheVariants.{Nothing, Loop, If, Try, Handler, Every}
-use Rattle.py_grammar.specs.Concrete.{Spot}
+use Rattle.py_expressions.specs.Concrete.{Spot}
 use Rattle.py_grammar.specs.Written.{Simple, Params, Kind, every_kind, one_kind, Stmt, simple, if_stmt, while_stmt, for_stmt, try_stmt, with_stmt, def_stmt, class_stmt, Suite, on_line, block, Body, last_stmt, more_stmt, Elifs, no_elif, elif, Else, no_else_part, else_part, Handlers, last_handler, more_handler, DefSuite, def_line, def_block, DefBody, end_def, stmt_in_def, global_in_def, Script, empty_script, script}
-use Rattle.py_grammar.specs.Tokens.{keyword, sign, word, expr_tokens, exprs_tokens}
+use Rattle.py_expressions.specs.Tokens.{keyword, sign, word, expr_tokens, exprs_tokens}
 use Rattle.py_grammar.specs.StatementTokens.{suite_tokens, def_suite_tokens, target_tokens, naming_tokens, kind_tokens, params_tokens, base_tokens}
 use Rattle.py_grammar.specs.Layout.{IsLine, FitsStmt, FitsSuite, FitsBody, FitsElifs, FitsElse, FitsHandlers, FitsDef, FitsDefBody, has_stmt}
 use Rattle.py_grammar.specs.Grammar.{FitsScript}

@@ -6,11 +6,12 @@ use Rattle.py_lines.specs.declared.parts.Line.{Line}
 use Rattle.py_tree.specs.Numbering.{size_stmt, size_suite, size_branches, size_else, size_handlers}
 use Rattle.py_grammar.specs.declared.context.Last.{Last}
 use Rattle.py_grammar.specs.declared.context.Last.TheVariants.{Nothing, Loop, If, Try, Handler, Every}
-use Rattle.py_grammar.specs.Concrete.{Spot}
+use Rattle.py_expressions.specs.Concrete.{Spot}
 use Rattle.py_parser.specs.Limits.{Limits, IsFine}
 use Rattle.py_grammar.specs.Written.{Simple, Params, Kind, every_kind, one_kind, Stmt, simple, if_stmt, while_stmt, for_stmt, try_stmt, with_stmt, def_stmt, class_stmt, Suite, on_line, block, Body, last_stmt, more_stmt, Elifs, no_elif, elif, Else, no_else_part, else_part, Handlers, last_handler, more_handler, DefSuite, def_line, def_block, DefBody, end_def, stmt_in_def, global_in_def, Script, empty_script, script}
 use Rattle.py_grammar.specs.StatementTrees.{params_list, stmt_tree, suite_tree, body_tree, elif_trees, else_tree, handler_trees, def_body_tree}
-use Rattle.py_grammar.specs.Depth.{expr_depth, exprs_depth, target_depth, kind_depth, stmt_expr_depth, suite_expr_depth, body_expr_depth, elif_expr_depth, else_expr_depth, handler_expr_depth, def_expr_depth, suites_in, suite_depth, body_depth, elif_depth, else_depth, handler_depth, def_depth}
+use Rattle.py_expressions.specs.Depth.{expr_depth, exprs_depth}
+use Rattle.py_grammar.specs.StatementDepth.{target_depth, kind_depth, stmt_expr_depth, suite_expr_depth, body_expr_depth, elif_expr_depth, else_expr_depth, handler_expr_depth, def_expr_depth, suites_in, suite_depth, body_depth, elif_depth, else_depth, handler_depth, def_depth}
 use Rattle.py_grammar.specs.WellPlaced.{Around, in_suite, in_loop_suite, in_handler_suite, in_def_suite, in_class_suite, def_stands, has_class, is_alone, stmt_stands, suite_stands, body_stands, elifs_stand, else_stands, handlers_stand, def_suite_stands, def_body_stands}
 use Rattle.py_grammar.specs.LineReader.{Head, simple_head, if_head, elif_head, else_head, while_head, for_head, try_head, except_head, with_head, def_head, class_head, global_head}
 use Rattle.py_grammar.specs.ParsedHead.{takes_branch, takes_handler, lacks_handler, behind_in, behind_stands, behind_depth, head_stands, head_depth}

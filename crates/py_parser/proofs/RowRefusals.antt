@@ -13,9 +13,9 @@ use Rattle.py_grammar.specs.Follows.{Below}
 use Rattle.py_parser.specs.Limits.{Limits, profile}
 use Rattle.py_parser.specs.Rows.{Rows, end_rows, row, Under, nothing, block, rows_lines, under_lines, Level, counted, opens, after, inside, is_done, follows, Leads, FitsUnder, FitsRows, may, rows_may, under_may, rows_size, Edge, LastEdge, Begun}
 use Rattle.py_lines.specs.declared.parts.TokenKind.TheVariants.{Keyword}
-use Rattle.py_grammar.specs.declared.fault.Fault.{Fault}
+use Rattle.py_expressions.specs.declared.fault.Fault.{Fault}
 use Rattle.py_grammar.specs.ParsedHead.{UnreadLine, lacks_handler}
-use Rattle.py_grammar.specs.Tokens.{keyword, token}
+use Rattle.py_expressions.specs.Tokens.{keyword, token}
 use Rattle.py_grammar.specs.Written.{pass}
 use Rattle.py_parser.specs.Grouped.{no_spot}
 use Rattle.py_parser.specs.Faults.{NoLess, Said, low_elsewhere, first_deep_at, Point, at_token, at_end, at_line, below, no_line, shows, first_place, last_place, last_token, IsAt, IsPass, IsPassBefore, IsHandler, IsOpenAt, few_suites, few_statements, is_stmt_kind, tokens_before, ReadsNoFurther, line_fault}

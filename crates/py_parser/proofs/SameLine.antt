@@ -7,11 +7,11 @@ use Rattle.py_lines.specs.declared.parts.Line.{Line}
 use Rattle.py_lines.specs.declared.parts.Token.{Token}
 use Rattle.py_lines.specs.declared.parts.TokenKind.TheVariants.{Keyword}
 use Rattle.refused_forms.specs.LineForms.{standing}
-use Rattle.py_grammar.specs.declared.fault.Fault.TheVariants.{Unexpected as OnLine, TooDeep as DeepOnLine}
-use Rattle.py_grammar.specs.Concrete.{Spot, Expr, Sum}
-use Rattle.py_grammar.specs.Written.{OneTarget}
-use Rattle.py_grammar.specs.Tokens.{token, expr_tokens, sum_tokens}
-use Rattle.py_grammar.specs.Lies.{IsApart, expr_lies, sum_lies}
+use Rattle.py_expressions.specs.declared.fault.Fault.TheVariants.{Unexpected as OnLine, TooDeep as DeepOnLine}
+use Rattle.py_expressions.specs.Concrete.{Spot, Expr, Sum}
+use Rattle.py_expressions.specs.Targets.{OneTarget}
+use Rattle.py_expressions.specs.Tokens.{token, expr_tokens, sum_tokens}
+use Rattle.py_expressions.specs.Lies.{IsApart, expr_lies, sum_lies}
 use Rattle.py_grammar.specs.LineReader.{Head, head_tokens}
 use Rattle.py_grammar.specs.ParsedHead.{head_lies, UnreadLine, passed_tokens, passed_lies, room_behind}
 use Rattle.py_parser.specs.declared.fault.ParseFault.{ParseFault}

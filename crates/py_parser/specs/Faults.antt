@@ -7,15 +7,15 @@ use Rattle.py_lines.specs.declared.parts.TokenKind.{TokenKind}
 use Rattle.py_lines.specs.declared.parts.TokenKind.TheVariants.{Keyword}
 use Rattle.py_parser.specs.declared.fault.ParseFault.{ParseFault}
 use Rattle.py_parser.specs.declared.fault.ParseFault.TheVariants.{Unexpected, Unsupported, BadIndent, TooDeep, TooMany, Memory}
-use Rattle.py_grammar.specs.declared.fault.Fault.{Fault as LineFault}
-use Rattle.py_grammar.specs.declared.fault.Fault.TheVariants.{Unexpected as OnLine, TooDeep as DeepOnLine}
-use Rattle.py_grammar.specs.Concrete.{Spot}
-use Rattle.py_grammar.specs.Tokens.{keyword}
+use Rattle.py_expressions.specs.declared.fault.Fault.{Fault as LineFault}
+use Rattle.py_expressions.specs.declared.fault.Fault.TheVariants.{Unexpected as OnLine, TooDeep as DeepOnLine}
+use Rattle.py_expressions.specs.Concrete.{Spot}
+use Rattle.py_expressions.specs.Tokens.{keyword}
 use Rattle.py_grammar.specs.StatementTokens.{simple_tokens}
 use Rattle.py_grammar.specs.Follows.{Below}
 use Rattle.py_grammar.specs.LineReader.{Head, head_tokens}
 use Rattle.py_grammar.specs.Layout.{IsLine}
-use Rattle.py_grammar.specs.Lies.{IsApart}
+use Rattle.py_expressions.specs.Lies.{IsApart}
 use Rattle.py_grammar.specs.ParsedSimple.{CompletesDel, FirstDeepDel}
 use Rattle.py_grammar.specs.ParsedHead.{CompletesTargets, FirstDeepTargets, del_name, UnreadLine, head_lies}
 use Rattle.py_grammar.specs.Written.{Script}

@@ -1,7 +1,7 @@
 -- The statements that rows spell: the lines of one statement put together. No public clause speaks of it.
 use Rattle.std.specs.Prelude.{[], Option, Some, None}
 use Rattle.py_lines.specs.declared.parts.Line.{Line}
-use Rattle.py_grammar.specs.Concrete.{Spot}
+use Rattle.py_expressions.specs.Concrete.{Spot}
 use Rattle.py_grammar.specs.Written.{Simple, pass, Kind, every_kind, Stmt, simple, if_stmt, while_stmt, for_stmt, try_stmt, with_stmt, def_stmt, class_stmt, Suite, on_line, block, Body, last_stmt, more_stmt, Elifs, no_elif, elif, Else, no_else_part, else_part, Handlers, last_handler, more_handler, DefSuite, def_line, def_block, DefBody, end_def, stmt_in_def, global_in_def, Script, empty_script, script}
 use Rattle.py_grammar.specs.LineReader.{simple_head, if_head, elif_head, else_head, while_head, for_head, try_head, except_head, with_head, def_head, class_head, global_head}
 use Rattle.py_parser.specs.Rows.{Rows, end_rows, row, Under, nothing, block as under}

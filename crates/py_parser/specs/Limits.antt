@@ -3,7 +3,7 @@ use Rattle.std.specs.Prelude.{◌≡◌, ℕ, ◌≤◌, true}
 use Rattle.py_tree.specs.Numbering.{size_suite}
 use Rattle.py_grammar.specs.Written.{Script, empty_script, script}
 use Rattle.py_grammar.specs.StatementTrees.{script_body}
-use Rattle.py_grammar.specs.Depth.{body_expr_depth, body_depth}
+use Rattle.py_grammar.specs.StatementDepth.{body_expr_depth, body_depth}
 use Rattle.py_grammar.specs.WellPlaced.{script_stands}
 
 -- how deep expressions may go, in how many suites statements may lie, how many statements there may be

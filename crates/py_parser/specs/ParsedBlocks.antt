@@ -11,8 +11,8 @@ use Rattle.py_grammar.specs.declared.context.Limit.{Limit}
 use Rattle.py_grammar.specs.declared.context.Limit.TheVariants.{Number, Depth}
 use Rattle.py_parser.specs.declared.blocks.Place.{Place}
 use Rattle.py_parser.specs.declared.blocks.Built.{Built}
-use Rattle.py_grammar.specs.declared.fault.Fault.{Fault}
-use Rattle.py_grammar.specs.declared.fault.Fault.TheVariants.{Unexpected, TooDeep as FaultDeep, TooMany as FaultMany, Memory as FaultMemory}
+use Rattle.py_expressions.specs.declared.fault.Fault.{Fault}
+use Rattle.py_expressions.specs.declared.fault.Fault.TheVariants.{Unexpected, TooDeep as FaultDeep, TooMany as FaultMany, Memory as FaultMemory}
 use Rattle.py_parser.specs.declared.fault.Halt.{Halt}
 use Rattle.py_parser.specs.declared.fault.Halt.TheVariants.{AtToken, AtEnd, NoLine, BadIndent, TooDeep, TooMany, Memory}
 use Rattle.py_grammar.specs.declared.head.LineHead.{LineHead}
@@ -22,8 +22,8 @@ use Rattle.py_grammar.specs.Layout.{IsLine}
 use Rattle.py_grammar.specs.Follows.{Below}
 use Rattle.py_grammar.specs.StatementTrees.{end_of}
 use Rattle.py_grammar.specs.ParsedSimple.{around_of}
-use Rattle.py_grammar.specs.Concrete.{Spot}
-use Rattle.py_grammar.specs.Tokens.{keyword}
+use Rattle.py_expressions.specs.Concrete.{Spot}
+use Rattle.py_expressions.specs.Tokens.{keyword}
 use Rattle.py_grammar.specs.ParsedHead.{IsWhat, IsBehind, lacks_handler, behind_in, head_lies}
 use Rattle.py_parser.specs.Limits.{Limits, profile}
 use Rattle.py_parser.specs.Faults.{last_token, Said, low_elsewhere, first_deep_at, Point, at_token, at_end, at_line, below, no_line, IsAt, IsPass, IsPassBefore, IsHandler, IsOpenAt, AreGlobal, LacksStatement, InColumn, BeginsScript, ReadsNoFurther, NoneWithin, few_suites, few_statements, is_stmt_kind, begins_there, StandsFor, LieWithin, InOrder, PassesNoneThere, Counts, BeginAtMost, IsDeepAt, IsOneMore, shows, first_place, first_token, last_place, origin, tokens_before, Next}

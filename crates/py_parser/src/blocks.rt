@@ -18,10 +18,9 @@ ghost use Rattle.py_parser.specs.ParsedBlocks.{limit_at, AreBelow, level_of, lev
 
 use crate::fault::Halt;
 use prov_base::{Name, Pos, Span};
-use py_grammar::{
-    Around, Behind, Context, ELIF, ELSE, EXCEPT, Fault, GLOBAL, Last, Limit, LineHead, PASS, Stop,
-    What, read_head,
-};
+use py_expressions::words::{ELIF, ELSE, EXCEPT, GLOBAL, PASS};
+use py_expressions::{Fault, Stop};
+use py_grammar::{Around, Behind, Context, Given, Last, Limit, LineHead, What, read_line_head};
 use py_lines::{Line, Token, TokenKind};
 use py_tree::{Bound, Branches, Expr, Form, Globals, Handlers, Stmt, Suite};
 use std::alloc::{AllocError, Global};
@@ -77,7 +76,7 @@ impl<'a> Blocks<'a> {
         &mut self,
         alloc: Global,
         place: Place,
-        given: &[Name],
+        given: &Given<'_>,
     ) -> Result<Built, Halt>
         requires here { is_here place.indent self.old.rest.now ≡ true }
         requires deep { place.depth ≤ 50 }
@@ -101,7 +100,7 @@ impl<'a> Blocks<'a> {
         &mut self,
         alloc: Global,
         place: Place,
-        given: &[Name],
+        given: &Given<'_>,
         built: Built,
     ) -> Result<Built, Halt>
         requires here { is_here place.indent self.old.rest.now ≡ true }
@@ -131,7 +130,7 @@ impl<'a> Blocks<'a> {
         line: &Line,
         lines: &[Line],
         place: Place,
-        given: &[Name],
+        given: &Given<'_>,
         built: &Built,
     ) -> Result<LineHead, Halt>
         requires few { self.old.count ≤ 20000 }
@@ -157,7 +156,7 @@ impl<'a> Blocks<'a> {
             last: built.last,
             may_declare: built.may_declare,
         };
-        match read_head(alloc, line.tokens.as_slice(), context, given, limit) {
+        match read_line_head(alloc, line.tokens.as_slice(), context, given, limit) {
             Ok(head) => {
                 self.count = count;
                 Ok(head)
@@ -228,7 +227,8 @@ impl<'a> Blocks<'a> {
             of_def: is_def(what),
         };
         self.columns.push(place.indent)?;
-        let built = self.rows(alloc, inner, given_of(what))?;
+        let given = Given::of(alloc, given_of(what))?;
+        let built = self.rows(alloc, inner, &given)?;
         self.columns.pop();
         Ok(built)
     }

@@ -11,6 +11,7 @@ use crate::blocks::{Blocks, Place, first_of};
 use crate::fault::ParseFault;
 use crate::told::told;
 use prov_base::Pos;
+use py_grammar::Given;
 use py_lines::Lines;
 use py_tree::{Script, Suite};
 use std::alloc::Global;
@@ -45,7 +46,8 @@ pub fn parse(alloc: Global, lines: &Lines) -> Result<Script, ParseFault>
         count: 0,
         columns: Vec::new(alloc),
     };
-    let built = match blocks.rows(alloc, Place::module(), &[]) {
+    let given = Given::none(alloc);
+    let built = match blocks.rows(alloc, Place::module(), &given) {
         Ok(built) => built,
         Err(halt) => return Err(told(alloc, lines, halt)),
     };

@@ -7,12 +7,12 @@ use Rattle.prov_base.specs.declared.place.Pos.{Pos}
 use Rattle.py_lines.specs.declared.parts.Token.{Token}
 use Rattle.py_lines.specs.declared.parts.TokenKind.{TokenKind}
 use Rattle.py_lines.specs.declared.parts.TokenKind.TheVariants.{Word, Keyword, Number, Text, Sign}
-use Rattle.py_grammar.specs.Concrete.{Spot, Expr, plain_expr, plain_or, plain_and, plain_not, plain_cmp, plain_sum, plain_term, plain_unary, plain_prim, text, Exprs, one_expr}
-use Rattle.py_grammar.specs.Tokens.{exprs_tokens}
-use Rattle.py_grammar.specs.Reader.{start_class, starts}
-use Rattle.py_grammar.specs.StatementReader.{expr_target}
-use Rattle.py_grammar.specs.Spelled.{first_place, IsForm, SpellsExpr, SpellsRow, exprs_wrong}
-use Rattle.py_grammar.proofs.Firsts.{exprs_starts, is_above}
+use Rattle.py_expressions.specs.Concrete.{Spot, Expr, plain_expr, plain_or, plain_and, plain_not, plain_cmp, plain_sum, plain_term, plain_unary, plain_prim, text, Exprs, one_expr}
+use Rattle.py_expressions.specs.Tokens.{exprs_tokens}
+use Rattle.py_expressions.specs.Reader.{start_class, starts}
+use Rattle.py_expressions.specs.Targets.{expr_target}
+use Rattle.py_expressions.specs.Spelled.{first_place, IsForm, SpellsExpr, SpellsRow, exprs_wrong}
+use Rattle.py_expressions.proofs.Firsts.{exprs_starts, is_above}
 use Rattle.refused_forms.specs.declared.standing.Standing.{Standing}
 use Rattle.refused_forms.specs.LineForms.{is_word, is_text, is_equals, is_augmenting, is_first, behind_colon, statement, in_class}
 use Rattle.refused_forms.specs.RefusedForms.{text_place, text_in_class, WrongTarget, WrongAugmented, behind_word, goes_on, WrongDeleted, named_place, last_target, loop_target, WrongLoop, raise_place, bare_raise, IsRefusedBefore, IsRefusedForm}

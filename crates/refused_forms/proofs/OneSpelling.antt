@@ -3,12 +3,12 @@ use Rattle.std.proofs.Common.{◌≡◌, List, Option, Some, None, ap, sym, ◌�
 use Rattle.std.proofs.lemmas.Option.{same_Some}
 use Rattle.prov_base.specs.declared.place.Pos.{Pos}
 use Rattle.py_lines.specs.declared.parts.Token.{Token}
-use Rattle.py_grammar.specs.Concrete.{Expr, plain_expr, plain_or, plain_and, plain_not, plain_cmp, Sum, Exprs, one_expr}
-use Rattle.py_grammar.specs.Tokens.{exprs_tokens}
-use Rattle.py_grammar.specs.Written.{OneTarget, named, item, field}
-use Rattle.py_grammar.specs.declared.spelled.Spelled.{Spelled}
-use Rattle.py_grammar.specs.declared.spelled.Spelled.TheVariants.{Nothing, Target, Field, Wrong}
-use Rattle.py_grammar.specs.Spelled.{first_place, IsForm, SpellsExpr, SpellsSum, SpellsRow, IsRowForm}
+use Rattle.py_expressions.specs.Concrete.{Expr, plain_expr, plain_or, plain_and, plain_not, plain_cmp, Sum, Exprs, one_expr}
+use Rattle.py_expressions.specs.Tokens.{exprs_tokens}
+use Rattle.py_expressions.specs.Targets.{OneTarget, named, item, field}
+use Rattle.py_expressions.specs.declared.spelled.Spelled.{Spelled}
+use Rattle.py_expressions.specs.declared.spelled.Spelled.TheVariants.{Nothing, Target, Field, Wrong}
+use Rattle.py_expressions.specs.Spelled.{first_place, IsForm, SpellsExpr, SpellsSum, SpellsRow, IsRowForm}
 
 -- that tokens spell one row
 abbrev pub OneRow : Type 0

@@ -3,7 +3,7 @@ use Rattle.std.proofs.Common.{◌≡◌, inl, inr, Bool, true, false, List, [], 
 use Rattle.std.proofs.lemmas.Option.{none-some}
 use Rattle.prov_base.specs.declared.place.Pos.{Pos}
 use Rattle.py_lines.specs.declared.parts.Token.{Token}
-use Rattle.py_grammar.specs.Spelled.{first_place}
+use Rattle.py_expressions.specs.Spelled.{first_place}
 use Rattle.refused_forms.specs.declared.standing.Standing.{Standing}
 use Rattle.refused_forms.specs.RefusedForms.{IsFound, Decides, IsRefusedHere, IsRefusedBefore, IsRefusedForm, WrongTarget, WrongAugmented, WrongDeleted, WrongLoop, text_in_class, bare_raise}
 

@@ -4,11 +4,11 @@ use Rattle.std.proofs.lemmas.Option.{same_Some, none-some}
 use Rattle.prov_base.specs.declared.place.Pos.{Pos}
 use Rattle.py_lines.specs.declared.parts.Token.{Token}
 use Rattle.py_lines.specs.declared.parts.TokenKind.{TokenKind}
-use Rattle.py_grammar.specs.Concrete.{Expr, Sum, Exprs, one_expr, several}
-use Rattle.py_grammar.specs.StatementReader.{expr_target, single_target}
-use Rattle.py_grammar.specs.declared.spelled.Spelled.{Spelled}
-use Rattle.py_grammar.specs.declared.spelled.Spelled.TheVariants.{Nothing, Target, Field, Wrong}
-use Rattle.py_grammar.specs.Spelled.{first_place, IsForm, SpellsExpr, SpellsSum, sum_target, SpellsRow, exprs_wrong, IsExpr, IsSum, IsRow}
+use Rattle.py_expressions.specs.Concrete.{Expr, Sum, Exprs, one_expr, several}
+use Rattle.py_expressions.specs.Targets.{expr_target, single_target}
+use Rattle.py_expressions.specs.declared.spelled.Spelled.{Spelled}
+use Rattle.py_expressions.specs.declared.spelled.Spelled.TheVariants.{Nothing, Target, Field, Wrong}
+use Rattle.py_expressions.specs.Spelled.{first_place, IsForm, SpellsExpr, SpellsSum, sum_target, SpellsRow, exprs_wrong, IsExpr, IsSum, IsRow}
 use Rattle.refused_forms.specs.RefusedForms.{IsFound, Decides, WrongTarget, WrongAugmented, WrongDeleted, WrongLoop, Annotation, annotated_part, assigned, augmented, deleted, loop_target, named_place, wrong_part, is_right, single_wrong}
 use Rattle.refused_forms.proofs.OneSpelling.{OneRow, same_row, same_expr, same_sum, as_row, is_wrong, not_target, not_field, is_wrong_row, is_right_row, not_field_row, one_form}
 

@@ -4,11 +4,11 @@ use Rattle.std.specs.Prelude.{◌≡◌, ◌⊎◌, ℕ, Bool, true, false, ◌|
 use Rattle.prov_base.specs.declared.place.Pos.{Pos}
 use Rattle.py_lines.specs.declared.parts.Token.{Token}
 use Rattle.py_lines.specs.declared.parts.TokenKind.{TokenKind}
-use Rattle.py_grammar.specs.Concrete.{Expr, Sum, Exprs}
-use Rattle.py_grammar.specs.StatementReader.{expr_target, single_target}
-use Rattle.py_grammar.specs.declared.spelled.Spelled.{Spelled}
-use Rattle.py_grammar.specs.declared.spelled.Spelled.TheVariants.{Nothing, Target, Field, Wrong}
-use Rattle.py_grammar.specs.Spelled.{first_place, IsForm, SpellsExpr, SpellsSum, sum_target, SpellsRow, exprs_wrong}
+use Rattle.py_expressions.specs.Concrete.{Expr, Sum, Exprs}
+use Rattle.py_expressions.specs.Targets.{expr_target, single_target}
+use Rattle.py_expressions.specs.declared.spelled.Spelled.{Spelled}
+use Rattle.py_expressions.specs.declared.spelled.Spelled.TheVariants.{Nothing, Target, Field, Wrong}
+use Rattle.py_expressions.specs.Spelled.{first_place, IsForm, SpellsExpr, SpellsSum, sum_target, SpellsRow, exprs_wrong}
 use Rattle.refused_forms.specs.declared.standing.Standing.{Standing}
 use Rattle.refused_forms.specs.LineForms.{is_word, is_text, is_equals, is_colon, is_augmenting, compares, is_first, closed, behind_colon, statement, behind_equals, last_part, annotated, in_class, token_refused}
 

@@ -1,6 +1,6 @@
 // Refused forms that show behind their tokens: what is named is an earlier one.
 ghost use Rattle.std.specs.Prelude.{◌≡◌, IfOk, IfErr, option_map};
-ghost use Rattle.py_grammar.specs.declared.fault.Fault.TheVariants.{Memory};
+ghost use Rattle.py_expressions.specs.declared.fault.Fault.TheVariants.{Memory};
 ghost use Rattle.refused_forms.specs.LineForms.{in_class, is_first};
 ghost use Rattle.refused_forms.specs.RefusedForms as spec;
 
@@ -11,7 +11,7 @@ use crate::standing::Standing;
 use crate::statements::{behind_colon, last_part, statement};
 use crate::words::{ASSIGN, CLASS, DEL, FOR, NOT, RAISE};
 use prov_base::Pos;
-use py_grammar::{Fault, one_expression, spelled_expr, spelled_row, spelled_sum};
+use py_expressions::{Fault, one_expression, spelled_expr, spelled_row, spelled_sum};
 use py_lines::Token;
 use std::alloc::Global;
 

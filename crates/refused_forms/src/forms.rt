@@ -1,7 +1,7 @@
 // Whether a refused form stands where no script goes on.
 ghost use Rattle.std.specs.Prelude.{◌≡◌, ℕ, IfOk, IfErr, IfSome, IfNone, option_map};
 ghost use Rattle.prov_base.specs.declared.place.Pos.{Pos};
-ghost use Rattle.py_grammar.specs.declared.fault.Fault.TheVariants.{Memory};
+ghost use Rattle.py_expressions.specs.declared.fault.Fault.TheVariants.{Memory};
 ghost use Rattle.refused_forms.specs.LineForms.{standing};
 ghost use Rattle.refused_forms.specs.RefusedForms as spec;
 ghost use Rattle.refused_forms.specs.RefusedForms.{IsRefusedForm};
@@ -14,7 +14,7 @@ use crate::statements::{annotated, behind_equals, statement};
 use crate::table::token_refused;
 use crate::words::{ASSIGN, COLON};
 use prov_base::Pos;
-use py_grammar::{Fault, one_expression, spelled_row};
+use py_expressions::{Fault, one_expression, spelled_row};
 use py_lines::{Line, Token, TokenKind};
 use std::alloc::Global;
 

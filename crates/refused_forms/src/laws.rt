@@ -5,7 +5,7 @@ ghost use Rattle.py_lines.specs.declared.parts.Token.{Token};
 ghost use Rattle.refused_forms.specs.declared.standing.Standing.{Standing};
 ghost use Rattle.refused_forms.specs.RefusedForms.{IsRefusedForm};
 
-use py_grammar::one_expression;
+use py_expressions::one_expression;
 
 /// The law that a refused form names one place.
 pub fn one_place()

@@ -1,10 +1,10 @@
 // What a spelling of tokens tells.
 ghost use Rattle.std.specs.Prelude.{◌≡◌};
-ghost use Rattle.py_grammar.specs.Spelled.{first_place};
+ghost use Rattle.py_expressions.specs.Spelled.{first_place};
 ghost use Rattle.refused_forms.specs.RefusedForms as spec;
 
 use prov_base::Pos;
-use py_grammar::Spelled;
+use py_expressions::Spelled;
 use py_lines::Token;
 
 /// The place of the first of these tokens, if there is one.

@@ -1,9 +1,10 @@
 -- The same of simple statements, and of the parts of compound ones.
 use Rattle.std.proofs.Common.{◌++◌, refl}
 use Rattle.std.specs.Prelude.{codes}
-use Rattle.py_grammar.specs.Concrete.{Spot}
-use Rattle.py_grammar.specs.Written.{AugSign, add_to, take_from, multiply_by, divide_by, leave_of, OneTarget, named, item, field, TargetRest, end_rest_target, last_target, more_target, Target, one_target, several_targets, Simple, expression, assign, augmented, del, pass, break, continue, return, return_value, raise, raise_value, assert, assert_message, import_module, Names, last_name, more_names, Params, no_params, params, params_comma, Naming, no_naming, naming, Kind, every_kind, one_kind, Base, no_base, empty_base, base}
-use Rattle.py_grammar.specs.Tokens.{keyword, sign, word, expr_tokens, prim_tokens, exprs_tokens}
+use Rattle.py_expressions.specs.Concrete.{Spot}
+use Rattle.py_grammar.specs.Written.{AugSign, add_to, take_from, multiply_by, divide_by, leave_of, Simple, expression, assign, augmented, del, pass, break, continue, return, return_value, raise, raise_value, assert, assert_message, import_module, Names, last_name, more_names, Params, no_params, params, params_comma, Naming, no_naming, naming, Kind, every_kind, one_kind, Base, no_base, empty_base, base}
+use Rattle.py_expressions.specs.Targets.{OneTarget, named, item, field, TargetRest, end_rest_target, last_target, more_target, Target, one_target, several_targets}
+use Rattle.py_expressions.specs.Tokens.{keyword, sign, word, expr_tokens, prim_tokens, exprs_tokens}
 use Rattle.py_grammar.specs.StatementTokens.{aug_sign, one_target_tokens, target_rest_tokens, target_tokens, simple_tokens, names_tokens, params_tokens, naming_tokens, kind_tokens, base_tokens}
 use Rattle.slice_text.proofs.Balanced.{Passes, both, round, square, expr_tokens_passes, prim_tokens_passes, exprs_tokens_passes}
 

@@ -11,7 +11,7 @@ use Rattle.py_lines.specs.Piece.{Piece, line_end, spelled, is_piece, ends, text_
 use Rattle.py_lines.specs.Written.{Written, last, more, pieces_of, behind_line, is_token, tokens_of, indentation, is_line, are_lines, line_at, lines_of}
 use Rattle.py_lines.proofs.Snoc.{text_of-append}
 use Rattle.py_grammar.specs.StatementTrees.{end_of}
-use Rattle.py_grammar.specs.Tokens.{keyword}
+use Rattle.py_expressions.specs.Tokens.{keyword}
 use Rattle.slice_text.specs.declared.gaps.Gap.{Gap}
 use Rattle.slice_text.specs.Cut.{is_in, is_filled, cut_from, to_line_end, growths}
 use Rattle.slice_text.specs.CutScript.{pass_spot}

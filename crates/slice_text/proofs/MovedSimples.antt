@@ -1,8 +1,9 @@
 -- Moved simple statements, and moved parts of compound ones, have the moved tokens and the same trees.
 use Rattle.std.proofs.Common.{◌≡◌, ◌++◌, map, refl}
 use Rattle.std.specs.Prelude.{codes}
-use Rattle.py_grammar.specs.Written.{OneTarget, named, item, field, TargetRest, end_rest_target, last_target, more_target, Target, one_target, several_targets, Simple, expression, assign, augmented, del, pass, break, continue, return, return_value, raise, raise_value, assert, assert_message, import_module, Names, last_name, more_names, Params, no_params, params, params_comma, Naming, no_naming, naming, Kind, every_kind, one_kind, Base, no_base, empty_base, base}
-use Rattle.py_grammar.specs.Tokens.{keyword, sign, word, expr_tokens, prim_tokens, exprs_tokens}
+use Rattle.py_expressions.specs.Targets.{OneTarget, named, item, field, TargetRest, end_rest_target, last_target, more_target, Target, one_target, several_targets}
+use Rattle.py_grammar.specs.Written.{Simple, expression, assign, augmented, del, pass, break, continue, return, return_value, raise, raise_value, assert, assert_message, import_module, Names, last_name, more_names, Params, no_params, params, params_comma, Naming, no_naming, naming, Kind, every_kind, one_kind, Base, no_base, empty_base, base}
+use Rattle.py_expressions.specs.Tokens.{keyword, sign, word, expr_tokens, prim_tokens, exprs_tokens}
 use Rattle.py_grammar.specs.StatementTokens.{aug_sign, one_target_tokens, target_rest_tokens, target_tokens, simple_tokens, names_tokens, params_tokens, naming_tokens, kind_tokens, base_tokens}
 use Rattle.py_grammar.specs.StatementTrees.{one_target_tree, target_rest_tree, target_tree, simple_form, names_list, params_list, naming_bound, kind_class, kind_bound, base_tree}
 use Rattle.slice_text.proofs.Moved.{Move, moved_spot, moved_token, moved_expr, moved_prim, moved_exprs, moved_one_target, moved_target_rest, moved_target, moved_simple, moved_names, moved_params, moved_naming, moved_kind, moved_base}

@@ -3,8 +3,8 @@ use Rattle.std.proofs.Common.{◌≡◌, List, ◌++◌, map, refl, sym, ap, ◌
 use Rattle.std.specs.Prelude.{codes}
 use Rattle.std.proofs.lemmas.List.{map-append}
 use Rattle.py_lines.specs.declared.parts.Token.{Token}
-use Rattle.py_grammar.specs.Concrete.{CmpSign, equal, unequal, less, less_equal, greater, greater_equal, within, not_within, same, not_same, Expr, plain_expr, choice, Or, plain_or, or_more, And, plain_and, and_more, Not, plain_not, not_of, Cmp, plain_cmp, compared, Sum, plain_sum, sum_more, Term, plain_term, term_more, Unary, plain_unary, signed, Prim, plain_prim, call, part, attribute, Index, one_index, range_index, Bound, no_bound, bound, Atom, name, number, text, none, true_word, false_word, empty_tuple, group, list, dict, Exprs, one_expr, several, Rest, end_rest, last_rest, more_rest, Items, no_items, items, Pairs, no_pairs, last_pair, more_pairs}
-use Rattle.py_grammar.specs.Tokens.{keyword, sign, word, add_sign, mul_sign, cmp_tokens, expr_tokens, or_tokens, and_tokens, not_tokens, cmp_tokens_of, sum_tokens, term_tokens, unary_tokens, prim_tokens, index_tokens, bound_tokens, atom_tokens, exprs_tokens, rest_tokens, items_tokens, pairs_tokens}
+use Rattle.py_expressions.specs.Concrete.{CmpSign, equal, unequal, less, less_equal, greater, greater_equal, within, not_within, same, not_same, Expr, plain_expr, choice, Or, plain_or, or_more, And, plain_and, and_more, Not, plain_not, not_of, Cmp, plain_cmp, compared, Sum, plain_sum, sum_more, Term, plain_term, term_more, Unary, plain_unary, signed, Prim, plain_prim, call, part, attribute, Index, one_index, range_index, Bound, no_bound, bound, Atom, name, number, text, none, true_word, false_word, empty_tuple, group, list, dict, Exprs, one_expr, several, Rest, end_rest, last_rest, more_rest, Items, no_items, items, Pairs, no_pairs, last_pair, more_pairs}
+use Rattle.py_expressions.specs.Tokens.{keyword, sign, word, add_sign, mul_sign, cmp_tokens, expr_tokens, or_tokens, and_tokens, not_tokens, cmp_tokens_of, sum_tokens, term_tokens, unary_tokens, prim_tokens, index_tokens, bound_tokens, atom_tokens, exprs_tokens, rest_tokens, items_tokens, pairs_tokens}
 use Rattle.slice_text.proofs.Moved.{Move, moved_spot, moved_token, moved_cmp_sign, moved_expr, moved_or, moved_and, moved_not, moved_cmp, moved_sum, moved_term, moved_unary, moved_prim, moved_index, moved_bound, moved_atom, moved_exprs, moved_rest, moved_items, moved_pairs}
 
 -- two parts, one behind the other

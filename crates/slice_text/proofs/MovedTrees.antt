@@ -1,7 +1,7 @@
 -- Moved expressions have the same trees.
 use Rattle.std.proofs.Common.{◌≡◌, refl}
-use Rattle.py_grammar.specs.Concrete.{CmpSign, equal, unequal, less, less_equal, greater, greater_equal, within, not_within, same, not_same, Expr, plain_expr, choice, Or, plain_or, or_more, And, plain_and, and_more, Not, plain_not, not_of, Cmp, plain_cmp, compared, Sum, plain_sum, sum_more, Term, plain_term, term_more, Unary, plain_unary, signed, Prim, plain_prim, call, part, attribute, one_index, range_index, Bound, no_bound, bound, Atom, name, number, text, none, true_word, false_word, empty_tuple, group, list, dict, Exprs, one_expr, several, Rest, end_rest, last_rest, more_rest, Items, no_items, items, Pairs, no_pairs, last_pair, more_pairs}
-use Rattle.py_grammar.specs.Trees.{cmp_op, cmp_at, expr_tree, or_tree, and_tree, not_tree, cmp_tree, sum_tree, term_tree, unary_tree, prim_tree, bound_tree, atom_tree, exprs_tree, rest_tree, items_tree, pairs_tree}
+use Rattle.py_expressions.specs.Concrete.{CmpSign, equal, unequal, less, less_equal, greater, greater_equal, within, not_within, same, not_same, Expr, plain_expr, choice, Or, plain_or, or_more, And, plain_and, and_more, Not, plain_not, not_of, Cmp, plain_cmp, compared, Sum, plain_sum, sum_more, Term, plain_term, term_more, Unary, plain_unary, signed, Prim, plain_prim, call, part, attribute, one_index, range_index, Bound, no_bound, bound, Atom, name, number, text, none, true_word, false_word, empty_tuple, group, list, dict, Exprs, one_expr, several, Rest, end_rest, last_rest, more_rest, Items, no_items, items, Pairs, no_pairs, last_pair, more_pairs}
+use Rattle.py_expressions.specs.Trees.{cmp_op, cmp_at, expr_tree, or_tree, and_tree, not_tree, cmp_tree, sum_tree, term_tree, unary_tree, prim_tree, bound_tree, atom_tree, exprs_tree, rest_tree, items_tree, pairs_tree}
 use Rattle.slice_text.proofs.Moved.{Move, moved_cmp_sign, moved_expr, moved_or, moved_and, moved_not, moved_cmp, moved_sum, moved_term, moved_unary, moved_prim, moved_bound, moved_atom, moved_exprs, moved_rest, moved_items, moved_pairs}
 
 pub cmp_op_same : (m : Move) (x : CmpSign) → cmp_op (moved_cmp_sign m x) ≡ cmp_op x

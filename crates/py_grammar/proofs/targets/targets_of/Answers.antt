@@ -8,8 +8,8 @@ use Rattle.py_grammar.proofs.TargetLists.{Turned, one_more, next_is_target, all_
 use Rattle.py_grammar.proofs.targets.targets_of.Goals as goal
 
 -- src/targets.rt
-pub one_target-requires : goal.one_target-requires
-one_target-requires c =
+pub item_target-requires : goal.item_target-requires
+item_target-requires c =
     let here = subst (λ (rest : List Expr). Turned c.args.exprs.list.items c.loop-expr.list.items rest) c.in-Some.ensures.steps.0 c.loop-expr.invariant in
     record { form = next_is_target _ _ _ _ here (ap (λ es. is_some (targets_form es)) (sym (exprs_tree c.args.exprs)) ∙ c.requires.form) }
 
@@ -17,7 +17,7 @@ one_target-requires c =
 pub loop-expr-preserved : goal.loop-expr-preserved
 loop-expr-preserved c =
     let here = subst (λ (rest : List Expr). Turned c.args.exprs.list.items c.loop-expr.list.items rest) c.in-Some.ensures.steps.0 c.loop-expr.invariant in
-    subst (λ (done : List Target). Turned c.args.exprs.list.items done c.next.new.self.rest.items) (sym {A = List Target} c.in_ok-push.ensures.items) (one_more _ _ _ _ _ here c.one_target.ensures)
+    subst (λ (done : List Target). Turned c.args.exprs.list.items done c.next.new.self.rest.items) (sym {A = List Target} c.in_ok-push.ensures.items) (one_more _ _ _ _ _ here c.item_target.ensures)
 
 -- src/targets.rt
 pub returns : goal.returns

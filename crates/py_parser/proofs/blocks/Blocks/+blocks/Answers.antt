@@ -92,15 +92,15 @@ suite-returns-then-place-ge-SUITES-clause-refused t c m n h shallow u what open_
 -- src/blocks.rt
 pub suite-returns-in_err-built-clause-refused : goal.suite-returns-in_err-built-clause-refused
 suite-returns-in_err-built-clause-refused t c m n h shallow u what open_is =
-    let is = suite_stopped_there c.args.self.now.columns.items _ c.args.place (inner_place c.in-Some.next.now.indent (c.args.place.depth + 1) c.inner_around.result c.is_def.result) c.given_of.result.now c.args.self.now.count m n h c.args.self.now.before c.args.self.now.rest.now _ c.if-place-ge-SUITES.false shallow u open_is refl
-    (c.inner_around.ensures h what) (c.is_def.ensures h what) (c.given_of.ensures h what) c.if-next-place.false c.in_ok-push.ensures.items c.in_err-built.ensures.refused in
+    let is = suite_stopped_there c.args.self.now.columns.items _ c.args.place (inner_place c.in-Some.next.now.indent (c.args.place.depth + 1) c.inner_around.result c.is_def.result) c.in_ok-given.given c.args.self.now.count m n h c.args.self.now.before c.args.self.now.rest.now _ c.if-place-ge-SUITES.false shallow u open_is refl
+    (c.inner_around.ensures h what) (c.is_def.ensures h what) (c.in_ok-given.ensures ∙ c.given_of.ensures h what) c.if-next-place.false c.in_ok-push.ensures.items c.in_err-built.ensures.refused in
     search (rules, is)
 
 -- src/blocks.rt
 pub suite-returns-clause-found : goal.suite-returns-clause-found
 suite-returns-clause-found t c m n h u what open_is to =
-    suite_read_there c.args.place (inner_place c.in-Some.next.now.indent (c.args.place.depth + 1) c.inner_around.result c.is_def.result) c.given_of.result.now c.args.self.now.count c.rows.new.self.count to m n h c.args.self.now.before c.rows.new.self.before
-    c.args.self.now.rest.now c.rows.new.self.rest.now c.in_ok-built.built u open_is refl (c.inner_around.ensures h what) (c.is_def.ensures h what) (c.given_of.ensures h what) c.if-next-place.false c.if-place-ge-SUITES.false c.in_ok-built.ensures.found
+    suite_read_there c.args.place (inner_place c.in-Some.next.now.indent (c.args.place.depth + 1) c.inner_around.result c.is_def.result) c.in_ok-given.given c.args.self.now.count c.rows.new.self.count to m n h c.args.self.now.before c.rows.new.self.before
+    c.args.self.now.rest.now c.rows.new.self.rest.now c.in_ok-built.built u open_is refl (c.inner_around.ensures h what) (c.is_def.ensures h what) (c.in_ok-given.ensures ∙ c.given_of.ensures h what) c.if-next-place.false c.if-place-ge-SUITES.false c.in_ok-built.ensures.found
 
 -- src/blocks.rt
 pub under-returns-in_ok-one_line-in-Some-clause-found : goal.under-returns-in_ok-one_line-in-Some-clause-found

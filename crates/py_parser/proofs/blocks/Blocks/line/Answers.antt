@@ -1,6 +1,6 @@
 use Rattle.std.proofs.Common.{◌≡◌, ◌⊎◌, inl, inr, ◌<◌, true, ap, sym, subst, ◌∙◌}
 use Rattle.std.proofs.lemmas.Bool.{false≢true}
-use Rattle.py_grammar.specs.declared.fault.Stop.TheVariants.{Here, End}
+use Rattle.py_expressions.specs.declared.fault.Stop.TheVariants.{Here, End}
 use Rattle.py_parser.specs.Faults.{last_place}
 use Rattle.py_grammar.specs.ParsedHead.{lacks_handler}
 use Rattle.py_parser.specs.declared.fault.Halt.{Halt}

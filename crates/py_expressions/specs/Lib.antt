@@ -1,0 +1,10 @@
+pub mod Concrete
+pub mod Depth
+pub mod Lies
+pub mod Parsed
+pub mod ParsedRows
+pub mod Reader
+pub mod Spelled
+pub mod Targets
+pub mod Tokens
+pub mod Trees

@@ -1,9 +1,0 @@
-use Rattle.std.proofs.Common.{length}
-use Rattle.py_grammar.proofs.ForTargets.{TargetsGo}
-use Rattle.py_grammar.proofs.cursor.Cursor.more_targets.Given as goal
-
-abbrev pub invariant-loop-alloc : goal.invariant-loop-alloc
-invariant-loop-alloc l = TargetsGo 99 l.fn.self.rest.now l.fn.row l.self.rest.now l.row
-
-abbrev pub decreases-loop-alloc : goal.decreases-loop-alloc
-decreases-loop-alloc l = length l.self.rest.now

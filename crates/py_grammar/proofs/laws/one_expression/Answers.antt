@@ -1,5 +1,0 @@
-use Rattle.py_grammar.proofs.OneReading.{one_reading}
-use Rattle.py_grammar.proofs.laws.one_expression.Goals as goal
-
-pub returns : goal.returns
-returns c a b same = one_reading a b same
