@@ -14,6 +14,7 @@ use Rattle.py_tree.specs.declared.stmt.Suite.{Suite}
 use Rattle.py_tree.specs.declared.stmt.Form.{Form}
 use Rattle.py_tree.specs.declared.stmt.Form.TheVariants.{Do, Assign, Aug, Del, Pass, Break, Continue, Return, Raise, Assert, Import, While, For, Try, With, Def, Class}
 use Rattle.py_tree.specs.declared.stmt.Form.TheViews.{If}
+use Rattle.py_tree.specs.Tree.{one_stmt}
 use Rattle.py_tree.specs.Erasure.{expr_of, target_of, form_of, branches_of, handlers_of, stmt_of, suite_of, else_tree}
 use Rattle.py_tree.specs.Numbering.{size_stmt, size_form, size_suite, size_branches, size_else, size_handlers, numbered_stmt, numbered_form, numbered_suite, numbered_branches, numbered_else, numbered_handlers}
 use Rattle.py_tree.specs.Numbered.{IsNumberedOn}
@@ -142,13 +143,12 @@ try_kept keep f body body' handlers handlers' n k m is on on2 =
     (record { result_is = cc (try_tree body' handlers'); to_is = omega (arith, on.to_is, on2.to_is) })
 
 -- a statement, where its form is
-pub stmt_kept : (keep : ℕ → Bool) (s r : Stmt) (n k m : ℕ) → r.no ≡ n → r.pos ≡ s.pos → r.span ≡ s.span → k ≡ n + 1
-    → IsNumberedOn numbered_form size_form k m (kept_form keep (form_of s.form)) (form_of r.form) → IsNumberedOn numbered_stmt size_stmt n m (kept_stmt keep (stmt_of s)) (stmt_of r)
-stmt_kept keep s r n k m number at span next on =
+pub stmt_added : (keep : ℕ → Bool) (s r : Stmt) (n k m own : ℕ) (form : Form) → own ≡ n → k ≡ n + 1 → stmt_of r ≡ one_stmt own s.pos s.span (form_of form)
+    → IsNumberedOn numbered_form size_form k m (kept_form keep (form_of s.form)) (form_of form) → IsNumberedOn numbered_stmt size_stmt n m (kept_stmt keep (stmt_of s)) (stmt_of r)
+stmt_added keep s r n k m own form number next is on =
     subst (λ t. IsNumberedOn numbered_stmt size_stmt n m (kept_stmt keep t) (stmt_of r)) (sym (stmt_tree s))
-    (record { result_is = cc (stmt_tree r); to_is = omega (arith, on.to_is) })
+    (record { result_is = cc; to_is = omega (arith, on.to_is) })
 
 -- `pass` in place of a statement
-pub pass_stmt : (s r : Stmt) (n : ℕ) → r.no ≡ n → r.pos ≡ s.pos → r.span ≡ s.span → r.form ≡ Pass → stmt_of r ≡ numbered_stmt n (pass_at (stmt_of s))
-pass_stmt s r n number at span form =
-    subst (λ t. stmt_of r ≡ numbered_stmt n (pass_at t)) (sym (stmt_tree s)) (cc (stmt_tree r, ap form_of form, pass_tree))
+pub pass_added : (s r : Stmt) (n : ℕ) → stmt_of r ≡ one_stmt n s.pos s.span (form_of Pass) → stmt_of r ≡ numbered_stmt n (pass_at (stmt_of s))
+pass_added s r n is = subst (λ t. stmt_of r ≡ numbered_stmt n (pass_at t)) (sym (stmt_tree s)) (cc (pass_tree))

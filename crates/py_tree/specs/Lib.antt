@@ -1,3 +1,4 @@
+pub mod Added
 pub mod Binds
 pub mod Deletion
 pub mod Descent

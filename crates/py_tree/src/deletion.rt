@@ -1,10 +1,11 @@
 // The deletion of statements: a copy of a script without them, made in one pass over it.
 ghost use Rattle.std.specs.Prelude.{◌≡◌, ◌≢◌, ◌+◌, option_map, IfOk, MatchBool};
-ghost use Rattle.py_tree.specs.Tree.{end_suite};
+ghost use Rattle.py_tree.specs.Tree.{end_suite, one_stmt};
 ghost use Rattle.py_tree.specs.Erasure.{expr_of, target_of, stmt_of, form_of, suite_of, branches_of, handlers_of, else_tree, script_of};
-ghost use Rattle.py_tree.specs.Numbering.{size_suite, size_stmt, size_form, size_branches, size_handlers, size_else, numbered_suite, numbered_stmt, numbered_form, numbered_branches, numbered_else, numbered_handlers};
+ghost use Rattle.py_tree.specs.Numbering.{size_suite, size_form, size_branches, size_handlers, size_else, numbered_suite, numbered_form, numbered_branches, numbered_else, numbered_handlers};
 ghost use Rattle.py_tree.specs.Numbered.{IsNumberedOn};
-ghost use Rattle.py_tree.specs.Deletion.{deleted, or_pass, pass_at as pass_tree, kept_suite, kept_stmt, kept_form, kept_branches, kept_else, kept_handlers};
+ghost use Rattle.py_tree.specs.Added.{IsAdded};
+ghost use Rattle.py_tree.specs.Deletion.{deleted, or_pass, kept_suite, kept_form, kept_branches, kept_else, kept_handlers};
 ghost use Rattle.py_tree.specs.StmtSet.{has};
 
 use crate::copy::{copy_bound, copy_name, copy_option};
@@ -36,8 +37,9 @@ fn keep_suite(suite: &Suite, alloc: Global, keep: &StmtSet, next: &mut u32) -> R
         if !is_kept(keep, stmt.no) {
             continue;
         }
-        let kept = keep_stmt(stmt, alloc, keep, next)?;
-        list.push(kept)?;
+        let no = take_number(next)?;
+        let form = keep_form(&stmt.form, alloc, keep, next)?;
+        add_stmt(&mut list, stmt, no, form)?;
     }
     Ok(Suite { list })
 }
@@ -48,18 +50,17 @@ fn is_kept(keep: &StmtSet, no: u32) -> bool
     no < keep.bound() && keep.has(no)
 }
 
-#[cycle(delete)]
-fn keep_stmt(stmt: &Stmt, alloc: Global, keep: &StmtSet, next: &mut u32) -> Result<Stmt, Memory>
-    ensures { IfOk result (λ kept. IsNumberedOn numbered_stmt size_stmt next.old next.new (kept_stmt (has keep.now) (stmt_of stmt.now)) (stmt_of kept)) }
+// Puts a statement with this number and form behind the list, at the place and with the span of the other.
+fn add_stmt(list: &mut Vec<Stmt>, stmt: &Stmt, no: u32, form: Form) -> Result<(), Memory>
+    ensures { IfOk result (λ _. IsAdded list.old.items list.new.items (one_stmt no stmt.now.pos stmt.now.span (form_of form))) }
 {
-    let no = take_number(next)?;
-    let form = keep_form(&stmt.form, alloc, keep, next)?;
-    Ok(Stmt {
+    list.push(Stmt {
         no,
         pos: stmt.pos,
         span: stmt.span,
         form,
-    })
+    })?;
+    Ok(())
 }
 
 // The suite of a statement that stays keeps at least a `pass`.
@@ -102,19 +103,8 @@ fn pass_alone(suite: &Suite, alloc: Global, next: &mut u32) -> Result<Suite, Mem
         return Ok(Suite { list });
     };
     let no = take_number(next)?;
-    list.push(pass_at(first, no))?;
+    add_stmt(&mut list, first, no, Form::Pass)?;
     Ok(Suite { list })
-}
-
-fn pass_at(stmt: &Stmt, no: u32) -> Stmt
-    ensures { stmt_of result ≡ numbered_stmt no (pass_tree (stmt_of stmt.now)) }
-{
-    Stmt {
-        no,
-        pos: stmt.pos,
-        span: stmt.span,
-        form: Form::Pass,
-    }
 }
 
 #[cycle(delete)]
@@ -214,8 +204,8 @@ fn keep_branches(
 {
     let mut list = Vec::new(alloc);
     for (test, body) in &branches.list {
-        let test = test.copy(alloc)?;
         let body = keep_body(body, alloc, keep, next)?;
+        let test = test.copy(alloc)?;
         list.push((test, body))?;
     }
     Ok(Branches { list })
@@ -250,9 +240,9 @@ fn keep_handlers(
 {
     let mut list = Vec::new(alloc);
     for (kind, bound, body) in &handlers.list {
-        let kind = copy_option(alloc, kind)?;
-        let bound = copy_bound(alloc, bound)?;
         let body = keep_body(body, alloc, keep, next)?;
+        let bound = copy_bound(alloc, bound)?;
+        let kind = copy_option(alloc, kind)?;
         list.push((kind, bound, body))?;
     }
     Ok(Handlers { list })

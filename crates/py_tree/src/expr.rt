@@ -66,7 +66,7 @@ pub enum CmpOp {
 }
 
 /// A literal: `atom = NUMBER | TEXT | "None" | "True" | "False"`.
-#[derive(Drop, Debug)]
+#[derive(Drop)]
 pub enum Atom {
     /// `None`
     None,
@@ -80,21 +80,21 @@ pub enum Atom {
 
 /// Expressions in a row: `[expr { "," expr } [","]]`, as the arguments of `f(a, b)` or the items of `[a, b]`.
 #[cycle(expr)]
-#[derive(Drop, Debug)]
+#[derive(Drop)]
 pub struct Exprs {
     pub list: Vec<Expr>,
 }
 
 /// Keys with their values: `[expr ":" expr { "," expr ":" expr } [","]]`, as in `{'a': 1, 'b': 2}`.
 #[cycle(expr)]
-#[derive(Drop, Debug)]
+#[derive(Drop)]
 pub struct Pairs {
     pub list: Vec<(Expr, Expr)>,
 }
 
 /// An expression: `exprs = expr { "," expr } [","]` and all below it. Grouping brackets leave no node.
 #[cycle(expr)]
-#[derive(Drop, Debug)]
+#[derive(Drop)]
 pub enum Expr {
     /// A literal, as `12` or `'ab'`.
     Const(Pos, Atom),
@@ -128,14 +128,14 @@ pub enum Expr {
 
 /// Targets in a row: `target = target1 { "," target1 } [","]`, as in `a, b[0] = pair`.
 #[cycle(target)]
-#[derive(Drop, Debug)]
+#[derive(Drop)]
 pub struct Targets {
     pub list: Vec<Target>,
 }
 
 /// What is bound, written or deleted: `target1 = NAME | prim "[" exprs "]" | prim "." NAME`, or several of these.
 #[cycle(target)]
-#[derive(Drop, Debug)]
+#[derive(Drop)]
 pub enum Target {
     /// `x`, in `x = 1`.
     Var(Pos, Name),

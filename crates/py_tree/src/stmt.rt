@@ -4,42 +4,42 @@ use crate::expr::{BinOp, Expr, Target};
 use prov_base::{Name, Pos, Span};
 
 /// The name after `as`: `"as" NAME`, as in `with open('a') as file:`.
-#[derive(Drop, Debug)]
+#[derive(Drop)]
 pub struct Bound {
     pub at: Pos,
     pub name: Name,
 }
 
 /// The parameters of a function: `"(" [NAME { "," NAME } [","]] ")"`, as in `def area(width, height):`.
-#[derive(Drop, Debug)]
+#[derive(Drop)]
 pub struct Params {
     pub list: Vec<Name>,
 }
 
 /// The names that a function declares global, of all its lines `global NAME { "," NAME }`, in the order of the text.
 /// Such lines are no statements.
-#[derive(Drop, Debug)]
+#[derive(Drop)]
 pub struct Globals {
     pub list: Vec<Name>,
 }
 
 /// Statements in a row: `suite = simple NEWLINE | NEWLINE INDENT stmt { stmt } DEDENT`.
 #[cycle(stmt)]
-#[derive(Drop, Debug)]
+#[derive(Drop)]
 pub struct Suite {
     pub list: Vec<Stmt>,
 }
 
 /// The tests of an `if` with their suites: `"if" expr ":" suite { "elif" expr ":" suite }`.
 #[cycle(stmt)]
-#[derive(Drop, Debug)]
+#[derive(Drop)]
 pub struct Branches {
     pub list: Vec<(Expr, Suite)>,
 }
 
 /// The handlers of a `try`: `handler = "except" [expr ["as" NAME]] ":" suite`, as in `except ValueError as e:`.
 #[cycle(stmt)]
-#[derive(Drop, Debug)]
+#[derive(Drop)]
 pub struct Handlers {
     pub list: Vec<(Option<Expr>, Option<Bound>, Suite)>,
 }
@@ -47,7 +47,7 @@ pub struct Handlers {
 /// A statement. Statements are numbered from 0 in the order of the text, a compound one before those in it. The place
 /// is that of its first token, and the span goes from there to the end of its last line.
 #[cycle(stmt)]
-#[derive(Drop, Debug)]
+#[derive(Drop)]
 pub struct Stmt {
     pub no: u32,
     pub pos: Pos,
@@ -57,7 +57,7 @@ pub struct Stmt {
 
 /// What a statement is: `stmt = simple NEWLINE | if | while | for | try | with | def | class`.
 #[cycle(stmt)]
-#[derive(Drop, Debug)]
+#[derive(Drop)]
 pub enum Form {
     /// `exprs`, as in `print(x)`.
     Do(Expr),
@@ -98,7 +98,7 @@ pub enum Form {
 }
 
 /// A script: `script = { stmt }`, with the number of all statements in it.
-#[derive(Drop, Debug)]
+#[derive(Drop)]
 pub struct Script {
     pub body: Suite,
     pub count: u32,

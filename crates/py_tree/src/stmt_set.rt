@@ -8,7 +8,7 @@ use std::marker::Model;
 
 /// A set of statements of a script, by their numbers. It is made for so many statements, and the numbers that it may
 /// have are those below: contracts see a list that tells of each whether it is in the set.
-#[derive(Drop, Debug)]
+#[derive(Drop)]
 pub struct StmtSet {
     marks: Vec<bool>,
 }

@@ -1,6 +1,6 @@
-use Rattle.std.proofs.Common.{refl, sym}
+use Rattle.std.proofs.Common.{sym}
 use Rattle.py_tree.specs.declared.stmt.Form.TheViews.{roll-Suite, roll-Branches, roll-Handlers}
-use Rattle.py_tree.proofs.Deletions.{assert_kept, assign_kept, aug_kept, break_kept, class_kept, continue_kept, def_kept, del_kept, do_kept, for_kept, if_kept, import_kept, pass_kept, raise_kept, return_kept, stmt_kept, try_kept, while_kept, with_kept}
+use Rattle.py_tree.proofs.Deletions.{assert_kept, assign_kept, aug_kept, break_kept, class_kept, continue_kept, def_kept, del_kept, do_kept, for_kept, if_kept, import_kept, pass_kept, raise_kept, return_kept, stmt_added, try_kept, while_kept, with_kept}
 use Rattle.py_tree.proofs.DeletionWalks.{left_is, rolled_suite, rolled_branches, rolled_handlers, suite_begins, suite_skips, suite_keeps, suite_ends, branches_begins, branches_keeps, branches_ends, handlers_begins, handlers_keeps, handlers_ends, body_passed, body_kept}
 use Rattle.py_tree.proofs.Walks.{if_ok_more}
 use Rattle.py_tree.proofs.deletion.+delete.Goals as goal
@@ -59,9 +59,6 @@ keep_form-returns-in_ok-message-in-Assert t c = assert_kept _ _ _ _ _ _ _ c.in-A
 pub keep_form-returns-in_ok-name-in-Import : goal.keep_form-returns-in_ok-name-in-Import
 keep_form-returns-in_ok-name-in-Import t c = import_kept _ _ _ _ _ c.in-Import.is c.in_ok-name-in-Import.ensures
 
-pub keep_stmt-returns : goal.keep_stmt-returns
-keep_stmt-returns t c = stmt_kept _ _ _ _ _ _ c.in_ok-no.ensures.0 refl refl c.in_ok-no.ensures.1 c.in_ok-form.ensures
-
 pub keep_suite-loop-stmt-init : goal.keep_suite-loop-stmt-init
 keep_suite-loop-stmt-init t c = suite_begins _ _ _ _ _ c.new-list.ensures.items c.deref-stmt-items.ensures.value
 
@@ -69,7 +66,7 @@ pub keep_suite-returns : goal.keep_suite-returns
 keep_suite-returns t c = suite_ends _ _ (roll-Suite (record { list = c.loop-stmt.list })) _ _ c.loop-stmt.list.items _ _ c.loop-stmt-test.false (rolled_suite c.loop-stmt.list) c.loop-stmt.invariant
 
 pub keep_suite-loop-stmt-preserved : goal.keep_suite-loop-stmt-preserved
-keep_suite-loop-stmt-preserved t c = suite_keeps _ _ _ _ _ _ _ _ _ _ _ (left_is _ _ _ c.loop-stmt-test.true c.stmt-item.is) (sym c.if-not-is_kept.ensures) c.in_ok-kept.ensures c.in_ok-push.ensures.items c.loop-stmt.invariant
+keep_suite-loop-stmt-preserved t c = suite_keeps _ _ _ _ _ _ _ _ _ _ _ (left_is _ _ _ c.loop-stmt-test.true c.stmt-item.is) (sym c.if-not-is_kept.ensures) (stmt_added _ _ _ _ _ _ _ _ c.in_ok-no.ensures.0 c.in_ok-no.ensures.1 c.in_ok-add_stmt.ensures.tree_is c.in_ok-form.ensures) c.in_ok-add_stmt.ensures.new_is c.loop-stmt.invariant
 
 pub keep_suite-loop-stmt-preserved-then-not-is_kept : goal.keep_suite-loop-stmt-preserved-then-not-is_kept
 keep_suite-loop-stmt-preserved-then-not-is_kept t c = suite_skips _ _ _ _ _ _ _ _ (left_is _ _ _ c.loop-stmt-test.true c.stmt-item.is) (sym c.if-not-is_kept.ensures) c.loop-stmt.invariant

@@ -3,6 +3,7 @@ use Rattle.std.specs.Prelude.{slice_get}
 use Rattle.py_tree.specs.declared.stmt.Stmt.{Stmt}
 use Rattle.py_tree.specs.declared.stmt.Form.TheViews.{roll-Suite}
 use Rattle.py_tree.proofs.DeletionWalks.{pass_nowhere, pass_first, rolled_suite}
+use Rattle.py_tree.proofs.Deletions.{pass_added}
 use Rattle.py_tree.proofs.deletion.pass_alone.Goals as goal
 
 pub returns-in_default : goal.returns-in_default
@@ -12,6 +13,7 @@ returns-in_default c =
 
 pub returns : goal.returns
 returns c =
-    pass_first _ (roll-Suite (record { list = c.push.new.self })) _ _ _ _ _ c.in_ok-no.ensures.0 c.in_ok-no.ensures.1
+    pass_first _ (roll-Suite (record { list = c.add_stmt.new.list })) _ _ _ _ _ c.in_ok-no.ensures.0 c.in_ok-no.ensures.1
     (c.in-Some.ensures.value ∙ ap (λ (xs : List Stmt). slice_get xs 0) c.deref.ensures.value)
-    (rolled_suite c.push.new.self ∙ (c.in_ok-push.ensures.items ∙ ap (λ (made : List Stmt). made ++ c.pass_at.result ∷ []) c.new-list.ensures.items)) c.pass_at.ensures
+    (rolled_suite c.add_stmt.new.list ∙ (c.in_ok-add_stmt.ensures.new_is ∙ ap (λ (made : List Stmt). made ++ c.in_ok-add_stmt.ensures.last ∷ []) c.new-list.ensures.items))
+    (pass_added _ _ _ c.in_ok-add_stmt.ensures.tree_is)
