@@ -7,6 +7,7 @@ pub mod Deletions
 pub mod ExprTrees
 pub mod NewNumbers
 pub mod OwnersFinds
+pub mod OwnersHalves
 pub mod OwnersLaws
 pub mod OwnersLeaves
 pub mod OwnersNumbered

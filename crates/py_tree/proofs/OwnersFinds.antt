@@ -9,8 +9,9 @@ use Rattle.py_tree.specs.Tree.{number_of, StmtTree, SuiteTree, one_stmt}
 use Rattle.py_tree.specs.Erasure.{stmt_of, form_of}
 use Rattle.py_tree.specs.Owners.{Around, Standing, first_at, form_in, within, listed_stmt, listed_form, listed_suite}
 use Rattle.py_tree.specs.Found.{standing_of}
-use Rattle.py_tree.specs.Descent.{last_by, suite_by}
+use Rattle.py_tree.specs.Descent.{RiseFrom, first_numbers, form_suites, last_by, suite_by}
 use Rattle.py_tree.proofs.StmtTrees.{stmt_tree}
+use Rattle.py_tree.proofs.OwnersHalves.{form_rises}
 use Rattle.py_tree.proofs.OwnersLaws.{Rise, rise_weaken, rise_within, shorter_within, row_law, row_within, form_law, form_within, in_stmt, in_body, IsWithin}
 
 -- what is looked for is the first with number s here, and the numbers here rise
@@ -52,6 +53,12 @@ below s around row wanted stmt looks is other =
 
 pub no_suite : (s : ℕ) (around : Around) (row : SuiteTree) (wanted : Option Standing) (stmt : Stmt) → Looks s around row wanted → Some (stmt_of stmt) ≡ last_by s row → (stmt.no ≡ s → ⊥) → None ≡ suite_by s (form_of stmt.form) → None ≡ wanted
 no_suite s around row wanted stmt looks is other none = ap (in_body s (within (stmt_of stmt) around)) none ∙ below s around row wanted stmt looks is other
+
+-- so do the numbers of the first statements of its suites
+pub suites_rise : (s : ℕ) (around : Around) (row : SuiteTree) (wanted : Option Standing) (stmt : Stmt) → Looks s around row wanted → Some (stmt_of stmt) ≡ last_by s row → RiseFrom 0 (first_numbers (form_suites (form_of stmt.form)))
+suites_rise s around row wanted stmt looks is =
+    subst (λ form. RiseFrom 0 (first_numbers (form_suites form))) (ap form_in (stmt_tree stmt))
+    (form_rises 0 (within (stmt_of stmt) around) (form_in (stmt_of stmt)) (stmt_rise 0 around (stmt_of stmt) (rise_within 0 (listed_stmt around (stmt_of stmt)) (listed_suite around row) (row_within s around row (stmt_of stmt) (sym is)) looks.rise)))
 
 -- the suite that the way goes through stands within the statement
 suite_within : (s : ℕ) (around : Around) (stmt : Stmt) (body : SuiteTree) → Some body ≡ suite_by s (form_of stmt.form) → IsWithin (listed_suite (within (stmt_of stmt) around) body) (listed_form (within (stmt_of stmt) around) (form_in (stmt_of stmt)))

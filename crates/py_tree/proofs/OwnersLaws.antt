@@ -20,7 +20,7 @@ pub rise_weaken : (m n : ℕ) (xs : List Standing) → m ≤ n → Rise n xs →
 rise_weaken m n [] below rise = tt
 rise_weaken m n (x ∷ xs) below rise = (omega (arith, rise.0), rise.1)
 
-rise_front : (n : ℕ) (xs ys : List Standing) → Rise n (xs ++ ys) → Rise n xs
+pub rise_front : (n : ℕ) (xs ys : List Standing) → Rise n (xs ++ ys) → Rise n xs
 rise_front n [] ys rise = tt
 rise_front n (x ∷ xs) ys rise = (rise.0, rise_front (number_at x + 1) xs ys rise.1)
 

@@ -43,28 +43,6 @@ option_or_none (Some x) = refl
 pub next_left : {X : Type 0} (items : List X) (i : ℕ) (d : X) → i < length items → drop i items ≡ get_or items i d ∷ drop (i + 1) items
 next_left items i d within = rw add-one (drop-cons items i d within)
 
-choice_or : {X : Type 0} (b : Bool) (x : X) (last : Option X) → option_or (cond b (Some x) None) last ≡ cond b (Some x) last
-choice_or true x last = refl
-choice_or false x last = refl
-
--- one suite further, where `left` is the last suite that begins by s among those that are left
-pub walk_step : {X : Type 0} (s : ℕ) (body : X → Suite) (left : List X → Option SuiteTree) → ((x : X) (xs : List X) → left (x ∷ xs) ≡ option_or (left xs) (body_by s (suite_of (body x)))) → (items : List X) (i : ℕ) (x : X) (last new : Option SuiteTree) (begins : Bool) → i < length items → x ≡ get_or items i x → begins ≡ begins_by s (suite_of (body x)) → new ≡ cond begins (Some (suite_of (body x))) last → option_or (left (drop (i + 1) items)) new ≡ option_or (left (drop i items)) last
-walk_step s body left more items i x last new begins within at is_begun is_new =
-    sym (ap (λ rest. option_or (left rest) last) (next_left items i x within ∙ ap (λ y. y ∷ drop (i + 1) items) (sym at))
-    ∙ ap (λ o. option_or o last) (more x (drop (i + 1) items))
-    ∙ option_or_assoc (left (drop (i + 1) items)) (body_by s (suite_of (body x))) last
-    ∙ ap (option_or (left (drop (i + 1) items))) (choice_or (begins_by s (suite_of (body x))) (suite_of (body x)) last ∙ ap (λ b. cond b (Some (suite_of (body x))) last) (sym is_begun) ∙ sym is_new))
-
--- at the end none is left
-pub walk_end : {X : Type 0} (left : List X → Option SuiteTree) → left [] ≡ None → (items : List X) (i : ℕ) (last : Option SuiteTree) → length items ≤ i → option_or (left (drop i items)) last ≡ last
-walk_end left none items i last past = ap (λ rest. option_or (left rest) last) (drop_all i items past) ∙ ap (λ o. option_or o last) none
-
-abbrev pub branches_left : ℕ → List (Expr × Suite) → Option SuiteTree
-branches_left s items = branch_by s (branches_list (map (λ b. (b.0, suite_of b.1)) items))
-
-abbrev pub handlers_left : ℕ → List (Option Expr × Option Bound × Suite) → Option SuiteTree
-handlers_left s items = handler_by s (handlers_list (map (λ h. (h.0, h.1, suite_of h.2)) items))
-
 prefix_len_at : (s : ℕ) (items : List Stmt) (count : ℕ) → count ≤ length items → IsPartitionPoint (λ x. nat_le x.no s ≡ true) (λ x. nat_le x.no s ≡ false) items count → prefix_len (λ x. nat_le x.no s) items ≡ count
 prefix_len_at s [] count bound parted = omega arith
 prefix_len_at s (x ∷ xs) count bound parted = prefix_len_is (λ x. nat_le x.no s) (x ∷ xs) count x bound (λ k h. parted.0 k x (omega arith) h) (λ h. parted.1 count x (omega arith) h)

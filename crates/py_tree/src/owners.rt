@@ -1,14 +1,15 @@
 // Where a statement of a script stands, found by its number. Numbers rise in the order of the text, so one way leads down
-// to it: among statements in a row the last one that is not past the number, which a search by halves finds, and among
-// the suites of that one the last that begins by then.
-ghost use Rattle.std.specs.Prelude.{◌≡◌, option_map};
+// to it: among statements in a row the last one that is not past the number, and among the suites of that one the last
+// that begins by then. A search by halves finds each.
+ghost use Rattle.std.specs.Prelude.{◌≡◌, map, option_map};
 ghost use Rattle.py_tree.specs.Erasure.{branches_of, else_tree, form_of, handlers_of, script_of, stmt_of, suite_of};
-ghost use Rattle.py_tree.specs.Descent.{RiseFrom, begins_by, branch_by, else_by, handler_by, last_by, row_numbers, suite_by};
+ghost use Rattle.py_tree.specs.Descent.{RiseFrom, begins_after, begins_by, branch_by, branch_suites, else_by, first_numbers, form_suites, handler_by, handler_suites, last_by, row_numbers, suite_by, suites_by};
 ghost use Rattle.py_tree.specs.Owners.{function_of, is_def, parent_of, standing_at, within};
 ghost use Rattle.py_tree.specs.Numbering.{IsNumbered};
 ghost use Rattle.py_tree.specs.Found.{around_of, standing_of};
 
-use crate::stmt::{Branches, Form, Handlers, Script, Stmt, Suite};
+use crate::expr::Expr;
+use crate::stmt::{Bound, Branches, Form, Handlers, Script, Stmt, Suite};
 
 /// What a statement stands in: the innermost statement that has it in one of its suites, and the number of the innermost
 /// `def` that has it in its suite, directly or further in.
@@ -60,35 +61,79 @@ impl Suite {
             Some(stmt) => stmt.no <= s,
         }
     }
+
+    /// Whether the suite has a first statement and its number is past s.
+    fn begins_after(&self, s: u32) -> bool
+        ensures { result ≡ begins_after s (suite_of self.now) }
+    {
+        match self.list.first() {
+            None => false,
+            Some(stmt) => !(stmt.no <= s),
+        }
+    }
 }
 
 impl Branches {
     /// The last suite that begins by s.
     fn suite_by(&self, s: u32) -> Option<&Suite>
-        ensures { option_map (λ body. suite_of body.now) result ≡ branch_by s (branches_of self.now) }
+        ensures { RiseFrom 0 (first_numbers (branch_suites (branches_of self.now))) → option_map (λ body. suite_of body.now) result ≡ branch_by s (branches_of self.now) }
     {
-        let mut last = None;
-        for (_, body) in &self.list {
-            if body.begins_by(s) {
-                last = Some(body);
+        last_branch(self.list.as_slice(), s)
+    }
+}
+
+/// The last of these suites that begins by s. The suite in the middle tells in which half it is.
+fn last_branch(items: &[(Expr, Suite)], s: u32) -> Option<&Suite>
+    ensures { RiseFrom 0 (first_numbers (map (λ x. suite_of x.1) items.now)) → option_map (λ body. suite_of body.now) result ≡ suites_by s (map (λ x. suite_of x.1) items.now) }
+{
+    let (front, rest) = items.split_at(items.len() / 2);
+    let Some((middle, back)) = rest.split_first() else {
+        return None;
+    };
+    if middle.1.begins_after(s) {
+        return last_branch(front, s);
+    }
+    match last_branch(back, s) {
+        Some(body) => Some(body),
+        None => {
+            if middle.1.begins_by(s) {
+                Some(&middle.1)
+            } else {
+                last_branch(front, s)
             }
         }
-        last
     }
 }
 
 impl Handlers {
     /// The last suite that begins by s.
     fn suite_by(&self, s: u32) -> Option<&Suite>
-        ensures { option_map (λ body. suite_of body.now) result ≡ handler_by s (handlers_of self.now) }
+        ensures { RiseFrom 0 (first_numbers (handler_suites (handlers_of self.now))) → option_map (λ body. suite_of body.now) result ≡ handler_by s (handlers_of self.now) }
     {
-        let mut last = None;
-        for (_, _, body) in &self.list {
-            if body.begins_by(s) {
-                last = Some(body);
+        last_handler(self.list.as_slice(), s)
+    }
+}
+
+/// The last of these suites that begins by s. The suite in the middle tells in which half it is.
+fn last_handler(items: &[(Option<Expr>, Option<Bound>, Suite)], s: u32) -> Option<&Suite>
+    ensures { RiseFrom 0 (first_numbers (map (λ x. suite_of x.2) items.now)) → option_map (λ body. suite_of body.now) result ≡ suites_by s (map (λ x. suite_of x.2) items.now) }
+{
+    let (front, rest) = items.split_at(items.len() / 2);
+    let Some((middle, back)) = rest.split_first() else {
+        return None;
+    };
+    if middle.2.begins_after(s) {
+        return last_handler(front, s);
+    }
+    match last_handler(back, s) {
+        Some(body) => Some(body),
+        None => {
+            if middle.2.begins_by(s) {
+                Some(&middle.2)
+            } else {
+                last_handler(front, s)
             }
         }
-        last
     }
 }
 
@@ -115,7 +160,7 @@ impl Form {
 
     /// The one suite of the form that can hold statement s.
     fn suite_by(&self, s: u32) -> Option<&Suite>
-        ensures { option_map (λ body. suite_of body.now) result ≡ suite_by s (form_of self.now) }
+        ensures { RiseFrom 0 (first_numbers (form_suites (form_of self.now))) → option_map (λ body. suite_of body.now) result ≡ suite_by s (form_of self.now) }
     {
         match self {
             Form::If(branches, orelse) => match else_by(orelse, s) {

@@ -1,22 +1,5 @@
-use Rattle.std.proofs.Common.{option_map, sym, ◌∙◌, ap, refl}
-use Rattle.py_tree.specs.declared.expr.Expr.{Expr}
-use Rattle.py_tree.specs.declared.stmt.Suite.{Suite}
-use Rattle.py_tree.specs.Erasure.{suite_of}
-use Rattle.py_tree.specs.Descent.{branch_by}
-use Rattle.py_tree.proofs.StmtTrees.{branches_tree}
-use Rattle.py_tree.proofs.OwnersWays.{branches_left, walk_step, walk_end, option_or_none}
+use Rattle.py_tree.proofs.OwnersHalves.{branches_found}
 use Rattle.py_tree.proofs.stmt.Branches.suite_by.Goals as goal
-use Rattle.py_tree.proofs.stmt.Branches.suite_by.Goals.{then-begins_by, else-begins_by}
-
-pub loop-body-init : goal.loop-body-init
-loop-body-init c = option_or_none _ ∙ ap (branches_left c.args.s) c.deref-body-items.ensures.value ∙ ap (branch_by c.args.s) (sym (branches_tree c.args.self.now))
-
-pub loop-body-preserved : goal.loop-body-preserved
-loop-body-preserved c =
-    elim c.if-begins_by.branch [
-      | then-begins_by w ↦ walk_step c.args.s (λ (b : Expr × Suite). b.1) (branches_left c.args.s) (λ x xs. refl) _ _ c.loop-body-item.result _ _ _ c.loop-body-test.true c.loop-body-item.is (sym w.if-begins_by.true ∙ c.begins_by.ensures) (ap (option_map (λ body. suite_of body.now)) w.last-is) ∙ c.loop-body.invariant
-      | else-begins_by w ↦ walk_step c.args.s (λ (b : Expr × Suite). b.1) (branches_left c.args.s) (λ x xs. refl) _ _ c.loop-body-item.result _ _ _ c.loop-body-test.true c.loop-body-item.is (sym w.if-begins_by.false ∙ c.begins_by.ensures) (ap (option_map (λ body. suite_of body.now)) w.last-is) ∙ c.loop-body.invariant
-    ]
 
 pub returns : goal.returns
-returns c = sym (walk_end (branches_left c.args.s) refl _ _ _ c.loop-body-test.false) ∙ c.loop-body.invariant
+returns c = branches_found c.args.s c.args.self.now _ _ c.as_slice.ensures.value c.last_branch.ensures
