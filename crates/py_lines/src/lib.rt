@@ -7,7 +7,7 @@
 //! bad tokens says. A first bad token is one that no shorter front of the text shows.
 //!
 //! A `lines` that always answers `Memory` for a text that is UTF-8 and not too large meets its clauses, since no clause
-//! can say that memory is left: that it succeeds is tested in `language_tests`. The numbers of keywords and signs are their
+//! can say that memory is left: that it succeeds is shown by `language_cases`. The numbers of keywords and signs are their
 //! positions in the tables of `tables.rt`.
 #![tactic(auto)]
 

@@ -4,8 +4,25 @@
 //! is `specs/Script.antt`, and what a fault is `specs/Faults.antt`; the other definitions are the parser's own, and no public
 //! clause speaks of them.
 //!
+//! What [`parse`] promises, clause by clause:
+//! - `found`, `complete`, `numbered`: an answered script is one of the grammar that has exactly these lines, whose statements stand
+//!   where they may, within the limits: 20,000 statements, 50 suites, expressions 100 deep. Lines that are such a script get no
+//!   other answer but Memory. Its statements are numbered from 0 in the order of the text.
+//! - `refused` (`FirstFault` in `specs/Faults.antt`): what precedes the fault can be completed to a valid script; with the token at
+//!   the fault it cannot. After TooDeep it cannot within the limits of depth, after TooMany not within 20,000 statements, after
+//!   the other faults not at all.
+//! - The fault is Unsupported where the table of `refused_forms` has a row, at the place that the table names. Else it is
+//!   Unexpected, at the token that shows it, or at the last token where the line ends too early (`names`).
+//! - Behind `del` and `for` expressions are read before they are asked for a target's form. What was read there goes on with the
+//!   token at the fault only where it is too deep (`ReadsNoFurther`).
+//! - TooDeep names the first expression that lies deeper than 100, or the statement in a 51st suite; TooMany the 20,001st
+//!   statement (`IsDeepAt`, `IsOneMore`).
+//! - Limits are reported before later faults on the line (`InOrder`, `PassesNone`).
+//! - BadIndent is answered where no line may stand at an indentation, and where a suite has no statement (`InColumn`).
+//! - `one_fault`, `text_has_one_fault`: a text has at most one fault by all this, and lines that are a script have none.
+//!
 //! What takes memory may answer Memory at any call: no contract ties that answer to a cause, so a body that always gives it
-//! would be proved too. The tests in `language_tests` show that the calls succeed.
+//! would be proved too. The cases of `language_cases` show that the calls succeed.
 #![tactic(auto)]
 
 mod blocks;

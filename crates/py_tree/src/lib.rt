@@ -2,7 +2,7 @@
 //! of a script, which is the tree without boxes and buffers (`specs/Tree.antt`).
 //!
 //! What takes memory may answer Memory at any call: no contract ties that answer to a cause, so a body that always gives
-//! it would be proved too. The tests in `language_tests` show that the calls succeed.
+//! it would be proved too. The cases of `language_cases` show that the calls succeed.
 #![tactic(auto)]
 
 mod binds;

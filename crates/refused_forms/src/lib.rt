@@ -1,8 +1,8 @@
 //! The forms of a script that this profile refuses, as a table: whether one stands where no script goes on with a token, and which place is
 //! named (`specs/RefusedForms.antt`, and `specs/LineForms.antt` for the rows that look at tokens and lines alone).
 //!
-//! [`refused_form`] may always answer `Memory` under its clauses, since no clause can say that memory is left: that it answers is to be
-//! tested above.
+//! [`refused_form`] may always answer `Memory` under its clauses, since no clause can say that memory is left: that it answers is
+//! shown by the cases of `language_cases`.
 #![tactic(auto)]
 
 mod brackets;
