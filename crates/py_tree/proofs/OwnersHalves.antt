@@ -1,5 +1,5 @@
 -- The search by halves among the suites of a statement, where the numbers of their first statements rise.
-use Rattle.std.proofs.Common.{◌≡◌, ℕ, ◌+◌, ◌<◌, ◌≤◌, Bool, true, false, not, cond, List, [], ◌∷◌, ◌++◌, map, take, drop, Option, None, Some, refl, ap, sym, subst, ◌∙◌, arith, inl, inr}
+use Rattle.std.proofs.Common.{◌≡◌, ℕ, ◌+◌, ◌<◌, ◌≤◌, true, false, not, cond, List, [], ◌∷◌, ◌++◌, map, take, drop, Option, None, Some, refl, ap, sym, subst, ◌∙◌, arith, inl, inr}
 use Rattle.std.proofs.lemmas.Bool.{false≢true}
 use Rattle.std.proofs.lemmas.Bool.Decides.{leb_tells}
 use Rattle.std.proofs.lemmas.List.{map-append, take-append-drop}
@@ -12,7 +12,7 @@ use Rattle.py_tree.specs.declared.stmt.Handlers.{Handlers}
 use Rattle.py_tree.specs.declared.stmt.Stmt.{Stmt}
 use Rattle.py_tree.specs.declared.stmt.Suite.{Suite}
 use Rattle.py_tree.specs.declared.stmt.Form.TheViews.{out-Suite, out-Branches, out-Handlers}
-use Rattle.py_tree.specs.Tree.{number_of, StmtTree, FormTree, SuiteTree, BranchesTree, ElseTree, HandlersTree, one_stmt, do_form, assign_form, aug_form, del_form, pass_form, break_form, continue_form, return_form, raise_form, assert_form, import_form, if_form, while_form, for_form, try_form, with_form, def_form, class_form, end_suite, more_suite, end_branches, more_branches, no_else, else_suite, end_handlers, more_handlers}
+use Rattle.py_tree.specs.Tree.{number_of, FormTree, SuiteTree, BranchesTree, HandlersTree, one_stmt, do_form, assign_form, aug_form, del_form, pass_form, break_form, continue_form, return_form, raise_form, assert_form, import_form, if_form, while_form, for_form, try_form, with_form, def_form, class_form, end_suite, more_suite, end_branches, more_branches, end_handlers, more_handlers}
 use Rattle.py_tree.specs.Erasure.{branches_of, handlers_of, stmt_of, suite_of, suite_list, branches_list, handlers_list}
 use Rattle.py_tree.specs.Owners.{Around, within, listed_form, listed_suite, listed_branches, listed_else, listed_handlers}
 use Rattle.py_tree.specs.Descent.{RiseFrom, begins_after, begins_by, body_by, branch_by, branch_suites, first_numbers, form_suites, handler_by, handler_suites, suites_by}

@@ -1,20 +1,17 @@
 -- The way down through the program's lists, read on the pure tree.
 use Rattle.std.proofs.Common.{◌≡◌, ℕ, zero, suc, ◌+◌, ◌-◌, ◌<◌, ◌≤◌, Bool, true, false, cond, List, [], ◌∷◌, map, length, take, drop, get_or, Option, None, Some, option_map, unwrap_or, Bor, refl, ap, sym, subst, ◌∙◌, arith, drop-cons, add-one}
-use Rattle.std.proofs.lemmas.List.{drop_all}
 use Rattle.std.proofs.lemmas.List.Sums.{take_while-cons, prefix_len_is}
 use Rattle.std.proofs.lemmas.List.Sorted.{IsPartitionedBy-leb}
 use Rattle.std.specs.List.Sorted.{IsNonDecreasingBy, IsPartitionedBy, IsPartitionPoint}
 use Rattle.std.specs.Prelude.{nat_le, slice_get}
 use Rattle.std.specs.Option.{option_or, option_map_or}
 use Rattle.std.specs.List.{prefix_len, take_while}
-use Rattle.py_tree.specs.declared.expr.Expr.{Expr}
-use Rattle.py_tree.specs.declared.stmt.Bound.{Bound}
 use Rattle.py_tree.specs.declared.stmt.Stmt.{Stmt}
 use Rattle.py_tree.specs.declared.stmt.Suite.{Suite}
 use Rattle.py_tree.specs.declared.stmt.Form.TheViews.{out-Suite}
-use Rattle.py_tree.specs.Tree.{number_of, StmtTree, SuiteTree}
-use Rattle.py_tree.specs.Erasure.{stmt_of, suite_of, suite_list, branches_list, handlers_list}
-use Rattle.py_tree.specs.Descent.{RiseFrom, begins_by, body_by, branch_by, handler_by, last_by, row_numbers}
+use Rattle.py_tree.specs.Tree.{number_of, StmtTree}
+use Rattle.py_tree.specs.Erasure.{stmt_of, suite_of, suite_list}
+use Rattle.py_tree.specs.Descent.{RiseFrom, begins_by, last_by, row_numbers}
 use Rattle.py_tree.proofs.StmtTrees.{stmt_tree, suite_tree}
 
 pub number_is : (x : Stmt) → number_of (stmt_of x) ≡ x.no
