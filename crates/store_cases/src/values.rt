@@ -129,15 +129,20 @@ fn write_row(
     Ok(())
 }
 
+fn answer_row(alloc: Global, names: &mut Names, row: &str, out: &mut Vec<u8>) -> Result<(), Stop> {
+    out.extend_from_slice(row.as_bytes())?;
+    out.extend_from_slice(b" -> ")?;
+    let (command, words) = row.split_once(' ').unwrap_or((row, ""));
+    write_row(alloc, names, command, words, out)?;
+    out.push(b'\n')?;
+    Ok(())
+}
+
 /// The answers to the rows of a section.
 pub fn answer(alloc: Global, rows: &str, out: &mut Vec<u8>) -> Result<(), Stop> {
     let mut names = Names::new(alloc)?;
     for row in rows.lines() {
-        out.extend_from_slice(row.as_bytes())?;
-        out.extend_from_slice(b" -> ")?;
-        let (command, words) = row.split_once(' ').unwrap_or((row, ""));
-        write_row(alloc, &mut names, command, words, out)?;
-        out.push(b'\n')?;
+        answer_row(alloc, &mut names, row, out)?;
     }
     Ok(())
 }
