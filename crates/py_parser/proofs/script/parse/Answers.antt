@@ -24,7 +24,7 @@ returns-then-first-ne0-clause-refused c =
 
 -- src/script.rt
 pub told-requires : goal.told-requires
-told-requires c = stopped_there c.as_slice-lines.result.now c.as_slice-lines.result.now _ _ _ refl c.new-2.ensures.items c.module.ensures c.in-Err.ensures.refused
+told-requires c = stopped_there c.as_slice-lines.result.now c.as_slice-lines.result.now _ _ _ refl c.new-2.ensures.items c.module.ensures (rw c.none-given.ensures at c.in-Err.ensures.refused)
 
 -- src/script.rt
 pub returns-in-Err-clause-complete : goal.returns-in-Err-clause-complete
@@ -37,10 +37,10 @@ returns-in-Err-clause-refused c = subst (λ (ls : List Line). IsFault ls c.told.
 -- src/script.rt
 pub returns-clause-found : goal.returns-clause-found
 returns-clause-found c =
-    read_script_there c.args.lines.now c.as_slice-lines.result.now _ _ c.in-Ok.built c.rows.new.self.count origin _ c.as_slice-lines.ensures c.module.ensures c.in-Ok.ensures.found
+    read_script_there c.args.lines.now c.as_slice-lines.result.now _ _ c.in-Ok.built c.rows.new.self.count origin _ c.as_slice-lines.ensures c.module.ensures (rw c.none-given.ensures at c.in-Ok.ensures.found)
 
 -- src/script.rt
 pub returns-clause-numbered : goal.returns-clause-numbered
 returns-clause-numbered c =
     numbered_script c.args.lines.now _
-    (read_script_there c.args.lines.now c.as_slice-lines.result.now _ _ c.in-Ok.built c.rows.new.self.count origin _ c.as_slice-lines.ensures c.module.ensures c.in-Ok.ensures.found)
+    (read_script_there c.args.lines.now c.as_slice-lines.result.now _ _ c.in-Ok.built c.rows.new.self.count origin _ c.as_slice-lines.ensures c.module.ensures (rw c.none-given.ensures at c.in-Ok.ensures.found))
