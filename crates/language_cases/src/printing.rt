@@ -6,12 +6,11 @@ use py_tree::{
     Atom, BinOp, Bound, CmpOp, Expr, Exprs, Form, LogicOp, Pairs, Stmt, Suite, Target, Targets,
     UnOp,
 };
-use std::alloc::Global;
-use std::test::Fail;
+use std::alloc::{AllocError, Global};
 
 /// What is shown of nodes and texts.
 #[derive(Clone, Copy, PartialEq, Eq)]
-pub(crate) enum Style {
+pub enum Style {
     /// Each node with its place, and texts between double quotes.
     Placed,
     /// No places, and texts between single quotes, with `~` for a line end.
@@ -24,7 +23,7 @@ fn show_word(
     style: Style,
     word: &str,
     at: &Pos,
-) -> Result<(), Fail> {
+) -> Result<(), AllocError> {
     out.push_str(word)?;
     if style == Style::Placed {
         out.push_str(format!(in alloc; "@{}:{}", at.line, at.col)?.as_str())?;
@@ -32,9 +31,9 @@ fn show_word(
     Ok(())
 }
 
-fn quoted(alloc: Global, style: Style, text: &str) -> Result<String, Fail> {
+fn quoted(alloc: Global, style: Style, text: &str) -> Result<String, AllocError> {
     if style == Style::Placed {
-        return Ok(format!(in alloc; "{text:?}")?);
+        return format!(in alloc; "{text:?}");
     }
     let mut out = String::new(alloc);
     out.push_str("'")?;
@@ -51,7 +50,7 @@ fn show_atom(
     style: Style,
     at: &Pos,
     atom: &Atom,
-) -> Result<(), Fail> {
+) -> Result<(), AllocError> {
     match atom {
         Atom::None => show_word(alloc, out, style, "None", at),
         Atom::Bool(true) => show_word(alloc, out, style, "True", at),
@@ -118,7 +117,7 @@ fn logic_word(op: LogicOp) -> &'static str {
 }
 
 #[cycle(show_expr)]
-fn show_expr(alloc: Global, out: &mut String, style: Style, expr: &Expr) -> Result<(), Fail> {
+fn show_expr(alloc: Global, out: &mut String, style: Style, expr: &Expr) -> Result<(), AllocError> {
     match expr {
         Expr::Const(at, atom) => show_atom(alloc, out, style, at, atom),
         Expr::Var(at, name) => show_word(alloc, out, style, name.as_str(), at),
@@ -132,7 +131,12 @@ fn show_expr(alloc: Global, out: &mut String, style: Style, expr: &Expr) -> Resu
 }
 
 #[cycle(show_expr)]
-fn show_operator(alloc: Global, out: &mut String, style: Style, expr: &Expr) -> Result<(), Fail> {
+fn show_operator(
+    alloc: Global,
+    out: &mut String,
+    style: Style,
+    expr: &Expr,
+) -> Result<(), AllocError> {
     match expr {
         Expr::Unary(at, op, operand) => {
             show_word(alloc, out, style, unary_word(*op), at)?;
@@ -164,7 +168,12 @@ fn show_operator(alloc: Global, out: &mut String, style: Style, expr: &Expr) -> 
 }
 
 #[cycle(show_expr)]
-fn show_primary(alloc: Global, out: &mut String, style: Style, expr: &Expr) -> Result<(), Fail> {
+fn show_primary(
+    alloc: Global,
+    out: &mut String,
+    style: Style,
+    expr: &Expr,
+) -> Result<(), AllocError> {
     match expr {
         Expr::Call(at, callee, arguments) => {
             show_word(alloc, out, style, "call", at)?;
@@ -192,7 +201,12 @@ fn show_primary(alloc: Global, out: &mut String, style: Style, expr: &Expr) -> R
 }
 
 #[cycle(show_expr)]
-fn show_display(alloc: Global, out: &mut String, style: Style, expr: &Expr) -> Result<(), Fail> {
+fn show_display(
+    alloc: Global,
+    out: &mut String,
+    style: Style,
+    expr: &Expr,
+) -> Result<(), AllocError> {
     match expr {
         Expr::List(at, items) => {
             show_word(alloc, out, style, "list", at)?;
@@ -211,12 +225,12 @@ fn show_display(alloc: Global, out: &mut String, style: Style, expr: &Expr) -> R
 }
 
 #[cycle(show_expr)]
-pub(crate) fn show_part(
+pub fn show_part(
     alloc: Global,
     out: &mut String,
     style: Style,
     part: &Expr,
-) -> Result<(), Fail> {
+) -> Result<(), AllocError> {
     out.push_str(" ")?;
     show_expr(alloc, out, style, part)
 }
@@ -227,7 +241,7 @@ fn show_limit(
     out: &mut String,
     style: Style,
     limit: &Option<Box<Expr>>,
-) -> Result<(), Fail> {
+) -> Result<(), AllocError> {
     match limit {
         None => {
             out.push_str(" -")?;
@@ -238,7 +252,12 @@ fn show_limit(
 }
 
 #[cycle(show_expr)]
-fn show_exprs(alloc: Global, out: &mut String, style: Style, exprs: &Exprs) -> Result<(), Fail> {
+fn show_exprs(
+    alloc: Global,
+    out: &mut String,
+    style: Style,
+    exprs: &Exprs,
+) -> Result<(), AllocError> {
     for expr in &exprs.list {
         show_part(alloc, out, style, expr)?;
     }
@@ -246,7 +265,12 @@ fn show_exprs(alloc: Global, out: &mut String, style: Style, exprs: &Exprs) -> R
 }
 
 #[cycle(show_expr)]
-fn show_pairs(alloc: Global, out: &mut String, style: Style, pairs: &Pairs) -> Result<(), Fail> {
+fn show_pairs(
+    alloc: Global,
+    out: &mut String,
+    style: Style,
+    pairs: &Pairs,
+) -> Result<(), AllocError> {
     for (key, value) in &pairs.list {
         show_part(alloc, out, style, key)?;
         show_part(alloc, out, style, value)?;
@@ -255,12 +279,12 @@ fn show_pairs(alloc: Global, out: &mut String, style: Style, pairs: &Pairs) -> R
 }
 
 #[cycle(show_target)]
-pub(crate) fn show_target(
+pub fn show_target(
     alloc: Global,
     out: &mut String,
     style: Style,
     target: &Target,
-) -> Result<(), Fail> {
+) -> Result<(), AllocError> {
     match target {
         Target::Var(at, name) => show_word(alloc, out, style, name.as_str(), at)?,
         Target::Part(at, object, index) => {
@@ -291,7 +315,7 @@ fn show_targets(
     out: &mut String,
     style: Style,
     targets: &Targets,
-) -> Result<(), Fail> {
+) -> Result<(), AllocError> {
     for target in &targets.list {
         out.push_str(" ")?;
         show_target(alloc, out, style, target)?;
@@ -299,24 +323,24 @@ fn show_targets(
     Ok(())
 }
 
-pub(crate) fn show_value(
+pub fn show_value(
     alloc: Global,
     out: &mut String,
     style: Style,
     value: &Option<Expr>,
-) -> Result<(), Fail> {
+) -> Result<(), AllocError> {
     match value {
         None => Ok(()),
         Some(value) => show_part(alloc, out, style, value),
     }
 }
 
-pub(crate) fn show_bound(
+pub fn show_bound(
     alloc: Global,
     out: &mut String,
     style: Style,
     bound: &Option<Bound>,
-) -> Result<(), Fail> {
+) -> Result<(), AllocError> {
     if let Some(bound) = bound {
         out.push_str(" as ")?;
         show_word(alloc, out, style, bound.name.as_str(), &bound.at)?;
@@ -324,7 +348,7 @@ pub(crate) fn show_bound(
     Ok(())
 }
 
-pub(crate) fn show_names(out: &mut String, names: &[Name]) -> Result<(), Fail> {
+pub fn show_names(out: &mut String, names: &[Name]) -> Result<(), AllocError> {
     for name in names {
         out.push_str(" ")?;
         out.push_str(name.as_str())?;
@@ -332,12 +356,12 @@ pub(crate) fn show_names(out: &mut String, names: &[Name]) -> Result<(), Fail> {
     Ok(())
 }
 
-pub(crate) fn show_simple(
+pub fn show_simple(
     alloc: Global,
     out: &mut String,
     style: Style,
     form: &Form,
-) -> Result<(), Fail> {
+) -> Result<(), AllocError> {
     match form {
         Form::Do(value) => {
             out.push_str("do")?;
@@ -362,7 +386,12 @@ pub(crate) fn show_simple(
     }
 }
 
-fn show_small(alloc: Global, out: &mut String, style: Style, form: &Form) -> Result<(), Fail> {
+fn show_small(
+    alloc: Global,
+    out: &mut String,
+    style: Style,
+    form: &Form,
+) -> Result<(), AllocError> {
     match form {
         Form::Pass => out.push_str("pass")?,
         Form::Break => out.push_str("break")?,
@@ -390,7 +419,7 @@ fn show_small(alloc: Global, out: &mut String, style: Style, form: &Form) -> Res
 }
 
 // A new line, so far in.
-fn show_line(out: &mut String, depth: u32, word: &str) -> Result<(), Fail> {
+fn show_line(out: &mut String, depth: u32, word: &str) -> Result<(), AllocError> {
     out.push_str("\n")?;
     for _ in 0..depth {
         out.push_str("  ")?;
@@ -402,61 +431,80 @@ fn show_line(out: &mut String, depth: u32, word: &str) -> Result<(), Fail> {
 /// The statements of a suite, each on a line of its own: its number, its place, its bytes and its form. The statements of its
 /// suites stand two columns further in.
 #[cycle(show_suite)]
-pub(crate) fn show_suite(
+pub fn show_suite(
     alloc: Global,
     out: &mut String,
+    style: Style,
     depth: u32,
     suite: &Suite,
-) -> Result<(), Fail> {
+) -> Result<(), AllocError> {
     for stmt in &suite.list {
-        show_stmt(alloc, out, depth, stmt)?;
+        show_stmt(alloc, out, style, depth, stmt)?;
     }
     Ok(())
 }
 
 #[cycle(show_suite)]
-fn show_stmt(alloc: Global, out: &mut String, depth: u32, stmt: &Stmt) -> Result<(), Fail> {
+fn show_stmt(
+    alloc: Global,
+    out: &mut String,
+    style: Style,
+    depth: u32,
+    stmt: &Stmt,
+) -> Result<(), AllocError> {
     let head = format!(in alloc;
         "{} {}:{} {}-{} ",
         stmt.no, stmt.pos.line, stmt.pos.col, stmt.span.from, stmt.span.to
     )?;
     show_line(out, depth, head.as_str())?;
-    show_form(alloc, out, depth, &stmt.form)
+    show_form(alloc, out, style, depth, &stmt.form)
 }
 
 #[cycle(show_suite)]
-fn show_form(alloc: Global, out: &mut String, depth: u32, form: &Form) -> Result<(), Fail> {
+fn show_form(
+    alloc: Global,
+    out: &mut String,
+    style: Style,
+    depth: u32,
+    form: &Form,
+) -> Result<(), AllocError> {
     let inner = depth.saturating_add(1);
     match form {
         Form::While(test, suite) => {
             out.push_str("while")?;
-            show_part(alloc, out, Style::Plain, test)?;
-            show_suite(alloc, out, inner, suite)
+            show_part(alloc, out, style, test)?;
+            show_suite(alloc, out, style, inner, suite)
         }
         Form::For(target, items, suite) => {
             out.push_str("for ")?;
-            show_target(alloc, out, Style::Plain, target)?;
-            show_part(alloc, out, Style::Plain, items)?;
-            show_suite(alloc, out, inner, suite)
+            show_target(alloc, out, style, target)?;
+            show_part(alloc, out, style, items)?;
+            show_suite(alloc, out, style, inner, suite)
         }
         Form::With(value, bound, suite) => {
             out.push_str("with")?;
-            show_part(alloc, out, Style::Plain, value)?;
-            show_bound(alloc, out, Style::Plain, bound)?;
-            show_suite(alloc, out, inner, suite)
+            show_part(alloc, out, style, value)?;
+            show_bound(alloc, out, style, bound)?;
+            show_suite(alloc, out, style, inner, suite)
         }
         Form::Class(name, base, suite) => {
             out.push_str("class ")?;
             out.push_str(name.as_str())?;
-            show_value(alloc, out, Style::Plain, base)?;
-            show_suite(alloc, out, inner, suite)
+            show_value(alloc, out, style, base)?;
+            show_suite(alloc, out, style, inner, suite)
         }
-        _ => show_parts(alloc, out, depth, form),
+        _ => show_parts(alloc, out, style, depth, form),
     }
 }
 
 #[cycle(show_suite)]
-fn show_parts(alloc: Global, out: &mut String, depth: u32, form: &Form) -> Result<(), Fail> {
+fn show_parts(
+    alloc: Global,
+    out: &mut String,
+    style: Style,
+    depth: u32,
+    form: &Form,
+) -> Result<(), AllocError> {
     let inner = depth.saturating_add(1);
     match form {
         Form::If(branches, orelse) => {
@@ -468,23 +516,23 @@ fn show_parts(alloc: Global, out: &mut String, depth: u32, form: &Form) -> Resul
                     show_line(out, depth, "elif")?;
                 }
                 first = false;
-                show_part(alloc, out, Style::Plain, test)?;
-                show_suite(alloc, out, inner, suite)?;
+                show_part(alloc, out, style, test)?;
+                show_suite(alloc, out, style, inner, suite)?;
             }
-            show_else(alloc, out, depth, orelse)
+            show_else(alloc, out, style, depth, orelse)
         }
         Form::Try(body, handlers) => {
             out.push_str("try")?;
-            show_suite(alloc, out, inner, body)?;
+            show_suite(alloc, out, style, inner, body)?;
             for (class, bound, suite) in &handlers.list {
                 show_line(out, depth, "except")?;
-                show_value(alloc, out, Style::Plain, class)?;
-                show_bound(alloc, out, Style::Plain, bound)?;
-                show_suite(alloc, out, inner, suite)?;
+                show_value(alloc, out, style, class)?;
+                show_bound(alloc, out, style, bound)?;
+                show_suite(alloc, out, style, inner, suite)?;
             }
             Ok(())
         }
-        _ => show_def(alloc, out, depth, form),
+        _ => show_def(alloc, out, style, depth, form),
     }
 }
 
@@ -492,20 +540,27 @@ fn show_parts(alloc: Global, out: &mut String, depth: u32, form: &Form) -> Resul
 fn show_else(
     alloc: Global,
     out: &mut String,
+    style: Style,
     depth: u32,
     orelse: &Option<Suite>,
-) -> Result<(), Fail> {
+) -> Result<(), AllocError> {
     match orelse {
         None => Ok(()),
         Some(suite) => {
             show_line(out, depth, "else")?;
-            show_suite(alloc, out, depth.saturating_add(1), suite)
+            show_suite(alloc, out, style, depth.saturating_add(1), suite)
         }
     }
 }
 
 #[cycle(show_suite)]
-fn show_def(alloc: Global, out: &mut String, depth: u32, form: &Form) -> Result<(), Fail> {
+fn show_def(
+    alloc: Global,
+    out: &mut String,
+    style: Style,
+    depth: u32,
+    form: &Form,
+) -> Result<(), AllocError> {
     match form {
         Form::Def(name, params, globals, suite) => {
             out.push_str("def ")?;
@@ -515,23 +570,23 @@ fn show_def(alloc: Global, out: &mut String, depth: u32, form: &Form) -> Result<
                 out.push_str(" global")?;
                 show_names(out, globals.list.as_slice())?;
             }
-            show_suite(alloc, out, depth.saturating_add(1), suite)
+            show_suite(alloc, out, style, depth.saturating_add(1), suite)
         }
-        _ => show_simple(alloc, out, Style::Plain, form),
+        _ => show_simple(alloc, out, style, form),
     }
 }
 
 /// A fault, at its place in the text.
-pub(crate) fn show_fault(alloc: Global, fault: ParseFault) -> Result<String, Fail> {
+pub fn show_fault(alloc: Global, fault: ParseFault) -> Result<String, AllocError> {
     show_fault_behind(alloc, fault, Pos { line: 1, col: 1 })
 }
 
 /// A fault, at its place as if this one were line 1 and column 1.
-pub(crate) fn show_fault_behind(
+pub fn show_fault_behind(
     alloc: Global,
     fault: ParseFault,
     from: Pos,
-) -> Result<String, Fail> {
+) -> Result<String, AllocError> {
     let (name, at) = match fault {
         ParseFault::Unexpected(at) => ("Unexpected", at),
         ParseFault::Unsupported(at) => ("Unsupported", at),
