@@ -4,7 +4,8 @@ use crate::printing::{
     show_target, show_value,
 };
 use prov_base::{Name, Pos};
-use py_grammar::{Around, Context, Fault, Last, Limit, LineHead, Stop, What, read_head};
+use py_expressions::{Fault, Stop};
+use py_grammar::{Around, Context, Last, Limit, LineHead, What, read_head};
 use py_lines::{Line, Token, lines};
 use py_parser::{ParseFault, parse};
 use std::alloc::{AllocError, Global};

@@ -1,7 +1,7 @@
 // What tokens spell as a target, the places of refused forms, and sets of statements.
 use crate::texts::number;
 use prov_base::Pos;
-use py_grammar::{Fault, Spelled, spelled_expr, spelled_row, spelled_sum};
+use py_expressions::{Fault, Spelled, spelled_expr, spelled_row, spelled_sum};
 use py_lines::{Line, Token, lines};
 use py_tree::StmtSet;
 use refused_forms::refused_form;
