@@ -80,6 +80,6 @@ handler_suites (more_handlers kind bound body rest) = body ∷ handler_suites re
 
 -- the suites of a form that can have any number of them
 abbrev pub form_suites : FormTree → List SuiteTree
-form_suites (if_form branches orelse) = branch_suites branches
+form_suites (if_form branches _) = branch_suites branches
 form_suites (try_form body handlers) = handler_suites handlers
 form_suites _ = []
