@@ -1,6 +1,24 @@
 mod WorkedDicts
 mod WorkedLists
+pub mod Agreeing
+pub mod Agreements
+pub mod AlikeArithmetic
+pub mod AlikeAttributes
+pub mod AlikeClasses
+pub mod AlikeComparing
+pub mod AlikeDicts
+pub mod AlikeFiles
+pub mod AlikeItems
+pub mod AlikeLists
+pub mod AlikeNames
+pub mod AlikeOperands
+pub mod AlikePrinting
+pub mod AlikeSorting
+pub mod AlikeTexts
+pub mod AlikeWalks
+pub mod Correspondence
 pub mod Effects
+pub mod RenamedEffects
 pub mod WorkedArithmetic
 pub mod WorkedClasses
 pub mod WorkedDataOperations

@@ -1,3 +1,5 @@
+pub mod Agreement
+pub mod AlikeOperations
 pub mod Arithmetic
 pub mod Classes
 pub mod Dicts
@@ -15,6 +17,7 @@ pub mod Places
 pub mod Plan
 pub mod Printing
 pub mod Raising
+pub mod Renaming
 pub mod Sorting
 pub mod Store
 pub mod TextMethods

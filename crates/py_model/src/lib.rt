@@ -3,8 +3,14 @@
 //! Read them in this order: `specs/Store.antt` (the store of a run), `specs/Plan.antt` (an operation as a plan: what it reads and
 //! asks, then what it writes), `specs/Effect.antt` (what a plan comes to in a store: answer, accesses, weight, cost, the store
 //! afterwards), `specs/Walks.antt` (walks that several operations make), and then the operations, a file for each family.
+//!
+//! [`operations_agree`] is the law that all an operation depends on is among what it reads and asks: `specs/Agreement.antt` says what
+//! has to correspond in two stores, `specs/Renaming.antt` under which renaming.
 #![tactic(auto)]
 
 mod laws;
 
-pub use laws::{map_changes_by_accesses, raised_writes_its_exception_alone};
+pub use laws::{
+    alike_plans_agree, corresponding_operands_have_alike_plans, map_changes_by_accesses,
+    operations_agree, raised_writes_its_exception_alone, renamed_effects_weigh_the_same,
+};

@@ -1,0 +1,5 @@
+use Rattle.py_model.proofs.Agreements.{every_alike}
+use Rattle.py_model.proofs.laws.corresponding_operands_have_alike_plans.Goals as goal
+
+pub returns : goal.returns
+returns c = every_alike
