@@ -8,7 +8,6 @@ use Rattle.py_model.proofs.AlikeWalks.{read_value_alike, length_renamed, too_dee
 use Rattle.py_model.specs.Agreement.{Alike, both_read_len, both_read_entry, both_read_order, both_kind, both_look, both_count}
 use Rattle.py_model.specs.Plan.{Plan}
 use Rattle.py_model.specs.Renaming.{Renaming, renamed, renamed_parts, renamed_list, renamed_entry, renamed_kind}
-use Rattle.py_model.specs.Texts.{is_before}
 use Rattle.py_model.specs.Walks.{read_value, Comparison, alike, before, behind, apart, decided, Pairs, compare_texts, compare_items, compare_parts, compare_lists, compare_entries, compare_dicts, compare_objects, compare_step, compare_within, is_alike, equals, deepest, by_length, number_of, by_number, when_same, same_range, order_of_texts}
 
 module _ (r : Renaming) where

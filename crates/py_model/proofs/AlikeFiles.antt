@@ -11,12 +11,12 @@ use Rattle.py_model.proofs.AlikeComparing.{if_alike}
 use Rattle.py_model.proofs.AlikeItems.{next_alike}
 use Rattle.py_model.proofs.AlikeOperands.{AlikeFor}
 use Rattle.py_model.proofs.AlikeWalks.{wrong_kind_alike, wrong_number_alike, fault_alike}
-use Rattle.py_model.specs.Agreement.{AlikeWrites, both_write, both_change, both_open, both_done, Alike, both_read_file, both_read_offset, both_read_closed, both_kind, both_was_opened, both_ask, both_fetch, both_count, both_print, both_writes, both_make, both_end, both_done_at_end}
+use Rattle.py_model.specs.Agreement.{AlikeWrites, both_write, both_change, both_open, both_done, Alike, both_read_file, both_read_offset, both_read_closed, both_kind, both_was_opened, both_ask, both_fetch, both_count, both_print, both_writes, both_make, both_done_at_end}
 use Rattle.py_model.specs.Faults.{fault, os_error, eof_error, wrong_kind}
 use Rattle.py_model.specs.Files.{bad_file, no_file, is_closed_fault, wrong_mode, not_utf8, device_failed, begun, with_file, open_with, open_plan, to_be_read, taken, read_plan, first_line, readline_plan, next_line, write_plan, close_plan, input_plan, time_ns_plan, drawn, no_range, draw_between, randint_plan, draw_below, randrange_plan}
 use Rattle.py_model.specs.Lists.{next}
 use Rattle.py_model.specs.Operands.{number_in}
-use Rattle.py_model.specs.Plan.{Given, number, random_word, a_line, no_line, Found, found_bytes, absent, too_large, found_failed, write, change, opens, done, Plan, read_file, read_offset, read_closed, fetch, counts, writes, makes, ends, done_at_end}
+use Rattle.py_model.specs.Plan.{Given, number, random_word, a_line, no_line, Found, found_bytes, absent, too_large, found_failed, write, change, opens, done, Plan, read_file, read_offset, read_closed, fetch, counts, writes, makes, done_at_end}
 use Rattle.py_model.specs.Renaming.{Renaming, renamed, renamed_kind}
 use Rattle.py_model.specs.Texts.{size}
 

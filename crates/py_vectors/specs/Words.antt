@@ -1,0 +1,22 @@
+-- Short words of the runs that are written down here.
+use Rattle.std.specs.Prelude.{ℕ, List}
+use Rattle.prov_base.specs.declared.place.Pos.{Pos}
+use Rattle.prov_base.specs.declared.place.Span.{Span}
+use Rattle.py_model.specs.Meaning.{Run, RunEnd}
+
+abbrev pub place : ℕ → ℕ → Pos
+place line col = record { line = line; col = col }
+
+-- the bytes of a statement, at which no run looks
+abbrev pub no_span : Span
+no_span = record { from = 0; to = 0 }
+
+-- what a run comes to, apart from its moments
+pub record Summary : Type 0 where
+  pub end : RunEnd
+  pub steps : ℕ
+  pub output : List ℕ
+  pub finals : List (List ℕ × List ℕ)
+
+abbrev pub summary : Run → Summary
+summary r = record { end = r.end; steps = r.steps; output = r.output; finals = r.finals }
