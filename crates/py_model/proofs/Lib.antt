@@ -18,6 +18,7 @@ pub mod AlikeTexts
 pub mod AlikeWalks
 pub mod Correspondence
 pub mod Effects
+pub mod Goings
 pub mod RenamedEffects
 pub mod WorkedArithmetic
 pub mod WorkedClasses

@@ -63,12 +63,12 @@ abbrev pub walking : Here → Pos → Op → List Contents → (Contents → Wal
 walking here at what values go = perform at what values (λ answer walked. by_answer here (ret normal) (λ v. go v walked) answer)
 
 -- a truth value is asked of a value at a place
+abbrev pub by_truth : Act → Act → Contents → Act
+by_truth when_true when_false (truth true) = when_true
+by_truth when_true when_false other = when_false
+
 abbrev pub asking_truth : Here → Pos → Contents → Act → Act → Act
-asking_truth here at v when_true when_false = doing here at (op 3) (v ∷ []) by_truth
-  where
-    by_truth : Contents → Act
-    by_truth (truth true) = when_true
-    by_truth other = when_false
+asking_truth here at v when_true when_false = doing here at (op 3) (v ∷ []) (by_truth when_true when_false)
 
 -- the numbers of the operations of operators
 abbrev pub unary_number : UnOp → ℕ

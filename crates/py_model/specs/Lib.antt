@@ -10,6 +10,7 @@ pub mod Expressions
 pub mod Faults
 pub mod Files
 pub mod Functions
+pub mod Going
 pub mod Keys
 pub mod Lists
 pub mod Making
@@ -26,6 +27,7 @@ pub mod Raising
 pub mod Renaming
 pub mod Running
 pub mod Sorting
+pub mod Spans
 pub mod Statements
 pub mod Store
 pub mod TextMethods

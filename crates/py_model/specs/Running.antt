@@ -74,7 +74,7 @@ entering at def names values s =
     let sets = parameters_set (suc s.entered) names values in
     record s {
       store = record s.store { at = after_accesses sets s.store.at };
-      left = s.left - suc (length names);
+      left = s.left - suc (length values);
       entered = suc s.entered;
       told = enters at def values sets ∷ s.told;
     }
@@ -116,5 +116,5 @@ module _ (capture : Capture) where
   outcome (begin number rest) s = if nat_eq s.left 0 then spent s else outcome rest (beginning number s)
   outcome (close number ended rest) s = outcome rest (tell (ends number ended) s)
   outcome (enter at def names values next) s =
-      if nat_le (suc (length names)) s.left then outcome (next (suc s.entered)) (entering at def names values s) else spent s
+      if nat_le (suc (length values)) s.left then outcome (next (suc s.entered)) (entering at def names values s) else spent s
   outcome (leave v rest) s = outcome rest (tell (leaves v) s)

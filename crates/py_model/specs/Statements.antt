@@ -11,7 +11,7 @@ use Rattle.py_value.specs.Contents.{Contents, Parts, nothing, truth, int, tuple,
 use Rattle.py_value.specs.Seen.{number_by}
 use Rattle.py_model.specs.Act.{Act, How, ret, begin, close, to, ending, normal, broke, continued, returned, threw}
 use Rattle.py_model.specs.Classes.{sys_module}
-use Rattle.py_model.specs.Expressions.{Here, Task, body_of, while_again, for_again, scope_of, op, op_named, op_scoped, op_of, doing, doing_or, asking_truth, binary_number, eval}
+use Rattle.py_model.specs.Expressions.{Here, Task, body_of, while_again, for_again, scope_of, op, op_named, op_scoped, op_of, doing, doing_or, by_truth, asking_truth, binary_number, eval}
 use Rattle.py_model.specs.Functions.{expr_place}
 use Rattle.py_model.specs.Operations.{Op}
 
@@ -140,13 +140,9 @@ module _ (script : ScriptTree) (next : Task → Act) where
   caught handle how = ret how
 
   -- a handler with a class or a tuple of classes runs where it matches
-  abbrev pub by_match : Act → Act → Contents → Act
-  by_match hit miss (truth true) = hit
-  by_match hit miss other = miss
-
   abbrev pub matching : Here → Pos → ExprTree → ℕ → Act → Act → Act
   matching here at kind o hit miss =
-      eval script next here kind (λ sought. doing here at (op 41) (object o ∷ sought ∷ []) (by_match hit miss))
+      eval script next here kind (λ sought. doing here at (op 41) (object o ∷ sought ∷ []) (by_truth hit miss))
 
   -- the file is closed however the suite ends
   abbrev pub with_body : Here → Pos → Contents → Act → Act
