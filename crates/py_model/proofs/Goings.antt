@@ -1,27 +1,26 @@
 -- The rules of the language give trees of actions that nest as brackets, and that differ in nothing for other byte spans and for other
 -- levels, as far as steps go.
 use Rattle.std.proofs.Common.{◌≡◌, ℕ, zero, suc, Bool, true, false, if◌then◌else◌, List, [], ◌∷◌, ◌++◌, length, Option, Some, None, refl, sym, ap, ap₂, subst, ◌∙◌}
-use Rattle.std.specs.Prelude.{not, ◌&&◌, ◌||◌, nat_eq, nat_lt, pos, slice_get, ◌+◌, ◌-◌}
+use Rattle.std.specs.Prelude.{not, ◌&&◌, ◌||◌, nat_eq, nat_lt, pos, slice_get, ◌-◌}
 use Rattle.std.specs.Option.{option_map}
 use Rattle.std.specs.List.{list_any}
 use Rattle.std.specs.Str.{bytes_eq}
 use Rattle.prov_base.specs.declared.place.Pos.{Pos}
 use Rattle.prov_base.specs.declared.place.Span.{Span}
 use Rattle.prov_base.specs.contracts.place.PosPartialEq.TheImpl.{ghosts as places}
-use Rattle.py_tree.specs.declared.expr.UnOp.{UnOp}
 use Rattle.py_tree.specs.declared.expr.LogicOp.TheVariants.{And as Both, Or as Either}
 use Rattle.py_tree.specs.declared.expr.BinOp.{BinOp}
 use Rattle.py_tree.specs.declared.stmt.Bound.{Bound}
 use Rattle.py_tree.specs.Binds.{form_binds, handlers_bind, bound_is}
 use Rattle.py_tree.specs.Tree.{ExprTree, MaybeTree, ExprsTree, PairsTree, TargetTree, TargetsTree, StmtTree, FormTree, SuiteTree, BranchesTree, ElseTree, HandlersTree, ScriptTree, const_expr, var_expr, unary_expr, binary_expr, compare_expr, logic_expr, choose_expr, call_expr, attr_expr, part_expr, range_expr, list_expr, dict_expr, tuple_expr, no_expr, some_expr, end_exprs, more_exprs, end_pairs, more_pairs, var_target, part_target, field_target, many_target, end_targets, more_targets, one_stmt, do_form, assign_form, aug_form, del_form, pass_form, break_form, continue_form, return_form, raise_form, assert_form, import_form, if_form, while_form, for_form, try_form, with_form, def_form, class_form, end_suite, more_suite, end_branches, more_branches, no_else, else_suite, end_handlers, more_handlers}
 use Rattle.py_value.specs.Contents.{Contents, Parts, nothing, truth, int, text, tuple, range, function, class, exception_class, builtin, object}
-use Rattle.py_model.specs.Act.{Act, How, Walked, ret, stop, perform, begin, close, enter, leave, to, normal, broke, continued, returned, threw, ending}
-use Rattle.py_model.specs.Expressions.{Here, Task, body_of, while_again, for_again, scope_of, op, op_named, op_scoped, op_of, by_answer, doing, doing_or, walking, by_truth, asking_truth, eval, eval_maybe, eval_all, eval_pairs, failing, giving, running, left_with, inside, calling_function, without_init, initialising, calling_class, calling_builtin, calling_method, calling, with_receiver, calling_attribute, takes_so_many, function_arities, method_arities, not_callable, wrong_arguments, too_many_open, value_of_how}
+use Rattle.py_model.specs.Act.{Act, How, Walked, ret, to, normal, broke, continued, returned, threw}
+use Rattle.py_model.specs.Expressions.{Here, Task, body_of, while_again, for_again, scope_of, op, op_named, op_scoped, by_answer, doing, doing_or, walking, by_truth, asking_truth, eval, eval_maybe, eval_all, eval_pairs, failing, giving, running, left_with, inside, calling_function, without_init, initialising, calling_class, calling_builtin, calling_method, calling, with_receiver, calling_attribute, takes_so_many, function_arities, method_arities, not_callable, wrong_arguments, too_many_open}
 use Rattle.py_model.specs.Functions.{Function, expr_place, functions_in, functions_of, functions_at, first_placed, function_at, suite_binds, stmt_binds, inner_binds, branches_bind, else_binds, handler_suites_bind, is_local}
-use Rattle.py_model.specs.Going.{Open, a_statement, an_activation, Goes, unreached, both_ret, both_stop, both_perform, both_begin, both_close, both_enter, both_leave}
+use Rattle.py_model.specs.Going.{Open, an_activation, Goes, unreached, both_ret, both_stop, both_perform, both_begin, both_close, both_enter, both_leave}
 use Rattle.py_model.specs.Operations.{Op}
 use Rattle.py_model.specs.Plan.{Answer, value, raised, at_end}
-use Rattle.py_model.specs.Statements.{op_whole, augmented_number, module_of, on_line, handling, in_class_of, count_targets, parts_in, first_of, rest_of, binding, unbinding, turned, then_so, raised_value, store, store_all, augment, unset, while_turn, for_turn, clause, caught, matching, with_body, class_body, failed_assert, defining, suite, stmt, rule, choose, otherwise, handle, task}
+use Rattle.py_model.specs.Statements.{op_whole, module_of, on_line, handling, in_class_of, parts_in, first_of, rest_of, binding, unbinding, turned, then_so, raised_value, store, store_all, augment, unset, while_turn, for_turn, clause, caught, matching, with_body, class_body, failed_assert, defining, suite, stmt, rule, choose, otherwise, handle, task}
 use Rattle.py_model.specs.Spans.{moved_suite, moved_stmt, moved_form, moved_branches, moved_else, moved_handlers, moved, moved_function, moved_here, moved_task}
 
 -- The same trees go as far as one likes to speak of, and less far too.
@@ -217,15 +216,15 @@ module _ (m : Span → Span) (script : ScriptTree) where
     function_goes here at called None values each = failing_goes here at not_callable (called ∷ values)
     function_goes here at called (Some f) values each =
         goes_if (nat_eq (length f.params) (length values))
-          (goes_if (nat_lt here.open_activations 1000) (running_goes here at f values each) (failing_goes here at too_many_open (called ∷ values)))
-          (failing_goes here at wrong_arguments (called ∷ values))
+        (goes_if (nat_lt here.open_activations 1000) (running_goes here at f values each) (failing_goes here at too_many_open (called ∷ values)))
+        (failing_goes here at wrong_arguments (called ∷ values))
 
     placed_goes : {from : List Open} (here : Here) (at : Pos) (called : Contents) (place : Pos) (values : List Contents) {go gone : Contents → Act} → GoOn from go gone
         → Goes (suc k) from from (calling_function script next here at called (function_at script place) values go)
-          (calling_function (moved m script) other (moved_here m here) at called (function_at (moved m script) place) values gone)
+        (calling_function (moved m script) other (moved_here m here) at called (function_at (moved m script) place) values gone)
     placed_goes {from = from} here at called place values {go = go} {gone = gone} each =
         subst (λ f. Goes (suc k) from from (calling_function script next here at called (function_at script place) values go) (calling_function (moved m script) other (moved_here m here) at called f values gone))
-          (sym (function_same m script place)) (function_goes here at called (function_at script place) values each)
+        (sym (function_same m script place)) (function_goes here at called (function_at script place) values each)
 
     without_init_goes : {from : List Open} (here : Here) (at : Pos) (of : Contents) (arguments : List Contents) (instance : Contents) (takes_any : Bool) {go gone : Contents → Act} → GoOn from go gone
         → Goes (suc k) from from (without_init script next here at of arguments instance takes_any go) (without_init (moved m script) other (moved_here m here) at of arguments instance takes_any gone)
@@ -248,13 +247,13 @@ module _ (m : Span → Span) (script : ScriptTree) where
         → Goes (suc k) from from (calling_builtin script next here at number arguments go) (calling_builtin (moved m script) other (moved_here m here) at number arguments gone)
     builtin_goes here at number arguments each =
         goes_if (takes_so_many (slice_get function_arities number) (length arguments)) (doing_goes k here at arguments refl each)
-          (failing_goes here at (if nat_lt number 22 then wrong_arguments else not_callable) (builtin number ∷ arguments))
+        (failing_goes here at (if nat_lt number 22 then wrong_arguments else not_callable) (builtin number ∷ arguments))
 
     method_goes : {from : List Open} (here : Here) (at : Pos) (number : ℕ) (receiver : Contents) (arguments : List Contents) {go gone : Contents → Act} → GoOn from go gone
         → Goes (suc k) from from (calling_method script next here at number receiver arguments go) (calling_method (moved m script) other (moved_here m here) at number receiver arguments gone)
     method_goes here at number receiver arguments each =
         goes_if (takes_so_many (slice_get method_arities (number - 80)) (length arguments)) (doing_goes k here at (receiver ∷ arguments) refl each)
-          (failing_goes here at wrong_arguments (builtin number ∷ receiver ∷ arguments))
+        (failing_goes here at wrong_arguments (builtin number ∷ receiver ∷ arguments))
 
     calling_goes : {from : List Open} (here : Here) (at : Pos) (called : Contents) (arguments : List Contents) {go gone : Contents → Act} → GoOn from go gone
         → Goes (suc k) from from (calling script next here at called arguments go) (calling (moved m script) other (moved_here m here) at called arguments gone)

@@ -19,6 +19,10 @@ pub mod AlikeWalks
 pub mod Correspondence
 pub mod Effects
 pub mod Goings
+pub mod Histories
+pub mod Levels
+pub mod Askings
+pub mod Budgets
 pub mod RenamedEffects
 pub mod WorkedArithmetic
 pub mod WorkedClasses

@@ -1,5 +1,5 @@
 -- When two trees of actions are the same for a run, and nest as brackets.
-use Rattle.std.specs.Prelude.{◌≡◌, ℕ, zero, suc, List, [], ◌∷◌}
+use Rattle.std.specs.Prelude.{◌≡◌, ℕ, zero, suc, List, ◌∷◌}
 use Rattle.prov_base.specs.declared.place.Pos.{Pos}
 use Rattle.py_value.specs.Contents.{Contents}
 use Rattle.py_model.specs.Act.{Act, How, Walked, ret, stop, perform, begin, close, enter, leave}

@@ -11,6 +11,7 @@ pub mod Faults
 pub mod Files
 pub mod Functions
 pub mod Going
+pub mod History
 pub mod Keys
 pub mod Lists
 pub mod Making

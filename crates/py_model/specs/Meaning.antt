@@ -5,7 +5,7 @@ use Rattle.py_model.specs.Act.{Act, How, stop, threw}
 use Rattle.py_model.specs.Capture.{Capture, opening_in}
 use Rattle.py_model.specs.Expressions.{Here, Task}
 use Rattle.py_model.specs.Moment.{Moment}
-use Rattle.py_model.specs.Running.{Asking, State, Ended, over, spent, lacking, outcome}
+use Rattle.py_model.specs.Running.{Asking, State, Ended, over, spent, lacking, state_in, outcome}
 use Rattle.py_model.specs.Statements.{suite, task}
 use Rattle.py_model.specs.Store.{RunStore, file_of}
 
@@ -52,11 +52,6 @@ abbrev pub end_in : Ended → RunEnd
 end_in (over how s) = end_of how
 end_in (spent s) = out_of_steps
 end_in (lacking s) = unanswered_run
-
-abbrev pub state_in : Ended → State
-state_in (over how s) = s
-state_in (spent s) = s
-state_in (lacking s) = s
 
 abbrev pub final_files : RunStore → List (List ℕ) → List (List ℕ × List ℕ)
 final_files store [] = []

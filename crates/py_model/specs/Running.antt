@@ -1,5 +1,5 @@
 -- How a tree of actions runs on a state (this project's profile): budget, store, captured answers, askings and moments.
-use Rattle.std.specs.Prelude.{ℕ, suc, ◌-◌, nat_eq, nat_le, Bool, true, false, List, [], ◌∷◌, length, Option, None, if◌then◌else◌}
+use Rattle.std.specs.Prelude.{ℕ, suc, ◌-◌, nat_le, Bool, true, false, List, [], ◌∷◌, length, Option, None, if◌then◌else◌}
 use Rattle.prov_base.specs.declared.place.Pos.{Pos}
 use Rattle.prov_base.specs.contracts.place.PosPartialEq.TheImpl.{ghosts as places}
 use Rattle.py_value.specs.Contents.{Contents}
@@ -33,6 +33,11 @@ pub data Ended : Type 0 where
   over : How → State → Ended
   spent : State → Ended
   lacking : State → Ended
+
+abbrev pub state_in : Ended → State
+state_in (over how s) = s
+state_in (spent s) = s
+state_in (lacking s) = s
 
 -- how many askings there were at a place
 abbrev pub askings_at : Pos → List Asking → ℕ
@@ -106,14 +111,15 @@ module _ (capture : Capture) where
 
   abbrev pub operation : Pos → Op → List Contents → State → Happened
   operation at op values s =
-      if nat_eq s.left 0 then too_dear s
-      else (let e = effect_of at op values s in happened at op values e e.outcome (note at (suc (askings_at at s.askings)) e.touches s))
+      if nat_le 1 s.left
+      then (let e = effect_of at op values s in happened at op values e e.outcome (note at (suc (askings_at at s.askings)) e.touches s))
+      else too_dear s
 
   abbrev pub outcome : Act → State → Ended
   outcome (ret how) s = over how s
   outcome stop s = spent s
   outcome (perform at op values next) s = elim (operation at op values s) [ did answer came t ↦ outcome (next answer came) t | too_dear t ↦ spent t | lacked t ↦ lacking t ]
-  outcome (begin number rest) s = if nat_eq s.left 0 then spent s else outcome rest (beginning number s)
+  outcome (begin number rest) s = if nat_le 1 s.left then outcome rest (beginning number s) else spent s
   outcome (close number ended rest) s = outcome rest (tell (ends number ended) s)
   outcome (enter at def names values next) s =
       if nat_le (suc (length values)) s.left then outcome (next (suc s.entered)) (entering at def names values s) else spent s

@@ -1,5 +1,5 @@
 // Laws of plans and their effects, each a function without a body that says it.
-ghost use Rattle.std.specs.Prelude.{◌≡◌, ◌⊎◌, ℕ, List, length};
+ghost use Rattle.std.specs.Prelude.{◌≡◌, ◌⊎◌, ℕ, ◌+◌, List, [], length};
 ghost use Rattle.py_value.specs.Contents.{Contents};
 ghost use Rattle.py_model.specs.Effect.{Answers, Effect, effect, answered, accesses_in, after, after_accesses, weight, cost, IsThrown, IsUntouched};
 ghost use Rattle.py_model.specs.Agreement.{Alike, Agrees};
@@ -8,6 +8,17 @@ ghost use Rattle.py_model.specs.Operations.{Op, plan};
 ghost use Rattle.py_model.specs.Plan.{Plan, raised};
 ghost use Rattle.py_model.specs.Renaming.{Renaming, renamed_list, renamed_effect};
 ghost use Rattle.py_model.specs.Store.{RunStore};
+ghost use Rattle.std.specs.Prelude.{◌<◌};
+ghost use Rattle.prov_base.specs.declared.place.Span.{Span};
+ghost use Rattle.py_tree.specs.Tree.{ScriptTree};
+ghost use Rattle.py_model.specs.Act.{Act};
+ghost use Rattle.py_model.specs.Capture.{Capture};
+ghost use Rattle.py_model.specs.Expressions.{Task};
+ghost use Rattle.py_model.specs.History.{IsAgreed, IsKept, KeptUnlessLacking, Nests, GoesOn, richer};
+ghost use Rattle.py_model.specs.Meaning.{level, meaning, starting, run};
+ghost use Rattle.py_model.specs.Running.{State, outcome, state_in};
+ghost use Rattle.py_model.specs.Spans.{moved};
+ghost use Rattle.py_model.specs.Statements.{task};
 
 /// The law that an operation changes the map by its accesses, in their order, and by nothing else.
 pub fn map_changes_by_accesses()
@@ -46,4 +57,43 @@ pub fn operations_agree()
         → (effect other others (plan (renamed_op r op) (renamed_list r values)) ≡ renamed_effect r (effect store answers (plan op values)))
         × (weight (effect other others (plan (renamed_op r op) (renamed_list r values))) ≡ weight (effect store answers (plan op values)))
         × (cost (effect other others (plan (renamed_op r op) (renamed_list r values))) ≡ cost (effect store answers (plan op values))) }
+{}
+
+/// The law that the meaning is its own unfolding: a turn of a loop and a call mean what their rule says, with the same turns and calls
+/// inside them, wherever fewer steps are left than there are levels.
+pub fn meaning_unfolds()
+    ensures { (capture : Capture) (script : ScriptTree) (n : ℕ) (what : Task) (s : State) → s.left < n
+        → outcome capture (level script n what) s ≡ outcome capture (task script (level script n) what) s }
+{}
+
+/// The law that a state agrees with its moments: the budget is what they cost and what is left, and the map, the kinds of objects and
+/// the number of activations are those that the moments come to. So steps never rise, and no more are spent than there were.
+pub fn states_agree_with_moments()
+    ensures { (capture : Capture) (opening : RunStore) (budget : ℕ) (a : Act) (s : State) → IsAgreed opening budget s
+        → IsAgreed opening budget (state_in (outcome capture a s)) }
+{}
+
+/// The law of brackets: the moments of a run nest, and a run that reaches its end, or is left by an exception, leaves nothing open.
+pub fn moments_nest()
+    ensures { (capture : Capture) (script : ScriptTree) (path : List ℕ) (arguments : List (List ℕ)) (steps : ℕ)
+        → Nests [] (outcome capture (meaning script steps) (starting capture path arguments steps)) }
+{}
+
+/// The law of the capture: all that a run asks and fetches is there, unless the run ends for want of it.
+pub fn asked_is_captured()
+    ensures { (capture : Capture) (a : Act) (s : State) → IsKept capture s → KeptUnlessLacking capture (outcome capture a s) }
+{}
+
+/// The law of larger budgets: with more steps a run goes the same way to its end, and where its steps did not suffice, its moments go on
+/// from there.
+pub fn larger_budget_extends()
+    ensures { (capture : Capture) (more : ℕ) (script : ScriptTree) (path : List ℕ) (arguments : List (List ℕ)) (steps : ℕ)
+        → GoesOn more (outcome capture (meaning script steps) (starting capture path arguments steps))
+        (outcome capture (meaning script (steps + more)) (starting capture path arguments (steps + more))) }
+{}
+
+/// The law of byte spans: a run does not look at them.
+pub fn spans_change_nothing()
+    ensures { (m : Span → Span) (script : ScriptTree) (path : List ℕ) (arguments : List (List ℕ)) (capture : Capture) (steps : ℕ)
+        → run (moved m script) path arguments capture steps ≡ run script path arguments capture steps }
 {}
