@@ -5,7 +5,7 @@
 
 VECTORS is a file of scripts with what is expected of them, worked out apart from this program: a list `scripts`, each with `name`,
 `script`, `path`, `arguments`, `budget`, `files`, `clock`, `words`, `lines`, and `closing`, `output`, `steps`, `finals` and `pages1`,
-the rows of its moments. The syntax trees are those of Python's own `ast`. It wants Python 3.11.
+the rows of its moments, and `evaluations`, some of them with the steps up to and with each (`value_steps`). The syntax trees are those of Python's own `ast`. It wants Python 3.11.
 """
 import ast, io, json, sys, tokenize
 
@@ -403,7 +403,7 @@ use Rattle.py_model.specs.Capture.{Capture}
 use Rattle.py_model.specs.Meaning.{Run, run, level, finished, uncaught, out_of_steps}
 use Rattle.py_model.specs.Moment.{Moment, begins, does, enters, leaves, ends, normal_end, break_end, continue_end, return_end, raise_end}
 use Rattle.py_model.specs.Plan.{value, raised, at_end, time, word, line, number, random_word, a_line, no_line, failed, found_bytes, absent, too_large, found_failed}
-use Rattle.py_vectors.specs.Words.{place, no_span, summary}
+use Rattle.py_vectors.specs.Words.{place, no_span, summary, steps_to}
 '''
 
 
@@ -463,6 +463,9 @@ def theorem(v, name, with_moments):
     if with_moments:
         out += ['%s_moments : %s_run.moments ≡' % (name, name), '      ' + '\n    ∷ '.join(rows.moments) + '\n    ∷ []' if rows.moments else '    []',
                 'unfolding is_utf8 chars encode_utf8 level', '%s_moments = refl' % name, '']
+    for i, e in enumerate(v['evaluations']):
+        out += ['%s_steps_%d : steps_to %s_run (place %d %d) %d ≡ Some %d' % (name, i + 1, name, e['line'], e['col'], e['k'], e['value_steps']),
+                'unfolding is_utf8 chars encode_utf8 level', '%s_steps_%d = refl' % (name, i + 1), '']
     return '\n'.join(out)
 
 

@@ -18,6 +18,7 @@ pub mod AlikeTexts
 pub mod AlikeWalks
 pub mod Correspondence
 pub mod Effects
+pub mod Frames
 pub mod Goings
 pub mod Histories
 pub mod Levels

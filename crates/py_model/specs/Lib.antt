@@ -19,6 +19,7 @@ pub mod Meaning
 pub mod Moment
 pub mod Names
 pub mod Numbers
+pub mod Occurrences
 pub mod Operands
 pub mod Operations
 pub mod Places

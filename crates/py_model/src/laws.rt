@@ -1,5 +1,5 @@
 // Laws of plans and their effects, each a function without a body that says it.
-ghost use Rattle.std.specs.Prelude.{◌≡◌, ◌⊎◌, ℕ, ◌+◌, List, [], length};
+ghost use Rattle.std.specs.Prelude.{◌≡◌, ◌⊎◌, ℕ, ◌+◌, List, [], map, length, Some};
 ghost use Rattle.py_value.specs.Contents.{Contents};
 ghost use Rattle.py_model.specs.Effect.{Answers, Effect, effect, answered, accesses_in, after, after_accesses, weight, cost, IsThrown, IsUntouched};
 ghost use Rattle.py_model.specs.Agreement.{Alike, Agrees};
@@ -14,7 +14,10 @@ ghost use Rattle.py_tree.specs.Tree.{ScriptTree};
 ghost use Rattle.py_model.specs.Act.{Act};
 ghost use Rattle.py_model.specs.Capture.{Capture};
 ghost use Rattle.py_model.specs.Expressions.{Task};
-ghost use Rattle.py_model.specs.History.{IsAgreed, IsKept, KeptUnlessLacking, Nests, GoesOn, richer};
+ghost use Rattle.py_model.specs.Going.{Open};
+ghost use Rattle.py_model.specs.Moment.{Moment};
+ghost use Rattle.py_model.specs.Occurrences.{frames_after, open_of};
+ghost use Rattle.py_model.specs.History.{open_after, IsAgreed, IsKept, KeptUnlessLacking, Nests, GoesOn, richer};
 ghost use Rattle.py_model.specs.Meaning.{level, meaning, starting, run};
 ghost use Rattle.py_model.specs.Running.{State, outcome, state_in};
 ghost use Rattle.py_model.specs.Spans.{moved};
@@ -77,6 +80,11 @@ pub fn states_agree_with_moments()
 pub fn moments_nest()
     ensures { (capture : Capture) (script : ScriptTree) (path : List ℕ) (arguments : List (List ℕ)) (steps : ℕ)
         → Nests [] (outcome capture (meaning script steps) (starting capture path arguments steps)) }
+{}
+
+/// The law of frames: where moments nest, the occurrences and activations that are open after them are what the brackets leave open.
+pub fn frames_follow_brackets()
+    ensures { (told : List Moment) (open_ones : List Open) → open_after told ≡ Some open_ones → map open_of (frames_after told) ≡ open_ones }
 {}
 
 /// The law of the capture: all that a run asks and fetches is there, unless the run ends for want of it.

@@ -12,7 +12,7 @@ mod laws;
 
 pub use laws::{
     alike_plans_agree, asked_is_captured, corresponding_operands_have_alike_plans,
-    larger_budget_extends, map_changes_by_accesses, meaning_unfolds, moments_nest,
-    operations_agree, raised_writes_its_exception_alone, renamed_effects_weigh_the_same,
-    spans_change_nothing, states_agree_with_moments,
+    frames_follow_brackets, larger_budget_extends, map_changes_by_accesses, meaning_unfolds,
+    moments_nest, operations_agree, raised_writes_its_exception_alone,
+    renamed_effects_weigh_the_same, spans_change_nothing, states_agree_with_moments,
 };

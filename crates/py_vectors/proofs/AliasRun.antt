@@ -11,7 +11,7 @@ use Rattle.py_value.specs.Seen.{a_list, var_at, len_at, item_at, var_is, len_is,
 use Rattle.py_model.specs.Meaning.{Run, run, level, finished}
 use Rattle.py_model.specs.Moment.{begins, does, ends, normal_end}
 use Rattle.py_model.specs.Plan.{value}
-use Rattle.py_vectors.specs.Words.{place, no_span, summary}
+use Rattle.py_vectors.specs.Words.{place, no_span, summary, steps_to}
 
 abbrev pub r_alias_tree : ScriptTree
 r_alias_tree = record { body = (more_suite (one_stmt 0 (place 1 1) no_span (assign_form (var_target (place 1 1) (codes "a")) (list_expr (place 1 5) (more_exprs (const_expr (place 1 6) (int_atom (pos 1))) (more_exprs (const_expr (place 1 9) (int_atom (pos 2))) end_exprs))))) (more_suite (one_stmt 1 (place 2 1) no_span (assign_form (var_target (place 2 1) (codes "b")) (var_expr (place 2 5) (codes "a")))) (more_suite (one_stmt 2 (place 3 1) no_span (assign_form (var_target (place 3 1) (codes "c")) (list_expr (place 3 5) (more_exprs (const_expr (place 3 6) (int_atom (pos 9))) end_exprs)))) (more_suite (one_stmt 3 (place 4 1) no_span (do_form (call_expr (place 4 9) (attr_expr (place 4 2) (var_expr (place 4 1) (codes "b")) (codes "append")) (more_exprs (const_expr (place 4 10) (int_atom (pos 3))) end_exprs)))) (more_suite (one_stmt 4 (place 5 1) no_span (do_form (call_expr (place 5 9) (attr_expr (place 5 2) (var_expr (place 5 1) (codes "c")) (codes "append")) (more_exprs (const_expr (place 5 10) (int_atom (pos 4))) end_exprs)))) (more_suite (one_stmt 5 (place 6 1) no_span (do_form (call_expr (place 6 6) (var_expr (place 6 1) (codes "print")) (more_exprs (var_expr (place 6 7) (codes "a")) end_exprs)))) end_suite)))))); count = 6 }
@@ -59,3 +59,23 @@ r_alias_moments : r_alias_run.moments ≡
     ∷ []
 unfolding is_utf8 chars encode_utf8 level
 r_alias_moments = refl
+
+r_alias_steps_1 : steps_to r_alias_run (place 6 7) 1 ≡ Some 44
+unfolding is_utf8 chars encode_utf8 level
+r_alias_steps_1 = refl
+
+r_alias_steps_2 : steps_to r_alias_run (place 1 9) 1 ≡ Some 3
+unfolding is_utf8 chars encode_utf8 level
+r_alias_steps_2 = refl
+
+r_alias_steps_3 : steps_to r_alias_run (place 3 5) 1 ≡ Some 19
+unfolding is_utf8 chars encode_utf8 level
+r_alias_steps_3 = refl
+
+r_alias_steps_4 : steps_to r_alias_run (place 4 1) 1 ≡ Some 24
+unfolding is_utf8 chars encode_utf8 level
+r_alias_steps_4 = refl
+
+r_alias_steps_5 : steps_to r_alias_run (place 5 10) 1 ≡ Some 35
+unfolding is_utf8 chars encode_utf8 level
+r_alias_steps_5 = refl

@@ -11,7 +11,7 @@ use Rattle.py_value.specs.Seen.{var_at, var_is, reads, sets}
 use Rattle.py_model.specs.Meaning.{Run, run, level, out_of_steps}
 use Rattle.py_model.specs.Moment.{begins, does, ends, normal_end}
 use Rattle.py_model.specs.Plan.{value}
-use Rattle.py_vectors.specs.Words.{place, no_span, summary}
+use Rattle.py_vectors.specs.Words.{place, no_span, summary, steps_to}
 
 abbrev pub r_budget_tree : ScriptTree
 r_budget_tree = record { body = (more_suite (one_stmt 0 (place 1 1) no_span (assign_form (var_target (place 1 1) (codes "x")) (const_expr (place 1 5) (int_atom (pos 1))))) (more_suite (one_stmt 1 (place 2 1) no_span (do_form (call_expr (place 2 6) (var_expr (place 2 1) (codes "print")) (more_exprs (var_expr (place 2 7) (codes "x")) end_exprs)))) end_suite)); count = 2 }
@@ -34,3 +34,15 @@ r_budget_moments : r_budget_run.moments ≡
     ∷ []
 unfolding is_utf8 chars encode_utf8 level
 r_budget_moments = refl
+
+r_budget_steps_1 : steps_to r_budget_run (place 2 7) 1 ≡ Some 9
+unfolding is_utf8 chars encode_utf8 level
+r_budget_steps_1 = refl
+
+r_budget_steps_2 : steps_to r_budget_run (place 1 5) 1 ≡ Some 2
+unfolding is_utf8 chars encode_utf8 level
+r_budget_steps_2 = refl
+
+r_budget_steps_3 : steps_to r_budget_run (place 2 1) 1 ≡ Some 7
+unfolding is_utf8 chars encode_utf8 level
+r_budget_steps_3 = refl

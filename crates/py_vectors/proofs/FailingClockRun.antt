@@ -9,7 +9,7 @@ use Rattle.py_value.specs.Seen.{an_instance, var_at, entry_at, order_at, var_is,
 use Rattle.py_model.specs.Meaning.{Run, run, level, uncaught}
 use Rattle.py_model.specs.Moment.{begins, does, ends, normal_end, raise_end}
 use Rattle.py_model.specs.Plan.{value, raised, time, failed}
-use Rattle.py_vectors.specs.Words.{place, no_span, summary}
+use Rattle.py_vectors.specs.Words.{place, no_span, summary, steps_to}
 
 abbrev pub r_failing_clock_tree : ScriptTree
 r_failing_clock_tree = record { body = (more_suite (one_stmt 0 (place 1 1) no_span (import_form (codes "time"))) (more_suite (one_stmt 1 (place 2 1) no_span (do_form (call_expr (place 2 6) (var_expr (place 2 1) (codes "print")) (more_exprs (call_expr (place 2 19) (attr_expr (place 2 11) (var_expr (place 2 7) (codes "time")) (codes "time_ns")) end_exprs) end_exprs)))) end_suite)); count = 2 }
@@ -34,3 +34,11 @@ r_failing_clock_moments : r_failing_clock_run.moments ≡
     ∷ []
 unfolding is_utf8 chars encode_utf8 level
 r_failing_clock_moments = refl
+
+r_failing_clock_steps_1 : steps_to r_failing_clock_run (place 2 1) 1 ≡ Some 6
+unfolding is_utf8 chars encode_utf8 level
+r_failing_clock_steps_1 = refl
+
+r_failing_clock_steps_2 : steps_to r_failing_clock_run (place 2 7) 1 ≡ Some 8
+unfolding is_utf8 chars encode_utf8 level
+r_failing_clock_steps_2 = refl

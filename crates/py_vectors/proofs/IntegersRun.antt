@@ -12,7 +12,7 @@ use Rattle.py_value.specs.Seen.{an_instance, entry_at, order_at, entry_is, order
 use Rattle.py_model.specs.Meaning.{Run, run, level, uncaught}
 use Rattle.py_model.specs.Moment.{begins, does, ends, raise_end}
 use Rattle.py_model.specs.Plan.{value, raised}
-use Rattle.py_vectors.specs.Words.{place, no_span, summary}
+use Rattle.py_vectors.specs.Words.{place, no_span, summary, steps_to}
 
 abbrev pub r_integers_tree : ScriptTree
 r_integers_tree = record { body = (more_suite (one_stmt 0 (place 1 1) no_span (assign_form (var_target (place 1 1) (codes "x")) (binary_expr (place 1 25) Add (const_expr (place 1 5) (int_atom (pos 9223372036854775807))) (const_expr (place 1 27) (int_atom (pos 1)))))) end_suite); count = 1 }
@@ -33,3 +33,11 @@ r_integers_moments : r_integers_run.moments ≡
     ∷ []
 unfolding is_utf8 chars encode_utf8 level
 r_integers_moments = refl
+
+r_integers_steps_1 : steps_to r_integers_run (place 1 5) 1 ≡ Some 2
+unfolding is_utf8 chars encode_utf8 level
+r_integers_steps_1 = refl
+
+r_integers_steps_2 : steps_to r_integers_run (place 1 27) 1 ≡ Some 3
+unfolding is_utf8 chars encode_utf8 level
+r_integers_steps_2 = refl

@@ -11,7 +11,7 @@ use Rattle.py_value.specs.Seen.{a_dict, var_at, entry_at, order_at, var_is, entr
 use Rattle.py_model.specs.Meaning.{Run, run, level, finished}
 use Rattle.py_model.specs.Moment.{begins, does, ends, normal_end}
 use Rattle.py_model.specs.Plan.{value}
-use Rattle.py_vectors.specs.Words.{place, no_span, summary}
+use Rattle.py_vectors.specs.Words.{place, no_span, summary, steps_to}
 
 abbrev pub r_order_tree : ScriptTree
 r_order_tree = record { body = (more_suite (one_stmt 0 (place 1 1) no_span (assign_form (var_target (place 1 1) (codes "d")) (dict_expr (place 1 5) end_pairs))) (more_suite (one_stmt 1 (place 2 1) no_span (assign_form (part_target (place 2 2) (var_expr (place 2 1) (codes "d")) (const_expr (place 2 3) (text_atom (codes "x")))) (const_expr (place 2 10) (int_atom (pos 1))))) (more_suite (one_stmt 2 (place 3 1) no_span (assign_form (part_target (place 3 2) (var_expr (place 3 1) (codes "d")) (const_expr (place 3 3) (text_atom (codes "y")))) (const_expr (place 3 10) (int_atom (pos 2))))) (more_suite (one_stmt 3 (place 4 1) no_span (do_form (call_expr (place 4 6) (var_expr (place 4 1) (codes "print")) (more_exprs (var_expr (place 4 7) (codes "d")) end_exprs)))) end_suite)))); count = 4 }
@@ -48,3 +48,23 @@ r_order_moments : r_order_run.moments ≡
     ∷ []
 unfolding is_utf8 chars encode_utf8 level
 r_order_moments = refl
+
+r_order_steps_1 : steps_to r_order_run (place 4 7) 1 ≡ Some 28
+unfolding is_utf8 chars encode_utf8 level
+r_order_steps_1 = refl
+
+r_order_steps_2 : steps_to r_order_run (place 2 10) 1 ≡ Some 7
+unfolding is_utf8 chars encode_utf8 level
+r_order_steps_2 = refl
+
+r_order_steps_3 : steps_to r_order_run (place 2 3) 1 ≡ Some 10
+unfolding is_utf8 chars encode_utf8 level
+r_order_steps_3 = refl
+
+r_order_steps_4 : steps_to r_order_run (place 3 10) 1 ≡ Some 16
+unfolding is_utf8 chars encode_utf8 level
+r_order_steps_4 = refl
+
+r_order_steps_5 : steps_to r_order_run (place 4 1) 1 ≡ Some 26
+unfolding is_utf8 chars encode_utf8 level
+r_order_steps_5 = refl

@@ -11,7 +11,7 @@ use Rattle.py_value.specs.Seen.{an_instance, var_at, entry_at, order_at, var_is,
 use Rattle.py_model.specs.Meaning.{Run, run, level, finished}
 use Rattle.py_model.specs.Moment.{begins, does, ends, normal_end, raise_end}
 use Rattle.py_model.specs.Plan.{value, raised}
-use Rattle.py_vectors.specs.Words.{place, no_span, summary}
+use Rattle.py_vectors.specs.Words.{place, no_span, summary, steps_to}
 
 abbrev pub r_try_tree : ScriptTree
 r_try_tree = record { body = (more_suite (one_stmt 0 (place 1 1) no_span (assign_form (var_target (place 1 1) (codes "a")) (const_expr (place 1 5) (int_atom (pos 5))))) (more_suite (one_stmt 1 (place 2 1) no_span (try_form (more_suite (one_stmt 2 (place 3 5) no_span (assign_form (var_target (place 3 5) (codes "b")) (call_expr (place 3 12) (var_expr (place 3 9) (codes "int")) (more_exprs (const_expr (place 3 13) (text_atom (codes "x"))) end_exprs)))) end_suite) (more_handlers (Some (var_expr (place 4 8) (codes "ValueError"))) None (more_suite (one_stmt 3 (place 5 5) no_span (assign_form (var_target (place 5 5) (codes "b")) (const_expr (place 5 9) (int_atom (pos 0))))) end_suite) end_handlers))) (more_suite (one_stmt 4 (place 6 1) no_span (do_form (call_expr (place 6 6) (var_expr (place 6 1) (codes "print")) (more_exprs (var_expr (place 6 7) (codes "a")) end_exprs)))) end_suite))); count = 5 }
@@ -49,3 +49,23 @@ r_try_moments : r_try_run.moments ≡
     ∷ []
 unfolding is_utf8 chars encode_utf8 level
 r_try_moments = refl
+
+r_try_steps_1 : steps_to r_try_run (place 6 7) 1 ≡ Some 24
+unfolding is_utf8 chars encode_utf8 level
+r_try_steps_1 = refl
+
+r_try_steps_2 : steps_to r_try_run (place 1 5) 1 ≡ Some 2
+unfolding is_utf8 chars encode_utf8 level
+r_try_steps_2 = refl
+
+r_try_steps_3 : steps_to r_try_run (place 3 9) 1 ≡ Some 8
+unfolding is_utf8 chars encode_utf8 level
+r_try_steps_3 = refl
+
+r_try_steps_4 : steps_to r_try_run (place 4 8) 1 ≡ Some 14
+unfolding is_utf8 chars encode_utf8 level
+r_try_steps_4 = refl
+
+r_try_steps_5 : steps_to r_try_run (place 5 9) 1 ≡ Some 17
+unfolding is_utf8 chars encode_utf8 level
+r_try_steps_5 = refl

@@ -1,8 +1,11 @@
 -- Short words of the runs that are written down here.
-use Rattle.std.specs.Prelude.{ℕ, List}
+use Rattle.std.specs.Prelude.{ℕ, List, reverse, Option}
+use Rattle.std.specs.Option.{option_map}
 use Rattle.prov_base.specs.declared.place.Pos.{Pos}
 use Rattle.prov_base.specs.declared.place.Span.{Span}
+use Rattle.py_model.specs.History.{spent_on}
 use Rattle.py_model.specs.Meaning.{Run, RunEnd}
+use Rattle.py_model.specs.Occurrences.{up_to_evaluation}
 
 abbrev pub place : ℕ → ℕ → Pos
 place line col = record { line = line; col = col }
@@ -20,3 +23,7 @@ pub record Summary : Type 0 where
 
 abbrev pub summary : Run → Summary
 summary r = record { end = r.end; steps = r.steps; output = r.output; finals = r.finals }
+
+-- the steps up to the k-th evaluation at a place, and with it
+abbrev pub steps_to : Run → Pos → ℕ → Option ℕ
+steps_to r at k = option_map spent_on (up_to_evaluation at k (reverse r.moments))
