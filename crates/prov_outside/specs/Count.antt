@@ -1,5 +1,6 @@
 -- Counts of faults (this project's profile): a call of a device answers Failed only where its own count rose.
 use Rattle.std.specs.Prelude.{◌≡◌, ℕ, ◌+◌, ◌<◌, ◌≤◌, ◌^◌, ◌⊎◌, min, Result, Ok, Err, IsErrOf}
+use Rattle.prov_base.specs.declared.refusal.Failed.{Failed as Fault}
 use Rattle.prov_outside.specs.declared.trouble.Trouble.{Trouble}
 use Rattle.prov_outside.specs.declared.trouble.Trouble.TheVariants.{Failed, Memory}
 
@@ -23,3 +24,8 @@ pub record Counts {T : Type 0} (before after : ℕ) (result : Result T Trouble) 
   pub in_range : after < 2 ^ 64
   pub failed : IsErrOf result Failed → Rose before after
   pub counted : after ≡ faults_after result before
+
+-- the answer of a device that takes no memory, among those of devices that may lack it
+abbrev pub as_trouble : {T : Type 0} → Result T Fault → Result T Trouble
+as_trouble (Ok done) = Ok done
+as_trouble (Err fault) = Err Failed

@@ -1,4 +1,4 @@
-//! What the program meets outside itself, as traits: a console and a folder. Each says by ghost members what it tells
+//! What the program meets outside itself, as traits: a console, a folder, and a clock with random words. Each says by ghost members what it tells
 //! of itself and how often each of its calls has failed, so that a call which fails must show a fault that was counted.
 //! (One that runs out of memory says so, and shows none.) The memory forms tell all that they hold, number their calls, and fail exactly at the numbers that they
 //! were given.
@@ -9,10 +9,14 @@ mod console;
 mod folder;
 mod memory_console;
 mod memory_folder;
+mod memory_moments;
+mod moments;
 mod trouble;
 
 pub use console::Console;
 pub use folder::{Folder, Found};
 pub use memory_console::MemoryConsole;
 pub use memory_folder::MemoryFolder;
+pub use memory_moments::MemoryMoments;
+pub use moments::Moments;
 pub use trouble::Trouble;
