@@ -1,0 +1,4 @@
+pub mod Devices
+pub mod FileOrder
+pub mod Lasts
+pub mod PathSets
