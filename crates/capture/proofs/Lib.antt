@@ -1,3 +1,4 @@
+pub mod AnswerOrder
 pub mod Devices
 pub mod FileOrder
 pub mod Lasts

@@ -1,5 +1,5 @@
 -- Kept answers (this project's profile): what was asked and given, by the place of the call and the number of the asking there.
-use Rattle.std.specs.Prelude.{◌≡◌, ℕ, ◌<◌, Bool, true, false, ◌&&◌, ◌⊎◌, nat_eq, List, [], ◌∷◌, Option, Some, None, find, if◌then◌else◌}
+use Rattle.std.specs.Prelude.{◌≡◌, ℕ, ◌+◌, ◌<◌, Bool, true, false, ◌&&◌, ◌⊎◌, nat_eq, List, [], ◌∷◌, Option, Some, None, find, slice_get, if◌then◌else◌}
 use Rattle.std.specs.List.{list_any}
 use Rattle.prov_base.specs.declared.place.Pos.{Pos}
 use Rattle.prov_base.specs.contracts.place.PosPartialEq.TheImpl.{ghosts as places}
@@ -47,6 +47,14 @@ given_at answers what at k = given_if what (answer_at answers at k)
 pub record IsLast (answers : List Asked) (at : Pos) (last : ℕ) : Type 0 where
   pub none_later : (k : ℕ) → last < k → is_kept answers at k ≡ false
   pub reached : (last ≡ 0) ⊎ (is_kept answers at last ≡ true)
+
+-- the answer stands before the other: by line, on one line by column, and at one place by number
+abbrev pub IsEarlier : Asked → Asked → Type 0
+IsEarlier a b = (a.at.line < b.at.line) ⊎ ((a.at.line ≡ b.at.line) × ((a.at.col < b.at.col) ⊎ ((a.at.col ≡ b.at.col) × (a.k < b.k))))
+
+-- each answer stands before the next one
+abbrev pub AreInOrder : List Asked → Type 0
+AreInOrder answers = (i : ℕ) (a b : Asked) → slice_get answers i ≡ Some a → slice_get answers (i + 1) ≡ Some b → IsEarlier a b
 
 -- what may be given to a question
 abbrev pub Fits : Question → Given → Type 0

@@ -1,11 +1,12 @@
 // The answers of a capture, with a look-up by place and number and the last number at each place.
-ghost use Rattle.std.specs.Prelude.{◌≡◌, ◌<◌, ◌++◌, ◌∷◌, [], OnOk, false, option_copied, max, if◌then◌else◌};
+ghost use Rattle.std.specs.Prelude.{◌≡◌, ◌<◌, ◌++◌, ◌∷◌, [], OnOk, OnErr, false, option_copied, max, if◌then◌else◌};
+ghost use Rattle.std.specs.List.Sorted.{IsPermutation};
 ghost use Rattle.indexmap.specs.IndexMap.{spare as spare_entries};
 ghost use Rattle.indexmap.specs.IndexSet.{spare as spare_keys};
 ghost use Rattle.prov_base.specs.declared.place.Pos.{Pos as Place};
 ghost use Rattle.prov_base.specs.contracts.place.PosPartialEq.TheImpl.{ghosts as places};
 ghost use Rattle.capture.specs.AnswersView.{noted_last};
-ghost use Rattle.capture.specs.Answers.{answer_at, is_kept, IsLast};
+ghost use Rattle.capture.specs.Answers.{answer_at, is_kept, IsLast, AreInOrder};
 
 use crate::answer::{Ask, Asked, Given};
 use indexmap::{IndexMap, IndexSet};
@@ -71,6 +72,16 @@ impl Answers {
         ensures { IsLast self.now.kept at result }
     {
         self.last.get(&at).copied().unwrap_or(0)
+    }
+
+    /// Puts the answers in the order of their places and numbers. After an `Err` all is as before.
+    pub(crate) fn sort(&mut self) -> Result<(), Memory>
+        ensures sorted { OnOk result (AreInOrder self.new.kept) }
+        ensures same { OnOk result (IsPermutation self.old.kept self.new.kept) }
+        ensures err { OnErr result (self.new.kept ≡ self.old.kept) }
+    {
+        self.kept.sort_unstable()?;
+        Ok(())
     }
 
     /// Makes room for one more answer.

@@ -1,11 +1,12 @@
 // The capture of a run: what the devices gave, kept so that another run can be given the same.
 ghost use Rattle.std.specs.Prelude.{◌≡◌, ◌+◌, ◌<◌, ℕ, List, [], ◌++◌, ◌∷◌, false, None, Some, Ok, Err, IsOk, IsTrue, IfOk, OnOk, OnErr, MatchResult};
+ghost use Rattle.std.specs.List.Sorted.{IsPermutation};
 ghost use Rattle.prov_base.specs.declared.refusal.Memory.{Memory as Want};
 ghost use Rattle.prov_outside.specs.declared.folder.Found.{Found as FoundThere};
 ghost use Rattle.prov_outside.specs.Count.{faults_after};
 ghost use Rattle.prov_outside.specs.Folder.{Gets};
 ghost use Rattle.prov_outside.specs.Tells.{Tells};
-ghost use Rattle.capture.specs.Answers.{given_at, is_kept, IsLast, Fits};
+ghost use Rattle.capture.specs.Answers.{given_at, is_kept, IsLast, Fits, AreInOrder};
 ghost use Rattle.capture.specs.Asking.{ForAsk, AsksTime, AsksWord, AsksLine, as_answer, as_fetch};
 ghost use Rattle.capture.specs.Capture.{is_known, is_among, with_path};
 ghost use Rattle.capture.specs.Files.{file_at, with_file, IsAscending};
@@ -177,6 +178,17 @@ impl Capture {
         ensures { result.now ≡ self.now.answers }
     {
         self.answers.as_slice()
+    }
+
+    /// Puts the answers in ascending order of place and number. What is kept stays: the answers are the same in another
+    /// order. After an `Err` all is as before.
+    pub fn put_in_order(&mut self) -> Result<(), Memory>
+        ensures ascending { OnOk result (AreInOrder self.new.answers) }
+        ensures permuted { OnOk result (IsPermutation self.old.answers self.new.answers) }
+        ensures same { self.new ≡ record self.old { answers = self.new.answers } }
+        ensures err { OnErr result (self.new ≡ self.old) }
+    {
+        self.answers.sort()
     }
 
     /// What was found at each path, in ascending order of the paths' bytes.
