@@ -56,6 +56,10 @@ IsEarlier a b = (a.at.line < b.at.line) ⊎ ((a.at.line ≡ b.at.line) × ((a.at
 abbrev pub AreInOrder : List Asked → Type 0
 AreInOrder answers = (i : ℕ) (a b : Asked) → slice_get answers i ≡ Some a → slice_get answers (i + 1) ≡ Some b → IsEarlier a b
 
+-- no two answers have the same place and number
+abbrev pub AreOnce : List Asked → Type 0
+AreOnce answers = (i j : ℕ) (a b : Asked) → slice_get answers i ≡ Some a → slice_get answers j ≡ Some b → a.at ≡ b.at → a.k ≡ b.k → i ≡ j
+
 -- what may be given to a question
 abbrev pub Fits : Question → Given → Type 0
 Fits Time (Number time) = Unit {0}

@@ -1,12 +1,12 @@
 // The answers of a capture, with a look-up by place and number and the last number at each place.
-ghost use Rattle.std.specs.Prelude.{◌≡◌, ◌<◌, ◌++◌, ◌∷◌, [], OnOk, OnErr, false, option_copied, max, if◌then◌else◌};
+ghost use Rattle.std.specs.Prelude.{◌≡◌, ℕ, ◌<◌, ◌++◌, ◌∷◌, [], OnOk, OnErr, false, option_copied, max, if◌then◌else◌};
 ghost use Rattle.std.specs.List.Sorted.{IsPermutation};
 ghost use Rattle.indexmap.specs.IndexMap.{spare as spare_entries};
 ghost use Rattle.indexmap.specs.IndexSet.{spare as spare_keys};
 ghost use Rattle.prov_base.specs.declared.place.Pos.{Pos as Place};
 ghost use Rattle.prov_base.specs.contracts.place.PosPartialEq.TheImpl.{ghosts as places};
 ghost use Rattle.capture.specs.AnswersView.{noted_last};
-ghost use Rattle.capture.specs.Answers.{answer_at, is_kept, IsLast, AreInOrder};
+ghost use Rattle.capture.specs.Answers.{answer_at, is_kept, IsLast, AreInOrder, AreOnce};
 
 use crate::answer::{Ask, Asked, Given};
 use indexmap::{IndexMap, IndexSet};
@@ -49,7 +49,8 @@ impl Answers {
 
     /// The answers, in the order in which they were kept.
     pub(crate) fn as_slice(&self) -> &[Asked]
-        ensures { result.now ≡ self.now.kept }
+        ensures answers { result.now ≡ self.now.kept }
+        ensures once { AreOnce result.now }
     {
         self.kept.as_slice()
     }
@@ -78,6 +79,7 @@ impl Answers {
     pub(crate) fn sort(&mut self) -> Result<(), Memory>
         ensures sorted { OnOk result (AreInOrder self.new.kept) }
         ensures same { OnOk result (IsPermutation self.old.kept self.new.kept) }
+        ensures found { OnOk result ((at : Place) (k : ℕ) → answer_at self.new.kept at k ≡ answer_at self.old.kept at k) }
         ensures err { OnErr result (self.new.kept ≡ self.old.kept) }
     {
         self.kept.sort_unstable()?;

@@ -1,12 +1,13 @@
 // The capture of a run: what the devices gave, kept so that another run can be given the same.
 ghost use Rattle.std.specs.Prelude.{◌≡◌, ◌+◌, ◌<◌, ℕ, List, [], ◌++◌, ◌∷◌, false, None, Some, Ok, Err, IsOk, IsTrue, IfOk, OnOk, OnErr, MatchResult};
 ghost use Rattle.std.specs.List.Sorted.{IsPermutation};
+ghost use Rattle.prov_base.specs.declared.place.Pos.{Pos as Place};
 ghost use Rattle.prov_base.specs.declared.refusal.Memory.{Memory as Want};
 ghost use Rattle.prov_outside.specs.declared.folder.Found.{Found as FoundThere};
 ghost use Rattle.prov_outside.specs.Count.{faults_after};
 ghost use Rattle.prov_outside.specs.Folder.{Gets};
 ghost use Rattle.prov_outside.specs.Tells.{Tells};
-ghost use Rattle.capture.specs.Answers.{given_at, is_kept, IsLast, Fits, AreInOrder};
+ghost use Rattle.capture.specs.Answers.{given_at, is_kept, IsLast, Fits, answer_at, AreInOrder, AreOnce};
 ghost use Rattle.capture.specs.Asking.{ForAsk, AsksTime, AsksWord, AsksLine, as_answer, as_fetch};
 ghost use Rattle.capture.specs.Capture.{is_known, is_among, with_path};
 ghost use Rattle.capture.specs.Files.{file_at, with_file, IsAscending};
@@ -175,7 +176,8 @@ impl Capture {
 
     /// The answers, in the order in which they were kept: after `put_in_order` that of their places and numbers.
     pub fn answers(&self) -> &[Asked]
-        ensures { result.now ≡ self.now.answers }
+        ensures answers { result.now ≡ self.now.answers }
+        ensures once { AreOnce result.now }
     {
         self.answers.as_slice()
     }
@@ -185,6 +187,7 @@ impl Capture {
     pub fn put_in_order(&mut self) -> Result<(), Memory>
         ensures ascending { OnOk result (AreInOrder self.new.answers) }
         ensures permuted { OnOk result (IsPermutation self.old.answers self.new.answers) }
+        ensures found { OnOk result ((at : Place) (k : ℕ) → answer_at self.new.answers at k ≡ answer_at self.old.answers at k) }
         ensures same { self.new ≡ record self.old { answers = self.new.answers } }
         ensures err { OnErr result (self.new ≡ self.old) }
     {

@@ -1,8 +1,10 @@
-use Rattle.std.proofs.Common.{sym, ap, subst}
+use Rattle.std.proofs.Common.{◌≡◌, ℕ, sym, ap, subst, ◌∙◌}
+use Rattle.prov_base.specs.declared.place.Pos.{Pos}
 use Rattle.std.specs.List.Sorted.{IsPermutation}
-use Rattle.capture.specs.Answers.{AreInOrder}
+use Rattle.std.proofs.lemmas.List.Sorted.{IsPermutation-sym}
+use Rattle.capture.specs.Answers.{AreInOrder, answer_at}
 use Rattle.capture.specs.AnswersView.{noted_last}
-use Rattle.capture.proofs.AnswerOrder.{in_order, last_reordered}
+use Rattle.capture.proofs.AnswerOrder.{in_order, last_reordered, found_reordered}
 use Rattle.capture.proofs.answers.Answers.sort.Goals as goal
 
 pub returns-clause-sorted : goal.returns-clause-sorted
@@ -10,3 +12,7 @@ returns-clause-sorted c = in_order c.sort_unstable.new.self.keys c.in_ok-sort_un
 
 pub invariant_of-self-2 : goal.invariant_of-self-2
 invariant_of-self-2 c = λ at. last_reordered c.self.inside.kept.keys c.sort_unstable.new.self.keys c.sort_unstable.ensures.reordered.0 at (noted_last c.self.inside.last.entries at) (c.self.invariant at)
+
+pub returns-clause-found : goal.returns-clause-found
+returns-clause-found c = λ at k. sym (found_reordered c.sort_unstable.new.self.keys c.self.inside.kept.keys (IsPermutation-sym c.self.inside.kept.keys c.sort_unstable.new.self.keys c.sort_unstable.ensures.reordered.0) c.sort_unstable.ensures.unique at k)
+    ∙ ap (λ v. answer_at v.kept at k) c.self.view_is
