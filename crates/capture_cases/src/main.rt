@@ -16,11 +16,12 @@ use session::Session;
 use std::process::ExitCode;
 
 /// Answers every line of the input.
-fn answer_all(rt: &HostRuntime, console: &mut RealConsole<'_>) -> Result<(), Trouble> {
+fn answer_all(
+    rt: &HostRuntime,
+    console: &mut RealConsole<'_>,
+    session: &mut Session,
+) -> Result<(), Trouble> {
     let alloc = rt.alloc();
-    let Ok(mut session) = Session::start(alloc, "") else {
-        return Err(Trouble::Memory);
-    };
     for _ in 0..u64::MAX {
         let Some(line) = console.read_line(alloc)? else {
             return Ok(());
@@ -34,7 +35,10 @@ fn answer_all(rt: &HostRuntime, console: &mut RealConsole<'_>) -> Result<(), Tro
 
 fn main(rt: HostRuntime) -> ExitCode {
     let mut console = RealConsole::new(&rt);
-    match answer_all(&rt, &mut console) {
+    let Ok(mut session) = Session::start(rt.alloc(), "") else {
+        return ExitCode::from(2);
+    };
+    match answer_all(&rt, &mut console, &mut session) {
         Ok(()) => ExitCode::from(0),
         Err(Trouble::Failed) => ExitCode::from(1),
         Err(Trouble::Memory) => ExitCode::from(2),

@@ -16,37 +16,38 @@ use std::alloc::{AllocError, Global};
 /// Devices in memory and a capture.
 #[derive(Drop)]
 pub struct Session {
-    capture: Capture,
-    devices: Devices,
+    capture: Box<Capture>,
+    console: Box<MemoryConsole>,
+    moments: Box<MemoryMoments>,
+    folder: Box<MemoryFolder>,
 }
 
-/// Devices in memory.
-#[derive(Drop)]
-struct Devices {
-    console: MemoryConsole,
-    moments: MemoryMoments,
-    folder: MemoryFolder,
+fn console_of(alloc: Global, input: &str, fails: &str) -> Result<Box<MemoryConsole>, AllocError> {
+    let input = lines(alloc, input)?;
+    let fails = numbers(alloc, fails)?;
+    Ok(Box::new(alloc, MemoryConsole::of(input, fails))?)
 }
 
-fn devices_of(alloc: Global, words: &str) -> Result<Devices, AllocError> {
-    let (input, rest) = halves(words, '|');
-    let (clock, rest) = halves(rest, '|');
-    let (random, rest) = halves(rest, '|');
-    let (found, rest) = halves(rest, '|');
-    let (console_fails, rest) = halves(rest, '|');
-    let (moments_fail, folder_fails) = halves(rest, '|');
-    let console = MemoryConsole::of(lines(alloc, input)?, numbers(alloc, console_fails)?);
-    let moments = MemoryMoments::of(
-        times(alloc, clock)?,
-        numbers(alloc, random)?,
-        numbers(alloc, moments_fail)?,
-    );
-    let folder = MemoryFolder::of(files(alloc, found)?, numbers(alloc, folder_fails)?);
-    Ok(Devices {
-        console,
-        moments,
-        folder,
-    })
+fn moments_of(
+    alloc: Global,
+    clock: &str,
+    random: &str,
+    fails: &str,
+) -> Result<Box<MemoryMoments>, AllocError> {
+    let clock = times(alloc, clock)?;
+    let random = numbers(alloc, random)?;
+    let fails = numbers(alloc, fails)?;
+    Ok(Box::new(alloc, MemoryMoments::of(clock, random, fails))?)
+}
+
+fn folder_of(alloc: Global, found: &str, fails: &str) -> Result<Box<MemoryFolder>, AllocError> {
+    let found = files(alloc, found)?;
+    let fails = numbers(alloc, fails)?;
+    Ok(Box::new(alloc, MemoryFolder::of(found, fails))?)
+}
+
+fn capture_of(alloc: Global) -> Result<Box<Capture>, Memory> {
+    Ok(Box::new(alloc, Capture::new(alloc)?)?)
 }
 
 fn ask_of(word: &str) -> Ask {
@@ -84,9 +85,18 @@ fn write_done(out: &mut Vec<u8>, done: Result<(), Memory>) -> Result<(), AllocEr
 impl Session {
     /// Devices and a new capture.
     pub fn start(alloc: Global, words: &str) -> Result<Session, Memory> {
-        let devices = devices_of(alloc, words)?;
-        let capture = Capture::new(alloc)?;
-        Ok(Session { capture, devices })
+        let (input, rest) = halves(words, '|');
+        let (clock, rest) = halves(rest, '|');
+        let (random, rest) = halves(rest, '|');
+        let (found, rest) = halves(rest, '|');
+        let (console_fails, rest) = halves(rest, '|');
+        let (moments_fail, folder_fails) = halves(rest, '|');
+        Ok(Session {
+            console: console_of(alloc, input, console_fails)?,
+            moments: moments_of(alloc, clock, random, moments_fail)?,
+            folder: folder_of(alloc, found, folder_fails)?,
+            capture: capture_of(alloc)?,
+        })
     }
 
     /// Answers a line: writes it and what its command answers. An empty one, one that is no text and one that begins with `#`
@@ -153,9 +163,9 @@ impl Session {
             "answers" => write_answers(alloc, out, self.capture.answers()),
             "files" => write_files(out, self.capture.files()),
             "changed" => write_names(out, self.capture.changed()),
-            "now" => write_time(alloc, out, self.devices.moments.now_ns()),
-            "random" => write_word(alloc, out, self.devices.moments.word()),
-            _ => match self.devices.console.read_line(alloc) {
+            "now" => write_time(alloc, out, self.moments.now_ns()),
+            "random" => write_word(alloc, out, self.moments.word()),
+            _ => match self.console.read_line(alloc) {
                 Ok(Some(line)) => out.extend_from_slice(line.as_slice()),
                 Ok(None) => out.extend_from_slice(b"none"),
                 Err(_) => out.extend_from_slice(b"failed"),
@@ -170,8 +180,10 @@ impl Session {
         at: Pos,
         out: &mut Vec<u8>,
     ) -> Result<(), AllocError> {
-        let devices = &mut self.devices;
-        match self.capture.ask_live(alloc, what, at, &mut devices.console, &mut devices.moments) {
+        match self
+            .capture
+            .ask_live(alloc, what, at, &mut *self.console, &mut *self.moments)
+        {
             Ok(given) => write_given(alloc, out, &given),
             Err(Memory) => out.extend_from_slice(b"memory"),
         }
@@ -193,9 +205,7 @@ impl Session {
     }
 
     fn touch(&mut self, alloc: Global, path: &str, out: &mut Vec<u8>) -> Result<(), AllocError> {
-        let done = self
-            .capture
-            .touch_live(alloc, path, &mut self.devices.folder);
+        let done = self.capture.touch_live(alloc, path, &mut *self.folder);
         write_done(out, done)
     }
 
@@ -261,13 +271,12 @@ impl Session {
 
     // Whether a word is found where it was kept.
     fn ask_again(&mut self, alloc: Global, at: Pos) -> bool {
-        let devices = &mut self.devices;
         let given = self.capture.ask_live(
             alloc,
             Ask::Word,
             at,
-            &mut devices.console,
-            &mut devices.moments,
+            &mut *self.console,
+            &mut *self.moments,
         );
         let last = self.capture.last_number(at);
         given.is_ok() && self.capture.ask_kept(Ask::Word, at, last).is_ok()
