@@ -1,5 +1,5 @@
 -- Answers that were sorted: each stands before the next one, and the same are kept.
-use Rattle.std.proofs.Common.{◌≡◌, ℕ, suc, zero, add-one, ◌+◌, ◌<◌, ◌≤◌, ◌&&◌, Bool, true, false, ◌⊎◌, inl, inr, List, [], ◌∷◌, slice_get, get_or, length, Option, Some, None, refl, sym, ap, subst, ⊎_elim, ◌∙◌, true≢false, arith, if◌then◌else◌}
+use Rattle.std.proofs.Common.{◌≡◌, ℕ, suc, zero, ◌+◌, ◌<◌, Bool, true, false, ◌⊎◌, inl, inr, List, [], ◌∷◌, slice_get, get_or, length, Option, Some, None, refl, sym, ap, subst, ⊎_elim, ◌∙◌, true≢false, arith, if◌then◌else◌}
 use Rattle.std.specs.List.{IsDistinct, Contains, find}
 use Rattle.std.specs.List.Sorted.{IsSorted, IsPermutation}
 use Rattle.std.specs.Ordering.{is_lt}
@@ -8,7 +8,7 @@ use Rattle.std.proofs.lemmas.Map.Keys.{apart_from_distinct}
 use Rattle.std.proofs.lemmas.Option.{slice_get_within, slice_get-get_or, get_or_from_slice_get}
 use Rattle.std.proofs.lemmas.Bool.Decides.{nat_tests}
 use Rattle.prov_base.specs.declared.place.Pos.{Pos}
-use Rattle.capture.proofs.Lasts.{same_place, place_itself}
+use Rattle.capture.proofs.Lasts.{same_place}
 use Rattle.prov_base.specs.contracts.place.PosPartialEq.TheImpl.{ghosts as places}
 use Rattle.capture.specs.contracts.answer.AskedOrd.TheImpl.{ghosts as orders}
 use Rattle.capture.specs.contracts.answer.AskedPartialEq.TheImpl.{ghosts as tests}

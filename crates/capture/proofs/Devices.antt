@@ -1,5 +1,5 @@
 -- What the devices tell where a call ends without asking them, or after a line that could not be kept.
-use Rattle.std.proofs.Common.{◌≡◌, ℕ, List, ◌∷◌, ◌⊎◌, inl, inr, Option, Some, None, Result, Ok, Err, refl}
+use Rattle.std.proofs.Common.{inr, Option, Some, None, Ok, Err}
 use Rattle.prov_base.specs.declared.refusal.Memory.{Memory as Want}
 use Rattle.prov_outside.specs.Console.{ConsoleView}
 use Rattle.prov_outside.specs.Moments.{MomentsView}

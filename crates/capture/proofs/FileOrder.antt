@@ -1,5 +1,5 @@
 -- Files in ascending order of their paths: what a search by halves finds, and what one more file leaves.
-use Rattle.std.proofs.Common.{◌≡◌, ℕ, suc, zero, add-one, ◌+◌, ◌<◌, ◌≤◌, Bool, true, false, List, [], ◌∷◌, ◌++◌, length, take, drop, slice_get, get_or, slice_index_or, Some, None, Option, refl, sym, ap, subst, ◌∙◌, ◌⊎◌, ⊎_elim, true≢false, arith, bytes_eq, if◌then◌else◌, IfOk, IfErr, Ok, Err, Result, rules}
+use Rattle.std.proofs.Common.{◌≡◌, ℕ, suc, zero, add-one, ◌<◌, ◌≤◌, Bool, true, false, List, [], ◌∷◌, length, slice_get, get_or, Some, None, refl, sym, ap, subst, ◌∙◌, ◌⊎◌, ⊎_elim, true≢false, arith, bytes_eq, if◌then◌else◌, IfOk, IfErr, Ok, Err, Result}
 use Rattle.std.specs.List.{insert}
 use Rattle.std.specs.List.Sorted.{IsSortedBy, IsNonDecreasingBy, IsSearchInRange, IsBinarySearchResult}
 use Rattle.std.specs.Ordering.{is_lt, nat_cmp, ordering_then, ordering_reverse, ordering_index}
@@ -7,7 +7,6 @@ use Rattle.std.specs.Cmp.Lexicographic.{slice_cmp, nat_list_cmp_total, bytes_dec
 use Rattle.std.specs.declared.cmp.Ordering.{Ordering}
 use Rattle.std.specs.declared.cmp.Ordering.TheVariants.{Less, Equal, Greater}
 use Rattle.std.proofs.lemmas.Bool.Decides.{nat_tests}
-use Rattle.std.proofs.lemmas.Cmp.{ranked}
 use Rattle.std.proofs.lemmas.List.Sorted.{searchable_from_sorted}
 use Rattle.std.proofs.lemmas.Option.{slice_get-get_or, slice_get_within, get_or_from_slice_get}
 use Rattle.prov_outside.specs.declared.folder.Found.{Found}

@@ -1,7 +1,6 @@
 -- The last number at each place, when one more answer is kept.
-use Rattle.std.proofs.Common.{◌≡◌, ℕ, ◌<◌, ◌≤◌, ◌||◌, ◌&&◌, ◌⊎◌, inl, inr, ⊎_elim, Bool, true, false, max, nat_eq, List, [], ◌∷◌, ◌++◌, IsOk, OnOk, IfOk, Result, Ok, Err, refl, sym, ap, subst, ◌∙◌, true≢false, arith, if◌then◌else◌, rules}
+use Rattle.std.proofs.Common.{◌≡◌, ℕ, ◌<◌, ◌||◌, ◌&&◌, ◌⊎◌, inl, inr, ⊎_elim, Bool, true, false, max, nat_eq, List, [], ◌∷◌, ◌++◌, IsOk, OnOk, IfOk, Result, Ok, Err, refl, sym, ap, subst, ◌∙◌, true≢false, arith, if◌then◌else◌}
 use Rattle.std.proofs.lemmas.Bool.Decides.{nat_tests}
-use Rattle.std.specs.List.{list_any}
 use Rattle.prov_base.specs.declared.place.Pos.{Pos}
 use Rattle.prov_base.specs.contracts.place.PosPartialEq.TheImpl.{ghosts as places}
 use Rattle.capture.specs.declared.answer.Asked.{Asked}

@@ -1,6 +1,6 @@
 -- The capture of a run (this project's profile): the answers that the devices gave, the files that were found, and the
 -- paths that were opened for writing.
-use Rattle.std.specs.Prelude.{◌≡◌, ℕ, Bool, ◌||◌, List, ◌∷◌, [], ◌++◌, bytes_eq, is_some, if◌then◌else◌}
+use Rattle.std.specs.Prelude.{ℕ, Bool, ◌||◌, List, ◌∷◌, [], ◌++◌, bytes_eq, is_some, if◌then◌else◌}
 use Rattle.std.specs.List.{list_any}
 use Rattle.prov_outside.specs.declared.folder.Found.{Found}
 use Rattle.capture.specs.declared.answer.Asked.{Asked}

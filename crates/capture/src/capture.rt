@@ -133,8 +133,7 @@ impl Capture {
         if self.knows(path) {
             return Ok(());
         }
-        let name = Name::of(String::from_str(alloc, path)?);
-        self.files.reserve()?;
+        let name = self.files.reserve(alloc, path)?;
         let found = fetch(alloc, path, folder)?;
         self.files.put(name, found);
         Ok(())
@@ -230,8 +229,7 @@ impl Capture {
         ensures same { self.new ≡ record self.old { files = self.new.files } }
         ensures err { OnErr result (self.new ≡ self.old) }
     {
-        let name = Name::of(String::from_str(alloc, path)?);
-        self.files.reserve()?;
+        let name = self.files.reserve(alloc, path)?;
         let found = copy_of_found(alloc, found)?;
         self.files.put(name, found);
         Ok(())

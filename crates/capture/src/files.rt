@@ -59,13 +59,15 @@ impl Files {
         }
     }
 
-    /// Makes room for one more file.
-    pub(crate) fn reserve(&mut self) -> Result<(), Memory>
+    /// Makes room for one more file, and its name.
+    pub(crate) fn reserve(&mut self, alloc: Global, path: &str) -> Result<Name, Memory>
+        ensures name { IfOk result (λ name. name ≡ path.now) }
         ensures kept { self.new.kept ≡ self.old.kept }
         ensures room { OnOk result (0 < self.new.room) }
     {
+        let name = String::from_str(alloc, path)?;
         self.kept.reserve(1)?;
-        Ok(())
+        Ok(Name::of(name))
     }
 
     /// Keeps what was found at a new path, for which there is room.

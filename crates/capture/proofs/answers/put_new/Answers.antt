@@ -1,4 +1,4 @@
-use Rattle.std.proofs.Common.{◌≡◌, ◌∷◌, ◌++◌, [], ap, ◌∙◌, if◌then◌else◌}
+use Rattle.std.proofs.Common.{◌∷◌, ◌++◌, [], ap, ◌∙◌, if◌then◌else◌}
 use Rattle.capture.proofs.Lasts.{if_ok}
 use Rattle.capture.proofs.answers.put_new.Goals as goal
 

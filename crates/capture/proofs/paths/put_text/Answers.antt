@@ -1,4 +1,3 @@
-use Rattle.std.proofs.Common.{ap, ◌∙◌}
 use Rattle.std.specs.String.{string_bytes}
 use Rattle.capture.proofs.PathSets.{put_behind}
 use Rattle.capture.proofs.paths.put_text.Goals as goal

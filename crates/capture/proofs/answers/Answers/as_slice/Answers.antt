@@ -1,4 +1,4 @@
-use Rattle.std.proofs.Common.{sym, ap, subst, ◌∙◌}
+use Rattle.std.proofs.Common.{sym, subst}
 use Rattle.capture.specs.Answers.{AreOnce}
 use Rattle.capture.proofs.AnswerOrder.{once}
 use Rattle.capture.proofs.answers.Answers.as_slice.Goals as goal

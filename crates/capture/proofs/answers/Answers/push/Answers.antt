@@ -1,4 +1,4 @@
-use Rattle.std.proofs.Common.{◌≡◌, ◌∷◌, ◌++◌, [], sym, subst, ap, ◌∙◌}
+use Rattle.std.proofs.Common.{sym, subst}
 use Rattle.capture.specs.Answers.{IsLast}
 use Rattle.capture.specs.AnswersView.{noted_last}
 use Rattle.capture.proofs.Lasts.{last_more}

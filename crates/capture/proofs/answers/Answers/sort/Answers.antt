@@ -1,8 +1,6 @@
-use Rattle.std.proofs.Common.{◌≡◌, ℕ, sym, ap, subst, ◌∙◌}
-use Rattle.prov_base.specs.declared.place.Pos.{Pos}
-use Rattle.std.specs.List.Sorted.{IsPermutation}
+use Rattle.std.proofs.Common.{sym, ap, ◌∙◌}
 use Rattle.std.proofs.lemmas.List.Sorted.{IsPermutation-sym}
-use Rattle.capture.specs.Answers.{AreInOrder, answer_at}
+use Rattle.capture.specs.Answers.{answer_at}
 use Rattle.capture.specs.AnswersView.{noted_last}
 use Rattle.capture.proofs.AnswerOrder.{in_order, last_reordered, found_reordered}
 use Rattle.capture.proofs.answers.Answers.sort.Goals as goal

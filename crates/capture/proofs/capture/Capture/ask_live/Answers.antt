@@ -1,7 +1,4 @@
-use Rattle.std.proofs.Common.{Err, sym, subst}
 use Rattle.std.proofs.lemmas.Result.{err_from_is_err_and}
-use Rattle.prov_outside.specs.Tells.{Tells}
-use Rattle.capture.specs.Asking.{ForAsk, AsksTime, AsksWord, AsksLine}
 use Rattle.capture.proofs.Devices.{line_lost}
 use Rattle.capture.proofs.capture.Capture.ask_live.Goals as goal
 

@@ -1,6 +1,5 @@
-use Rattle.std.proofs.Common.{◌≡◌, Some, None, sym, ap, subst, ◌∙◌}
+use Rattle.std.proofs.Common.{◌≡◌, Some, sym, ap, subst, ◌∙◌}
 use Rattle.std.specs.List.{slice_get}
-use Rattle.prov_outside.specs.declared.folder.Found.{Found}
 use Rattle.capture.specs.Files.{file_at, with_file, IsAscending}
 use Rattle.capture.specs.FilesView.{IsGapFor}
 use Rattle.capture.proofs.FileOrder.{found_at, with_insert, ascending_with, not_none}
