@@ -24,6 +24,7 @@ pub mod Histories
 pub mod Levels
 pub mod Askings
 pub mod Budgets
+pub mod Payments
 pub mod RenamedEffects
 pub mod WorkedArithmetic
 pub mod WorkedClasses

@@ -5,6 +5,7 @@ pub mod Arithmetic
 pub mod Capture
 pub mod Classes
 pub mod Dicts
+pub mod Doing
 pub mod Effect
 pub mod Expressions
 pub mod Faults
@@ -34,4 +35,5 @@ pub mod Statements
 pub mod Store
 pub mod TextMethods
 pub mod Texts
+pub mod Told
 pub mod Walks

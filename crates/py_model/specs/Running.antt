@@ -1,5 +1,5 @@
 -- How a tree of actions runs on a state (this project's profile): budget, store, captured answers, askings and moments.
-use Rattle.std.specs.Prelude.{ℕ, suc, ◌-◌, nat_le, Bool, true, false, List, [], ◌∷◌, length, Option, None, if◌then◌else◌}
+use Rattle.std.specs.Prelude.{◌≡◌, ◌≤◌, ℕ, suc, ◌-◌, nat_le, Bool, true, false, List, [], ◌∷◌, length, Option, None, if◌then◌else◌}
 use Rattle.prov_base.specs.declared.place.Pos.{Pos}
 use Rattle.prov_base.specs.contracts.place.PosPartialEq.TheImpl.{ghosts as places}
 use Rattle.py_value.specs.Contents.{Contents}
@@ -101,6 +101,11 @@ happened at op values e (answered answer) s =
     if nat_le (cost e) s.left then did answer (walked s.store (accesses_in e.touches)) (performed at op values answer e s) else too_dear s
 happened at op values e unanswered s = lacked s
 happened at op values e unpaid s = too_dear s
+
+-- an operation with this answer is paid for with so many steps
+pub record IsPaid (e : Effect) (o : Outcome) (answer : Answer) (left : ℕ) : Type 0 where
+  pub answers : o ≡ answered answer
+  pub pays : cost e ≤ left
 
 -- Where no step is left, what costs something does not happen and nothing is asked. Else an operation takes its answers first, and
 -- where one is lacking the run ends there. What costs more than is left does not happen either.

@@ -5,13 +5,13 @@ ghost use Rattle.py_model.specs.Effect.{Answers, Effect, effect, answered, acces
 ghost use Rattle.py_model.specs.Agreement.{Alike, Agrees};
 ghost use Rattle.py_model.specs.AlikeOperations.{renamed_op};
 ghost use Rattle.py_model.specs.Operations.{Op, plan};
-ghost use Rattle.py_model.specs.Plan.{Plan, raised};
+ghost use Rattle.py_model.specs.Plan.{Plan, Answer, raised};
 ghost use Rattle.py_model.specs.Renaming.{Renaming, renamed_list, renamed_effect};
 ghost use Rattle.py_model.specs.Store.{RunStore};
 ghost use Rattle.std.specs.Prelude.{◌<◌};
 ghost use Rattle.prov_base.specs.declared.place.Span.{Span};
 ghost use Rattle.py_tree.specs.Tree.{ScriptTree};
-ghost use Rattle.py_model.specs.Act.{Act};
+ghost use Rattle.py_model.specs.Act.{Act, Walked};
 ghost use Rattle.py_model.specs.Capture.{Capture};
 ghost use Rattle.py_model.specs.Expressions.{Task};
 ghost use Rattle.py_model.specs.Going.{Open};
@@ -19,7 +19,8 @@ ghost use Rattle.py_model.specs.Moment.{Moment};
 ghost use Rattle.py_model.specs.Occurrences.{frames_after, open_of};
 ghost use Rattle.py_model.specs.History.{open_after, IsAgreed, IsKept, KeptUnlessLacking, Nests, GoesOn, richer};
 ghost use Rattle.py_model.specs.Meaning.{level, meaning, starting, run};
-ghost use Rattle.py_model.specs.Running.{State, outcome, state_in};
+ghost use Rattle.py_model.specs.Running.{State, outcome, state_in, operation, effect_of, did, IsPaid};
+ghost use Rattle.prov_base.specs.declared.place.Pos.{Pos};
 ghost use Rattle.py_model.specs.Spans.{moved};
 ghost use Rattle.py_model.specs.Statements.{task};
 
@@ -74,6 +75,14 @@ pub fn meaning_unfolds()
 pub fn states_agree_with_moments()
     ensures { (capture : Capture) (opening : RunStore) (budget : ℕ) (a : Act) (s : State) → IsAgreed opening budget s
         → IsAgreed opening budget (state_in (outcome capture a s)) }
+{}
+
+/// The law of payment: an operation happens only where it answers, and where its cost is left. So one for which no budget pays never
+/// happens.
+pub fn operations_are_paid()
+    ensures { (capture : Capture) (at : Pos) (op : Op) (values : List Contents) (s : State) (answer : Answer) (came : Walked) (t : State)
+        → operation capture at op values s ≡ did answer came t
+        → IsPaid (effect_of capture at op values s) (effect_of capture at op values s).outcome answer s.left }
 {}
 
 /// The law of brackets: the moments of a run nest, and a run that reaches its end, or is left by an exception, leaves nothing open.

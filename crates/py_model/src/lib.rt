@@ -8,11 +8,17 @@
 //! has to correspond in two stores, `specs/Renaming.antt` under which renaming.
 #![tactic(auto)]
 
+mod doer;
 mod laws;
+mod moment;
+mod watch;
 
+pub use doer::{Deed, Doer, Done, Entered};
 pub use laws::{
     alike_plans_agree, asked_is_captured, corresponding_operands_have_alike_plans,
     frames_follow_brackets, larger_budget_extends, map_changes_by_accesses, meaning_unfolds,
-    moments_nest, operations_agree, raised_writes_its_exception_alone,
+    moments_nest, operations_agree, operations_are_paid, raised_writes_its_exception_alone,
     renamed_effects_weigh_the_same, spans_change_nothing, states_agree_with_moments,
 };
+pub use moment::{Answer, Args, How, Moment, Op};
+pub use watch::{NoWatch, Watch};
