@@ -1,11 +1,12 @@
 #!/usr/bin/env python3
 """Writes runs of scripts as theorems that hold by computation: crates/py_vectors/proofs.
 
-    python3 tools/run_vectors.py VECTORS crates/py_vectors/proofs
+    python3 tools/run_vectors.py VECTORS tools/own_runs.json crates/py_vectors/proofs
 
 VECTORS is a file of scripts with what is expected of them, worked out apart from this program: a list `scripts`, each with `name`,
 `script`, `path`, `arguments`, `budget`, `files`, `clock`, `words`, `lines`, and `closing`, `output`, `steps`, `finals` and `pages1`,
-the rows of its moments, and `evaluations`, some of them with the steps up to and with each (`value_steps`). The syntax trees are those of Python's own `ast`. It wants Python 3.11.
+the rows of its moments, and `evaluations`, some of them with the steps up to and with each (`value_steps`).
+In `own_runs.json` the moments are not all written down, but which statements ended how (`endings`). The syntax trees are those of Python's own `ast`. It wants Python 3.11.
 """
 import ast, io, json, sys, tokenize
 
@@ -403,7 +404,7 @@ use Rattle.py_model.specs.Capture.{Capture}
 use Rattle.py_model.specs.Meaning.{Run, run, level, finished, uncaught, out_of_steps}
 use Rattle.py_model.specs.Moment.{Moment, begins, does, enters, leaves, ends, normal_end, break_end, continue_end, return_end, raise_end}
 use Rattle.py_model.specs.Plan.{value, raised, at_end, time, word, line, number, random_word, a_line, no_line, failed, found_bytes, absent, too_large, found_failed}
-use Rattle.py_vectors.specs.Words.{place, no_span, summary, steps_to}
+use Rattle.py_vectors.specs.Words.{place, no_span, summary, steps_to, endings}
 '''
 
 
@@ -441,7 +442,7 @@ def captured(v):
 
 def theorem(v, name, with_moments):
     tree = Tree(v['script'])
-    rows = Rows(v['pages1'])
+    rows = Rows(v.get('pages1', []))
     answers, files = captured(v)
     capture = 'record { answers = %s; files = %s }' % (
         row(['record { at = %s; k = %d; what = %s; given = %s }' % a for a in answers]), row(['(%s, %s)' % f for f in files]))
@@ -449,8 +450,8 @@ def theorem(v, name, with_moments):
     if 'out of steps' in closing:
         end = 'out_of_steps'
     elif 'uncaught' in closing:
-        raised = [m for m in rows.moments if '(raised ' in m][-1]
-        end = 'uncaught %d %d' % (int(raised.split('(raised ')[1].split(')')[0]), int(closing.split(' at line ')[1].split(':')[0]))
+        raised = v.get('raised') or int([m for m in rows.moments if '(raised ' in m][-1].split('(raised ')[1].split(')')[0])
+        end = 'uncaught %d %d' % (raised, int(closing.split(' at line ')[1].split(':')[0]))
     else:
         end = 'finished'
     finals = v['finals'].items() if isinstance(v['finals'], dict) else v['finals']
@@ -460,6 +461,9 @@ def theorem(v, name, with_moments):
     out += ['%s : summary %s_run ≡ record { end = %s; steps = %d; output = %s; finals = %s }' % (
         name, name, end, v['steps'], codes(bytes.fromhex(v['output'])), row(['(%s, %s)' % (codes(p), codes(bytes.fromhex(f))) for p, f in finals])),
         'unfolding is_utf8 chars encode_utf8 level', '%s = refl' % name, '']
+    if 'endings' in v:
+        out += ['%s_endings : endings %s_run.moments ≡ %s' % (name, name, row(['(%d, %s_end)' % (n, how) for n, how in v['endings']])),
+                'unfolding is_utf8 chars encode_utf8 level', '%s_endings = refl' % name, '']
     if with_moments:
         out += ['%s_moments : %s_run.moments ≡' % (name, name), '      ' + '\n    ∷ '.join(rows.moments) + '\n    ∷ []' if rows.moments else '    []',
                 'unfolding is_utf8 chars encode_utf8 level', '%s_moments = refl' % name, '']
@@ -470,13 +474,13 @@ def theorem(v, name, with_moments):
 
 
 def main():
-    vectors, folder = sys.argv[1:3]
-    scripts = json.load(open(vectors))['scripts']
+    *files, folder = sys.argv[1:]
+    scripts = [v for f in files for v in json.load(open(f))['scripts']]
     for v in scripts:
         try:
             name = v['name'].replace(' ', '_').replace('-', '_')
             short = 'r_' + name
-            body = theorem(v, short, True)
+            body = theorem(v, short, 'pages1' in v)
         except AssertionError as e:
             print('left out, not in this language:', v['name'], e, file=sys.stderr)
             continue

@@ -10,6 +10,7 @@ mod FilesAtLengthRun
 mod FilesRun
 mod IntegersRun
 mod JumpRun
+mod ListThatGrowsRun
 mod ListsRun
 mod LongLineRun
 mod NameRun
@@ -19,8 +20,10 @@ mod OrderRun
 mod RaisingCallRun
 mod RandomRun
 mod RepeatRun
+mod ReturnInALoopRun
 mod SalesRun
 mod SharingRun
 mod TryRun
 mod TuplesAndUnpackingRun
 mod UnboundByExceptRun
+mod WithThatRaisesRun

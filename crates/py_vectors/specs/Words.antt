@@ -1,10 +1,11 @@
 -- Short words of the runs that are written down here.
-use Rattle.std.specs.Prelude.{ℕ, List, reverse, Option}
+use Rattle.std.specs.Prelude.{ℕ, List, [], ◌∷◌, reverse, Option}
 use Rattle.std.specs.Option.{option_map}
 use Rattle.prov_base.specs.declared.place.Pos.{Pos}
 use Rattle.prov_base.specs.declared.place.Span.{Span}
 use Rattle.py_model.specs.History.{spent_on}
 use Rattle.py_model.specs.Meaning.{Run, RunEnd}
+use Rattle.py_model.specs.Moment.{Moment, Ending, ends}
 use Rattle.py_model.specs.Occurrences.{up_to_evaluation}
 
 abbrev pub place : ℕ → ℕ → Pos
@@ -27,3 +28,9 @@ summary r = record { end = r.end; steps = r.steps; output = r.output; finals = r
 -- the steps up to the k-th evaluation at a place, and with it
 abbrev pub steps_to : Run → Pos → ℕ → Option ℕ
 steps_to r at k = option_map spent_on (up_to_evaluation at k (reverse r.moments))
+
+-- which statements ended how, in order
+abbrev pub endings : List Moment → List (ℕ × Ending)
+endings [] = []
+endings (ends number ended ∷ moments) = (number, ended) ∷ endings moments
+endings (other ∷ moments) = endings moments
