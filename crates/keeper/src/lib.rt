@@ -1,0 +1,13 @@
+//! The store of trials as a trait, with the tables in memory.
+#![tactic(auto)]
+
+mod batch;
+mod entries;
+mod fault;
+mod keeper;
+mod records;
+
+pub use batch::Batch;
+pub use fault::KeepFault;
+pub use keeper::Keeper;
+pub use records::{Head, Page, Tables};
