@@ -4,6 +4,7 @@
 mod batch;
 mod entries;
 mod fault;
+mod held;
 mod keeper;
 mod records;
 

@@ -13,6 +13,7 @@ mod memory_moments;
 mod moments;
 mod trouble;
 
+pub use calls::Calls;
 pub use console::Console;
 pub use folder::{Folder, Found};
 pub use memory_console::MemoryConsole;

@@ -1,0 +1,3 @@
+pub mod LastEntries
+pub mod HeadLists
+pub mod HeldLaws
