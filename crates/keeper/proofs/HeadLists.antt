@@ -27,8 +27,8 @@ heads_over-next heads (entry ∷ later) next =
     ∙ heads_over-next (heads ++ entry.1 ∷ []) later (next_behind heads entry later next.1)
     ∙ append_assoc heads (entry.1 ∷ []) (heads_of later)
   where
-  next_behind : (hs : List Head) (e : ℕ × Head) (es : List (ℕ × Head)) → AreNext (length hs + 1) es → AreNext (length (hs ++ e.1 ∷ [])) es
-  next_behind hs e es are = let count : length (hs ++ e.1 ∷ []) ≡ length hs + 1 = length_push hs e.1 in rw count are
+    next_behind : (hs : List Head) (e : ℕ × Head) (es : List (ℕ × Head)) → AreNext (length hs + 1) es → AreNext (length (hs ++ e.1 ∷ [])) es
+    next_behind hs e es are = let count : length (hs ++ e.1 ∷ []) ≡ length hs + 1 = length_push hs e.1 in rw count are
 
 -- so many heads are seen
 pub length-heads_over : (heads : List Head) (entries : List (ℕ × Head)) → AreNext (length heads) entries → length (heads_over heads entries) ≡ length heads + length entries
@@ -61,9 +61,9 @@ last_head-cons entry later trial =
     last_of-append (λ (e : ℕ × Head). e.1) (λ e. e.0 == trial) (entry ∷ []) later
     ∙ ap (option_or (last_head later trial)) (one (entry.0 == trial))
   where
-  one : (t : Bool) → option_map (λ (e : ℕ × Head). e.1) (cond t (Some entry) None) ≡ cond t (Some entry.1) None
-  one true = refl
-  one false = refl
+    one : (t : Bool) → option_map (λ (e : ℕ × Head). e.1) (cond t (Some entry) None) ≡ cond t (Some entry.1) None
+    one true = refl
+    one false = refl
 
 -- A trial's head is the last one that the batch wrote with its number, or else the one that was there.
 pub head_at-over : (heads : List Head) (entries : List (ℕ × Head)) (trial : ℕ) → AreNext (length heads) entries → head_at (heads ++ heads_of entries) trial ≡ option_or (last_head entries trial) (head_at heads trial)
@@ -75,5 +75,5 @@ head_at-over heads (entry ∷ later) trial next =
     ∙ sym (option_or_assoc (last_head later trial) (cond (entry.0 == trial) (Some entry.1) None) (head_at heads trial))
     ∙ ap (λ o. option_or o (head_at heads trial)) (sym (last_head-cons entry later trial))
   where
-  next_behind : (hs : List Head) (e : ℕ × Head) (es : List (ℕ × Head)) → AreNext (length hs + 1) es → AreNext (length (hs ++ e.1 ∷ [])) es
-  next_behind hs e es are = let count : length (hs ++ e.1 ∷ []) ≡ length hs + 1 = length_push hs e.1 in rw count are
+    next_behind : (hs : List Head) (e : ℕ × Head) (es : List (ℕ × Head)) → AreNext (length hs + 1) es → AreNext (length (hs ++ e.1 ∷ [])) es
+    next_behind hs e es are = let count : length (hs ++ e.1 ∷ []) ≡ length hs + 1 = length_push hs e.1 in rw count are

@@ -21,16 +21,17 @@ use Rattle.keeper.proofs.HeadLists.{heads_of, heads_over-next, length-heads_over
 page_found : (count : ℕ) (pages : List (ℕ × ℕ × Page)) (trial number : ℕ) → IsTrue (are_pages_of count pages) → IsSome (last_page pages trial number) → (1 ≤ trial) × (trial ≤ count)
 page_found count pages trial number are there = by_value (last_page pages trial number) refl there
   where
-  bounds : (e : ℕ × ℕ × Page) → IsTrue (e.0 == trial && e.1 == number) × IsTrue (nat_le 1 e.0 && nat_le e.0 count) → (1 ≤ trial) × (trial ≤ count)
-  bounds e is =
-      let same = (and_parts (e.0 == trial) (e.1 == number) is.0).0 in
-      let within = and_parts (nat_le 1 e.0) (nat_le e.0 count) is.1 in
-      (grind (arith, nat_tests), grind (arith, nat_tests))
-  by_value : (o : Option Page) → last_page pages trial number ≡ o → IsSome o → (1 ≤ trial) × (trial ≤ count)
-  by_value None is some = absurd (true≢false (sym some))
-  by_value (Some page) is some =
-      let found = last_of-all (λ (e : ℕ × ℕ × Page). e.2) (λ e. e.0 == trial && e.1 == number) (λ e. nat_le 1 e.0 && nat_le e.0 count) pages page are is in
-      bounds found.0 found.1
+    bounds : (e : ℕ × ℕ × Page) → IsTrue (e.0 == trial && e.1 == number) × IsTrue (nat_le 1 e.0 && nat_le e.0 count) → (1 ≤ trial) × (trial ≤ count)
+    bounds e is =
+        let same = (and_parts (e.0 == trial) (e.1 == number) is.0).0 in
+        let within = and_parts (nat_le 1 e.0) (nat_le e.0 count) is.1 in
+        (grind (arith, nat_tests), grind (arith, nat_tests))
+
+    by_value : (o : Option Page) → last_page pages trial number ≡ o → IsSome o → (1 ≤ trial) × (trial ≤ count)
+    by_value None is some = absurd (true≢false (sym some))
+    by_value (Some page) is some =
+        let found = last_of-all (λ (e : ℕ × ℕ × Page). e.2) (λ e. e.0 == trial && e.1 == number) (λ e. nat_le 1 e.0 && nat_le e.0 count) pages page are is in
+        bounds found.0 found.1
 
 -- more trials have the same pages
 are_pages_of-more : (few many : ℕ) (pages : List (ℕ × ℕ × Page)) → few ≤ many → IsTrue (are_pages_of few pages) → IsTrue (are_pages_of many pages)
@@ -66,15 +67,16 @@ trials_seen tables batch o held =
 page_seen : (tables : ListedTables) (batch : BatchView) (o : Bool) (trial number : ℕ) → IsHeld tables batch o → IsSome ((over batch (maps_of tables)).pages trial number) → (1 ≤ trial) × (trial ≤ batch.committed + batch.added)
 page_seen tables batch o trial number held there = by_value (last_page batch.pages trial number) refl there
   where
-  below : IsSome (if list_any (λ d. d == trial) batch.dropped then None else last_page tables.pages trial number) → (1 ≤ trial) × (trial ≤ batch.committed + batch.added)
-  below is =
-      let kept : IsSome (last_page tables.pages trial number) = subst (λ dropped. IsSome (if list_any (λ d. d == trial) dropped then None else last_page tables.pages trial number)) held.dropped is in
-      let found = page_found (length tables.heads) tables.pages trial number held.pages kept in
-      let count : batch.committed ≡ length tables.heads = held.committed in
-      (found.0, omega arith)
-  by_value : (p : Option Page) → last_page batch.pages trial number ≡ p → IsSome (option_or p (if list_any (λ d. d == trial) batch.dropped then None else last_page tables.pages trial number)) → (1 ≤ trial) × (trial ≤ batch.committed + batch.added)
-  by_value None is some = below some
-  by_value (Some page) is some = page_found (batch.committed + batch.added) batch.pages trial number held.new_pages (rw is refl)
+    below : IsSome (if list_any (λ d. d == trial) batch.dropped then None else last_page tables.pages trial number) → (1 ≤ trial) × (trial ≤ batch.committed + batch.added)
+    below is =
+        let kept : IsSome (last_page tables.pages trial number) = subst (λ dropped. IsSome (if list_any (λ d. d == trial) dropped then None else last_page tables.pages trial number)) held.dropped is in
+        let found = page_found (length tables.heads) tables.pages trial number held.pages kept in
+        let count : batch.committed ≡ length tables.heads = held.committed in
+        (found.0, omega arith)
+
+    by_value : (p : Option Page) → last_page batch.pages trial number ≡ p → IsSome (option_or p (if list_any (λ d. d == trial) batch.dropped then None else last_page tables.pages trial number)) → (1 ≤ trial) × (trial ≤ batch.committed + batch.added)
+    by_value None is some = below some
+    by_value (Some page) is some = page_found (batch.committed + batch.added) batch.pages trial number held.new_pages (rw is refl)
 
 -- So what it tells is as the tables of a keeper are.
 pub kept_of : (held : HeldView) → IsHeld held.tables held.batch held.is_open → AreKept held.is_open (told_of held)
@@ -83,9 +85,9 @@ kept_of held is = record {
   seen = record {
     few = let count = trials_seen held.tables held.batch held.is_open is in rw count is.room;
     pages_of_trials = λ trial number there.
-      let count = trials_seen held.tables held.batch held.is_open is in
-      let found = page_seen held.tables held.batch held.is_open trial number is there in
-      (found.0, rw count found.1);
+        let count = trials_seen held.tables held.batch held.is_open is in
+        let found = page_seen held.tables held.batch held.is_open trial number is there in
+        (found.0, rw count found.1);
   };
   closed = λ shut. ap (λ (batch : BatchView). over batch (maps_of held.tables)) (is.closed shut);
 }
@@ -130,9 +132,9 @@ held_page tables batch o trial number page held open_batch there = record {
   added = held.added;
   room = held.room;
   new_pages =
-    let count = trials_seen tables batch o held in
-    let within : trial ≤ batch.committed + batch.added = subst (λ n. trial ≤ n) count there.1 in
-    pages_push (batch.committed + batch.added) batch.pages trial number page held.new_pages there.0 within;
+      let count = trials_seen tables batch o held in
+      let within : trial ≤ batch.committed + batch.added = subst (λ n. trial ≤ n) count there.1 in
+      pages_push (batch.committed + batch.added) batch.pages trial number page held.new_pages there.0 within;
   dropped = held.dropped;
   closed = λ shut. absurd (true≢false (sym open_batch ∙ shut));
 }
@@ -144,15 +146,15 @@ joined_seen tables batch o held =
     same_tables _ _ _ _ _ _ _ _
     (sym (heads_over-next tables.heads batch.heads (next_over tables batch o held)))
     (fun_ext (λ trial. fun_ext (λ number.
-      last_of-append (λ (e : ℕ × ℕ × Page). e.2) (λ e. e.0 == trial && e.1 == number) tables.pages batch.pages
-      ∙ ap (λ dropped. option_or (last_page batch.pages trial number) (if list_any (λ d. d == trial) dropped then None else last_page tables.pages trial number)) (sym held.dropped))))
+    last_of-append (λ (e : ℕ × ℕ × Page). e.2) (λ e. e.0 == trial && e.1 == number) tables.pages batch.pages
+    ∙ ap (λ dropped. option_or (last_page batch.pages trial number) (if list_any (λ d. d == trial) dropped then None else last_page tables.pages trial number)) (sym held.dropped))))
     (fun_ext (λ digest. last_of-append (λ (e : Digest × List ℕ). e.1) (λ e. bytes_eq e.0.bytes digest.bytes) tables.contents batch.contents))
     (fun_ext (λ path. last_of-append (λ (e : List ℕ × ℕ). e.1) (λ e. bytes_eq e.0 path) tables.current batch.current))
 
 pub held_joined : (tables : ListedTables) (batch : BatchView) (o : Bool) → IsHeld tables batch o → IsHeld (joined batch tables) (empty_batch (length (joined batch tables).heads)) false
 held_joined tables batch o held =
     let count : length (tables.heads ++ heads_of batch.heads) ≡ batch.committed + batch.added =
-      length-append tables.heads (heads_of batch.heads) ∙ ap (λ n. length tables.heads + n) (length-map batch.heads (λ e. e.1)) ∙ rw (← held.committed, ← held.added) refl in
+    length-append tables.heads (heads_of batch.heads) ∙ ap (λ n. length tables.heads + n) (length-map batch.heads (λ e. e.1)) ∙ rw (← held.committed, ← held.added) refl in
     record {
       few = rw count held.room;
       pages = rw count (pages_append (batch.committed + batch.added) tables.pages batch.pages (are_pages_of-more (length tables.heads) (batch.committed + batch.added) tables.pages (let c : batch.committed ≡ length tables.heads = held.committed in omega arith) held.pages) held.new_pages);

@@ -1,12 +1,15 @@
 -- What a keeper in memory holds, and the tables that this stands for (this project's profile).
-use Rattle.std.specs.Prelude.{◌≡◌, ℕ, ◌+◌, ◌≤◌, Bool, false, IsTrue, ◌&&◌, nat_le, List, [], ◌∷◌, ◌++◌, map, length}
+use Rattle.std.specs.Prelude.{◌≡◌, ℕ, ◌+◌, ◌≤◌, Bool, false, IsTrue, ◌&&◌, nat_le, List, [], ◌∷◌, ◌++◌, map, length, Result, if◌then◌else◌}
 use Rattle.std.specs.List.{list_all}
 use Rattle.prov_base.specs.declared.place.Digest.{Digest}
-use Rattle.prov_outside.specs.Numbering.{Numbering}
+use Rattle.prov_outside.specs.Count.{one_more}
+use Rattle.prov_outside.specs.Numbering.{Numbering, after_call}
+use Rattle.keeper.specs.declared.fault.KeepFault.{KeepFault}
 use Rattle.keeper.specs.declared.records.Head.{Head}
 use Rattle.keeper.specs.declared.records.Page.{Page}
 use Rattle.keeper.specs.declared.records.Tables.{Tables}
 use Rattle.keeper.specs.Batch.{BatchView, empty_batch, last_page, last_content, last_current, over}
+use Rattle.keeper.specs.Fault.{has_failed}
 use Rattle.keeper.specs.Keeping.{KeeperView}
 use Rattle.keeper.specs.Tables.{TablesView, most_trials}
 
@@ -72,3 +75,7 @@ pub record MemoryKeeperView : Type 0 where
   pub held : HeldView
   pub calls : Numbering
   pub faults : ℕ
+
+-- the keeper after a call that does nothing but fail or not
+abbrev pub after_answer : {T : Type 0} → Result T KeepFault → MemoryKeeperView → MemoryKeeperView
+after_answer result keeper = record keeper { calls = after_call keeper.calls; faults = if has_failed result then one_more keeper.faults else keeper.faults }

@@ -37,15 +37,15 @@ with_trial head tables = record tables { heads = tables.heads ++ head ∷ [] }
 
 abbrev pub with_page : ℕ → ℕ → Page → TablesView → TablesView
 with_page trial number page tables = record tables {
-  pages = λ t n. if trial == t && number == n then Some page else tables.pages t n
+  pages = λ t n. if trial == t && number == n then Some page else tables.pages t n;
 }
 
 abbrev pub with_content : Digest → List ℕ → TablesView → TablesView
 with_content digest bytes tables = record tables {
-  contents = λ d. if bytes_eq digest.bytes d.bytes then Some bytes else tables.contents d
+  contents = λ d. if bytes_eq digest.bytes d.bytes then Some bytes else tables.contents d;
 }
 
 abbrev pub with_current : List ℕ → ℕ → TablesView → TablesView
 with_current path trial tables = record tables {
-  current = λ p. if bytes_eq path p then Some trial else tables.current p
+  current = λ p. if bytes_eq path p then Some trial else tables.current p;
 }

@@ -78,7 +78,13 @@ impl Batch {
     }
 
     /// Adds a page. After an `Err` the batch is as before.
-    pub fn add_page(&mut self, alloc: Global, trial: u32, number: u32, page: &Page) -> Result<(), Memory>
+    pub fn add_page(
+        &mut self,
+        alloc: Global,
+        trial: u32,
+        number: u32,
+        page: &Page,
+    ) -> Result<(), Memory>
         ensures added { OnOk result (self.new ≡ record self.old { pages = self.old.pages ++ (trial, number, page.now) ∷ [] }) }
         ensures err { OnErr result (self.new ≡ self.old) }
     {
@@ -88,7 +94,12 @@ impl Batch {
     }
 
     /// Adds a content. After an `Err` the batch is as before.
-    pub fn add_content(&mut self, alloc: Global, digest: &Digest, bytes: &[u8]) -> Result<(), Memory>
+    pub fn add_content(
+        &mut self,
+        alloc: Global,
+        digest: &Digest,
+        bytes: &[u8],
+    ) -> Result<(), Memory>
         ensures added { OnOk result (self.new ≡ record self.old { contents = self.old.contents ++ (digest.now, bytes.now) ∷ [] }) }
         ensures err { OnErr result (self.new ≡ self.old) }
     {

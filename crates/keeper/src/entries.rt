@@ -2,6 +2,7 @@
 ghost use Rattle.std.specs.Prelude.{◌≡◌};
 ghost use Rattle.std.specs.Option.{option_copied};
 ghost use Rattle.keeper.specs.Batch.{last_head, last_page, last_content, last_current};
+ghost use Rattle.keeper.specs.Tables.{head_at};
 
 use crate::{Head, Page};
 use prov_base::{Bytes, Digest, Name};
@@ -10,26 +11,50 @@ use prov_base::{Bytes, Digest, Name};
 pub(crate) fn head_in(heads: &[(u32, Head)], trial: u32) -> Option<&Head>
     ensures { option_copied result ≡ last_head heads.now trial }
 {
-    heads.iter().rev().find(|entry| entry.0 == trial).map(|entry| &entry.1)
+    heads
+        .iter()
+        .rev()
+        .find(|entry| entry.0 == trial)
+        .map(|entry| &entry.1)
 }
 
 // The last page with this trial and number.
 pub(crate) fn page_in(pages: &[(u32, u32, Page)], trial: u32, number: u32) -> Option<&Page>
     ensures { option_copied result ≡ last_page pages.now trial number }
 {
-    pages.iter().rev().find(|entry| entry.0 == trial && entry.1 == number).map(|entry| &entry.2)
+    pages
+        .iter()
+        .rev()
+        .find(|entry| entry.0 == trial && entry.1 == number)
+        .map(|entry| &entry.2)
 }
 
 // The last content with this digest.
 pub(crate) fn content_in<'a>(contents: &'a [(Digest, Bytes)], digest: &Digest) -> Option<&'a Bytes>
     ensures { option_copied result ≡ last_content contents.now digest.now }
 {
-    contents.iter().rev().find(|entry| entry.0 == *digest).map(|entry| &entry.1)
+    contents
+        .iter()
+        .rev()
+        .find(|entry| entry.0 == *digest)
+        .map(|entry| &entry.1)
 }
 
 // The last trial that was made current for this path.
 pub(crate) fn current_in(current: &[(Name, u32)], path: &str) -> Option<u32>
     ensures { result ≡ last_current current.now path.now }
 {
-    current.iter().rev().find(|entry| entry.0.as_str() == path).map(|entry| entry.1)
+    current
+        .iter()
+        .rev()
+        .find(|entry| entry.0.as_str() == path)
+        .map(|entry| entry.1)
+}
+
+// The head of the trial with this number, of heads that are numbered from 1.
+pub(crate) fn head_of(heads: &[Head], trial: u32) -> Option<&Head>
+    ensures { option_copied result ≡ head_at heads.now trial }
+{
+    let earlier = trial.checked_sub(1)?;
+    heads.get(earlier as usize)
 }

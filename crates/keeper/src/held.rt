@@ -5,7 +5,7 @@ ghost use Rattle.keeper.specs.Held.{joined, listed};
 ghost use Rattle.keeper.specs.Keeping.{AreKept, Drops};
 ghost use Rattle.keeper.specs.Tables.{HasTrial, head_at, most_trials, with_trial, with_page, with_content, with_current};
 
-use crate::entries::{content_in, current_in, page_in};
+use crate::entries::{content_in, current_in, head_of, page_in};
 use crate::{Batch, Head, Page, Tables};
 use prov_base::{Bytes, Digest, Memory};
 use std::alloc::Global;
@@ -56,6 +56,13 @@ impl Held {
         &self.tables
     }
 
+    // Whether a batch is open.
+    pub(crate) fn is_open(&self) -> bool
+        ensures { result ≡ self.now.is_open }
+    {
+        self.is_open
+    }
+
     // How many trials are seen.
     pub(crate) fn trials(&self) -> u32
         ensures { result ≡ length (told_of self.now).seen.heads }
@@ -69,10 +76,7 @@ impl Held {
     {
         match self.batch.head(trial) {
             Some(head) => Some(head),
-            None => {
-                let earlier = trial.checked_sub(1)?;
-                self.tables.heads.get(earlier as usize)
-            }
+            None => head_of(&self.tables.heads, trial),
         }
     }
 
@@ -130,7 +134,13 @@ impl Held {
     }
 
     // Adds a page to the batch.
-    pub(crate) fn add_page(&mut self, alloc: Global, trial: u32, number: u32, page: &Page) -> Result<(), Memory>
+    pub(crate) fn add_page(
+        &mut self,
+        alloc: Global,
+        trial: u32,
+        number: u32,
+        page: &Page,
+    ) -> Result<(), Memory>
         requires batch { IsTrue self.old.is_open }
         requires trial { HasTrial (told_of self.old).seen trial }
         ensures added { OnOk result (told_of self.new ≡ record (told_of self.old) { seen = with_page trial number page.now (told_of self.old).seen }) }
@@ -142,7 +152,12 @@ impl Held {
     }
 
     // Adds a content to the batch.
-    pub(crate) fn add_content(&mut self, alloc: Global, digest: &Digest, bytes: &[u8]) -> Result<(), Memory>
+    pub(crate) fn add_content(
+        &mut self,
+        alloc: Global,
+        digest: &Digest,
+        bytes: &[u8],
+    ) -> Result<(), Memory>
         requires batch { IsTrue self.old.is_open }
         ensures added { OnOk result (told_of self.new ≡ record (told_of self.old) { seen = with_content digest.now bytes.now (told_of self.old).seen }) }
         ensures batch { self.new.is_open ≡ self.old.is_open }
@@ -153,7 +168,12 @@ impl Held {
     }
 
     // Makes a trial current in the batch.
-    pub(crate) fn set_current(&mut self, alloc: Global, path: &str, trial: u32) -> Result<(), Memory>
+    pub(crate) fn set_current(
+        &mut self,
+        alloc: Global,
+        path: &str,
+        trial: u32,
+    ) -> Result<(), Memory>
         requires batch { IsTrue self.old.is_open }
         ensures added { OnOk result (told_of self.new ≡ record (told_of self.old) { seen = with_current path.now trial (told_of self.old).seen }) }
         ensures batch { self.new.is_open ≡ self.old.is_open }

@@ -1,6 +1,5 @@
 // The store of trials as a trait: four tables, and a batch of changes that is open or not.
 ghost use Rattle.std.specs.Prelude.{◌≡◌, ◌<◌, Option, ℕ, Bool, false, None, IsTrue, length, is_ok, is_err, IfSome};
-ghost use Rattle.std.specs.Option.{ForSome};
 ghost use Rattle.prov_outside.specs.Tells.{Tells};
 ghost use Rattle.keeper.specs.Count.{Counts};
 ghost use Rattle.keeper.specs.Fault.{has_failed};
@@ -79,7 +78,7 @@ pub trait Keeper {
     /// Adds a trial behind the others and answers its number.
     fn add_trial(&mut self, alloc: Global, head: &Head) -> Result<u32, KeepFault>
         requires batch { IsTrue (is_open self.old) }
-        requires room { ForSome (told self.old) (λ kept. length kept.seen.heads < most_trials) }
+        requires room { IfSome (told self.old) (λ kept. length kept.seen.heads < most_trials) }
         ensures writes { Tells (told self.old) (told self.new) (AddsTrial head.now result) }
         ensures kept { IfSome (told self.new) (AreKept (is_open self.new)) }
         ensures stops { Tells (told self.old) (told self.new) (λ _ _. LeavesAmong (may_leave self.old) (may_leave self.new)) }
@@ -95,8 +94,8 @@ pub trait Keeper {
         page: &Page,
     ) -> Result<(), KeepFault>
         requires batch { IsTrue (is_open self.old) }
-        requires trial { ForSome (told self.old) (λ kept. HasTrial kept.seen trial) }
-        requires new { ForSome (told self.old) (λ kept. kept.seen.pages trial number ≡ None) }
+        requires trial { IfSome (told self.old) (λ kept. HasTrial kept.seen trial) }
+        requires new { IfSome (told self.old) (λ kept. kept.seen.pages trial number ≡ None) }
         ensures writes { Tells (told self.old) (told self.new) (Writes (with_page trial number page.now) result) }
         ensures kept { IfSome (told self.new) (AreKept (is_open self.new)) }
         ensures stops { Tells (told self.old) (told self.new) (λ _ _. LeavesAmong (may_leave self.old) (may_leave self.new)) }
@@ -106,7 +105,7 @@ pub trait Keeper {
     /// Adds a content under a digest that has none yet.
     fn add_content(&mut self, alloc: Global, digest: &Digest, bytes: &[u8]) -> Result<(), KeepFault>
         requires batch { IsTrue (is_open self.old) }
-        requires new { ForSome (told self.old) (λ kept. kept.seen.contents digest.now ≡ None) }
+        requires new { IfSome (told self.old) (λ kept. kept.seen.contents digest.now ≡ None) }
         ensures writes { Tells (told self.old) (told self.new) (Writes (with_content digest.now bytes.now) result) }
         ensures kept { IfSome (told self.new) (AreKept (is_open self.new)) }
         ensures stops { Tells (told self.old) (told self.new) (λ _ _. LeavesAmong (may_leave self.old) (may_leave self.new)) }
@@ -116,7 +115,7 @@ pub trait Keeper {
     /// Makes a trial that is there the current one for this path, in place of an earlier one.
     fn set_current(&mut self, alloc: Global, path: &str, trial: u32) -> Result<(), KeepFault>
         requires batch { IsTrue (is_open self.old) }
-        requires trial { ForSome (told self.old) (λ kept. HasTrial kept.seen trial) }
+        requires trial { IfSome (told self.old) (λ kept. HasTrial kept.seen trial) }
         ensures writes { Tells (told self.old) (told self.new) (Writes (with_current path.now trial) result) }
         ensures kept { IfSome (told self.new) (AreKept (is_open self.new)) }
         ensures stops { Tells (told self.old) (told self.new) (λ _ _. LeavesAmong (may_leave self.old) (may_leave self.new)) }
