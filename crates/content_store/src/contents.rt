@@ -44,7 +44,11 @@ pub fn put<K: Keeper>(alloc: Global, keeper: &mut K, bytes: &[u8]) -> Result<Dig
 }
 
 /// The bytes that stand under a digest, with an open batch or none.
-pub fn get<K: Keeper>(alloc: Global, keeper: &mut K, digest: &Digest) -> Result<Option<Bytes>, KeepFault>
+pub fn get<K: Keeper>(
+    alloc: Global,
+    keeper: &mut K,
+    digest: &Digest,
+) -> Result<Option<Bytes>, KeepFault>
     ensures reads { Tells (K.told keeper.old) (K.told keeper.new) (Reads (λ tables. tables.contents digest.now) result) }
     ensures kept { IfSome (K.told keeper.new) (AreKept (K.is_open keeper.new)) }
     ensures stops { Tells (K.told keeper.old) (K.told keeper.new) (λ _ _. LeavesAmong (K.may_leave keeper.old) (K.may_leave keeper.new)) }

@@ -1,5 +1,5 @@
 -- Heads behind heads, as a batch adds them.
-use Rattle.std.proofs.Common.{◌≡◌, ℕ, zero, suc, ◌+◌, ◌-◌, ◌<◌, ◌≤◌, ◌==◌, Bool, true, false, cond, List, [], ◌∷◌, ◌++◌, map, length, take, drop, reverse, find, Option, Some, None, option_map, refl, sym, ap, ◌∙◌, arith, append-nil, append_assoc}
+use Rattle.std.proofs.Common.{◌≡◌, ℕ, zero, suc, ◌+◌, ◌-◌, ◌==◌, Bool, true, false, cond, List, [], ◌∷◌, ◌++◌, map, length, take, drop, Some, None, option_map, refl, sym, ap, ◌∙◌, arith, append-nil, append_assoc}
 use Rattle.std.specs.List.{slice_get}
 use Rattle.std.specs.Option.{option_or}
 use Rattle.std.proofs.lemmas.Bool.Decides.{nat_tests}
@@ -8,7 +8,7 @@ use Rattle.keeper.specs.declared.records.Head.{Head}
 use Rattle.keeper.specs.Batch.{with_head, heads_over, last_head}
 use Rattle.keeper.specs.Held.{AreNext}
 use Rattle.keeper.specs.Tables.{head_at}
-use Rattle.keeper.proofs.LastEntries.{last_of, last_of-append, option_or_assoc}
+use Rattle.keeper.proofs.LastEntries.{last_of-append, option_or_assoc}
 
 abbrev pub heads_of : List (ℕ × Head) → List Head
 heads_of entries = map (λ e. e.1) entries

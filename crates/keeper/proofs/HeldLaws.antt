@@ -1,6 +1,6 @@
 -- What a keeper in memory holds, seen as a keeper's tables.
-use Rattle.std.proofs.Common.{◌≡◌, ℕ, zero, suc, ◌+◌, ◌<◌, ◌≤◌, ◌==◌, Bool, true, false, cond, ◌&&◌, not, IsTrue, nat_le, List, [], ◌∷◌, ◌++◌, map, length, Option, Some, None, IsSome, option_map, Result, Ok, Err, OnOk, OnErr, bytes_eq, if◌then◌else◌, refl, sym, ap, subst, ◌∙◌, true≢false, arith}
-use Rattle.std.specs.List.{list_all, list_any}
+use Rattle.std.proofs.Common.{◌≡◌, ℕ, ◌+◌, ◌<◌, ◌≤◌, ◌==◌, Bool, true, false, ◌&&◌, IsTrue, nat_le, List, [], ◌∷◌, ◌++◌, length, Option, Some, None, IsSome, Result, Ok, Err, OnOk, OnErr, bytes_eq, if◌then◌else◌, refl, sym, ap, subst, ◌∙◌, true≢false, arith}
+use Rattle.std.specs.List.{list_any}
 use Rattle.std.specs.Option.{option_or}
 use Rattle.std.proofs.Math.Path.{fun_ext}
 use Rattle.std.proofs.lemmas.Bool.{and_parts}
@@ -10,11 +10,11 @@ use Rattle.std.proofs.lemmas.List.Folds.{list_all-append}
 use Rattle.prov_base.specs.declared.place.Digest.{Digest}
 use Rattle.keeper.specs.declared.records.Head.{Head}
 use Rattle.keeper.specs.declared.records.Page.{Page}
-use Rattle.keeper.specs.Batch.{BatchView, empty_batch, heads_over, last_head, last_page, last_content, last_current, over}
+use Rattle.keeper.specs.Batch.{BatchView, empty_batch, heads_over, last_head, last_page, over}
 use Rattle.keeper.specs.Held.{ListedTables, HeldView, IsHeld, AreNext, are_pages_of, joined, maps_of, told_of}
 use Rattle.keeper.specs.Keeping.{KeeperView, AreKept}
-use Rattle.keeper.specs.Tables.{TablesView, AreTables, HasTrial, head_at, most_trials}
-use Rattle.keeper.proofs.LastEntries.{and_true, last_of, last_of-all, last_of-append}
+use Rattle.keeper.specs.Tables.{TablesView, head_at, most_trials}
+use Rattle.keeper.proofs.LastEntries.{and_true, last_of-all, last_of-append}
 use Rattle.keeper.proofs.HeadLists.{heads_of, heads_over-next, length-heads_over, head_at-over, AreNext-push}
 
 -- a page that is found is one of a trial that is there

@@ -1,5 +1,5 @@
 -- A count of faults over one call (this project's profile).
-use Rattle.std.specs.Prelude.{◌≡◌, ℕ, ◌<◌, ◌≤◌, ◌^◌, Bool, true, IsTrue, if◌then◌else◌}
+use Rattle.std.specs.Prelude.{◌≡◌, ℕ, ◌<◌, ◌≤◌, ◌^◌, Bool, IsTrue, if◌then◌else◌}
 use Rattle.prov_outside.specs.Count.{Rose, one_more}
 
 -- The count rises by one where the call failed, and stays where it did not. It stops at the end of its type, where

@@ -52,6 +52,10 @@ joined batch tables = record {
 abbrev pub are_pages_of : ℕ → List (ℕ × ℕ × Page) → Bool
 are_pages_of count pages = list_all (λ e. nat_le 1 e.0 && nat_le e.0 count) pages
 
+-- these can be the tables of a keeper: there are not too many heads, and each page is of a trial that has one
+abbrev pub are_whole : ListedTables → Bool
+are_whole tables = nat_le (length tables.heads) most_trials && are_pages_of (length tables.heads) tables.pages
+
 -- the heads of a batch are those of the trials behind the first so many, in order
 abbrev pub AreNext : ℕ → List (ℕ × Head) → Type 0
 AreNext count [] = Unit {0}

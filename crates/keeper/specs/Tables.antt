@@ -1,5 +1,5 @@
 -- The four tables of a store of trials (this project's profile), and what each writer adds to them.
-use Rattle.std.specs.Prelude.{◌≡◌, ℕ, zero, suc, ◌==◌, ◌≤◌, ◌&&◌, List, [], ◌∷◌, ◌++◌, length, slice_get, Option, Some, None, IsSome, bytes_eq, if◌then◌else◌}
+use Rattle.std.specs.Prelude.{ℕ, zero, suc, ◌==◌, ◌≤◌, ◌&&◌, List, [], ◌∷◌, ◌++◌, length, slice_get, Option, Some, None, IsSome, bytes_eq, if◌then◌else◌}
 use Rattle.prov_base.specs.declared.place.Digest.{Digest}
 use Rattle.keeper.specs.declared.records.Head.{Head}
 use Rattle.keeper.specs.declared.records.Page.{Page}

@@ -11,7 +11,7 @@ use std::alloc::Global;
 use std::marker::Model;
 
 /// What was written since a batch began. A keeper holds its open batch as one of these.
-#[derive(Drop, Debug)]
+#[derive(Drop)]
 pub struct Batch {
     /// How many heads were committed as it began.
     pub committed: u32,

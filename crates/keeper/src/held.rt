@@ -13,7 +13,7 @@ use std::marker::Model;
 use std::mem;
 
 // The committed tables, and what was written since the last `begin`, which is nothing where no batch is open.
-#[derive(Drop, Debug)]
+#[derive(Drop)]
 pub struct Held {
     tables: Tables,
     batch: Batch,
@@ -31,13 +31,12 @@ impl Model for Held {
 }
 
 impl Held {
-    ghost use Rattle.keeper.specs.Held.{are_pages_of, told_of};
+    ghost use Rattle.keeper.specs.Held.{are_whole, told_of};
     ghost use Rattle.keeper.specs.Batch.{empty_batch};
 
     // These tables, with no batch open.
     pub(crate) fn of(alloc: Global, tables: Tables) -> Held
-        requires few { length tables.heads.items ≤ most_trials }
-        requires pages { IsTrue (are_pages_of (length tables.heads.items) tables.pages.items) }
+        requires { IsTrue (are_whole (listed tables)) }
         ensures held { result ≡ record { tables = listed tables; batch = empty_batch (length tables.heads.items); is_open = false } }
         ensures kept { AreKept result.is_open (told_of result) }
     {

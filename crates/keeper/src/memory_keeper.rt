@@ -4,7 +4,7 @@ ghost use Rattle.prov_outside.specs.Numbering.{NextFails, after_call};
 ghost use Rattle.keeper.specs.Batch.{empty_batch};
 ghost use Rattle.keeper.specs.Count.{Counts};
 ghost use Rattle.keeper.specs.Fault.{has_failed};
-ghost use Rattle.keeper.specs.Held.{after_answer, are_pages_of, listed, maps_of, told_of};
+ghost use Rattle.keeper.specs.Held.{after_answer, are_whole, listed, maps_of, told_of};
 ghost use Rattle.keeper.specs.Keeping.{AreKept, Reads, Writes, AddsTrial, Commits, Drops, LeavesAmong, CommitLeaves};
 ghost use Rattle.keeper.specs.Tables.{HasTrial, head_at, most_trials, with_page, with_content, with_current};
 
@@ -19,7 +19,7 @@ use std::marker::Model;
 /// A keeper in memory, which tells all that it holds. It numbers its calls from 1 in one order, whatever their kind; a
 /// call fails, and raises the count by one, exactly where its number is in a list that was given. A call that fails
 /// changes nothing else, but that `begin` and `undo` leave no batch open.
-#[derive(Drop, Debug)]
+#[derive(Drop)]
 pub struct MemoryKeeper {
     held: Held,
     calls: Calls,
@@ -41,10 +41,9 @@ impl Model for MemoryKeeper {
 
 impl MemoryKeeper {
     /// A keeper with these tables and no open batch, at which the calls with the listed numbers fail. It takes no
-    /// memory. Of several entries with one key the last one stands. Each page needs that its trial has a head.
+    /// memory. Of several entries with one key the last one stands. `Tables::are_whole` tests what it needs.
     pub fn of(tables: Tables, failing: Vec<u64>) -> MemoryKeeper
-        requires few { length tables.heads.items ≤ most_trials }
-        requires pages { IsTrue (are_pages_of (length tables.heads.items) tables.pages.items) }
+        requires { IsTrue (are_whole (listed tables)) }
         ensures held { result.held ≡ record { tables = listed tables; batch = empty_batch (length tables.heads.items); is_open = false } }
         ensures calls { result.calls ≡ record { failing = failing.items; made = 0 } }
         ensures faults { result.faults ≡ 0 }
@@ -64,11 +63,18 @@ impl MemoryKeeper {
         self.held.committed()
     }
 
-    /// Whether a batch is open.
+    /// Whether a batch is open, as each writer and `commit` need.
     pub fn is_open(&self) -> bool
         ensures { result ≡ self.now.held.is_open }
     {
         self.held.is_open()
+    }
+
+    /// How many trials readers see. This is no call that could fail, and takes no number.
+    pub fn seen_trials(&self) -> u32
+        ensures { result ≡ length (told_of self.now.held).seen.heads }
+    {
+        self.held.trials()
     }
 
     // Takes the number of the next call, and fails where it is listed, which is counted.

@@ -1,4 +1,4 @@
-use Rattle.std.proofs.Common.{◌≡◌, true, sym, ap, subst, ◌∙◌, rules}
+use Rattle.std.proofs.Common.{◌≡◌, true, sym, ap, subst, ◌∙◌}
 use Rattle.keeper.specs.Batch.{BatchView}
 use Rattle.keeper.specs.Held.{HeldView, IsHeld, listed, told_of}
 use Rattle.keeper.specs.Tables.{HasTrial}

@@ -1,9 +1,8 @@
 use Rattle.std.proofs.Common.{◌≡◌, ◌<◌, ◌+◌, true, length, Result, Ok, Err, IfOk, OnOk, OnErr, sym, ap, subst, ◌∙◌, refl, rules, ℕ, ◌++◌, ◌∷◌, [], Bool}
 use Rattle.prov_base.specs.declared.refusal.Memory.{Memory}
 use Rattle.keeper.specs.declared.records.Head.{Head}
-use Rattle.keeper.specs.Batch.{BatchView, heads_over}
-use Rattle.keeper.specs.Held.{ListedTables, HeldView, IsHeld, listed, told_of, maps_of}
-use Rattle.keeper.specs.Keeping.{KeeperView}
+use Rattle.keeper.specs.Batch.{BatchView}
+use Rattle.keeper.specs.Held.{ListedTables, HeldView, IsHeld, told_of}
 use Rattle.keeper.specs.Tables.{most_trials, with_trial}
 use Rattle.keeper.proofs.HeldLaws.{kept_at, held_trial, trials_seen, trial_added}
 use Rattle.keeper.proofs.held.Held.add_trial.Goals as goal

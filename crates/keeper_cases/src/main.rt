@@ -1,0 +1,95 @@
+//! The cases of `keeper` and `content_store`. Each line of the input is a row `TABLES|FAILING|CALL, CALL..`: the entries of the
+//! tables that a keeper in memory is made of, the numbers of its calls that fail, and calls. The answers are a line of the
+//! output, which the gate compares with the file `stdout`.
+//!
+//! The real console reads the rows and writes the answers.
+#![tactic(auto)]
+
+mod reads;
+mod tables;
+mod texts;
+mod writes;
+
+use keeper::{Keeper, MemoryKeeper};
+use prov_outside::{Console, Trouble};
+use prov_real::RealConsole;
+use reads::read;
+use std::alloc::{AllocError, Global};
+use std::process::ExitCode;
+use tables::{tables_of, write_tables};
+use texts::{halves, numbers, write, write_done};
+use writes::write_into;
+
+/// Makes a call, and writes what it answers.
+fn step(
+    alloc: Global,
+    keeper: &mut MemoryKeeper,
+    step: &str,
+    out: &mut Vec<u8>,
+) -> Result<(), AllocError> {
+    let (call, words) = halves(step, ' ');
+    match call {
+        "begin" => write_done(out, keeper.begin(alloc)),
+        "undo" => write_done(out, keeper.undo(alloc)),
+        "open" => write(out, if keeper.is_open() { "open" } else { "closed" }),
+        "tables" => write_tables(alloc, out, keeper.committed()),
+        "trial" | "add" | "keep" | "set" | "put" | "commit" => write_into(
+            alloc, keeper, call, words, out,
+        ),
+        _ => read(alloc, keeper, call, words, out),
+    }
+}
+
+/// Answers a row: each call's answer, with a comma between them.
+fn answer(alloc: Global, row: &str, out: &mut Vec<u8>) -> Result<(), AllocError> {
+    let (entries, rest) = halves(row, '|');
+    let (failing, calls) = halves(rest, '|');
+    let tables = tables_of(alloc, entries)?;
+    if !tables.are_whole() {
+        return write(out, "not whole");
+    }
+    let mut keeper = MemoryKeeper::of(tables, numbers(alloc, failing)?);
+    for call in calls.split(',') {
+        step(alloc, &mut keeper, call, out)?;
+        out.push(b',')?;
+    }
+    Ok(())
+}
+
+/// Answers a line of the input: writes the line, and the row's answers below it. An empty line and one that begins with `#`
+/// answer nothing.
+fn answer_line(alloc: Global, line: &[u8], out: &mut Vec<u8>) -> Result<(), AllocError> {
+    let Ok(row) = str::from_utf8(line) else {
+        return Ok(());
+    };
+    if row.is_empty() || row.starts_with('#') {
+        return Ok(());
+    }
+    write(out, row)?;
+    out.extend_from_slice(b"\n    ")?;
+    answer(alloc, row, out)?;
+    out.push(b'\n')?;
+    Ok(())
+}
+
+/// Answers every line of the input.
+fn answer_all(alloc: Global, console: &mut RealConsole<'_>) -> Result<(), Trouble> {
+    for _ in 0..u64::MAX {
+        let Some(line) = console.read_line(alloc)? else {
+            return Ok(());
+        };
+        let mut out = Vec::new(alloc);
+        answer_line(alloc, line.as_slice(), &mut out)?;
+        console.write(alloc, &out)?;
+    }
+    Ok(())
+}
+
+fn main(rt: HostRuntime) -> ExitCode {
+    let mut console = RealConsole::new(&rt);
+    match answer_all(rt.alloc(), &mut console) {
+        Ok(()) => ExitCode::from(0),
+        Err(Trouble::Failed) => ExitCode::from(1),
+        Err(Trouble::Memory) => ExitCode::from(2),
+    }
+}
