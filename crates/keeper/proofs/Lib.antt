@@ -1,3 +1,4 @@
 pub mod LastEntries
 pub mod HeadLists
 pub mod HeldLaws
+pub mod Worked

@@ -11,44 +11,35 @@ use prov_base::{Bytes, Digest, Name};
 pub(crate) fn head_in(heads: &[(u32, Head)], trial: u32) -> Option<&Head>
     ensures { option_copied result ≡ last_head heads.now trial }
 {
-    heads
-        .iter()
-        .rev()
-        .find(|entry| entry.0 == trial)
-        .map(|entry| &entry.1)
+    let entry = heads.iter().rev().find(|entry| entry.0 == trial)?;
+    Some(&entry.1)
 }
 
 // The last page with this trial and number.
 pub(crate) fn page_in(pages: &[(u32, u32, Page)], trial: u32, number: u32) -> Option<&Page>
     ensures { option_copied result ≡ last_page pages.now trial number }
 {
-    pages
+    let entry = pages
         .iter()
         .rev()
-        .find(|entry| entry.0 == trial && entry.1 == number)
-        .map(|entry| &entry.2)
+        .find(|entry| entry.0 == trial && entry.1 == number)?;
+    Some(&entry.2)
 }
 
 // The last content with this digest.
 pub(crate) fn content_in<'a>(contents: &'a [(Digest, Bytes)], digest: &Digest) -> Option<&'a Bytes>
     ensures { option_copied result ≡ last_content contents.now digest.now }
 {
-    contents
-        .iter()
-        .rev()
-        .find(|entry| entry.0 == *digest)
-        .map(|entry| &entry.1)
+    let entry = contents.iter().rev().find(|entry| entry.0 == *digest)?;
+    Some(&entry.1)
 }
 
 // The last trial that was made current for this path.
 pub(crate) fn current_in(current: &[(Name, u32)], path: &str) -> Option<u32>
     ensures { result ≡ last_current current.now path.now }
 {
-    current
-        .iter()
-        .rev()
-        .find(|entry| entry.0.as_str() == path)
-        .map(|entry| entry.1)
+    let entry = current.iter().rev().find(|entry| entry.0.as_str() == path)?;
+    Some(entry.1)
 }
 
 // The head of the trial with this number, of heads that are numbered from 1.

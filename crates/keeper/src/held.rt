@@ -2,11 +2,13 @@
 ghost use Rattle.std.specs.Prelude.{◌≡◌, ◌+◌, ◌<◌, ◌≤◌, ◌++◌, false, IsTrue, length, map, OnOk, OnErr, IfOk, vec_len, vec_capacity};
 ghost use Rattle.std.specs.Option.{option_copied};
 ghost use Rattle.keeper.specs.Held.{joined, listed};
-ghost use Rattle.keeper.specs.Keeping.{AreKept, Drops};
+ghost use Rattle.keeper.specs.Fault.{has_failed};
+ghost use Rattle.keeper.specs.Keeping.{AreKept, Drops, Reads};
 ghost use Rattle.keeper.specs.Tables.{HasTrial, head_at, most_trials, with_trial, with_page, with_content, with_current};
 
 use crate::entries::{content_in, current_in, head_of, page_in};
-use crate::{Batch, Head, Page, Tables};
+use crate::records::copied_bytes;
+use crate::{Batch, Head, KeepFault, Page, Tables};
 use prov_base::{Bytes, Digest, Memory};
 use std::alloc::Global;
 use std::marker::Model;
@@ -70,7 +72,7 @@ impl Held {
     }
 
     // The head of a trial that is seen.
-    pub(crate) fn head(&self, trial: u32) -> Option<&Head>
+    fn head_seen(&self, trial: u32) -> Option<&Head>
         ensures { option_copied result ≡ head_at (told_of self.now).seen.heads trial }
     {
         match self.batch.head(trial) {
@@ -80,7 +82,7 @@ impl Held {
     }
 
     // A page that is seen.
-    pub(crate) fn page(&self, trial: u32, number: u32) -> Option<&Page>
+    fn page_seen(&self, trial: u32, number: u32) -> Option<&Page>
         ensures { option_copied result ≡ (told_of self.now).seen.pages trial number }
     {
         match self.batch.page(trial, number) {
@@ -90,12 +92,50 @@ impl Held {
     }
 
     // A content that is seen.
-    pub(crate) fn content(&self, digest: &Digest) -> Option<&Bytes>
+    fn content_seen(&self, digest: &Digest) -> Option<&Bytes>
         ensures { option_copied result ≡ (told_of self.now).seen.contents digest.now }
     {
         match self.batch.content(digest) {
             Some(bytes) => Some(bytes),
             None => content_in(&self.tables.contents, digest),
+        }
+    }
+
+    // A copy of the head of a trial.
+    pub(crate) fn head(&self, alloc: Global, trial: u32) -> Result<Option<Head>, KeepFault>
+        ensures reads { Reads (λ tables. head_at tables.heads trial) result (told_of self.now) (told_of self.now) }
+        ensures memory { has_failed result ≡ false }
+    {
+        match self.head_seen(trial) {
+            Some(head) => Ok(Some(head.copied(alloc)?)),
+            None => Ok(None),
+        }
+    }
+
+    // A copy of a page.
+    pub(crate) fn page(
+        &self,
+        alloc: Global,
+        trial: u32,
+        number: u32,
+    ) -> Result<Option<Page>, KeepFault>
+        ensures reads { Reads (λ tables. tables.pages trial number) result (told_of self.now) (told_of self.now) }
+        ensures memory { has_failed result ≡ false }
+    {
+        match self.page_seen(trial, number) {
+            Some(page) => Ok(Some(page.copied(alloc)?)),
+            None => Ok(None),
+        }
+    }
+
+    // A copy of a content.
+    pub(crate) fn content(&self, alloc: Global, digest: &Digest) -> Result<Option<Bytes>, KeepFault>
+        ensures reads { Reads (λ tables. tables.contents digest.now) result (told_of self.now) (told_of self.now) }
+        ensures memory { has_failed result ≡ false }
+    {
+        match self.content_seen(digest) {
+            Some(bytes) => Ok(Some(copied_bytes(alloc, bytes.as_slice())?)),
+            None => Ok(None),
         }
     }
 

@@ -9,7 +9,6 @@ ghost use Rattle.keeper.specs.Keeping.{AreKept, Reads, Writes, AddsTrial, Commit
 ghost use Rattle.keeper.specs.Tables.{HasTrial, head_at, most_trials, with_page, with_content, with_current};
 
 use crate::held::Held;
-use crate::records::copied_bytes;
 use crate::{Head, KeepFault, Keeper, Page, Tables};
 use prov_base::{Bytes, Digest};
 use prov_outside::Calls;
@@ -127,10 +126,7 @@ impl Keeper for MemoryKeeper {
         ensures numbered { self.new.calls ≡ after_call self.old.calls }
     {
         self.next_call()?;
-        match self.held.head(trial) {
-            Some(found) => Ok(Some(found.copied(alloc)?)),
-            None => Ok(None),
-        }
+        self.held.head(alloc, trial)
     }
 
     /// A copy of a trial's page.
@@ -144,10 +140,7 @@ impl Keeper for MemoryKeeper {
         ensures numbered { self.new.calls ≡ after_call self.old.calls }
     {
         self.next_call()?;
-        match self.held.page(trial, number) {
-            Some(found) => Ok(Some(found.copied(alloc)?)),
-            None => Ok(None),
-        }
+        self.held.page(alloc, trial, number)
     }
 
     /// A copy of a content.
@@ -161,10 +154,7 @@ impl Keeper for MemoryKeeper {
         ensures numbered { self.new.calls ≡ after_call self.old.calls }
     {
         self.next_call()?;
-        match self.held.content(digest) {
-            Some(found) => Ok(Some(copied_bytes(alloc, found.as_slice())?)),
-            None => Ok(None),
-        }
+        self.held.content(alloc, digest)
     }
 
     /// The number of the trial that is current for this path.

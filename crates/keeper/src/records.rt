@@ -9,7 +9,7 @@ use std::alloc::Global;
 const MOST_TRIALS: usize = 4_294_967_295;
 
 /// A page of a trial's rows, with the digest of its bytes.
-#[derive(Drop, Debug)]
+#[derive(Drop)]
 pub struct Page {
     /// The SHA-1 digest under which the page was kept.
     pub digest: Digest,
@@ -18,7 +18,7 @@ pub struct Page {
 }
 
 /// The head of a trial.
-#[derive(Drop, Debug)]
+#[derive(Drop)]
 pub struct Head {
     /// The format of the trial's records and pages.
     pub format: u8,

@@ -2,7 +2,7 @@ use Rattle.std.proofs.Common.{List, refl, ap, ◌∙◌}
 use Rattle.keeper.specs.declared.records.Head.{Head}
 use Rattle.keeper.specs.Tables.{head_at}
 use Rattle.keeper.proofs.HeldLaws.{head_seen}
-use Rattle.keeper.proofs.held.Held.head.Goals as goal
+use Rattle.keeper.proofs.held.Held.head_seen.Goals as goal
 
 pub returns-in-Some : goal.returns-in-Some
 returns-in-Some c =
