@@ -10,7 +10,7 @@ mod tables;
 mod texts;
 mod writes;
 
-use keeper::{Keeper, MemoryKeeper};
+use keeper::{Keeper, MemoryKeeper, Tables};
 use prov_outside::{Console, Trouble};
 use prov_real::RealConsole;
 use reads::read;
@@ -40,20 +40,42 @@ fn step(
     }
 }
 
-/// Answers a row: each call's answer, with a comma between them.
-fn answer(alloc: Global, row: &str, out: &mut Vec<u8>) -> Result<(), AllocError> {
-    let (entries, rest) = halves(row, '|');
-    let (failing, calls) = halves(rest, '|');
-    let tables = tables_of(alloc, entries)?;
-    if !tables.are_whole() {
-        return write(out, "not whole");
-    }
-    let mut keeper = MemoryKeeper::of(tables, numbers(alloc, failing)?);
+/// Makes the calls of a row, and writes each one's answer and a comma.
+fn make_calls(
+    alloc: Global,
+    keeper: &mut MemoryKeeper,
+    calls: &str,
+    out: &mut Vec<u8>,
+) -> Result<(), AllocError> {
     for call in calls.split(',') {
-        step(alloc, &mut keeper, call, out)?;
+        step(alloc, keeper, call, out)?;
         out.push(b',')?;
     }
     Ok(())
+}
+
+/// Answers the calls of a row, by a keeper of these tables.
+fn answer_over(
+    alloc: Global,
+    tables: Tables,
+    failing: Vec<u64>,
+    calls: &str,
+    out: &mut Vec<u8>,
+) -> Result<(), AllocError> {
+    if !tables.are_whole() {
+        return write(out, "not whole");
+    }
+    let mut keeper = MemoryKeeper::of(tables, failing);
+    make_calls(alloc, &mut keeper, calls, out)
+}
+
+/// Answers a row.
+fn answer(alloc: Global, row: &str, out: &mut Vec<u8>) -> Result<(), AllocError> {
+    let (entries, rest) = halves(row, '|');
+    let (failing, calls) = halves(rest, '|');
+    let failing = numbers(alloc, failing)?;
+    let tables = tables_of(alloc, entries)?;
+    answer_over(alloc, tables, failing, calls, out)
 }
 
 /// Answers a line of the input: writes the line, and the row's answers below it. An empty line and one that begins with `#`

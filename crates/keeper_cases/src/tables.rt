@@ -1,9 +1,7 @@
 // The tables that a row begins with, and how committed tables are written.
-use crate::texts::{
-    bytes_of, digest_of, halves, head_of, name_of, small, write, write_digest, write_number,
-};
-use keeper::{Page, Tables};
-use prov_base::Digest;
+use crate::texts::{bytes_of, digest_of, halves, head_of, name_of, small, write};
+use keeper::{Head, Page, Tables};
+use prov_base::{Bytes, Digest, Name};
 use std::alloc::{AllocError, Global};
 
 fn empty(alloc: Global) -> Tables {
@@ -19,24 +17,61 @@ fn empty(alloc: Global) -> Tables {
 pub fn tables_of(alloc: Global, entries: &str) -> Result<Tables, AllocError> {
     let mut tables = empty(alloc);
     for entry in entries.split(' ') {
-        let (kind, rest) = halves(entry, ':');
-        let (key, value) = halves(rest, ':');
-        match kind {
-            "h" => tables.heads.push(head_of(alloc, rest)?)?,
-            "p" => {
-                let (number, text) = halves(value, ':');
-                tables
-                    .pages
-                    .push((small(key), small(number), page_of(alloc, text)?))?;
-            }
-            "c" => tables
-                .contents
-                .push((digest_of(key), bytes_of(alloc, value)?))?,
-            "u" => tables.current.push((name_of(alloc, key)?, small(value)))?,
-            _ => {}
-        }
+        add_entry(alloc, &mut tables, entry)?;
     }
     Ok(tables)
+}
+
+fn add_entry(alloc: Global, tables: &mut Tables, entry: &str) -> Result<(), AllocError> {
+    let (kind, rest) = halves(entry, ':');
+    let (key, value) = halves(rest, ':');
+    match kind {
+        "h" => add_head(alloc, &mut tables.heads, rest),
+        "p" => add_page(alloc, &mut tables.pages, small(key), value),
+        "c" => add_content(alloc, &mut tables.contents, key, value),
+        "u" => add_current(alloc, &mut tables.current, key, value),
+        _ => Ok(()),
+    }
+}
+
+fn add_head(alloc: Global, heads: &mut Vec<Head>, path: &str) -> Result<(), AllocError> {
+    let head = head_of(alloc, path)?;
+    heads.push(head)?;
+    Ok(())
+}
+
+fn add_page(
+    alloc: Global,
+    pages: &mut Vec<(u32, u32, Page)>,
+    trial: u32,
+    words: &str,
+) -> Result<(), AllocError> {
+    let (number, text) = halves(words, ':');
+    let page = page_of(alloc, text)?;
+    pages.push((trial, small(number), page))?;
+    Ok(())
+}
+
+fn add_content(
+    alloc: Global,
+    contents: &mut Vec<(Digest, Bytes)>,
+    digest: &str,
+    text: &str,
+) -> Result<(), AllocError> {
+    let bytes = bytes_of(alloc, text)?;
+    contents.push((digest_of(digest), bytes))?;
+    Ok(())
+}
+
+fn add_current(
+    alloc: Global,
+    current: &mut Vec<(Name, u32)>,
+    path: &str,
+    trial: &str,
+) -> Result<(), AllocError> {
+    let name = name_of(alloc, path)?;
+    current.push((name, small(trial)))?;
+    Ok(())
 }
 
 /// A page with these bytes.
@@ -50,44 +85,62 @@ pub fn page_of(alloc: Global, text: &str) -> Result<Page, AllocError> {
 /// Writes tables as the entries of a row.
 pub fn write_tables(alloc: Global, out: &mut Vec<u8>, tables: &Tables) -> Result<(), AllocError> {
     out.push(b'{')?;
-    for head in &tables.heads {
-        write(out, "h:")?;
-        write(out, head.path.as_str())?;
-        out.push(b' ')?;
-    }
-    write_pages(alloc, out, tables)?;
-    write_contents(alloc, out, tables)?;
-    for (path, trial) in &tables.current {
-        write(out, "u:")?;
-        write(out, path.as_str())?;
-        out.push(b':')?;
-        write_number(alloc, out, u64::from(*trial))?;
-        out.push(b' ')?;
-    }
+    write_heads(alloc, out, &tables.heads)?;
+    write_pages(alloc, out, &tables.pages)?;
+    write_contents(alloc, out, &tables.contents)?;
+    write_current(alloc, out, &tables.current)?;
     out.push(b'}')?;
     Ok(())
 }
 
-fn write_pages(alloc: Global, out: &mut Vec<u8>, tables: &Tables) -> Result<(), AllocError> {
-    for (trial, number, page) in &tables.pages {
-        write(out, "p:")?;
-        write_number(alloc, out, u64::from(*trial))?;
-        out.push(b':')?;
-        write_number(alloc, out, u64::from(*number))?;
-        out.push(b':')?;
-        out.extend_from_slice(page.bytes.as_slice())?;
-        out.push(b' ')?;
+fn write_heads(alloc: Global, out: &mut Vec<u8>, heads: &[Head]) -> Result<(), AllocError> {
+    for head in heads {
+        let line = format!(in alloc; "h:{} ", head.path.as_str())?;
+        write(out, &line)?;
     }
     Ok(())
 }
 
-fn write_contents(alloc: Global, out: &mut Vec<u8>, tables: &Tables) -> Result<(), AllocError> {
-    for (digest, bytes) in &tables.contents {
-        write(out, "c:")?;
-        write_digest(alloc, out, digest)?;
-        out.push(b':')?;
-        out.extend_from_slice(bytes.as_slice())?;
-        out.push(b' ')?;
+fn write_pages(
+    alloc: Global,
+    out: &mut Vec<u8>,
+    pages: &[(u32, u32, Page)],
+) -> Result<(), AllocError> {
+    for (trial, number, page) in pages {
+        let key = format!(in alloc; "p:{trial}:{number}:")?;
+        write_entry(out, &key, page.bytes.as_slice())?;
+    }
+    Ok(())
+}
+
+fn write_entry(out: &mut Vec<u8>, key: &str, bytes: &[u8]) -> Result<(), AllocError> {
+    write(out, key)?;
+    out.extend_from_slice(bytes)?;
+    out.push(b' ')?;
+    Ok(())
+}
+
+fn write_contents(
+    alloc: Global,
+    out: &mut Vec<u8>,
+    contents: &[(Digest, Bytes)],
+) -> Result<(), AllocError> {
+    for (digest, bytes) in contents {
+        let digits = hex::encode(alloc, digest.bytes)?;
+        let key = format!(in alloc; "c:{}:", digits.as_str())?;
+        write_entry(out, &key, bytes.as_slice())?;
+    }
+    Ok(())
+}
+
+fn write_current(
+    alloc: Global,
+    out: &mut Vec<u8>,
+    current: &[(Name, u32)],
+) -> Result<(), AllocError> {
+    for (path, trial) in current {
+        let line = format!(in alloc; "u:{}:{trial} ", path.as_str())?;
+        write(out, &line)?;
     }
     Ok(())
 }
