@@ -2,6 +2,7 @@ pub mod AmissParts
 pub mod AugForms
 pub mod AugRefusals
 pub mod BehindColon
+pub mod ClosedStays
 pub mod ColonParts
 pub mod ExprForms
 pub mod ExprRefusals
@@ -13,16 +14,20 @@ pub mod HeadParts
 pub mod HeadReading
 pub mod LineFirsts
 pub mod LineForms
+pub mod LineOrder
 pub mod LyingLines
 pub mod NameHeads
 pub mod NameLists
 pub mod NameParts
 pub mod NameSetLemmas
+pub mod NestedBytes
 pub mod NoDel
+pub mod NodePlaces
 pub mod OneReading
 pub mod OneScript
 pub mod ParamParts
 pub mod PlacedParts
+pub mod ScriptPlaces
 pub mod ShownLines
 pub mod SimpleParts
 pub mod SimpleReading
@@ -31,6 +36,9 @@ pub mod TargetForms
 pub mod TargetLists
 pub mod TargetSums
 pub mod TestOpenings
+pub mod TreePlaces
 pub mod Unread
+pub mod WellFormedScripts
 pub mod WordRefusals
 mod Worked
+mod WorkedTrees

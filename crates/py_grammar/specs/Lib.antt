@@ -1,11 +1,15 @@
+pub mod ClosedSets
 pub mod Follows
 pub mod Grammar
+pub mod Language
 pub mod Layout
+pub mod Limits
 pub mod LineReader
 pub mod NameSets
 pub mod ParsedHead
 pub mod ParsedNames
 pub mod ParsedSimple
+pub mod PlacedTrees
 pub mod StatementDepth
 pub mod StatementLies
 pub mod StatementReader

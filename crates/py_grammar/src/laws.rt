@@ -1,12 +1,18 @@
 // Laws of the grammar: public functions without a body, whose contracts are the laws.
-ghost use Rattle.std.specs.Prelude.{◌≡◌, ◌≤◌, ℕ, List};
+ghost use Rattle.std.specs.Prelude.{◌≡◌, ◌≤◌, ℕ, Bool, List, IsTrue};
 ghost use Rattle.py_lines.specs.declared.parts.Line.{Line};
 ghost use Rattle.py_lines.specs.Logical.{HasLines};
 ghost use Rattle.py_tree.specs.Tree.{ScriptTree};
+ghost use Rattle.py_tree.specs.Deletion.{deleted};
+ghost use Rattle.py_tree.specs.Numbering.{IsNumbered};
+ghost use Rattle.py_tree.specs.WellFormed.{IsWellFormed};
 ghost use Rattle.py_grammar.specs.Grammar.{InGrammar};
 ghost use Rattle.prov_base.specs.declared.place.Pos.{Pos};
+ghost use Rattle.py_grammar.specs.ClosedSets.{IsClosed, is_statement, stays};
+ghost use Rattle.py_grammar.specs.Language.{Language, IsScriptIn};
 ghost use Rattle.py_grammar.specs.LineReader.{Head};
 ghost use Rattle.py_grammar.specs.ParsedHead.{head_depth, head_lies};
+ghost use Rattle.py_grammar.specs.PlacedTrees.{is_placed_in};
 ghost use Rattle.py_grammar.specs.Written.{Simple};
 ghost use Rattle.py_grammar.specs.StatementTokens.{simple_tokens};
 
@@ -30,3 +36,22 @@ pub fn one_script()
 {
     one_list_of_lines();
 }
+
+/// The law that the script of a text is well formed: its statements are numbered in the order of the text, their places ascend, no
+/// two nodes stand at one place, and the bytes of a statement are among those of the one whose suite it is in.
+pub fn scripts_are_well_formed()
+    ensures { (text : List ℕ) (lines : List Line) (tree : ScriptTree) → HasLines text lines → InGrammar lines tree → IsWellFormed tree }
+{}
+
+/// The law that the tree of a script has its statements where the language lets them stand, and that a deletion leaves them
+/// so. It does for every set, since a statement that goes takes along what stands in its suites.
+pub fn trees_are_placed()
+    ensures told { (language : Language) (lines : List Line) (tree : ScriptTree) → IsScriptIn language lines tree → IsTrue (is_placed_in language tree) }
+    ensures kept { (language : Language) (keep : ℕ → Bool) (tree : ScriptTree) → IsTrue (is_placed_in language tree) → IsTrue (is_placed_in language (deleted keep tree)) }
+{}
+
+/// The law that of a set which is closed under parents each statement stays in the deletion. Of another set a statement goes with
+/// the one whose suite it is in.
+pub fn closed_sets_stay()
+    ensures { (keep : ℕ → Bool) (tree : ScriptTree) → IsNumbered tree → IsClosed keep tree → (s : ℕ) → IsTrue (is_statement tree s) → IsTrue (keep s) → IsTrue (stays keep tree s) }
+{}

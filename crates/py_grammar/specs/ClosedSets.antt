@@ -1,0 +1,22 @@
+-- Sets of statements that are closed under parents.
+use Rattle.std.specs.Prelude.{◌≡◌, ℕ, ◌==◌, Bool, IsTrue, List, Some}
+use Rattle.std.specs.List.{list_any}
+use Rattle.py_tree.specs.Tree.{ScriptTree}
+use Rattle.py_tree.specs.Deletion.{kept_suite}
+use Rattle.py_tree.specs.Owners.{parent_of}
+use Rattle.py_tree.specs.Renumbering.{suite_numbers}
+
+-- with each of its statements the set has that one's parent
+abbrev pub IsClosed : (ℕ → Bool) → ScriptTree → Type 0
+IsClosed keep script = (s p : ℕ) → IsTrue (keep s) → parent_of script s ≡ Some p → IsTrue (keep p)
+
+abbrev pub is_among : ℕ → List ℕ → Bool
+is_among s numbers = list_any (λ number. number == s) numbers
+
+-- the script has a statement with this number
+abbrev pub is_statement : ScriptTree → ℕ → Bool
+is_statement script s = is_among s (suite_numbers script.body)
+
+-- it stays in the deletion, with its old number
+abbrev pub stays : (ℕ → Bool) → ScriptTree → ℕ → Bool
+stays keep script s = is_among s (suite_numbers (kept_suite keep script.body))
