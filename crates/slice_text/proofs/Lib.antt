@@ -8,12 +8,14 @@ pub mod ChunkLines
 pub mod ChunkRows
 pub mod Chunks
 pub mod ChunksLeft
+pub mod CutAsks
 pub mod CutBytes
 pub mod CutFits
 pub mod CutLaw
 pub mod CutRows
 pub mod CutTreeLaws
 pub mod CutTrees
+pub mod FewerLeft
 pub mod FormGaps
 pub mod Fronts
 pub mod Growth
@@ -22,9 +24,11 @@ pub mod Letters
 pub mod LineEnds
 pub mod LineOffsets
 pub mod Moved
+pub mod MovedDepths
 pub mod MovedSimples
 pub mod MovedTokens
 pub mod MovedTrees
+pub mod NoMore
 pub mod OpenBrackets
 pub mod Plain
 pub mod Recut

@@ -9,6 +9,8 @@ ghost use Rattle.py_tree.specs.Erasure.{script_of};
 ghost use Rattle.py_tree.specs.Numbering.{IsNumbered};
 ghost use Rattle.py_tree.specs.StmtSet.{has};
 ghost use Rattle.py_grammar.specs.Grammar.{InGrammar};
+ghost use Rattle.py_grammar.specs.Language.{Language, IsScriptIn, IsScriptWithin};
+ghost use Rattle.py_grammar.specs.Limits.{Limits};
 ghost use Rattle.slice_text.specs.Cut.{cut_from, cut_text, growths, script_gaps};
 ghost use Rattle.slice_text.specs.TextScript.{HasScript};
 
@@ -26,7 +28,9 @@ pub fn cut(alloc: Global, text: &[u8], script: &Script, keep: &StmtSet) -> Resul
     ensures cut { IfOk result (λ bytes. bytes ≡ cut_text (has keep.now) (script_of script.now) text.now) }
     ensures line_ends { IfOk result (λ bytes. line_feeds bytes ≡ line_feeds text.now) }
     ensures grows { IfOk result (λ bytes. length text.now ≤ length bytes) }
-    ensures script { (lines : List Line) → HasLines text.now lines → InGrammar lines (script_of script.now) → IfOk result (λ bytes. HasScript bytes (deleted (has keep.now) (script_of script.now))) }
+    ensures script { (lines : List Line) → HasLines text.now lines → InGrammar lines (script_of script.now) → IfOk result (λ bytes. HasScript InGrammar bytes (deleted (has keep.now) (script_of script.now))) }
+    ensures placed { (language : Language) (lines : List Line) → HasLines text.now lines → IsScriptIn language lines (script_of script.now) → IfOk result (λ bytes. HasScript (IsScriptIn language) bytes (deleted (has keep.now) (script_of script.now))) }
+    ensures within { (limits : Limits) (language : Language) (lines : List Line) → HasLines text.now lines → IsScriptWithin limits language lines (script_of script.now) → IfOk result (λ bytes. HasScript (IsScriptWithin limits language) bytes (deleted (has keep.now) (script_of script.now))) }
     ensures growth { (lines : List Line) → HasLines text.now lines → InGrammar lines (script_of script.now) → IfOk result (λ bytes. length bytes ≡ length text.now + growths text.now (script_gaps (has keep.now) (script_of script.now))) }
     ensures whole { IsNumbered (script_of script.now) → ((i : ℕ) → i < script.now.count → IsTrue (has keep.now i)) → IfOk result (λ bytes. bytes ≡ text.now) }
 {
