@@ -13,7 +13,7 @@ use Rattle.py_grammar.specs.Layout.{IsLine}
 use Rattle.py_grammar.specs.ParsedHead.{behind_in, head_stands, head_depth}
 use Rattle.py_parser.specs.declared.fault.Halt.{Halt}
 use Rattle.py_parser.specs.declared.fault.Halt.TheVariants.{AtToken, AtEnd, NoLine, BadIndent, TooDeep, TooMany, Memory}
-use Rattle.py_parser.specs.Limits.{Limits}
+use Rattle.py_grammar.specs.Limits.{Limits}
 use Rattle.py_parser.specs.Grouped.{no_spot}
 use Rattle.py_parser.specs.Rows.{end_rows, row, Under, nothing, block, rows_lines, under_lines, Level, is_stmt, is_def, counted, opens, inside, follows, FitsUnder, may, under_may}
 use Rattle.py_parser.specs.Faults.{at_token, at_end, first_place, IsAt, few_statements, is_stmt_kind}

@@ -26,7 +26,7 @@ use Rattle.py_grammar.specs.LineReader.{Head, simple_head, if_head, elif_head, e
 use Rattle.py_grammar.specs.ParsedHead.{Context, lacks_handler, word_may, head_stands, head_depth, behind_in, HeadFound, HeadRefused, IsAmissHead, ShownBy, GoesOnLine, ReadsDel, ReadsFor, BeginsHead, DeepHead, kind_may, may_begin, FirstMay, ShowsOnLine, head_lies, behind_first, StartsBehind, IsFreeBehind, DelStarts, del_name, IsAheadOnLine, UnreadLine}
 use Rattle.py_expressions.specs.Lies.{over, is_place}
 use Rattle.py_expressions.specs.Parsed.{IsAtFirst}
-use Rattle.py_parser.specs.Limits.{Limits, profile}
+use Rattle.py_grammar.specs.Limits.{Limits, profile}
 use Rattle.py_parser.specs.Rows.{Level, Begun, is_stmt, is_every, counted, follows, may}
 use Rattle.py_parser.specs.Faults.{last_place, Point, at_token, at_end, shows, Said, low_elsewhere, first_deep_at, LiesSaid, IsLow, del_spot, ReadsBehindDel, ReadsBehindFor, Opens, OpensDel, OpensFor, GoesOnWith, Next, few_suites, few_statements, is_stmt_kind, begins_there, line_fault}
 use Rattle.py_parser.specs.ParsedBlocks.{limit_by, limit_at, RowsBegin, LineRead, RefusedLine, LineStopped, Asks, MarksToken, halt_of, RowsFollow, NoneRows, Passes, RowsLimit, KeepsBy, CountsFrom, KeepsOrderBy, PassesThere, IsPassAt, NonePass, KeepsPass, halt_limit, deep_at}

@@ -18,7 +18,7 @@ use Rattle.py_grammar.specs.ParsedSimple.{around_of}
 use Rattle.py_grammar.specs.ParsedHead.{IsBehind, behind_in, lacks_handler, word_may, head_stands}
 use Rattle.py_parser.specs.declared.blocks.Place.{Place}
 use Rattle.py_parser.specs.declared.blocks.Built.{Built}
-use Rattle.py_parser.specs.Limits.{profile}
+use Rattle.py_grammar.specs.Limits.{profile}
 use Rattle.py_parser.specs.Faults.{last_place}
 use Rattle.py_parser.specs.Rows.{inside, may, Level, counted, is_global, is_def, head_around, head_given, opens, last_after, lets_declare, rows_lines}
 use Rattle.py_parser.specs.RowForms.{suite_list, grown, declared}

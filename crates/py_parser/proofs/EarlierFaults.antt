@@ -16,7 +16,7 @@ use Rattle.py_grammar.proofs.LineFirsts.{head_some}
 use Rattle.py_grammar.proofs.LyingLines.{head_low}
 use Rattle.py_parser.specs.declared.fault.ParseFault.{ParseFault}
 use Rattle.py_parser.specs.declared.fault.ParseFault.TheVariants.{Unexpected, Unsupported, BadIndent, TooDeep, TooMany, Memory}
-use Rattle.py_parser.specs.Limits.{Limits, script_expr_depth, script_suites}
+use Rattle.py_grammar.specs.Limits.{Limits, script_expr_depth, script_suites}
 use Rattle.py_parser.specs.Faults.{Point, at_token, at_end, at_line, below, no_line, shows, Asks, names_limit, origin, BeginsSuite, StandsFor, FollowsWithin, MayFollow, MayStandAt, IsAt, IsPass, IsPassBefore, IsHandler, InColumn, IsDeepAt, Counts, IsOneMore, FirstFault}
 use Rattle.py_parser.specs.Grouped.{no_spot}
 use Rattle.py_parser.specs.Rows.{is_stmt, counted}

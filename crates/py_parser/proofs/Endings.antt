@@ -13,7 +13,7 @@ use Rattle.py_grammar.specs.StatementTokens.{simple_tokens}
 use Rattle.py_grammar.specs.LineReader.{Head, simple_head, except_head, head_tokens}
 use Rattle.py_grammar.specs.Layout.{IsLine}
 use Rattle.py_grammar.specs.ParsedHead.{takes_handler, lacks_handler, head_stands, head_depth, head_lies, behind_in, del_name}
-use Rattle.py_parser.specs.Limits.{Limits, profile}
+use Rattle.py_grammar.specs.Limits.{Limits, profile}
 use Rattle.py_parser.specs.Faults.{Said, LiesSaid, IsLow, Opens, GoesOnWith, Point, at_token, at_end, at_line, below, no_line, tokens_before, Next, IsAt, IsPass, IsPassBefore, IsHandler}
 use Rattle.py_parser.specs.Rows.{Rows, end_rows, row, Under, nothing, block, rows_lines, under_lines, Level, is_every, counted, opens, last_after, after, inside, follows, Leads, FitsUnder, FitsRows, may, rows_may, under_may, rows_stand, under_stand, rows_size, under_size}
 use Rattle.py_parser.specs.Grouped.{no_spot}

@@ -10,7 +10,7 @@ use Rattle.py_parser.specs.declared.fault.Halt.{Halt}
 use Rattle.py_parser.specs.declared.fault.Halt.TheVariants.{AtToken, AtEnd, NoLine, BadIndent as IndentHalt, TooDeep as DeepHalt, TooMany as ManyHalt}
 use Rattle.py_parser.specs.declared.fault.ParseFault.{ParseFault}
 use Rattle.py_parser.specs.declared.fault.ParseFault.TheVariants.{Unexpected, BadIndent, TooDeep, TooMany}
-use Rattle.py_parser.specs.Limits.{Limits}
+use Rattle.py_grammar.specs.Limits.{Limits}
 use Rattle.py_parser.specs.Faults.{Point, at_token, at_end, at_line, below, no_line, shows, NamesToken, NamesEnd, names, Asks, origin, last_token, FirstFault, NamesLimit, ReadsNoFurther, PassesNoneThere, deep_place, names_limit}
 use Rattle.py_parser.specs.ParsedBlocks.{marks, Asks as AsksHalt, FirstHalt, deep_at, halt_limit}
 

@@ -16,7 +16,7 @@ use Rattle.py_grammar.specs.Grammar.{script_lines, FitsScript}
 use Rattle.py_grammar.specs.WellPlaced.{script_stands}
 use Rattle.py_grammar.proofs.HeadReading.{same_head}
 use Rattle.py_grammar.proofs.LineFirsts.{simple_not_compound, misplaced_head}
-use Rattle.py_parser.specs.Limits.{Limits}
+use Rattle.py_grammar.specs.Limits.{Limits}
 use Rattle.py_parser.specs.Faults.{BeginsSuite, AreGlobal, IsHandler, LacksStatement}
 use Rattle.py_parser.specs.Grouped.{script_rows}
 use Rattle.py_parser.specs.Rows.{Rows, end_rows, row, Under, nothing, block, rows_lines, under_lines, Level, start, is_global, opens, counted, after, inside, FitsUnder, FitsRows, may, rows_may, under_may, under_size}

@@ -5,7 +5,7 @@ use Rattle.py_lines.specs.declared.parts.Line.{Line}
 use Rattle.py_tree.specs.Tree.{ScriptTree}
 use Rattle.py_parser.specs.declared.fault.ParseFault.{ParseFault}
 use Rattle.py_parser.specs.declared.fault.ParseFault.TheVariants.{Unexpected, Unsupported, BadIndent, TooDeep, TooMany, Memory}
-use Rattle.py_parser.specs.Limits.{profile}
+use Rattle.py_grammar.specs.Limits.{profile}
 use Rattle.py_parser.specs.Script.{IsScript}
 use Rattle.py_parser.specs.Faults.{Point, at_token, at_end, at_line, below, no_line, names, Asks, NoneWithin, NoneStandsAt, MayFollow, MayStandAt, IsPassBefore, IsHandler, InColumn, LacksStatement, FirstFault, ArePlacedApart, ArePlaced}
 use Rattle.py_parser.proofs.ScriptHeads.{own, own_fine}
@@ -180,4 +180,4 @@ profile_asks Memory = tt
 
 -- a script has none
 pub no_script : (lines : List Line) (tree : ScriptTree) (a : ParseFault) → IsScript lines tree → FirstFault lines a → ⊥
-no_script lines tree a s f = f.none profile (profile_asks a) s.written s.fits s.fine f.behind f.shown (sym s.lines_are ∙ f.lines_are)
+no_script lines tree a s f = f.none profile (profile_asks a) s.script.grammar.written s.script.grammar.fits (record { stands = s.script.stands; within = s.within }) f.behind f.shown (sym s.script.grammar.lines_are ∙ f.lines_are)

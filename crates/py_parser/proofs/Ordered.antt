@@ -4,7 +4,7 @@ use Rattle.py_lines.specs.declared.parts.Line.{Line}
 use Rattle.py_lines.specs.declared.parts.Token.{Token}
 use Rattle.py_grammar.specs.LineReader.{Head, head_tokens}
 use Rattle.py_grammar.specs.Layout.{IsLine}
-use Rattle.py_parser.specs.Limits.{profile}
+use Rattle.py_grammar.specs.Limits.{profile}
 use Rattle.py_parser.specs.Rows.{Rows, rows_lines, rows_size, rows_may, Level, counted, opens, inside, follows, Leads, may}
 use Rattle.py_parser.specs.Faults.{Point, at_token, at_end, at_line, below, no_line, tokens_before}
 use Rattle.py_parser.specs.ParsedBlocks.{RowsWithin, KeepsBy, CountsFrom, PassesBy, KeepsOrderBy, OrderBy, PassesThere, IsPassAt, KeepsPass, KeepsPassUnder, NoneHere, OrderHere}

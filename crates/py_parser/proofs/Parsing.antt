@@ -4,22 +4,24 @@ use Rattle.std.specs.Prelude.{⊤}
 use Rattle.std.proofs.lemmas.Bool.{false≢true}
 use Rattle.prov_base.specs.declared.place.Pos.{Pos}
 use Rattle.py_lines.specs.declared.parts.Line.{Line}
+use Rattle.py_lines.specs.Logical.{HasLines}
 use Rattle.py_tree.specs.declared.stmt.Stmt.{Stmt}
 use Rattle.py_tree.specs.declared.stmt.Suite.{roll-Suite}
 use Rattle.py_tree.specs.Erasure.{stmt_of, suite_of}
 use Rattle.py_tree.specs.Tree.{StmtTree, SuiteTree, ScriptTree}
 use Rattle.py_tree.specs.Numbering.{numbered_suite, size_suite, IsNumbered}
+use Rattle.py_tree.specs.WellFormed.{IsWellFormed}
 use Rattle.py_parser.specs.declared.fault.ParseFault.{ParseFault}
 use Rattle.py_parser.specs.declared.fault.ParseFault.TheVariants.{Unexpected, Unsupported, BadIndent, TooDeep, TooMany, Memory}
 use Rattle.py_parser.specs.declared.fault.Halt.{Halt}
 use Rattle.py_parser.specs.declared.fault.Halt.TheVariants.{AtToken, AtEnd, NoLine, BadIndent as IndentHalt, TooDeep as DeepHalt, TooMany as ManyHalt, Memory as MemoryHalt}
 use Rattle.py_grammar.specs.Written.{Script, empty_script}
-use Rattle.py_grammar.specs.Grammar.{script_lines, FitsScript}
+use Rattle.py_grammar.specs.Grammar.{InGrammar, script_lines, FitsScript}
 use Rattle.py_grammar.specs.StatementTrees.{script_body}
 use Rattle.py_grammar.specs.WellPlaced.{script_stands}
 use Rattle.py_grammar.specs.Follows.{Below}
 use Rattle.py_parser.specs.declared.blocks.Built.{Built}
-use Rattle.py_parser.specs.Limits.{Limits, profile}
+use Rattle.py_grammar.specs.Limits.{Limits, profile}
 use Rattle.py_lines.specs.declared.parts.Token.{Token}
 use Rattle.py_expressions.specs.Tokens.{keyword}
 use Rattle.py_grammar.specs.Layout.{IsLine}
@@ -36,6 +38,7 @@ use Rattle.py_parser.proofs.RowLimits.{script_may}
 use Rattle.py_parser.proofs.RowKept.{script_fine}
 use Rattle.py_parser.proofs.RowNeeds.{rows_height, rows_suites, rows_enough}
 use Rattle.py_tree.proofs.DeletionLaws.{suite_again, suite_size}
+use Rattle.py_grammar.proofs.WellFormedScripts.{script_well_formed}
 use Rattle.py_parser.proofs.BlockForms.{rolled}
 use Rattle.py_parser.proofs.Peeled.{one_indent}
 use Rattle.py_parser.proofs.Columns.{none_open}
@@ -63,14 +66,15 @@ pub whole_script : (lines left : List Line) (rows : Rows) (trees : List StmtTree
     → IsScript lines (tree_by trees count)
 whole_script lines left rows trees count lines_are fits may_be trees_are count_is low =
     let s = script_is rows (starts rows fits) in
-    record {
+    let fine = script_fine profile (script_of rows) (ap (rows_may profile start 0) s.rows_are ∙ may_be) in
+    let grammar : InGrammar lines (tree_by trees count) = record {
       written = script_of rows;
       lines_are = lines_are ∙ ap (λ x. rows_lines rows ++ x) (nothing_left left low) ∙ append-nil (rows_lines rows) ∙ sym (ap rows_lines s.rows_are) ∙ script_same (script_of rows);
       fits = s.fits;
       tree_is = ap (λ (ss : List StmtTree). tree_by ss count) (trees_are ∙ sym (ap (grow 0 []) s.rows_are)) ∙ trees_same (suite_list (grow 0 [] (script_rows (script_of rows)))) (numbered_suite 0 (script_body (script_of rows))) count (size_suite (script_body (script_of rows)))
           (script_grown (script_of rows)) (count_same (ap rows_size s.rows_are ∙ refl) (script_size (script_of rows)));
-      fine = script_fine profile (script_of rows) (ap (rows_may profile start 0) s.rows_are ∙ may_be);
-    }
+    } in
+    record { script = record { grammar = grammar; stands = fine.stands }; within = fine.within }
   where
     count_same : rows_size (script_rows (script_of rows)) ≡ rows_size rows → rows_size (script_rows (script_of rows)) ≡ size_suite (script_body (script_of rows)) → count ≡ size_suite (script_body (script_of rows))
     count_same one two = let three = count_is in omega (arith, one, two, three)
@@ -90,7 +94,10 @@ pub read_script_there : (lines read left : List Line) (l : Level) (built : Built
 read_script_there lines read left l built count at now same is r = as_script lines built.list count (subst (λ (ls : List Line). IsScript ls (tree_by (trees_of built) count)) same (read_script read left l built count at now is r))
 
 no_statements : (lines : List Line) → lines ≡ [] → IsScript lines (tree_by [] 0)
-no_statements lines none = record { written = empty_script; lines_are = none; fits = tt; tree_is = refl; fine = record { stands = refl; low = omega arith; deep = omega arith; few = omega arith } }
+no_statements lines none = record {
+  script = record { grammar = record { written = empty_script; lines_are = none; fits = tt; tree_is = refl }; stands = refl };
+  within = record { low = omega arith; deep = omega arith; few = omega arith };
+}
 
 pub empty_script_is : (lines read : List Line) (v : Vec Stmt Global) → read ≡ lines → read ≡ [] → v.items ≡ [] → IsScript lines (tree_of (suite_of (roll-Suite (record { list = v }))) 0)
 empty_script_is lines read v same none items = as_script lines v 0 (subst (λ (ss : List Stmt). IsScript lines (tree_by (map stmt_of ss) 0)) (sym items) (no_statements lines (sym same ∙ none)))
@@ -140,8 +147,8 @@ script_within suites is front g =
       lines_are = sym (script_same (script_of g.rows)) ∙ ap rows_lines s.rows_are ∙ g.lines_are;
       line_is = g.line_is;
       stands = fine.stands;
-      low = fine.low;
-      deep = fine.deep;
+      low = fine.within.low;
+      deep = fine.within.deep;
     }
 
 script_goes_on : (is : Line → Type 0) (front : List Line) → RowsGoOn start 0 is front → MayFollow is front
@@ -358,7 +365,7 @@ profile_asked (TooMany place) = omega arith
 profile_asked Memory = tt
 
 never_both : (lines : List Line) (fault : ParseFault) (tree : ScriptTree) → FirstFault lines fault → IsScript lines tree → ⊥
-never_both lines fault tree f s = f.none profile (profile_asked fault) s.written s.fits s.fine f.behind f.shown (sym s.lines_are ∙ f.lines_are)
+never_both lines fault tree f s = f.none profile (profile_asked fault) s.script.grammar.written s.script.grammar.fits (record { stands = s.script.stands; within = s.within }) f.behind f.shown (sym s.script.grammar.lines_are ∙ f.lines_are)
 
 pub only_memory : (lines : List Line) (fault : ParseFault) (tree : ScriptTree) → IsFault lines fault → IsScript lines tree → fault ≡ Memory
 only_memory lines Memory tree f s = refl
@@ -370,4 +377,10 @@ only_memory lines (TooMany place) tree f s = absurd (never_both lines (TooMany p
 
 -- the statements of a script are numbered
 pub numbered_script : (lines : List Line) (tree : ScriptTree) → IsScript lines tree → IsNumbered tree
-numbered_script lines tree s = subst IsNumbered (sym s.tree_is) (record { in_order = suite_again 0 0 (script_body s.written); counted = suite_size 0 (script_body s.written) })
+numbered_script lines tree s =
+    let written = s.script.grammar.written in
+    subst IsNumbered (sym s.script.grammar.tree_is) (record { in_order = suite_again 0 0 (script_body written); counted = suite_size 0 (script_body written) })
+
+-- and of a text's lines it is well formed
+pub formed_script : (text : List ℕ) (lines : List Line) (tree : ScriptTree) → HasLines text lines → IsScript lines tree → IsWellFormed tree
+formed_script text lines tree has s = script_well_formed text lines tree has s.script.grammar

@@ -12,7 +12,7 @@ use Rattle.py_grammar.specs.LineReader.{Head, simple_head, head_tokens}
 use Rattle.py_grammar.specs.ParsedHead.{behind_in}
 use Rattle.py_grammar.specs.Written.{Simple, pass}
 use Rattle.py_grammar.proofs.HeadReading.{same_head}
-use Rattle.py_parser.specs.Limits.{Limits}
+use Rattle.py_grammar.specs.Limits.{Limits}
 use Rattle.py_parser.specs.Rows.{is_stmt, counted}
 use Rattle.py_parser.specs.Faults.{Counts, CountsWithPass, NoneBegins, few_suites, few_statements, PassesLimit, KeepsNumber, KeepsLimits, PassesNone, begins_there}
 use Rattle.py_parser.proofs.ScriptHeads.{own, own_fine, line_head, kind_tells}

@@ -6,7 +6,7 @@ use Rattle.py_grammar.specs.LineReader.{Head, head_tokens}
 use Rattle.py_grammar.specs.Layout.{IsLine}
 use Rattle.py_grammar.specs.Follows.{Below}
 use Rattle.py_grammar.specs.ParsedHead.{lacks_handler}
-use Rattle.py_parser.specs.Limits.{Limits}
+use Rattle.py_grammar.specs.Limits.{Limits}
 use Rattle.py_parser.specs.Rows.{Edge, LastEdge, Begun, Left, Rows, end_rows, row, Under, nothing, block, rows_lines, under_lines, Level, counted, after, inside, Leads, FitsUnder, FitsRows, may, rows_may, under_may, rows_size, under_size}
 use Rattle.py_grammar.proofs.HeadReading.{same_head}
 

@@ -10,81 +10,19 @@ use Rattle.py_lines.specs.declared.parts.Token.{Token}
 use Rattle.py_lines.specs.declared.parts.TokenKind.{TokenKind}
 use Rattle.py_lines.specs.Piece.{Piece, word, number, sign, literal, blank, comment, line_end, spelled, text_of, line_end_text, is_piece, ends, are_cut}
 use Rattle.py_lines.specs.Place.{place, place_behind}
-use Rattle.py_lines.specs.Counting.{next_place, place_after}
 use Rattle.py_lines.specs.Written.{Written, last, more, pieces_of, behind_line, kind_of, is_token, tokens_of, indentation, line_at, lines_of}
 use Rattle.py_lines.specs.Logical.{HasLines}
-use Rattle.py_lines.proofs.PlaceLemmas.{place_behind-append, place-front}
+use Rattle.py_lines.proofs.PlaceLemmas.{place-front}
 use Rattle.py_lines.proofs.Snoc.{text_of-append}
+use Rattle.py_grammar.proofs.LineOrder.{IsBefore, IsFrom, before_from, piece_before, are_pieces}
 use Rattle.py_expressions.specs.Lies.{is_place, IsApart}
 use Rattle.py_parser.specs.Faults.{ArePlacedApart, ArePlaced}
 
 -- ---- places in order
 
--- the one place stands before the other
-abbrev IsBefore : Pos → Pos → Type 0
-IsBefore one other = (one.line < other.line) ⊎ ((one.line ≡ other.line) × (one.col < other.col))
-
--- the other place is this one or stands behind it
-abbrev IsFrom : Pos → Pos → Type 0
-IsFrom one other = (one ≡ other) ⊎ IsBefore one other
-
-before_before : (a b c : Pos) → IsBefore a b → IsBefore b c → IsBefore a c
-before_before a b c (inl one) (inl two) = inl (omega (arith, one, two))
-before_before a b c (inl one) (inr two) = inl (let same = two.0 in omega (arith, one, same))
-before_before a b c (inr one) (inl two) = inl (let same = one.0 in omega (arith, two, same))
-before_before a b c (inr one) (inr two) = inr (one.0 ∙ two.0, let near = one.1 in let far = two.1 in omega (arith, near, far))
-
-before_from : (a b c : Pos) → IsBefore a b → IsFrom b c → IsBefore a c
-before_from a b c one (inl same) = subst (λ (p : Pos). IsBefore a p) same one
-before_from a b c one (inr two) = before_before a b c one two
-
 before_apart : (a b : Pos) → IsBefore a b → is_place b a ≡ false
 before_apart a b (inl one) = and_left (b.line == a.line) (b.col == a.col) (ne_eqb b.line a.line (λ same. omega (arith, one, same)))
 before_apart a b (inr one) = and_right (b.line == a.line) (b.col == a.col) (ne_eqb b.col a.col (λ same. let near = one.1 in omega (arith, near, same)))
-
--- each byte leads to a place further on
-next_before : (here : Pos) (byte : ℕ) → IsBefore here (next_place here byte)
-next_before here byte = by (byte == 10)
-  where
-    by : (ends : Bool) → IsBefore here (if ends then record { line = here.line + 1; col = 1 } else record { line = here.line; col = here.col + 1 })
-    by true = inl (omega arith)
-    by false = inr (refl, omega arith)
-
-after_from : (here : Pos) (bytes : List ℕ) → IsFrom here (place_after here bytes)
-after_from here [] = inl refl
-after_from here (byte ∷ bytes) = inr (before_from here (next_place here byte) (place_after (next_place here byte) bytes) (next_before here byte) (after_from (next_place here byte) bytes))
-
--- ---- no piece is empty
-
-record Begins (bytes : List ℕ) : Type 0 where
-  first : ℕ
-  behind : List ℕ
-  is : bytes ≡ first ∷ behind
-
-begins_front : (a b : List ℕ) → Begins a → Begins (a ++ b)
-begins_front a b s = record { first = s.first; behind = s.behind ++ b; is = ap (λ (bytes : List ℕ). bytes ++ b) s.is }
-
-some_byte : (p : Piece) → is_piece p ≡ true → Begins (spelled p)
-some_byte (word []) is = absurd (false≢true is)
-some_byte (word (c ∷ cs)) is = record { first = c; behind = cs; is = refl }
-some_byte (number []) is = absurd (false≢true is)
-some_byte (number (d ∷ ds)) is = record { first = d; behind = ds; is = refl }
-some_byte (sign []) is = absurd (false≢true is)
-some_byte (sign (c ∷ cs)) is = record { first = c; behind = cs; is = refl }
-some_byte (literal mark true items) is = record { first = mark; behind = _; is = refl }
-some_byte (literal mark false items) is = record { first = mark; behind = _; is = refl }
-some_byte (blank byte) is = record { first = byte; behind = []; is = refl }
-some_byte (comment bytes) is = record { first = 35; behind = bytes; is = refl }
-some_byte (line_end true) is = record { first = 13; behind = 10 ∷ []; is = refl }
-some_byte (line_end false) is = record { first = 10; behind = []; is = refl }
-
--- what stands behind a piece stands behind where the piece begins
-piece_before : (front : List ℕ) (p : Piece) → is_piece p ≡ true → IsBefore (place_behind front) (place_behind (front ++ spelled p))
-piece_before front p is =
-    let some = some_byte p is in
-    let here : Pos = place_behind front in
-    subst (λ (other : Pos). IsBefore here other) (ap (place_after here) (sym some.is) ∙ sym (place_behind-append front (spelled p)))
-    (before_from here (next_place here some.first) (place_after (next_place here some.first) some.behind) (next_before here some.first) (after_from (next_place here some.first) some.behind))
 
 -- ---- the tokens of a line
 
@@ -165,13 +103,6 @@ line_placed text front rest line text_is all = by (list_any is_token line) refl
 both_placed : (a b : List Line) → ArePlaced a → ArePlaced b → ArePlaced (a ++ b)
 both_placed [] b one two = two
 both_placed (line ∷ a) b one two = (one.0, one.1, both_placed a b one.2 two)
-
-are_pieces : (ps : List Piece) (rest : List ℕ) → are_cut ps rest ≡ true → list_all is_piece ps ≡ true
-are_pieces [] rest cut = refl
-are_pieces (p ∷ ps) rest cut =
-    let parts = and_parts (is_piece p && ends p (text_of ps ++ rest)) (are_cut ps rest) cut in
-    let first = and_parts (is_piece p) (ends p (text_of ps ++ rest)) parts.0 in
-    ap (λ (b : Bool). b && list_all is_piece ps) first.0 ∙ are_pieces ps rest parts.1
 
 all_parts : (a b : List Piece) → list_all is_piece (a ++ b) ≡ true → (list_all is_piece a ≡ true) × (list_all is_piece b ≡ true)
 all_parts [] b all = (refl, all)

@@ -4,7 +4,8 @@ use Rattle.std.proofs.lemmas.Bool.{false≢true}
 use Rattle.py_lines.specs.declared.parts.Line.{Line}
 use Rattle.py_tree.specs.Numbering.{size_stmt, size_suite, size_branches, size_else, size_handlers}
 use Rattle.py_expressions.specs.Concrete.{Spot}
-use Rattle.py_parser.specs.Limits.{Limits, IsFine}
+use Rattle.py_parser.specs.Limits.{IsFine}
+use Rattle.py_grammar.specs.Limits.{Limits}
 use Rattle.py_grammar.specs.Written.{Simple, Params, Kind, every_kind, one_kind, Stmt, simple, if_stmt, while_stmt, for_stmt, try_stmt, with_stmt, def_stmt, class_stmt, Suite, on_line, block, Body, last_stmt, more_stmt, Elifs, no_elif, elif, Else, no_else_part, else_part, Handlers, last_handler, more_handler, DefSuite, def_line, def_block, DefBody, end_def, stmt_in_def, global_in_def, Script, empty_script, script}
 use Rattle.py_grammar.specs.StatementTrees.{params_list, stmt_tree, suite_tree, body_tree, elif_trees, else_tree, handler_trees, def_tree, def_body_tree}
 use Rattle.py_expressions.specs.Depth.{expr_depth, exprs_depth}
@@ -440,9 +441,9 @@ module _ (q : Limits) where
         }
 
   pub script_fine : (s : Script) → rows_may q start 0 (script_rows s) ≡ true → IsFine q s
-  script_fine empty_script is = record { stands = refl; low = omega arith; deep = omega arith; few = omega arith }
+  script_fine empty_script is = record { stands = refl; within = record { low = omega arith; deep = omega arith; few = omega arith } }
   script_fine (script body) is =
       let b = body_kept start 0 body (omega arith) is in
       let few = b.few in
       let deep = b.deep in
-      record { stands = b.stands; low = b.low; deep = omega (arith, deep); few = omega (arith, few) }
+      record { stands = b.stands; within = record { low = b.low; deep = omega (arith, deep); few = omega (arith, few) } }

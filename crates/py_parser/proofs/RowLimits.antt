@@ -7,7 +7,8 @@ use Rattle.py_tree.specs.Numbering.{size_stmt, size_suite, size_branches, size_e
 use Rattle.py_grammar.specs.declared.context.Last.{Last}
 use Rattle.py_grammar.specs.declared.context.Last.TheVariants.{Nothing, Loop, If, Try, Handler, Every}
 use Rattle.py_expressions.specs.Concrete.{Spot}
-use Rattle.py_parser.specs.Limits.{Limits, IsFine}
+use Rattle.py_parser.specs.Limits.{IsFine}
+use Rattle.py_grammar.specs.Limits.{Limits}
 use Rattle.py_grammar.specs.Written.{Simple, Params, Kind, every_kind, one_kind, Stmt, simple, if_stmt, while_stmt, for_stmt, try_stmt, with_stmt, def_stmt, class_stmt, Suite, on_line, block, Body, last_stmt, more_stmt, Elifs, no_elif, elif, Else, no_else_part, else_part, Handlers, last_handler, more_handler, DefSuite, def_line, def_block, DefBody, end_def, stmt_in_def, global_in_def, Script, empty_script, script}
 use Rattle.py_grammar.specs.StatementTrees.{params_list, stmt_tree, suite_tree, body_tree, elif_trees, else_tree, handler_trees, def_body_tree}
 use Rattle.py_expressions.specs.Depth.{expr_depth, exprs_depth}
@@ -376,4 +377,4 @@ module _ (q : Limits) where
   -- what is asked of a script beside the grammar: that its statements stand where they may, and the limits
   pub script_may : (s : Script) → IsFine q s → rows_may q start 0 (script_rows s) ≡ true
   script_may empty_script f = refl
-  script_may (script body) f = body_may start 0 body f.stands f.low (let deep = f.deep in omega (arith, deep)) (let few = f.few in omega (arith, few)) refl
+  script_may (script body) f = body_may start 0 body f.stands f.within.low (let deep = f.within.deep in omega (arith, deep)) (let few = f.within.few in omega (arith, few)) refl

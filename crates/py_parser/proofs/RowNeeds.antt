@@ -3,7 +3,7 @@ use Rattle.std.proofs.Common.{◌≡◌, ℕ, ◌+◌, ◌≤◌, suc, max, nat_
 use Rattle.std.proofs.Math.Nat.{le-max_left, le-max_right}
 use Rattle.py_grammar.specs.LineReader.{Head}
 use Rattle.py_grammar.specs.ParsedHead.{head_stands, head_depth, behind_in}
-use Rattle.py_parser.specs.Limits.{Limits}
+use Rattle.py_grammar.specs.Limits.{Limits}
 use Rattle.py_parser.specs.Rows.{Rows, end_rows, row, Under, nothing, block, Level, counted, after, inside, may, rows_may, under_may, rows_stand, under_stand, rows_size, under_size}
 use Rattle.py_parser.proofs.RowLimits.{both, second, all_three, all_four, three_of, four_of, left_of, right_of}
 

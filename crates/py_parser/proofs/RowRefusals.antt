@@ -10,7 +10,7 @@ use Rattle.py_parser.specs.declared.fault.Halt.TheVariants.{AtToken, AtEnd, NoLi
 use Rattle.py_grammar.specs.LineReader.{Head, simple_head, head_tokens}
 use Rattle.py_grammar.specs.Layout.{IsLine}
 use Rattle.py_grammar.specs.Follows.{Below}
-use Rattle.py_parser.specs.Limits.{Limits, profile}
+use Rattle.py_grammar.specs.Limits.{Limits, profile}
 use Rattle.py_parser.specs.Rows.{Rows, end_rows, row, Under, nothing, block, rows_lines, under_lines, Level, counted, opens, after, inside, is_done, follows, Leads, FitsUnder, FitsRows, may, rows_may, under_may, rows_size, Edge, LastEdge, Begun}
 use Rattle.py_lines.specs.declared.parts.TokenKind.TheVariants.{Keyword}
 use Rattle.py_expressions.specs.declared.fault.Fault.{Fault}

@@ -12,7 +12,7 @@ use Rattle.py_grammar.specs.LineReader.{Head, head_tokens}
 use Rattle.py_grammar.specs.StatementTrees.{end_of}
 use Rattle.py_grammar.specs.Layout.{IsLine}
 use Rattle.py_grammar.specs.ParsedHead.{behind_in}
-use Rattle.py_parser.specs.Limits.{profile}
+use Rattle.py_grammar.specs.Limits.{profile}
 use Rattle.py_parser.specs.Rows.{Rows, end_rows, row, Under, rows_lines, under_lines, Level, counted, after, follows, Leads, FitsUnder, may, rows_may, under_may, rows_size, under_size, Edge, LastEdge, Begun}
 use Rattle.py_parser.specs.RowForms.{grown, inner_number, declared, row_globals, under_globals, grow, below_tree}
 use Rattle.py_parser.specs.Faults.{last_token}

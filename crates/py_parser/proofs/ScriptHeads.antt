@@ -18,7 +18,8 @@ use Rattle.py_grammar.specs.StatementTrees.{script_body}
 use Rattle.py_grammar.specs.WellPlaced.{script_stands}
 use Rattle.py_grammar.proofs.HeadReading.{same_head}
 use Rattle.py_grammar.proofs.LineFirsts.{simple_not_compound}
-use Rattle.py_parser.specs.Limits.{Limits, IsFine, script_expr_depth, script_suites}
+use Rattle.py_parser.specs.Limits.{IsFine}
+use Rattle.py_grammar.specs.Limits.{Limits, script_expr_depth, script_suites}
 use Rattle.py_parser.specs.Faults.{is_stmt_kind}
 use Rattle.py_parser.specs.Grouped.{script_rows}
 use Rattle.py_parser.specs.Rows.{Rows, end_rows, row, Under, nothing, block, rows_lines, under_lines, Level, start, is_stmt, opens, counted, after, inside, FitsUnder, FitsRows, FitsStart, may, rows_may, under_may, under_size}
@@ -33,7 +34,7 @@ abbrev pub own : Script → Limits
 own s = record { height = script_expr_depth s; suites = script_suites s; number = size_suite (script_body s) }
 
 pub own_fine : (s : Script) → script_stands s ≡ true → IsFine (own s) s
-own_fine s stands = record { stands = stands; low = same (script_expr_depth s); deep = same (script_suites s); few = same (size_suite (script_body s)) }
+own_fine s stands = record { stands = stands; within = record { low = same (script_expr_depth s); deep = same (script_suites s); few = same (size_suite (script_body s)) } }
   where
     same : (a : ℕ) → a ≤ a
     same a = omega arith

@@ -7,7 +7,7 @@ use Rattle.py_grammar.specs.Written.{every_kind, one_kind}
 use Rattle.py_grammar.specs.LineReader.{Head, simple_head, if_head, elif_head, else_head, while_head, for_head, try_head, except_head, with_head, def_head, class_head, global_head, head_tokens}
 use Rattle.py_grammar.specs.Layout.{IsLine}
 use Rattle.py_grammar.specs.ParsedHead.{lacks_handler, head_stands, head_depth}
-use Rattle.py_parser.specs.Limits.{profile}
+use Rattle.py_grammar.specs.Limits.{profile}
 use Rattle.py_parser.specs.Faults.{StandsFor}
 use Rattle.py_parser.specs.Rows.{Rows, end_rows, row, Under, nothing, block, rows_lines, under_lines, Level, counted, opens, last_after, after, inside, follows, Leads, FitsUnder, may, rows_may, under_may, rows_size, under_size}
 use Rattle.py_parser.specs.ParsedBlocks.{wide, RowsWithin, UnderWithin, HasRoom, RowsLie, UnderLie}

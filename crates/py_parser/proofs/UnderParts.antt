@@ -19,7 +19,7 @@ use Rattle.py_grammar.specs.LineReader.{Head, simple_head, if_head, elif_head, e
 use Rattle.py_grammar.specs.Layout.{IsLine}
 use Rattle.py_grammar.specs.ParsedSimple.{around_of}
 use Rattle.py_grammar.specs.ParsedHead.{IsThere, IsBehind, behind_in, lacks_handler, head_stands, head_depth}
-use Rattle.py_parser.specs.Limits.{profile}
+use Rattle.py_grammar.specs.Limits.{profile}
 use Rattle.py_parser.specs.Rows.{Rows, end_rows, row, nothing, block, rows_lines, Level, is_def, is_stmt, counted, opens, head_around, head_given, after, inside, follows, FitsRows, may, rows_may}
 use Rattle.py_parser.specs.RowForms.{suite_list, begun, grown, inner_number, declared, under_globals, grow, below_tree}
 use Rattle.py_parser.specs.Faults.{last_place}

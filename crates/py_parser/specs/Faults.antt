@@ -25,7 +25,8 @@ use Rattle.refused_forms.specs.declared.standing.Standing.{Standing}
 use Rattle.refused_forms.specs.LineForms.{standing}
 use Rattle.refused_forms.specs.RefusedForms.{IsRefusedForm}
 use Rattle.py_parser.specs.Rows.{counted, opens}
-use Rattle.py_parser.specs.Limits.{Limits, IsFine, script_expr_depth, script_suites}
+use Rattle.py_parser.specs.Limits.{IsFine}
+use Rattle.py_grammar.specs.Limits.{Limits, script_expr_depth, script_suites}
 
 -- where a text begins
 abbrev pub origin : Pos

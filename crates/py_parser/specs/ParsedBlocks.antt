@@ -25,7 +25,7 @@ use Rattle.py_grammar.specs.ParsedSimple.{around_of}
 use Rattle.py_expressions.specs.Concrete.{Spot}
 use Rattle.py_expressions.specs.Tokens.{keyword}
 use Rattle.py_grammar.specs.ParsedHead.{IsWhat, IsBehind, lacks_handler, behind_in, head_lies}
-use Rattle.py_parser.specs.Limits.{Limits, profile}
+use Rattle.py_grammar.specs.Limits.{Limits, profile}
 use Rattle.py_parser.specs.Faults.{last_token, Said, low_elsewhere, first_deep_at, Point, at_token, at_end, at_line, below, no_line, IsAt, IsPass, IsPassBefore, IsHandler, IsOpenAt, AreGlobal, LacksStatement, InColumn, BeginsScript, ReadsNoFurther, NoneWithin, few_suites, few_statements, is_stmt_kind, begins_there, StandsFor, LieWithin, InOrder, PassesNoneThere, Counts, BeginAtMost, IsDeepAt, IsOneMore, shows, first_place, first_token, last_place, origin, tokens_before, Next}
 use Rattle.py_parser.specs.Rows.{Begun, Rows, Under, rows_lines, under_lines, Level, counted, after, is_done, opens, follows, Leads, FitsUnder, FitsRows, may, rows_may, under_may, rows_stand, under_stand, rows_size, under_size, Edge, LastEdge}
 use Rattle.py_parser.specs.RowForms.{suite_list, grown, inner_number, declared, row_globals, under_globals, grow, below_tree}

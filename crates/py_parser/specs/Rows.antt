@@ -10,7 +10,7 @@ use Rattle.py_grammar.specs.WellPlaced.{Around, module_level, in_suite, in_loop_
 use Rattle.py_grammar.specs.LineReader.{Head, simple_head, if_head, elif_head, else_head, while_head, for_head, try_head, except_head, def_head, class_head, global_head, head_tokens}
 use Rattle.py_grammar.specs.Layout.{IsLine}
 use Rattle.py_grammar.specs.Follows.{Below}
-use Rattle.py_parser.specs.Limits.{Limits}
+use Rattle.py_grammar.specs.Limits.{Limits}
 use Rattle.py_grammar.specs.ParsedHead.{Context, head_stands, head_depth, behind_in, takes_branch, takes_handler, lacks_handler}
 
 mutual

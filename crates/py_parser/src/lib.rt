@@ -8,6 +8,8 @@
 //! - `found`, `complete`, `numbered`: an answered script is one of the grammar that has exactly these lines, whose statements stand
 //!   where they may, within the limits: 20,000 statements, 50 suites, expressions 100 deep. Lines that are such a script get no
 //!   other answer but Memory. Its statements are numbered from 0 in the order of the text.
+//! - `well_formed`: the script of a text's lines is well formed. Places of statements ascend, no two nodes stand at one place, and
+//!   the bytes of a statement are among those of the one whose suite it is in.
 //! - `refused` (`FirstFault` in `specs/Faults.antt`): what precedes the fault can be completed to a valid script; with the token at
 //!   the fault it cannot. After TooDeep it cannot within the limits of depth, after TooMany not within 20,000 statements, after
 //!   the other faults not at all.

@@ -3,7 +3,7 @@ use Rattle.py_lines.specs.declared.parts.Line.{Line}
 use Rattle.py_parser.specs.declared.fault.ParseFault.TheVariants.{BadIndent}
 use Rattle.py_parser.specs.Faults.{origin, first_place, FirstFault, IsFault}
 use Rattle.py_parser.proofs.CycleParts.{no_first, some_first}
-use Rattle.py_parser.proofs.Parsing.{read_script_there, empty_script_is, stopped_there, indented_first, only_memory, numbered_script}
+use Rattle.py_parser.proofs.Parsing.{read_script_there, empty_script_is, stopped_there, indented_first, only_memory, numbered_script, formed_script}
 use Rattle.py_parser.proofs.script.parse.Goals as goal
 
 -- src/script.rt
@@ -14,6 +14,11 @@ returns-in_default-clause-found c = empty_script_is c.args.lines.now c.as_slice-
 pub returns-in_default-clause-numbered : goal.returns-in_default-clause-numbered
 returns-in_default-clause-numbered c =
     numbered_script c.args.lines.now _ (empty_script_is c.args.lines.now c.as_slice-lines.result.now c.new.result c.as_slice-lines.ensures (no_first _ c.in_default.ensures.value) c.new.ensures.items)
+
+-- src/script.rt
+pub returns-in_default-clause-well_formed : goal.returns-in_default-clause-well_formed
+returns-in_default-clause-well_formed c text has =
+    formed_script text c.args.lines.now _ has (empty_script_is c.args.lines.now c.as_slice-lines.result.now c.new.result c.as_slice-lines.ensures (no_first _ c.in_default.ensures.value) c.new.ensures.items)
 
 -- src/script.rt
 pub returns-then-first-ne0-clause-refused : goal.returns-then-first-ne0-clause-refused
@@ -43,4 +48,10 @@ returns-clause-found c =
 pub returns-clause-numbered : goal.returns-clause-numbered
 returns-clause-numbered c =
     numbered_script c.args.lines.now _
+    (read_script_there c.args.lines.now c.as_slice-lines.result.now _ _ c.in-Ok.built c.rows.new.self.count origin _ c.as_slice-lines.ensures c.module.ensures (rw c.none-given.ensures at c.in-Ok.ensures.found))
+
+-- src/script.rt
+pub returns-clause-well_formed : goal.returns-clause-well_formed
+returns-clause-well_formed c text has =
+    formed_script text c.args.lines.now _ has
     (read_script_there c.args.lines.now c.as_slice-lines.result.now _ _ c.in-Ok.built c.rows.new.self.count origin _ c.as_slice-lines.ensures c.module.ensures (rw c.none-given.ensures at c.in-Ok.ensures.found))
