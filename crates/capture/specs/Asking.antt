@@ -5,7 +5,7 @@ use Rattle.prov_outside.specs.declared.trouble.Trouble.{Trouble}
 use Rattle.prov_outside.specs.declared.trouble.Trouble.TheVariants.{Failed as Fault, Memory as NoMemory}
 use Rattle.prov_outside.specs.declared.folder.Found.{Found}
 use Rattle.prov_outside.specs.declared.folder.Found.TheVariants.{Bytes, Absent, TooLarge, Failed as Unfound}
-use Rattle.prov_outside.specs.Console.{ConsoleView}
+use Rattle.prov_outside.specs.Console.{ConsoleView, IsLine}
 use Rattle.prov_outside.specs.Moments.{MomentsView}
 use Rattle.capture.specs.declared.answer.Ask.{Ask as Question}
 use Rattle.capture.specs.declared.answer.Ask.TheVariants.{Time, Word, Line}
@@ -66,6 +66,14 @@ as_fetch (Ok (Bytes bytes)) = Ok (Bytes bytes)
 as_fetch (Ok Absent) = Ok Absent
 as_fetch (Ok TooLarge) = Ok TooLarge
 as_fetch (Err want) = Err NoMemory
+
+-- a line that was given holds no LF
+abbrev pub IsOneLine : Given → Type 0
+IsOneLine (LineGiven line) = IsLine line
+IsOneLine (Number time) = Unit {0}
+IsOneLine (WordGiven word) = Unit {0}
+IsOneLine End = Unit {0}
+IsOneLine Failed = Unit {0}
 
 -- what was given is a line
 abbrev pub IsLineGiven : Given → Type 0

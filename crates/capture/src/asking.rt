@@ -1,10 +1,10 @@
 // One asking of a device: what it gives, as it is kept.
 ghost use Rattle.std.specs.Prelude.{◌≡◌, IfOk, OnErr};
 ghost use Rattle.prov_outside.specs.Count.{faults_after};
-ghost use Rattle.prov_outside.specs.Folder.{Gets};
+ghost use Rattle.prov_outside.specs.Folder.{Gets, IsAnswer};
 ghost use Rattle.prov_outside.specs.Tells.{Tells};
 ghost use Rattle.capture.specs.Answers.{Fits};
-ghost use Rattle.capture.specs.Asking.{ForAsk, AsksTime, AsksWord, AsksLine, as_answer, as_fetch, IsLineGiven};
+ghost use Rattle.capture.specs.Asking.{ForAsk, AsksTime, AsksWord, AsksLine, as_answer, as_fetch, IsLineGiven, IsOneLine};
 
 use crate::answer::{Ask, Given};
 use prov_base::{Bytes, Memory};
@@ -19,6 +19,7 @@ pub(crate) fn ask<C: Console, M: Moments>(
     moments: &mut M,
 ) -> Result<Given, Memory>
     ensures fits { IfOk result (Fits what) }
+    ensures no_lf { IfOk result IsOneLine }
     ensures told { ForAsk what (Tells (M.told moments.old) (M.told moments.new) (AsksTime result))
         (Tells (M.told moments.old) (M.told moments.new) (AsksWord result))
         (Tells (C.told console.old) (C.told console.new) (AsksLine result)) }
@@ -49,6 +50,7 @@ pub(crate) fn ask<C: Console, M: Moments>(
 
 /// What the folder gives at a path. A fault is found as `Failed`.
 pub(crate) fn fetch<F: Folder>(alloc: Global, path: &str, folder: &mut F) -> Result<Found, Memory>
+    ensures answer { IfOk (as_fetch result) IsAnswer }
     ensures told { Tells (F.told folder.old) (F.told folder.new) (Gets path.now (as_fetch result)) }
     ensures cause { F.get_faults folder.new ≡ faults_after (as_fetch result) (F.get_faults folder.old) }
     ensures source_faults { F.source_faults folder.new ≡ F.source_faults folder.old }

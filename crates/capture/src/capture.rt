@@ -5,10 +5,10 @@ ghost use Rattle.prov_base.specs.declared.place.Pos.{Pos as Place};
 ghost use Rattle.prov_base.specs.declared.refusal.Memory.{Memory as Want};
 ghost use Rattle.prov_outside.specs.declared.folder.Found.{Found as FoundThere};
 ghost use Rattle.prov_outside.specs.Count.{faults_after};
-ghost use Rattle.prov_outside.specs.Folder.{Gets};
+ghost use Rattle.prov_outside.specs.Folder.{Gets, IsAnswer};
 ghost use Rattle.prov_outside.specs.Tells.{Tells};
 ghost use Rattle.capture.specs.Answers.{given_at, is_kept, IsLast, Fits, answer_at, AreInOrder, AreOnce};
-ghost use Rattle.capture.specs.Asking.{ForAsk, AsksTime, AsksWord, AsksLine, as_answer, as_fetch};
+ghost use Rattle.capture.specs.Asking.{ForAsk, AsksTime, AsksWord, AsksLine, as_answer, as_fetch, IsOneLine};
 ghost use Rattle.capture.specs.Capture.{is_known, is_among, with_path};
 ghost use Rattle.capture.specs.Files.{file_at, with_file, IsAscending};
 
@@ -66,6 +66,7 @@ impl Capture {
         ensures kept { IfOk result (λ given. (last : ℕ) × IsLast self.old.answers at last
             × (self.new.answers ≡ self.old.answers ++ record { at = at; k = last + 1; what = what; given = given } ∷ [])) }
         ensures fits { IfOk result (Fits what) }
+        ensures no_lf { IfOk result IsOneLine }
         ensures same { self.new ≡ record self.old { answers = self.new.answers } }
         ensures err { OnErr result (self.new ≡ self.old) }
 
@@ -120,7 +121,7 @@ impl Capture {
         ensures known { IsTrue (is_known self.old path.now) → IsOk result × (self.new ≡ self.old) × (folder.new ≡ folder.old) }
         ensures kept { is_known self.old path.now ≡ false → OnOk result ((found : FoundThere) × (self.new.files ≡ with_file path.now found self.old.files)
             × Tells (F.told folder.old) (F.told folder.new) (Gets path.now (as_fetch (Ok found)))
-            × (F.get_faults folder.new ≡ faults_after (as_fetch (Ok found)) (F.get_faults folder.old))) }
+            × (F.get_faults folder.new ≡ faults_after (as_fetch (Ok found)) (F.get_faults folder.old)) × IfOk (as_fetch (Ok found)) IsAnswer) }
         ensures same { self.new ≡ record self.old { files = self.new.files } }
         ensures err { OnErr result (self.new ≡ self.old) }
 
