@@ -5,7 +5,8 @@
 
 VECTORS is a file of scripts with what is expected of them, worked out apart from this program: a list `scripts`, each with `name`,
 `script`, `path`, `arguments`, `budget`, `files`, `clock`, `words`, `lines`, and `closing`, `output`, `steps`, `finals` and `pages1`,
-the rows of its moments, and `evaluations`, some of them with the steps up to and with each (`value_steps`).
+the rows of its moments, and `evaluations`, some of them with the graph text of
+the value and the steps up to and with each (`value`, `value_steps`).
 In `own_runs.json` the moments are not all written down, but which statements ended how (`endings`). The syntax trees are those of Python's own `ast`. It wants Python 3.11.
 """
 import ast, io, json, sys, tokenize
@@ -400,11 +401,11 @@ use Rattle.py_tree.specs.Tree.{const_expr, var_expr, unary_expr, binary_expr, co
 use Rattle.py_value.specs.declared.access.Mode.TheVariants.{Read, Write, Append}
 use Rattle.py_value.specs.Contents.{nothing, truth, int, text, tuple, range, function, class, exception_class, builtin, object, no_parts, part}
 use Rattle.py_value.specs.Seen.{a_list, a_dict, an_instance, a_file, var_at, len_at, item_at, entry_at, order_at, file_at, offset_at, closed_at, method_at, base_at, var_is, len_is, item_is, entry_is, order_is, file_is, offset_is, closed_is, method_is, base_is, key_inserted, key_deleted, bytes_appended, reads, sets, updates}
-use Rattle.py_model.specs.Capture.{Capture}
+use Rattle.py_model.specs.Capture.{Capture, opening_in}
 use Rattle.py_model.specs.Meaning.{Run, run, level, finished, uncaught, out_of_steps}
 use Rattle.py_model.specs.Moment.{Moment, begins, does, enters, leaves, ends, normal_end, break_end, continue_end, return_end, raise_end}
 use Rattle.py_model.specs.Plan.{value, raised, at_end, time, word, line, number, random_word, a_line, no_line, failed, found_bytes, absent, too_large, found_failed}
-use Rattle.py_vectors.specs.Words.{place, no_span, summary, steps_to, endings}
+use Rattle.py_vectors.specs.Words.{place, no_span, summary, steps_to, endings, value_text}
 '''
 
 
@@ -456,8 +457,9 @@ def theorem(v, name, with_moments):
         end = 'finished'
     finals = v['finals'].items() if isinstance(v['finals'], dict) else v['finals']
     out = ['abbrev pub %s_tree : ScriptTree' % name, '%s_tree = %s' % (name, tree.text()), '']
-    out += ['abbrev pub %s_run : Run' % name, '%s_run = run %s_tree %s %s (%s) %d' % (
-        name, name, codes(v['path']), row([codes(a) for a in v['arguments']]), capture, v['budget']), '']
+    words = row([codes(a) for a in v['arguments']])
+    out += ['abbrev pub %s_capture : Capture' % name, '%s_capture = %s' % (name, capture), '']
+    out += ['abbrev pub %s_run : Run' % name, '%s_run = run %s_tree %s %s %s_capture %d' % (name, name, codes(v['path']), words, name, v['budget']), '']
     out += ['%s : summary %s_run ≡ record { end = %s; steps = %d; output = %s; finals = %s }' % (
         name, name, end, v['steps'], codes(bytes.fromhex(v['output'])), row(['(%s, %s)' % (codes(p), codes(bytes.fromhex(f))) for p, f in finals])),
         'unfolding is_utf8 chars encode_utf8 level', '%s = refl' % name, '']
@@ -470,6 +472,9 @@ def theorem(v, name, with_moments):
     for i, e in enumerate(v['evaluations']):
         out += ['%s_steps_%d : steps_to %s_run (place %d %d) %d ≡ Some %d' % (name, i + 1, name, e['line'], e['col'], e['k'], e['value_steps']),
                 'unfolding is_utf8 chars encode_utf8 level', '%s_steps_%d = refl' % (name, i + 1), '']
+        out += ['%s_value_%d : value_text %s_tree (opening_in %s_capture %s %s) %s_run (place %d %d) %d ≡ Some %s' % (
+                    name, i + 1, name, name, codes(v['path']), words, name, e['line'], e['col'], e['k'], codes(e['value'])),
+                'unfolding is_utf8 chars encode_utf8 level', '%s_value_%d = refl' % (name, i + 1), '']
     return '\n'.join(out)
 
 

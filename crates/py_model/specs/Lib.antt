@@ -12,6 +12,7 @@ pub mod Faults
 pub mod Files
 pub mod Functions
 pub mod Going
+pub mod Graph
 pub mod History
 pub mod Keys
 pub mod Lists

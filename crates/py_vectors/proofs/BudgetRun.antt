@@ -8,16 +8,20 @@ use Rattle.py_tree.specs.declared.expr.Atom.TheVariants.{Int as int_atom}
 use Rattle.py_tree.specs.Tree.{const_expr, var_expr, call_expr, end_exprs, more_exprs, var_target, one_stmt, do_form, assign_form, end_suite, more_suite, ScriptTree}
 use Rattle.py_value.specs.Contents.{nothing, int, builtin}
 use Rattle.py_value.specs.Seen.{var_at, var_is, reads, sets}
+use Rattle.py_model.specs.Capture.{Capture, opening_in}
 use Rattle.py_model.specs.Meaning.{Run, run, level, out_of_steps}
 use Rattle.py_model.specs.Moment.{begins, does, ends, normal_end}
 use Rattle.py_model.specs.Plan.{value}
-use Rattle.py_vectors.specs.Words.{place, no_span, summary, steps_to}
+use Rattle.py_vectors.specs.Words.{place, no_span, summary, steps_to, value_text}
 
 abbrev pub r_budget_tree : ScriptTree
 r_budget_tree = record { body = (more_suite (one_stmt 0 (place 1 1) no_span (assign_form (var_target (place 1 1) (codes "x")) (const_expr (place 1 5) (int_atom (pos 1))))) (more_suite (one_stmt 1 (place 2 1) no_span (do_form (call_expr (place 2 6) (var_expr (place 2 1) (codes "print")) (more_exprs (var_expr (place 2 7) (codes "x")) end_exprs)))) end_suite)); count = 2 }
 
+abbrev pub r_budget_capture : Capture
+r_budget_capture = record { answers = ([]); files = ([]) }
+
 abbrev pub r_budget_run : Run
-r_budget_run = run r_budget_tree (codes "s.py") ([]) (record { answers = ([]); files = ([]) }) 10
+r_budget_run = run r_budget_tree (codes "s.py") ([]) r_budget_capture 10
 
 r_budget : summary r_budget_run ≡ record { end = out_of_steps; steps = 9; output = []; finals = ([]) }
 unfolding is_utf8 chars encode_utf8 level
@@ -39,10 +43,22 @@ r_budget_steps_1 : steps_to r_budget_run (place 2 7) 1 ≡ Some 9
 unfolding is_utf8 chars encode_utf8 level
 r_budget_steps_1 = refl
 
+r_budget_value_1 : value_text r_budget_tree (opening_in r_budget_capture (codes "s.py") ([])) r_budget_run (place 2 7) 1 ≡ Some (codes "1")
+unfolding is_utf8 chars encode_utf8 level
+r_budget_value_1 = refl
+
 r_budget_steps_2 : steps_to r_budget_run (place 1 5) 1 ≡ Some 2
 unfolding is_utf8 chars encode_utf8 level
 r_budget_steps_2 = refl
 
+r_budget_value_2 : value_text r_budget_tree (opening_in r_budget_capture (codes "s.py") ([])) r_budget_run (place 1 5) 1 ≡ Some (codes "1")
+unfolding is_utf8 chars encode_utf8 level
+r_budget_value_2 = refl
+
 r_budget_steps_3 : steps_to r_budget_run (place 2 1) 1 ≡ Some 7
 unfolding is_utf8 chars encode_utf8 level
 r_budget_steps_3 = refl
+
+r_budget_value_3 : value_text r_budget_tree (opening_in r_budget_capture (codes "s.py") ([])) r_budget_run (place 2 1) 1 ≡ Some (codes "<built-in print>")
+unfolding is_utf8 chars encode_utf8 level
+r_budget_value_3 = refl

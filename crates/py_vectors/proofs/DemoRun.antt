@@ -8,16 +8,20 @@ use Rattle.py_tree.specs.declared.expr.Atom.TheVariants.{Int as int_atom}
 use Rattle.py_tree.specs.Tree.{const_expr, var_expr, call_expr, attr_expr, part_expr, list_expr, end_exprs, more_exprs, var_target, one_stmt, do_form, assign_form, end_suite, more_suite, ScriptTree}
 use Rattle.py_value.specs.Contents.{nothing, int, builtin, object}
 use Rattle.py_value.specs.Seen.{a_list, var_at, len_at, item_at, var_is, len_is, item_is, reads, sets}
+use Rattle.py_model.specs.Capture.{Capture, opening_in}
 use Rattle.py_model.specs.Meaning.{Run, run, level, finished}
 use Rattle.py_model.specs.Moment.{begins, does, ends, normal_end}
 use Rattle.py_model.specs.Plan.{value}
-use Rattle.py_vectors.specs.Words.{place, no_span, summary, steps_to}
+use Rattle.py_vectors.specs.Words.{place, no_span, summary, steps_to, value_text}
 
 abbrev pub r_demo_tree : ScriptTree
 r_demo_tree = record { body = (more_suite (one_stmt 0 (place 1 1) no_span (assign_form (var_target (place 1 1) (codes "a")) (list_expr (place 1 5) (more_exprs (const_expr (place 1 6) (int_atom (pos 0))) (more_exprs (const_expr (place 1 9) (int_atom (pos 0))) (more_exprs (const_expr (place 1 12) (int_atom (pos 0))) (more_exprs (const_expr (place 1 15) (int_atom (pos 0))) end_exprs))))))) (more_suite (one_stmt 1 (place 2 1) no_span (assign_form (var_target (place 2 1) (codes "b")) (var_expr (place 2 5) (codes "a")))) (more_suite (one_stmt 2 (place 3 1) no_span (assign_form (var_target (place 3 1) (codes "n")) (list_expr (place 3 5) end_exprs))) (more_suite (one_stmt 3 (place 4 1) no_span (assign_form (var_target (place 4 1) (codes "n")) (list_expr (place 4 5) (more_exprs (const_expr (place 4 6) (int_atom (pos 2))) end_exprs)))) (more_suite (one_stmt 4 (place 5 1) no_span (do_form (call_expr (place 5 9) (attr_expr (place 5 2) (var_expr (place 5 1) (codes "n")) (codes "append")) (more_exprs (const_expr (place 5 10) (int_atom (pos 4))) end_exprs)))) (more_suite (one_stmt 5 (place 6 1) no_span (do_form (call_expr (place 6 6) (var_expr (place 6 1) (codes "print")) (more_exprs (part_expr (place 6 8) (var_expr (place 6 7) (codes "a")) (const_expr (place 6 9) (int_atom (pos 0)))) end_exprs)))) end_suite)))))); count = 6 }
 
+abbrev pub r_demo_capture : Capture
+r_demo_capture = record { answers = ([]); files = ([]) }
+
 abbrev pub r_demo_run : Run
-r_demo_run = run r_demo_tree (codes "s.py") ([]) (record { answers = ([]); files = ([]) }) 1000000
+r_demo_run = run r_demo_tree (codes "s.py") ([]) r_demo_capture 1000000
 
 r_demo : summary r_demo_run ≡ record { end = finished; steps = 50; output = (codes "0" ++ (10 ∷ [])); finals = ([]) }
 unfolding is_utf8 chars encode_utf8 level
@@ -66,18 +70,38 @@ r_demo_steps_1 : steps_to r_demo_run (place 6 8) 1 ≡ Some 48
 unfolding is_utf8 chars encode_utf8 level
 r_demo_steps_1 = refl
 
+r_demo_value_1 : value_text r_demo_tree (opening_in r_demo_capture (codes "s.py") ([])) r_demo_run (place 6 8) 1 ≡ Some (codes "0")
+unfolding is_utf8 chars encode_utf8 level
+r_demo_value_1 = refl
+
 r_demo_steps_2 : steps_to r_demo_run (place 1 6) 1 ≡ Some 2
 unfolding is_utf8 chars encode_utf8 level
 r_demo_steps_2 = refl
+
+r_demo_value_2 : value_text r_demo_tree (opening_in r_demo_capture (codes "s.py") ([])) r_demo_run (place 1 6) 1 ≡ Some (codes "0")
+unfolding is_utf8 chars encode_utf8 level
+r_demo_value_2 = refl
 
 r_demo_steps_3 : steps_to r_demo_run (place 1 5) 1 ≡ Some 11
 unfolding is_utf8 chars encode_utf8 level
 r_demo_steps_3 = refl
 
+r_demo_value_3 : value_text r_demo_tree (opening_in r_demo_capture (codes "s.py") ([])) r_demo_run (place 1 5) 1 ≡ Some (codes "#1=[0, 0, 0, 0]")
+unfolding is_utf8 chars encode_utf8 level
+r_demo_value_3 = refl
+
 r_demo_steps_4 : steps_to r_demo_run (place 4 6) 1 ≡ Some 25
 unfolding is_utf8 chars encode_utf8 level
 r_demo_steps_4 = refl
 
+r_demo_value_4 : value_text r_demo_tree (opening_in r_demo_capture (codes "s.py") ([])) r_demo_run (place 4 6) 1 ≡ Some (codes "2")
+unfolding is_utf8 chars encode_utf8 level
+r_demo_value_4 = refl
+
 r_demo_steps_5 : steps_to r_demo_run (place 5 10) 1 ≡ Some 35
 unfolding is_utf8 chars encode_utf8 level
 r_demo_steps_5 = refl
+
+r_demo_value_5 : value_text r_demo_tree (opening_in r_demo_capture (codes "s.py") ([])) r_demo_run (place 5 10) 1 ≡ Some (codes "4")
+unfolding is_utf8 chars encode_utf8 level
+r_demo_value_5 = refl

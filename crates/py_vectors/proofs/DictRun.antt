@@ -8,16 +8,20 @@ use Rattle.py_tree.specs.declared.expr.Atom.TheVariants.{Int as int_atom, Text a
 use Rattle.py_tree.specs.Tree.{const_expr, var_expr, part_expr, dict_expr, end_pairs, var_target, part_target, one_stmt, assign_form, end_suite, more_suite, ScriptTree}
 use Rattle.py_value.specs.Contents.{nothing, int, text, object}
 use Rattle.py_value.specs.Seen.{a_dict, var_at, entry_at, order_at, var_is, entry_is, order_is, key_inserted, reads, sets, updates}
+use Rattle.py_model.specs.Capture.{Capture, opening_in}
 use Rattle.py_model.specs.Meaning.{Run, run, level, finished}
 use Rattle.py_model.specs.Moment.{begins, does, ends, normal_end}
 use Rattle.py_model.specs.Plan.{value}
-use Rattle.py_vectors.specs.Words.{place, no_span, summary, steps_to}
+use Rattle.py_vectors.specs.Words.{place, no_span, summary, steps_to, value_text}
 
 abbrev pub r_dict_tree : ScriptTree
 r_dict_tree = record { body = (more_suite (one_stmt 0 (place 1 1) no_span (assign_form (var_target (place 1 1) (codes "d")) (dict_expr (place 1 5) end_pairs))) (more_suite (one_stmt 1 (place 2 1) no_span (assign_form (part_target (place 2 2) (var_expr (place 2 1) (codes "d")) (const_expr (place 2 3) (text_atom (codes "x")))) (const_expr (place 2 10) (int_atom (pos 1))))) (more_suite (one_stmt 2 (place 3 1) no_span (assign_form (part_target (place 3 2) (var_expr (place 3 1) (codes "d")) (const_expr (place 3 3) (text_atom (codes "y")))) (const_expr (place 3 10) (int_atom (pos 2))))) (more_suite (one_stmt 3 (place 4 1) no_span (assign_form (var_target (place 4 1) (codes "z")) (part_expr (place 4 6) (var_expr (place 4 5) (codes "d")) (const_expr (place 4 7) (text_atom (codes "x")))))) end_suite)))); count = 4 }
 
+abbrev pub r_dict_capture : Capture
+r_dict_capture = record { answers = ([]); files = ([]) }
+
 abbrev pub r_dict_run : Run
-r_dict_run = run r_dict_tree (codes "s.py") ([]) (record { answers = ([]); files = ([]) }) 1000000
+r_dict_run = run r_dict_tree (codes "s.py") ([]) r_dict_capture 1000000
 
 r_dict : summary r_dict_run ≡ record { end = finished; steps = 31; output = []; finals = ([]) }
 unfolding is_utf8 chars encode_utf8 level
@@ -54,18 +58,38 @@ r_dict_steps_1 : steps_to r_dict_run (place 4 6) 1 ≡ Some 29
 unfolding is_utf8 chars encode_utf8 level
 r_dict_steps_1 = refl
 
+r_dict_value_1 : value_text r_dict_tree (opening_in r_dict_capture (codes "s.py") ([])) r_dict_run (place 4 6) 1 ≡ Some (codes "1")
+unfolding is_utf8 chars encode_utf8 level
+r_dict_value_1 = refl
+
 r_dict_steps_2 : steps_to r_dict_run (place 2 10) 1 ≡ Some 7
 unfolding is_utf8 chars encode_utf8 level
 r_dict_steps_2 = refl
+
+r_dict_value_2 : value_text r_dict_tree (opening_in r_dict_capture (codes "s.py") ([])) r_dict_run (place 2 10) 1 ≡ Some (codes "1")
+unfolding is_utf8 chars encode_utf8 level
+r_dict_value_2 = refl
 
 r_dict_steps_3 : steps_to r_dict_run (place 2 1) 1 ≡ Some 9
 unfolding is_utf8 chars encode_utf8 level
 r_dict_steps_3 = refl
 
+r_dict_value_3 : value_text r_dict_tree (opening_in r_dict_capture (codes "s.py") ([])) r_dict_run (place 2 1) 1 ≡ Some (codes "#1={}")
+unfolding is_utf8 chars encode_utf8 level
+r_dict_value_3 = refl
+
 r_dict_steps_4 : steps_to r_dict_run (place 3 10) 1 ≡ Some 16
 unfolding is_utf8 chars encode_utf8 level
 r_dict_steps_4 = refl
 
+r_dict_value_4 : value_text r_dict_tree (opening_in r_dict_capture (codes "s.py") ([])) r_dict_run (place 3 10) 1 ≡ Some (codes "2")
+unfolding is_utf8 chars encode_utf8 level
+r_dict_value_4 = refl
+
 r_dict_steps_5 : steps_to r_dict_run (place 3 3) 1 ≡ Some 19
 unfolding is_utf8 chars encode_utf8 level
 r_dict_steps_5 = refl
+
+r_dict_value_5 : value_text r_dict_tree (opening_in r_dict_capture (codes "s.py") ([])) r_dict_run (place 3 3) 1 ≡ Some (codes "'y'")
+unfolding is_utf8 chars encode_utf8 level
+r_dict_value_5 = refl

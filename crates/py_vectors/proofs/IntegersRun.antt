@@ -9,16 +9,20 @@ use Rattle.py_tree.specs.declared.expr.BinOp.TheVariants.{Add}
 use Rattle.py_tree.specs.Tree.{const_expr, binary_expr, var_target, one_stmt, assign_form, end_suite, more_suite, ScriptTree}
 use Rattle.py_value.specs.Contents.{int, text, tuple, exception_class, no_parts, part}
 use Rattle.py_value.specs.Seen.{an_instance, entry_at, order_at, entry_is, order_is, sets}
+use Rattle.py_model.specs.Capture.{Capture, opening_in}
 use Rattle.py_model.specs.Meaning.{Run, run, level, uncaught}
 use Rattle.py_model.specs.Moment.{begins, does, ends, raise_end}
 use Rattle.py_model.specs.Plan.{value, raised}
-use Rattle.py_vectors.specs.Words.{place, no_span, summary, steps_to}
+use Rattle.py_vectors.specs.Words.{place, no_span, summary, steps_to, value_text}
 
 abbrev pub r_integers_tree : ScriptTree
 r_integers_tree = record { body = (more_suite (one_stmt 0 (place 1 1) no_span (assign_form (var_target (place 1 1) (codes "x")) (binary_expr (place 1 25) Add (const_expr (place 1 5) (int_atom (pos 9223372036854775807))) (const_expr (place 1 27) (int_atom (pos 1)))))) end_suite); count = 1 }
 
+abbrev pub r_integers_capture : Capture
+r_integers_capture = record { answers = ([]); files = ([]) }
+
 abbrev pub r_integers_run : Run
-r_integers_run = run r_integers_tree (codes "s.py") ([]) (record { answers = ([]); files = ([]) }) 1000000
+r_integers_run = run r_integers_tree (codes "s.py") ([]) r_integers_capture 1000000
 
 r_integers : summary r_integers_run ≡ record { end = uncaught 1 1; steps = 6; output = []; finals = ([]) }
 unfolding is_utf8 chars encode_utf8 level
@@ -38,6 +42,14 @@ r_integers_steps_1 : steps_to r_integers_run (place 1 5) 1 ≡ Some 2
 unfolding is_utf8 chars encode_utf8 level
 r_integers_steps_1 = refl
 
+r_integers_value_1 : value_text r_integers_tree (opening_in r_integers_capture (codes "s.py") ([])) r_integers_run (place 1 5) 1 ≡ Some (codes "9223372036854775807")
+unfolding is_utf8 chars encode_utf8 level
+r_integers_value_1 = refl
+
 r_integers_steps_2 : steps_to r_integers_run (place 1 27) 1 ≡ Some 3
 unfolding is_utf8 chars encode_utf8 level
 r_integers_steps_2 = refl
+
+r_integers_value_2 : value_text r_integers_tree (opening_in r_integers_capture (codes "s.py") ([])) r_integers_run (place 1 27) 1 ≡ Some (codes "1")
+unfolding is_utf8 chars encode_utf8 level
+r_integers_value_2 = refl

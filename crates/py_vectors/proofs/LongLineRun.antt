@@ -6,16 +6,20 @@ use Rattle.std.specs.Char.{encode_utf8}
 use Rattle.py_tree.specs.Tree.{var_expr, call_expr, end_exprs, var_target, one_stmt, assign_form, end_suite, more_suite, ScriptTree}
 use Rattle.py_value.specs.Contents.{builtin}
 use Rattle.py_value.specs.Seen.{var_at, reads}
+use Rattle.py_model.specs.Capture.{Capture, opening_in}
 use Rattle.py_model.specs.Meaning.{Run, run, level, out_of_steps}
 use Rattle.py_model.specs.Moment.{begins, does}
 use Rattle.py_model.specs.Plan.{value, line, a_line}
-use Rattle.py_vectors.specs.Words.{place, no_span, summary, steps_to}
+use Rattle.py_vectors.specs.Words.{place, no_span, summary, steps_to, value_text}
 
 abbrev pub r_long_line_tree : ScriptTree
 r_long_line_tree = record { body = (more_suite (one_stmt 0 (place 1 1) no_span (assign_form (var_target (place 1 1) (codes "x")) (call_expr (place 1 10) (var_expr (place 1 5) (codes "input")) end_exprs))) end_suite); count = 1 }
 
+abbrev pub r_long_line_capture : Capture
+r_long_line_capture = record { answers = (record { at = (place 1 10); k = 1; what = line; given = (a_line (codes "xxxxxxxxxxxxxxxxxxxxxxxxxxxxxxxxxxxxxxxxxxxxxxxxxxxxxxxxxxxxxxxxxxxxxxxxxxxxxxxxxxxxxxxxxxxxxxxxxxxx")) } ∷ []); files = ([]) }
+
 abbrev pub r_long_line_run : Run
-r_long_line_run = run r_long_line_tree (codes "s.py") ([]) (record { answers = (record { at = (place 1 10); k = 1; what = line; given = (a_line (codes "xxxxxxxxxxxxxxxxxxxxxxxxxxxxxxxxxxxxxxxxxxxxxxxxxxxxxxxxxxxxxxxxxxxxxxxxxxxxxxxxxxxxxxxxxxxxxxxxxxxx")) } ∷ []); files = ([]) }) 5
+r_long_line_run = run r_long_line_tree (codes "s.py") ([]) r_long_line_capture 5
 
 r_long_line : summary r_long_line_run ≡ record { end = out_of_steps; steps = 3; output = []; finals = ([]) }
 unfolding is_utf8 chars encode_utf8 level
@@ -31,3 +35,7 @@ r_long_line_moments = refl
 r_long_line_steps_1 : steps_to r_long_line_run (place 1 5) 1 ≡ Some 3
 unfolding is_utf8 chars encode_utf8 level
 r_long_line_steps_1 = refl
+
+r_long_line_value_1 : value_text r_long_line_tree (opening_in r_long_line_capture (codes "s.py") ([])) r_long_line_run (place 1 5) 1 ≡ Some (codes "<built-in input>")
+unfolding is_utf8 chars encode_utf8 level
+r_long_line_value_1 = refl

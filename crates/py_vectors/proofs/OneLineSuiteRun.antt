@@ -8,16 +8,20 @@ use Rattle.py_tree.specs.declared.expr.Atom.TheVariants.{Int as int_atom}
 use Rattle.py_tree.specs.Tree.{const_expr, var_expr, call_expr, end_exprs, more_exprs, var_target, one_stmt, do_form, assign_form, if_form, end_suite, more_suite, end_branches, more_branches, else_suite, ScriptTree}
 use Rattle.py_value.specs.Contents.{nothing, truth, int, builtin}
 use Rattle.py_value.specs.Seen.{var_at, var_is, reads, sets}
+use Rattle.py_model.specs.Capture.{Capture, opening_in}
 use Rattle.py_model.specs.Meaning.{Run, run, level, finished}
 use Rattle.py_model.specs.Moment.{begins, does, ends, normal_end}
 use Rattle.py_model.specs.Plan.{value}
-use Rattle.py_vectors.specs.Words.{place, no_span, summary, steps_to}
+use Rattle.py_vectors.specs.Words.{place, no_span, summary, steps_to, value_text}
 
 abbrev pub r_one_line_suite_tree : ScriptTree
 r_one_line_suite_tree = record { body = (more_suite (one_stmt 0 (place 1 1) no_span (assign_form (var_target (place 1 1) (codes "x")) (const_expr (place 1 5) (int_atom (pos 0))))) (more_suite (one_stmt 1 (place 2 1) no_span (assign_form (var_target (place 2 1) (codes "y")) (const_expr (place 2 5) (int_atom (pos 5))))) (more_suite (one_stmt 2 (place 3 1) no_span (if_form (more_branches (var_expr (place 3 4) (codes "x")) (more_suite (one_stmt 3 (place 3 7) no_span (assign_form (var_target (place 3 7) (codes "y")) (const_expr (place 3 11) (int_atom (pos 1))))) end_suite) end_branches) (else_suite (more_suite (one_stmt 4 (place 4 7) no_span (assign_form (var_target (place 4 7) (codes "z")) (const_expr (place 4 11) (int_atom (pos 2))))) end_suite)))) (more_suite (one_stmt 5 (place 5 1) no_span (do_form (call_expr (place 5 6) (var_expr (place 5 1) (codes "print")) (more_exprs (var_expr (place 5 7) (codes "z")) end_exprs)))) end_suite)))); count = 6 }
 
+abbrev pub r_one_line_suite_capture : Capture
+r_one_line_suite_capture = record { answers = ([]); files = ([]) }
+
 abbrev pub r_one_line_suite_run : Run
-r_one_line_suite_run = run r_one_line_suite_tree (codes "s.py") ([]) (record { answers = ([]); files = ([]) }) 1000000
+r_one_line_suite_run = run r_one_line_suite_tree (codes "s.py") ([]) r_one_line_suite_capture 1000000
 
 r_one_line_suite : summary r_one_line_suite_run ≡ record { end = finished; steps = 23; output = (codes "2" ++ (10 ∷ [])); finals = ([]) }
 unfolding is_utf8 chars encode_utf8 level
@@ -53,18 +57,38 @@ r_one_line_suite_steps_1 : steps_to r_one_line_suite_run (place 5 7) 1 ≡ Some 
 unfolding is_utf8 chars encode_utf8 level
 r_one_line_suite_steps_1 = refl
 
+r_one_line_suite_value_1 : value_text r_one_line_suite_tree (opening_in r_one_line_suite_capture (codes "s.py") ([])) r_one_line_suite_run (place 5 7) 1 ≡ Some (codes "2")
+unfolding is_utf8 chars encode_utf8 level
+r_one_line_suite_value_1 = refl
+
 r_one_line_suite_steps_2 : steps_to r_one_line_suite_run (place 1 5) 1 ≡ Some 2
 unfolding is_utf8 chars encode_utf8 level
 r_one_line_suite_steps_2 = refl
+
+r_one_line_suite_value_2 : value_text r_one_line_suite_tree (opening_in r_one_line_suite_capture (codes "s.py") ([])) r_one_line_suite_run (place 1 5) 1 ≡ Some (codes "0")
+unfolding is_utf8 chars encode_utf8 level
+r_one_line_suite_value_2 = refl
 
 r_one_line_suite_steps_3 : steps_to r_one_line_suite_run (place 2 5) 1 ≡ Some 6
 unfolding is_utf8 chars encode_utf8 level
 r_one_line_suite_steps_3 = refl
 
+r_one_line_suite_value_3 : value_text r_one_line_suite_tree (opening_in r_one_line_suite_capture (codes "s.py") ([])) r_one_line_suite_run (place 2 5) 1 ≡ Some (codes "5")
+unfolding is_utf8 chars encode_utf8 level
+r_one_line_suite_value_3 = refl
+
 r_one_line_suite_steps_4 : steps_to r_one_line_suite_run (place 4 11) 1 ≡ Some 14
 unfolding is_utf8 chars encode_utf8 level
 r_one_line_suite_steps_4 = refl
 
+r_one_line_suite_value_4 : value_text r_one_line_suite_tree (opening_in r_one_line_suite_capture (codes "s.py") ([])) r_one_line_suite_run (place 4 11) 1 ≡ Some (codes "2")
+unfolding is_utf8 chars encode_utf8 level
+r_one_line_suite_value_4 = refl
+
 r_one_line_suite_steps_5 : steps_to r_one_line_suite_run (place 5 1) 1 ≡ Some 19
 unfolding is_utf8 chars encode_utf8 level
 r_one_line_suite_steps_5 = refl
+
+r_one_line_suite_value_5 : value_text r_one_line_suite_tree (opening_in r_one_line_suite_capture (codes "s.py") ([])) r_one_line_suite_run (place 5 1) 1 ≡ Some (codes "<built-in print>")
+unfolding is_utf8 chars encode_utf8 level
+r_one_line_suite_value_5 = refl

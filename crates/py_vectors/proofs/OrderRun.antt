@@ -8,16 +8,20 @@ use Rattle.py_tree.specs.declared.expr.Atom.TheVariants.{Int as int_atom, Text a
 use Rattle.py_tree.specs.Tree.{const_expr, var_expr, call_expr, dict_expr, end_exprs, more_exprs, end_pairs, var_target, part_target, one_stmt, do_form, assign_form, end_suite, more_suite, ScriptTree}
 use Rattle.py_value.specs.Contents.{nothing, int, text, builtin, object}
 use Rattle.py_value.specs.Seen.{a_dict, var_at, entry_at, order_at, var_is, entry_is, order_is, key_inserted, reads, sets, updates}
+use Rattle.py_model.specs.Capture.{Capture, opening_in}
 use Rattle.py_model.specs.Meaning.{Run, run, level, finished}
 use Rattle.py_model.specs.Moment.{begins, does, ends, normal_end}
 use Rattle.py_model.specs.Plan.{value}
-use Rattle.py_vectors.specs.Words.{place, no_span, summary, steps_to}
+use Rattle.py_vectors.specs.Words.{place, no_span, summary, steps_to, value_text}
 
 abbrev pub r_order_tree : ScriptTree
 r_order_tree = record { body = (more_suite (one_stmt 0 (place 1 1) no_span (assign_form (var_target (place 1 1) (codes "d")) (dict_expr (place 1 5) end_pairs))) (more_suite (one_stmt 1 (place 2 1) no_span (assign_form (part_target (place 2 2) (var_expr (place 2 1) (codes "d")) (const_expr (place 2 3) (text_atom (codes "x")))) (const_expr (place 2 10) (int_atom (pos 1))))) (more_suite (one_stmt 2 (place 3 1) no_span (assign_form (part_target (place 3 2) (var_expr (place 3 1) (codes "d")) (const_expr (place 3 3) (text_atom (codes "y")))) (const_expr (place 3 10) (int_atom (pos 2))))) (more_suite (one_stmt 3 (place 4 1) no_span (do_form (call_expr (place 4 6) (var_expr (place 4 1) (codes "print")) (more_exprs (var_expr (place 4 7) (codes "d")) end_exprs)))) end_suite)))); count = 4 }
 
+abbrev pub r_order_capture : Capture
+r_order_capture = record { answers = ([]); files = ([]) }
+
 abbrev pub r_order_run : Run
-r_order_run = run r_order_tree (codes "s.py") ([]) (record { answers = ([]); files = ([]) }) 1000000
+r_order_run = run r_order_tree (codes "s.py") ([]) r_order_capture 1000000
 
 r_order : summary r_order_run ≡ record { end = finished; steps = 33; output = (codes "{'x': 1, 'y': 2}" ++ (10 ∷ [])); finals = ([]) }
 unfolding is_utf8 chars encode_utf8 level
@@ -53,18 +57,38 @@ r_order_steps_1 : steps_to r_order_run (place 4 7) 1 ≡ Some 28
 unfolding is_utf8 chars encode_utf8 level
 r_order_steps_1 = refl
 
+r_order_value_1 : value_text r_order_tree (opening_in r_order_capture (codes "s.py") ([])) r_order_run (place 4 7) 1 ≡ Some (codes "#1={'x': 1, 'y': 2}")
+unfolding is_utf8 chars encode_utf8 level
+r_order_value_1 = refl
+
 r_order_steps_2 : steps_to r_order_run (place 2 10) 1 ≡ Some 7
 unfolding is_utf8 chars encode_utf8 level
 r_order_steps_2 = refl
+
+r_order_value_2 : value_text r_order_tree (opening_in r_order_capture (codes "s.py") ([])) r_order_run (place 2 10) 1 ≡ Some (codes "1")
+unfolding is_utf8 chars encode_utf8 level
+r_order_value_2 = refl
 
 r_order_steps_3 : steps_to r_order_run (place 2 3) 1 ≡ Some 10
 unfolding is_utf8 chars encode_utf8 level
 r_order_steps_3 = refl
 
+r_order_value_3 : value_text r_order_tree (opening_in r_order_capture (codes "s.py") ([])) r_order_run (place 2 3) 1 ≡ Some (codes "'x'")
+unfolding is_utf8 chars encode_utf8 level
+r_order_value_3 = refl
+
 r_order_steps_4 : steps_to r_order_run (place 3 10) 1 ≡ Some 16
 unfolding is_utf8 chars encode_utf8 level
 r_order_steps_4 = refl
 
+r_order_value_4 : value_text r_order_tree (opening_in r_order_capture (codes "s.py") ([])) r_order_run (place 3 10) 1 ≡ Some (codes "2")
+unfolding is_utf8 chars encode_utf8 level
+r_order_value_4 = refl
+
 r_order_steps_5 : steps_to r_order_run (place 4 1) 1 ≡ Some 26
 unfolding is_utf8 chars encode_utf8 level
 r_order_steps_5 = refl
+
+r_order_value_5 : value_text r_order_tree (opening_in r_order_capture (codes "s.py") ([])) r_order_run (place 4 1) 1 ≡ Some (codes "<built-in print>")
+unfolding is_utf8 chars encode_utf8 level
+r_order_value_5 = refl

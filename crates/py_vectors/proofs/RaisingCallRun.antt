@@ -9,16 +9,20 @@ use Rattle.py_tree.specs.declared.expr.CmpOp.TheVariants.{Gt}
 use Rattle.py_tree.specs.Tree.{const_expr, var_expr, compare_expr, call_expr, end_exprs, more_exprs, var_target, one_stmt, do_form, assign_form, return_form, raise_form, if_form, try_form, def_form, end_suite, more_suite, end_branches, more_branches, no_else, end_handlers, more_handlers, ScriptTree}
 use Rattle.py_value.specs.Contents.{nothing, truth, int, text, tuple, function, exception_class, builtin, object, no_parts, part}
 use Rattle.py_value.specs.Seen.{an_instance, var_at, entry_at, order_at, var_is, entry_is, order_is, reads, sets}
+use Rattle.py_model.specs.Capture.{Capture, opening_in}
 use Rattle.py_model.specs.Meaning.{Run, run, level, finished}
 use Rattle.py_model.specs.Moment.{begins, does, enters, leaves, ends, normal_end, raise_end}
 use Rattle.py_model.specs.Plan.{value, raised}
-use Rattle.py_vectors.specs.Words.{place, no_span, summary, steps_to}
+use Rattle.py_vectors.specs.Words.{place, no_span, summary, steps_to, value_text}
 
 abbrev pub r_raising_call_tree : ScriptTree
 r_raising_call_tree = record { body = (more_suite (one_stmt 0 (place 1 1) no_span (def_form (codes "check") ((codes "n") ∷ []) ([]) (more_suite (one_stmt 1 (place 2 5) no_span (if_form (more_branches (compare_expr (place 2 10) Gt (var_expr (place 2 8) (codes "n")) (const_expr (place 2 12) (int_atom (pos 2)))) (more_suite (one_stmt 2 (place 3 9) no_span (raise_form (Some (call_expr (place 3 25) (var_expr (place 3 15) (codes "ValueError")) (more_exprs (const_expr (place 3 26) (text_atom (codes "big"))) end_exprs))))) end_suite) end_branches) no_else)) (more_suite (one_stmt 3 (place 4 5) no_span (return_form (Some (var_expr (place 4 12) (codes "n"))))) end_suite)))) (more_suite (one_stmt 4 (place 5 1) no_span (assign_form (var_target (place 5 1) (codes "x")) (const_expr (place 5 5) (int_atom (pos 0))))) (more_suite (one_stmt 5 (place 6 1) no_span (assign_form (var_target (place 6 1) (codes "y")) (const_expr (place 6 5) (int_atom (pos 9))))) (more_suite (one_stmt 6 (place 7 1) no_span (try_form (more_suite (one_stmt 7 (place 8 5) no_span (do_form (call_expr (place 8 10) (var_expr (place 8 5) (codes "check")) (more_exprs (const_expr (place 8 11) (int_atom (pos 5))) end_exprs)))) (more_suite (one_stmt 8 (place 9 5) no_span (assign_form (var_target (place 9 5) (codes "x")) (const_expr (place 9 9) (int_atom (pos 1))))) end_suite)) (more_handlers (Some (var_expr (place 10 8) (codes "ValueError"))) (Some (record { at = (place 10 22); name = (codes "e") })) (more_suite (one_stmt 9 (place 11 5) no_span (assign_form (var_target (place 11 5) (codes "x")) (call_expr (place 11 12) (var_expr (place 11 9) (codes "str")) (more_exprs (var_expr (place 11 13) (codes "e")) end_exprs)))) end_suite) end_handlers))) (more_suite (one_stmt 10 (place 12 1) no_span (do_form (call_expr (place 12 6) (var_expr (place 12 1) (codes "print")) (more_exprs (var_expr (place 12 7) (codes "x")) end_exprs)))) end_suite))))); count = 11 }
 
+abbrev pub r_raising_call_capture : Capture
+r_raising_call_capture = record { answers = ([]); files = ([]) }
+
 abbrev pub r_raising_call_run : Run
-r_raising_call_run = run r_raising_call_tree (codes "s.py") ([]) (record { answers = ([]); files = ([]) }) 1000000
+r_raising_call_run = run r_raising_call_tree (codes "s.py") ([]) r_raising_call_capture 1000000
 
 r_raising_call : summary r_raising_call_run ≡ record { end = finished; steps = 59; output = (codes "big" ++ (10 ∷ [])); finals = ([]) }
 unfolding is_utf8 chars encode_utf8 level
@@ -80,18 +84,38 @@ r_raising_call_steps_1 : steps_to r_raising_call_run (place 12 7) 1 ≡ Some 57
 unfolding is_utf8 chars encode_utf8 level
 r_raising_call_steps_1 = refl
 
+r_raising_call_value_1 : value_text r_raising_call_tree (opening_in r_raising_call_capture (codes "s.py") ([])) r_raising_call_run (place 12 7) 1 ≡ Some (codes "'big'")
+unfolding is_utf8 chars encode_utf8 level
+r_raising_call_value_1 = refl
+
 r_raising_call_steps_2 : steps_to r_raising_call_run (place 6 5) 1 ≡ Some 9
 unfolding is_utf8 chars encode_utf8 level
 r_raising_call_steps_2 = refl
+
+r_raising_call_value_2 : value_text r_raising_call_tree (opening_in r_raising_call_capture (codes "s.py") ([])) r_raising_call_run (place 6 5) 1 ≡ Some (codes "9")
+unfolding is_utf8 chars encode_utf8 level
+r_raising_call_value_2 = refl
 
 r_raising_call_steps_3 : steps_to r_raising_call_run (place 8 11) 1 ≡ Some 16
 unfolding is_utf8 chars encode_utf8 level
 r_raising_call_steps_3 = refl
 
+r_raising_call_value_3 : value_text r_raising_call_tree (opening_in r_raising_call_capture (codes "s.py") ([])) r_raising_call_run (place 8 11) 1 ≡ Some (codes "5")
+unfolding is_utf8 chars encode_utf8 level
+r_raising_call_value_3 = refl
+
 r_raising_call_steps_4 : steps_to r_raising_call_run (place 3 15) 1 ≡ Some 27
 unfolding is_utf8 chars encode_utf8 level
 r_raising_call_steps_4 = refl
 
+r_raising_call_value_4 : value_text r_raising_call_tree (opening_in r_raising_call_capture (codes "s.py") ([])) r_raising_call_run (place 3 15) 1 ≡ Some (codes "<class ValueError>")
+unfolding is_utf8 chars encode_utf8 level
+r_raising_call_value_4 = refl
+
 r_raising_call_steps_5 : steps_to r_raising_call_run (place 11 9) 1 ≡ Some 41
 unfolding is_utf8 chars encode_utf8 level
 r_raising_call_steps_5 = refl
+
+r_raising_call_value_5 : value_text r_raising_call_tree (opening_in r_raising_call_capture (codes "s.py") ([])) r_raising_call_run (place 11 9) 1 ≡ Some (codes "<built-in str>")
+unfolding is_utf8 chars encode_utf8 level
+r_raising_call_value_5 = refl

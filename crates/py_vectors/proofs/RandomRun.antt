@@ -8,16 +8,20 @@ use Rattle.py_tree.specs.declared.expr.Atom.TheVariants.{Int as int_atom}
 use Rattle.py_tree.specs.Tree.{const_expr, var_expr, call_expr, attr_expr, end_exprs, more_exprs, var_target, one_stmt, do_form, assign_form, import_form, end_suite, more_suite, ScriptTree}
 use Rattle.py_value.specs.Contents.{nothing, int, builtin}
 use Rattle.py_value.specs.Seen.{var_at, var_is, reads, sets}
+use Rattle.py_model.specs.Capture.{Capture, opening_in}
 use Rattle.py_model.specs.Meaning.{Run, run, level, finished}
 use Rattle.py_model.specs.Moment.{begins, does, ends, normal_end}
 use Rattle.py_model.specs.Plan.{value, word, random_word}
-use Rattle.py_vectors.specs.Words.{place, no_span, summary, steps_to}
+use Rattle.py_vectors.specs.Words.{place, no_span, summary, steps_to, value_text}
 
 abbrev pub r_random_tree : ScriptTree
 r_random_tree = record { body = (more_suite (one_stmt 0 (place 1 1) no_span (import_form (codes "random"))) (more_suite (one_stmt 1 (place 2 1) no_span (assign_form (var_target (place 2 1) (codes "a")) (call_expr (place 2 19) (attr_expr (place 2 11) (var_expr (place 2 5) (codes "random")) (codes "randint")) (more_exprs (const_expr (place 2 20) (int_atom (pos 1))) (more_exprs (const_expr (place 2 23) (int_atom (pos 6))) end_exprs))))) (more_suite (one_stmt 2 (place 3 1) no_span (assign_form (var_target (place 3 1) (codes "b")) (call_expr (place 3 19) (attr_expr (place 3 11) (var_expr (place 3 5) (codes "random")) (codes "randint")) (more_exprs (const_expr (place 3 20) (int_atom (pos 1))) (more_exprs (const_expr (place 3 23) (int_atom (pos 6))) end_exprs))))) (more_suite (one_stmt 3 (place 4 1) no_span (do_form (call_expr (place 4 6) (var_expr (place 4 1) (codes "print")) (more_exprs (var_expr (place 4 7) (codes "b")) end_exprs)))) end_suite)))); count = 4 }
 
+abbrev pub r_random_capture : Capture
+r_random_capture = record { answers = (record { at = (place 2 19); k = 1; what = word; given = (random_word 7) } ∷ record { at = (place 3 19); k = 1; what = word; given = (random_word 10) } ∷ []); files = ([]) }
+
 abbrev pub r_random_run : Run
-r_random_run = run r_random_tree (codes "s.py") ([]) (record { answers = (record { at = (place 2 19); k = 1; what = word; given = (random_word 7) } ∷ record { at = (place 3 19); k = 1; what = word; given = (random_word 10) } ∷ []); files = ([]) }) 1000000
+r_random_run = run r_random_tree (codes "s.py") ([]) r_random_capture 1000000
 
 r_random : summary r_random_run ≡ record { end = finished; steps = 28; output = (codes "5" ++ (10 ∷ [])); finals = ([]) }
 unfolding is_utf8 chars encode_utf8 level
@@ -56,18 +60,38 @@ r_random_steps_1 : steps_to r_random_run (place 4 7) 1 ≡ Some 26
 unfolding is_utf8 chars encode_utf8 level
 r_random_steps_1 = refl
 
+r_random_value_1 : value_text r_random_tree (opening_in r_random_capture (codes "s.py") ([])) r_random_run (place 4 7) 1 ≡ Some (codes "5")
+unfolding is_utf8 chars encode_utf8 level
+r_random_value_1 = refl
+
 r_random_steps_2 : steps_to r_random_run (place 2 5) 1 ≡ Some 6
 unfolding is_utf8 chars encode_utf8 level
 r_random_steps_2 = refl
+
+r_random_value_2 : value_text r_random_tree (opening_in r_random_capture (codes "s.py") ([])) r_random_run (place 2 5) 1 ≡ Some (codes "<module random>")
+unfolding is_utf8 chars encode_utf8 level
+r_random_value_2 = refl
 
 r_random_steps_3 : steps_to r_random_run (place 2 23) 1 ≡ Some 9
 unfolding is_utf8 chars encode_utf8 level
 r_random_steps_3 = refl
 
+r_random_value_3 : value_text r_random_tree (opening_in r_random_capture (codes "s.py") ([])) r_random_run (place 2 23) 1 ≡ Some (codes "6")
+unfolding is_utf8 chars encode_utf8 level
+r_random_value_3 = refl
+
 r_random_steps_4 : steps_to r_random_run (place 3 20) 1 ≡ Some 17
 unfolding is_utf8 chars encode_utf8 level
 r_random_steps_4 = refl
 
+r_random_value_4 : value_text r_random_tree (opening_in r_random_capture (codes "s.py") ([])) r_random_run (place 3 20) 1 ≡ Some (codes "1")
+unfolding is_utf8 chars encode_utf8 level
+r_random_value_4 = refl
+
 r_random_steps_5 : steps_to r_random_run (place 3 23) 1 ≡ Some 18
 unfolding is_utf8 chars encode_utf8 level
 r_random_steps_5 = refl
+
+r_random_value_5 : value_text r_random_tree (opening_in r_random_capture (codes "s.py") ([])) r_random_run (place 3 23) 1 ≡ Some (codes "6")
+unfolding is_utf8 chars encode_utf8 level
+r_random_value_5 = refl

@@ -8,16 +8,20 @@ use Rattle.py_tree.specs.declared.expr.Atom.TheVariants.{Int as int_atom, Text a
 use Rattle.py_tree.specs.Tree.{const_expr, var_expr, call_expr, end_exprs, more_exprs, var_target, one_stmt, do_form, assign_form, try_form, end_suite, more_suite, end_handlers, more_handlers, ScriptTree}
 use Rattle.py_value.specs.Contents.{nothing, truth, int, text, tuple, exception_class, builtin, object, no_parts, part}
 use Rattle.py_value.specs.Seen.{an_instance, var_at, entry_at, order_at, var_is, entry_is, order_is, reads, sets}
+use Rattle.py_model.specs.Capture.{Capture, opening_in}
 use Rattle.py_model.specs.Meaning.{Run, run, level, finished}
 use Rattle.py_model.specs.Moment.{begins, does, ends, normal_end, raise_end}
 use Rattle.py_model.specs.Plan.{value, raised}
-use Rattle.py_vectors.specs.Words.{place, no_span, summary, steps_to}
+use Rattle.py_vectors.specs.Words.{place, no_span, summary, steps_to, value_text}
 
 abbrev pub r_try_tree : ScriptTree
 r_try_tree = record { body = (more_suite (one_stmt 0 (place 1 1) no_span (assign_form (var_target (place 1 1) (codes "a")) (const_expr (place 1 5) (int_atom (pos 5))))) (more_suite (one_stmt 1 (place 2 1) no_span (try_form (more_suite (one_stmt 2 (place 3 5) no_span (assign_form (var_target (place 3 5) (codes "b")) (call_expr (place 3 12) (var_expr (place 3 9) (codes "int")) (more_exprs (const_expr (place 3 13) (text_atom (codes "x"))) end_exprs)))) end_suite) (more_handlers (Some (var_expr (place 4 8) (codes "ValueError"))) None (more_suite (one_stmt 3 (place 5 5) no_span (assign_form (var_target (place 5 5) (codes "b")) (const_expr (place 5 9) (int_atom (pos 0))))) end_suite) end_handlers))) (more_suite (one_stmt 4 (place 6 1) no_span (do_form (call_expr (place 6 6) (var_expr (place 6 1) (codes "print")) (more_exprs (var_expr (place 6 7) (codes "a")) end_exprs)))) end_suite))); count = 5 }
 
+abbrev pub r_try_capture : Capture
+r_try_capture = record { answers = ([]); files = ([]) }
+
 abbrev pub r_try_run : Run
-r_try_run = run r_try_tree (codes "s.py") ([]) (record { answers = ([]); files = ([]) }) 1000000
+r_try_run = run r_try_tree (codes "s.py") ([]) r_try_capture 1000000
 
 r_try : summary r_try_run ≡ record { end = finished; steps = 26; output = (codes "5" ++ (10 ∷ [])); finals = ([]) }
 unfolding is_utf8 chars encode_utf8 level
@@ -54,18 +58,38 @@ r_try_steps_1 : steps_to r_try_run (place 6 7) 1 ≡ Some 24
 unfolding is_utf8 chars encode_utf8 level
 r_try_steps_1 = refl
 
+r_try_value_1 : value_text r_try_tree (opening_in r_try_capture (codes "s.py") ([])) r_try_run (place 6 7) 1 ≡ Some (codes "5")
+unfolding is_utf8 chars encode_utf8 level
+r_try_value_1 = refl
+
 r_try_steps_2 : steps_to r_try_run (place 1 5) 1 ≡ Some 2
 unfolding is_utf8 chars encode_utf8 level
 r_try_steps_2 = refl
+
+r_try_value_2 : value_text r_try_tree (opening_in r_try_capture (codes "s.py") ([])) r_try_run (place 1 5) 1 ≡ Some (codes "5")
+unfolding is_utf8 chars encode_utf8 level
+r_try_value_2 = refl
 
 r_try_steps_3 : steps_to r_try_run (place 3 9) 1 ≡ Some 8
 unfolding is_utf8 chars encode_utf8 level
 r_try_steps_3 = refl
 
+r_try_value_3 : value_text r_try_tree (opening_in r_try_capture (codes "s.py") ([])) r_try_run (place 3 9) 1 ≡ Some (codes "<built-in int>")
+unfolding is_utf8 chars encode_utf8 level
+r_try_value_3 = refl
+
 r_try_steps_4 : steps_to r_try_run (place 4 8) 1 ≡ Some 14
 unfolding is_utf8 chars encode_utf8 level
 r_try_steps_4 = refl
 
+r_try_value_4 : value_text r_try_tree (opening_in r_try_capture (codes "s.py") ([])) r_try_run (place 4 8) 1 ≡ Some (codes "<class ValueError>")
+unfolding is_utf8 chars encode_utf8 level
+r_try_value_4 = refl
+
 r_try_steps_5 : steps_to r_try_run (place 5 9) 1 ≡ Some 17
 unfolding is_utf8 chars encode_utf8 level
 r_try_steps_5 = refl
+
+r_try_value_5 : value_text r_try_tree (opening_in r_try_capture (codes "s.py") ([])) r_try_run (place 5 9) 1 ≡ Some (codes "0")
+unfolding is_utf8 chars encode_utf8 level
+r_try_value_5 = refl

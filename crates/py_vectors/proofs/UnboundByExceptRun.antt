@@ -8,16 +8,20 @@ use Rattle.py_tree.specs.declared.expr.Atom.TheVariants.{Int as int_atom, Text a
 use Rattle.py_tree.specs.Tree.{const_expr, var_expr, call_expr, part_expr, list_expr, end_exprs, more_exprs, var_target, one_stmt, do_form, assign_form, del_form, pass_form, return_form, raise_form, try_form, def_form, end_suite, more_suite, end_handlers, more_handlers, ScriptTree}
 use Rattle.py_value.specs.Contents.{nothing, truth, int, text, tuple, function, exception_class, builtin, object, no_parts, part}
 use Rattle.py_value.specs.Seen.{a_list, an_instance, var_at, len_at, item_at, entry_at, order_at, var_is, len_is, item_is, entry_is, order_is, reads, sets}
+use Rattle.py_model.specs.Capture.{Capture, opening_in}
 use Rattle.py_model.specs.Meaning.{Run, run, level, finished}
 use Rattle.py_model.specs.Moment.{begins, does, enters, leaves, ends, normal_end, return_end, raise_end}
 use Rattle.py_model.specs.Plan.{value, raised}
-use Rattle.py_vectors.specs.Words.{place, no_span, summary, steps_to}
+use Rattle.py_vectors.specs.Words.{place, no_span, summary, steps_to, value_text}
 
 abbrev pub r_unbound_by_except_tree : ScriptTree
 r_unbound_by_except_tree = record { body = (more_suite (one_stmt 0 (place 1 1) no_span (def_form (codes "f") ([]) ([]) (more_suite (one_stmt 1 (place 2 5) no_span (assign_form (var_target (place 2 5) (codes "e")) (const_expr (place 2 9) (int_atom (pos 1))))) (more_suite (one_stmt 2 (place 3 5) no_span (try_form (more_suite (one_stmt 3 (place 4 9) no_span (raise_form (Some (call_expr (place 4 25) (var_expr (place 4 15) (codes "ValueError")) (more_exprs (const_expr (place 4 26) (text_atom (codes "v"))) end_exprs))))) end_suite) (more_handlers (Some (var_expr (place 5 12) (codes "ValueError"))) (Some (record { at = (place 5 26); name = (codes "e") })) (more_suite (one_stmt 4 (place 6 9) no_span pass_form) end_suite) end_handlers))) (more_suite (one_stmt 5 (place 7 5) no_span (try_form (more_suite (one_stmt 6 (place 8 9) no_span (return_form (Some (var_expr (place 8 16) (codes "e"))))) end_suite) (more_handlers (Some (var_expr (place 9 12) (codes "UnboundLocalError"))) (Some (record { at = (place 9 33); name = (codes "x") })) (more_suite (one_stmt 7 (place 10 9) no_span (return_form (Some (call_expr (place 10 19) (var_expr (place 10 16) (codes "str")) (more_exprs (var_expr (place 10 20) (codes "x")) end_exprs))))) end_suite) end_handlers))) end_suite))))) (more_suite (one_stmt 8 (place 11 1) no_span (do_form (call_expr (place 11 6) (var_expr (place 11 1) (codes "print")) (more_exprs (call_expr (place 11 8) (var_expr (place 11 7) (codes "f")) end_exprs) end_exprs)))) (more_suite (one_stmt 9 (place 12 1) no_span (try_form (more_suite (one_stmt 10 (place 13 5) no_span (do_form (part_expr (place 13 8) (list_expr (place 13 5) (more_exprs (const_expr (place 13 6) (int_atom (pos 1))) end_exprs)) (const_expr (place 13 9) (int_atom (pos 2)))))) end_suite) (more_handlers (Some (var_expr (place 14 8) (codes "IndexError"))) (Some (record { at = (place 14 22); name = (codes "e") })) (more_suite (one_stmt 11 (place 15 5) no_span (del_form (var_target (place 15 9) (codes "e")))) end_suite) end_handlers))) (more_suite (one_stmt 12 (place 16 1) no_span (try_form (more_suite (one_stmt 13 (place 17 5) no_span (do_form (call_expr (place 17 10) (var_expr (place 17 5) (codes "print")) (more_exprs (var_expr (place 17 11) (codes "e")) end_exprs)))) end_suite) (more_handlers (Some (var_expr (place 18 8) (codes "NameError"))) (Some (record { at = (place 18 21); name = (codes "x") })) (more_suite (one_stmt 14 (place 19 5) no_span (do_form (call_expr (place 19 10) (var_expr (place 19 5) (codes "print")) (more_exprs (var_expr (place 19 11) (codes "x")) end_exprs)))) end_suite) end_handlers))) end_suite)))); count = 15 }
 
+abbrev pub r_unbound_by_except_capture : Capture
+r_unbound_by_except_capture = record { answers = ([]); files = ([]) }
+
 abbrev pub r_unbound_by_except_run : Run
-r_unbound_by_except_run = run r_unbound_by_except_tree (codes "s.py") ([]) (record { answers = ([]); files = ([]) }) 1000000
+r_unbound_by_except_run = run r_unbound_by_except_tree (codes "s.py") ([]) r_unbound_by_except_capture 1000000
 
 r_unbound_by_except : summary r_unbound_by_except_run ≡ record { end = finished; steps = 106; output = (codes "local name 'e' is not set" ++ (10 ∷ []) ++ codes "name 'e' is not defined" ++ (10 ∷ [])); finals = ([]) }
 unfolding is_utf8 chars encode_utf8 level
@@ -106,18 +110,38 @@ r_unbound_by_except_steps_1 : steps_to r_unbound_by_except_run (place 2 9) 1 ≡
 unfolding is_utf8 chars encode_utf8 level
 r_unbound_by_except_steps_1 = refl
 
+r_unbound_by_except_value_1 : value_text r_unbound_by_except_tree (opening_in r_unbound_by_except_capture (codes "s.py") ([])) r_unbound_by_except_run (place 2 9) 1 ≡ Some (codes "1")
+unfolding is_utf8 chars encode_utf8 level
+r_unbound_by_except_value_1 = refl
+
 r_unbound_by_except_steps_2 : steps_to r_unbound_by_except_run (place 5 12) 1 ≡ Some 25
 unfolding is_utf8 chars encode_utf8 level
 r_unbound_by_except_steps_2 = refl
+
+r_unbound_by_except_value_2 : value_text r_unbound_by_except_tree (opening_in r_unbound_by_except_capture (codes "s.py") ([])) r_unbound_by_except_run (place 5 12) 1 ≡ Some (codes "<class ValueError>")
+unfolding is_utf8 chars encode_utf8 level
+r_unbound_by_except_value_2 = refl
 
 r_unbound_by_except_steps_3 : steps_to r_unbound_by_except_run (place 10 20) 1 ≡ Some 48
 unfolding is_utf8 chars encode_utf8 level
 r_unbound_by_except_steps_3 = refl
 
+r_unbound_by_except_value_3 : value_text r_unbound_by_except_tree (opening_in r_unbound_by_except_capture (codes "s.py") ([])) r_unbound_by_except_run (place 10 20) 1 ≡ Some (codes "#1=UnboundLocalError(args=#2=(" ++ (34 ∷ []) ++ codes "local name 'e' is not set" ++ (34 ∷ []) ++ codes ",))")
+unfolding is_utf8 chars encode_utf8 level
+r_unbound_by_except_value_3 = refl
+
 r_unbound_by_except_steps_4 : steps_to r_unbound_by_except_run (place 13 5) 1 ≡ Some 64
 unfolding is_utf8 chars encode_utf8 level
 r_unbound_by_except_steps_4 = refl
 
+r_unbound_by_except_value_4 : value_text r_unbound_by_except_tree (opening_in r_unbound_by_except_capture (codes "s.py") ([])) r_unbound_by_except_run (place 13 5) 1 ≡ Some (codes "#1=[1]")
+unfolding is_utf8 chars encode_utf8 level
+r_unbound_by_except_value_4 = refl
+
 r_unbound_by_except_steps_5 : steps_to r_unbound_by_except_run (place 19 10) 1 ≡ Some 103
 unfolding is_utf8 chars encode_utf8 level
 r_unbound_by_except_steps_5 = refl
+
+r_unbound_by_except_value_5 : value_text r_unbound_by_except_tree (opening_in r_unbound_by_except_capture (codes "s.py") ([])) r_unbound_by_except_run (place 19 10) 1 ≡ Some (codes "None")
+unfolding is_utf8 chars encode_utf8 level
+r_unbound_by_except_value_5 = refl

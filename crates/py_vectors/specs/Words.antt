@@ -1,12 +1,16 @@
 -- Short words of the runs that are written down here.
-use Rattle.std.specs.Prelude.{ℕ, List, [], ◌∷◌, reverse, Option}
-use Rattle.std.specs.Option.{option_map}
+use Rattle.std.specs.Prelude.{ℕ, List, [], ◌∷◌, reverse, Option, Some, None}
+use Rattle.std.specs.Option.{option_map, option_and_then}
 use Rattle.prov_base.specs.declared.place.Pos.{Pos}
 use Rattle.prov_base.specs.declared.place.Span.{Span}
-use Rattle.py_model.specs.History.{spent_on}
+use Rattle.py_model.specs.Graph.{graph_text}
+use Rattle.py_model.specs.History.{spent_on, held, kinds_after}
 use Rattle.py_model.specs.Meaning.{Run, RunEnd}
-use Rattle.py_model.specs.Moment.{Moment, Ending, ends}
+use Rattle.py_model.specs.Moment.{Moment, Ending, does, ends}
 use Rattle.py_model.specs.Occurrences.{up_to_evaluation}
+use Rattle.py_model.specs.Plan.{value}
+use Rattle.py_model.specs.Store.{RunStore}
+use Rattle.py_tree.specs.Tree.{ScriptTree}
 
 abbrev pub place : ℕ → ℕ → Pos
 place line col = record { line = line; col = col }
@@ -34,3 +38,13 @@ abbrev pub endings : List Moment → List (ℕ × Ending)
 endings [] = []
 endings (ends number ended ∷ moments) = (number, ended) ∷ endings moments
 endings (other ∷ moments) = endings moments
+
+-- the graph text of the value of the k-th evaluation at a place, in what the moments up to it and with it come to
+abbrev pub last_value : ScriptTree → RunStore → List Moment → Option (List ℕ)
+last_value script opening (does at number values (value v) made accesses weight ∷ before) =
+    let told = does at number values (value v) made accesses weight ∷ before in
+    Some (graph_text script (record opening { at = held opening.at told; kinds = kinds_after opening.kinds told }) v)
+last_value script opening told = None
+
+abbrev pub value_text : ScriptTree → RunStore → Run → Pos → ℕ → Option (List ℕ)
+value_text script opening r at k = option_and_then (last_value script opening) (up_to_evaluation at k (reverse r.moments))
