@@ -1,18 +1,16 @@
 -- Of what a cut leaves of a script no more is asked than of the script: it stands where that stands, and lies no deeper.
-use Rattle.std.proofs.Common.{◌≡◌, ℕ, ◌+◌, ◌≤◌, Bool, true, false, ◌&&◌, ◌||◌, not, List, [], ◌∷◌, Option, None, Some, unwrap_or, if◌then◌else◌, refl, sym, ap, subst, ◌∙◌, arith}
-use Rattle.std.specs.Prelude.{max, ⊤, drop}
+use Rattle.std.proofs.Common.{◌≡◌, ℕ, ◌+◌, Bool, true, false, ◌&&◌, ◌||◌, not, Option, None, Some, unwrap_or, if◌then◌else◌, refl, arith}
+use Rattle.std.specs.Prelude.{⊤, drop}
 use Rattle.std.proofs.lemmas.Bool.{and_parts}
 use Rattle.py_lines.specs.declared.parts.Line.{Line}
 use Rattle.py_tree.specs.Numbering.{size_suite, size_stmt, size_branches, numbered_suite}
 use Rattle.py_expressions.specs.Concrete.{Spot}
-use Rattle.py_expressions.specs.Depth.{expr_depth, exprs_depth}
 use Rattle.py_grammar.specs.Written.{Simple, pass, Stmt, simple, if_stmt, while_stmt, for_stmt, try_stmt, with_stmt, def_stmt, class_stmt, Suite, on_line, block, Body, last_stmt, more_stmt, Elifs, no_elif, elif, Else, no_else_part, else_part, Handlers, last_handler, more_handler, DefSuite, def_line, def_block, DefBody, end_def, stmt_in_def, global_in_def, Script, empty_script, script}
-use Rattle.py_grammar.specs.StatementTrees.{stmt_tree, suite_tree, body_tree, elif_trees, def_body_tree, names_list, params_list}
-use Rattle.py_grammar.specs.StatementDepth.{target_depth, simple_depth, kind_depth, stmt_expr_depth, body_expr_depth, suites_in, body_depth}
-use Rattle.py_grammar.specs.WellPlaced.{Around, module_level, simple_stands, has_class, stmt_stands, body_stands}
+use Rattle.py_grammar.specs.StatementTrees.{stmt_tree, suite_tree, body_tree, elif_trees, def_body_tree}
+use Rattle.py_grammar.specs.WellPlaced.{Around, module_level, simple_stands, stmt_stands, body_stands}
 use Rattle.slice_text.specs.Cut.{loses_all}
-use Rattle.slice_text.specs.CutScript.{pass_spot, pass_line, before, cut_head, cut_def_head, pass_for, first_line, pass_stmt, with_first, in_place, in_def_place, cut_stmt, cut_suite, cut_body, cut_elifs, cut_else, cut_handlers, cut_def, cut_def_body, script_of_body, cut_script}
-use Rattle.slice_text.proofs.NoMore.{both, SimpleNoMore, StmtNoMore, SuiteNoMore, BodyNoMore, ElifsNoMore, ElseNoMore, HandlersNoMore, DefNoMore, DefBodyNoMore, ScriptNoMore, while_no_more, if_no_more, for_no_more, try_no_more, with_no_more, class_no_more, elif_no_more, else_no_more, last_no_more, handler_no_more, def_no_more, simple_no_more, on_line_no_more, block_no_more, one_no_more, more_no_more, elifs_same, else_same, def_line_no_more, def_block_no_more, end_def_same, in_def_no_more, out_of_def_no_more, global_no_more}
+use Rattle.slice_text.specs.CutScript.{pass_spot, before, cut_head, cut_def_head, pass_for, first_line, pass_stmt, with_first, in_place, in_def_place, cut_stmt, cut_suite, cut_body, cut_elifs, cut_else, cut_handlers, cut_def, cut_def_body, script_of_body, cut_script}
+use Rattle.slice_text.proofs.NoMore.{SimpleNoMore, StmtNoMore, SuiteNoMore, BodyNoMore, ElifsNoMore, ElseNoMore, HandlersNoMore, DefNoMore, DefBodyNoMore, ScriptNoMore, while_no_more, if_no_more, for_no_more, try_no_more, with_no_more, class_no_more, elif_no_more, else_no_more, last_no_more, handler_no_more, def_no_more, simple_no_more, on_line_no_more, block_no_more, one_no_more, more_no_more, elifs_same, else_same, def_line_no_more, def_block_no_more, end_def_same, in_def_no_more, out_of_def_no_more, global_no_more}
 
 -- ---- `pass` stands everywhere
 

@@ -1,17 +1,17 @@
 -- Of what is written anew no more is asked than of the old: it stands where that stands, and lies no deeper.
-use Rattle.std.proofs.Common.{◌≡◌, ℕ, ◌+◌, ◌≤◌, Bool, true, false, ◌&&◌, ◌||◌, not, List, [], ◌∷◌, refl, sym, ap, subst, ◌∙◌, arith}
+use Rattle.std.proofs.Common.{◌≡◌, ℕ, ◌+◌, ◌≤◌, Bool, true, ◌&&◌, not, List, refl, ap, ◌∙◌, arith}
 use Rattle.std.specs.Prelude.{max}
 use Rattle.std.proofs.lemmas.Bool.{false≢true, and_parts}
 use Rattle.py_lines.specs.declared.parts.Line.{Line}
 use Rattle.py_expressions.specs.Concrete.{Spot, Expr, Exprs}
 use Rattle.py_expressions.specs.Depth.{expr_depth, exprs_depth}
 use Rattle.py_expressions.specs.Targets.{Target}
-use Rattle.py_grammar.specs.Written.{Simple, Names, Params, Naming, Kind, Base, Stmt, simple, if_stmt, while_stmt, for_stmt, try_stmt, with_stmt, def_stmt, class_stmt, Suite, on_line, block, Body, last_stmt, more_stmt, Elifs, no_elif, elif, Else, no_else_part, else_part, Handlers, last_handler, more_handler, DefSuite, def_line, def_block, DefBody, end_def, stmt_in_def, global_in_def, Script, empty_script, script}
+use Rattle.py_grammar.specs.Written.{Simple, Names, Params, Naming, Kind, Base, Stmt, simple, if_stmt, while_stmt, for_stmt, try_stmt, with_stmt, def_stmt, class_stmt, Suite, on_line, block, Body, last_stmt, more_stmt, Elifs, no_elif, elif, Else, no_else_part, else_part, Handlers, last_handler, more_handler, DefSuite, def_line, def_block, DefBody, end_def, stmt_in_def, global_in_def, Script}
 use Rattle.py_grammar.specs.StatementTokens.{simple_tokens}
-use Rattle.py_grammar.specs.StatementTrees.{simple_form, params_list, names_list}
+use Rattle.py_grammar.specs.StatementTrees.{params_list, names_list}
 use Rattle.py_grammar.specs.StatementDepth.{target_depth, simple_depth, kind_depth, stmt_expr_depth, suite_expr_depth, body_expr_depth, elif_expr_depth, else_expr_depth, handler_expr_depth, def_expr_depth, suites_in, suite_depth, body_depth, elif_depth, else_depth, handler_depth, def_depth}
 use Rattle.py_grammar.specs.Limits.{script_expr_depth, script_suites}
-use Rattle.py_grammar.specs.WellPlaced.{Around, module_level, in_suite, in_loop_suite, in_handler_suite, in_def_suite, in_class_suite, form_stands, are_alone, simple_stands, is_alone, def_stands, none_given, has_class, stmt_stands, suite_stands, body_stands, elifs_stand, else_stands, handlers_stand, def_suite_stands, def_body_stands, script_stands}
+use Rattle.py_grammar.specs.WellPlaced.{Around, in_suite, in_loop_suite, in_handler_suite, in_def_suite, in_class_suite, are_alone, simple_stands, is_alone, def_stands, none_given, has_class, stmt_stands, suite_stands, body_stands, elifs_stand, else_stands, handlers_stand, def_suite_stands, def_body_stands, script_stands}
 
 pub both : (a b : Bool) → a ≡ true → b ≡ true → (a && b) ≡ true
 both a b one two = ap (λ (x : Bool). x && b) one ∙ two
