@@ -387,7 +387,7 @@ class Rows:
 HEAD = '''-- Runs of scripts, as theorems that hold by computation: their ends, steps, output and files, and all of their moments.
 -- Written by tools/run_vectors.py from scripts with what is expected of them.
 use Rattle.std.proofs.Common.{◌≡◌, ℕ, List, [], ◌∷◌, ◌++◌, Option, Some, None, codes, refl}
-use Rattle.std.specs.Prelude.{pos, negsuc, true, false}
+use Rattle.std.specs.Prelude.{pos, negsuc, true, false, reverse}
 use Rattle.std.specs.Str.{chars, is_utf8}
 use Rattle.std.specs.Char.{encode_utf8}
 use Rattle.prov_base.specs.declared.place.Pos.{Pos}
@@ -405,7 +405,7 @@ use Rattle.py_model.specs.Capture.{Capture, opening_in}
 use Rattle.py_model.specs.Meaning.{Run, run, level, finished, uncaught, out_of_steps}
 use Rattle.py_model.specs.Moment.{Moment, begins, does, enters, leaves, ends, normal_end, break_end, continue_end, return_end, raise_end}
 use Rattle.py_model.specs.Plan.{value, raised, at_end, time, word, line, number, random_word, a_line, no_line, failed, found_bytes, absent, too_large, found_failed}
-use Rattle.py_vectors.specs.Words.{place, no_span, summary, steps_to, endings, value_text}
+use Rattle.py_vectors.specs.Words.{place, no_span, summary, endings, evaluated}
 '''
 
 
@@ -469,12 +469,11 @@ def theorem(v, name, with_moments):
     if with_moments:
         out += ['%s_moments : %s_run.moments ≡' % (name, name), '      ' + '\n    ∷ '.join(rows.moments) + '\n    ∷ []' if rows.moments else '    []',
                 'unfolding is_utf8 chars encode_utf8 level', '%s_moments = refl' % name, '']
-    for i, e in enumerate(v['evaluations']):
-        out += ['%s_steps_%d : steps_to %s_run (place %d %d) %d ≡ Some %d' % (name, i + 1, name, e['line'], e['col'], e['k'], e['value_steps']),
-                'unfolding is_utf8 chars encode_utf8 level', '%s_steps_%d = refl' % (name, i + 1), '']
-        out += ['%s_value_%d : value_text %s_tree (opening_in %s_capture %s %s) %s_run (place %d %d) %d ≡ Some %s' % (
-                    name, i + 1, name, name, codes(v['path']), words, name, e['line'], e['col'], e['k'], codes(e['value'])),
-                'unfolding is_utf8 chars encode_utf8 level', '%s_value_%d = refl' % (name, i + 1), '']
+    if v['evaluations']:
+        out += ['%s_values : evaluated %s_tree (opening_in %s_capture %s %s) (reverse %s_run.moments) %s ≡ %s' % (
+                    name, name, name, codes(v['path']), words, name, row(['(place %d %d, %d)' % (e['line'], e['col'], e['k']) for e in v['evaluations']]),
+                    row(['Some (%s, %d)' % (codes(e['value']), e['value_steps']) for e in v['evaluations']])),
+                'unfolding is_utf8 chars encode_utf8 level', '%s_values = refl' % name, '']
     return '\n'.join(out)
 
 

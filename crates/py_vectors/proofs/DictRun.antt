@@ -1,7 +1,7 @@
 -- Runs of scripts, as theorems that hold by computation: their ends, steps, output and files, and all of their moments.
 -- Written by tools/run_vectors.py from scripts with what is expected of them.
 use Rattle.std.proofs.Common.{◌≡◌, [], ◌∷◌, Some, None, codes, refl}
-use Rattle.std.specs.Prelude.{pos}
+use Rattle.std.specs.Prelude.{pos, reverse}
 use Rattle.std.specs.Str.{chars, is_utf8}
 use Rattle.std.specs.Char.{encode_utf8}
 use Rattle.py_tree.specs.declared.expr.Atom.TheVariants.{Int as int_atom, Text as text_atom}
@@ -12,7 +12,7 @@ use Rattle.py_model.specs.Capture.{Capture, opening_in}
 use Rattle.py_model.specs.Meaning.{Run, run, level, finished}
 use Rattle.py_model.specs.Moment.{begins, does, ends, normal_end}
 use Rattle.py_model.specs.Plan.{value}
-use Rattle.py_vectors.specs.Words.{place, no_span, summary, steps_to, value_text}
+use Rattle.py_vectors.specs.Words.{place, no_span, summary, evaluated}
 
 abbrev pub r_dict_tree : ScriptTree
 r_dict_tree = record { body = (more_suite (one_stmt 0 (place 1 1) no_span (assign_form (var_target (place 1 1) (codes "d")) (dict_expr (place 1 5) end_pairs))) (more_suite (one_stmt 1 (place 2 1) no_span (assign_form (part_target (place 2 2) (var_expr (place 2 1) (codes "d")) (const_expr (place 2 3) (text_atom (codes "x")))) (const_expr (place 2 10) (int_atom (pos 1))))) (more_suite (one_stmt 2 (place 3 1) no_span (assign_form (part_target (place 3 2) (var_expr (place 3 1) (codes "d")) (const_expr (place 3 3) (text_atom (codes "y")))) (const_expr (place 3 10) (int_atom (pos 2))))) (more_suite (one_stmt 3 (place 4 1) no_span (assign_form (var_target (place 4 1) (codes "z")) (part_expr (place 4 6) (var_expr (place 4 5) (codes "d")) (const_expr (place 4 7) (text_atom (codes "x")))))) end_suite)))); count = 4 }
@@ -54,42 +54,6 @@ r_dict_moments : r_dict_run.moments ≡
 unfolding is_utf8 chars encode_utf8 level
 r_dict_moments = refl
 
-r_dict_steps_1 : steps_to r_dict_run (place 4 6) 1 ≡ Some 29
+r_dict_values : evaluated r_dict_tree (opening_in r_dict_capture (codes "s.py") ([])) (reverse r_dict_run.moments) ((place 4 6, 1) ∷ (place 2 10, 1) ∷ (place 2 1, 1) ∷ (place 3 10, 1) ∷ (place 3 3, 1) ∷ []) ≡ (Some ((codes "1"), 29) ∷ Some ((codes "1"), 7) ∷ Some ((codes "#1={}"), 9) ∷ Some ((codes "2"), 16) ∷ Some ((codes "'y'"), 19) ∷ [])
 unfolding is_utf8 chars encode_utf8 level
-r_dict_steps_1 = refl
-
-r_dict_value_1 : value_text r_dict_tree (opening_in r_dict_capture (codes "s.py") ([])) r_dict_run (place 4 6) 1 ≡ Some (codes "1")
-unfolding is_utf8 chars encode_utf8 level
-r_dict_value_1 = refl
-
-r_dict_steps_2 : steps_to r_dict_run (place 2 10) 1 ≡ Some 7
-unfolding is_utf8 chars encode_utf8 level
-r_dict_steps_2 = refl
-
-r_dict_value_2 : value_text r_dict_tree (opening_in r_dict_capture (codes "s.py") ([])) r_dict_run (place 2 10) 1 ≡ Some (codes "1")
-unfolding is_utf8 chars encode_utf8 level
-r_dict_value_2 = refl
-
-r_dict_steps_3 : steps_to r_dict_run (place 2 1) 1 ≡ Some 9
-unfolding is_utf8 chars encode_utf8 level
-r_dict_steps_3 = refl
-
-r_dict_value_3 : value_text r_dict_tree (opening_in r_dict_capture (codes "s.py") ([])) r_dict_run (place 2 1) 1 ≡ Some (codes "#1={}")
-unfolding is_utf8 chars encode_utf8 level
-r_dict_value_3 = refl
-
-r_dict_steps_4 : steps_to r_dict_run (place 3 10) 1 ≡ Some 16
-unfolding is_utf8 chars encode_utf8 level
-r_dict_steps_4 = refl
-
-r_dict_value_4 : value_text r_dict_tree (opening_in r_dict_capture (codes "s.py") ([])) r_dict_run (place 3 10) 1 ≡ Some (codes "2")
-unfolding is_utf8 chars encode_utf8 level
-r_dict_value_4 = refl
-
-r_dict_steps_5 : steps_to r_dict_run (place 3 3) 1 ≡ Some 19
-unfolding is_utf8 chars encode_utf8 level
-r_dict_steps_5 = refl
-
-r_dict_value_5 : value_text r_dict_tree (opening_in r_dict_capture (codes "s.py") ([])) r_dict_run (place 3 3) 1 ≡ Some (codes "'y'")
-unfolding is_utf8 chars encode_utf8 level
-r_dict_value_5 = refl
+r_dict_values = refl

@@ -1,7 +1,7 @@
 -- Runs of scripts, as theorems that hold by computation: their ends, steps, output and files, and all of their moments.
 -- Written by tools/run_vectors.py from scripts with what is expected of them.
 use Rattle.std.proofs.Common.{◌≡◌, [], ◌∷◌, ◌++◌, Some, None, codes, refl}
-use Rattle.std.specs.Prelude.{pos, true, false}
+use Rattle.std.specs.Prelude.{pos, true, false, reverse}
 use Rattle.std.specs.Str.{chars, is_utf8}
 use Rattle.std.specs.Char.{encode_utf8}
 use Rattle.py_tree.specs.declared.expr.Atom.TheVariants.{Bool as truth_atom, Int as int_atom}
@@ -14,7 +14,7 @@ use Rattle.py_model.specs.Capture.{Capture, opening_in}
 use Rattle.py_model.specs.Meaning.{Run, run, level, finished}
 use Rattle.py_model.specs.Moment.{begins, does, ends, normal_end, break_end}
 use Rattle.py_model.specs.Plan.{value}
-use Rattle.py_vectors.specs.Words.{place, no_span, summary, steps_to, value_text}
+use Rattle.py_vectors.specs.Words.{place, no_span, summary, evaluated}
 
 abbrev pub r_jump_tree : ScriptTree
 r_jump_tree = record { body = (more_suite (one_stmt 0 (place 1 1) no_span (assign_form (var_target (place 1 1) (codes "i")) (const_expr (place 1 5) (int_atom (pos 0))))) (more_suite (one_stmt 1 (place 2 1) no_span (assign_form (var_target (place 2 1) (codes "t")) (const_expr (place 2 5) (int_atom (pos 0))))) (more_suite (one_stmt 2 (place 3 1) no_span (while_form (const_expr (place 3 7) (truth_atom true)) (more_suite (one_stmt 3 (place 4 5) no_span (aug_form (var_target (place 4 5) (codes "i")) Add (place 4 7) (const_expr (place 4 10) (int_atom (pos 1))))) (more_suite (one_stmt 4 (place 5 5) no_span (if_form (more_branches (compare_expr (place 5 10) Eq (var_expr (place 5 8) (codes "i")) (const_expr (place 5 13) (int_atom (pos 3)))) (more_suite (one_stmt 5 (place 6 9) no_span break_form) end_suite) end_branches) no_else)) (more_suite (one_stmt 6 (place 7 5) no_span (assign_form (var_target (place 7 5) (codes "t")) (var_expr (place 7 9) (codes "i")))) end_suite))))) (more_suite (one_stmt 7 (place 8 1) no_span (do_form (call_expr (place 8 6) (var_expr (place 8 1) (codes "print")) (more_exprs (var_expr (place 8 7) (codes "i")) end_exprs)))) end_suite)))); count = 8 }
@@ -101,42 +101,6 @@ r_jump_moments : r_jump_run.moments ≡
 unfolding is_utf8 chars encode_utf8 level
 r_jump_moments = refl
 
-r_jump_steps_1 : steps_to r_jump_run (place 8 7) 1 ≡ Some 70
+r_jump_values : evaluated r_jump_tree (opening_in r_jump_capture (codes "s.py") ([])) (reverse r_jump_run.moments) ((place 8 7, 1) ∷ (place 4 5, 1) ∷ (place 5 10, 1) ∷ (place 5 13, 2) ∷ (place 4 5, 3) ∷ []) ≡ (Some ((codes "3"), 70) ∷ Some ((codes "0"), 14) ∷ Some ((codes "False"), 23) ∷ Some ((codes "3"), 42) ∷ Some ((codes "2"), 54) ∷ [])
 unfolding is_utf8 chars encode_utf8 level
-r_jump_steps_1 = refl
-
-r_jump_value_1 : value_text r_jump_tree (opening_in r_jump_capture (codes "s.py") ([])) r_jump_run (place 8 7) 1 ≡ Some (codes "3")
-unfolding is_utf8 chars encode_utf8 level
-r_jump_value_1 = refl
-
-r_jump_steps_2 : steps_to r_jump_run (place 4 5) 1 ≡ Some 14
-unfolding is_utf8 chars encode_utf8 level
-r_jump_steps_2 = refl
-
-r_jump_value_2 : value_text r_jump_tree (opening_in r_jump_capture (codes "s.py") ([])) r_jump_run (place 4 5) 1 ≡ Some (codes "0")
-unfolding is_utf8 chars encode_utf8 level
-r_jump_value_2 = refl
-
-r_jump_steps_3 : steps_to r_jump_run (place 5 10) 1 ≡ Some 23
-unfolding is_utf8 chars encode_utf8 level
-r_jump_steps_3 = refl
-
-r_jump_value_3 : value_text r_jump_tree (opening_in r_jump_capture (codes "s.py") ([])) r_jump_run (place 5 10) 1 ≡ Some (codes "False")
-unfolding is_utf8 chars encode_utf8 level
-r_jump_value_3 = refl
-
-r_jump_steps_4 : steps_to r_jump_run (place 5 13) 2 ≡ Some 42
-unfolding is_utf8 chars encode_utf8 level
-r_jump_steps_4 = refl
-
-r_jump_value_4 : value_text r_jump_tree (opening_in r_jump_capture (codes "s.py") ([])) r_jump_run (place 5 13) 2 ≡ Some (codes "3")
-unfolding is_utf8 chars encode_utf8 level
-r_jump_value_4 = refl
-
-r_jump_steps_5 : steps_to r_jump_run (place 4 5) 3 ≡ Some 54
-unfolding is_utf8 chars encode_utf8 level
-r_jump_steps_5 = refl
-
-r_jump_value_5 : value_text r_jump_tree (opening_in r_jump_capture (codes "s.py") ([])) r_jump_run (place 4 5) 3 ≡ Some (codes "2")
-unfolding is_utf8 chars encode_utf8 level
-r_jump_value_5 = refl
+r_jump_values = refl

@@ -1,6 +1,6 @@
 -- Short words of the runs that are written down here.
-use Rattle.std.specs.Prelude.{ℕ, List, [], ◌∷◌, reverse, Option, Some, None}
-use Rattle.std.specs.Option.{option_map, option_and_then}
+use Rattle.std.specs.Prelude.{ℕ, List, [], ◌∷◌, Option, Some, None}
+use Rattle.std.specs.Option.{option_and_then}
 use Rattle.prov_base.specs.declared.place.Pos.{Pos}
 use Rattle.prov_base.specs.declared.place.Span.{Span}
 use Rattle.py_model.specs.Graph.{graph_text}
@@ -29,22 +29,21 @@ pub record Summary : Type 0 where
 abbrev pub summary : Run → Summary
 summary r = record { end = r.end; steps = r.steps; output = r.output; finals = r.finals }
 
--- the steps up to the k-th evaluation at a place, and with it
-abbrev pub steps_to : Run → Pos → ℕ → Option ℕ
-steps_to r at k = option_map spent_on (up_to_evaluation at k (reverse r.moments))
-
 -- which statements ended how, in order
 abbrev pub endings : List Moment → List (ℕ × Ending)
 endings [] = []
 endings (ends number ended ∷ moments) = (number, ended) ∷ endings moments
 endings (other ∷ moments) = endings moments
 
--- the graph text of the value of the k-th evaluation at a place, in what the moments up to it and with it come to
-abbrev pub last_value : ScriptTree → RunStore → List Moment → Option (List ℕ)
+-- Of the k-th evaluation at a place: the graph text of its value in what the moments up to it and with it come to, and the steps that
+-- these cost.
+abbrev pub last_value : ScriptTree → RunStore → List Moment → Option (List ℕ × ℕ)
 last_value script opening (does at number values (value v) made accesses weight ∷ before) =
     let told = does at number values (value v) made accesses weight ∷ before in
-    Some (graph_text script (record opening { at = held opening.at told; kinds = kinds_after opening.kinds told }) v)
+    Some (graph_text script (record opening { at = held opening.at told; kinds = kinds_after opening.kinds told }) v, spent_on told)
 last_value script opening told = None
 
-abbrev pub value_text : ScriptTree → RunStore → Run → Pos → ℕ → Option (List ℕ)
-value_text script opening r at k = option_and_then (last_value script opening) (up_to_evaluation at k (reverse r.moments))
+abbrev pub evaluated : ScriptTree → RunStore → List Moment → List (Pos × ℕ) → List (Option (List ℕ × ℕ))
+evaluated script opening told [] = []
+evaluated script opening told (point ∷ points) =
+    option_and_then (last_value script opening) (up_to_evaluation point.0 point.1 told) ∷ evaluated script opening told points
