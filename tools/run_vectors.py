@@ -6,7 +6,7 @@
 VECTORS is a file of scripts with what is expected of them, worked out apart from this program: a list `scripts`, each with `name`,
 `script`, `path`, `arguments`, `budget`, `files`, `clock`, `words`, `lines`, and `closing`, `output`, `steps`, `finals` and `pages1`,
 the rows of its moments, and `evaluations`, some of them with the graph text of
-the value and the steps up to and with each (`value`, `value_steps`).
+the value, the steps up to and with each, and its slice (`value`, `value_steps`, `slice`).
 In `own_runs.json` the moments are not all written down, but which statements ended how (`endings`). The syntax trees are those of Python's own `ast`. It wants Python 3.11.
 """
 import ast, io, json, sys, tokenize
@@ -55,6 +55,7 @@ class Tree:
         self.tokens = [t for t in tokenize.generate_tokens(io.StringIO(source).readline)
                        if t.type not in (tokenize.NL, tokenize.COMMENT)]
         self.count = 0
+        self.starts = []
         self.module = ast.parse(source)
 
     def at(self, line, col):
@@ -157,9 +158,19 @@ class Tree:
             s = '(more_suite %s %s)' % (p, s)
         return s
 
+    def kept_in(self, text):
+        """Which statements stand in a slice: its text has their first byte, which is no `pass` put there."""
+        old, new = self.source.split('\n'), text.split('\n')
+        marks = []
+        for line, col in self.starts:
+            before, after = old[line - 1].encode()[col:], new[line - 1].encode()[col:]
+            marks.append(after[:1] != b' ' and after != b'' and not (after[:4] == b'pass' and before[:4] != b'pass'))
+        return marks
+
     def stmt(self, s):
         number = self.count
         self.count += 1
+        self.starts.append((s.lineno, s.col_offset))
         return '(one_stmt %d %s no_span %s)' % (number, self.start(s), self.form(s))
 
     def form(self, s):
@@ -405,7 +416,7 @@ use Rattle.py_model.specs.Capture.{Capture, opening_in}
 use Rattle.py_model.specs.Meaning.{Run, run, level, finished, uncaught, out_of_steps}
 use Rattle.py_model.specs.Moment.{Moment, begins, does, enters, leaves, ends, normal_end, break_end, continue_end, return_end, raise_end}
 use Rattle.py_model.specs.Plan.{value, raised, at_end, time, word, line, number, random_word, a_line, no_line, failed, found_bytes, absent, too_large, found_failed}
-use Rattle.py_vectors.specs.Words.{place, no_span, summary, endings, evaluated}
+use Rattle.py_vectors.specs.Words.{place, no_span, summary, endings, evaluated, kept}
 '''
 
 
@@ -474,6 +485,11 @@ def theorem(v, name, with_moments):
                     name, name, name, codes(v['path']), words, name, row(['(place %d %d, %d)' % (e['line'], e['col'], e['k']) for e in v['evaluations']]),
                     row(['Some (%s, %d)' % (codes(e['value']), e['value_steps']) for e in v['evaluations']])),
                 'unfolding is_utf8 chars encode_utf8 level', '%s_values = refl' % name, '']
+        if v['steps'] <= 120 and 'pass' not in v['script']:  # a `pass` that goes may be put there again
+            out += ['%s_slices : kept %s_tree (opening_in %s_capture %s %s) (reverse %s_run.moments) %s ≡ %s' % (
+                        name, name, name, codes(v['path']), words, name, row(['(place %d %d, %d)' % (e['line'], e['col'], e['k']) for e in v['evaluations']]),
+                        row(['Some (true, %s)' % row([str(k).lower() for k in tree.kept_in(e['slice'])]) for e in v['evaluations']])),
+                    'unfolding is_utf8 chars encode_utf8 level', '%s_slices = refl' % name, '']
     return '\n'.join(out)
 
 

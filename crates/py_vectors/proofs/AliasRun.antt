@@ -1,7 +1,7 @@
 -- Runs of scripts, as theorems that hold by computation: their ends, steps, output and files, and all of their moments.
 -- Written by tools/run_vectors.py from scripts with what is expected of them.
 use Rattle.std.proofs.Common.{◌≡◌, [], ◌∷◌, ◌++◌, Some, None, codes, refl}
-use Rattle.std.specs.Prelude.{pos, reverse}
+use Rattle.std.specs.Prelude.{pos, true, false, reverse}
 use Rattle.std.specs.Str.{chars, is_utf8}
 use Rattle.std.specs.Char.{encode_utf8}
 use Rattle.py_tree.specs.declared.expr.Atom.TheVariants.{Int as int_atom}
@@ -12,7 +12,7 @@ use Rattle.py_model.specs.Capture.{Capture, opening_in}
 use Rattle.py_model.specs.Meaning.{Run, run, level, finished}
 use Rattle.py_model.specs.Moment.{begins, does, ends, normal_end}
 use Rattle.py_model.specs.Plan.{value}
-use Rattle.py_vectors.specs.Words.{place, no_span, summary, evaluated}
+use Rattle.py_vectors.specs.Words.{place, no_span, summary, evaluated, kept}
 
 abbrev pub r_alias_tree : ScriptTree
 r_alias_tree = record { body = (more_suite (one_stmt 0 (place 1 1) no_span (assign_form (var_target (place 1 1) (codes "a")) (list_expr (place 1 5) (more_exprs (const_expr (place 1 6) (int_atom (pos 1))) (more_exprs (const_expr (place 1 9) (int_atom (pos 2))) end_exprs))))) (more_suite (one_stmt 1 (place 2 1) no_span (assign_form (var_target (place 2 1) (codes "b")) (var_expr (place 2 5) (codes "a")))) (more_suite (one_stmt 2 (place 3 1) no_span (assign_form (var_target (place 3 1) (codes "c")) (list_expr (place 3 5) (more_exprs (const_expr (place 3 6) (int_atom (pos 9))) end_exprs)))) (more_suite (one_stmt 3 (place 4 1) no_span (do_form (call_expr (place 4 9) (attr_expr (place 4 2) (var_expr (place 4 1) (codes "b")) (codes "append")) (more_exprs (const_expr (place 4 10) (int_atom (pos 3))) end_exprs)))) (more_suite (one_stmt 4 (place 5 1) no_span (do_form (call_expr (place 5 9) (attr_expr (place 5 2) (var_expr (place 5 1) (codes "c")) (codes "append")) (more_exprs (const_expr (place 5 10) (int_atom (pos 4))) end_exprs)))) (more_suite (one_stmt 5 (place 6 1) no_span (do_form (call_expr (place 6 6) (var_expr (place 6 1) (codes "print")) (more_exprs (var_expr (place 6 7) (codes "a")) end_exprs)))) end_suite)))))); count = 6 }
@@ -67,3 +67,7 @@ r_alias_moments = refl
 r_alias_values : evaluated r_alias_tree (opening_in r_alias_capture (codes "s.py") ([])) (reverse r_alias_run.moments) ((place 6 7, 1) ∷ (place 1 9, 1) ∷ (place 3 5, 1) ∷ (place 4 1, 1) ∷ (place 5 10, 1) ∷ []) ≡ (Some ((codes "#1=[1, 2, 3]"), 44) ∷ Some ((codes "2"), 3) ∷ Some ((codes "#1=[9]"), 19) ∷ Some ((codes "#1=[1, 2]"), 24) ∷ Some ((codes "4"), 35) ∷ [])
 unfolding is_utf8 chars encode_utf8 level
 r_alias_values = refl
+
+r_alias_slices : kept r_alias_tree (opening_in r_alias_capture (codes "s.py") ([])) (reverse r_alias_run.moments) ((place 6 7, 1) ∷ (place 1 9, 1) ∷ (place 3 5, 1) ∷ (place 4 1, 1) ∷ (place 5 10, 1) ∷ []) ≡ (Some (true, (true ∷ true ∷ false ∷ true ∷ false ∷ true ∷ [])) ∷ Some (true, (true ∷ false ∷ false ∷ false ∷ false ∷ false ∷ [])) ∷ Some (true, (false ∷ false ∷ true ∷ false ∷ false ∷ false ∷ [])) ∷ Some (true, (true ∷ true ∷ false ∷ true ∷ false ∷ false ∷ [])) ∷ Some (true, (false ∷ false ∷ true ∷ false ∷ true ∷ false ∷ [])) ∷ [])
+unfolding is_utf8 chars encode_utf8 level
+r_alias_slices = refl

@@ -1,7 +1,7 @@
 -- Runs of scripts, as theorems that hold by computation: their ends, steps, output and files, and all of their moments.
 -- Written by tools/run_vectors.py from scripts with what is expected of them.
 use Rattle.std.proofs.Common.{◌≡◌, [], ◌∷◌, Some, None, codes, refl}
-use Rattle.std.specs.Prelude.{pos, reverse}
+use Rattle.std.specs.Prelude.{pos, true, false, reverse}
 use Rattle.std.specs.Str.{chars, is_utf8}
 use Rattle.std.specs.Char.{encode_utf8}
 use Rattle.py_tree.specs.declared.expr.Atom.TheVariants.{Int as int_atom}
@@ -12,7 +12,7 @@ use Rattle.py_model.specs.Capture.{Capture, opening_in}
 use Rattle.py_model.specs.Meaning.{Run, run, level, out_of_steps}
 use Rattle.py_model.specs.Moment.{begins, does, ends, normal_end}
 use Rattle.py_model.specs.Plan.{value}
-use Rattle.py_vectors.specs.Words.{place, no_span, summary, evaluated}
+use Rattle.py_vectors.specs.Words.{place, no_span, summary, evaluated, kept}
 
 abbrev pub r_budget_tree : ScriptTree
 r_budget_tree = record { body = (more_suite (one_stmt 0 (place 1 1) no_span (assign_form (var_target (place 1 1) (codes "x")) (const_expr (place 1 5) (int_atom (pos 1))))) (more_suite (one_stmt 1 (place 2 1) no_span (do_form (call_expr (place 2 6) (var_expr (place 2 1) (codes "print")) (more_exprs (var_expr (place 2 7) (codes "x")) end_exprs)))) end_suite)); count = 2 }
@@ -42,3 +42,7 @@ r_budget_moments = refl
 r_budget_values : evaluated r_budget_tree (opening_in r_budget_capture (codes "s.py") ([])) (reverse r_budget_run.moments) ((place 2 7, 1) ∷ (place 1 5, 1) ∷ (place 2 1, 1) ∷ []) ≡ (Some ((codes "1"), 9) ∷ Some ((codes "1"), 2) ∷ Some ((codes "<built-in print>"), 7) ∷ [])
 unfolding is_utf8 chars encode_utf8 level
 r_budget_values = refl
+
+r_budget_slices : kept r_budget_tree (opening_in r_budget_capture (codes "s.py") ([])) (reverse r_budget_run.moments) ((place 2 7, 1) ∷ (place 1 5, 1) ∷ (place 2 1, 1) ∷ []) ≡ (Some (true, (true ∷ true ∷ [])) ∷ Some (true, (true ∷ false ∷ [])) ∷ Some (true, (false ∷ true ∷ [])) ∷ [])
+unfolding is_utf8 chars encode_utf8 level
+r_budget_slices = refl

@@ -1,7 +1,7 @@
 -- Runs of scripts, as theorems that hold by computation: their ends, steps, output and files, and all of their moments.
 -- Written by tools/run_vectors.py from scripts with what is expected of them.
 use Rattle.std.proofs.Common.{◌≡◌, [], ◌∷◌, ◌++◌, Some, None, codes, refl}
-use Rattle.std.specs.Prelude.{pos, reverse}
+use Rattle.std.specs.Prelude.{pos, true, false, reverse}
 use Rattle.std.specs.Str.{chars, is_utf8}
 use Rattle.std.specs.Char.{encode_utf8}
 use Rattle.py_tree.specs.declared.expr.Atom.TheVariants.{Int as int_atom}
@@ -12,7 +12,7 @@ use Rattle.py_model.specs.Capture.{Capture, opening_in}
 use Rattle.py_model.specs.Meaning.{Run, run, level, finished}
 use Rattle.py_model.specs.Moment.{begins, does, ends, normal_end}
 use Rattle.py_model.specs.Plan.{value}
-use Rattle.py_vectors.specs.Words.{place, no_span, summary, evaluated}
+use Rattle.py_vectors.specs.Words.{place, no_span, summary, evaluated, kept}
 
 abbrev pub r_demo_tree : ScriptTree
 r_demo_tree = record { body = (more_suite (one_stmt 0 (place 1 1) no_span (assign_form (var_target (place 1 1) (codes "a")) (list_expr (place 1 5) (more_exprs (const_expr (place 1 6) (int_atom (pos 0))) (more_exprs (const_expr (place 1 9) (int_atom (pos 0))) (more_exprs (const_expr (place 1 12) (int_atom (pos 0))) (more_exprs (const_expr (place 1 15) (int_atom (pos 0))) end_exprs))))))) (more_suite (one_stmt 1 (place 2 1) no_span (assign_form (var_target (place 2 1) (codes "b")) (var_expr (place 2 5) (codes "a")))) (more_suite (one_stmt 2 (place 3 1) no_span (assign_form (var_target (place 3 1) (codes "n")) (list_expr (place 3 5) end_exprs))) (more_suite (one_stmt 3 (place 4 1) no_span (assign_form (var_target (place 4 1) (codes "n")) (list_expr (place 4 5) (more_exprs (const_expr (place 4 6) (int_atom (pos 2))) end_exprs)))) (more_suite (one_stmt 4 (place 5 1) no_span (do_form (call_expr (place 5 9) (attr_expr (place 5 2) (var_expr (place 5 1) (codes "n")) (codes "append")) (more_exprs (const_expr (place 5 10) (int_atom (pos 4))) end_exprs)))) (more_suite (one_stmt 5 (place 6 1) no_span (do_form (call_expr (place 6 6) (var_expr (place 6 1) (codes "print")) (more_exprs (part_expr (place 6 8) (var_expr (place 6 7) (codes "a")) (const_expr (place 6 9) (int_atom (pos 0)))) end_exprs)))) end_suite)))))); count = 6 }
@@ -69,3 +69,7 @@ r_demo_moments = refl
 r_demo_values : evaluated r_demo_tree (opening_in r_demo_capture (codes "s.py") ([])) (reverse r_demo_run.moments) ((place 6 8, 1) ∷ (place 1 6, 1) ∷ (place 1 5, 1) ∷ (place 4 6, 1) ∷ (place 5 10, 1) ∷ []) ≡ (Some ((codes "0"), 48) ∷ Some ((codes "0"), 2) ∷ Some ((codes "#1=[0, 0, 0, 0]"), 11) ∷ Some ((codes "2"), 25) ∷ Some ((codes "4"), 35) ∷ [])
 unfolding is_utf8 chars encode_utf8 level
 r_demo_values = refl
+
+r_demo_slices : kept r_demo_tree (opening_in r_demo_capture (codes "s.py") ([])) (reverse r_demo_run.moments) ((place 6 8, 1) ∷ (place 1 6, 1) ∷ (place 1 5, 1) ∷ (place 4 6, 1) ∷ (place 5 10, 1) ∷ []) ≡ (Some (true, (true ∷ false ∷ false ∷ false ∷ false ∷ true ∷ [])) ∷ Some (true, (true ∷ false ∷ false ∷ false ∷ false ∷ false ∷ [])) ∷ Some (true, (true ∷ false ∷ false ∷ false ∷ false ∷ false ∷ [])) ∷ Some (true, (false ∷ false ∷ false ∷ true ∷ false ∷ false ∷ [])) ∷ Some (true, (false ∷ false ∷ false ∷ true ∷ true ∷ false ∷ [])) ∷ [])
+unfolding is_utf8 chars encode_utf8 level
+r_demo_slices = refl

@@ -1,7 +1,7 @@
 -- Runs of scripts, as theorems that hold by computation: their ends, steps, output and files, and all of their moments.
 -- Written by tools/run_vectors.py from scripts with what is expected of them.
 use Rattle.std.proofs.Common.{◌≡◌, [], ◌∷◌, Some, None, codes, refl}
-use Rattle.std.specs.Prelude.{pos, reverse}
+use Rattle.std.specs.Prelude.{pos, true, false, reverse}
 use Rattle.std.specs.Str.{chars, is_utf8}
 use Rattle.std.specs.Char.{encode_utf8}
 use Rattle.py_tree.specs.declared.expr.Atom.TheVariants.{Int as int_atom, Text as text_atom}
@@ -12,7 +12,7 @@ use Rattle.py_model.specs.Capture.{Capture, opening_in}
 use Rattle.py_model.specs.Meaning.{Run, run, level, finished}
 use Rattle.py_model.specs.Moment.{begins, does, ends, normal_end}
 use Rattle.py_model.specs.Plan.{value}
-use Rattle.py_vectors.specs.Words.{place, no_span, summary, evaluated}
+use Rattle.py_vectors.specs.Words.{place, no_span, summary, evaluated, kept}
 
 abbrev pub r_dict_tree : ScriptTree
 r_dict_tree = record { body = (more_suite (one_stmt 0 (place 1 1) no_span (assign_form (var_target (place 1 1) (codes "d")) (dict_expr (place 1 5) end_pairs))) (more_suite (one_stmt 1 (place 2 1) no_span (assign_form (part_target (place 2 2) (var_expr (place 2 1) (codes "d")) (const_expr (place 2 3) (text_atom (codes "x")))) (const_expr (place 2 10) (int_atom (pos 1))))) (more_suite (one_stmt 2 (place 3 1) no_span (assign_form (part_target (place 3 2) (var_expr (place 3 1) (codes "d")) (const_expr (place 3 3) (text_atom (codes "y")))) (const_expr (place 3 10) (int_atom (pos 2))))) (more_suite (one_stmt 3 (place 4 1) no_span (assign_form (var_target (place 4 1) (codes "z")) (part_expr (place 4 6) (var_expr (place 4 5) (codes "d")) (const_expr (place 4 7) (text_atom (codes "x")))))) end_suite)))); count = 4 }
@@ -57,3 +57,7 @@ r_dict_moments = refl
 r_dict_values : evaluated r_dict_tree (opening_in r_dict_capture (codes "s.py") ([])) (reverse r_dict_run.moments) ((place 4 6, 1) ∷ (place 2 10, 1) ∷ (place 2 1, 1) ∷ (place 3 10, 1) ∷ (place 3 3, 1) ∷ []) ≡ (Some ((codes "1"), 29) ∷ Some ((codes "1"), 7) ∷ Some ((codes "#1={}"), 9) ∷ Some ((codes "2"), 16) ∷ Some ((codes "'y'"), 19) ∷ [])
 unfolding is_utf8 chars encode_utf8 level
 r_dict_values = refl
+
+r_dict_slices : kept r_dict_tree (opening_in r_dict_capture (codes "s.py") ([])) (reverse r_dict_run.moments) ((place 4 6, 1) ∷ (place 2 10, 1) ∷ (place 2 1, 1) ∷ (place 3 10, 1) ∷ (place 3 3, 1) ∷ []) ≡ (Some (true, (true ∷ true ∷ false ∷ true ∷ [])) ∷ Some (true, (false ∷ true ∷ false ∷ false ∷ [])) ∷ Some (true, (true ∷ true ∷ false ∷ false ∷ [])) ∷ Some (true, (false ∷ false ∷ true ∷ false ∷ [])) ∷ Some (true, (true ∷ false ∷ true ∷ false ∷ [])) ∷ [])
+unfolding is_utf8 chars encode_utf8 level
+r_dict_slices = refl

@@ -1,7 +1,7 @@
 -- Runs of scripts, as theorems that hold by computation: their ends, steps, output and files, and all of their moments.
 -- Written by tools/run_vectors.py from scripts with what is expected of them.
 use Rattle.std.proofs.Common.{◌≡◌, [], ◌∷◌, Some, None, codes, refl}
-use Rattle.std.specs.Prelude.{reverse}
+use Rattle.std.specs.Prelude.{true, false, reverse}
 use Rattle.std.specs.Str.{chars, is_utf8}
 use Rattle.std.specs.Char.{encode_utf8}
 use Rattle.py_tree.specs.Tree.{var_expr, call_expr, attr_expr, end_exprs, more_exprs, one_stmt, do_form, import_form, end_suite, more_suite, ScriptTree}
@@ -11,7 +11,7 @@ use Rattle.py_model.specs.Capture.{Capture, opening_in}
 use Rattle.py_model.specs.Meaning.{Run, run, level, uncaught}
 use Rattle.py_model.specs.Moment.{begins, does, ends, normal_end, raise_end}
 use Rattle.py_model.specs.Plan.{value, raised, time, failed}
-use Rattle.py_vectors.specs.Words.{place, no_span, summary, evaluated}
+use Rattle.py_vectors.specs.Words.{place, no_span, summary, evaluated, kept}
 
 abbrev pub r_failing_clock_tree : ScriptTree
 r_failing_clock_tree = record { body = (more_suite (one_stmt 0 (place 1 1) no_span (import_form (codes "time"))) (more_suite (one_stmt 1 (place 2 1) no_span (do_form (call_expr (place 2 6) (var_expr (place 2 1) (codes "print")) (more_exprs (call_expr (place 2 19) (attr_expr (place 2 11) (var_expr (place 2 7) (codes "time")) (codes "time_ns")) end_exprs) end_exprs)))) end_suite)); count = 2 }
@@ -43,3 +43,7 @@ r_failing_clock_moments = refl
 r_failing_clock_values : evaluated r_failing_clock_tree (opening_in r_failing_clock_capture (codes "s.py") ([])) (reverse r_failing_clock_run.moments) ((place 2 1, 1) ∷ (place 2 7, 1) ∷ []) ≡ (Some ((codes "<built-in print>"), 6) ∷ Some ((codes "<module time>"), 8) ∷ [])
 unfolding is_utf8 chars encode_utf8 level
 r_failing_clock_values = refl
+
+r_failing_clock_slices : kept r_failing_clock_tree (opening_in r_failing_clock_capture (codes "s.py") ([])) (reverse r_failing_clock_run.moments) ((place 2 1, 1) ∷ (place 2 7, 1) ∷ []) ≡ (Some (true, (false ∷ true ∷ [])) ∷ Some (true, (true ∷ true ∷ [])) ∷ [])
+unfolding is_utf8 chars encode_utf8 level
+r_failing_clock_slices = refl

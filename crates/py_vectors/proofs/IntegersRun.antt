@@ -1,7 +1,7 @@
 -- Runs of scripts, as theorems that hold by computation: their ends, steps, output and files, and all of their moments.
 -- Written by tools/run_vectors.py from scripts with what is expected of them.
 use Rattle.std.proofs.Common.{◌≡◌, [], ◌∷◌, Some, None, codes, refl}
-use Rattle.std.specs.Prelude.{pos, reverse}
+use Rattle.std.specs.Prelude.{pos, true, reverse}
 use Rattle.std.specs.Str.{chars, is_utf8}
 use Rattle.std.specs.Char.{encode_utf8}
 use Rattle.py_tree.specs.declared.expr.Atom.TheVariants.{Int as int_atom}
@@ -13,7 +13,7 @@ use Rattle.py_model.specs.Capture.{Capture, opening_in}
 use Rattle.py_model.specs.Meaning.{Run, run, level, uncaught}
 use Rattle.py_model.specs.Moment.{begins, does, ends, raise_end}
 use Rattle.py_model.specs.Plan.{value, raised}
-use Rattle.py_vectors.specs.Words.{place, no_span, summary, evaluated}
+use Rattle.py_vectors.specs.Words.{place, no_span, summary, evaluated, kept}
 
 abbrev pub r_integers_tree : ScriptTree
 r_integers_tree = record { body = (more_suite (one_stmt 0 (place 1 1) no_span (assign_form (var_target (place 1 1) (codes "x")) (binary_expr (place 1 25) Add (const_expr (place 1 5) (int_atom (pos 9223372036854775807))) (const_expr (place 1 27) (int_atom (pos 1)))))) end_suite); count = 1 }
@@ -41,3 +41,7 @@ r_integers_moments = refl
 r_integers_values : evaluated r_integers_tree (opening_in r_integers_capture (codes "s.py") ([])) (reverse r_integers_run.moments) ((place 1 5, 1) ∷ (place 1 27, 1) ∷ []) ≡ (Some ((codes "9223372036854775807"), 2) ∷ Some ((codes "1"), 3) ∷ [])
 unfolding is_utf8 chars encode_utf8 level
 r_integers_values = refl
+
+r_integers_slices : kept r_integers_tree (opening_in r_integers_capture (codes "s.py") ([])) (reverse r_integers_run.moments) ((place 1 5, 1) ∷ (place 1 27, 1) ∷ []) ≡ (Some (true, (true ∷ [])) ∷ Some (true, (true ∷ [])) ∷ [])
+unfolding is_utf8 chars encode_utf8 level
+r_integers_slices = refl

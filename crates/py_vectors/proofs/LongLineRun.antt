@@ -1,7 +1,7 @@
 -- Runs of scripts, as theorems that hold by computation: their ends, steps, output and files, and all of their moments.
 -- Written by tools/run_vectors.py from scripts with what is expected of them.
 use Rattle.std.proofs.Common.{◌≡◌, [], ◌∷◌, Some, None, codes, refl}
-use Rattle.std.specs.Prelude.{reverse}
+use Rattle.std.specs.Prelude.{true, reverse}
 use Rattle.std.specs.Str.{chars, is_utf8}
 use Rattle.std.specs.Char.{encode_utf8}
 use Rattle.py_tree.specs.Tree.{var_expr, call_expr, end_exprs, var_target, one_stmt, assign_form, end_suite, more_suite, ScriptTree}
@@ -11,7 +11,7 @@ use Rattle.py_model.specs.Capture.{Capture, opening_in}
 use Rattle.py_model.specs.Meaning.{Run, run, level, out_of_steps}
 use Rattle.py_model.specs.Moment.{begins, does}
 use Rattle.py_model.specs.Plan.{value, line, a_line}
-use Rattle.py_vectors.specs.Words.{place, no_span, summary, evaluated}
+use Rattle.py_vectors.specs.Words.{place, no_span, summary, evaluated, kept}
 
 abbrev pub r_long_line_tree : ScriptTree
 r_long_line_tree = record { body = (more_suite (one_stmt 0 (place 1 1) no_span (assign_form (var_target (place 1 1) (codes "x")) (call_expr (place 1 10) (var_expr (place 1 5) (codes "input")) end_exprs))) end_suite); count = 1 }
@@ -36,3 +36,7 @@ r_long_line_moments = refl
 r_long_line_values : evaluated r_long_line_tree (opening_in r_long_line_capture (codes "s.py") ([])) (reverse r_long_line_run.moments) ((place 1 5, 1) ∷ []) ≡ (Some ((codes "<built-in input>"), 3) ∷ [])
 unfolding is_utf8 chars encode_utf8 level
 r_long_line_values = refl
+
+r_long_line_slices : kept r_long_line_tree (opening_in r_long_line_capture (codes "s.py") ([])) (reverse r_long_line_run.moments) ((place 1 5, 1) ∷ []) ≡ (Some (true, (true ∷ [])) ∷ [])
+unfolding is_utf8 chars encode_utf8 level
+r_long_line_slices = refl

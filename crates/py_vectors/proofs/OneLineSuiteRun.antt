@@ -1,7 +1,7 @@
 -- Runs of scripts, as theorems that hold by computation: their ends, steps, output and files, and all of their moments.
 -- Written by tools/run_vectors.py from scripts with what is expected of them.
 use Rattle.std.proofs.Common.{◌≡◌, [], ◌∷◌, ◌++◌, Some, None, codes, refl}
-use Rattle.std.specs.Prelude.{pos, false, reverse}
+use Rattle.std.specs.Prelude.{pos, true, false, reverse}
 use Rattle.std.specs.Str.{chars, is_utf8}
 use Rattle.std.specs.Char.{encode_utf8}
 use Rattle.py_tree.specs.declared.expr.Atom.TheVariants.{Int as int_atom}
@@ -12,7 +12,7 @@ use Rattle.py_model.specs.Capture.{Capture, opening_in}
 use Rattle.py_model.specs.Meaning.{Run, run, level, finished}
 use Rattle.py_model.specs.Moment.{begins, does, ends, normal_end}
 use Rattle.py_model.specs.Plan.{value}
-use Rattle.py_vectors.specs.Words.{place, no_span, summary, evaluated}
+use Rattle.py_vectors.specs.Words.{place, no_span, summary, evaluated, kept}
 
 abbrev pub r_one_line_suite_tree : ScriptTree
 r_one_line_suite_tree = record { body = (more_suite (one_stmt 0 (place 1 1) no_span (assign_form (var_target (place 1 1) (codes "x")) (const_expr (place 1 5) (int_atom (pos 0))))) (more_suite (one_stmt 1 (place 2 1) no_span (assign_form (var_target (place 2 1) (codes "y")) (const_expr (place 2 5) (int_atom (pos 5))))) (more_suite (one_stmt 2 (place 3 1) no_span (if_form (more_branches (var_expr (place 3 4) (codes "x")) (more_suite (one_stmt 3 (place 3 7) no_span (assign_form (var_target (place 3 7) (codes "y")) (const_expr (place 3 11) (int_atom (pos 1))))) end_suite) end_branches) (else_suite (more_suite (one_stmt 4 (place 4 7) no_span (assign_form (var_target (place 4 7) (codes "z")) (const_expr (place 4 11) (int_atom (pos 2))))) end_suite)))) (more_suite (one_stmt 5 (place 5 1) no_span (do_form (call_expr (place 5 6) (var_expr (place 5 1) (codes "print")) (more_exprs (var_expr (place 5 7) (codes "z")) end_exprs)))) end_suite)))); count = 6 }
@@ -56,3 +56,7 @@ r_one_line_suite_moments = refl
 r_one_line_suite_values : evaluated r_one_line_suite_tree (opening_in r_one_line_suite_capture (codes "s.py") ([])) (reverse r_one_line_suite_run.moments) ((place 5 7, 1) ∷ (place 1 5, 1) ∷ (place 2 5, 1) ∷ (place 4 11, 1) ∷ (place 5 1, 1) ∷ []) ≡ (Some ((codes "2"), 21) ∷ Some ((codes "0"), 2) ∷ Some ((codes "5"), 6) ∷ Some ((codes "2"), 14) ∷ Some ((codes "<built-in print>"), 19) ∷ [])
 unfolding is_utf8 chars encode_utf8 level
 r_one_line_suite_values = refl
+
+r_one_line_suite_slices : kept r_one_line_suite_tree (opening_in r_one_line_suite_capture (codes "s.py") ([])) (reverse r_one_line_suite_run.moments) ((place 5 7, 1) ∷ (place 1 5, 1) ∷ (place 2 5, 1) ∷ (place 4 11, 1) ∷ (place 5 1, 1) ∷ []) ≡ (Some (true, (true ∷ false ∷ true ∷ false ∷ true ∷ true ∷ [])) ∷ Some (true, (true ∷ false ∷ false ∷ false ∷ false ∷ false ∷ [])) ∷ Some (true, (false ∷ true ∷ false ∷ false ∷ false ∷ false ∷ [])) ∷ Some (true, (true ∷ false ∷ true ∷ false ∷ true ∷ false ∷ [])) ∷ Some (true, (false ∷ false ∷ false ∷ false ∷ false ∷ true ∷ [])) ∷ [])
+unfolding is_utf8 chars encode_utf8 level
+r_one_line_suite_slices = refl

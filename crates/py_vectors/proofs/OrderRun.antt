@@ -1,7 +1,7 @@
 -- Runs of scripts, as theorems that hold by computation: their ends, steps, output and files, and all of their moments.
 -- Written by tools/run_vectors.py from scripts with what is expected of them.
 use Rattle.std.proofs.Common.{◌≡◌, [], ◌∷◌, ◌++◌, Some, None, codes, refl}
-use Rattle.std.specs.Prelude.{pos, reverse}
+use Rattle.std.specs.Prelude.{pos, true, false, reverse}
 use Rattle.std.specs.Str.{chars, is_utf8}
 use Rattle.std.specs.Char.{encode_utf8}
 use Rattle.py_tree.specs.declared.expr.Atom.TheVariants.{Int as int_atom, Text as text_atom}
@@ -12,7 +12,7 @@ use Rattle.py_model.specs.Capture.{Capture, opening_in}
 use Rattle.py_model.specs.Meaning.{Run, run, level, finished}
 use Rattle.py_model.specs.Moment.{begins, does, ends, normal_end}
 use Rattle.py_model.specs.Plan.{value}
-use Rattle.py_vectors.specs.Words.{place, no_span, summary, evaluated}
+use Rattle.py_vectors.specs.Words.{place, no_span, summary, evaluated, kept}
 
 abbrev pub r_order_tree : ScriptTree
 r_order_tree = record { body = (more_suite (one_stmt 0 (place 1 1) no_span (assign_form (var_target (place 1 1) (codes "d")) (dict_expr (place 1 5) end_pairs))) (more_suite (one_stmt 1 (place 2 1) no_span (assign_form (part_target (place 2 2) (var_expr (place 2 1) (codes "d")) (const_expr (place 2 3) (text_atom (codes "x")))) (const_expr (place 2 10) (int_atom (pos 1))))) (more_suite (one_stmt 2 (place 3 1) no_span (assign_form (part_target (place 3 2) (var_expr (place 3 1) (codes "d")) (const_expr (place 3 3) (text_atom (codes "y")))) (const_expr (place 3 10) (int_atom (pos 2))))) (more_suite (one_stmt 3 (place 4 1) no_span (do_form (call_expr (place 4 6) (var_expr (place 4 1) (codes "print")) (more_exprs (var_expr (place 4 7) (codes "d")) end_exprs)))) end_suite)))); count = 4 }
@@ -56,3 +56,7 @@ r_order_moments = refl
 r_order_values : evaluated r_order_tree (opening_in r_order_capture (codes "s.py") ([])) (reverse r_order_run.moments) ((place 4 7, 1) ∷ (place 2 10, 1) ∷ (place 2 3, 1) ∷ (place 3 10, 1) ∷ (place 4 1, 1) ∷ []) ≡ (Some ((codes "#1={'x': 1, 'y': 2}"), 28) ∷ Some ((codes "1"), 7) ∷ Some ((codes "'x'"), 10) ∷ Some ((codes "2"), 16) ∷ Some ((codes "<built-in print>"), 26) ∷ [])
 unfolding is_utf8 chars encode_utf8 level
 r_order_values = refl
+
+r_order_slices : kept r_order_tree (opening_in r_order_capture (codes "s.py") ([])) (reverse r_order_run.moments) ((place 4 7, 1) ∷ (place 2 10, 1) ∷ (place 2 3, 1) ∷ (place 3 10, 1) ∷ (place 4 1, 1) ∷ []) ≡ (Some (true, (true ∷ true ∷ true ∷ true ∷ [])) ∷ Some (true, (false ∷ true ∷ false ∷ false ∷ [])) ∷ Some (true, (true ∷ true ∷ false ∷ false ∷ [])) ∷ Some (true, (false ∷ false ∷ true ∷ false ∷ [])) ∷ Some (true, (false ∷ false ∷ false ∷ true ∷ [])) ∷ [])
+unfolding is_utf8 chars encode_utf8 level
+r_order_slices = refl

@@ -1,7 +1,7 @@
 -- Runs of scripts, as theorems that hold by computation: their ends, steps, output and files, and all of their moments.
 -- Written by tools/run_vectors.py from scripts with what is expected of them.
 use Rattle.std.proofs.Common.{◌≡◌, [], ◌∷◌, ◌++◌, Some, None, codes, refl}
-use Rattle.std.specs.Prelude.{pos, true, reverse}
+use Rattle.std.specs.Prelude.{pos, true, false, reverse}
 use Rattle.std.specs.Str.{chars, is_utf8}
 use Rattle.std.specs.Char.{encode_utf8}
 use Rattle.py_tree.specs.declared.expr.Atom.TheVariants.{Int as int_atom, Text as text_atom}
@@ -13,7 +13,7 @@ use Rattle.py_model.specs.Capture.{Capture, opening_in}
 use Rattle.py_model.specs.Meaning.{Run, run, level, finished}
 use Rattle.py_model.specs.Moment.{begins, does, enters, leaves, ends, normal_end, raise_end}
 use Rattle.py_model.specs.Plan.{value, raised}
-use Rattle.py_vectors.specs.Words.{place, no_span, summary, evaluated}
+use Rattle.py_vectors.specs.Words.{place, no_span, summary, evaluated, kept}
 
 abbrev pub r_raising_call_tree : ScriptTree
 r_raising_call_tree = record { body = (more_suite (one_stmt 0 (place 1 1) no_span (def_form (codes "check") ((codes "n") ∷ []) ([]) (more_suite (one_stmt 1 (place 2 5) no_span (if_form (more_branches (compare_expr (place 2 10) Gt (var_expr (place 2 8) (codes "n")) (const_expr (place 2 12) (int_atom (pos 2)))) (more_suite (one_stmt 2 (place 3 9) no_span (raise_form (Some (call_expr (place 3 25) (var_expr (place 3 15) (codes "ValueError")) (more_exprs (const_expr (place 3 26) (text_atom (codes "big"))) end_exprs))))) end_suite) end_branches) no_else)) (more_suite (one_stmt 3 (place 4 5) no_span (return_form (Some (var_expr (place 4 12) (codes "n"))))) end_suite)))) (more_suite (one_stmt 4 (place 5 1) no_span (assign_form (var_target (place 5 1) (codes "x")) (const_expr (place 5 5) (int_atom (pos 0))))) (more_suite (one_stmt 5 (place 6 1) no_span (assign_form (var_target (place 6 1) (codes "y")) (const_expr (place 6 5) (int_atom (pos 9))))) (more_suite (one_stmt 6 (place 7 1) no_span (try_form (more_suite (one_stmt 7 (place 8 5) no_span (do_form (call_expr (place 8 10) (var_expr (place 8 5) (codes "check")) (more_exprs (const_expr (place 8 11) (int_atom (pos 5))) end_exprs)))) (more_suite (one_stmt 8 (place 9 5) no_span (assign_form (var_target (place 9 5) (codes "x")) (const_expr (place 9 9) (int_atom (pos 1))))) end_suite)) (more_handlers (Some (var_expr (place 10 8) (codes "ValueError"))) (Some (record { at = (place 10 22); name = (codes "e") })) (more_suite (one_stmt 9 (place 11 5) no_span (assign_form (var_target (place 11 5) (codes "x")) (call_expr (place 11 12) (var_expr (place 11 9) (codes "str")) (more_exprs (var_expr (place 11 13) (codes "e")) end_exprs)))) end_suite) end_handlers))) (more_suite (one_stmt 10 (place 12 1) no_span (do_form (call_expr (place 12 6) (var_expr (place 12 1) (codes "print")) (more_exprs (var_expr (place 12 7) (codes "x")) end_exprs)))) end_suite))))); count = 11 }
@@ -83,3 +83,7 @@ r_raising_call_moments = refl
 r_raising_call_values : evaluated r_raising_call_tree (opening_in r_raising_call_capture (codes "s.py") ([])) (reverse r_raising_call_run.moments) ((place 12 7, 1) ∷ (place 6 5, 1) ∷ (place 8 11, 1) ∷ (place 3 15, 1) ∷ (place 11 9, 1) ∷ []) ≡ (Some ((codes "'big'"), 57) ∷ Some ((codes "9"), 9) ∷ Some ((codes "5"), 16) ∷ Some ((codes "<class ValueError>"), 27) ∷ Some ((codes "<built-in str>"), 41) ∷ [])
 unfolding is_utf8 chars encode_utf8 level
 r_raising_call_values = refl
+
+r_raising_call_slices : kept r_raising_call_tree (opening_in r_raising_call_capture (codes "s.py") ([])) (reverse r_raising_call_run.moments) ((place 12 7, 1) ∷ (place 6 5, 1) ∷ (place 8 11, 1) ∷ (place 3 15, 1) ∷ (place 11 9, 1) ∷ []) ≡ (Some (true, (true ∷ true ∷ true ∷ false ∷ false ∷ false ∷ true ∷ true ∷ false ∷ true ∷ true ∷ [])) ∷ Some (true, (false ∷ false ∷ false ∷ false ∷ false ∷ true ∷ false ∷ false ∷ false ∷ false ∷ false ∷ [])) ∷ Some (true, (true ∷ false ∷ false ∷ false ∷ false ∷ false ∷ true ∷ true ∷ false ∷ false ∷ false ∷ [])) ∷ Some (true, (true ∷ true ∷ true ∷ false ∷ false ∷ false ∷ true ∷ true ∷ false ∷ false ∷ false ∷ [])) ∷ Some (true, (true ∷ true ∷ true ∷ false ∷ false ∷ false ∷ true ∷ true ∷ false ∷ true ∷ false ∷ [])) ∷ [])
+unfolding is_utf8 chars encode_utf8 level
+r_raising_call_slices = refl

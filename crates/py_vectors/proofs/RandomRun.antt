@@ -1,7 +1,7 @@
 -- Runs of scripts, as theorems that hold by computation: their ends, steps, output and files, and all of their moments.
 -- Written by tools/run_vectors.py from scripts with what is expected of them.
 use Rattle.std.proofs.Common.{◌≡◌, [], ◌∷◌, ◌++◌, Some, None, codes, refl}
-use Rattle.std.specs.Prelude.{pos, reverse}
+use Rattle.std.specs.Prelude.{pos, true, false, reverse}
 use Rattle.std.specs.Str.{chars, is_utf8}
 use Rattle.std.specs.Char.{encode_utf8}
 use Rattle.py_tree.specs.declared.expr.Atom.TheVariants.{Int as int_atom}
@@ -12,7 +12,7 @@ use Rattle.py_model.specs.Capture.{Capture, opening_in}
 use Rattle.py_model.specs.Meaning.{Run, run, level, finished}
 use Rattle.py_model.specs.Moment.{begins, does, ends, normal_end}
 use Rattle.py_model.specs.Plan.{value, word, random_word}
-use Rattle.py_vectors.specs.Words.{place, no_span, summary, evaluated}
+use Rattle.py_vectors.specs.Words.{place, no_span, summary, evaluated, kept}
 
 abbrev pub r_random_tree : ScriptTree
 r_random_tree = record { body = (more_suite (one_stmt 0 (place 1 1) no_span (import_form (codes "random"))) (more_suite (one_stmt 1 (place 2 1) no_span (assign_form (var_target (place 2 1) (codes "a")) (call_expr (place 2 19) (attr_expr (place 2 11) (var_expr (place 2 5) (codes "random")) (codes "randint")) (more_exprs (const_expr (place 2 20) (int_atom (pos 1))) (more_exprs (const_expr (place 2 23) (int_atom (pos 6))) end_exprs))))) (more_suite (one_stmt 2 (place 3 1) no_span (assign_form (var_target (place 3 1) (codes "b")) (call_expr (place 3 19) (attr_expr (place 3 11) (var_expr (place 3 5) (codes "random")) (codes "randint")) (more_exprs (const_expr (place 3 20) (int_atom (pos 1))) (more_exprs (const_expr (place 3 23) (int_atom (pos 6))) end_exprs))))) (more_suite (one_stmt 3 (place 4 1) no_span (do_form (call_expr (place 4 6) (var_expr (place 4 1) (codes "print")) (more_exprs (var_expr (place 4 7) (codes "b")) end_exprs)))) end_suite)))); count = 4 }
@@ -59,3 +59,7 @@ r_random_moments = refl
 r_random_values : evaluated r_random_tree (opening_in r_random_capture (codes "s.py") ([])) (reverse r_random_run.moments) ((place 4 7, 1) ∷ (place 2 5, 1) ∷ (place 2 23, 1) ∷ (place 3 20, 1) ∷ (place 3 23, 1) ∷ []) ≡ (Some ((codes "5"), 26) ∷ Some ((codes "<module random>"), 6) ∷ Some ((codes "6"), 9) ∷ Some ((codes "1"), 17) ∷ Some ((codes "6"), 18) ∷ [])
 unfolding is_utf8 chars encode_utf8 level
 r_random_values = refl
+
+r_random_slices : kept r_random_tree (opening_in r_random_capture (codes "s.py") ([])) (reverse r_random_run.moments) ((place 4 7, 1) ∷ (place 2 5, 1) ∷ (place 2 23, 1) ∷ (place 3 20, 1) ∷ (place 3 23, 1) ∷ []) ≡ (Some (true, (true ∷ false ∷ true ∷ true ∷ [])) ∷ Some (true, (true ∷ true ∷ false ∷ false ∷ [])) ∷ Some (true, (true ∷ true ∷ false ∷ false ∷ [])) ∷ Some (true, (true ∷ false ∷ true ∷ false ∷ [])) ∷ Some (true, (true ∷ false ∷ true ∷ false ∷ [])) ∷ [])
+unfolding is_utf8 chars encode_utf8 level
+r_random_slices = refl

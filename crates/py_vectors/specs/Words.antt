@@ -1,6 +1,6 @@
 -- Short words of the runs that are written down here.
-use Rattle.std.specs.Prelude.{ℕ, List, [], ◌∷◌, Option, Some, None}
-use Rattle.std.specs.Option.{option_and_then}
+use Rattle.std.specs.Prelude.{ℕ, zero, suc, Bool, List, [], ◌∷◌, Option, Some, None}
+use Rattle.std.specs.Option.{option_and_then, option_map}
 use Rattle.prov_base.specs.declared.place.Pos.{Pos}
 use Rattle.prov_base.specs.declared.place.Span.{Span}
 use Rattle.py_model.specs.Graph.{graph_text}
@@ -11,6 +11,8 @@ use Rattle.py_model.specs.Occurrences.{up_to_evaluation}
 use Rattle.py_model.specs.Plan.{value}
 use Rattle.py_model.specs.Store.{RunStore}
 use Rattle.py_tree.specs.Tree.{ScriptTree}
+use Rattle.slice_law.specs.Closed.{needed, has, is_settled}
+use Rattle.slice_law.specs.Edges.{edges}
 
 abbrev pub place : ℕ → ℕ → Pos
 place line col = record { line = line; col = col }
@@ -47,3 +49,18 @@ abbrev pub evaluated : ScriptTree → RunStore → List Moment → List (Pos × 
 evaluated script opening told [] = []
 evaluated script opening told (point ∷ points) =
     option_and_then (last_value script opening) (up_to_evaluation point.0 point.1 told) ∷ evaluated script opening told points
+
+-- Which statements the k-th evaluation at a place needs, by their numbers; and whether nothing is asked for that is not there, so that
+-- these are the least closed set (`needed_is_least` of `slice_law`).
+abbrev pub marks : ℕ → ℕ → List ℕ → List Bool
+marks zero s numbers = []
+marks (suc n) s numbers = has s numbers ∷ marks n (suc s) numbers
+
+abbrev pub slice_to : ScriptTree → RunStore → List Moment → Bool × List Bool
+slice_to script opening upto =
+    let numbers = needed script opening upto in
+    (is_settled (edges script upto) numbers, marks script.count 0 numbers)
+
+abbrev pub kept : ScriptTree → RunStore → List Moment → List (Pos × ℕ) → List (Option (Bool × List Bool))
+kept script opening told [] = []
+kept script opening told (point ∷ points) = option_map (slice_to script opening) (up_to_evaluation point.0 point.1 told) ∷ kept script opening told points

@@ -1,0 +1,10 @@
+//! Dynamic slices (Korel and Laski, *Dynamic program slicing*, 1988) over the moments of a run: which statements a value needs, by data,
+//! control, jumps, calls and names.
+//!
+//! `specs/Edges.antt` says which statement asks for which, each at one moment, and which are asked for by the value itself.
+//! `specs/Closed.antt` says what a closed set is, and the least one. Sets are tests into `Bool`.
+#![tactic(auto)]
+
+mod laws;
+
+pub use laws::{closed_sets_have_parents, closed_sets_meet, least_is_asked, needed_is_least};
