@@ -11,15 +11,15 @@ ghost use Rattle.py_model.specs.Store.{RunStore};
 ghost use Rattle.std.specs.Prelude.{◌<◌};
 ghost use Rattle.prov_base.specs.declared.place.Span.{Span};
 ghost use Rattle.py_tree.specs.Tree.{ScriptTree};
-ghost use Rattle.py_model.specs.Act.{Act, Walked};
-ghost use Rattle.py_model.specs.Capture.{Capture};
+ghost use Rattle.py_model.specs.Act.{Act, Walked, perform, begin, enter};
+ghost use Rattle.py_model.specs.Capture.{Capture, opening_in};
 ghost use Rattle.py_model.specs.Expressions.{Task};
 ghost use Rattle.py_model.specs.Going.{Open};
 ghost use Rattle.py_model.specs.Moment.{Moment};
 ghost use Rattle.py_model.specs.Occurrences.{frames_after, open_of};
 ghost use Rattle.py_model.specs.History.{open_after, IsAgreed, IsKept, KeptUnlessLacking, Nests, GoesOn, richer};
 ghost use Rattle.py_model.specs.Meaning.{level, meaning, starting, run};
-ghost use Rattle.py_model.specs.Running.{State, outcome, state_in, operation, effect_of, did, IsPaid};
+ghost use Rattle.py_model.specs.Running.{State, outcome, state_in, operation, effect_of, did, too_dear, spent, IsPaid};
 ghost use Rattle.prov_base.specs.declared.place.Pos.{Pos};
 ghost use Rattle.py_model.specs.Spans.{moved};
 ghost use Rattle.py_model.specs.Statements.{task};
@@ -73,8 +73,19 @@ pub fn meaning_unfolds()
 /// The law that a state agrees with its moments: the budget is what they cost and what is left, and the map, the kinds of objects and
 /// the number of activations are those that the moments come to. So steps never rise, and no more are spent than there were.
 pub fn states_agree_with_moments()
-    ensures { (capture : Capture) (opening : RunStore) (budget : ℕ) (a : Act) (s : State) → IsAgreed opening budget s
+    ensures step { (capture : Capture) (opening : RunStore) (budget : ℕ) (a : Act) (s : State) → IsAgreed opening budget s
         → IsAgreed opening budget (state_in (outcome capture a s)) }
+    ensures runs { (capture : Capture) (script : ScriptTree) (path : List ℕ) (arguments : List (List ℕ)) (steps : ℕ)
+        → IsAgreed (opening_in capture path arguments) steps (state_in (outcome capture (meaning script steps) (starting capture path arguments steps))) }
+{}
+
+/// The law of ends: what costs more than is left does not happen, and nothing after it does.
+pub fn unpaid_ends_the_run()
+    ensures operations { (capture : Capture) (at : Pos) (op : Op) (values : List Contents) (next : Answer → Walked → Act) (s t : State)
+        → operation capture at op values s ≡ too_dear t → outcome capture (perform at op values next) s ≡ spent t }
+    ensures statements { (capture : Capture) (number : ℕ) (rest : Act) (s : State) → s.left < 1 → outcome capture (begin number rest) s ≡ spent s }
+    ensures entries { (capture : Capture) (at def : Pos) (names : List (List ℕ)) (values : List Contents) (next : ℕ → Act) (s : State)
+        → s.left < 1 + length values → outcome capture (enter at def names values next) s ≡ spent s }
 {}
 
 /// The law of payment: an operation happens only where it answers, and where its cost is left. So one for which no budget pays never
@@ -98,7 +109,9 @@ pub fn frames_follow_brackets()
 
 /// The law of the capture: all that a run asks and fetches is there, unless the run ends for want of it.
 pub fn asked_is_captured()
-    ensures { (capture : Capture) (a : Act) (s : State) → IsKept capture s → KeptUnlessLacking capture (outcome capture a s) }
+    ensures step { (capture : Capture) (a : Act) (s : State) → IsKept capture s → KeptUnlessLacking capture (outcome capture a s) }
+    ensures runs { (capture : Capture) (script : ScriptTree) (path : List ℕ) (arguments : List (List ℕ)) (steps : ℕ)
+        → KeptUnlessLacking capture (outcome capture (meaning script steps) (starting capture path arguments steps)) }
 {}
 
 /// The law of larger budgets: with more steps a run goes the same way to its end, and where its steps did not suffice, its moments go on

@@ -19,6 +19,7 @@ pub use laws::{
     frames_follow_brackets, larger_budget_extends, map_changes_by_accesses, meaning_unfolds,
     moments_nest, operations_agree, operations_are_paid, raised_writes_its_exception_alone,
     renamed_effects_weigh_the_same, spans_change_nothing, states_agree_with_moments,
+    unpaid_ends_the_run,
 };
 pub use moment::{Answer, Args, How, Moment, Op};
 pub use watch::{NoWatch, Watch};
