@@ -1,11 +1,11 @@
 -- What a doer does for a state of a run, by the numbers of its texts and tuples. What these numbers mean, and what the capture has, is said
 -- by any table and capture that fit the doer afterwards: so nothing has to be known of them before.
-use Rattle.std.specs.Prelude.{◌≡◌, ℕ, suc, ◌<◌, List, ◌∷◌, map, length, Result, Ok, Err}
+use Rattle.std.specs.Prelude.{◌≡◌, ◌⊎◌, ℕ, suc, ◌<◌, List, ◌∷◌, map, length, Result, Ok, Err}
 use Rattle.std.specs.Option.{option_map}
 use Rattle.prov_base.specs.declared.place.Pos.{Pos}
 use Rattle.py_value.specs.Contents.{contents}
 use Rattle.py_value.specs.Seen.{access_seen, kind_seen, bytes_of}
-use Rattle.py_value.specs.Values.{ValuesView, Keeps}
+use Rattle.py_value.specs.Values.{ValuesView, Keeps, AreNamed}
 use Rattle.py_value.specs.declared.access.Access.{Access}
 use Rattle.py_value.specs.declared.value.Value.{Value}
 use Rattle.py_model.specs.declared.doer.Deed.{Deed}
@@ -19,7 +19,7 @@ use Rattle.py_model.specs.Capture.{Capture}
 use Rattle.py_model.specs.Moment.{does, parameters_set}
 use Rattle.py_model.specs.Running.{Asking, State, did, too_dear, lacked, operation, entering}
 use Rattle.py_model.specs.Store.{RunStore}
-use Rattle.py_model.specs.Told.{answer_seen, op_seen}
+use Rattle.py_model.specs.Told.{answer_seen, op_seen, IsNamedOp, IsNamedAnswer, IsNamedKind, AreNamedAccesses}
 
 -- what of a state a doer stands for: not the steps that are left, and not the moments
 pub record Standing : Type 0 where
@@ -54,6 +54,7 @@ pub record IsDone (at : Pos) (op : Op) (values : List Value) (deed : Deed) (afte
   pub told_is : next.told ≡ does at op.no (map (contents table) values) (answer_seen table deed.answer) (option_map (kind_seen table) deed.made)
       (map (access_seen table) deed.accesses) deed.weight ∷ s.told
   pub method_is : walked.method ≡ deed.method
+  pub named : IsNamedAnswer table deed.answer × (IsNamedKind table deed.made × AreNamedAccesses table deed.accesses)
   pub stands : after (standing next)
 
 -- it does not happen, since it is too dear or an answer is lacking
@@ -62,15 +63,20 @@ pub record IsTooDear (at : Pos) (op : Op) (values : List Value) (after : Standin
   pub happened : operation capture at (op_seen table op) (map (contents table) values) s ≡ too_dear next
   pub stands : after (standing next)
 
+-- An answer is lacking: nothing is said of the askings then, since the run ends there.
 pub record IsLacking (at : Pos) (op : Op) (values : List Value) (after : Standing → Type 0) (table : ValuesView) (capture : Capture) (s : State) : Type 0 where
   pub next : State
+  pub askings : List Asking
+  pub fetches : List (List ℕ)
   pub happened : operation capture at (op_seen table op) (map (contents table) values) s ≡ lacked next
-  pub stands : after (standing next)
+  pub stands : after (record (standing s) { askings = askings; fetches = fetches })
 
--- after want of memory the store is as before, and what was asked is kept
+-- after want of memory the store is as before, and what was asked is kept: nothing, or the one asking or path of the operation
 pub record IsRefused (after : Standing → Type 0) (s : State) : Type 0 where
   pub askings : List Asking
   pub fetches : List (List ℕ)
+  pub asked : (askings ≡ s.askings) ⊎ ((one : Asking) × (askings ≡ one ∷ s.askings))
+  pub fetched : (fetches ≡ s.fetches) ⊎ ((one : List ℕ) × (fetches ≡ one ∷ s.fetches))
   pub stands : after (record (standing s) { askings = askings; fetches = fetches })
 
 abbrev pub Performs : {E : Type 0} → Pos → Op → List Value → ℕ → Fits → Stands → Stands → Result Done E → Type 0
@@ -84,6 +90,7 @@ Performs at op values left fits before after (Err want) = ForEach fits before (�
 pub record IsEntered (def : Pos) (names : List (List ℕ)) (values : List Value) (activation : ℕ) (accesses : List Access) (after : Standing → Type 0) (table : ValuesView) (s : State) : Type 0 where
   pub next_is : activation ≡ suc s.entered
   pub accesses_are : map (access_seen table) accesses ≡ parameters_set activation names (map (contents table) values)
+  pub named : AreNamedAccesses table accesses
   pub stands : (at : Pos) → after (standing (entering at def names (map (contents table) values) s))
 
 abbrev pub Enters : {E : Type 0} → Pos → List (List ℕ) → List Value → ℕ → Fits → Stands → Stands → Result Entered E → Type 0
@@ -94,9 +101,20 @@ Enters def names values left fits before after (Err want) = ForEach fits before 
 
 -- a text has its number in every table that fits, and nothing else has changed
 abbrev pub IsWord : {E : Type 0} → List ℕ → Fits → Stands → Stands → Result ℕ E → Type 0
-IsWord text fits before after (Ok number) = ForEach fits before (λ table capture s. (bytes_of table number ≡ text) × after table capture (standing s))
+IsWord text fits before after (Ok number) = ForEach fits before (λ table capture s. (number < length table.texts) × ((bytes_of table number ≡ text) × after table capture (standing s)))
 IsWord text fits before after (Err want) = ForEach fits before (λ table capture s. after table capture (standing s))
 
--- every table that fits has the texts and tuples that are named so far, with their numbers
-abbrev pub AreWithin : Fits → ValuesView → Type 0
-AreWithin fits values = (table : ValuesView) (capture : Capture) → fits table capture → Keeps values.texts table.texts × Keeps values.tuples table.tuples
+-- What is given to a doer is named in every table that fits it.
+abbrev pub AreGiven : Fits → Op → List Value → Type 0
+AreGiven fits op values = (table : ValuesView) (capture : Capture) → fits table capture → IsNamedOp table op × AreNamed table values
+
+abbrev pub AreGivenValues : Fits → List Value → Type 0
+AreGivenValues fits values = (table : ValuesView) (capture : Capture) → fits table capture → AreNamed table values
+
+-- The texts and tuples of a doer fit it themselves, with each capture that fits and with some capture. Every table that fits has them with
+-- their numbers. Two tables that fit stand for the same.
+pub record AreItsValues (fits : Fits) (stands : Stands) (values : ValuesView) : Type 0 where
+  pub some_fits : (capture : Capture) × fits values capture
+  pub own_fit : (table : ValuesView) (capture : Capture) → fits table capture → fits values capture
+  pub within : (table : ValuesView) (capture : Capture) → fits table capture → Keeps values.texts table.texts × Keeps values.tuples table.tuples
+  pub agree : (one other : ValuesView) (capture : Capture) (s : Standing) → fits one capture → fits other capture → stands one capture s → stands other capture s

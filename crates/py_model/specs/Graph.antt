@@ -1,37 +1,37 @@
 -- The graph text of a value in a store (this project's profile): as `repr`, but each object, each tuple and each text of more than 64
 -- characters is written `#n=` and its content where it is first met, and `#n` later.
-use Rattle.std.specs.Prelude.{ℕ, zero, suc, pos, ◌==◌, nat_lt, Bool, true, false, List, [], ◌∷◌, ◌++◌, length, slice_get, Option, Some, None, if◌then◌else◌, codes}
+use Rattle.std.specs.Prelude.{ℕ, zero, suc, pos, ◌==◌, nat_lt, ◌&&◌, Bool, true, false, List, [], ◌∷◌, ◌++◌, length, slice_get, Option, Some, None, if◌then◌else◌, codes}
 use Rattle.prov_base.specs.declared.place.Pos.{Pos}
 use Rattle.prov_base.specs.contracts.place.PosPartialEq.TheImpl.{ghosts as places}
 use Rattle.py_tree.specs.Tree.{StmtTree, FormTree, SuiteTree, ScriptTree, one_stmt, def_form, class_form, end_suite, more_suite}
 use Rattle.py_value.specs.declared.access.Mode.{Mode}
 use Rattle.py_value.specs.declared.access.Mode.TheVariants.{Read, Write, Append}
 use Rattle.py_value.specs.Contents.{Contents, Parts, nothing, truth, int, text, tuple, range, function, class, exception_class, builtin, object, no_parts, part}
-use Rattle.py_value.specs.Same.{same_value}
+use Rattle.py_value.specs.Same.{same_value, same_truth}
 use Rattle.py_value.specs.Seen.{SeenKind, number_by, a_list, a_dict, an_instance, a_file}
 use Rattle.py_model.specs.Names.{class_names}
 use Rattle.py_model.specs.Numbers.{int_text}
-use Rattle.py_model.specs.Printing.{literal, truth_text, range_text, named_in, angled, builtin_text}
+use Rattle.py_model.specs.Printing.{literal, key_text, truth_text, range_text, named_in, angled, builtin_text}
 use Rattle.py_model.specs.Store.{RunStore, len_of, item_of, entry_of, order_of, offset_of, closed_of}
 use Rattle.py_model.specs.Texts.{size}
 
--- the names of the functions and classes of a script by their places
+-- the names of the functions and classes of a script by their places, and which of them are classes
 abbrev mutual
-  pub names_in : SuiteTree → List (Pos × List ℕ)
+  pub names_in : SuiteTree → List (Pos × (Bool × List ℕ))
   names_in end_suite = []
   names_in (more_suite stmt rest) = names_of stmt ++ names_in rest
 
-  pub names_of : StmtTree → List (Pos × List ℕ)
+  pub names_of : StmtTree → List (Pos × (Bool × List ℕ))
   names_of (one_stmt number at span form) = names_at at form
 
-  pub names_at : Pos → FormTree → List (Pos × List ℕ)
-  names_at at (def_form name params globals body) = (at, name) ∷ []
-  names_at at (class_form name base body) = (at, name) ∷ names_in body
+  pub names_at : Pos → FormTree → List (Pos × (Bool × List ℕ))
+  names_at at (def_form name params globals body) = (at, (false, name)) ∷ []
+  names_at at (class_form name base body) = (at, (true, name)) ∷ names_in body
   names_at at form = []
 
-abbrev pub first_name : Pos → List (Pos × List ℕ) → List ℕ
-first_name at [] = codes "?"
-first_name at (one ∷ more) = if places.eq one.0 at then one.1 else first_name at more
+abbrev pub first_name : Bool → Pos → List (Pos × (Bool × List ℕ)) → List ℕ
+first_name is_class at [] = codes "?"
+first_name is_class at (one ∷ more) = if places.eq one.0 at && same_truth is_class one.1.0 then one.1.1 else first_name is_class at more
 
 -- What was drawn so far: the text, and the things that were numbered, in order.
 pub record Drawing : Type 0 where
@@ -60,11 +60,14 @@ closed_text true = codes "closed"
 closed_text false = codes "open"
 
 module _ (script : ScriptTree) (store : RunStore) where
-  abbrev pub name_placed : Pos → List ℕ
-  name_placed at = first_name at (names_in script.body)
+  abbrev pub function_name : Pos → List ℕ
+  function_name at = first_name false at (names_in script.body)
+
+  abbrev pub class_name : Pos → List ℕ
+  class_name at = first_name true at (names_in script.body)
 
   abbrev pub class_text : Contents → List ℕ
-  class_text (class at) = name_placed at
+  class_text (class at) = class_name at
   class_text (exception_class number) = named_in class_names number
   class_text other = codes "?"
 
@@ -78,8 +81,8 @@ module _ (script : ScriptTree) (store : RunStore) where
       value_drawn (text bytes) d = if nat_lt 64 (size bytes) then numbered (text bytes) (add (literal bytes)) d else add (literal bytes) d
       value_drawn (tuple parts) d = numbered (tuple parts) (λ e. add (codes ")") (parts_drawn parts (add (codes "(") e))) d
       value_drawn (range start end step) d = add (range_text start end step) d
-      value_drawn (function at) d = add (angled (codes "function ") (name_placed at)) d
-      value_drawn (class at) d = add (angled (codes "class ") (name_placed at)) d
+      value_drawn (function at) d = add (angled (codes "function ") (function_name at)) d
+      value_drawn (class at) d = add (angled (codes "class ") (class_name at)) d
       value_drawn (exception_class number) d = add (angled (codes "class ") (named_in class_names number)) d
       value_drawn (builtin number) d = add (builtin_text number) d
       value_drawn (object o) d = object_drawn o d
@@ -107,19 +110,19 @@ module _ (script : ScriptTree) (store : RunStore) where
     entries_drawn o first [] d = d
     entries_drawn o first (key ∷ keys) d = elim (entry_of store o key) [
       | None ↦ entries_drawn o first keys d
-      | Some entry ↦ entries_drawn o false keys (value_drawn entry.1 (add (codes ": ") (value_drawn entry.0 (add (if first then [] else codes ", ") d))))
+      | Some entry ↦ entries_drawn o false keys (value_drawn entry.1 (add (codes ": ") (value_drawn key (add (if first then [] else codes ", ") d))))
     ]
 
-    -- the attributes of an instance by its order, the name of each as it is
+    -- the attributes of an instance by its order; the name of each as it is, or as `repr` writes it where it is no text
     abbrev pub attribute_name : Contents → Drawing → Drawing
     attribute_name (text bytes) d = add bytes d
-    attribute_name other d = value_drawn other d
+    attribute_name other d = add (key_text other) d
 
     abbrev pub attributes_drawn : ℕ → Bool → List Contents → Drawing → Drawing
     attributes_drawn o first [] d = d
     attributes_drawn o first (key ∷ keys) d = elim (entry_of store o key) [
       | None ↦ attributes_drawn o first keys d
-      | Some entry ↦ attributes_drawn o false keys (value_drawn entry.1 (add (codes "=") (attribute_name entry.0 (add (if first then [] else codes ", ") d))))
+      | Some entry ↦ attributes_drawn o false keys (value_drawn entry.1 (add (codes "=") (attribute_name key (add (if first then [] else codes ", ") d))))
     ]
 
     abbrev pub content_drawn : ℕ → Option SeenKind → Drawing → Drawing

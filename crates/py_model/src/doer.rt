@@ -2,7 +2,7 @@
 ghost use Rattle.std.specs.Prelude.{◌≡◌, length};
 ghost use Rattle.py_value.specs.Values.{ValuesView};
 ghost use Rattle.py_model.specs.Capture.{Capture};
-ghost use Rattle.py_model.specs.Doing.{Standing, Knew, Performs, Enters, IsWord, AreWithin};
+ghost use Rattle.py_model.specs.Doing.{Standing, Knew, Performs, Enters, IsWord, AreGiven, AreGivenValues, AreItsValues};
 
 use crate::{Answer, Op};
 use prov_base::{Memory, Name, Pos};
@@ -45,7 +45,7 @@ pub enum Entered {
 }
 
 /// Something that performs operations as they are defined, over a store and a source of answers, so that an interpreter is proved once over
-/// any of them. Texts, tuples and objects that are named in what is given are among those that the doer has named before.
+/// any of them.
 pub trait Doer {
     /// A table of texts and tuples and a capture that fit the doer: they have all that it has so far, and may have more.
     ghost fits: { Self → ValuesView → Capture → Type 0 };
@@ -74,13 +74,14 @@ pub trait Doer {
         values: &[Value],
         left: u32,
     ) -> Result<Entered, Memory>
-        requires { length values.now ≡ length names.now }
+        requires counted { length values.now ≡ length names.now }
+        requires given { AreGivenValues (fits self.old) values.now }
         ensures knew { Knew (fits self.old) (fits self.new) }
         ensures entered { Enters def names.now values.now left (fits self.new) (stands self.old) (stands self.new) result };
 
     /// The texts and tuples that the numbers in what it answers name.
     fn values(&self) -> &Values
-        ensures { AreWithin (fits self.now) result.now };
+        ensures { AreItsValues (fits self.now) (stands self.now) result.now };
 
     /// The number of a text.
     fn word(&mut self, alloc: Global, text: &str) -> Result<u32, Memory>

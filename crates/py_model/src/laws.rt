@@ -29,7 +29,7 @@ pub fn map_changes_by_accesses()
     ensures { (e : Effect) (store : RunStore) → (after e store).at ≡ after_accesses (accesses_in e.touches) store.at }
 {}
 
-/// The law that an operation which raises writes nothing but its exception, the next object, or raises one that is there and writes
+/// The law that an operation which raises writes nothing but its exception, the next object, or raises an object again and writes
 /// nothing.
 pub fn raised_writes_its_exception_alone()
     ensures { (store : RunStore) (answers : Answers) (p : Plan) (o : ℕ) → (effect store answers p).outcome ≡ answered (raised o)

@@ -1,7 +1,7 @@
 // What is told of a run while it goes on.
 ghost use Rattle.std.specs.Prelude.{Option, List, None};
 ghost use Rattle.py_model.specs.Moment.{Moment as SeenMoment};
-ghost use Rattle.py_model.specs.Told.{moment_seen, IsToldNow, TellsOn};
+ghost use Rattle.py_model.specs.Told.{moment_seen, IsTellable, IsToldNow, TellsOn};
 
 use crate::Moment;
 use prov_base::Memory;
@@ -15,6 +15,7 @@ pub trait Watch {
 
     /// Takes note of a moment, whose texts and tuples have their numbers in `values`. After a refusal the history is as before.
     fn told(&mut self, alloc: Global, moment: &Moment, values: &Values) -> Result<(), Memory>
+        requires { IsTellable values.now moment.now }
         ensures { TellsOn (history self.old) (history self.new) (IsToldNow result (moment_seen values.now moment.now)) };
 }
 
