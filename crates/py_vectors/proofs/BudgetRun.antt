@@ -12,7 +12,8 @@ use Rattle.py_model.specs.Capture.{Capture, opening_in}
 use Rattle.py_model.specs.Meaning.{Run, run, level, out_of_steps}
 use Rattle.py_model.specs.Moment.{begins, does, ends, normal_end}
 use Rattle.py_model.specs.Plan.{value}
-use Rattle.py_vectors.specs.Words.{place, no_span, summary, evaluated, kept}
+use Rattle.py_vectors.specs.Words.{place, no_span, summary, evaluated, kept, depends}
+use Rattle.slice_law.specs.Edges.{edge, by_data}
 
 abbrev pub r_budget_tree : ScriptTree
 r_budget_tree = record { body = (more_suite (one_stmt 0 (place 1 1) no_span (assign_form (var_target (place 1 1) (codes "x")) (const_expr (place 1 5) (int_atom (pos 1))))) (more_suite (one_stmt 1 (place 2 1) no_span (do_form (call_expr (place 2 6) (var_expr (place 2 1) (codes "print")) (more_exprs (var_expr (place 2 7) (codes "x")) end_exprs)))) end_suite)); count = 2 }
@@ -46,3 +47,7 @@ r_budget_values = refl
 r_budget_slices : kept r_budget_tree (opening_in r_budget_capture (codes "s.py") ([])) (reverse r_budget_run.moments) ((place 2 7, 1) ∷ (place 1 5, 1) ∷ (place 2 1, 1) ∷ []) ≡ (Some (true, (true ∷ true ∷ [])) ∷ Some (true, (true ∷ false ∷ [])) ∷ Some (true, (false ∷ true ∷ [])) ∷ [])
 unfolding is_utf8 chars encode_utf8 level
 r_budget_slices = refl
+
+r_budget_dataflow : depends r_budget_tree (reverse r_budget_run.moments) (edge by_data 1 0 ∷ []) ≡ (true, true)
+unfolding is_utf8 chars encode_utf8 level
+r_budget_dataflow = refl

@@ -12,7 +12,8 @@ use Rattle.py_model.specs.Capture.{Capture, opening_in}
 use Rattle.py_model.specs.Meaning.{Run, run, level, finished}
 use Rattle.py_model.specs.Moment.{begins, does, ends, normal_end}
 use Rattle.py_model.specs.Plan.{value}
-use Rattle.py_vectors.specs.Words.{place, no_span, summary, evaluated, kept}
+use Rattle.py_vectors.specs.Words.{place, no_span, summary, evaluated, kept, depends}
+use Rattle.slice_law.specs.Edges.{edge, by_data}
 
 abbrev pub r_dict_tree : ScriptTree
 r_dict_tree = record { body = (more_suite (one_stmt 0 (place 1 1) no_span (assign_form (var_target (place 1 1) (codes "d")) (dict_expr (place 1 5) end_pairs))) (more_suite (one_stmt 1 (place 2 1) no_span (assign_form (part_target (place 2 2) (var_expr (place 2 1) (codes "d")) (const_expr (place 2 3) (text_atom (codes "x")))) (const_expr (place 2 10) (int_atom (pos 1))))) (more_suite (one_stmt 2 (place 3 1) no_span (assign_form (part_target (place 3 2) (var_expr (place 3 1) (codes "d")) (const_expr (place 3 3) (text_atom (codes "y")))) (const_expr (place 3 10) (int_atom (pos 2))))) (more_suite (one_stmt 3 (place 4 1) no_span (assign_form (var_target (place 4 1) (codes "z")) (part_expr (place 4 6) (var_expr (place 4 5) (codes "d")) (const_expr (place 4 7) (text_atom (codes "x")))))) end_suite)))); count = 4 }
@@ -61,3 +62,7 @@ r_dict_values = refl
 r_dict_slices : kept r_dict_tree (opening_in r_dict_capture (codes "s.py") ([])) (reverse r_dict_run.moments) ((place 4 6, 1) ∷ (place 2 10, 1) ∷ (place 2 1, 1) ∷ (place 3 10, 1) ∷ (place 3 3, 1) ∷ []) ≡ (Some (true, (true ∷ true ∷ false ∷ true ∷ [])) ∷ Some (true, (false ∷ true ∷ false ∷ false ∷ [])) ∷ Some (true, (true ∷ true ∷ false ∷ false ∷ [])) ∷ Some (true, (false ∷ false ∷ true ∷ false ∷ [])) ∷ Some (true, (true ∷ false ∷ true ∷ false ∷ [])) ∷ [])
 unfolding is_utf8 chars encode_utf8 level
 r_dict_slices = refl
+
+r_dict_dataflow : depends r_dict_tree (reverse r_dict_run.moments) (edge by_data 1 0 ∷ edge by_data 2 0 ∷ edge by_data 3 0 ∷ edge by_data 3 1 ∷ []) ≡ (true, true)
+unfolding is_utf8 chars encode_utf8 level
+r_dict_dataflow = refl

@@ -11,7 +11,8 @@ use Rattle.py_model.specs.Capture.{Capture, opening_in}
 use Rattle.py_model.specs.Meaning.{Run, run, level, uncaught}
 use Rattle.py_model.specs.Moment.{begins, does, ends, normal_end, raise_end}
 use Rattle.py_model.specs.Plan.{value, raised, time, failed}
-use Rattle.py_vectors.specs.Words.{place, no_span, summary, evaluated, kept}
+use Rattle.py_vectors.specs.Words.{place, no_span, summary, evaluated, kept, depends}
+use Rattle.slice_law.specs.Edges.{edge, by_data}
 
 abbrev pub r_failing_clock_tree : ScriptTree
 r_failing_clock_tree = record { body = (more_suite (one_stmt 0 (place 1 1) no_span (import_form (codes "time"))) (more_suite (one_stmt 1 (place 2 1) no_span (do_form (call_expr (place 2 6) (var_expr (place 2 1) (codes "print")) (more_exprs (call_expr (place 2 19) (attr_expr (place 2 11) (var_expr (place 2 7) (codes "time")) (codes "time_ns")) end_exprs) end_exprs)))) end_suite)); count = 2 }
@@ -47,3 +48,7 @@ r_failing_clock_values = refl
 r_failing_clock_slices : kept r_failing_clock_tree (opening_in r_failing_clock_capture (codes "s.py") ([])) (reverse r_failing_clock_run.moments) ((place 2 1, 1) ∷ (place 2 7, 1) ∷ []) ≡ (Some (true, (false ∷ true ∷ [])) ∷ Some (true, (true ∷ true ∷ [])) ∷ [])
 unfolding is_utf8 chars encode_utf8 level
 r_failing_clock_slices = refl
+
+r_failing_clock_dataflow : depends r_failing_clock_tree (reverse r_failing_clock_run.moments) (edge by_data 1 0 ∷ []) ≡ (true, true)
+unfolding is_utf8 chars encode_utf8 level
+r_failing_clock_dataflow = refl

@@ -12,7 +12,8 @@ use Rattle.py_model.specs.Capture.{Capture, opening_in}
 use Rattle.py_model.specs.Meaning.{Run, run, level, finished}
 use Rattle.py_model.specs.Moment.{begins, does, ends, normal_end}
 use Rattle.py_model.specs.Plan.{value}
-use Rattle.py_vectors.specs.Words.{place, no_span, summary, evaluated, kept}
+use Rattle.py_vectors.specs.Words.{place, no_span, summary, evaluated, kept, depends}
+use Rattle.slice_law.specs.Edges.{edge, by_data, by_control}
 
 abbrev pub r_one_line_suite_tree : ScriptTree
 r_one_line_suite_tree = record { body = (more_suite (one_stmt 0 (place 1 1) no_span (assign_form (var_target (place 1 1) (codes "x")) (const_expr (place 1 5) (int_atom (pos 0))))) (more_suite (one_stmt 1 (place 2 1) no_span (assign_form (var_target (place 2 1) (codes "y")) (const_expr (place 2 5) (int_atom (pos 5))))) (more_suite (one_stmt 2 (place 3 1) no_span (if_form (more_branches (var_expr (place 3 4) (codes "x")) (more_suite (one_stmt 3 (place 3 7) no_span (assign_form (var_target (place 3 7) (codes "y")) (const_expr (place 3 11) (int_atom (pos 1))))) end_suite) end_branches) (else_suite (more_suite (one_stmt 4 (place 4 7) no_span (assign_form (var_target (place 4 7) (codes "z")) (const_expr (place 4 11) (int_atom (pos 2))))) end_suite)))) (more_suite (one_stmt 5 (place 5 1) no_span (do_form (call_expr (place 5 6) (var_expr (place 5 1) (codes "print")) (more_exprs (var_expr (place 5 7) (codes "z")) end_exprs)))) end_suite)))); count = 6 }
@@ -60,3 +61,7 @@ r_one_line_suite_values = refl
 r_one_line_suite_slices : kept r_one_line_suite_tree (opening_in r_one_line_suite_capture (codes "s.py") ([])) (reverse r_one_line_suite_run.moments) ((place 5 7, 1) ∷ (place 1 5, 1) ∷ (place 2 5, 1) ∷ (place 4 11, 1) ∷ (place 5 1, 1) ∷ []) ≡ (Some (true, (true ∷ false ∷ true ∷ false ∷ true ∷ true ∷ [])) ∷ Some (true, (true ∷ false ∷ false ∷ false ∷ false ∷ false ∷ [])) ∷ Some (true, (false ∷ true ∷ false ∷ false ∷ false ∷ false ∷ [])) ∷ Some (true, (true ∷ false ∷ true ∷ false ∷ true ∷ false ∷ [])) ∷ Some (true, (false ∷ false ∷ false ∷ false ∷ false ∷ true ∷ [])) ∷ [])
 unfolding is_utf8 chars encode_utf8 level
 r_one_line_suite_slices = refl
+
+r_one_line_suite_dataflow : depends r_one_line_suite_tree (reverse r_one_line_suite_run.moments) (edge by_data 2 0 ∷ edge by_control 3 2 ∷ edge by_control 4 2 ∷ edge by_data 5 4 ∷ []) ≡ (true, true)
+unfolding is_utf8 chars encode_utf8 level
+r_one_line_suite_dataflow = refl

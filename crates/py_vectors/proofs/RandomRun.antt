@@ -12,7 +12,8 @@ use Rattle.py_model.specs.Capture.{Capture, opening_in}
 use Rattle.py_model.specs.Meaning.{Run, run, level, finished}
 use Rattle.py_model.specs.Moment.{begins, does, ends, normal_end}
 use Rattle.py_model.specs.Plan.{value, word, random_word}
-use Rattle.py_vectors.specs.Words.{place, no_span, summary, evaluated, kept}
+use Rattle.py_vectors.specs.Words.{place, no_span, summary, evaluated, kept, depends}
+use Rattle.slice_law.specs.Edges.{edge, by_data}
 
 abbrev pub r_random_tree : ScriptTree
 r_random_tree = record { body = (more_suite (one_stmt 0 (place 1 1) no_span (import_form (codes "random"))) (more_suite (one_stmt 1 (place 2 1) no_span (assign_form (var_target (place 2 1) (codes "a")) (call_expr (place 2 19) (attr_expr (place 2 11) (var_expr (place 2 5) (codes "random")) (codes "randint")) (more_exprs (const_expr (place 2 20) (int_atom (pos 1))) (more_exprs (const_expr (place 2 23) (int_atom (pos 6))) end_exprs))))) (more_suite (one_stmt 2 (place 3 1) no_span (assign_form (var_target (place 3 1) (codes "b")) (call_expr (place 3 19) (attr_expr (place 3 11) (var_expr (place 3 5) (codes "random")) (codes "randint")) (more_exprs (const_expr (place 3 20) (int_atom (pos 1))) (more_exprs (const_expr (place 3 23) (int_atom (pos 6))) end_exprs))))) (more_suite (one_stmt 3 (place 4 1) no_span (do_form (call_expr (place 4 6) (var_expr (place 4 1) (codes "print")) (more_exprs (var_expr (place 4 7) (codes "b")) end_exprs)))) end_suite)))); count = 4 }
@@ -63,3 +64,7 @@ r_random_values = refl
 r_random_slices : kept r_random_tree (opening_in r_random_capture (codes "s.py") ([])) (reverse r_random_run.moments) ((place 4 7, 1) ∷ (place 2 5, 1) ∷ (place 2 23, 1) ∷ (place 3 20, 1) ∷ (place 3 23, 1) ∷ []) ≡ (Some (true, (true ∷ false ∷ true ∷ true ∷ [])) ∷ Some (true, (true ∷ true ∷ false ∷ false ∷ [])) ∷ Some (true, (true ∷ true ∷ false ∷ false ∷ [])) ∷ Some (true, (true ∷ false ∷ true ∷ false ∷ [])) ∷ Some (true, (true ∷ false ∷ true ∷ false ∷ [])) ∷ [])
 unfolding is_utf8 chars encode_utf8 level
 r_random_slices = refl
+
+r_random_dataflow : depends r_random_tree (reverse r_random_run.moments) (edge by_data 1 0 ∷ edge by_data 2 0 ∷ edge by_data 3 2 ∷ []) ≡ (true, true)
+unfolding is_utf8 chars encode_utf8 level
+r_random_dataflow = refl

@@ -13,7 +13,8 @@ use Rattle.py_model.specs.Capture.{Capture, opening_in}
 use Rattle.py_model.specs.Meaning.{Run, run, level, finished}
 use Rattle.py_model.specs.Moment.{begins, does, enters, leaves, ends, normal_end, return_end}
 use Rattle.py_model.specs.Plan.{value}
-use Rattle.py_vectors.specs.Words.{place, no_span, summary, evaluated, kept}
+use Rattle.py_vectors.specs.Words.{place, no_span, summary, evaluated, kept, depends}
+use Rattle.slice_law.specs.Edges.{edge, by_data, by_control, by_jump}
 
 abbrev pub r_repeat_tree : ScriptTree
 r_repeat_tree = record { body = (more_suite (one_stmt 0 (place 1 1) no_span (def_form (codes "twice") ((codes "n") ∷ []) ([]) (more_suite (one_stmt 1 (place 2 5) no_span (return_form (Some (binary_expr (place 2 14) Add (var_expr (place 2 12) (codes "n")) (var_expr (place 2 16) (codes "n")))))) end_suite))) (more_suite (one_stmt 2 (place 3 1) no_span (assign_form (var_target (place 3 1) (codes "a")) (call_expr (place 3 10) (var_expr (place 3 5) (codes "twice")) (more_exprs (const_expr (place 3 11) (int_atom (pos 2))) end_exprs)))) (more_suite (one_stmt 3 (place 4 1) no_span (assign_form (var_target (place 4 1) (codes "b")) (call_expr (place 4 10) (var_expr (place 4 5) (codes "twice")) (more_exprs (const_expr (place 4 11) (int_atom (pos 3))) end_exprs)))) (more_suite (one_stmt 4 (place 5 1) no_span (do_form (call_expr (place 5 6) (var_expr (place 5 1) (codes "print")) (more_exprs (var_expr (place 5 7) (codes "b")) end_exprs)))) end_suite)))); count = 5 }
@@ -74,3 +75,7 @@ r_repeat_values = refl
 r_repeat_slices : kept r_repeat_tree (opening_in r_repeat_capture (codes "s.py") ([])) (reverse r_repeat_run.moments) ((place 5 7, 1) ∷ (place 3 11, 1) ∷ (place 2 16, 1) ∷ (place 2 12, 2) ∷ (place 4 10, 1) ∷ []) ≡ (Some (true, (true ∷ true ∷ true ∷ true ∷ true ∷ [])) ∷ Some (true, (true ∷ false ∷ true ∷ false ∷ false ∷ [])) ∷ Some (true, (true ∷ true ∷ true ∷ false ∷ false ∷ [])) ∷ Some (true, (true ∷ true ∷ true ∷ true ∷ false ∷ [])) ∷ Some (true, (true ∷ true ∷ true ∷ true ∷ false ∷ [])) ∷ [])
 unfolding is_utf8 chars encode_utf8 level
 r_repeat_slices = refl
+
+r_repeat_dataflow : depends r_repeat_tree (reverse r_repeat_run.moments) (edge by_control 1 0 ∷ edge by_data 1 2 ∷ edge by_control 1 2 ∷ edge by_data 1 3 ∷ edge by_control 1 3 ∷ edge by_data 2 0 ∷ edge by_jump 2 1 ∷ edge by_data 3 0 ∷ edge by_jump 3 1 ∷ edge by_data 4 3 ∷ []) ≡ (true, true)
+unfolding is_utf8 chars encode_utf8 level
+r_repeat_dataflow = refl

@@ -13,7 +13,8 @@ use Rattle.py_model.specs.Capture.{Capture, opening_in}
 use Rattle.py_model.specs.Meaning.{Run, run, level, finished}
 use Rattle.py_model.specs.Moment.{begins, does, ends, normal_end}
 use Rattle.py_model.specs.Plan.{value}
-use Rattle.py_vectors.specs.Words.{place, no_span, summary, evaluated, kept}
+use Rattle.py_vectors.specs.Words.{place, no_span, summary, evaluated, kept, depends}
+use Rattle.slice_law.specs.Edges.{edge, by_data}
 
 abbrev pub r_sharing_tree : ScriptTree
 r_sharing_tree = record { body = (more_suite (one_stmt 0 (place 1 1) no_span (assign_form (var_target (place 1 1) (codes "a")) (list_expr (place 1 5) (more_exprs (const_expr (place 1 6) (int_atom (pos 0))) end_exprs)))) (more_suite (one_stmt 1 (place 2 1) no_span (assign_form (part_target (place 2 2) (var_expr (place 2 1) (codes "a")) (const_expr (place 2 3) (int_atom (pos 0)))) (var_expr (place 2 8) (codes "a")))) (more_suite (one_stmt 2 (place 3 1) no_span (assign_form (var_target (place 3 1) (codes "b")) (list_expr (place 3 5) (more_exprs (list_expr (place 3 6) (more_exprs (const_expr (place 3 7) (int_atom (pos 1))) end_exprs)) (more_exprs (list_expr (place 3 11) (more_exprs (const_expr (place 3 12) (int_atom (pos 1))) end_exprs)) end_exprs))))) (more_suite (one_stmt 3 (place 4 1) no_span (assign_form (var_target (place 4 1) (codes "c")) (list_expr (place 4 5) (more_exprs (const_expr (place 4 6) (int_atom (pos 1))) end_exprs)))) (more_suite (one_stmt 4 (place 5 1) no_span (assign_form (var_target (place 5 1) (codes "d")) (list_expr (place 5 5) (more_exprs (var_expr (place 5 6) (codes "c")) (more_exprs (var_expr (place 5 9) (codes "c")) end_exprs))))) (more_suite (one_stmt 5 (place 6 1) no_span (do_form (call_expr (place 6 6) (var_expr (place 6 1) (codes "print")) (more_exprs (var_expr (place 6 7) (codes "a")) (more_exprs (compare_expr (place 6 12) Eq (var_expr (place 6 10) (codes "b")) (var_expr (place 6 15) (codes "d"))) end_exprs))))) end_suite)))))); count = 6 }
@@ -78,3 +79,7 @@ r_sharing_values = refl
 r_sharing_slices : kept r_sharing_tree (opening_in r_sharing_capture (codes "s.py") ([])) (reverse r_sharing_run.moments) ((place 6 7, 1) ∷ (place 6 10, 1) ∷ (place 6 15, 1) ∷ (place 2 8, 1) ∷ (place 3 6, 1) ∷ []) ≡ (Some (true, (true ∷ true ∷ false ∷ false ∷ false ∷ true ∷ [])) ∷ Some (true, (true ∷ false ∷ true ∷ false ∷ false ∷ true ∷ [])) ∷ Some (true, (true ∷ false ∷ true ∷ true ∷ true ∷ true ∷ [])) ∷ Some (true, (true ∷ true ∷ false ∷ false ∷ false ∷ false ∷ [])) ∷ Some (true, (false ∷ false ∷ true ∷ false ∷ false ∷ false ∷ [])) ∷ [])
 unfolding is_utf8 chars encode_utf8 level
 r_sharing_slices = refl
+
+r_sharing_dataflow : depends r_sharing_tree (reverse r_sharing_run.moments) (edge by_data 1 0 ∷ edge by_data 4 3 ∷ edge by_data 5 0 ∷ edge by_data 5 1 ∷ edge by_data 5 2 ∷ edge by_data 5 3 ∷ edge by_data 5 4 ∷ []) ≡ (true, true)
+unfolding is_utf8 chars encode_utf8 level
+r_sharing_dataflow = refl

@@ -12,7 +12,8 @@ use Rattle.py_model.specs.Capture.{Capture, opening_in}
 use Rattle.py_model.specs.Meaning.{Run, run, level, finished}
 use Rattle.py_model.specs.Moment.{begins, does, ends, normal_end, raise_end}
 use Rattle.py_model.specs.Plan.{value, raised}
-use Rattle.py_vectors.specs.Words.{place, no_span, summary, evaluated, kept}
+use Rattle.py_vectors.specs.Words.{place, no_span, summary, evaluated, kept, depends}
+use Rattle.slice_law.specs.Edges.{edge, by_data, by_control, by_jump}
 
 abbrev pub r_try_tree : ScriptTree
 r_try_tree = record { body = (more_suite (one_stmt 0 (place 1 1) no_span (assign_form (var_target (place 1 1) (codes "a")) (const_expr (place 1 5) (int_atom (pos 5))))) (more_suite (one_stmt 1 (place 2 1) no_span (try_form (more_suite (one_stmt 2 (place 3 5) no_span (assign_form (var_target (place 3 5) (codes "b")) (call_expr (place 3 12) (var_expr (place 3 9) (codes "int")) (more_exprs (const_expr (place 3 13) (text_atom (codes "x"))) end_exprs)))) end_suite) (more_handlers (Some (var_expr (place 4 8) (codes "ValueError"))) None (more_suite (one_stmt 3 (place 5 5) no_span (assign_form (var_target (place 5 5) (codes "b")) (const_expr (place 5 9) (int_atom (pos 0))))) end_suite) end_handlers))) (more_suite (one_stmt 4 (place 6 1) no_span (do_form (call_expr (place 6 6) (var_expr (place 6 1) (codes "print")) (more_exprs (var_expr (place 6 7) (codes "a")) end_exprs)))) end_suite))); count = 5 }
@@ -61,3 +62,7 @@ r_try_values = refl
 r_try_slices : kept r_try_tree (opening_in r_try_capture (codes "s.py") ([])) (reverse r_try_run.moments) ((place 6 7, 1) ∷ (place 1 5, 1) ∷ (place 3 9, 1) ∷ (place 4 8, 1) ∷ (place 5 9, 1) ∷ []) ≡ (Some (true, (true ∷ false ∷ false ∷ false ∷ true ∷ [])) ∷ Some (true, (true ∷ false ∷ false ∷ false ∷ false ∷ [])) ∷ Some (true, (false ∷ true ∷ true ∷ false ∷ false ∷ [])) ∷ Some (true, (false ∷ true ∷ true ∷ false ∷ false ∷ [])) ∷ Some (true, (false ∷ true ∷ true ∷ true ∷ false ∷ [])) ∷ [])
 unfolding is_utf8 chars encode_utf8 level
 r_try_slices = refl
+
+r_try_dataflow : depends r_try_tree (reverse r_try_run.moments) (edge by_jump 1 2 ∷ edge by_control 2 1 ∷ edge by_control 3 1 ∷ edge by_data 4 0 ∷ []) ≡ (true, true)
+unfolding is_utf8 chars encode_utf8 level
+r_try_dataflow = refl

@@ -12,7 +12,8 @@ use Rattle.py_model.specs.Capture.{Capture, opening_in}
 use Rattle.py_model.specs.Meaning.{Run, run, level, finished}
 use Rattle.py_model.specs.Moment.{begins, does, enters, leaves, ends, normal_end, return_end, raise_end}
 use Rattle.py_model.specs.Plan.{value, raised}
-use Rattle.py_vectors.specs.Words.{place, no_span, summary, evaluated}
+use Rattle.py_vectors.specs.Words.{place, no_span, summary, evaluated, depends}
+use Rattle.slice_law.specs.Edges.{edge, by_data, by_control, by_jump}
 
 abbrev pub r_unbound_by_except_tree : ScriptTree
 r_unbound_by_except_tree = record { body = (more_suite (one_stmt 0 (place 1 1) no_span (def_form (codes "f") ([]) ([]) (more_suite (one_stmt 1 (place 2 5) no_span (assign_form (var_target (place 2 5) (codes "e")) (const_expr (place 2 9) (int_atom (pos 1))))) (more_suite (one_stmt 2 (place 3 5) no_span (try_form (more_suite (one_stmt 3 (place 4 9) no_span (raise_form (Some (call_expr (place 4 25) (var_expr (place 4 15) (codes "ValueError")) (more_exprs (const_expr (place 4 26) (text_atom (codes "v"))) end_exprs))))) end_suite) (more_handlers (Some (var_expr (place 5 12) (codes "ValueError"))) (Some (record { at = (place 5 26); name = (codes "e") })) (more_suite (one_stmt 4 (place 6 9) no_span pass_form) end_suite) end_handlers))) (more_suite (one_stmt 5 (place 7 5) no_span (try_form (more_suite (one_stmt 6 (place 8 9) no_span (return_form (Some (var_expr (place 8 16) (codes "e"))))) end_suite) (more_handlers (Some (var_expr (place 9 12) (codes "UnboundLocalError"))) (Some (record { at = (place 9 33); name = (codes "x") })) (more_suite (one_stmt 7 (place 10 9) no_span (return_form (Some (call_expr (place 10 19) (var_expr (place 10 16) (codes "str")) (more_exprs (var_expr (place 10 20) (codes "x")) end_exprs))))) end_suite) end_handlers))) end_suite))))) (more_suite (one_stmt 8 (place 11 1) no_span (do_form (call_expr (place 11 6) (var_expr (place 11 1) (codes "print")) (more_exprs (call_expr (place 11 8) (var_expr (place 11 7) (codes "f")) end_exprs) end_exprs)))) (more_suite (one_stmt 9 (place 12 1) no_span (try_form (more_suite (one_stmt 10 (place 13 5) no_span (do_form (part_expr (place 13 8) (list_expr (place 13 5) (more_exprs (const_expr (place 13 6) (int_atom (pos 1))) end_exprs)) (const_expr (place 13 9) (int_atom (pos 2)))))) end_suite) (more_handlers (Some (var_expr (place 14 8) (codes "IndexError"))) (Some (record { at = (place 14 22); name = (codes "e") })) (more_suite (one_stmt 11 (place 15 5) no_span (del_form (var_target (place 15 9) (codes "e")))) end_suite) end_handlers))) (more_suite (one_stmt 12 (place 16 1) no_span (try_form (more_suite (one_stmt 13 (place 17 5) no_span (do_form (call_expr (place 17 10) (var_expr (place 17 5) (codes "print")) (more_exprs (var_expr (place 17 11) (codes "e")) end_exprs)))) end_suite) (more_handlers (Some (var_expr (place 18 8) (codes "NameError"))) (Some (record { at = (place 18 21); name = (codes "x") })) (more_suite (one_stmt 14 (place 19 5) no_span (do_form (call_expr (place 19 10) (var_expr (place 19 5) (codes "print")) (more_exprs (var_expr (place 19 11) (codes "x")) end_exprs)))) end_suite) end_handlers))) end_suite)))); count = 15 }
@@ -109,3 +110,7 @@ r_unbound_by_except_moments = refl
 r_unbound_by_except_values : evaluated r_unbound_by_except_tree (opening_in r_unbound_by_except_capture (codes "s.py") ([])) (reverse r_unbound_by_except_run.moments) ((place 2 9, 1) ∷ (place 5 12, 1) ∷ (place 10 20, 1) ∷ (place 13 5, 1) ∷ (place 19 10, 1) ∷ []) ≡ (Some ((codes "1"), 11) ∷ Some ((codes "<class ValueError>"), 25) ∷ Some ((codes "#1=UnboundLocalError(args=#2=(" ++ (34 ∷ []) ++ codes "local name 'e' is not set" ++ (34 ∷ []) ++ codes ",))"), 48) ∷ Some ((codes "#1=[1]"), 64) ∷ Some ((codes "None"), 103) ∷ [])
 unfolding is_utf8 chars encode_utf8 level
 r_unbound_by_except_values = refl
+
+r_unbound_by_except_dataflow : depends r_unbound_by_except_tree (reverse r_unbound_by_except_run.moments) (edge by_control 1 0 ∷ edge by_control 1 8 ∷ edge by_control 2 0 ∷ edge by_data 2 2 ∷ edge by_jump 2 3 ∷ edge by_control 2 8 ∷ edge by_control 3 2 ∷ edge by_control 3 8 ∷ edge by_control 4 2 ∷ edge by_control 4 8 ∷ edge by_control 5 0 ∷ edge by_data 5 5 ∷ edge by_jump 5 6 ∷ edge by_jump 5 7 ∷ edge by_control 5 8 ∷ edge by_data 6 2 ∷ edge by_control 6 5 ∷ edge by_control 6 8 ∷ edge by_data 7 5 ∷ edge by_control 7 5 ∷ edge by_data 7 6 ∷ edge by_control 7 8 ∷ edge by_data 8 0 ∷ edge by_jump 8 5 ∷ edge by_jump 9 10 ∷ edge by_data 9 11 ∷ edge by_control 10 9 ∷ edge by_data 10 10 ∷ edge by_data 11 9 ∷ edge by_control 11 9 ∷ edge by_data 12 12 ∷ edge by_jump 12 13 ∷ edge by_data 13 9 ∷ edge by_control 13 12 ∷ edge by_data 14 12 ∷ edge by_control 14 12 ∷ edge by_data 14 13 ∷ []) ≡ (true, true)
+unfolding is_utf8 chars encode_utf8 level
+r_unbound_by_except_dataflow = refl

@@ -1,5 +1,5 @@
 -- Short words of the runs that are written down here.
-use Rattle.std.specs.Prelude.{ℕ, zero, suc, Bool, List, [], ◌∷◌, Option, Some, None}
+use Rattle.std.specs.Prelude.{ℕ, zero, suc, ◌==◌, ◌&&◌, ◌||◌, Bool, true, false, List, [], ◌∷◌, Option, Some, None}
 use Rattle.std.specs.Option.{option_and_then, option_map}
 use Rattle.prov_base.specs.declared.place.Pos.{Pos}
 use Rattle.prov_base.specs.declared.place.Span.{Span}
@@ -12,7 +12,7 @@ use Rattle.py_model.specs.Plan.{value}
 use Rattle.py_model.specs.Store.{RunStore}
 use Rattle.py_tree.specs.Tree.{ScriptTree}
 use Rattle.slice_law.specs.Closed.{needed, has, is_settled}
-use Rattle.slice_law.specs.Edges.{edges}
+use Rattle.slice_law.specs.Edges.{Edge, Reason, by_data, by_name, by_control, by_jump, edges}
 
 abbrev pub place : ℕ → ℕ → Pos
 place line col = record { line = line; col = col }
@@ -64,3 +64,22 @@ slice_to script opening upto =
 abbrev pub kept : ScriptTree → RunStore → List Moment → List (Pos × ℕ) → List (Option (Bool × List Bool))
 kept script opening told [] = []
 kept script opening told (point ∷ points) = option_map (slice_to script opening) (up_to_evaluation point.0 point.1 told) ∷ kept script opening told points
+
+-- which statement depends on which in the whole run: whether all that are expected are there, and all that are there expected
+abbrev pub same_reason : Reason → Reason → Bool
+same_reason by_data by_data = true
+same_reason by_name by_name = true
+same_reason by_control by_control = true
+same_reason by_jump by_jump = true
+same_reason reason other = false
+
+abbrev pub is_among : Edge → List Edge → Bool
+is_among e [] = false
+is_among e (other ∷ more) = ((e.asker == other.asker) && ((e.asked == other.asked) && same_reason e.reason other.reason)) || is_among e more
+
+abbrev pub are_among : List Edge → List Edge → Bool
+are_among [] all = true
+are_among (e ∷ more) all = is_among e all && are_among more all
+
+abbrev pub depends : ScriptTree → List Moment → List Edge → Bool × Bool
+depends script told expected = let found = edges script told in (are_among expected found, are_among found expected)

@@ -25,7 +25,7 @@ StmtSet = ℕ → Bool
 -- A set is closed: it has all roots, and with each statement those that it asks for. Moments count up to the evaluation.
 pub record IsClosed (script : ScriptTree) (opening : RunStore) (told : List Moment) (keep : StmtSet) : Type 0 where
   pub has_roots : (s : ℕ) → IsIn (roots opening told) s → IsTrue (keep s)
-  pub has_asked : (edge : Edge) → IsIn (edges script told) edge → IsTrue (keep edge.0) → IsTrue (keep edge.1)
+  pub has_asked : (e : Edge) → IsIn (edges script told) e → IsTrue (keep e.asker) → IsTrue (keep e.asked)
 
 -- the least: closed, and inside every closed set
 pub record IsLeast (script : ScriptTree) (opening : RunStore) (told : List Moment) (keep : StmtSet) : Type 0 where
@@ -39,7 +39,7 @@ has s (number ∷ numbers) = (number == s) || has s numbers
 
 abbrev pub with_asked : List Edge → List ℕ → List ℕ
 with_asked [] numbers = numbers
-with_asked (edge ∷ more) numbers = with_asked more (if has edge.0 numbers && not (has edge.1 numbers) then edge.1 ∷ numbers else numbers)
+with_asked (e ∷ more) numbers = with_asked more (if has e.asker numbers && not (has e.asked numbers) then e.asked ∷ numbers else numbers)
 
 abbrev pub closure : ℕ → List Edge → List ℕ → List ℕ
 closure zero asked numbers = numbers
@@ -48,7 +48,7 @@ closure (suc n) asked numbers = closure n asked (with_asked asked numbers)
 -- no statement of the list asks for one that is not there
 abbrev pub is_settled : List Edge → List ℕ → Bool
 is_settled [] numbers = true
-is_settled (edge ∷ more) numbers = (not (has edge.0 numbers) || has edge.1 numbers) && is_settled more numbers
+is_settled (e ∷ more) numbers = (not (has e.asker numbers) || has e.asked numbers) && is_settled more numbers
 
 abbrev pub needed : ScriptTree → RunStore → List Moment → List ℕ
 needed script opening told = closure script.count (edges script told) (roots opening told)
@@ -56,4 +56,4 @@ needed script opening told = closure script.count (edges script told) (roots ope
 -- what the value and jumps in the module ask for, along the edges
 pub data IsAsked (script : ScriptTree) (opening : RunStore) (told : List Moment) : ℕ → Type 0 where
   by_root : {s : ℕ} → IsIn (roots opening told) s → IsAsked script opening told s
-  by_edge : {s r : ℕ} → IsAsked script opening told s → IsIn (edges script told) (s, r) → IsAsked script opening told r
+  by_edge : (e : Edge) → IsAsked script opening told e.asker → IsIn (edges script told) e → IsAsked script opening told e.asked

@@ -14,13 +14,25 @@ use Rattle.py_model.specs.Occurrences.{Occurrence, Frame, in_occurrence, in_acti
 use Rattle.py_model.specs.Plan.{value}
 use Rattle.py_model.specs.Store.{RunStore, len_of, item_of, entry_of, order_of}
 
--- one statement asks for another
-abbrev pub Edge : Type 0
-Edge = ℕ × ℕ
+-- why one statement asks for another
+pub data Reason : Type 0 where
+  by_data : Reason
+  by_name : Reason
+  by_control : Reason
+  by_jump : Reason
 
-abbrev pub to_each : ℕ → List ℕ → List Edge
-to_each s [] = []
-to_each s (r ∷ rs) = (s, r) ∷ to_each s rs
+-- one statement asks for another
+pub record Edge : Type 0 where
+  pub asker : ℕ
+  pub asked : ℕ
+  pub reason : Reason
+
+abbrev pub edge : Reason → ℕ → ℕ → Edge
+edge reason s r = record { asker = s; asked = r; reason = reason }
+
+abbrev pub to_each : Reason → ℕ → List ℕ → List Edge
+to_each reason s [] = []
+to_each reason s (r ∷ rs) = edge reason s r ∷ to_each reason s rs
 
 abbrev pub from_option : Option ℕ → List ℕ
 from_option None = []
@@ -57,16 +69,16 @@ module _ (script : ScriptTree) where
   function_of_stmt s = option_and_then (λ (x : Standing). x.around.function) (standing_at script s)
 
   -- A read of a location asks for its reach; a read of a local name that nothing set asks for the first statement that binds it.
-  abbrev pub unset_local : ℕ → SeenLocation → List ℕ → List ℕ
-  unset_local s (var_at (suc scope) name) [] = from_option (first_binder (function_of_stmt s) name (statements script))
-  unset_local s l stmts = stmts
+  abbrev pub unset_local : ℕ → SeenLocation → List ℕ → List Edge
+  unset_local s (var_at (suc scope) name) [] = to_each by_name s (from_option (first_binder (function_of_stmt s) name (statements script)))
+  unset_local s l stmts = to_each by_data s stmts
 
-  abbrev pub read_asks : ℕ → SeenLocation → List Moment → List ℕ
+  abbrev pub read_asks : ℕ → SeenLocation → List Moment → List Edge
   read_asks s l before = unset_local s l (reach_stmts l before)
 
   abbrev pub reads_ask : ℕ → List SeenAccess → List Moment → List Edge
   reads_ask s [] before = []
-  reads_ask s (reads l ∷ accesses) before = to_each s (read_asks s l before) ++ reads_ask s accesses before
+  reads_ask s (reads l ∷ accesses) before = read_asks s l before ++ reads_ask s accesses before
   reads_ask s (access ∷ accesses) before = reads_ask s accesses before
 
   -- the statement that entered the innermost activation
@@ -86,9 +98,9 @@ module _ (script : ScriptTree) where
   -- what one moment asks for: data and names at what is done, the call at a Begin, a jump at an End
   abbrev pub asks : Moment → List Moment → List Edge
   asks (does at number values answer made accesses weight) before = elim (owner_stmt before) [ None ↦ [] | Some s ↦ reads_ask s accesses before ]
-  asks (begins number) before = elim (caller (frames_after before)) [ None ↦ [] | Some o ↦ (number, o.stmt) ∷ [] ]
+  asks (begins number) before = elim (caller (frames_after before)) [ None ↦ [] | Some o ↦ edge by_control number o.stmt ∷ [] ]
   asks (ends number ended) before =
-      if is_abrupt ended then elim (asks_for_jump (without_top (frames_after before))) [ None ↦ [] | Some o ↦ (o.stmt, number) ∷ [] ] else []
+      if is_abrupt ended then elim (asks_for_jump (without_top (frames_after before))) [ None ↦ [] | Some o ↦ edge by_jump o.stmt number ∷ [] ] else []
   asks moment before = []
 
   abbrev pub run_asks : List Moment → List Edge
@@ -98,7 +110,7 @@ module _ (script : ScriptTree) where
   -- with each statement its parent
   abbrev pub parents_asked : List Standing → List Edge
   parents_asked [] = []
-  parents_asked (x ∷ xs) = elim x.around.owner [ None ↦ parents_asked xs | Some owner ↦ (number_at x, number_of owner) ∷ parents_asked xs ]
+  parents_asked (x ∷ xs) = elim x.around.owner [ None ↦ parents_asked xs | Some owner ↦ edge by_control (number_at x) (number_of owner) ∷ parents_asked xs ]
 
   abbrev pub edges : List Moment → List Edge
   edges told = parents_asked (statements script) ++ run_asks told
