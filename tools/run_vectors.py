@@ -6,7 +6,8 @@
 VECTORS is a file of scripts with what is expected of them, worked out apart from this program: a list `scripts`, each with `name`,
 `script`, `path`, `arguments`, `budget`, `files`, `clock`, `words`, `lines`, and `closing`, `output`, `steps`, `finals` and `pages1`,
 the rows of its moments, and `evaluations`, some of them with the graph text of
-the value, the steps up to and with each, and its slice (`value`, `value_steps`, `slice`);
+the value, the steps up to and with each, and its slice, and what the slice gives, run
+again, in how many steps (`value`, `value_steps`, `slice`, `replay`, `replay_steps`);
 and which statement depends on which (`dataflow`).
 In `own_runs.json` the moments are not all written down, but which statements ended how (`endings`). The syntax trees are those of Python's own `ast`. It wants Python 3.11.
 """
@@ -417,7 +418,7 @@ use Rattle.py_model.specs.Capture.{Capture, opening_in}
 use Rattle.py_model.specs.Meaning.{Run, run, level, finished, uncaught, out_of_steps}
 use Rattle.py_model.specs.Moment.{Moment, begins, does, enters, leaves, ends, normal_end, break_end, continue_end, return_end, raise_end}
 use Rattle.py_model.specs.Plan.{value, raised, at_end, time, word, line, number, random_word, a_line, no_line, failed, found_bytes, absent, too_large, found_failed}
-use Rattle.py_vectors.specs.Words.{place, no_span, summary, endings, evaluated, kept, depends}
+use Rattle.py_vectors.specs.Words.{place, no_span, summary, endings, evaluated, kept, depends, replayed}
 use Rattle.slice_law.specs.Edges.{edge, by_data, by_name, by_control, by_jump}
 '''
 
@@ -492,6 +493,11 @@ def theorem(v, name, with_moments):
                         name, name, name, codes(v['path']), words, name, row(['(place %d %d, %d)' % (e['line'], e['col'], e['k']) for e in v['evaluations']]),
                         row(['Some (true, %s)' % row([str(k).lower() for k in tree.kept_in(e['slice'])]) for e in v['evaluations']])),
                     'unfolding is_utf8 chars encode_utf8 level', '%s_slices = refl' % name, '']
+    if v['evaluations'] and v['steps'] <= 330:
+        out += ['%s_replays : replayed %s_tree %s_capture %s %s %d (reverse %s_run.moments) %s ≡ %s' % (
+                    name, name, name, codes(v['path']), words, v['steps'], name, row(['(place %d %d, %d)' % (e['line'], e['col'], e['k']) for e in v['evaluations']]),
+                    row(['Some (%s, %d)' % (codes(e['replay']), e['replay_steps']) for e in v['evaluations']])),
+                'unfolding is_utf8 chars encode_utf8 level', '%s_replays = refl' % name, '']
     if v.get('dataflow') and v['steps'] <= 330:
         numbers = {'%d:%d' % (line, col + 1): n for n, (line, col) in enumerate(tree.starts)}
         lines = [l.split(' ') for l in v['dataflow'].splitlines()]

@@ -12,7 +12,7 @@ use Rattle.py_model.specs.Capture.{Capture, opening_in}
 use Rattle.py_model.specs.Meaning.{Run, run, level, finished}
 use Rattle.py_model.specs.Moment.{begins, does, ends, normal_end}
 use Rattle.py_model.specs.Plan.{value}
-use Rattle.py_vectors.specs.Words.{place, no_span, summary, evaluated, kept, depends}
+use Rattle.py_vectors.specs.Words.{place, no_span, summary, evaluated, kept, depends, replayed}
 use Rattle.slice_law.specs.Edges.{edge, by_data}
 
 abbrev pub r_alias_tree : ScriptTree
@@ -72,6 +72,10 @@ r_alias_values = refl
 r_alias_slices : kept r_alias_tree (opening_in r_alias_capture (codes "s.py") ([])) (reverse r_alias_run.moments) ((place 6 7, 1) ∷ (place 1 9, 1) ∷ (place 3 5, 1) ∷ (place 4 1, 1) ∷ (place 5 10, 1) ∷ []) ≡ (Some (true, (true ∷ true ∷ false ∷ true ∷ false ∷ true ∷ [])) ∷ Some (true, (true ∷ false ∷ false ∷ false ∷ false ∷ false ∷ [])) ∷ Some (true, (false ∷ false ∷ true ∷ false ∷ false ∷ false ∷ [])) ∷ Some (true, (true ∷ true ∷ false ∷ true ∷ false ∷ false ∷ [])) ∷ Some (true, (false ∷ false ∷ true ∷ false ∷ true ∷ false ∷ [])) ∷ [])
 unfolding is_utf8 chars encode_utf8 level
 r_alias_slices = refl
+
+r_alias_replays : replayed r_alias_tree r_alias_capture (codes "s.py") ([]) 50 (reverse r_alias_run.moments) ((place 6 7, 1) ∷ (place 1 9, 1) ∷ (place 3 5, 1) ∷ (place 4 1, 1) ∷ (place 5 10, 1) ∷ []) ≡ (Some ((codes "#1=[1, 2, 3]"), 28) ∷ Some ((codes "2"), 3) ∷ Some ((codes "#1=[9]"), 5) ∷ Some ((codes "#1=[1, 2]"), 17) ∷ Some ((codes "4"), 12) ∷ [])
+unfolding is_utf8 chars encode_utf8 level
+r_alias_replays = refl
 
 r_alias_dataflow : depends r_alias_tree (reverse r_alias_run.moments) (edge by_data 1 0 ∷ edge by_data 3 0 ∷ edge by_data 3 1 ∷ edge by_data 4 2 ∷ edge by_data 5 0 ∷ edge by_data 5 3 ∷ []) ≡ (true, true)
 unfolding is_utf8 chars encode_utf8 level

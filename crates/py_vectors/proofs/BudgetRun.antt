@@ -12,7 +12,7 @@ use Rattle.py_model.specs.Capture.{Capture, opening_in}
 use Rattle.py_model.specs.Meaning.{Run, run, level, out_of_steps}
 use Rattle.py_model.specs.Moment.{begins, does, ends, normal_end}
 use Rattle.py_model.specs.Plan.{value}
-use Rattle.py_vectors.specs.Words.{place, no_span, summary, evaluated, kept, depends}
+use Rattle.py_vectors.specs.Words.{place, no_span, summary, evaluated, kept, depends, replayed}
 use Rattle.slice_law.specs.Edges.{edge, by_data}
 
 abbrev pub r_budget_tree : ScriptTree
@@ -47,6 +47,10 @@ r_budget_values = refl
 r_budget_slices : kept r_budget_tree (opening_in r_budget_capture (codes "s.py") ([])) (reverse r_budget_run.moments) ((place 2 7, 1) ∷ (place 1 5, 1) ∷ (place 2 1, 1) ∷ []) ≡ (Some (true, (true ∷ true ∷ [])) ∷ Some (true, (true ∷ false ∷ [])) ∷ Some (true, (false ∷ true ∷ [])) ∷ [])
 unfolding is_utf8 chars encode_utf8 level
 r_budget_slices = refl
+
+r_budget_replays : replayed r_budget_tree r_budget_capture (codes "s.py") ([]) 9 (reverse r_budget_run.moments) ((place 2 7, 1) ∷ (place 1 5, 1) ∷ (place 2 1, 1) ∷ []) ≡ (Some ((codes "1"), 9) ∷ Some ((codes "1"), 2) ∷ Some ((codes "<built-in print>"), 3) ∷ [])
+unfolding is_utf8 chars encode_utf8 level
+r_budget_replays = refl
 
 r_budget_dataflow : depends r_budget_tree (reverse r_budget_run.moments) (edge by_data 1 0 ∷ []) ≡ (true, true)
 unfolding is_utf8 chars encode_utf8 level

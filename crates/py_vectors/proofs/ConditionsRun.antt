@@ -16,7 +16,7 @@ use Rattle.py_model.specs.Capture.{Capture, opening_in}
 use Rattle.py_model.specs.Meaning.{Run, run, level, finished}
 use Rattle.py_model.specs.Moment.{begins, does, enters, leaves, ends, normal_end, return_end}
 use Rattle.py_model.specs.Plan.{value, at_end}
-use Rattle.py_vectors.specs.Words.{place, no_span, summary, evaluated, depends}
+use Rattle.py_vectors.specs.Words.{place, no_span, summary, evaluated, depends, replayed}
 use Rattle.slice_law.specs.Edges.{edge, by_data, by_control, by_jump}
 
 abbrev pub r_conditions_tree : ScriptTree
@@ -235,6 +235,10 @@ r_conditions_moments = refl
 r_conditions_values : evaluated r_conditions_tree (opening_in r_conditions_capture (codes "s.py") ([])) (reverse r_conditions_run.moments) ((place 5 29, 1) ∷ (place 1 26, 1) ∷ (place 1 28, 3) ∷ (place 9 14, 1) ∷ (place 13 6, 1) ∷ []) ≡ (Some ((codes "'one'"), 56) ∷ Some ((codes "5"), 97) ∷ Some ((codes "False"), 134) ∷ Some ((codes "3"), 194) ∷ Some ((codes "None"), 253) ∷ [])
 unfolding is_utf8 chars encode_utf8 level
 r_conditions_values = refl
+
+r_conditions_replays : replayed r_conditions_tree r_conditions_capture (codes "s.py") ([]) 253 (reverse r_conditions_run.moments) ((place 5 29, 1) ∷ (place 1 26, 1) ∷ (place 1 28, 3) ∷ (place 9 14, 1) ∷ (place 13 6, 1) ∷ []) ≡ (Some ((codes "'one'"), 48) ∷ Some ((codes "5"), 14) ∷ Some ((codes "False"), 51) ∷ Some ((codes "3"), 8) ∷ Some ((codes "None"), 52) ∷ [])
+unfolding is_utf8 chars encode_utf8 level
+r_conditions_replays = refl
 
 r_conditions_dataflow : depends r_conditions_tree (reverse r_conditions_run.moments) (edge by_control 1 0 ∷ edge by_data 1 8 ∷ edge by_control 1 8 ∷ edge by_data 3 2 ∷ edge by_data 4 3 ∷ edge by_control 4 3 ∷ edge by_control 5 4 ∷ edge by_control 6 4 ∷ edge by_data 7 3 ∷ edge by_control 7 4 ∷ edge by_data 8 0 ∷ edge by_jump 8 1 ∷ edge by_data 8 2 ∷ edge by_data 8 8 ∷ edge by_data 10 9 ∷ edge by_data 11 9 ∷ edge by_control 12 11 ∷ edge by_data 13 9 ∷ edge by_data 15 9 ∷ edge by_data 15 10 ∷ edge by_data 15 15 ∷ []) ≡ (true, true)
 unfolding is_utf8 chars encode_utf8 level

@@ -12,7 +12,7 @@ use Rattle.py_model.specs.Capture.{Capture, opening_in}
 use Rattle.py_model.specs.Meaning.{Run, run, level, finished}
 use Rattle.py_model.specs.Moment.{begins, does, ends, normal_end}
 use Rattle.py_model.specs.Plan.{value}
-use Rattle.py_vectors.specs.Words.{place, no_span, summary, evaluated, kept, depends}
+use Rattle.py_vectors.specs.Words.{place, no_span, summary, evaluated, kept, depends, replayed}
 use Rattle.slice_law.specs.Edges.{edge, by_data}
 
 abbrev pub r_demo_tree : ScriptTree
@@ -74,6 +74,10 @@ r_demo_values = refl
 r_demo_slices : kept r_demo_tree (opening_in r_demo_capture (codes "s.py") ([])) (reverse r_demo_run.moments) ((place 6 8, 1) ∷ (place 1 6, 1) ∷ (place 1 5, 1) ∷ (place 4 6, 1) ∷ (place 5 10, 1) ∷ []) ≡ (Some (true, (true ∷ false ∷ false ∷ false ∷ false ∷ true ∷ [])) ∷ Some (true, (true ∷ false ∷ false ∷ false ∷ false ∷ false ∷ [])) ∷ Some (true, (true ∷ false ∷ false ∷ false ∷ false ∷ false ∷ [])) ∷ Some (true, (false ∷ false ∷ false ∷ true ∷ false ∷ false ∷ [])) ∷ Some (true, (false ∷ false ∷ false ∷ true ∷ true ∷ false ∷ [])) ∷ [])
 unfolding is_utf8 chars encode_utf8 level
 r_demo_slices = refl
+
+r_demo_replays : replayed r_demo_tree r_demo_capture (codes "s.py") ([]) 50 (reverse r_demo_run.moments) ((place 6 8, 1) ∷ (place 1 6, 1) ∷ (place 1 5, 1) ∷ (place 4 6, 1) ∷ (place 5 10, 1) ∷ []) ≡ (Some ((codes "0"), 22) ∷ Some ((codes "0"), 2) ∷ Some ((codes "#1=[0, 0, 0, 0]"), 11) ∷ Some ((codes "2"), 2) ∷ Some ((codes "4"), 12) ∷ [])
+unfolding is_utf8 chars encode_utf8 level
+r_demo_replays = refl
 
 r_demo_dataflow : depends r_demo_tree (reverse r_demo_run.moments) (edge by_data 1 0 ∷ edge by_data 4 3 ∷ edge by_data 5 0 ∷ []) ≡ (true, true)
 unfolding is_utf8 chars encode_utf8 level

@@ -12,7 +12,7 @@ use Rattle.py_model.specs.Capture.{Capture, opening_in}
 use Rattle.py_model.specs.Meaning.{Run, run, level, finished}
 use Rattle.py_model.specs.Moment.{begins, does, ends, normal_end}
 use Rattle.py_model.specs.Plan.{value}
-use Rattle.py_vectors.specs.Words.{place, no_span, summary, evaluated, kept, depends}
+use Rattle.py_vectors.specs.Words.{place, no_span, summary, evaluated, kept, depends, replayed}
 use Rattle.slice_law.specs.Edges.{edge, by_data}
 
 abbrev pub r_dict_tree : ScriptTree
@@ -62,6 +62,10 @@ r_dict_values = refl
 r_dict_slices : kept r_dict_tree (opening_in r_dict_capture (codes "s.py") ([])) (reverse r_dict_run.moments) ((place 4 6, 1) ∷ (place 2 10, 1) ∷ (place 2 1, 1) ∷ (place 3 10, 1) ∷ (place 3 3, 1) ∷ []) ≡ (Some (true, (true ∷ true ∷ false ∷ true ∷ [])) ∷ Some (true, (false ∷ true ∷ false ∷ false ∷ [])) ∷ Some (true, (true ∷ true ∷ false ∷ false ∷ [])) ∷ Some (true, (false ∷ false ∷ true ∷ false ∷ [])) ∷ Some (true, (true ∷ false ∷ true ∷ false ∷ [])) ∷ [])
 unfolding is_utf8 chars encode_utf8 level
 r_dict_slices = refl
+
+r_dict_replays : replayed r_dict_tree r_dict_capture (codes "s.py") ([]) 31 (reverse r_dict_run.moments) ((place 4 6, 1) ∷ (place 2 10, 1) ∷ (place 2 1, 1) ∷ (place 3 10, 1) ∷ (place 3 3, 1) ∷ []) ≡ (Some ((codes "1"), 20) ∷ Some ((codes "1"), 2) ∷ Some ((codes "#1={}"), 9) ∷ Some ((codes "2"), 2) ∷ Some ((codes "'y'"), 10) ∷ [])
+unfolding is_utf8 chars encode_utf8 level
+r_dict_replays = refl
 
 r_dict_dataflow : depends r_dict_tree (reverse r_dict_run.moments) (edge by_data 1 0 ∷ edge by_data 2 0 ∷ edge by_data 3 0 ∷ edge by_data 3 1 ∷ []) ≡ (true, true)
 unfolding is_utf8 chars encode_utf8 level

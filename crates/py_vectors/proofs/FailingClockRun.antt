@@ -11,7 +11,7 @@ use Rattle.py_model.specs.Capture.{Capture, opening_in}
 use Rattle.py_model.specs.Meaning.{Run, run, level, uncaught}
 use Rattle.py_model.specs.Moment.{begins, does, ends, normal_end, raise_end}
 use Rattle.py_model.specs.Plan.{value, raised, time, failed}
-use Rattle.py_vectors.specs.Words.{place, no_span, summary, evaluated, kept, depends}
+use Rattle.py_vectors.specs.Words.{place, no_span, summary, evaluated, kept, depends, replayed}
 use Rattle.slice_law.specs.Edges.{edge, by_data}
 
 abbrev pub r_failing_clock_tree : ScriptTree
@@ -48,6 +48,10 @@ r_failing_clock_values = refl
 r_failing_clock_slices : kept r_failing_clock_tree (opening_in r_failing_clock_capture (codes "s.py") ([])) (reverse r_failing_clock_run.moments) ((place 2 1, 1) ∷ (place 2 7, 1) ∷ []) ≡ (Some (true, (false ∷ true ∷ [])) ∷ Some (true, (true ∷ true ∷ [])) ∷ [])
 unfolding is_utf8 chars encode_utf8 level
 r_failing_clock_slices = refl
+
+r_failing_clock_replays : replayed r_failing_clock_tree r_failing_clock_capture (codes "s.py") ([]) 12 (reverse r_failing_clock_run.moments) ((place 2 1, 1) ∷ (place 2 7, 1) ∷ []) ≡ (Some ((codes "<built-in print>"), 3) ∷ Some ((codes "<module time>"), 8) ∷ [])
+unfolding is_utf8 chars encode_utf8 level
+r_failing_clock_replays = refl
 
 r_failing_clock_dataflow : depends r_failing_clock_tree (reverse r_failing_clock_run.moments) (edge by_data 1 0 ∷ []) ≡ (true, true)
 unfolding is_utf8 chars encode_utf8 level

@@ -13,7 +13,7 @@ use Rattle.py_model.specs.Capture.{Capture, opening_in}
 use Rattle.py_model.specs.Meaning.{Run, run, level, finished}
 use Rattle.py_model.specs.Moment.{begins, does, ends, normal_end}
 use Rattle.py_model.specs.Plan.{value}
-use Rattle.py_vectors.specs.Words.{place, no_span, summary, evaluated, kept, depends}
+use Rattle.py_vectors.specs.Words.{place, no_span, summary, evaluated, kept, depends, replayed}
 use Rattle.slice_law.specs.Edges.{edge, by_data}
 
 abbrev pub r_files_tree : ScriptTree
@@ -112,6 +112,10 @@ r_files_values = refl
 r_files_slices : kept r_files_tree (opening_in r_files_capture (codes "s.py") ([])) (reverse r_files_run.moments) ((place 12 7, 1) ∷ (place 2 9, 1) ∷ (place 4 21, 1) ∷ (place 7 21, 1) ∷ (place 10 5, 1) ∷ []) ≡ (Some (true, (true ∷ true ∷ false ∷ false ∷ false ∷ false ∷ true ∷ true ∷ false ∷ true ∷ true ∷ true ∷ [])) ∷ Some (true, (true ∷ true ∷ false ∷ false ∷ false ∷ false ∷ false ∷ false ∷ false ∷ false ∷ false ∷ false ∷ [])) ∷ Some (true, (false ∷ false ∷ false ∷ true ∷ false ∷ false ∷ false ∷ false ∷ false ∷ false ∷ false ∷ false ∷ [])) ∷ Some (true, (false ∷ false ∷ false ∷ false ∷ false ∷ false ∷ true ∷ false ∷ false ∷ false ∷ false ∷ false ∷ [])) ∷ Some (true, (false ∷ false ∷ false ∷ false ∷ false ∷ false ∷ false ∷ false ∷ false ∷ true ∷ false ∷ false ∷ [])) ∷ [])
 unfolding is_utf8 chars encode_utf8 level
 r_files_slices = refl
+
+r_files_replays : replayed r_files_tree r_files_capture (codes "s.py") ([]) 107 (reverse r_files_run.moments) ((place 12 7, 1) ∷ (place 2 9, 1) ∷ (place 4 21, 1) ∷ (place 7 21, 1) ∷ (place 10 5, 1) ∷ []) ≡ (Some ((codes "'one" ++ (92 ∷ []) ++ codes "ntwo" ++ (92 ∷ []) ++ codes "n'"), 67) ∷ Some ((codes "'one" ++ (92 ∷ []) ++ codes "n'"), 16) ∷ Some ((codes "'w'"), 5) ∷ Some ((codes "'a'"), 5) ∷ Some ((codes "<built-in open>"), 3) ∷ [])
+unfolding is_utf8 chars encode_utf8 level
+r_files_replays = refl
 
 r_files_dataflow : depends r_files_tree (reverse r_files_run.moments) (edge by_data 1 0 ∷ edge by_data 2 0 ∷ edge by_data 4 3 ∷ edge by_data 5 3 ∷ edge by_data 6 0 ∷ edge by_data 6 1 ∷ edge by_data 7 6 ∷ edge by_data 8 6 ∷ edge by_data 9 0 ∷ edge by_data 9 1 ∷ edge by_data 9 7 ∷ edge by_data 10 0 ∷ edge by_data 10 1 ∷ edge by_data 10 7 ∷ edge by_data 10 9 ∷ edge by_data 11 10 ∷ []) ≡ (true, true)
 unfolding is_utf8 chars encode_utf8 level

@@ -13,7 +13,7 @@ use Rattle.py_model.specs.Capture.{Capture, opening_in}
 use Rattle.py_model.specs.Meaning.{Run, run, level, uncaught}
 use Rattle.py_model.specs.Moment.{begins, does, ends, raise_end}
 use Rattle.py_model.specs.Plan.{value, raised}
-use Rattle.py_vectors.specs.Words.{place, no_span, summary, evaluated, kept}
+use Rattle.py_vectors.specs.Words.{place, no_span, summary, evaluated, kept, replayed}
 
 abbrev pub r_integers_tree : ScriptTree
 r_integers_tree = record { body = (more_suite (one_stmt 0 (place 1 1) no_span (assign_form (var_target (place 1 1) (codes "x")) (binary_expr (place 1 25) Add (const_expr (place 1 5) (int_atom (pos 9223372036854775807))) (const_expr (place 1 27) (int_atom (pos 1)))))) end_suite); count = 1 }
@@ -45,3 +45,7 @@ r_integers_values = refl
 r_integers_slices : kept r_integers_tree (opening_in r_integers_capture (codes "s.py") ([])) (reverse r_integers_run.moments) ((place 1 5, 1) ∷ (place 1 27, 1) ∷ []) ≡ (Some (true, (true ∷ [])) ∷ Some (true, (true ∷ [])) ∷ [])
 unfolding is_utf8 chars encode_utf8 level
 r_integers_slices = refl
+
+r_integers_replays : replayed r_integers_tree r_integers_capture (codes "s.py") ([]) 6 (reverse r_integers_run.moments) ((place 1 5, 1) ∷ (place 1 27, 1) ∷ []) ≡ (Some ((codes "9223372036854775807"), 2) ∷ Some ((codes "1"), 3) ∷ [])
+unfolding is_utf8 chars encode_utf8 level
+r_integers_replays = refl

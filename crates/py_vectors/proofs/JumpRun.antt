@@ -14,7 +14,7 @@ use Rattle.py_model.specs.Capture.{Capture, opening_in}
 use Rattle.py_model.specs.Meaning.{Run, run, level, finished}
 use Rattle.py_model.specs.Moment.{begins, does, ends, normal_end, break_end}
 use Rattle.py_model.specs.Plan.{value}
-use Rattle.py_vectors.specs.Words.{place, no_span, summary, evaluated, kept, depends}
+use Rattle.py_vectors.specs.Words.{place, no_span, summary, evaluated, kept, depends, replayed}
 use Rattle.slice_law.specs.Edges.{edge, by_data, by_control, by_jump}
 
 abbrev pub r_jump_tree : ScriptTree
@@ -109,6 +109,10 @@ r_jump_values = refl
 r_jump_slices : kept r_jump_tree (opening_in r_jump_capture (codes "s.py") ([])) (reverse r_jump_run.moments) ((place 8 7, 1) ∷ (place 4 5, 1) ∷ (place 5 10, 1) ∷ (place 5 13, 2) ∷ (place 4 5, 3) ∷ []) ≡ (Some (true, (true ∷ false ∷ true ∷ true ∷ true ∷ true ∷ false ∷ true ∷ [])) ∷ Some (true, (true ∷ false ∷ true ∷ true ∷ false ∷ false ∷ false ∷ false ∷ [])) ∷ Some (true, (true ∷ false ∷ true ∷ true ∷ true ∷ false ∷ false ∷ false ∷ [])) ∷ Some (true, (true ∷ false ∷ true ∷ true ∷ true ∷ false ∷ false ∷ false ∷ [])) ∷ Some (true, (true ∷ false ∷ true ∷ true ∷ false ∷ false ∷ false ∷ false ∷ [])) ∷ [])
 unfolding is_utf8 chars encode_utf8 level
 r_jump_slices = refl
+
+r_jump_replays : replayed r_jump_tree r_jump_capture (codes "s.py") ([]) 72 (reverse r_jump_run.moments) ((place 8 7, 1) ∷ (place 4 5, 1) ∷ (place 5 10, 1) ∷ (place 5 13, 2) ∷ (place 4 5, 3) ∷ []) ≡ (Some ((codes "3"), 56) ∷ Some ((codes "0"), 10) ∷ Some ((codes "False"), 19) ∷ Some ((codes "3"), 33) ∷ Some ((codes "2"), 28) ∷ [])
+unfolding is_utf8 chars encode_utf8 level
+r_jump_replays = refl
 
 r_jump_dataflow : depends r_jump_tree (reverse r_jump_run.moments) (edge by_jump 2 4 ∷ edge by_data 3 0 ∷ edge by_control 3 2 ∷ edge by_data 3 3 ∷ edge by_control 4 2 ∷ edge by_data 4 3 ∷ edge by_jump 4 5 ∷ edge by_control 5 4 ∷ edge by_control 6 2 ∷ edge by_data 6 3 ∷ edge by_data 7 3 ∷ []) ≡ (true, true)
 unfolding is_utf8 chars encode_utf8 level

@@ -11,7 +11,7 @@ use Rattle.py_model.specs.Capture.{Capture, opening_in}
 use Rattle.py_model.specs.Meaning.{Run, run, level, out_of_steps}
 use Rattle.py_model.specs.Moment.{begins, does}
 use Rattle.py_model.specs.Plan.{value, line, a_line}
-use Rattle.py_vectors.specs.Words.{place, no_span, summary, evaluated, kept}
+use Rattle.py_vectors.specs.Words.{place, no_span, summary, evaluated, kept, replayed}
 
 abbrev pub r_long_line_tree : ScriptTree
 r_long_line_tree = record { body = (more_suite (one_stmt 0 (place 1 1) no_span (assign_form (var_target (place 1 1) (codes "x")) (call_expr (place 1 10) (var_expr (place 1 5) (codes "input")) end_exprs))) end_suite); count = 1 }
@@ -40,3 +40,7 @@ r_long_line_values = refl
 r_long_line_slices : kept r_long_line_tree (opening_in r_long_line_capture (codes "s.py") ([])) (reverse r_long_line_run.moments) ((place 1 5, 1) ∷ []) ≡ (Some (true, (true ∷ [])) ∷ [])
 unfolding is_utf8 chars encode_utf8 level
 r_long_line_slices = refl
+
+r_long_line_replays : replayed r_long_line_tree r_long_line_capture (codes "s.py") ([]) 3 (reverse r_long_line_run.moments) ((place 1 5, 1) ∷ []) ≡ (Some ((codes "<built-in input>"), 3) ∷ [])
+unfolding is_utf8 chars encode_utf8 level
+r_long_line_replays = refl

@@ -12,7 +12,7 @@ use Rattle.py_model.specs.Capture.{Capture, opening_in}
 use Rattle.py_model.specs.Meaning.{Run, run, level, finished}
 use Rattle.py_model.specs.Moment.{begins, does, enters, leaves, ends, normal_end, return_end, raise_end}
 use Rattle.py_model.specs.Plan.{value, raised}
-use Rattle.py_vectors.specs.Words.{place, no_span, summary, evaluated, kept, depends}
+use Rattle.py_vectors.specs.Words.{place, no_span, summary, evaluated, kept, depends, replayed}
 use Rattle.slice_law.specs.Edges.{edge, by_data, by_name, by_control, by_jump}
 
 abbrev pub r_name_tree : ScriptTree
@@ -77,6 +77,10 @@ r_name_values = refl
 r_name_slices : kept r_name_tree (opening_in r_name_capture (codes "s.py") ([])) (reverse r_name_run.moments) ((place 10 7, 1) ∷ (place 9 5, 1) ∷ (place 6 13, 1) ∷ (place 7 9, 1) ∷ (place 9 6, 1) ∷ []) ≡ (Some (true, (false ∷ true ∷ true ∷ true ∷ true ∷ true ∷ true ∷ true ∷ true ∷ [])) ∷ Some (true, (false ∷ true ∷ false ∷ false ∷ false ∷ false ∷ false ∷ true ∷ false ∷ [])) ∷ Some (true, (false ∷ true ∷ true ∷ true ∷ true ∷ true ∷ false ∷ true ∷ false ∷ [])) ∷ Some (true, (false ∷ true ∷ false ∷ false ∷ false ∷ true ∷ false ∷ true ∷ false ∷ [])) ∷ Some (true, (false ∷ true ∷ true ∷ true ∷ true ∷ true ∷ true ∷ true ∷ false ∷ [])) ∷ [])
 unfolding is_utf8 chars encode_utf8 level
 r_name_slices = refl
+
+r_name_replays : replayed r_name_tree r_name_capture (codes "s.py") ([]) 41 (reverse r_name_run.moments) ((place 10 7, 1) ∷ (place 9 5, 1) ∷ (place 6 13, 1) ∷ (place 7 9, 1) ∷ (place 9 6, 1) ∷ []) ≡ (Some ((codes "'unset'"), 35) ∷ Some ((codes "<function f>"), 6) ∷ Some ((codes "'unset'"), 18) ∷ Some ((codes "1"), 9) ∷ Some ((codes "'unset'"), 28) ∷ [])
+unfolding is_utf8 chars encode_utf8 level
+r_name_replays = refl
 
 r_name_dataflow : depends r_name_tree (reverse r_name_run.moments) (edge by_control 2 1 ∷ edge by_jump 2 3 ∷ edge by_control 2 7 ∷ edge by_control 3 2 ∷ edge by_name 3 5 ∷ edge by_control 3 7 ∷ edge by_control 4 2 ∷ edge by_control 4 7 ∷ edge by_control 5 1 ∷ edge by_control 5 7 ∷ edge by_control 6 1 ∷ edge by_data 6 4 ∷ edge by_control 6 7 ∷ edge by_data 7 1 ∷ edge by_jump 7 6 ∷ edge by_data 8 7 ∷ []) ≡ (true, true)
 unfolding is_utf8 chars encode_utf8 level

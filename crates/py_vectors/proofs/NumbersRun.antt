@@ -16,7 +16,7 @@ use Rattle.py_model.specs.Capture.{Capture, opening_in}
 use Rattle.py_model.specs.Meaning.{Run, run, level, finished}
 use Rattle.py_model.specs.Moment.{begins, does, ends, normal_end, raise_end}
 use Rattle.py_model.specs.Plan.{value, raised}
-use Rattle.py_vectors.specs.Words.{place, no_span, summary, evaluated, kept, depends}
+use Rattle.py_vectors.specs.Words.{place, no_span, summary, evaluated, kept, depends, replayed}
 use Rattle.slice_law.specs.Edges.{edge, by_data, by_control, by_jump}
 
 abbrev pub r_numbers_tree : ScriptTree
@@ -223,6 +223,10 @@ r_numbers_values = refl
 r_numbers_slices : kept r_numbers_tree (opening_in r_numbers_capture (codes "s.py") ([])) (reverse r_numbers_run.moments) ((place 3 1, 1) ∷ (place 4 1, 1) ∷ (place 6 7, 1) ∷ (place 18 1, 1) ∷ (place 20 6, 1) ∷ []) ≡ (Some (true, (false ∷ false ∷ true ∷ false ∷ false ∷ false ∷ false ∷ false ∷ false ∷ false ∷ false ∷ false ∷ false ∷ false ∷ false ∷ false ∷ false ∷ false ∷ [])) ∷ Some (true, (false ∷ false ∷ false ∷ true ∷ false ∷ false ∷ false ∷ false ∷ false ∷ false ∷ false ∷ false ∷ false ∷ false ∷ false ∷ false ∷ false ∷ false ∷ [])) ∷ Some (true, (true ∷ false ∷ false ∷ false ∷ false ∷ true ∷ false ∷ false ∷ false ∷ false ∷ false ∷ false ∷ false ∷ false ∷ false ∷ false ∷ false ∷ false ∷ [])) ∷ Some (true, (false ∷ false ∷ false ∷ false ∷ false ∷ false ∷ true ∷ false ∷ false ∷ false ∷ false ∷ false ∷ false ∷ true ∷ true ∷ true ∷ false ∷ false ∷ [])) ∷ Some (true, (true ∷ true ∷ false ∷ false ∷ false ∷ false ∷ true ∷ false ∷ false ∷ false ∷ false ∷ false ∷ false ∷ true ∷ true ∷ true ∷ true ∷ true ∷ [])) ∷ [])
 unfolding is_utf8 chars encode_utf8 level
 r_numbers_slices = refl
+
+r_numbers_replays : replayed r_numbers_tree r_numbers_capture (codes "s.py") ([]) 259 (reverse r_numbers_run.moments) ((place 3 1, 1) ∷ (place 4 1, 1) ∷ (place 6 7, 1) ∷ (place 18 1, 1) ∷ (place 20 6, 1) ∷ []) ≡ (Some ((codes "<built-in print>"), 3) ∷ Some ((codes "<built-in print>"), 3) ∷ Some ((codes "False"), 10) ∷ Some ((codes "3074457345618258602"), 21) ∷ Some ((codes "None"), 80) ∷ [])
+unfolding is_utf8 chars encode_utf8 level
+r_numbers_replays = refl
 
 r_numbers_dataflow : depends r_numbers_tree (reverse r_numbers_run.moments) (edge by_data 2 0 ∷ edge by_data 2 1 ∷ edge by_data 3 0 ∷ edge by_data 3 1 ∷ edge by_data 4 0 ∷ edge by_data 4 1 ∷ edge by_data 5 0 ∷ edge by_data 5 1 ∷ edge by_data 7 7 ∷ edge by_jump 7 8 ∷ edge by_data 8 6 ∷ edge by_control 8 7 ∷ edge by_data 9 7 ∷ edge by_control 9 7 ∷ edge by_data 9 8 ∷ edge by_data 10 10 ∷ edge by_jump 10 11 ∷ edge by_data 11 0 ∷ edge by_control 11 10 ∷ edge by_data 12 10 ∷ edge by_control 12 10 ∷ edge by_data 12 11 ∷ edge by_data 13 6 ∷ edge by_data 14 13 ∷ edge by_data 15 14 ∷ edge by_data 16 15 ∷ edge by_data 17 0 ∷ edge by_data 17 1 ∷ edge by_data 17 16 ∷ edge by_data 17 17 ∷ []) ≡ (true, true)
 unfolding is_utf8 chars encode_utf8 level

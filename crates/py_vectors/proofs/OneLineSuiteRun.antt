@@ -12,7 +12,7 @@ use Rattle.py_model.specs.Capture.{Capture, opening_in}
 use Rattle.py_model.specs.Meaning.{Run, run, level, finished}
 use Rattle.py_model.specs.Moment.{begins, does, ends, normal_end}
 use Rattle.py_model.specs.Plan.{value}
-use Rattle.py_vectors.specs.Words.{place, no_span, summary, evaluated, kept, depends}
+use Rattle.py_vectors.specs.Words.{place, no_span, summary, evaluated, kept, depends, replayed}
 use Rattle.slice_law.specs.Edges.{edge, by_data, by_control}
 
 abbrev pub r_one_line_suite_tree : ScriptTree
@@ -61,6 +61,10 @@ r_one_line_suite_values = refl
 r_one_line_suite_slices : kept r_one_line_suite_tree (opening_in r_one_line_suite_capture (codes "s.py") ([])) (reverse r_one_line_suite_run.moments) ((place 5 7, 1) ∷ (place 1 5, 1) ∷ (place 2 5, 1) ∷ (place 4 11, 1) ∷ (place 5 1, 1) ∷ []) ≡ (Some (true, (true ∷ false ∷ true ∷ false ∷ true ∷ true ∷ [])) ∷ Some (true, (true ∷ false ∷ false ∷ false ∷ false ∷ false ∷ [])) ∷ Some (true, (false ∷ true ∷ false ∷ false ∷ false ∷ false ∷ [])) ∷ Some (true, (true ∷ false ∷ true ∷ false ∷ true ∷ false ∷ [])) ∷ Some (true, (false ∷ false ∷ false ∷ false ∷ false ∷ true ∷ [])) ∷ [])
 unfolding is_utf8 chars encode_utf8 level
 r_one_line_suite_slices = refl
+
+r_one_line_suite_replays : replayed r_one_line_suite_tree r_one_line_suite_capture (codes "s.py") ([]) 23 (reverse r_one_line_suite_run.moments) ((place 5 7, 1) ∷ (place 1 5, 1) ∷ (place 2 5, 1) ∷ (place 4 11, 1) ∷ (place 5 1, 1) ∷ []) ≡ (Some ((codes "2"), 17) ∷ Some ((codes "0"), 2) ∷ Some ((codes "5"), 2) ∷ Some ((codes "2"), 10) ∷ Some ((codes "<built-in print>"), 3) ∷ [])
+unfolding is_utf8 chars encode_utf8 level
+r_one_line_suite_replays = refl
 
 r_one_line_suite_dataflow : depends r_one_line_suite_tree (reverse r_one_line_suite_run.moments) (edge by_data 2 0 ∷ edge by_control 3 2 ∷ edge by_control 4 2 ∷ edge by_data 5 4 ∷ []) ≡ (true, true)
 unfolding is_utf8 chars encode_utf8 level

@@ -12,7 +12,7 @@ use Rattle.py_model.specs.Capture.{Capture, opening_in}
 use Rattle.py_model.specs.Meaning.{Run, run, level, finished}
 use Rattle.py_model.specs.Moment.{begins, does, ends, normal_end}
 use Rattle.py_model.specs.Plan.{value}
-use Rattle.py_vectors.specs.Words.{place, no_span, summary, evaluated, kept, depends}
+use Rattle.py_vectors.specs.Words.{place, no_span, summary, evaluated, kept, depends, replayed}
 use Rattle.slice_law.specs.Edges.{edge, by_data}
 
 abbrev pub r_order_tree : ScriptTree
@@ -61,6 +61,10 @@ r_order_values = refl
 r_order_slices : kept r_order_tree (opening_in r_order_capture (codes "s.py") ([])) (reverse r_order_run.moments) ((place 4 7, 1) ∷ (place 2 10, 1) ∷ (place 2 3, 1) ∷ (place 3 10, 1) ∷ (place 4 1, 1) ∷ []) ≡ (Some (true, (true ∷ true ∷ true ∷ true ∷ [])) ∷ Some (true, (false ∷ true ∷ false ∷ false ∷ [])) ∷ Some (true, (true ∷ true ∷ false ∷ false ∷ [])) ∷ Some (true, (false ∷ false ∷ true ∷ false ∷ [])) ∷ Some (true, (false ∷ false ∷ false ∷ true ∷ [])) ∷ [])
 unfolding is_utf8 chars encode_utf8 level
 r_order_slices = refl
+
+r_order_replays : replayed r_order_tree r_order_capture (codes "s.py") ([]) 33 (reverse r_order_run.moments) ((place 4 7, 1) ∷ (place 2 10, 1) ∷ (place 2 3, 1) ∷ (place 3 10, 1) ∷ (place 4 1, 1) ∷ []) ≡ (Some ((codes "#1={'x': 1, 'y': 2}"), 28) ∷ Some ((codes "1"), 2) ∷ Some ((codes "'x'"), 10) ∷ Some ((codes "2"), 2) ∷ Some ((codes "<built-in print>"), 3) ∷ [])
+unfolding is_utf8 chars encode_utf8 level
+r_order_replays = refl
 
 r_order_dataflow : depends r_order_tree (reverse r_order_run.moments) (edge by_data 1 0 ∷ edge by_data 2 0 ∷ edge by_data 3 0 ∷ edge by_data 3 1 ∷ edge by_data 3 2 ∷ []) ≡ (true, true)
 unfolding is_utf8 chars encode_utf8 level

@@ -13,7 +13,7 @@ use Rattle.py_model.specs.Capture.{Capture, opening_in}
 use Rattle.py_model.specs.Meaning.{Run, run, level, finished}
 use Rattle.py_model.specs.Moment.{begins, does, enters, leaves, ends, normal_end, raise_end}
 use Rattle.py_model.specs.Plan.{value, raised}
-use Rattle.py_vectors.specs.Words.{place, no_span, summary, evaluated, kept, depends}
+use Rattle.py_vectors.specs.Words.{place, no_span, summary, evaluated, kept, depends, replayed}
 use Rattle.slice_law.specs.Edges.{edge, by_data, by_control, by_jump}
 
 abbrev pub r_raising_call_tree : ScriptTree
@@ -88,6 +88,10 @@ r_raising_call_values = refl
 r_raising_call_slices : kept r_raising_call_tree (opening_in r_raising_call_capture (codes "s.py") ([])) (reverse r_raising_call_run.moments) ((place 12 7, 1) ∷ (place 6 5, 1) ∷ (place 8 11, 1) ∷ (place 3 15, 1) ∷ (place 11 9, 1) ∷ []) ≡ (Some (true, (true ∷ true ∷ true ∷ false ∷ false ∷ false ∷ true ∷ true ∷ false ∷ true ∷ true ∷ [])) ∷ Some (true, (false ∷ false ∷ false ∷ false ∷ false ∷ true ∷ false ∷ false ∷ false ∷ false ∷ false ∷ [])) ∷ Some (true, (true ∷ false ∷ false ∷ false ∷ false ∷ false ∷ true ∷ true ∷ false ∷ false ∷ false ∷ [])) ∷ Some (true, (true ∷ true ∷ true ∷ false ∷ false ∷ false ∷ true ∷ true ∷ false ∷ false ∷ false ∷ [])) ∷ Some (true, (true ∷ true ∷ true ∷ false ∷ false ∷ false ∷ true ∷ true ∷ false ∷ true ∷ false ∷ [])) ∷ [])
 unfolding is_utf8 chars encode_utf8 level
 r_raising_call_slices = refl
+
+r_raising_call_replays : replayed r_raising_call_tree r_raising_call_capture (codes "s.py") ([]) 59 (reverse r_raising_call_run.moments) ((place 12 7, 1) ∷ (place 6 5, 1) ∷ (place 8 11, 1) ∷ (place 3 15, 1) ∷ (place 11 9, 1) ∷ []) ≡ (Some ((codes "'big'"), 49) ∷ Some ((codes "9"), 2) ∷ Some ((codes "5"), 8) ∷ Some ((codes "<class ValueError>"), 19) ∷ Some ((codes "<built-in str>"), 33) ∷ [])
+unfolding is_utf8 chars encode_utf8 level
+r_raising_call_replays = refl
 
 r_raising_call_dataflow : depends r_raising_call_tree (reverse r_raising_call_run.moments) (edge by_control 1 0 ∷ edge by_jump 1 2 ∷ edge by_data 1 7 ∷ edge by_control 1 7 ∷ edge by_control 2 1 ∷ edge by_control 2 7 ∷ edge by_control 3 0 ∷ edge by_data 6 6 ∷ edge by_jump 6 7 ∷ edge by_data 7 0 ∷ edge by_jump 7 1 ∷ edge by_control 7 6 ∷ edge by_control 8 6 ∷ edge by_data 9 2 ∷ edge by_data 9 6 ∷ edge by_control 9 6 ∷ edge by_data 10 9 ∷ []) ≡ (true, true)
 unfolding is_utf8 chars encode_utf8 level

@@ -12,7 +12,7 @@ use Rattle.py_model.specs.Capture.{Capture, opening_in}
 use Rattle.py_model.specs.Meaning.{Run, run, level, finished}
 use Rattle.py_model.specs.Moment.{begins, does, ends, normal_end}
 use Rattle.py_model.specs.Plan.{value, word, random_word}
-use Rattle.py_vectors.specs.Words.{place, no_span, summary, evaluated, kept, depends}
+use Rattle.py_vectors.specs.Words.{place, no_span, summary, evaluated, kept, depends, replayed}
 use Rattle.slice_law.specs.Edges.{edge, by_data}
 
 abbrev pub r_random_tree : ScriptTree
@@ -64,6 +64,10 @@ r_random_values = refl
 r_random_slices : kept r_random_tree (opening_in r_random_capture (codes "s.py") ([])) (reverse r_random_run.moments) ((place 4 7, 1) ∷ (place 2 5, 1) ∷ (place 2 23, 1) ∷ (place 3 20, 1) ∷ (place 3 23, 1) ∷ []) ≡ (Some (true, (true ∷ false ∷ true ∷ true ∷ [])) ∷ Some (true, (true ∷ true ∷ false ∷ false ∷ [])) ∷ Some (true, (true ∷ true ∷ false ∷ false ∷ [])) ∷ Some (true, (true ∷ false ∷ true ∷ false ∷ [])) ∷ Some (true, (true ∷ false ∷ true ∷ false ∷ [])) ∷ [])
 unfolding is_utf8 chars encode_utf8 level
 r_random_slices = refl
+
+r_random_replays : replayed r_random_tree r_random_capture (codes "s.py") ([]) 28 (reverse r_random_run.moments) ((place 4 7, 1) ∷ (place 2 5, 1) ∷ (place 2 23, 1) ∷ (place 3 20, 1) ∷ (place 3 23, 1) ∷ []) ≡ (Some ((codes "5"), 17) ∷ Some ((codes "<module random>"), 6) ∷ Some ((codes "6"), 9) ∷ Some ((codes "1"), 8) ∷ Some ((codes "6"), 9) ∷ [])
+unfolding is_utf8 chars encode_utf8 level
+r_random_replays = refl
 
 r_random_dataflow : depends r_random_tree (reverse r_random_run.moments) (edge by_data 1 0 ∷ edge by_data 2 0 ∷ edge by_data 3 2 ∷ []) ≡ (true, true)
 unfolding is_utf8 chars encode_utf8 level

@@ -13,7 +13,7 @@ use Rattle.py_model.specs.Capture.{Capture, opening_in}
 use Rattle.py_model.specs.Meaning.{Run, run, level, finished}
 use Rattle.py_model.specs.Moment.{begins, does, enters, leaves, ends, normal_end, return_end}
 use Rattle.py_model.specs.Plan.{value}
-use Rattle.py_vectors.specs.Words.{place, no_span, summary, evaluated, kept, depends}
+use Rattle.py_vectors.specs.Words.{place, no_span, summary, evaluated, kept, depends, replayed}
 use Rattle.slice_law.specs.Edges.{edge, by_data, by_control, by_jump}
 
 abbrev pub r_repeat_tree : ScriptTree
@@ -75,6 +75,10 @@ r_repeat_values = refl
 r_repeat_slices : kept r_repeat_tree (opening_in r_repeat_capture (codes "s.py") ([])) (reverse r_repeat_run.moments) ((place 5 7, 1) ∷ (place 3 11, 1) ∷ (place 2 16, 1) ∷ (place 2 12, 2) ∷ (place 4 10, 1) ∷ []) ≡ (Some (true, (true ∷ true ∷ true ∷ true ∷ true ∷ [])) ∷ Some (true, (true ∷ false ∷ true ∷ false ∷ false ∷ [])) ∷ Some (true, (true ∷ true ∷ true ∷ false ∷ false ∷ [])) ∷ Some (true, (true ∷ true ∷ true ∷ true ∷ false ∷ [])) ∷ Some (true, (true ∷ true ∷ true ∷ true ∷ false ∷ [])) ∷ [])
 unfolding is_utf8 chars encode_utf8 level
 r_repeat_slices = refl
+
+r_repeat_replays : replayed r_repeat_tree r_repeat_capture (codes "s.py") ([]) 40 (reverse r_repeat_run.moments) ((place 5 7, 1) ∷ (place 3 11, 1) ∷ (place 2 16, 1) ∷ (place 2 12, 2) ∷ (place 4 10, 1) ∷ []) ≡ (Some ((codes "6"), 38) ∷ Some ((codes "2"), 7) ∷ Some ((codes "2"), 14) ∷ Some ((codes "3"), 27) ∷ Some ((codes "6"), 31) ∷ [])
+unfolding is_utf8 chars encode_utf8 level
+r_repeat_replays = refl
 
 r_repeat_dataflow : depends r_repeat_tree (reverse r_repeat_run.moments) (edge by_control 1 0 ∷ edge by_data 1 2 ∷ edge by_control 1 2 ∷ edge by_data 1 3 ∷ edge by_control 1 3 ∷ edge by_data 2 0 ∷ edge by_jump 2 1 ∷ edge by_data 3 0 ∷ edge by_jump 3 1 ∷ edge by_data 4 3 ∷ []) ≡ (true, true)
 unfolding is_utf8 chars encode_utf8 level

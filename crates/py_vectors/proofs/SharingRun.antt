@@ -13,7 +13,7 @@ use Rattle.py_model.specs.Capture.{Capture, opening_in}
 use Rattle.py_model.specs.Meaning.{Run, run, level, finished}
 use Rattle.py_model.specs.Moment.{begins, does, ends, normal_end}
 use Rattle.py_model.specs.Plan.{value}
-use Rattle.py_vectors.specs.Words.{place, no_span, summary, evaluated, kept, depends}
+use Rattle.py_vectors.specs.Words.{place, no_span, summary, evaluated, kept, depends, replayed}
 use Rattle.slice_law.specs.Edges.{edge, by_data}
 
 abbrev pub r_sharing_tree : ScriptTree
@@ -79,6 +79,10 @@ r_sharing_values = refl
 r_sharing_slices : kept r_sharing_tree (opening_in r_sharing_capture (codes "s.py") ([])) (reverse r_sharing_run.moments) ((place 6 7, 1) ∷ (place 6 10, 1) ∷ (place 6 15, 1) ∷ (place 2 8, 1) ∷ (place 3 6, 1) ∷ []) ≡ (Some (true, (true ∷ true ∷ false ∷ false ∷ false ∷ true ∷ [])) ∷ Some (true, (true ∷ false ∷ true ∷ false ∷ false ∷ true ∷ [])) ∷ Some (true, (true ∷ false ∷ true ∷ true ∷ true ∷ true ∷ [])) ∷ Some (true, (true ∷ true ∷ false ∷ false ∷ false ∷ false ∷ [])) ∷ Some (true, (false ∷ false ∷ true ∷ false ∷ false ∷ false ∷ [])) ∷ [])
 unfolding is_utf8 chars encode_utf8 level
 r_sharing_slices = refl
+
+r_sharing_replays : replayed r_sharing_tree r_sharing_capture (codes "s.py") ([]) 77 (reverse r_sharing_run.moments) ((place 6 7, 1) ∷ (place 6 10, 1) ∷ (place 6 15, 1) ∷ (place 2 8, 1) ∷ (place 3 6, 1) ∷ []) ≡ (Some ((codes "#1=[#1]"), 21) ∷ Some ((codes "#1=[#2=[1], #3=[1]]"), 29) ∷ Some ((codes "#1=[#2=[1], #2]"), 49) ∷ Some ((codes "#1=[0]"), 10) ∷ Some ((codes "#1=[1]"), 5) ∷ [])
+unfolding is_utf8 chars encode_utf8 level
+r_sharing_replays = refl
 
 r_sharing_dataflow : depends r_sharing_tree (reverse r_sharing_run.moments) (edge by_data 1 0 ∷ edge by_data 4 3 ∷ edge by_data 5 0 ∷ edge by_data 5 1 ∷ edge by_data 5 2 ∷ edge by_data 5 3 ∷ edge by_data 5 4 ∷ []) ≡ (true, true)
 unfolding is_utf8 chars encode_utf8 level

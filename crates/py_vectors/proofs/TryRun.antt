@@ -12,7 +12,7 @@ use Rattle.py_model.specs.Capture.{Capture, opening_in}
 use Rattle.py_model.specs.Meaning.{Run, run, level, finished}
 use Rattle.py_model.specs.Moment.{begins, does, ends, normal_end, raise_end}
 use Rattle.py_model.specs.Plan.{value, raised}
-use Rattle.py_vectors.specs.Words.{place, no_span, summary, evaluated, kept, depends}
+use Rattle.py_vectors.specs.Words.{place, no_span, summary, evaluated, kept, depends, replayed}
 use Rattle.slice_law.specs.Edges.{edge, by_data, by_control, by_jump}
 
 abbrev pub r_try_tree : ScriptTree
@@ -62,6 +62,10 @@ r_try_values = refl
 r_try_slices : kept r_try_tree (opening_in r_try_capture (codes "s.py") ([])) (reverse r_try_run.moments) ((place 6 7, 1) ∷ (place 1 5, 1) ∷ (place 3 9, 1) ∷ (place 4 8, 1) ∷ (place 5 9, 1) ∷ []) ≡ (Some (true, (true ∷ false ∷ false ∷ false ∷ true ∷ [])) ∷ Some (true, (true ∷ false ∷ false ∷ false ∷ false ∷ [])) ∷ Some (true, (false ∷ true ∷ true ∷ false ∷ false ∷ [])) ∷ Some (true, (false ∷ true ∷ true ∷ false ∷ false ∷ [])) ∷ Some (true, (false ∷ true ∷ true ∷ true ∷ false ∷ [])) ∷ [])
 unfolding is_utf8 chars encode_utf8 level
 r_try_slices = refl
+
+r_try_replays : replayed r_try_tree r_try_capture (codes "s.py") ([]) 26 (reverse r_try_run.moments) ((place 6 7, 1) ∷ (place 1 5, 1) ∷ (place 3 9, 1) ∷ (place 4 8, 1) ∷ (place 5 9, 1) ∷ []) ≡ (Some ((codes "5"), 9) ∷ Some ((codes "5"), 2) ∷ Some ((codes "<built-in int>"), 4) ∷ Some ((codes "<class ValueError>"), 10) ∷ Some ((codes "0"), 13) ∷ [])
+unfolding is_utf8 chars encode_utf8 level
+r_try_replays = refl
 
 r_try_dataflow : depends r_try_tree (reverse r_try_run.moments) (edge by_jump 1 2 ∷ edge by_control 2 1 ∷ edge by_control 3 1 ∷ edge by_data 4 0 ∷ []) ≡ (true, true)
 unfolding is_utf8 chars encode_utf8 level

@@ -15,7 +15,7 @@ use Rattle.py_model.specs.Capture.{Capture, opening_in}
 use Rattle.py_model.specs.Meaning.{Run, run, level, finished}
 use Rattle.py_model.specs.Moment.{begins, does, ends, normal_end, raise_end}
 use Rattle.py_model.specs.Plan.{value, raised, at_end}
-use Rattle.py_vectors.specs.Words.{place, no_span, summary, evaluated, depends}
+use Rattle.py_vectors.specs.Words.{place, no_span, summary, evaluated, depends, replayed}
 use Rattle.slice_law.specs.Edges.{edge, by_data, by_control, by_jump}
 
 abbrev pub r_tuples_and_unpacking_tree : ScriptTree
@@ -219,6 +219,10 @@ r_tuples_and_unpacking_moments = refl
 r_tuples_and_unpacking_values : evaluated r_tuples_and_unpacking_tree (opening_in r_tuples_and_unpacking_capture (codes "s.py") ([])) (reverse r_tuples_and_unpacking_run.moments) ((place 1 6, 1) ∷ (place 8 33, 1) ∷ (place 11 10, 1) ∷ (place 11 67, 1) ∷ (place 20 6, 1) ∷ []) ≡ (Some ((codes "1"), 2) ∷ Some ((codes "#1=('b', #2=(2, 3))"), 114) ∷ Some ((codes "2"), 193) ∷ Some ((codes "1"), 221) ∷ Some ((codes "None"), 322) ∷ [])
 unfolding is_utf8 chars encode_utf8 level
 r_tuples_and_unpacking_values = refl
+
+r_tuples_and_unpacking_replays : replayed r_tuples_and_unpacking_tree r_tuples_and_unpacking_capture (codes "s.py") ([]) 322 (reverse r_tuples_and_unpacking_run.moments) ((place 1 6, 1) ∷ (place 8 33, 1) ∷ (place 11 10, 1) ∷ (place 11 67, 1) ∷ (place 20 6, 1) ∷ []) ≡ (Some ((codes "1"), 2) ∷ Some ((codes "#1=('b', #2=(2, 3))"), 69) ∷ Some ((codes "2"), 28) ∷ Some ((codes "1"), 56) ∷ Some ((codes "None"), 46) ∷ [])
+unfolding is_utf8 chars encode_utf8 level
+r_tuples_and_unpacking_replays = refl
 
 r_tuples_and_unpacking_dataflow : depends r_tuples_and_unpacking_tree (reverse r_tuples_and_unpacking_run.moments) (edge by_data 1 0 ∷ edge by_data 2 2 ∷ edge by_data 4 3 ∷ edge by_data 6 4 ∷ edge by_data 6 5 ∷ edge by_data 7 0 ∷ edge by_data 7 1 ∷ edge by_data 7 2 ∷ edge by_data 7 5 ∷ edge by_data 7 6 ∷ edge by_data 8 8 ∷ edge by_control 9 8 ∷ edge by_data 10 8 ∷ edge by_data 11 11 ∷ edge by_jump 11 12 ∷ edge by_data 12 0 ∷ edge by_control 12 11 ∷ edge by_data 13 11 ∷ edge by_control 13 11 ∷ edge by_data 13 12 ∷ edge by_data 14 14 ∷ edge by_jump 14 15 ∷ edge by_control 15 14 ∷ edge by_data 16 14 ∷ edge by_control 16 14 ∷ edge by_data 16 15 ∷ edge by_data 17 0 ∷ edge by_data 17 17 ∷ []) ≡ (true, true)
 unfolding is_utf8 chars encode_utf8 level

@@ -12,7 +12,7 @@ use Rattle.py_model.specs.Capture.{Capture, opening_in}
 use Rattle.py_model.specs.Meaning.{Run, run, level, finished}
 use Rattle.py_model.specs.Moment.{begins, does, enters, leaves, ends, normal_end, return_end, raise_end}
 use Rattle.py_model.specs.Plan.{value, raised}
-use Rattle.py_vectors.specs.Words.{place, no_span, summary, evaluated, depends}
+use Rattle.py_vectors.specs.Words.{place, no_span, summary, evaluated, depends, replayed}
 use Rattle.slice_law.specs.Edges.{edge, by_data, by_control, by_jump}
 
 abbrev pub r_unbound_by_except_tree : ScriptTree
@@ -110,6 +110,10 @@ r_unbound_by_except_moments = refl
 r_unbound_by_except_values : evaluated r_unbound_by_except_tree (opening_in r_unbound_by_except_capture (codes "s.py") ([])) (reverse r_unbound_by_except_run.moments) ((place 2 9, 1) ∷ (place 5 12, 1) ∷ (place 10 20, 1) ∷ (place 13 5, 1) ∷ (place 19 10, 1) ∷ []) ≡ (Some ((codes "1"), 11) ∷ Some ((codes "<class ValueError>"), 25) ∷ Some ((codes "#1=UnboundLocalError(args=#2=(" ++ (34 ∷ []) ++ codes "local name 'e' is not set" ++ (34 ∷ []) ++ codes ",))"), 48) ∷ Some ((codes "#1=[1]"), 64) ∷ Some ((codes "None"), 103) ∷ [])
 unfolding is_utf8 chars encode_utf8 level
 r_unbound_by_except_values = refl
+
+r_unbound_by_except_replays : replayed r_unbound_by_except_tree r_unbound_by_except_capture (codes "s.py") ([]) 106 (reverse r_unbound_by_except_run.moments) ((place 2 9, 1) ∷ (place 5 12, 1) ∷ (place 10 20, 1) ∷ (place 13 5, 1) ∷ (place 19 10, 1) ∷ []) ≡ (Some ((codes "1"), 11) ∷ Some ((codes "<class ValueError>"), 21) ∷ Some ((codes "#1=UnboundLocalError(args=#2=(" ++ (34 ∷ []) ++ codes "local name 'e' is not set" ++ (34 ∷ []) ++ codes ",))"), 44) ∷ Some ((codes "#1=[1]"), 6) ∷ Some ((codes "None"), 45) ∷ [])
+unfolding is_utf8 chars encode_utf8 level
+r_unbound_by_except_replays = refl
 
 r_unbound_by_except_dataflow : depends r_unbound_by_except_tree (reverse r_unbound_by_except_run.moments) (edge by_control 1 0 ∷ edge by_control 1 8 ∷ edge by_control 2 0 ∷ edge by_data 2 2 ∷ edge by_jump 2 3 ∷ edge by_control 2 8 ∷ edge by_control 3 2 ∷ edge by_control 3 8 ∷ edge by_control 4 2 ∷ edge by_control 4 8 ∷ edge by_control 5 0 ∷ edge by_data 5 5 ∷ edge by_jump 5 6 ∷ edge by_jump 5 7 ∷ edge by_control 5 8 ∷ edge by_data 6 2 ∷ edge by_control 6 5 ∷ edge by_control 6 8 ∷ edge by_data 7 5 ∷ edge by_control 7 5 ∷ edge by_data 7 6 ∷ edge by_control 7 8 ∷ edge by_data 8 0 ∷ edge by_jump 8 5 ∷ edge by_jump 9 10 ∷ edge by_data 9 11 ∷ edge by_control 10 9 ∷ edge by_data 10 10 ∷ edge by_data 11 9 ∷ edge by_control 11 9 ∷ edge by_data 12 12 ∷ edge by_jump 12 13 ∷ edge by_data 13 9 ∷ edge by_control 13 12 ∷ edge by_data 14 12 ∷ edge by_control 14 12 ∷ edge by_data 14 13 ∷ []) ≡ (true, true)
 unfolding is_utf8 chars encode_utf8 level

@@ -11,6 +11,9 @@ use Rattle.py_model.specs.Occurrences.{up_to_evaluation}
 use Rattle.py_model.specs.Plan.{value}
 use Rattle.py_model.specs.Store.{RunStore}
 use Rattle.py_tree.specs.Tree.{ScriptTree}
+use Rattle.py_tree.specs.Deletion.{deleted}
+use Rattle.slice_law.specs.Slices.{told_by}
+use Rattle.py_model.specs.Capture.{Capture, opening_in}
 use Rattle.slice_law.specs.Closed.{needed, has, is_settled}
 use Rattle.slice_law.specs.Edges.{Edge, Reason, by_data, by_name, by_control, by_jump, edges}
 
@@ -83,3 +86,19 @@ are_among (e ∷ more) all = is_among e all && are_among more all
 
 abbrev pub depends : ScriptTree → List Moment → List Edge → Bool × Bool
 depends script told expected = let found = edges script told in (are_among expected found, are_among found expected)
+
+-- What the slice of each evaluation gives, run again with as many steps as the whole run took: the graph text of the value at the same
+-- place and number, and the steps up to it.
+abbrev pub again_at : ScriptTree → RunStore → Pos → ℕ → List Moment → Option (List ℕ × ℕ)
+again_at script opening at k told = option_and_then (last_value script opening) (up_to_evaluation at k told)
+
+abbrev pub replayed_by : ScriptTree → Capture → List ℕ → List (List ℕ) → ℕ → Pos → ℕ → List Moment → Option (List ℕ × ℕ)
+replayed_by script capture path arguments steps at k upto =
+    let numbers = needed script (opening_in capture path arguments) upto in
+    let slice = deleted (λ s. has s numbers) script in
+    again_at slice (opening_in capture path arguments) at k (told_by slice capture path arguments steps)
+
+abbrev pub replayed : ScriptTree → Capture → List ℕ → List (List ℕ) → ℕ → List Moment → List (Pos × ℕ) → List (Option (List ℕ × ℕ))
+replayed script capture path arguments steps told [] = []
+replayed script capture path arguments steps told (point ∷ points) =
+    option_and_then (replayed_by script capture path arguments steps point.0 point.1) (up_to_evaluation point.0 point.1 told) ∷ replayed script capture path arguments steps told points
