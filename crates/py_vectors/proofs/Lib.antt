@@ -17,6 +17,7 @@ mod NameRun
 mod NumbersRun
 mod OneLineSuiteRun
 mod OrderRun
+mod RaisedAgainRun
 mod RaisingCallRun
 mod RandomRun
 mod RepeatRun
