@@ -1,8 +1,13 @@
-//! What each operation of a script does and touches, as definitions that compute. No code here performs one.
+//! What each operation of a script does and touches, and what a script means, as definitions that compute. No code here performs
+//! one. `docs/MEANING.md` tells how to read all of it.
 //!
 //! Read them in this order: `specs/Store.antt` (the store of a run), `specs/Plan.antt` (an operation as a plan: what it reads and
 //! asks, then what it writes), `specs/Effect.antt` (what a plan comes to in a store: answer, accesses, weight, cost, the store
 //! afterwards), `specs/Walks.antt` (walks that several operations make), and then the operations, a file for each family.
+//!
+//! The meaning of a run is `specs/Act.antt`, `Running.antt`, `Expressions.antt`, `Statements.antt` and `Meaning.antt`; what its moments
+//! come to is `History.antt` and `Occurrences.antt`. [`Doer`] is what performs operations and [`Watch`] what is told the moments.
+//! Nothing implements `Doer` yet, so that its contract can be met is not shown.
 //!
 //! [`operations_agree`] is the law that all an operation depends on is among what it reads and asks: `specs/Agreement.antt` says what
 //! has to correspond in two stores, `specs/Renaming.antt` under which renaming.

@@ -2,7 +2,8 @@
 //! control, jumps, calls and names.
 //!
 //! `specs/Edges.antt` says which statement asks for which, each at one moment, and which are asked for by the value itself.
-//! `specs/Closed.antt` says what a closed set is, and the least one. Sets are tests into `Bool`.
+//! `specs/Closed.antt` says what a closed set is, and the least one. Sets are tests into `Bool`. `specs/Slices.antt` states what a slice
+//! promises, which is not proved yet.
 #![tactic(auto)]
 
 mod laws;
