@@ -2,9 +2,10 @@
 -- touched, in order. Accesses, weight and cost, and the store afterwards, are read off that.
 use Rattle.std.specs.Prelude.{◌≡◌, ℕ, ◌+◌, ◌/◌, List, [], ◌∷◌, ◌++◌, length, slice_get, Option, Some, None, codes, unwrap_or}
 use Rattle.prov_base.specs.declared.place.Pos.{Pos}
+pub use Rattle.py_value.specs.Changes.{after_accesses}
 use Rattle.py_value.specs.Contents.{Contents, Parts, text, tuple, no_parts, part}
 use Rattle.py_value.specs.KeyOf.{normal}
-use Rattle.py_value.specs.Seen.{SeenLocation, SeenContent, SeenAccess, SeenKind, an_instance, var_at, len_at, item_at, entry_at, order_at, file_at, offset_at, closed_at, method_at, base_at, item_is, entry_is, order_is, reads, sets, updates}
+use Rattle.py_value.specs.Seen.{SeenAccess, SeenKind, an_instance, var_at, len_at, item_at, entry_at, order_at, file_at, offset_at, closed_at, method_at, base_at, item_is, entry_is, order_is, reads, sets, updates}
 use Rattle.py_model.specs.Plan.{Ask, Given, Found, Answer, value, raised, at_end, Writes, write, change, move, opens, notes, done, done_at_end, Plan, read_var, read_len, read_item, read_entry, read_order, read_file, read_offset, read_closed, read_method, read_base, kind_of, name_of, was_opened, ask, fetch, looks, counts, prints, writes, makes, raises, raises_again, ends, runs_away}
 use Rattle.py_model.specs.Store.{RunStore, var_of, len_of, item_of, entry_of, order_of, file_of, offset_of, closed_of, method_of, base_of, after_access, has_path, with_path, with_name}
 
@@ -139,11 +140,7 @@ with_made (Some kind) store = record store { kinds = store.kinds ++ kind ∷ [] 
 abbrev pub after : Effect → RunStore → RunStore
 after effect store = after_touches effect.touches (with_made effect.made store)
 
--- the map after accesses, and the accesses that write
-abbrev pub after_accesses : List SeenAccess → (SeenLocation → Option SeenContent) → SeenLocation → Option SeenContent
-after_accesses [] map = map
-after_accesses (access ∷ accesses) map = after_accesses accesses (after_access access map)
-
+-- the accesses that write
 abbrev pub writes_in : List SeenAccess → List SeenAccess
 writes_in [] = []
 writes_in (reads l ∷ accesses) = writes_in accesses

@@ -5,10 +5,11 @@ use Rattle.std.specs.Prelude.{ℕ, ◌+◌, Bool, true, false, List, [], ◌∷�
 use Rattle.std.specs.Str.{bytes_eq}
 use Rattle.prov_base.specs.declared.place.Pos.{Pos}
 use Rattle.prov_base.specs.contracts.place.PosPartialEq.TheImpl.{ghosts as places}
+pub use Rattle.py_value.specs.Changes.{has_key, with_key, without_key, changed, after_access}
 use Rattle.py_value.specs.Contents.{Contents, text}
-use Rattle.py_value.specs.Seen.{SeenLocation, SeenContent, SeenChange, SeenAccess, SeenKind, a_list, var_at, len_at, item_at, entry_at, order_at, file_at, offset_at, closed_at, method_at, base_at, var_is, len_is, item_is, entry_is, order_is, file_is, offset_is, closed_is, method_is, base_is, key_inserted, key_deleted, bytes_appended, reads, sets, updates}
+use Rattle.py_value.specs.Seen.{SeenLocation, SeenContent, SeenKind, a_list, var_at, len_at, item_at, entry_at, order_at, file_at, offset_at, closed_at, method_at, base_at, var_is, len_is, item_is, entry_is, order_is, file_is, offset_is, closed_is, method_is, base_is}
 use Rattle.py_value.specs.KeyOf.{normal}
-use Rattle.py_value.specs.Same.{same_value, put}
+use Rattle.py_value.specs.Same.{put}
 
 pub record RunStore : Type 0 where
   pub at : SeenLocation → Option SeenContent
@@ -89,33 +90,6 @@ module _ (store : RunStore) where
       by_content : Option SeenContent → Option Contents
       by_content (Some (base_is base)) = base
       by_content other = None
-
--- the keys with one more behind them, unless an equal one is there
-abbrev pub has_key : Contents → List Contents → Bool
-has_key key [] = false
-has_key key (first ∷ keys) = if same_value (normal key) (normal first) then true else has_key key keys
-
-abbrev pub with_key : Contents → List Contents → List Contents
-with_key key keys = if has_key key keys then keys else keys ++ key ∷ []
-
-abbrev pub without_key : Contents → List Contents → List Contents
-without_key key [] = []
-without_key key (first ∷ keys) = if same_value (normal key) (normal first) then keys else first ∷ without_key key keys
-
--- what stands at a location once it is changed: a key goes behind the others or out of them, bytes go behind the file's
-abbrev pub changed : SeenChange → Option SeenContent → SeenContent
-changed (key_inserted key) (Some (order_is keys)) = order_is (with_key key keys)
-changed (key_inserted key) other = order_is (key ∷ [])
-changed (key_deleted key) (Some (order_is keys)) = order_is (without_key key keys)
-changed (key_deleted key) other = order_is []
-changed (bytes_appended more) (Some (file_is bytes)) = file_is (bytes ++ more)
-changed (bytes_appended more) other = file_is more
-
--- the map after an access
-abbrev pub after_access : SeenAccess → (SeenLocation → Option SeenContent) → SeenLocation → Option SeenContent
-after_access (reads l) store = store
-after_access (sets l content) store = put l content store
-after_access (updates l change) store = put l (changed change (store l)) store
 
 -- an empty store, and the one with which a run begins: the path and the arguments are the list with number 0, `__name__` is
 -- `__main__`, and the files that were found stand at their paths

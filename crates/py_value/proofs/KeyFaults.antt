@@ -1,5 +1,5 @@
 -- What is refused of a value as a key is what is refused of its contents.
-use Rattle.std.proofs.Common.{◌≡◌, ℕ, zero, suc, ◌<◌, ◌≤◌, List, [], ◌∷◌, length, slice_get, unwrap_or, Option, Some, refl, sym, ap, ◌∙◌, arith}
+use Rattle.std.proofs.Common.{◌≡◌, ℕ, zero, suc, List, [], ◌∷◌, length, unwrap_or, Option, refl, sym, ap, ◌∙◌, arith}
 use Rattle.std.specs.Option.{option_or}
 use Rattle.py_value.proofs.Interning.{below_more}
 use Rattle.py_value.proofs.SameContents.{item_at}
@@ -7,7 +7,7 @@ use Rattle.py_value.proofs.NormalForms.{tuple_contents}
 use Rattle.py_value.specs.declared.key.KeyFault.{KeyFault}
 use Rattle.py_value.specs.declared.value.Value.{Value}
 use Rattle.py_value.specs.declared.value.Value.TheVariants.{None as Nothing, Bool as Truth, Int, Text, Tuple, Range, Fn, Class, Exc, Builtin, Object}
-use Rattle.py_value.specs.Values.{ValuesView, AreInterned, IsBelow, AreNamed, IsNamed}
+use Rattle.py_value.specs.Values.{ValuesView, AreInterned, AreNamed, IsNamed}
 use Rattle.py_value.specs.Contents.{parts_by, contents}
 use Rattle.py_value.specs.KeyOf.{first_fault, fault_within, key_fault, parts_fault}
 

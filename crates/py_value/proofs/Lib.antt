@@ -5,6 +5,7 @@ pub mod KeyNotes
 pub mod NormalForms
 pub mod SameContents
 pub mod SameTests
+pub mod SeenBack
 pub mod SeenLocations
 pub mod Worked
 pub mod WorkedKeys

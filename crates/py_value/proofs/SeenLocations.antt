@@ -1,17 +1,16 @@
 -- Of each location that has numbers there is one location without them, and it leads back.
-use Rattle.std.proofs.Common.{◌≡◌, ℕ, zero, suc, ◌<◌, ◌≤◌, Bool, true, false, List, [], ◌∷◌, length, slice_get, Option, Some, unwrap_or, refl, sym, ap, ◌∙◌, arith, if◌then◌else◌}
+use Rattle.std.proofs.Common.{◌≡◌, ℕ, zero, suc, ◌<◌, ◌≤◌, Bool, true, false, List, [], ◌∷◌, length, slice_get, Option, Some, refl, sym, ap, ◌∙◌, arith, if◌then◌else◌}
 use Rattle.std.specs.Option.{option_map, option_and_then}
 use Rattle.std.specs.Str.{bytes_eq}
 use Rattle.std.specs.Cmp.Lexicographic.{pointwise}
-use Rattle.std.proofs.lemmas.Bool.{false≢true}
 use Rattle.std.proofs.lemmas.Slice.Eq.{bytes_eq-Decides}
 use Rattle.py_value.specs.declared.value.Value.{Value}
 use Rattle.py_value.specs.declared.value.Value.TheVariants.{None as Nothing, Bool as Truth, Int, Text, Tuple, Range, Fn, Class, Exc, Builtin, Object}
 use Rattle.py_value.specs.contracts.value.ValuePartialEq.TheImpl.{ghosts}
 use Rattle.py_value.specs.declared.access.Location.{Location}
 use Rattle.py_value.specs.declared.access.Location.TheVariants.{Var, Len, Item, Entry, Order, File, Offset, Closed, Method, Base}
-use Rattle.py_value.specs.Values.{ValuesView, AreInterned, StandOnce, IsBelow, AreBelow, IsNamed}
-use Rattle.py_value.specs.Contents.{Contents, Parts, part, parts_by, contents_to, contents}
+use Rattle.py_value.specs.Values.{ValuesView, AreInterned, IsBelow, AreBelow}
+use Rattle.py_value.specs.Contents.{parts_by, contents_to}
 use Rattle.py_value.specs.Seen.{IsNamedLocation, location_seen, location_at, value_at, values_at, number_by, bytes_of, entry_of}
 use Rattle.py_value.proofs.Equality.{values_decide}
 use Rattle.py_value.proofs.Interning.{below_more}

@@ -2,7 +2,7 @@
 use Rattle.std.proofs.Common.{◌≡◌, [], ◌∷◌, codes, refl}
 use Rattle.py_value.specs.declared.value.Value.TheVariants.{Text, Tuple, Object}
 use Rattle.py_value.specs.Values.{ValuesView}
-use Rattle.py_value.specs.Contents.{nothing, object as an_object, text, tuple, no_parts, part, contents}
+use Rattle.py_value.specs.Contents.{object as an_object, text, tuple, no_parts, part, contents}
 
 -- the text `ab`, the empty tuple, and the tuple of the two
 abbrev pub view : ValuesView

@@ -2,7 +2,7 @@
 use Rattle.std.proofs.Common.{◌≡◌, true, [], ◌∷◌, codes, Some, refl}
 use Rattle.std.specs.Prelude.{pos}
 use Rattle.std.proofs.Common.{None as Nothing}
-use Rattle.py_value.specs.declared.value.Value.TheVariants.{Bool as Truth, Int, Text, Tuple, Range, Object}
+use Rattle.py_value.specs.declared.value.Value.TheVariants.{Bool as Truth, Text, Tuple, Range, Object}
 use Rattle.py_value.specs.declared.key.KeyFault.TheVariants.{NoKey, TooDeep}
 use Rattle.py_value.specs.Values.{ValuesView}
 use Rattle.py_value.specs.Contents.{int, text, tuple, no_parts, part, contents}

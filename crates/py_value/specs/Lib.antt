@@ -1,6 +1,8 @@
+pub mod Changes
 pub mod Contents
 pub mod Key
 pub mod KeyOf
+pub mod Named
 pub mod Notes
 pub mod Same
 pub mod Seen

@@ -8,7 +8,6 @@ use Rattle.prov_base.specs.declared.place.Pos.{Pos}
 use Rattle.py_value.specs.declared.value.Value.{Value}
 use Rattle.py_value.specs.declared.value.Value.TheVariants.{None as NoneValue, Bool as TruthValue, Int as IntValue, Text as TextValue, Tuple as TupleValue, Range as RangeValue, Fn as FnValue, Class as ClassValue, Exc as ExcValue, Builtin as BuiltinValue, Object as ObjectValue}
 use Rattle.py_value.specs.contracts.value.ValuePartialEq.TheImpl.{ghosts as values_eq}
-use Rattle.py_value.specs.declared.key.Key.{Key}
 use Rattle.py_value.specs.declared.access.Location.{Location}
 use Rattle.py_value.specs.declared.access.Location.TheVariants.{Var, Len, Item, Entry, Order, File, Offset, Closed, Method, Base}
 use Rattle.py_value.specs.declared.access.Content.{Content}

@@ -1,6 +1,6 @@
 // The places of a run's store, what stands at them, and what is done to them.
 ghost use Rattle.std.specs.Prelude.{◌≡◌, ◌↔◌, Some, true};
-ghost use Rattle.py_value.specs.Seen.{IsNamedLocation, location_seen, location_at};
+ghost use Rattle.py_value.specs.Seen.{SeenLocation, IsNamedLocation, location_seen, location_at};
 ghost use Rattle.py_value.specs.Values.{ValuesView, AreInterned};
 ghost use Rattle.py_value.specs.contracts.access.LocationPartialEq.TheImpl.{ghosts as locations};
 ghost use Rattle.py_value.specs.contracts.value.ValuePartialEq.TheImpl.{ghosts as values_eq};
@@ -145,9 +145,11 @@ pub fn equality_is_same()
 {}
 
 /// The law that locations are told apart by what they are without numbers of texts and tuples: that leads back to the
-/// location.
+/// location, and leads to no other.
 pub fn same_place_same_location()
     ensures back { (view : ValuesView) (l : OneLocation) → AreInterned view → IsNamedLocation view l → location_at view (location_seen view l) ≡ Some l }
     ensures tell { (view : ValuesView) (l m : OneLocation) → AreInterned view → IsNamedLocation view l → IsNamedLocation view m
         → location_seen view l ≡ location_seen view m → l ≡ m }
+    ensures seen { (view : ValuesView) (place : SeenLocation) (l : OneLocation) → AreInterned view → location_at view place ≡ Some l
+        → IsNamedLocation view l × (location_seen view l ≡ place) }
 {}

@@ -1,4 +1,4 @@
-use Rattle.std.proofs.Common.{◌≡◌, sym, ap, ◌∙◌}
+use Rattle.std.proofs.Common.{sym, ap, ◌∙◌}
 use Rattle.py_value.specs.Contents.{contents}
 use Rattle.py_value.proofs.SameContents.{same_contents}
 use Rattle.py_value.proofs.laws.same_key_same_normal_contents.Goals as goal
