@@ -1,6 +1,8 @@
-mod Making
-mod Writing
-mod Rooming
-mod Reserving
-mod Planning
-mod Beginning
+pub mod Beginning
+pub mod Making
+pub mod Naming
+pub mod OverContents
+pub mod Planning
+pub mod Reserving
+pub mod Rooming
+pub mod Writing

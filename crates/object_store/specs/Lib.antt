@@ -1,7 +1,9 @@
 pub mod Cell
 pub mod File
+pub mod Named
 pub mod Object
 pub mod Opening
+pub mod Performing
 pub mod Room
 pub mod Seen
 pub mod Store

@@ -1,5 +1,5 @@
 -- A store seen without numbers for texts and tuples (this project's profile).
-use Rattle.std.specs.Prelude.{ℕ, List, map, Option}
+use Rattle.std.specs.Prelude.{map, Option}
 use Rattle.std.specs.Option.{option_map, option_and_then}
 use Rattle.py_value.specs.Values.{ValuesView}
 use Rattle.py_value.specs.Contents.{contents}

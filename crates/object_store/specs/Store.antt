@@ -132,11 +132,6 @@ IsOwnChange (Order o) (Delete key) = ⊤
 IsOwnChange (File path) (Append text) = ⊤
 IsOwnChange l change = ⊥
 
--- an order is set only where it has no keys
-abbrev pub IsFresh : StoreView → Location → Type 0
-IsFresh store (Order o) = keys_at store o ≡ []
-IsFresh store l = ⊤
-
 -- everything that stands at a location, each kind and each noted name is as before
 pub record Keeps (old new : StoreView) : Type 0 where
   pub held : (l : Location) → held_at new l ≡ held_at old l

@@ -1,13 +1,20 @@
 // What a store is without numbers for texts and tuples: the map that the meaning of a script speaks of.
-ghost use Rattle.std.specs.Prelude.{◌≡◌, Some};
+ghost use Rattle.std.specs.Prelude.{◌≡◌, List, Some, map};
 ghost use Rattle.std.specs.Option.{option_map};
-ghost use Rattle.py_value.specs.Values.{ValuesView, AreInterned};
-ghost use Rattle.py_value.specs.Seen.{IsNamedLocation, location_seen};
+ghost use Rattle.py_value.specs.Changes.{after_accesses};
+ghost use Rattle.py_value.specs.Named.{IsNamedAccess, AreNamedAccesses};
+ghost use Rattle.py_value.specs.Seen.{IsNamedLocation, location_seen, access_seen};
+ghost use Rattle.py_value.specs.Values.{ValuesView, AreInterned, Keeps as KeepsNumbers};
+ghost use Rattle.py_value.specs.declared.access.Access.{Access as OneAccess};
 ghost use Rattle.py_value.specs.declared.access.Location.{Location as OneLocation};
-ghost use Rattle.object_store.specs.Seen.{held_seen, store_seen};
+ghost use Rattle.object_store.specs.Named.{IsNamedStore};
+ghost use Rattle.object_store.specs.Performing.{DoesAll, SuitInTurn};
+ghost use Rattle.object_store.specs.Seen.{held_seen, seen_at, store_seen};
 ghost use Rattle.object_store.specs.Store.{StoreView, Held, Writes, held_at};
 
-use py_value::{equality_is_same, same_place_same_location};
+use py_value::{
+    equality_is_same, same_contents_same_value, same_place_same_location, tests_are_equality,
+};
 
 /// The law that a store is one map over contents: at what a location is without numbers stands what stands at the
 /// location, without numbers too; and a write there changes that place alone.
@@ -20,5 +27,20 @@ pub fn store_over_contents()
         → (location_seen values m ≡ location_seen values l → ⊥) → (store_seen values new).at (location_seen values m) ≡ (store_seen values old).at (location_seen values m) }
 {
     equality_is_same();
+    same_place_same_location();
+}
+
+/// The law that what the accesses of a plan do to a store is what they do to its map over contents, in any table that has the texts of
+/// the plan; and a store that is named stays so.
+pub fn plan_over_contents()
+    ensures contents { (values table : ValuesView) (plan : List OneAccess) (old new : StoreView) → AreInterned table → KeepsNumbers values.texts table.texts
+        → AreNamedAccesses values plan → AreNamedAccesses table plan → IsNamedStore table old → DoesAll values plan old new
+        → SuitInTurn (seen_at table old) (map (access_seen table) plan) → seen_at table new ≡ after_accesses (map (access_seen table) plan) (seen_at table old) }
+    ensures named { (values table : ValuesView) (plan : List OneAccess) (old new : StoreView) → AreNamedAccesses table plan → IsNamedStore table old
+        → DoesAll values plan old new → IsNamedStore table new }
+{
+    equality_is_same();
+    tests_are_equality();
+    same_contents_same_value();
     same_place_same_location();
 }

@@ -135,8 +135,20 @@ impl Object {
         let _ = self.keys.insert(key);
     }
 
-    /// Puts keys behind the others, one after another, each where it is not there yet.
-    pub fn insert_keys(&mut self, keys: &[Value])
+    /// Makes these its keys, one after another, each where it is not there yet.
+    pub fn set_keys(&mut self, keys: &[Value])
+        requires { length keys.now ≤ self.old.spare }
+        ensures keys { self.new.keys ≡ with_keys [] keys.now }
+        ensures items { self.new.items ≡ self.old.items }
+        ensures kind { self.new.kind ≡ self.old.kind }
+        ensures spare { self.old.spare ≤ self.new.spare + length keys.now }
+    {
+        self.keys.clear();
+        self.insert_keys(keys);
+    }
+
+    // Puts keys behind the others, one after another, each where it is not there yet.
+    fn insert_keys(&mut self, keys: &[Value])
         requires { length keys.now ≤ self.old.spare }
         ensures keys { self.new.keys ≡ with_keys self.old.keys keys.now }
         ensures items { self.new.items ≡ self.old.items }

@@ -1,6 +1,6 @@
 // The store. It stands on a pool of objects, and on maps for what is no part of an object.
 ghost use Rattle.std.specs.Prelude.{◌≡◌, ◌<◌, ◌+◌, ◌≤◌, [], ◌∷◌, ◌++◌, List, Option, length, slice_get, slice_set, if◌then◌else◌, Some, None, OnOk, OnErr, option_map};
-ghost use Rattle.object_store.specs.Store.{held_at, content_at, item_at, keys_at, kinds, name_at, file_at, whole, bytes as held_bytes, room_of, written, changed, IsOwn, IsOwnChange, IsFresh, IsReadWhole, IsReservedFor, Writes, Notes, Makes};
+ghost use Rattle.object_store.specs.Store.{held_at, content_at, item_at, keys_at, kinds, name_at, file_at, whole, bytes as held_bytes, room_of, written, changed, IsOwn, IsOwnChange, IsReadWhole, IsReservedFor, Writes, Notes, Makes};
 ghost use Rattle.std.specs.Option.{option_copied};
 ghost use Rattle.py_value.specs.Values.{ValuesView};
 ghost use Rattle.py_value.specs.declared.access.Access.{Access as OneAccess};
@@ -175,18 +175,27 @@ impl Store {
     /// Sets a location to a content of its own kind.
     pub fn set(&mut self, l: Location, c: Content)
         requires own { IsOwn l c }
-        requires fresh { IsFresh self.old l }
         requires room { HasRoomToSet (room_of self.old) l c }
         ensures writes { Writes self.old self.new l (written c) }
         ensures left { Takes (room_of self.old) (room_of self.new) (cells_set l) (keys_set c) 0 }
     {
-        if let Some(cell) = Cell::of(&c) {
+        self.set_to(l, &c);
+    }
+
+    // Sets a location to a content of its own kind, which stays with the caller.
+    pub(super) fn set_to(&mut self, l: Location, c: &Content)
+        requires own { IsOwn l c.now }
+        requires room { HasRoomToSet (room_of self.old) l c.now }
+        ensures writes { Writes self.old self.new l (written c.now) }
+        ensures left { Takes (room_of self.old) (room_of self.new) (cells_set l) (keys_set c.now) 0 }
+    {
+        if let Some(cell) = Cell::of(c) {
             self.set_cell(l, cell);
             return;
         }
         match (l, c) {
-            (Location::Item(o, i), Content::Item(item)) => self.set_item(o, i, item),
-            (Location::Order(o), Content::Order(keys)) => self.insert_keys(o, keys.as_slice()),
+            (Location::Item(o, i), Content::Item(item)) => self.set_item(o, i, *item),
+            (Location::Order(o), Content::Order(keys)) => self.set_keys(o, keys.as_slice()),
             (Location::File(path), Content::File(_)) => self.empty_file(path),
             _ => {}
         }
@@ -212,6 +221,7 @@ impl Store {
 }
 
 mod opening;
+mod perform;
 mod reserve;
 mod room;
 mod writes;

@@ -31,14 +31,14 @@ impl Store {
         self.objects.get_mut(o).set_item(i, item);
     }
 
-    // Puts keys into an order, one after another.
-    pub(super) fn insert_keys(&mut self, o: u32, keys: &[Value])
+    // Makes these the keys of an order, one after another.
+    pub(super) fn set_keys(&mut self, o: u32, keys: &[Value])
         requires object { o < length self.old.objects }
         requires room { length keys.now ≤ (object_at self.old o).spare }
         ensures same { self.new ≡ record self.old { objects = slice_set self.old.objects o (object_at self.new o) } }
-        ensures keys { HasKeys (object_at self.old o) (object_at self.new o) (with_keys (object_at self.old o).keys keys.now) (length keys.now) }
+        ensures keys { HasKeys (object_at self.old o) (object_at self.new o) (with_keys [] keys.now) (length keys.now) }
     {
-        self.objects.get_mut(o).insert_keys(keys);
+        self.objects.get_mut(o).set_keys(keys);
     }
 
     // Puts a key into an order.
