@@ -1,4 +1,5 @@
 pub mod Beginning
+pub mod Growing
 pub mod Making
 pub mod Naming
 pub mod OverContents

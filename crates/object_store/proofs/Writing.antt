@@ -1,6 +1,9 @@
 -- What each single write leaves at every location.
-use Rattle.std.proofs.Common.{◌≡◌, ℕ, zero, suc, ◌<◌, ◌==◌, ◌&&◌, Bool, true, false, List, [], ◌∷◌, map, length, slice_get, slice_set, slice_index_or, Option, Some, unwrap_or, if◌then◌else◌, refl, ap, sym, ◌∙◌, arith, rules}
+use Rattle.std.proofs.Common.{◌≡◌, ℕ, zero, suc, ◌<◌, ◌==◌, ◌&&◌, Bool, true, false, List, [], ◌∷◌, map, length, slice_get, slice_set, slice_index_or, Option, Some, unwrap_or, if◌then◌else◌, cond, refl, ap, sym, subst, ◌∙◌, arith, rules}
+use Rattle.std.specs.Map.{lookup}
+use Rattle.std.specs.Prelude.{Result, Ok, Err, IsOk, OnOk, None as Nothing}
 use Rattle.std.specs.Option.{option_map, option_and_then}
+use Rattle.std.proofs.lemmas.Bool.{false≢true}
 use Rattle.std.proofs.lemmas.Option.{same_Some}
 use Rattle.std.proofs.lemmas.Grind.{common_steps}
 use Rattle.py_value.specs.declared.value.Value.{Value}
@@ -13,7 +16,7 @@ use Rattle.object_store.specs.declared.cell.Cell.{Cell}
 use Rattle.object_store.specs.declared.cell.Cell.TheVariants.{Var as VarCell, Len as LenCell, Entry as EntryCell, Offset as OffsetCell, Closed as ClosedCell, Method as MethodCell, Base as BaseCell}
 use Rattle.object_store.specs.Cell.{content_of, cell_of}
 use Rattle.object_store.specs.Object.{ObjectView, item_in, item_of, with_item, no_object, HasKeys}
-use Rattle.object_store.specs.Store.{StoreView, Writes, IsOwn, held_at, item_at, content_at, kinds, object_at, whole, keys, written}
+use Rattle.object_store.specs.Store.{StoreView, Writes, IsOwn, AreOwn, held_at, item_at, content_at, kinds, object_at, whole, keys, written}
 
 -- the keys of the object that stands for one that is not there are none
 pub keys_there : (xs : List ObjectView) (o : ℕ) → unwrap_or (option_map (λ (ob : ObjectView). ob.keys) (slice_get xs o)) [] ≡ (slice_index_or xs o no_object).keys
@@ -74,17 +77,131 @@ whole_if : (b : Bool) (content : Content) (other : Option Content) → option_ma
 whole_if true content other = refl
 whole_if false content other = refl
 
+-- what is kept of a content is the content
+pub content_back : (content : Content) (cell : Cell) → cell_of content ≡ Some cell → content_of cell ≡ content
+content_back (VarContent value) cell is = ap content_of (sym (same_Some (VarCell value) cell is))
+content_back (LenContent len) cell is = ap content_of (sym (same_Some (LenCell len) cell is))
+content_back (ItemContent item) cell is = cc
+content_back (EntryContent entry) cell is = ap content_of (sym (same_Some (EntryCell entry) cell is))
+content_back (OrderContent ks) cell is = cc
+content_back (FileContent text) cell is = cc
+content_back (OffsetContent offset) cell is = ap content_of (sym (same_Some (OffsetCell offset) cell is))
+content_back (ClosedContent is_closed) cell is = ap content_of (sym (same_Some (ClosedCell is_closed) cell is))
+content_back (MethodContent place) cell is = ap content_of (sym (same_Some (MethodCell place) cell is))
+content_back (BaseContent base) cell is = ap content_of (sym (same_Some (BaseCell base) cell is))
+
+kept_whole : (content : Content) (cell : Cell) → cell_of content ≡ Some cell → whole content ≡ written content
+kept_whole (ItemContent item) cell is = cc
+kept_whole (OrderContent ks) cell is = cc
+kept_whole (FileContent text) cell is = cc
+kept_whole content cell is = refl
+
 whole_is : (content : Content) (cell : Cell) → cell_of content ≡ Some cell → whole (content_of cell) ≡ written content
-whole_is (VarContent value) cell is = ap (λ (kept : Cell). whole (content_of kept)) (sym (same_Some (VarCell value) cell is))
-whole_is (LenContent len) cell is = ap (λ (kept : Cell). whole (content_of kept)) (sym (same_Some (LenCell len) cell is))
-whole_is (ItemContent item) cell is = cc
-whole_is (EntryContent entry) cell is = ap (λ (kept : Cell). whole (content_of kept)) (sym (same_Some (EntryCell entry) cell is))
-whole_is (OrderContent ks) cell is = cc
-whole_is (FileContent text) cell is = cc
-whole_is (OffsetContent offset) cell is = ap (λ (kept : Cell). whole (content_of kept)) (sym (same_Some (OffsetCell offset) cell is))
-whole_is (ClosedContent is_closed) cell is = ap (λ (kept : Cell). whole (content_of kept)) (sym (same_Some (ClosedCell is_closed) cell is))
-whole_is (MethodContent place) cell is = ap (λ (kept : Cell). whole (content_of kept)) (sym (same_Some (MethodCell place) cell is))
-whole_is (BaseContent base) cell is = ap (λ (kept : Cell). whole (content_of kept)) (sym (same_Some (BaseCell base) cell is))
+whole_is content cell is = ap whole (content_back content cell is) ∙ kept_whole content cell is
+
+-- a content of its location's own kind is kept as one
+pub own_cell : (l : Location) (content : Content) (cell : Cell) → IsOwn l content → cell_of content ≡ Some cell → IsOwn l (content_of cell)
+own_cell l content cell own is = subst (IsOwn l) (sym (content_back content cell is)) own
+
+-- two locations that are equal have contents of the same kind
+abbrev place_kind : Location → ℕ
+place_kind (Var scope name) = 0
+place_kind (Len o) = 1
+place_kind (Item o i) = 2
+place_kind (Entry o key) = 3
+place_kind (Order o) = 4
+place_kind (File path) = 5
+place_kind (Offset o) = 6
+place_kind (Closed o) = 7
+place_kind (Method class name) = 8
+place_kind (Base class) = 9
+
+abbrev content_kind : Content → ℕ
+content_kind (VarContent value) = 0
+content_kind (LenContent len) = 1
+content_kind (ItemContent item) = 2
+content_kind (EntryContent entry) = 3
+content_kind (OrderContent ks) = 4
+content_kind (FileContent text) = 5
+content_kind (OffsetContent offset) = 6
+content_kind (ClosedContent is_closed) = 7
+content_kind (MethodContent place) = 8
+content_kind (BaseContent base) = 9
+
+own_kind : (l : Location) (content : Content) → IsOwn l content → place_kind l ≡ content_kind content
+own_kind (Var scope name) (VarContent value) own = refl
+own_kind (Len o) (LenContent len) own = refl
+own_kind (Item o i) (ItemContent item) own = refl
+own_kind (Entry o key) (EntryContent entry) own = refl
+own_kind (Order o) (OrderContent ks) own = refl
+own_kind (File path) (FileContent text) own = refl
+own_kind (Offset o) (OffsetContent offset) own = refl
+own_kind (Closed o) (ClosedContent is_closed) own = refl
+own_kind (Method class name) (MethodContent place) own = refl
+own_kind (Base class) (BaseContent base) own = refl
+own_kind l content own = absurd own
+
+kind_own : (l : Location) (content : Content) → place_kind l ≡ content_kind content → IsOwn l content
+kind_own (Var scope name) (VarContent value) is = tt
+kind_own (Len o) (LenContent len) is = tt
+kind_own (Item o i) (ItemContent item) is = tt
+kind_own (Entry o key) (EntryContent entry) is = tt
+kind_own (Order o) (OrderContent ks) is = tt
+kind_own (File path) (FileContent text) is = tt
+kind_own (Offset o) (OffsetContent offset) is = tt
+kind_own (Closed o) (ClosedContent is_closed) is = tt
+kind_own (Method class name) (MethodContent place) is = tt
+kind_own (Base class) (BaseContent base) is = tt
+kind_own l content is = absurd (omega (arith, is))
+
+kind_same : (l m : Location) → locations.eq l m ≡ true → place_kind l ≡ place_kind m
+kind_same (Var scope name) (Var other_scope other) same = refl
+kind_same (Len o) (Len p) same = refl
+kind_same (Item o i) (Item p j) same = refl
+kind_same (Entry o key) (Entry p other) same = refl
+kind_same (Order o) (Order p) same = refl
+kind_same (File path) (File other) same = refl
+kind_same (Offset o) (Offset p) same = refl
+kind_same (Closed o) (Closed p) same = refl
+kind_same (Method class name) (Method other_class other) same = refl
+kind_same (Base class) (Base other) same = refl
+kind_same l m same = absurd (false≢true same)
+
+own_same : (l m : Location) (content : Content) → locations.eq l m ≡ true → IsOwn l content → IsOwn m content
+own_same l m content same own = kind_own m content (sym (kind_same l m same) ∙ own_kind l content own)
+
+-- a cell that is put is of its location's own kind, and so are those that stay
+pub own_put : (l : Location) (cell : Cell) (old new : List (Location × Cell)) → IsOwn l (content_of cell) → AreOwn old
+    → ((m : Location) → lookup (locations.eq m) new ≡ (if locations.eq l m then Some cell else lookup (locations.eq m) old)) → AreOwn new
+own_put l cell old new own all put m kept at = by (locations.eq l m) refl (sym (put m) ∙ at)
+  where
+    by : (b : Bool) → locations.eq l m ≡ b → (if b then Some cell else lookup (locations.eq m) old) ≡ Some kept → IsOwn m (content_of kept)
+    by true same found = subst (λ (x : Cell). IsOwn m (content_of x)) (same_Some cell kept found) (own_same l m (content_of cell) same own)
+    by false same found = all m kept found
+
+own_back : (l m : Location) (content : Content) → locations.eq l m ≡ true → IsOwn m content → IsOwn l content
+own_back l m content same own = kind_own l content (kind_same l m same ∙ own_kind m content own)
+
+pub own_none : AreOwn []
+own_none l kept at = absurd (None≢Some at)
+  where
+    None≢Some : {x : Cell} → Nothing ≡ Some x → ⊥
+    None≢Some is = cc
+
+pub own_first : (key : Location) (cell : Cell) (cells : List (Location × Cell)) → IsOwn key (content_of cell) → AreOwn cells → AreOwn ((key, cell) ∷ cells)
+own_first key cell cells own all l kept at = by (locations.eq l key) refl at
+  where
+    by : (b : Bool) → locations.eq l key ≡ b → cond b (Some cell) (lookup (locations.eq l) cells) ≡ Some kept → IsOwn l (content_of kept)
+    by true same found = subst (λ (x : Cell). IsOwn l (content_of x)) (same_Some cell kept found) (own_back l key (content_of cell) same own)
+    by false same found = all l kept found
+
+pub cell_if : (b : Bool) (cell : Cell) (other : Option Cell) → option_map content_of (if b then Some cell else other) ≡ (if b then Some (content_of cell) else option_map content_of other)
+cell_if true cell other = refl
+cell_if false cell other = refl
+
+pub where_ok : {A E P : Type 0} (result : Result A E) → IsOk result → OnOk result P → P
+where_ok (Ok x) is holds = holds
+where_ok (Err e) is holds = absurd (false≢true is)
 
 item_if : (b : Bool) (item : Value) (other : Option Value) → option_map (λ (found : Value). whole (ItemContent found)) (if b then Some item else other)
     ≡ (if b then Some (whole (ItemContent item)) else option_map (λ (found : Value). whole (ItemContent found)) other)

@@ -126,6 +126,10 @@ IsOwn (Method class name) (MethodContent place) = ⊤
 IsOwn (Base class) (BaseContent base) = ⊤
 IsOwn l content = ⊥
 
+-- each cell is of its location's own kind
+abbrev pub AreOwn : List (Location × Cell) → Type 0
+AreOwn cells = (l : Location) (cell : Cell) → lookup (locations.eq l) cells ≡ Some cell → IsOwn l (content_of cell)
+
 abbrev pub IsOwnChange : Location → Change → Type 0
 IsOwnChange (Order o) (Insert key) = ⊤
 IsOwnChange (Order o) (Delete key) = ⊤

@@ -1,16 +1,19 @@
 // What a store is without numbers for texts and tuples: the map that the meaning of a script speaks of.
-ghost use Rattle.std.specs.Prelude.{◌≡◌, List, Some, map};
+ghost use Rattle.std.specs.Prelude.{◌≡◌, ◌<◌, ℕ, List, Option, Some, length, map};
+ghost use Rattle.prov_base.specs.declared.place.Pos.{Pos};
 ghost use Rattle.std.specs.Option.{option_map};
 ghost use Rattle.py_value.specs.Changes.{after_accesses};
-ghost use Rattle.py_value.specs.Named.{IsNamedAccess, AreNamedAccesses};
+ghost use Rattle.py_value.specs.Named.{IsNamedAccess, IsNamedKind, AreNamedAccesses};
 ghost use Rattle.py_value.specs.Seen.{IsNamedLocation, location_seen, access_seen};
 ghost use Rattle.py_value.specs.Values.{ValuesView, AreInterned, Keeps as KeepsNumbers};
 ghost use Rattle.py_value.specs.declared.access.Access.{Access as OneAccess};
+ghost use Rattle.py_value.specs.declared.access.Kind.{Kind as OneKind};
 ghost use Rattle.py_value.specs.declared.access.Location.{Location as OneLocation};
-ghost use Rattle.object_store.specs.Named.{IsNamedStore};
-ghost use Rattle.object_store.specs.Performing.{DoesAll, SuitInTurn};
+ghost use Rattle.object_store.specs.Named.{IsNamedStore, IsNamedHeld};
+ghost use Rattle.object_store.specs.Opening.{IsOpening};
+ghost use Rattle.object_store.specs.Performing.{Does, DoesAll, SuitInTurn, kinds_with};
 ghost use Rattle.object_store.specs.Seen.{held_seen, seen_at, store_seen};
-ghost use Rattle.object_store.specs.Store.{StoreView, Held, Writes, held_at};
+ghost use Rattle.object_store.specs.Store.{StoreView, Held, Notes, Writes, held_at, kinds};
 
 use py_value::{
     equality_is_same, same_contents_same_value, same_place_same_location, tests_are_equality,
@@ -43,4 +46,24 @@ pub fn plan_over_contents()
     tests_are_equality();
     same_contents_same_value();
     same_place_same_location();
+}
+
+/// The law that a store that is named stays so: as an access is done, as an object is made, as a name is noted, and as texts and tuples
+/// come. It is so as a run begins.
+pub fn named_stays()
+    ensures done { (values table : ValuesView) (access : OneAccess) (old new : StoreView) → IsNamedAccess table access → IsNamedStore table old
+        → Does values access old new → IsNamedStore table new }
+    ensures written { (table : ValuesView) (old new : StoreView) (l : OneLocation) (w : Held) → IsNamedStore table old → IsNamedLocation table l → IsNamedHeld table w
+        → Writes old new l w → IsNamedStore table new }
+    ensures made { (table : ValuesView) (old new : StoreView) (made : Option OneKind) → IsNamedStore table old → IsNamedKind table made
+        → ((l : OneLocation) → held_at new l ≡ held_at old l) → kinds new ≡ kinds_with made (kinds old) → new.names ≡ old.names → IsNamedStore table new }
+    ensures noted { (table : ValuesView) (old new : StoreView) (place : Pos) (name : ℕ) → IsNamedStore table old → name < length table.texts
+        → new ≡ record old { names = new.names } → Notes old new place name → IsNamedStore table new }
+    ensures grown { (values table : ValuesView) (store : StoreView) → KeepsNumbers values.texts table.texts → KeepsNumbers values.tuples table.tuples
+        → IsNamedStore values store → IsNamedStore table store }
+    ensures plans { (values table : ValuesView) (plan : List OneAccess) → KeepsNumbers values.texts table.texts → KeepsNumbers values.tuples table.tuples
+        → AreNamedAccesses values plan → AreNamedAccesses table plan }
+    ensures opening { (values : ValuesView) (words : List (List ℕ)) (store : StoreView) → IsOpening values words store → IsNamedStore values store }
+{
+    equality_is_same();
 }

@@ -24,5 +24,5 @@ mod need;
 mod object;
 mod store;
 
-pub use laws::{plan_over_contents, store_over_contents};
+pub use laws::{named_stays, plan_over_contents, store_over_contents};
 pub use store::Store;

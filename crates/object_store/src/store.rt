@@ -1,5 +1,5 @@
 // The store. It stands on a pool of objects, and on maps for what is no part of an object.
-ghost use Rattle.std.specs.Prelude.{◌≡◌, ◌<◌, ◌+◌, ◌≤◌, [], ◌∷◌, ◌++◌, List, Option, length, slice_get, slice_set, if◌then◌else◌, Some, None, OnOk, OnErr, option_map};
+ghost use Rattle.std.specs.Prelude.{◌≡◌, ◌<◌, ◌+◌, ◌≤◌, [], ◌∷◌, ◌++◌, List, Option, length, slice_get, slice_set, if◌then◌else◌, Some, None, OnOk, OnErr, IfSome, option_map};
 ghost use Rattle.object_store.specs.Store.{held_at, content_at, item_at, keys_at, kinds, name_at, file_at, whole, bytes as held_bytes, room_of, written, changed, IsOwn, IsOwnChange, IsReadWhole, IsReservedFor, Writes, Notes, Makes};
 ghost use Rattle.std.specs.Option.{option_copied};
 ghost use Rattle.py_value.specs.Values.{ValuesView};
@@ -35,13 +35,13 @@ pub struct Store {
 
 impl Model for Store {
     ghost use Rattle.indexmap.specs.IndexMap.{spare};
-    ghost use Rattle.object_store.specs.Store.{StoreView, IsEmpty};
+    ghost use Rattle.object_store.specs.Store.{StoreView, IsEmpty, AreOwn};
 
     ghost Value = { StoreView };
 
     ghost view = { λ s. record { objects = s.objects.items; cells = s.cells.entries; files = s.files.entries; names = s.names.entries; next_object = s.next_object; spare_objects = s.objects.spare; spare_cells = spare s.cells } };
 
-    ghost invariant = { λ s. IsEmpty s.next_object };
+    ghost invariant = { λ s. IsEmpty s.next_object × AreOwn s.cells.entries };
 }
 
 impl Store {
@@ -63,7 +63,8 @@ impl Store {
     /// What stands at a location, where something was set. An order and a file are read by calls of their own.
     pub fn read(&self, l: Location) -> Option<Content>
         requires { IsReadWhole l }
-        ensures { option_map whole result ≡ held_at self.now l }
+        ensures held { option_map whole result ≡ held_at self.now l }
+        ensures own { IfSome result (λ content. IsOwn l content) }
     {
         match l {
             Location::Item(o, i) => match self.item(o, i) {
@@ -86,7 +87,8 @@ impl Store {
 
     // What was set at a location that is no item, order or file.
     fn content(&self, l: Location) -> Option<Content>
-        ensures { result ≡ content_at self.now l }
+        ensures content { result ≡ content_at self.now l }
+        ensures own { IfSome result (λ content. IsOwn l content) }
     {
         match self.cells.get(&l) {
             Some(cell) => Some(cell.content()),

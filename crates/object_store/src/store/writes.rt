@@ -4,7 +4,7 @@ ghost use Rattle.py_value.specs.declared.access.Location.{Location as OneLocatio
 ghost use Rattle.py_value.specs.contracts.access.LocationPartialEq.TheImpl.{ghosts as locations};
 ghost use Rattle.object_store.specs.Cell.{content_of};
 ghost use Rattle.object_store.specs.Object.{with_item, with_key, with_keys, without_key, HasKeys};
-ghost use Rattle.object_store.specs.Store.{content_at, object_at, file_at, room_of};
+ghost use Rattle.object_store.specs.Store.{content_at, object_at, file_at, room_of, IsOwn};
 ghost use Rattle.object_store.specs.Room.{slot_in, bytes_in};
 
 use super::Store;
@@ -14,7 +14,8 @@ use py_value::{Location, Value};
 impl Store {
     // Sets what is no item, order or file.
     pub(super) fn set_cell(&mut self, l: Location, cell: Cell)
-        requires { 0 < self.old.spare_cells }
+        requires own { IsOwn l (content_of cell) }
+        requires room { 0 < self.old.spare_cells }
         ensures cells { (m : OneLocation) → content_at self.new m ≡ (if locations.eq l m then Some (content_of cell) else content_at self.old m) }
         ensures same { self.new ≡ record self.old { cells = self.new.cells; spare_cells = self.new.spare_cells } }
         ensures spare { self.old.spare_cells ≤ self.new.spare_cells + 1 }

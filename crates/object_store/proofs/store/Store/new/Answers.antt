@@ -2,11 +2,24 @@ use Rattle.std.proofs.Common.{◌≡◌, ◌∷◌, [], map, length, ap, sym, su
 use Rattle.py_value.specs.declared.value.Value.TheVariants.{Text}
 use Rattle.py_value.specs.declared.access.Location.TheVariants.{Var, Len}
 use Rattle.object_store.specs.declared.cell.Cell.TheVariants.{Var as VarCell, Len as LenCell}
-use Rattle.object_store.specs.Object.{ObjectView}
+use Rattle.object_store.specs.Object.{ObjectView, item_in}
+use Rattle.object_store.specs.Store.{AreOwn}
+use Rattle.object_store.proofs.Writing.{own_none, own_first}
 use Rattle.object_store.specs.Opening.{AreWords}
 use Rattle.object_store.specs.contracts.store.Store.{the_view}
 use Rattle.object_store.proofs.Beginning.{gains_then, words_stay, opened}
 use Rattle.object_store.proofs.store.Store.new.Goals as goal
+
+pub invariant_of-result : goal.invariant_of-result
+invariant_of-result c = (
+  record {
+    items = λ i. ap (λ items. item_in items i) c.new-3.ensures.items;
+    keys_none = c.new-3.ensures.keys;
+  },
+  subst AreOwn (sym c.in_ok-opening_cells.ensures)
+      (own_first (Len 0) (LenCell c.len-len.result) ((Var 0 c.in_ok-name.name, VarCell (Some (Text c.in_ok-name.main))) ∷ []) tt
+      (own_first (Var 0 c.in_ok-name.name) (VarCell (Some (Text c.in_ok-name.main))) [] tt own_none)),
+)
 
 pub returns-clause-opening : goal.returns-clause-opening
 returns-clause-opening c =
