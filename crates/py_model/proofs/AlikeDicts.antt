@@ -8,14 +8,15 @@ use Rattle.py_model.proofs.Agreeing.{normal_renamed}
 use Rattle.py_model.proofs.AlikeLists.{paired_renamed}
 use Rattle.py_model.proofs.AlikeOperands.{AlikeFor, key_alike, dict_alike}
 use Rattle.py_model.proofs.AlikeWalks.{wrong_kind_alike, wrong_number_alike, new_list_alike, same_renamed}
-use Rattle.py_model.specs.Agreement.{AlikeWrites, both_write, both_change, both_done, Alike, both_read_entry, both_read_order, both_kind, both_writes, both_make, both_raise}
+use Rattle.py_model.proofs.AlikePlans.{Allowed, AlikeBy, both_read_entry, both_read_order, both_kind, both_writes, both_make, both_raise}
+use Rattle.py_model.specs.Agreement.{AlikeWrites, both_write, both_change, both_done}
 use Rattle.py_model.specs.Dicts.{with_pair, set_entries, new_dict, with_pairs, dict_display, dict_builtin, get_entry, set_entry, del_entry, value_or, get_method, read_entries, paired, items_method, keys_method, values_method}
 use Rattle.py_model.specs.Keys.{lacks_key}
 use Rattle.py_model.specs.Making.{new_list}
 use Rattle.py_model.specs.Plan.{Plan, Writes, write, change, done, writes, read_entry}
 use Rattle.py_model.specs.Renaming.{Renaming, renamed, renamed_list, renamed_entry}
 
-module _ (r : Renaming) where
+module _ (may : Allowed) (r : Renaming) where
   pub entry_renamed : (o : ℕ) (key : Contents) → entry_at (r.objects o) (normal (renamed r key)) ≡ entry_at (r.objects o) (renamed r (normal key))
   entry_renamed o key = ap (entry_at (r.objects o)) (normal_renamed r key)
 
@@ -49,58 +50,58 @@ module _ (r : Renaming) where
   set_entries_alike o [] rest more both = both
   set_entries_alike o (pair ∷ pairs) rest more both = both_write (entry_renamed o pair.0) refl (set_entries_alike o pairs rest more both)
 
-  new_dict_alike : (pairs : List (Contents × Contents)) → Alike r (new_dict pairs) (new_dict (renamed_pairs pairs))
+  new_dict_alike : (pairs : List (Contents × Contents)) → AlikeBy may r (new_dict pairs) (new_dict (renamed_pairs pairs))
   new_dict_alike pairs = both_make refl (λ o. both_write refl (ap order_is (keys_renamed pairs)) (set_entries_alike o pairs _ _ (both_done refl)))
 
-  with_pairs_alike : (items : List Contents) (pairs : List (Contents × Contents)) → Alike r (with_pairs items pairs) (with_pairs (renamed_list r items) (renamed_pairs pairs))
+  with_pairs_alike : (items : List Contents) (pairs : List (Contents × Contents)) → AlikeBy may r (with_pairs items pairs) (with_pairs (renamed_list r items) (renamed_pairs pairs))
   with_pairs_alike [] pairs = new_dict_alike pairs
-  with_pairs_alike (key ∷ []) pairs = wrong_number_alike r
+  with_pairs_alike (key ∷ []) pairs = wrong_number_alike may r
   with_pairs_alike (key ∷ (item ∷ rest)) pairs =
-      key_alike r key (λ k. with_pairs rest (with_pair k item pairs)) (λ k. with_pairs (renamed_list r rest) (with_pair k (renamed r item) (renamed_pairs pairs)))
-      (subst (λ all. Alike r (with_pairs rest (with_pair key item pairs)) (with_pairs (renamed_list r rest) all)) (sym (with_pair_renamed key item pairs))
+      key_alike may r key (λ k. with_pairs rest (with_pair k item pairs)) (λ k. with_pairs (renamed_list r rest) (with_pair k (renamed r item) (renamed_pairs pairs)))
+      (subst (λ all. AlikeBy may r (with_pairs rest (with_pair key item pairs)) (with_pairs (renamed_list r rest) all)) (sym (with_pair_renamed key item pairs))
       (with_pairs_alike rest (with_pair key item pairs)))
 
-  pub dict_display_alike : AlikeFor r dict_display
+  pub dict_display_alike : AlikeFor may r dict_display
   dict_display_alike items = with_pairs_alike items []
 
-  pub dict_builtin_alike : AlikeFor r dict_builtin
+  pub dict_builtin_alike : AlikeFor may r dict_builtin
   dict_builtin_alike [] = new_dict_alike []
-  dict_builtin_alike other = wrong_number_alike r
+  dict_builtin_alike other = wrong_number_alike may r
 
   -- entries by key
   abbrev got : Contents → Option (Contents × Contents) → Plan
   got k (Some pair) = writes (done pair.1)
   got k None = lacks_key k
 
-  got_alike : (k : Contents) (entry : Option (Contents × Contents)) → Alike r (got k entry) (got (renamed r k) (renamed_entry r entry))
+  got_alike : (k : Contents) (entry : Option (Contents × Contents)) → AlikeBy may r (got k entry) (got (renamed r k) (renamed_entry r entry))
   got_alike k (Some pair) = both_writes (both_done refl)
   got_alike k None = both_raise refl refl
 
-  pub get_entry_alike : (o : ℕ) (key : Contents) → Alike r (get_entry o key) (get_entry (r.objects o) (renamed r key))
-  get_entry_alike o key = key_alike r key (λ k. read_entry o k (got k)) (λ k. read_entry (r.objects o) k (got k)) (both_read_entry (got_alike key))
+  pub get_entry_alike : (o : ℕ) (key : Contents) → AlikeBy may r (get_entry o key) (get_entry (r.objects o) (renamed r key))
+  get_entry_alike o key = key_alike may r key (λ k. read_entry o k (got k)) (λ k. read_entry (r.objects o) k (got k)) (both_read_entry (got_alike key))
 
   abbrev put_at : ℕ → Contents → Contents → Option (Contents × Contents) → Plan
   put_at o item k (Some pair) = writes (write (entry_at o (normal k)) (entry_is (Some (pair.0, item))) (done nothing))
   put_at o item k None = writes (write (entry_at o (normal k)) (entry_is (Some (k, item))) (change (order_at o) (key_inserted k) (done nothing)))
 
-  put_at_alike : (o : ℕ) (item k : Contents) (entry : Option (Contents × Contents)) → Alike r (put_at o item k entry) (put_at (r.objects o) (renamed r item) (renamed r k) (renamed_entry r entry))
+  put_at_alike : (o : ℕ) (item k : Contents) (entry : Option (Contents × Contents)) → AlikeBy may r (put_at o item k entry) (put_at (r.objects o) (renamed r item) (renamed r k) (renamed_entry r entry))
   put_at_alike o item k (Some pair) = both_writes (both_write (entry_renamed o k) refl (both_done refl))
   put_at_alike o item k None = both_writes (both_write (entry_renamed o k) refl (both_change refl refl (both_done refl)))
 
-  pub set_entry_alike : (o : ℕ) (key item : Contents) → Alike r (set_entry o key item) (set_entry (r.objects o) (renamed r key) (renamed r item))
+  pub set_entry_alike : (o : ℕ) (key item : Contents) → AlikeBy may r (set_entry o key item) (set_entry (r.objects o) (renamed r key) (renamed r item))
   set_entry_alike o key item =
-      key_alike r key (λ k. read_entry o k (put_at o item k)) (λ k. read_entry (r.objects o) k (put_at (r.objects o) (renamed r item) k)) (both_read_entry (put_at_alike o item key))
+      key_alike may r key (λ k. read_entry o k (put_at o item k)) (λ k. read_entry (r.objects o) k (put_at (r.objects o) (renamed r item) k)) (both_read_entry (put_at_alike o item key))
 
   abbrev taken_at : ℕ → Contents → Option (Contents × Contents) → Plan
   taken_at o k (Some pair) = writes (write (entry_at o (normal k)) (entry_is None) (change (order_at o) (key_deleted pair.0) (done nothing)))
   taken_at o k None = lacks_key k
 
-  taken_at_alike : (o : ℕ) (k : Contents) (entry : Option (Contents × Contents)) → Alike r (taken_at o k entry) (taken_at (r.objects o) (renamed r k) (renamed_entry r entry))
+  taken_at_alike : (o : ℕ) (k : Contents) (entry : Option (Contents × Contents)) → AlikeBy may r (taken_at o k entry) (taken_at (r.objects o) (renamed r k) (renamed_entry r entry))
   taken_at_alike o k (Some pair) = both_writes (both_write (entry_renamed o k) refl (both_change refl refl (both_done refl)))
   taken_at_alike o k None = both_raise refl refl
 
-  pub del_entry_alike : (o : ℕ) (key : Contents) → Alike r (del_entry o key) (del_entry (r.objects o) (renamed r key))
-  del_entry_alike o key = key_alike r key (λ k. read_entry o k (taken_at o k)) (λ k. read_entry (r.objects o) k (taken_at (r.objects o) k)) (both_read_entry (taken_at_alike o key))
+  pub del_entry_alike : (o : ℕ) (key : Contents) → AlikeBy may r (del_entry o key) (del_entry (r.objects o) (renamed r key))
+  del_entry_alike o key = key_alike may r key (λ k. read_entry o k (taken_at o k)) (λ k. read_entry (r.objects o) k (taken_at (r.objects o) k)) (both_read_entry (taken_at_alike o key))
 
   -- methods
   abbrev value_else : Option (Contents × Contents) → Contents → Contents
@@ -110,36 +111,36 @@ module _ (r : Renaming) where
   value_renamed (Some pair) instead = refl
   value_renamed None instead = refl
 
-  value_or_alike : (o : ℕ) (key instead : Contents) → Alike r (value_or o key instead) (value_or (r.objects o) (renamed r key) (renamed r instead))
+  value_or_alike : (o : ℕ) (key instead : Contents) → AlikeBy may r (value_or o key instead) (value_or (r.objects o) (renamed r key) (renamed r instead))
   value_or_alike o key instead =
-      key_alike r key (λ k. read_entry o k (λ entry. writes (done (value_else entry instead)))) (λ k. read_entry (r.objects o) k (λ entry. writes (done (value_else entry (renamed r instead)))))
+      key_alike may r key (λ k. read_entry o k (λ entry. writes (done (value_else entry instead)))) (λ k. read_entry (r.objects o) k (λ entry. writes (done (value_else entry (renamed r instead)))))
       (both_read_entry (λ entry. both_writes (both_done (value_renamed entry instead))))
 
-  pub get_alike : AlikeFor r get_method
-  get_alike (object o ∷ (key ∷ [])) = both_kind (dict_alike r _ _ (value_or_alike o key nothing))
-  get_alike (object o ∷ (key ∷ (instead ∷ []))) = both_kind (dict_alike r _ _ (value_or_alike o key instead))
-  get_alike (object o ∷ other) = wrong_number_alike r
-  get_alike other = wrong_kind_alike r
+  pub get_alike : AlikeFor may r get_method
+  get_alike (object o ∷ (key ∷ [])) = both_kind (dict_alike may r _ _ (value_or_alike o key nothing))
+  get_alike (object o ∷ (key ∷ (instead ∷ []))) = both_kind (dict_alike may r _ _ (value_or_alike o key instead))
+  get_alike (object o ∷ other) = wrong_number_alike may r
+  get_alike other = wrong_kind_alike may r
 
-  read_entries_alike : (o : ℕ) (keys : List Contents) (go gone : List Contents → Plan) → ((items : List Contents) → Alike r (go items) (gone (renamed_list r items)))
-      → Alike r (read_entries o keys go) (read_entries (r.objects o) (renamed_list r keys) gone)
+  read_entries_alike : (o : ℕ) (keys : List Contents) (go gone : List Contents → Plan) → ((items : List Contents) → AlikeBy may r (go items) (gone (renamed_list r items)))
+      → AlikeBy may r (read_entries o keys go) (read_entries (r.objects o) (renamed_list r keys) gone)
   read_entries_alike o [] go gone each = each []
   read_entries_alike o (key ∷ keys) go gone each = both_read_entry (λ entry.
       read_entries_alike o keys (λ items. go (value_else entry nothing ∷ items)) (λ items. gone (value_else (renamed_entry r entry) nothing ∷ items))
-      (λ items. subst (λ v. Alike r (go (value_else entry nothing ∷ items)) (gone (v ∷ renamed_list r items))) (sym (value_renamed entry nothing)) (each (value_else entry nothing ∷ items))))
+      (λ items. subst (λ v. AlikeBy may r (go (value_else entry nothing ∷ items)) (gone (v ∷ renamed_list r items))) (sym (value_renamed entry nothing)) (each (value_else entry nothing ∷ items))))
 
-  pub items_alike : AlikeFor r items_method
-  items_alike (object o ∷ []) = both_kind (dict_alike r _ _ (both_read_order (λ keys. read_entries_alike o keys _ _ (λ items.
-      subst (λ all. Alike r (new_list (paired keys items)) (new_list all)) (sym (paired_renamed r keys items)) (new_list_alike r (paired keys items))))))
-  items_alike (object o ∷ other) = wrong_number_alike r
-  items_alike other = wrong_kind_alike r
+  pub items_alike : AlikeFor may r items_method
+  items_alike (object o ∷ []) = both_kind (dict_alike may r _ _ (both_read_order (λ keys. read_entries_alike o keys _ _ (λ items.
+      subst (λ all. AlikeBy may r (new_list (paired keys items)) (new_list all)) (sym (paired_renamed may r keys items)) (new_list_alike may r (paired keys items))))))
+  items_alike (object o ∷ other) = wrong_number_alike may r
+  items_alike other = wrong_kind_alike may r
 
-  pub keys_alike : AlikeFor r keys_method
-  keys_alike (object o ∷ []) = both_kind (dict_alike r _ _ (both_read_order (λ keys. new_list_alike r keys)))
-  keys_alike (object o ∷ other) = wrong_number_alike r
-  keys_alike other = wrong_kind_alike r
+  pub keys_alike : AlikeFor may r keys_method
+  keys_alike (object o ∷ []) = both_kind (dict_alike may r _ _ (both_read_order (λ keys. new_list_alike may r keys)))
+  keys_alike (object o ∷ other) = wrong_number_alike may r
+  keys_alike other = wrong_kind_alike may r
 
-  pub values_alike : AlikeFor r values_method
-  values_alike (object o ∷ []) = both_kind (dict_alike r _ _ (both_read_order (λ keys. read_entries_alike o keys new_list new_list (new_list_alike r))))
-  values_alike (object o ∷ other) = wrong_number_alike r
-  values_alike other = wrong_kind_alike r
+  pub values_alike : AlikeFor may r values_method
+  values_alike (object o ∷ []) = both_kind (dict_alike may r _ _ (both_read_order (λ keys. read_entries_alike o keys new_list new_list (new_list_alike may r))))
+  values_alike (object o ∷ other) = wrong_number_alike may r
+  values_alike other = wrong_kind_alike may r

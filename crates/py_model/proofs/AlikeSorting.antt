@@ -4,7 +4,8 @@ use Rattle.std.specs.Option.{option_or}
 use Rattle.py_value.specs.Contents.{Contents, Parts, nothing, truth, int, text, tuple, object, part}
 use Rattle.py_model.proofs.AlikeOperands.{AlikeFor, list_alike}
 use Rattle.py_model.proofs.AlikeWalks.{wrong_kind_alike, wrong_number_alike, too_deep_alike, items_renamed, length_renamed, walk_alike, set_items_alike, new_list_alike}
-use Rattle.py_model.specs.Agreement.{both_done, Alike, both_kind, both_writes}
+use Rattle.py_model.proofs.AlikePlans.{Allowed, AlikeBy, both_kind, both_writes}
+use Rattle.py_model.specs.Agreement.{both_done}
 use Rattle.py_model.specs.Faults.{wrong_kind}
 use Rattle.py_model.specs.Lists.{sort_method, sorted_builtin}
 use Rattle.py_model.specs.Making.{set_items, new_list}
@@ -13,7 +14,7 @@ use Rattle.py_model.specs.Renaming.{Renaming, renamed, renamed_parts, renamed_li
 use Rattle.py_model.specs.Sorting.{is_number, is_text, is_tuple, all_are, row_of, heads, tails, columns, first_refused, rows_refused, tuples_refused, refused_by, refused_to, ranked, ranked_parts, is_first, put_in, in_order, with_sorted}
 use Rattle.py_model.specs.Walks.{Comparison, alike, before, behind, apart, deepest}
 
-module _ (r : Renaming) where
+module _ (may : Allowed) (r : Renaming) where
   mutual
     ranked_renamed : (v w : Contents) → ranked (renamed r v) (renamed r w) ≡ ranked v w
     ranked_renamed (int i) (int j) = refl
@@ -133,7 +134,7 @@ module _ (r : Renaming) where
   -- what is refused touches nothing that is renamed
   abbrev Steady : Option Plan → Type 0
   Steady None = Unit {0}
-  Steady (Some p) = Alike r p p
+  Steady (Some p) = AlikeBy may r p p
 
   or_steady : (a b : Option Plan) → Steady a → Steady b → Steady (option_or a b)
   or_steady None b one other = other
@@ -150,20 +151,20 @@ module _ (r : Renaming) where
   rows_steady : (inside : List Contents → Option Plan) → ((items : List Contents) → Steady (inside items)) → (rows : List (List Contents)) → Steady (rows_refused inside rows)
   rows_steady inside each [] = tt
   rows_steady inside each (row ∷ rows) = if_steady (all_are (λ other. length other == length row) rows) (first_refused inside (columns (length row) (row ∷ rows))) (Some wrong_kind)
-      (first_steady inside each (columns (length row) (row ∷ rows))) (wrong_kind_alike r)
+      (first_steady inside each (columns (length row) (row ∷ rows))) (wrong_kind_alike may r)
 
   abbrev SteadyInside : Option (List Contents → Option Plan) → Type 0
   SteadyInside None = Unit {0}
   SteadyInside (Some inside) = (items : List Contents) → Steady (inside items)
 
   tuples_steady : (inside : Option (List Contents → Option Plan)) → SteadyInside inside → (items : List Contents) → Steady (tuples_refused inside items)
-  tuples_steady None each items = too_deep_alike r
+  tuples_steady None each items = too_deep_alike may r
   tuples_steady (Some inside) each items = rows_steady inside each (map row_of items)
 
   by_steady : (inside : Option (List Contents → Option Plan)) → SteadyInside inside → (items : List Contents) → Steady (refused_by inside items)
   by_steady inside each items =
       if_steady (all_are is_number items) None _ tt (if_steady (all_are is_text items) None _ tt
-      (if_steady (all_are is_tuple items) (tuples_refused inside items) (Some wrong_kind) (tuples_steady inside each items) (wrong_kind_alike r)))
+      (if_steady (all_are is_tuple items) (tuples_refused inside items) (Some wrong_kind) (tuples_steady inside each items) (wrong_kind_alike may r)))
 
   refused_steady : (levels : ℕ) (items : List Contents) → Steady (refused_to levels items)
   refused_steady zero items = by_steady None tt items
@@ -173,24 +174,24 @@ module _ (r : Renaming) where
   sorted_or go None = go
   sorted_or go (Some refused) = refused
 
-  sorted_or_alike : (p q : Plan) → Alike r p q → (refused : Option Plan) → Steady refused → Alike r (sorted_or p refused) (sorted_or q refused)
+  sorted_or_alike : (p q : Plan) → AlikeBy may r p q → (refused : Option Plan) → Steady refused → AlikeBy may r (sorted_or p refused) (sorted_or q refused)
   sorted_or_alike p q both None steady = both
   sorted_or_alike p q both (Some refused) steady = steady
 
-  pub with_sorted_alike : (items : List Contents) (go gone : List Contents → Plan) → ((all : List Contents) → Alike r (go all) (gone (renamed_list r all)))
-      → Alike r (with_sorted items go) (with_sorted (renamed_list r items) gone)
+  pub with_sorted_alike : (items : List Contents) (go gone : List Contents → Plan) → ((all : List Contents) → AlikeBy may r (go all) (gone (renamed_list r all)))
+      → AlikeBy may r (with_sorted items go) (with_sorted (renamed_list r items) gone)
   with_sorted_alike items go gone each =
-      subst (λ refused. Alike r (sorted_or (go (in_order items)) (refused_to deepest items)) (sorted_or (gone (in_order (renamed_list r items))) refused)) (sym (refused_stays deepest items))
-      (subst (λ all. Alike r (sorted_or (go (in_order items)) (refused_to deepest items)) (sorted_or (gone all) (refused_to deepest items))) (sym (in_order_renamed items))
+      subst (λ refused. AlikeBy may r (sorted_or (go (in_order items)) (refused_to deepest items)) (sorted_or (gone (in_order (renamed_list r items))) refused)) (sym (refused_stays deepest items))
+      (subst (λ all. AlikeBy may r (sorted_or (go (in_order items)) (refused_to deepest items)) (sorted_or (gone all) (refused_to deepest items))) (sym (in_order_renamed items))
       (sorted_or_alike (go (in_order items)) (gone (renamed_list r (in_order items))) (each (in_order items)) (refused_to deepest items) (refused_steady deepest items)))
 
-  pub sort_alike : AlikeFor r sort_method
-  sort_alike (object o ∷ []) = both_kind (list_alike r _ _ (walk_alike r (object o) _ _ (λ items.
+  pub sort_alike : AlikeFor may r sort_method
+  sort_alike (object o ∷ []) = both_kind (list_alike may r _ _ (walk_alike may r (object o) _ _ (λ items.
       with_sorted_alike items (λ all. writes (set_items o 0 all (done nothing))) (λ all. writes (set_items (r.objects o) 0 all (done nothing)))
       (λ all. both_writes (set_items_alike r o 0 all _ _ (both_done refl))))))
-  sort_alike (object o ∷ other) = wrong_number_alike r
-  sort_alike other = wrong_kind_alike r
+  sort_alike (object o ∷ other) = wrong_number_alike may r
+  sort_alike other = wrong_kind_alike may r
 
-  pub sorted_alike : AlikeFor r sorted_builtin
-  sorted_alike (sequence ∷ []) = walk_alike r sequence _ _ (λ items. with_sorted_alike items new_list new_list (new_list_alike r))
-  sorted_alike other = wrong_number_alike r
+  pub sorted_alike : AlikeFor may r sorted_builtin
+  sorted_alike (sequence ∷ []) = walk_alike may r sequence _ _ (λ items. with_sorted_alike items new_list new_list (new_list_alike may r))
+  sorted_alike other = wrong_number_alike may r

@@ -4,7 +4,8 @@ use Rattle.std.proofs.lemmas.Bool.{false≢true}
 use Rattle.py_value.specs.Contents.{Contents, Parts, nothing, truth, int, text, tuple, range, function, class, exception_class, builtin, object, no_parts, part}
 use Rattle.py_value.specs.Same.{same_value, same_parts}
 use Rattle.py_value.specs.Seen.{SeenKind, a_list, a_dict, an_instance, a_file, len_is}
-use Rattle.py_model.specs.Agreement.{AlikeWrites, both_write, both_done, Alike, both_read_len, both_read_item, both_read_order, both_kind, both_look, both_count, both_writes, both_make, both_raise}
+use Rattle.py_model.proofs.AlikePlans.{Allowed, AlikeBy, both_read_len, both_read_item, both_read_order, both_kind, both_look, both_count, both_writes, both_make, both_raise}
+use Rattle.py_model.specs.Agreement.{AlikeWrites, both_write, both_done}
 use Rattle.py_model.specs.Faults.{fault, wrong_kind, wrong_number, not_there, too_deep}
 use Rattle.py_model.specs.Making.{set_items, new_list}
 use Rattle.py_model.specs.Numbers.{range_count}
@@ -35,43 +36,49 @@ module _ (r : Renaming) where
   texts_stay [] = refl
   texts_stay (bytes ∷ texts) = ap (λ (items : List Contents). text bytes ∷ items) (texts_stay texts)
 
+  pub set_items_alike : (o i : ℕ) (items : List Contents) (rest more : Writes) → AlikeWrites r rest more
+      → AlikeWrites r (set_items o i items rest) (set_items (r.objects o) i (renamed_list r items) more)
+  set_items_alike o i [] rest more both = both
+  set_items_alike o i (item ∷ items) rest more both = both_write refl refl (set_items_alike o (suc i) items rest more both)
+
+module _ (may : Allowed) (r : Renaming) where
   -- the same exceptions, and what is answered
-  pub fault_alike : (number : ℕ) (words : List ℕ) → Alike r (fault number words) (fault number words)
+  pub fault_alike : (number : ℕ) (words : List ℕ) → AlikeBy may r (fault number words) (fault number words)
   fault_alike number words = both_raise refl refl
 
-  pub wrong_kind_alike : Alike r wrong_kind wrong_kind
+  pub wrong_kind_alike : AlikeBy may r wrong_kind wrong_kind
   wrong_kind_alike = both_raise refl refl
 
-  pub wrong_number_alike : Alike r wrong_number wrong_number
+  pub wrong_number_alike : AlikeBy may r wrong_number wrong_number
   wrong_number_alike = both_raise refl refl
 
-  pub not_there_alike : Alike r not_there not_there
+  pub not_there_alike : AlikeBy may r not_there not_there
   not_there_alike = both_raise refl refl
 
-  pub too_deep_alike : Alike r too_deep too_deep
+  pub too_deep_alike : AlikeBy may r too_deep too_deep
   too_deep_alike = both_raise refl refl
 
-  pub gives_alike : (v w : Contents) → w ≡ renamed r v → Alike r (gives v) (gives w)
+  pub gives_alike : (v w : Contents) → w ≡ renamed r v → AlikeBy may r (gives v) (gives w)
   gives_alike v w is = both_writes (both_done is)
 
   -- items of a list
-  pub read_value_alike : (o i : ℕ) (go gone : Contents → Plan) → ((v : Contents) → Alike r (go v) (gone (renamed r v)))
-      → Alike r (read_value o i go) (read_value (r.objects o) i gone)
+  pub read_value_alike : (o i : ℕ) (go gone : Contents → Plan) → ((v : Contents) → AlikeBy may r (go v) (gone (renamed r v)))
+      → AlikeBy may r (read_value o i go) (read_value (r.objects o) i gone)
   read_value_alike o i go gone each = both_read_item by_option
     where
-      by_option : (v : Option Contents) → Alike r (go (unwrap_or v nothing)) (gone (unwrap_or (renamed_option r v) nothing))
+      by_option : (v : Option Contents) → AlikeBy may r (go (unwrap_or v nothing)) (gone (unwrap_or (renamed_option r v) nothing))
       by_option None = each nothing
       by_option (Some v) = each v
 
-  pub read_items_alike : (n o i : ℕ) (go gone : List Contents → Plan) → ((items : List Contents) → Alike r (go items) (gone (renamed_list r items)))
-      → Alike r (read_items n o i go) (read_items n (r.objects o) i gone)
+  pub read_items_alike : (n o i : ℕ) (go gone : List Contents → Plan) → ((items : List Contents) → AlikeBy may r (go items) (gone (renamed_list r items)))
+      → AlikeBy may r (read_items n o i go) (read_items n (r.objects o) i gone)
   read_items_alike zero o i go gone each = each []
   read_items_alike (suc n) o i go gone each =
       read_value_alike o i (λ item. read_items n o (suc i) (λ items. go (item ∷ items))) (λ item. read_items n (r.objects o) (suc i) (λ items. gone (item ∷ items)))
       (λ item. read_items_alike n o (suc i) (λ items. go (item ∷ items)) (λ items. gone (renamed r item ∷ items)) (λ items. each (item ∷ items)))
 
-  pub walk_object_alike : (o : ℕ) (go gone : List Contents → Plan) → ((items : List Contents) → Alike r (go items) (gone (renamed_list r items)))
-      → (kind : Option SeenKind) → Alike r (walk_object o go kind) (walk_object (r.objects o) gone (option_map (renamed_kind r) kind))
+  pub walk_object_alike : (o : ℕ) (go gone : List Contents → Plan) → ((items : List Contents) → AlikeBy may r (go items) (gone (renamed_list r items)))
+      → (kind : Option SeenKind) → AlikeBy may r (walk_object o go kind) (walk_object (r.objects o) gone (option_map (renamed_kind r) kind))
   walk_object_alike o go gone each (Some a_list) = both_read_len (λ n. read_items_alike n o 0 go gone each)
   walk_object_alike o go gone each (Some a_dict) = both_read_order each
   walk_object_alike o go gone each (Some (a_file path mode)) = not_there_alike
@@ -79,24 +86,24 @@ module _ (r : Renaming) where
   walk_object_alike o go gone each None = wrong_kind_alike
 
   -- the walk of a sequence
-  pub walk_alike : (v : Contents) (go gone : List Contents → Plan) → ((items : List Contents) → Alike r (go items) (gone (renamed_list r items)))
-      → Alike r (walk v go) (walk (renamed r v) gone)
-  walk_alike (tuple parts) go gone each = both_look (size_renamed parts) (subst (λ items. Alike r (go (items_of parts)) (gone items)) (sym (items_renamed parts)) (each (items_of parts)))
+  pub walk_alike : (v : Contents) (go gone : List Contents → Plan) → ((items : List Contents) → AlikeBy may r (go items) (gone (renamed_list r items)))
+      → AlikeBy may r (walk v go) (walk (renamed r v) gone)
+  walk_alike (tuple parts) go gone each = both_look (size_renamed r parts) (subst (λ items. AlikeBy may r (go (items_of parts)) (gone items)) (sym (items_renamed r parts)) (each (items_of parts)))
   walk_alike (range start end step) go gone each =
       let n = range_count start end step in
-      both_look refl (subst (λ items. Alike r (go (numbers_from n start step)) (gone items)) (numbers_stay n start step) (each (numbers_from n start step)))
+      both_look refl (subst (λ items. AlikeBy may r (go (numbers_from n start step)) (gone items)) (numbers_stay r n start step) (each (numbers_from n start step)))
   walk_alike (text bytes) go gone each =
-      both_count refl (subst (λ items. Alike r (go (map text (characters bytes))) (gone items)) (texts_stay (characters bytes)) (each (map text (characters bytes))))
+      both_count refl (subst (λ items. AlikeBy may r (go (map text (characters bytes))) (gone items)) (texts_stay r (characters bytes)) (each (map text (characters bytes))))
   walk_alike (object o) go gone each = both_kind (walk_object_alike o go gone each)
   walk_alike other go gone each = wrong_kind_alike
 
-  pub when_walked_alike : (p q : Plan) → Alike r p q → (kind : Option SeenKind) → Alike r (when_walked p kind) (when_walked q (option_map (renamed_kind r) kind))
+  pub when_walked_alike : (p q : Plan) → AlikeBy may r p q → (kind : Option SeenKind) → AlikeBy may r (when_walked p kind) (when_walked q (option_map (renamed_kind r) kind))
   when_walked_alike p q both (Some a_list) = both
   when_walked_alike p q both (Some a_dict) = both
   when_walked_alike p q both (Some (a_file path mode)) = not_there_alike
   when_walked_alike p q both other = wrong_kind_alike
 
-  pub if_walked_alike : (v : Contents) (p q : Plan) → Alike r p q → Alike r (if_walked v p) (if_walked (renamed r v) q)
+  pub if_walked_alike : (v : Contents) (p q : Plan) → AlikeBy may r p q → AlikeBy may r (if_walked v p) (if_walked (renamed r v) q)
   if_walked_alike (tuple parts) p q both = both
   if_walked_alike (range start end step) p q both = both
   if_walked_alike (text bytes) p q both = both
@@ -104,13 +111,8 @@ module _ (r : Renaming) where
   if_walked_alike other p q both = wrong_kind_alike
 
   -- a list that is made
-  pub set_items_alike : (o i : ℕ) (items : List Contents) (rest more : Writes) → AlikeWrites r rest more
-      → AlikeWrites r (set_items o i items rest) (set_items (r.objects o) i (renamed_list r items) more)
-  set_items_alike o i [] rest more both = both
-  set_items_alike o i (item ∷ items) rest more both = both_write refl refl (set_items_alike o (suc i) items rest more both)
-
-  pub new_list_alike : (items : List Contents) → Alike r (new_list items) (new_list (renamed_list r items))
-  new_list_alike items = both_make refl (λ o. both_write refl (ap len_is (length_renamed items)) (set_items_alike o 0 items _ _ (both_done refl)))
+  pub new_list_alike : (items : List Contents) → AlikeBy may r (new_list items) (new_list (renamed_list r items))
+  new_list_alike items = both_make refl (λ o. both_write refl (ap len_is (length_renamed r items)) (set_items_alike r o 0 items _ _ (both_done refl)))
 
 -- tests of equality of renamed values
 module _ (r : Renaming) where

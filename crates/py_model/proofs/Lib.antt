@@ -12,6 +12,7 @@ pub mod AlikeItems
 pub mod AlikeLists
 pub mod AlikeNames
 pub mod AlikeOperands
+pub mod AlikePlans
 pub mod AlikePrinting
 pub mod AlikeSorting
 pub mod AlikeTexts
@@ -25,6 +26,7 @@ pub mod Levels
 pub mod Askings
 pub mod Budgets
 pub mod Payments
+pub mod Quiets
 pub mod RenamedEffects
 pub mod WorkedArithmetic
 pub mod WorkedClasses

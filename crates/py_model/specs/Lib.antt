@@ -27,6 +27,7 @@ pub mod Operations
 pub mod Places
 pub mod Plan
 pub mod Printing
+pub mod Quiet
 pub mod Raising
 pub mod Renaming
 pub mod Running

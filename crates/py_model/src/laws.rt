@@ -1,11 +1,12 @@
 // Laws of plans and their effects, each a function without a body that says it.
-ghost use Rattle.std.specs.Prelude.{◌≡◌, ◌⊎◌, ℕ, ◌+◌, List, [], map, length, Some};
+ghost use Rattle.std.specs.Prelude.{◌≡◌, ◌⊎◌, ℕ, ◌+◌, false, List, [], map, length, Some};
 ghost use Rattle.py_value.specs.Contents.{Contents};
-ghost use Rattle.py_model.specs.Effect.{Answers, Effect, effect, answered, accesses_in, after, after_accesses, weight, cost, IsThrown, IsUntouched};
+ghost use Rattle.py_model.specs.Effect.{Answers, Effect, effect, answered, unanswered, accesses_in, after, after_accesses, weight, cost, IsThrown, IsUntouched};
 ghost use Rattle.py_model.specs.Agreement.{Alike, Agrees};
 ghost use Rattle.py_model.specs.AlikeOperations.{renamed_op};
 ghost use Rattle.py_model.specs.Operations.{Op, plan};
 ghost use Rattle.py_model.specs.Plan.{Plan, Answer, raised};
+ghost use Rattle.py_model.specs.Quiet.{may_ask, IsQuiet};
 ghost use Rattle.py_model.specs.Renaming.{Renaming, renamed_list, renamed_effect};
 ghost use Rattle.py_model.specs.Store.{RunStore};
 ghost use Rattle.std.specs.Prelude.{◌<◌};
@@ -19,7 +20,7 @@ ghost use Rattle.py_model.specs.Moment.{Moment};
 ghost use Rattle.py_model.specs.Occurrences.{frames_after, open_of};
 ghost use Rattle.py_model.specs.History.{open_after, IsAgreed, IsKept, KeptUnlessLacking, Nests, GoesOn, richer};
 ghost use Rattle.py_model.specs.Meaning.{level, meaning, starting, run};
-ghost use Rattle.py_model.specs.Running.{State, outcome, state_in, operation, effect_of, did, too_dear, spent, IsPaid};
+ghost use Rattle.py_model.specs.Running.{State, outcome, state_in, operation, note, effect_of, did, too_dear, spent, IsPaid};
 ghost use Rattle.prov_base.specs.declared.place.Pos.{Pos};
 ghost use Rattle.py_model.specs.Spans.{moved};
 ghost use Rattle.py_model.specs.Statements.{task};
@@ -86,6 +87,16 @@ pub fn unpaid_ends_the_run()
     ensures statements { (capture : Capture) (number : ℕ) (rest : Act) (s : State) → s.left < 1 → outcome capture (begin number rest) s ≡ spent s }
     ensures entries { (capture : Capture) (at def : Pos) (names : List (List ℕ)) (values : List Contents) (next : ℕ → Act) (s : State)
         → s.left < 1 + length values → outcome capture (enter at def names values next) s ≡ spent s }
+{}
+
+/// The law of asking: only `open`, `input`, `time_ns`, `randint` and `randrange` ask a device or fetch a file. A plan that asks nothing has
+/// its answer, it is the same whatever the devices give, and nothing is noted of it.
+pub fn few_operations_ask()
+    ensures quiet { (op : Op) (values : List Contents) → may_ask op.no ≡ false → IsQuiet (plan op values) }
+    ensures answered { (store : RunStore) (answers : Answers) (p : Plan) → IsQuiet p → (effect store answers p).outcome ≡ unanswered → ⊥ }
+    ensures same { (store : RunStore) (answers others : Answers) (p : Plan) → IsQuiet p → effect store others p ≡ effect store answers p }
+    ensures unnoted { (store : RunStore) (answers : Answers) (p : Plan) (at : Pos) (k : ℕ) (s : State) → IsQuiet p
+        → note at k (effect store answers p).touches s ≡ s }
 {}
 
 /// The law of payment: an operation happens only where it answers, and where its cost is left. So one for which no budget pays never

@@ -8,6 +8,6 @@ use Rattle.py_model.proofs.laws.operations_agree.Goals as goal
 
 pub returns : goal.returns
 returns c = λ r store other answers others op values agrees.
-    let same = alike_agree r store other answers others _ _ (every_alike r op values) agrees in
+    let same = alike_agree r store other answers others _ _ (every_alike r op values).same agrees in
     let weighs = weighs_same r (effect store answers (plan op values)) in
     (same, ap weight same ∙ weighs.0, ap cost same ∙ weighs.1)
