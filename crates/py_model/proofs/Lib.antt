@@ -22,6 +22,7 @@ pub mod Effects
 pub mod Frames
 pub mod Goings
 pub mod Histories
+pub mod Joins
 pub mod Levels
 pub mod Askings
 pub mod Budgets

@@ -38,4 +38,5 @@ pub mod Store
 pub mod TextMethods
 pub mod Texts
 pub mod Told
+pub mod Touches
 pub mod Walks

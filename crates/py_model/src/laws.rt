@@ -1,7 +1,7 @@
 // Laws of plans and their effects, each a function without a body that says it.
-ghost use Rattle.std.specs.Prelude.{◌≡◌, ◌⊎◌, ℕ, ◌+◌, false, List, [], map, length, Some};
+ghost use Rattle.std.specs.Prelude.{◌≡◌, ◌⊎◌, ◌≤◌, ℕ, ◌+◌, false, ◌||◌, List, [], ◌++◌, map, length, Option, Some};
 ghost use Rattle.py_value.specs.Contents.{Contents};
-ghost use Rattle.py_model.specs.Effect.{Answers, Effect, effect, answered, unanswered, accesses_in, after, after_accesses, weight, cost, IsThrown, IsUntouched};
+ghost use Rattle.py_model.specs.Effect.{Answers, Touch, Effect, effect, answered, unanswered, accesses_in, looked_at, characters_in, after, after_touches, after_accesses, weight, cost, IsThrown, IsUntouched};
 ghost use Rattle.py_model.specs.Agreement.{Alike, Agrees};
 ghost use Rattle.py_model.specs.AlikeOperations.{renamed_op};
 ghost use Rattle.py_model.specs.Operations.{Op, plan};
@@ -20,10 +20,12 @@ ghost use Rattle.py_model.specs.Moment.{Moment};
 ghost use Rattle.py_model.specs.Occurrences.{frames_after, open_of};
 ghost use Rattle.py_model.specs.History.{open_after, IsAgreed, IsKept, KeptUnlessLacking, Nests, GoesOn, richer};
 ghost use Rattle.py_model.specs.Meaning.{level, meaning, starting, run};
-ghost use Rattle.py_model.specs.Running.{State, outcome, state_in, operation, note, effect_of, did, too_dear, spent, IsPaid};
+ghost use Rattle.py_model.specs.Running.{State, outcome, state_in, operation, note, method_found, sets_an_entry, effect_of, did, too_dear, spent, IsPaid};
 ghost use Rattle.prov_base.specs.declared.place.Pos.{Pos};
 ghost use Rattle.py_model.specs.Spans.{moved};
 ghost use Rattle.py_model.specs.Statements.{task};
+ghost use Rattle.py_model.specs.Touches.{prefixed, cost_so_far};
+ghost use Rattle.py_value.specs.Seen.{SeenAccess};
 
 /// The law that an operation changes the map by its accesses, in their order, and by nothing else.
 pub fn map_changes_by_accesses()
@@ -78,6 +80,24 @@ pub fn states_agree_with_moments()
         → IsAgreed opening budget (state_in (outcome capture a s)) }
     ensures runs { (capture : Capture) (script : ScriptTree) (path : List ℕ) (arguments : List (List ℕ)) (steps : ℕ)
         → IsAgreed (opening_in capture path arguments) steps (state_in (outcome capture (meaning script steps) (starting capture path arguments steps))) }
+{}
+
+/// The law of touches: what two lists of touches, one behind the other, come to is what each of them comes to, joined.
+pub fn touches_join()
+    ensures accesses { (xs ys : List Touch) → accesses_in (xs ++ ys) ≡ accesses_in xs ++ accesses_in ys }
+    ensures looks { (xs ys : List Touch) → looked_at (xs ++ ys) ≡ looked_at xs + looked_at ys }
+    ensures characters { (xs ys : List Touch) → characters_in (xs ++ ys) ≡ characters_in xs + characters_in ys }
+    ensures stores { (xs ys : List Touch) (store : RunStore) → after_touches (xs ++ ys) store ≡ after_touches ys (after_touches xs store) }
+    ensures notes { (xs ys : List Touch) (at : Pos) (k : ℕ) (s : State) → note at k (xs ++ ys) s ≡ note at k ys (note at k xs s) }
+    ensures prefixes { (xs ys : List Touch) (e : Effect) → prefixed (xs ++ ys) e ≡ prefixed xs (prefixed ys e) }
+    ensures methods { (xs ys : List SeenAccess) (store : RunStore) (found : Option Pos)
+        → method_found store (xs ++ ys) found ≡ method_found store ys (method_found store xs found) }
+    ensures entries { (xs ys : List SeenAccess) → sets_an_entry (xs ++ ys) ≡ (sets_an_entry xs || sets_an_entry ys) }
+{}
+
+/// The law of growing costs: an effect costs no less than what it touches first. So once that is more than what is left, it is too dear.
+pub fn costs_grow()
+    ensures { (touches : List Touch) (e : Effect) → cost_so_far touches ≤ cost (prefixed touches e) }
 {}
 
 /// The law of ends: what costs more than is left does not happen, and nothing after it does.
