@@ -13,7 +13,7 @@ pub every_alike : (r : Renaming) (op : Op) (values : List Contents) → AlikeBy 
 every_alike r op values = operation_alike r (λ may. print_alike may r) (λ may. repr_alike may r) (λ may. str_alike may r) op values
 
 -- a renaming that changes nothing
-as_they_are : Renaming
+pub as_they_are : Renaming
 as_they_are = record {
   objects = λ o. o;
   scopes = λ scope. scope;

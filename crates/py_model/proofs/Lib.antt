@@ -28,6 +28,7 @@ pub mod Askings
 pub mod Budgets
 pub mod Payments
 pub mod Quiets
+pub mod RaisedAgain
 pub mod RenamedEffects
 pub mod WorkedArithmetic
 pub mod WorkedClasses

@@ -1,6 +1,6 @@
 -- What a plan comes to in a store and a capture (this project's profile): its answer, the object that it made, and all that it
 -- touched, in order. Accesses, weight and cost, and the store afterwards, are read off that.
-use Rattle.std.specs.Prelude.{◌≡◌, ℕ, ◌+◌, ◌/◌, List, [], ◌∷◌, ◌++◌, length, slice_get, Option, Some, None, codes, unwrap_or}
+use Rattle.std.specs.Prelude.{◌≡◌, ◌<◌, ℕ, ◌+◌, ◌/◌, List, [], ◌∷◌, ◌++◌, length, slice_get, Option, Some, None, codes, unwrap_or}
 use Rattle.prov_base.specs.declared.place.Pos.{Pos}
 pub use Rattle.py_value.specs.Changes.{after_accesses}
 use Rattle.py_value.specs.Contents.{Contents, Parts, text, tuple, no_parts, part}
@@ -159,3 +159,9 @@ pub record IsThrown (effect : Effect) (o : ℕ) : Type 0 where
 pub record IsUntouched (effect : Effect) : Type 0 where
   pub made_is : effect.made ≡ None
   pub writes_are : writes_in (accesses_in effect.touches) ≡ []
+
+-- the object is there, and an instance
+pub record IsThere (store : RunStore) (o : ℕ) : Type 0 where
+  pub of : Contents
+  pub kind_is : slice_get store.kinds o ≡ Some (an_instance of)
+  pub within : o < length store.kinds

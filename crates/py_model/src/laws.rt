@@ -1,7 +1,7 @@
 // Laws of plans and their effects, each a function without a body that says it.
 ghost use Rattle.std.specs.Prelude.{◌≡◌, ◌⊎◌, ◌≤◌, ℕ, ◌+◌, false, ◌||◌, List, [], ◌++◌, map, length, Option, Some};
 ghost use Rattle.py_value.specs.Contents.{Contents};
-ghost use Rattle.py_model.specs.Effect.{Answers, Touch, Effect, effect, answered, unanswered, accesses_in, looked_at, characters_in, after, after_touches, after_accesses, weight, cost, IsThrown, IsUntouched};
+ghost use Rattle.py_model.specs.Effect.{Answers, Touch, Effect, effect, answered, unanswered, accesses_in, looked_at, characters_in, after, after_touches, after_accesses, weight, cost, IsThrown, IsUntouched, IsThere};
 ghost use Rattle.py_model.specs.Agreement.{Alike, Agrees};
 ghost use Rattle.py_model.specs.AlikeOperations.{renamed_op};
 ghost use Rattle.py_model.specs.Operations.{Op, plan};
@@ -33,10 +33,14 @@ pub fn map_changes_by_accesses()
 {}
 
 /// The law that an operation which raises writes nothing but its exception, the next object, or raises an object again and writes
-/// nothing.
+/// nothing. An object that is raised again is there, and an instance.
 pub fn raised_writes_its_exception_alone()
-    ensures { (store : RunStore) (answers : Answers) (p : Plan) (o : ℕ) → (effect store answers p).outcome ≡ answered (raised o)
+    ensures alone { (store : RunStore) (answers : Answers) (p : Plan) (o : ℕ) → (effect store answers p).outcome ≡ answered (raised o)
         → IsUntouched (effect store answers p) ⊎ ((o ≡ length store.kinds) × IsThrown (effect store answers p) o) }
+    ensures there { (store : RunStore) (answers : Answers) (op : Op) (values : List Contents) (o : ℕ)
+        → (effect store answers (plan op values)).outcome ≡ answered (raised o)
+        → (IsUntouched (effect store answers (plan op values)) × IsThere store o)
+        ⊎ ((o ≡ length store.kinds) × IsThrown (effect store answers (plan op values)) o) }
 {}
 
 /// The law of alike plans: in two stores that agree on what the one reads and asks, under a renaming, they have corresponding effects.
