@@ -18,6 +18,7 @@ pub mod AlikeSorting
 pub mod AlikeTexts
 pub mod AlikeWalks
 pub mod Correspondence
+pub mod Drawings
 pub mod Effects
 pub mod Frames
 pub mod Goings
@@ -30,6 +31,7 @@ pub mod Payments
 pub mod Quiets
 pub mod RaisedAgain
 pub mod RenamedEffects
+pub mod SameGraphs
 pub mod WorkedArithmetic
 pub mod WorkedClasses
 pub mod WorkedDataOperations

@@ -31,6 +31,7 @@ pub mod Quiet
 pub mod Raising
 pub mod Renaming
 pub mod Running
+pub mod SameGraph
 pub mod Sorting
 pub mod Spans
 pub mod Statements

@@ -16,16 +16,20 @@ ghost use Rattle.py_model.specs.Act.{Act, Walked, perform, begin, enter};
 ghost use Rattle.py_model.specs.Capture.{Capture, opening_in};
 ghost use Rattle.py_model.specs.Expressions.{Task};
 ghost use Rattle.py_model.specs.Going.{Open};
+ghost use Rattle.py_model.specs.Graph.{graph_text};
 ghost use Rattle.py_model.specs.Moment.{Moment};
 ghost use Rattle.py_model.specs.Occurrences.{frames_after, open_of};
 ghost use Rattle.py_model.specs.History.{open_after, IsAgreed, IsKept, KeptUnlessLacking, Nests, GoesOn, richer};
 ghost use Rattle.py_model.specs.Meaning.{level, meaning, starting, run};
 ghost use Rattle.py_model.specs.Running.{State, outcome, state_in, operation, note, method_found, sets_an_entry, effect_of, did, too_dear, spent, IsPaid};
 ghost use Rattle.prov_base.specs.declared.place.Pos.{Pos};
+ghost use Rattle.py_model.specs.SameGraph.{Setting, HaveSameGraph};
 ghost use Rattle.py_model.specs.Spans.{moved};
 ghost use Rattle.py_model.specs.Statements.{task};
 ghost use Rattle.py_model.specs.Touches.{prefixed, cost_so_far};
 ghost use Rattle.py_value.specs.Seen.{SeenAccess};
+
+use py_value::tests_are_equality;
 
 /// The law that an operation changes the map by its accesses, in their order, and by nothing else.
 pub fn map_changes_by_accesses()
@@ -162,3 +166,11 @@ pub fn spans_change_nothing()
     ensures { (m : Span → Span) (script : ScriptTree) (path : List ℕ) (arguments : List (List ℕ)) (capture : Capture) (steps : ℕ)
         → run (moved m script) path arguments capture steps ≡ run script path arguments capture steps }
 {}
+
+/// The law of graph texts: values with the same graph, up to the names of objects, have the same graph text.
+pub fn same_graphs_have_same_texts()
+    ensures { (here there : Setting) (v w : Contents) → HaveSameGraph here there v w
+        → graph_text here.script here.store v ≡ graph_text there.script there.store w }
+{
+    tests_are_equality();
+}
