@@ -1,0 +1,65 @@
+-- What is named, and within the objects that there are, is so behind more of it.
+use Rattle.std.proofs.Common.{◌≡◌, refl, ap, sym, ◌∙◌, subst, ℕ, zero, suc, ◌+◌, ◌<◌, ◌≤◌, length, List, [], ◌∷◌, ◌++◌, Option, Some, None, arith, slice_get}
+use Rattle.object_store.specs.Room.{IsWithin, IsAccessWithin, AreWithin}
+use Rattle.py_value.specs.Named.{IsNamedAccess, AreNamedAccesses}
+use Rattle.std.proofs.lemmas.List.{length_push}
+use Rattle.object_store.specs.Store.{StoreView, count_with}
+use Rattle.op_work.specs.Work.{cost_of}
+use Rattle.py_value.specs.declared.access.Kind.{Kind}
+use Rattle.py_value.specs.Values.{ValuesView}
+use Rattle.py_value.specs.declared.access.Access.{Access}
+use Rattle.py_value.specs.declared.access.Access.TheVariants.{Read, Set, Update}
+use Rattle.py_value.specs.declared.access.Location.{Location}
+use Rattle.py_value.specs.declared.access.Location.TheVariants.{Var, Len, Item, Entry, Order, File, Offset, Closed, Method, Base}
+
+pub named_behind : (values : ValuesView) (accesses : List Access) (access : Access) → AreNamedAccesses values accesses → IsNamedAccess values access
+    → AreNamedAccesses values (accesses ++ access ∷ [])
+named_behind values [] access named one = (one, tt)
+named_behind values (first ∷ accesses) access named one = (named.0, named_behind values accesses access named.1 one)
+
+same : (access a : Access) → Some access ≡ Some a → access ≡ a
+same access a is = cc
+
+pub within_behind : (count : ℕ) (accesses : List Access) (access : Access) → AreWithin count accesses → IsAccessWithin count access → AreWithin count (accesses ++ access ∷ [])
+within_behind count [] access within one zero a is = subst (IsAccessWithin count) (same access a is) one
+within_behind count [] access within one (suc k) a is = cc
+within_behind count (first ∷ accesses) access within one zero a is = within zero a is
+within_behind count (first ∷ accesses) access within one (suc k) a is = within_behind count accesses access (λ j b at. within (suc j) b at) one k a is
+
+-- the accesses of an operation stay sound with one more behind them
+pub record AreSound (values : ValuesView) (store : StoreView) (made : Option Kind) (accesses : List Access) : Type 0 where
+  pub named : AreNamedAccesses values accesses
+  pub within : AreWithin (count_with made store) accesses
+
+pub sound_behind : (values : ValuesView) (store : StoreView) (made : Option Kind) (accesses new : List Access) (access : Access) → new ≡ accesses ++ access ∷ []
+    → AreNamedAccesses values accesses → AreWithin (count_with made store) accesses → IsNamedAccess values access → IsAccessWithin (count_with made store) access
+    → AreSound values store made new
+sound_behind values store made accesses new access is named within one there = subst (AreSound values store made) (sym is) (record {
+  named = named_behind values accesses access named one;
+  within = within_behind (count_with made store) accesses access within there;
+})
+
+pub cost_behind : (accesses new : List Access) (access : Access) (looks characters left : ℕ) → new ≡ accesses ++ access ∷ []
+    → cost_of (length accesses) (looks + 1) (characters + 0) ≤ left → cost_of (length new) looks characters ≤ left
+cost_behind accesses new access looks characters left is pays = let longer = ap length is ∙ length_push accesses access in omega (arith, pays, longer)
+
+location_more : (n m : ℕ) → n ≤ m → (l : Location) → IsWithin n l → IsWithin m l
+location_more n m more (Item o i) within = omega (arith, more, within)
+location_more n m more (Order o) within = omega (arith, more, within)
+location_more n m more (Var scope name) within = tt
+location_more n m more (Len o) within = tt
+location_more n m more (Entry o key) within = tt
+location_more n m more (File path) within = tt
+location_more n m more (Offset o) within = tt
+location_more n m more (Closed o) within = tt
+location_more n m more (Method place name) within = tt
+location_more n m more (Base place) within = tt
+
+access_more : (n m : ℕ) → n ≤ m → (access : Access) → IsAccessWithin n access → IsAccessWithin m access
+access_more n m more (Read l) within = tt
+access_more n m more (Set l content) within = location_more n m more l within
+access_more n m more (Update l change) within = location_more n m more l within
+
+-- one object more may be named once an operation makes one
+pub within_made : (store : StoreView) (kind : Kind) (accesses : List Access) → AreWithin (count_with None store) accesses → AreWithin (count_with (Some kind) store) accesses
+within_made store kind accesses within k access is = access_more (length store.objects) (length store.objects + 1) (omega (arith)) access (within k access is)

@@ -1,0 +1,9 @@
+use Rattle.std.proofs.Common.{rules, ◌≡◌, refl, sym, ap, subst, ◌∙◌, ◌<◌, ◌≤◌, length, arith, Ok, Err, Some, None, Option, List, [], ◌∷◌, slice_get}
+use Rattle.op_work.proofs.Going.{faults_ok, faults_err}
+use Rattle.op_work.proofs.work.Work.fault.Goals as goal
+
+pub returns-in-Ok : goal.returns-in-Ok
+returns-in-Ok c = faults_ok c.args.class c.args.words.now c.in-Ok.argument c.in-Ok.ensures.comes
+
+pub returns-in-Err : goal.returns-in-Err
+returns-in-Err c = faults_err c.args.class c.args.words.now c.in-Err.stop c.in-Err.ensures.memory c.in-Err.ensures.comes

@@ -1,0 +1,6 @@
+use Rattle.std.proofs.Common.{rules, ◌≡◌, refl, sym, ap, subst, ◌∙◌, ◌<◌, ◌≤◌, length, arith, Ok, Err, Some, None, Option, List, [], ◌∷◌, slice_get}
+use Rattle.op_work.proofs.Going.{look_comes}
+use Rattle.op_work.proofs.work.Work.look.Goals as goal
+
+pub returns : goal.returns
+returns c = look_comes c.args.items c.note_looks.result c.note_looks.ensures.interned c.note_looks.ensures.done c.note_looks.ensures.unpaid c.note_looks.ensures.same
