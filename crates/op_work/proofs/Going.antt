@@ -19,15 +19,14 @@ use Rattle.op_work.specs.declared.stop.Stop.{Stop}
 use Rattle.op_work.specs.declared.stop.Stop.TheVariants.{Raises, TooDear, Memory}
 use Rattle.op_work.specs.Work.{WorkView, Extends, IsSeen, ArePlain, Leads, under, cost_of, Goes, IsDear, IsKept, IsUnpaid, IsNamedResult, Plans, CameTo, Comes, Faults, RaisesIt, is_any, as_is, raising, seen_kind, Wrote}
 
-pub extends_same : (values : ValuesView) → AreInterned values → Extends values values
-extends_same values interned = record { texts = λ i x is. is; tuples = λ i x is. is; few = (omega (arith), omega (arith)); interned = interned }
+pub extends_same : (values : ValuesView) → Extends values values
+extends_same values = record { texts = λ i x is. is; tuples = λ i x is. is; few = (omega (arith), omega (arith)) }
 
 pub extends_then : {a b c : ValuesView} → Extends a b → Extends b c → Extends a c
 extends_then one other = record {
   texts = λ i x is. other.texts i x (one.texts i x is);
   tuples = λ i x is. other.tuples i x (one.tuples i x is);
   few = (omega (arith, one.few.0, other.few.0), omega (arith, one.few.1, other.few.1));
-  interned = other.interned;
 }
 
 prefixed_join : (touches more : List Touch) (rest : Effect) → prefixed (touches ++ more) rest ≡ prefixed touches (prefixed more rest)
@@ -114,14 +113,14 @@ kept_then one other = record {
 module _ {A B T U : Type 0} {n : ValuesView → T → Type 0} {m : ValuesView → U → Type 0} {s : ValuesView → T → A} {r : ValuesView → U → B}
     {p : Plans A} {w : Plans B} {a b c : WorkView} where
   pub comes_then : (q : ValuesView → A → (B → Plan) → Plan) {t : T} {result : Result U Stop} → Comes n s p a b (Ok t)
-      → ((table : ValuesView) → Extends b.values table → (go : B → Plan) → q table (s table t) go ≡ w table go)
+      → ((table : ValuesView) → AreInterned table → Extends b.values table → (go : B → Plan) → q table (s table t) go ≡ w table go)
       → Comes m r w b c result
       → Comes m r (λ table go. p table (λ x. q table x go)) a c result
   comes_then q {t} {result} one same other = record {
     kept = kept_then one.kept other.kept;
     is_named = other.is_named;
     came = λ table store extends seen. by_result table store result
-        (λ go. subst (λ plan. Goes table a b (under store (p table (λ x. q table x go))) (under store plan)) (same table (extends_then other.kept.extends extends) go)
+        (λ go. subst (λ plan. Goes table a b (under store (p table (λ x. q table x go))) (under store plan)) (same table seen.interned (extends_then other.kept.extends extends) go)
             (one.came table store (extends_then other.kept.extends extends) seen (λ x. q table x go)))
         (other.came table store extends (subst (λ held. IsSeen table held store) (sym one.kept.store_is) seen));
   }
@@ -150,12 +149,12 @@ module _ {A B T U : Type 0} {n : ValuesView → T → Type 0} {m : ValuesView �
 module _ {A T : Type 0} {named : ValuesView → T → Type 0} {seen : ValuesView → T → A} (plan : Plans A) (l : Location) (content : ValuesView → RunStore → A)
     (reads_first : (table : ValuesView) (store : RunStore) (go : A → Plan) (answers : Answers)
         → effect store answers (plan table go) ≡ touching (accessed (reads (location_seen table l))) (effect store answers (go (content table store))))
-    {old new : WorkView} (interned : AreInterned new.values) where
+    {old new : WorkView} where
   pub read_comes : new ≡ record old { touched = old.touched ++ Read l ∷ [] } → (answer : T) → named new.values answer
       → ((table : ValuesView) (store : RunStore) → Extends new.values table → IsSeen table old.store store → content table store ≡ seen table answer)
       → Comes named seen plan old new (Ok answer)
   read_comes is answer is_named content_is = record {
-    kept = record { store_is = ap (λ w. w.store) is; made_is = ap (λ w. w.made) is; left_is = ap (λ w. w.left) is; extends = subst (λ values. Extends values new.values) (ap (λ w. w.values) is) (extends_same new.values interned) };
+    kept = record { store_is = ap (λ w. w.store) is; made_is = ap (λ w. w.made) is; left_is = ap (λ w. w.left) is; extends = subst (λ values. Extends values new.values) (ap (λ w. w.values) is) (extends_same new.values) };
     is_named = is_named;
     came = λ table store extends seen_is go. record {
       touches = accessed (reads (location_seen table l)) ∷ [];
@@ -169,7 +168,7 @@ module _ {A T : Type 0} {named : ValuesView → T → Type 0} {seen : ValuesView
 
   pub read_stops : new ≡ old → (stop : Stop) → IsUnpaid old 1 0 stop → Comes named seen plan old new (Err stop)
   read_stops is stop unpaid = record {
-    kept = record { store_is = ap (λ w. w.store) is; made_is = ap (λ w. w.made) is; left_is = ap (λ w. w.left) is; extends = subst (λ values. Extends values new.values) (ap (λ w. w.values) is) (extends_same new.values interned) };
+    kept = record { store_is = ap (λ w. w.store) is; made_is = ap (λ w. w.made) is; left_is = ap (λ w. w.left) is; extends = subst (λ values. Extends values new.values) (ap (λ w. w.values) is) (extends_same new.values) };
     is_named = names stop unpaid;
     came = λ table store extends seen_is. by_stop table store stop unpaid;
   }
@@ -227,13 +226,13 @@ module _ {A T : Type 0} {named : ValuesView → T → Type 0} {seen : ValuesView
   }
 
 -- items were looked at, or characters counted
-kept_same : {old new : WorkView} → AreInterned new.values → new.store ≡ old.store → new.made ≡ old.made → new.left ≡ old.left → new.values ≡ old.values → IsKept old new
-kept_same {old} {new} interned store_is made_is left_is values_are = record { store_is = store_is; made_is = made_is; left_is = left_is; extends = subst (λ values. Extends values new.values) values_are (extends_same new.values interned) }
+kept_same : {old new : WorkView} → new.store ≡ old.store → new.made ≡ old.made → new.left ≡ old.left → new.values ≡ old.values → IsKept old new
+kept_same {old} {new} store_is made_is left_is values_are = record { store_is = store_is; made_is = made_is; left_is = left_is; extends = subst (λ values. Extends values new.values) values_are (extends_same new.values) }
 
-pub look_comes : (n : ℕ) {old new : WorkView} (result : Result (Unit {0}) Stop) → AreInterned new.values → OnOk result (new ≡ record old { looks = old.looks + n })
+pub look_comes : (n : ℕ) {old new : WorkView} (result : Result (Unit {0}) Stop) → OnOk result (new ≡ record old { looks = old.looks + n })
     → IfErr result (λ stop. IsUnpaid old n 0 stop) → OnErr result (new ≡ old) → Comes is_any as_is (λ table (go : Unit {0} → Plan). plan_looks n (go tt)) old new result
-look_comes n {old} {new} (Ok done) interned is unpaid same = record {
-  kept = kept_same interned (ap (λ w. w.store) is) (ap (λ w. w.made) is) (ap (λ w. w.left) is) (ap (λ w. w.values) is);
+look_comes n {old} {new} (Ok done) is unpaid same = record {
+  kept = kept_same (ap (λ w. w.store) is) (ap (λ w. w.made) is) (ap (λ w. w.left) is) (ap (λ w. w.values) is);
   is_named = tt;
   came = λ table store extends seen go. record {
     touches = looked n ∷ []; plain = tt; effect_is = λ answers. refl;
@@ -242,21 +241,21 @@ look_comes n {old} {new} (Ok done) interned is unpaid same = record {
     characters_are = ap (λ w. w.characters) is ∙ omega (arith);
   };
 }
-look_comes n {old} {new} (Err (Raises class argument)) interned is unpaid same = absurd unpaid
-look_comes n {old} {new} (Err Memory) interned is unpaid same = record {
-  kept = kept_same interned (ap (λ w. w.store) same) (ap (λ w. w.made) same) (ap (λ w. w.left) same) (ap (λ w. w.values) same); is_named = tt; came = λ table store extends seen. tt;
+look_comes n {old} {new} (Err (Raises class argument)) is unpaid same = absurd unpaid
+look_comes n {old} {new} (Err Memory) is unpaid same = record {
+  kept = kept_same (ap (λ w. w.store) same) (ap (λ w. w.made) same) (ap (λ w. w.left) same) (ap (λ w. w.values) same); is_named = tt; came = λ table store extends seen. tt;
 }
-look_comes n {old} {new} (Err TooDear) interned is unpaid same = record {
-  kept = kept_same interned (ap (λ w. w.store) same) (ap (λ w. w.made) same) (ap (λ w. w.left) same) (ap (λ w. w.values) same); is_named = tt;
+look_comes n {old} {new} (Err TooDear) is unpaid same = record {
+  kept = kept_same (ap (λ w. w.store) same) (ap (λ w. w.made) same) (ap (λ w. w.left) same) (ap (λ w. w.values) same); is_named = tt;
   came = λ table store extends seen go. record {
     touches = looked n ∷ []; plain = tt; behind = under store (go tt); effect_is = λ answers. refl; dear = omega (arith, unpaid);
   };
 }
 
-pub count_comes : (n : ℕ) {old new : WorkView} (result : Result (Unit {0}) Stop) → AreInterned new.values → OnOk result (new ≡ record old { characters = old.characters + n })
+pub count_comes : (n : ℕ) {old new : WorkView} (result : Result (Unit {0}) Stop) → OnOk result (new ≡ record old { characters = old.characters + n })
     → IfErr result (λ stop. IsUnpaid old 0 n stop) → OnErr result (new ≡ old) → Comes is_any as_is (λ table (go : Unit {0} → Plan). plan_counts n (go tt)) old new result
-count_comes n {old} {new} (Ok done) interned is unpaid same = record {
-  kept = kept_same interned (ap (λ w. w.store) is) (ap (λ w. w.made) is) (ap (λ w. w.left) is) (ap (λ w. w.values) is);
+count_comes n {old} {new} (Ok done) is unpaid same = record {
+  kept = kept_same (ap (λ w. w.store) is) (ap (λ w. w.made) is) (ap (λ w. w.left) is) (ap (λ w. w.values) is);
   is_named = tt;
   came = λ table store extends seen go. record {
     touches = counted n ∷ []; plain = tt; effect_is = λ answers. refl;
@@ -265,12 +264,12 @@ count_comes n {old} {new} (Ok done) interned is unpaid same = record {
     characters_are = ap (λ w. w.characters) is ∙ omega (arith);
   };
 }
-count_comes n {old} {new} (Err (Raises class argument)) interned is unpaid same = absurd unpaid
-count_comes n {old} {new} (Err Memory) interned is unpaid same = record {
-  kept = kept_same interned (ap (λ w. w.store) same) (ap (λ w. w.made) same) (ap (λ w. w.left) same) (ap (λ w. w.values) same); is_named = tt; came = λ table store extends seen. tt;
+count_comes n {old} {new} (Err (Raises class argument)) is unpaid same = absurd unpaid
+count_comes n {old} {new} (Err Memory) is unpaid same = record {
+  kept = kept_same (ap (λ w. w.store) same) (ap (λ w. w.made) same) (ap (λ w. w.left) same) (ap (λ w. w.values) same); is_named = tt; came = λ table store extends seen. tt;
 }
-count_comes n {old} {new} (Err TooDear) interned is unpaid same = record {
-  kept = kept_same interned (ap (λ w. w.store) same) (ap (λ w. w.made) same) (ap (λ w. w.left) same) (ap (λ w. w.values) same); is_named = tt;
+count_comes n {old} {new} (Err TooDear) is unpaid same = record {
+  kept = kept_same (ap (λ w. w.store) same) (ap (λ w. w.made) same) (ap (λ w. w.left) same) (ap (λ w. w.values) same); is_named = tt;
   came = λ table store extends seen go. record {
     touches = counted n ∷ []; plain = tt; behind = under store (go tt); effect_is = λ answers. refl; dear = omega (arith, unpaid);
   };
@@ -278,12 +277,12 @@ count_comes n {old} {new} (Err TooDear) interned is unpaid same = record {
 
 -- a plan that raises a fault stops so
 pub fault_comes : {A T : Type 0} {named : ValuesView → T → Type 0} {seen : ValuesView → T → A} (plan : Plans A) (class : ℕ) (words : List ℕ) {old new : WorkView} (stop : Stop)
-    → Faults class words old new stop → ((table : ValuesView) → Extends new.values table → (go : A → Plan) → plan table go ≡ fault class words) → Comes named seen plan old new (Err stop)
+    → Faults class words old new stop → ((table : ValuesView) → AreInterned table → Extends new.values table → (go : A → Plan) → plan table go ≡ fault class words) → Comes named seen plan old new (Err stop)
 fault_comes {A} {T} {named} {seen} plan class words {old} {new} stop faults plan_is = record { kept = faults.kept; is_named = faults.is_named; came = by_stop stop faults.came }
   where
     by_stop : (stop : Stop) → ((table : ValuesView) (store : RunStore) → Extends new.values table → IsSeen table old.store store → RaisesIt class words table store old new stop)
         → (table : ValuesView) (store : RunStore) → Extends new.values table → IsSeen table old.store store → CameTo seen plan table store old new (Err stop)
-    by_stop (Raises of argument) came table store extends seen = λ go. subst (λ p. Goes table old new (under store p) (under store (raising table of argument))) (sym (plan_is table extends go)) (came table store extends seen)
+    by_stop (Raises of argument) came table store extends seen = λ go. subst (λ p. Goes table old new (under store p) (under store (raising table of argument))) (sym (plan_is table seen.interned extends go)) (came table store extends seen)
     by_stop TooDear came table store extends seen = absurd (came table store extends seen)
     by_stop Memory came table store extends seen = tt
 
@@ -307,13 +306,13 @@ module _ (class : ℕ) (words : List ℕ) {old new : WorkView} where
   faults_err stop is comes = subst (λ e. Faults class words old new e) (sym is) (record { kept = comes.kept; is_named = tt; came = λ table store extends seen. tt })
 
 -- one access more was written
-module _ (first : ValuesView → Writes → Writes) (access : Access) {old new : WorkView} (interned : AreInterned new.values)
+module _ (first : ValuesView → Writes → Writes) (access : Access) {old new : WorkView}
     (writes_first : (table : ValuesView) (store : RunStore) (made : Option SeenKind) (rest : Writes)
         → written store made (first table rest) ≡ touching (accessed (access_seen table access)) (written store made rest)) where
   pub wrote : (result : Result (Unit {0}) Stop) → OnOk result (new ≡ record old { touched = old.touched ++ access ∷ [] })
       → IfErr result (λ stop. IsUnpaid old 1 0 stop) → OnErr result (new ≡ old) → Wrote first old new result
   wrote (Ok done) is unpaid same = record {
-    kept = kept_same interned (ap (λ w. w.store) is) (ap (λ w. w.made) is) (ap (λ w. w.left) is) (ap (λ w. w.values) is);
+    kept = kept_same (ap (λ w. w.store) is) (ap (λ w. w.made) is) (ap (λ w. w.left) is) (ap (λ w. w.values) is);
     came = λ table store extends seen rest. record {
       touches = accessed (access_seen table access) ∷ []; plain = tt;
       effect_is = λ answers. writes_first table store (seen_kind table old.made) rest
@@ -325,11 +324,11 @@ module _ (first : ValuesView → Writes → Writes) (access : Access) {old new :
   }
   wrote (Err (Raises class argument)) is unpaid same = absurd unpaid
   wrote (Err Memory) is unpaid same = record {
-    kept = kept_same interned (ap (λ w. w.store) same) (ap (λ w. w.made) same) (ap (λ w. w.left) same) (ap (λ w. w.values) same);
+    kept = kept_same (ap (λ w. w.store) same) (ap (λ w. w.made) same) (ap (λ w. w.left) same) (ap (λ w. w.values) same);
     came = λ table store extends seen. tt;
   }
   wrote (Err TooDear) is unpaid same = record {
-    kept = kept_same interned (ap (λ w. w.store) same) (ap (λ w. w.made) same) (ap (λ w. w.left) same) (ap (λ w. w.values) same);
+    kept = kept_same (ap (λ w. w.store) same) (ap (λ w. w.made) same) (ap (λ w. w.left) same) (ap (λ w. w.values) same);
     came = λ table store extends seen rest. record {
       touches = accessed (access_seen table access) ∷ []; plain = tt;
       behind = λ answers. written store (seen_kind table old.made) rest;
@@ -337,3 +336,17 @@ module _ (first : ValuesView → Writes → Writes) (access : Access) {old new :
       dear = omega (arith, unpaid);
     };
   }
+
+-- a plan that gives something at once
+pub at_once : {A T : Type 0} {named : ValuesView → T → Type 0} {seen : ValuesView → T → A} (plan : Plans A) (w : WorkView) (answer : T) → named w.values answer
+    → ((table : ValuesView) → AreInterned table → Extends w.values table → (go : A → Plan) → plan table go ≡ go (seen table answer)) → Comes named seen plan w w (Ok answer)
+at_once plan w answer is_named plan_is = gives_comes plan (extends_same w.values) refl answer is_named
+    (λ table store extends seen go answers. ap (effect store answers) (plan_is table seen.interned extends go))
+
+-- a plan that goes on at once with what another came to
+pub comes_as : {A B T U : Type 0} {n : ValuesView → T → Type 0} {m : ValuesView → U → Type 0} {s : ValuesView → T → A} {r : ValuesView → U → B} {p : Plans A} {a b : WorkView}
+    (q : ValuesView → A → (B → Plan) → Plan) {t : T} (u : U) → Comes n s p a b (Ok t) → m b.values u
+    → ((table : ValuesView) → AreInterned table → Extends b.values table → (go : B → Plan) → q table (s table t) go ≡ go (r table u))
+    → Comes m r (λ table go. p table (λ x. q table x go)) a b (Ok u)
+comes_as {s = s} {r = r} {p = p} {b = b} q {t} u one is_named same = comes_then q one (λ table interned extends go. refl)
+    (at_once (λ table go. q table (s table t) go) b u is_named same)

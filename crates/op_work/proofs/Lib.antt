@@ -1,3 +1,4 @@
 pub mod Going
 pub mod Named
 pub mod Reading
+pub mod Tuples

@@ -43,10 +43,10 @@ pub record Extends (old new : ValuesView) : Type 0 where
   pub texts : Keeps old.texts new.texts
   pub tuples : Keeps old.tuples new.tuples
   pub few : (length old.texts ≤ length new.texts) × (length old.tuples ≤ length new.tuples)
-  pub interned : AreInterned new
 
--- A store of a run is what the store holds, by the numbers of a table. What no file is, is said here.
+-- A store of a run is what the store holds, by the numbers of a table. Nothing is said of files.
 pub record IsSeen (table : ValuesView) (store : StoreView) (seen : RunStore) : Type 0 where
+  pub interned : AreInterned table
   pub whole : (l : Location) → IsReadWhole l → IsNamedLocation table l → seen.at (location_seen table l) ≡ option_map (held_seen table) (held_at store l)
   pub orders : (o : ℕ) → order_of seen o ≡ map (contents table) (keys_at store o)
   pub kinds_are : seen.kinds ≡ map (kind_seen table) (kinds store)

@@ -40,7 +40,6 @@ impl Work {
     // What an object is, and that all that stands there is named.
     fn kind_there(&self, o: u32) -> Option<Kind>
         ensures kind { result ≡ slice_get (kinds self.now.store) o }
-        ensures interned { AreInterned self.now.values }
         ensures named { IsNamedStore self.now.values self.now.store }
     {
         if o >= self.store.next() {
@@ -59,7 +58,6 @@ impl Work {
     // The noted name of a place, and that all that stands there is named.
     fn name_there(&self, place: Pos) -> Option<u32>
         ensures name { result ≡ name_at self.now.store place }
-        ensures interned { AreInterned self.now.values }
         ensures named { IsNamedStore self.now.values self.now.store }
     {
         self.store.name_at(place)

@@ -73,7 +73,6 @@ impl Work {
     // That a location is read is noted, where it can be paid for.
     pub(crate) fn note_read(&mut self, l: Location) -> Result<(), Stop>
         requires { IsNamedLocation self.old.values l }
-        ensures interned { AreInterned self.new.values }
         ensures named { IsNamedStore self.new.values self.new.store }
         ensures done { OnOk result (self.new ≡ record self.old { touched = self.old.touched ++ Read l ∷ [] }) }
         ensures unpaid { IfErr result (λ stop. IsUnpaid self.old 1 0 stop) }
@@ -88,7 +87,6 @@ impl Work {
 
     // Items are looked at, where they can be paid for.
     pub(crate) fn note_looks(&mut self, items: u64) -> Result<(), Stop>
-        ensures interned { AreInterned self.new.values }
         ensures done { OnOk result (self.new ≡ record self.old { looks = self.old.looks + items }) }
         ensures unpaid { IfErr result (λ stop. IsUnpaid self.old items 0 stop) }
         ensures same { OnErr result (self.new ≡ self.old) }
@@ -102,7 +100,6 @@ impl Work {
 
     // Characters are counted, where they can be paid for.
     pub(crate) fn note_characters(&mut self, characters: u64) -> Result<(), Stop>
-        ensures interned { AreInterned self.new.values }
         ensures done { OnOk result (self.new ≡ record self.old { characters = self.old.characters + characters }) }
         ensures unpaid { IfErr result (λ stop. IsUnpaid self.old 0 characters stop) }
         ensures same { OnErr result (self.new ≡ self.old) }

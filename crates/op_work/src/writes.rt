@@ -37,7 +37,6 @@ impl Work {
     fn note_set(&mut self, l: Location, content: Content) -> Result<(), Stop>
         requires named { IsNamedAccess self.old.values (Set l content) }
         requires within { IsWithin (count_with self.old.made self.old.store) l }
-        ensures interned { AreInterned self.new.values }
         ensures done { OnOk result (self.new ≡ record self.old { touched = self.old.touched ++ Set l content ∷ [] }) }
         ensures unpaid { IfErr result (λ stop. IsUnpaid self.old 1 0 stop) }
         ensures same { OnErr result (self.new ≡ self.old) }
@@ -62,7 +61,6 @@ impl Work {
     fn note_update(&mut self, l: Location, how: Change) -> Result<(), Stop>
         requires named { IsNamedAccess self.old.values (Update l how) }
         requires within { IsWithin (count_with self.old.made self.old.store) l }
-        ensures interned { AreInterned self.new.values }
         ensures done { OnOk result (self.new ≡ record self.old { touched = self.old.touched ++ Update l how ∷ [] }) }
         ensures unpaid { IfErr result (λ stop. IsUnpaid self.old 1 0 stop) }
         ensures same { OnErr result (self.new ≡ self.old) }

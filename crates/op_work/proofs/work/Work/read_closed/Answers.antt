@@ -12,11 +12,11 @@ use Rattle.op_work.proofs.work.Work.read_closed.Goals as goal
 pub returns-in_err-note_read : goal.returns-in_err-note_read
 returns-in_err-note_read c = passes_err (λ result. Comes is_any as_is (λ table. plan_closed c.args.o) c.args.self.now c.note_read.new.self result) c.from_residual.result c.from_residual.ensures.1
     (read_stops (λ table. plan_closed c.args.o) (Closed c.args.o) (λ table store. closed_of store c.args.o) (λ table store go answers. refl)
-        c.note_read.ensures.interned c.in_err-note_read.ensures.same c.in_err-note_read.field-0.0 c.in_err-note_read.ensures.unpaid)
+        c.in_err-note_read.ensures.same c.in_err-note_read.field-0.0 c.in_err-note_read.ensures.unpaid)
 
 pub returns : goal.returns
 returns c = read_comes (λ table. plan_closed c.args.o) (Closed c.args.o) (λ table store. closed_of store c.args.o) (λ table store go answers. refl)
-    c.note_read.ensures.interned c.in_ok-note_read.ensures.done c.closed.result tt
+    c.in_ok-note_read.ensures.done c.closed.result tt
     (λ table store extends is_seen. closed_read table c.args.self.now.store store is_seen c.args.o
         ∙ ap (λ (held : StoreView). closed_in (content_at held (Closed c.args.o))) (sym (ap (λ (w : WorkView). w.store) c.in_ok-note_read.ensures.done))
         ∙ (sym c.closed.ensures))

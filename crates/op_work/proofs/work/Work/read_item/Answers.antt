@@ -12,11 +12,11 @@ use Rattle.op_work.proofs.work.Work.read_item.Goals as goal
 pub returns-in_err-note_read : goal.returns-in_err-note_read
 returns-in_err-note_read c = passes_err (λ result. Comes IsNamedMaybe seen_maybe (λ table. plan_item c.args.o c.args.i) c.args.self.now c.note_read.new.self result) c.from_residual.result c.from_residual.ensures.1
     (read_stops (λ table. plan_item c.args.o c.args.i) (Item c.args.o c.args.i) (λ table store. item_of store c.args.o c.args.i) (λ table store go answers. refl)
-        c.note_read.ensures.interned c.in_err-note_read.ensures.same c.in_err-note_read.field-0.0 c.in_err-note_read.ensures.unpaid)
+        c.in_err-note_read.ensures.same c.in_err-note_read.field-0.0 c.in_err-note_read.ensures.unpaid)
 
 pub returns : goal.returns
 returns c = read_comes (λ table. plan_item c.args.o c.args.i) (Item c.args.o c.args.i) (λ table store. item_of store c.args.o c.args.i) (λ table store go answers. refl)
-    c.note_read.ensures.interned c.in_ok-note_read.ensures.done c.item.result (subst (λ v. IsNamedMaybe c.note_read.new.self.values v) (sym c.item.ensures) (item_named c.note_read.new.self.values c.note_read.new.self.store c.note_read.ensures.named c.args.o c.args.i))
+    c.in_ok-note_read.ensures.done c.item.result (subst (λ v. IsNamedMaybe c.note_read.new.self.values v) (sym c.item.ensures) (item_named c.note_read.new.self.values c.note_read.new.self.store c.note_read.ensures.named c.args.o c.args.i))
     (λ table store extends is_seen. item_read table c.args.self.now.store store is_seen c.args.o c.args.i
         ∙ ap (λ (held : StoreView). seen_maybe table (item_at held c.args.o c.args.i)) (sym (ap (λ (w : WorkView). w.store) c.in_ok-note_read.ensures.done))
         ∙ ap (seen_maybe table) (sym c.item.ensures))

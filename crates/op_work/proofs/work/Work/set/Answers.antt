@@ -6,5 +6,5 @@ use Rattle.op_work.proofs.Going.{wrote}
 use Rattle.op_work.proofs.work.Work.set.Goals as goal
 
 pub returns : goal.returns
-returns c = wrote (λ table. write (location_seen table c.args.l) (content_seen table c.args.content)) (Set c.args.l c.args.content) c.note_set.ensures.interned (λ table store made rest. refl)
+returns c = wrote (λ table. write (location_seen table c.args.l) (content_seen table c.args.content)) (Set c.args.l c.args.content) (λ table store made rest. refl)
     c.note_set.result c.note_set.ensures.done c.note_set.ensures.unpaid c.note_set.ensures.same

@@ -6,5 +6,5 @@ use Rattle.op_work.proofs.Going.{wrote}
 use Rattle.op_work.proofs.work.Work.update.Goals as goal
 
 pub returns : goal.returns
-returns c = wrote (λ table. plan_change (location_seen table c.args.l) (change_seen table c.args.how)) (Update c.args.l c.args.how) c.note_update.ensures.interned (λ table store made rest. refl)
+returns c = wrote (λ table. plan_change (location_seen table c.args.l) (change_seen table c.args.how)) (Update c.args.l c.args.how) (λ table store made rest. refl)
     c.note_update.result c.note_update.ensures.done c.note_update.ensures.unpaid c.note_update.ensures.same
