@@ -1,5 +1,6 @@
 pub mod Beginning
 pub mod Growing
+pub mod Keyed
 pub mod Making
 pub mod Naming
 pub mod OverContents

@@ -1,5 +1,6 @@
 pub mod Cell
 pub mod File
+pub mod Keyed
 pub mod Named
 pub mod Object
 pub mod Opening

@@ -1,17 +1,20 @@
 // What a store is without numbers for texts and tuples: the map that the meaning of a script speaks of.
-ghost use Rattle.std.specs.Prelude.{◌≡◌, ◌<◌, ℕ, List, Option, Some, length, map};
+ghost use Rattle.std.specs.Prelude.{◌≡◌, ◌<◌, [], ◌∷◌, ◌++◌, None, ℕ, List, Option, Some, length, map};
 ghost use Rattle.prov_base.specs.declared.place.Pos.{Pos};
 ghost use Rattle.std.specs.Option.{option_map};
-ghost use Rattle.py_value.specs.Changes.{after_accesses};
+ghost use Rattle.py_value.specs.Changes.{after_access, after_accesses};
+ghost use Rattle.py_value.specs.Contents.{Contents};
+ghost use Rattle.py_value.specs.KeyOf.{normal};
 ghost use Rattle.py_value.specs.Named.{IsNamedAccess, IsNamedKind, AreNamedAccesses};
-ghost use Rattle.py_value.specs.Seen.{IsNamedLocation, location_seen, access_seen};
+ghost use Rattle.py_value.specs.Seen.{SeenAccess, IsNamedLocation, access_seen, entry_at, entry_is, key_deleted, key_inserted, location_seen, order_at, order_is, sets, updates};
 ghost use Rattle.py_value.specs.Values.{ValuesView, AreInterned, Keeps as KeepsNumbers};
 ghost use Rattle.py_value.specs.declared.access.Access.{Access as OneAccess};
 ghost use Rattle.py_value.specs.declared.access.Kind.{Kind as OneKind};
 ghost use Rattle.py_value.specs.declared.access.Location.{Location as OneLocation};
+ghost use Rattle.object_store.specs.Keyed.{SeenMap, ArePlain, HasFirst, IsKeyed, IsUnder, entries_set, firsts};
 ghost use Rattle.object_store.specs.Named.{IsNamedStore, IsNamedHeld};
 ghost use Rattle.object_store.specs.Opening.{IsOpening};
-ghost use Rattle.object_store.specs.Performing.{Does, DoesAll, SuitInTurn, kinds_with};
+ghost use Rattle.object_store.specs.Performing.{AreApart, Does, DoesAll, IsOnly, SuitInTurn, keys_among, kinds_with};
 ghost use Rattle.object_store.specs.Seen.{held_seen, seen_at, store_seen};
 ghost use Rattle.object_store.specs.Store.{StoreView, Held, Notes, Writes, held_at, kinds};
 
@@ -67,3 +70,30 @@ pub fn named_stays()
 {
     equality_is_same();
 }
+
+/// The law that the keys of orders keep their entries: as an entry is set under its first key, as a key with its entry is inserted, as an
+/// entry and its key are taken out, as an order begins with its entries, and as anything else is written.
+pub fn keys_have_entries()
+    ensures only { (map : SeenMap) (o : ℕ) (key : Contents) → IsKeyed map → HasFirst key (map (entry_at o (normal key)))
+        → IsOnly key (keys_among (map (order_at o))) }
+    ensures entry_set { (map : SeenMap) (o : ℕ) (key value : Contents) → IsKeyed map → HasFirst key (map (entry_at o (normal key)))
+        → IsKeyed (after_access (sets (entry_at o (normal key)) (entry_is (Some (key, value)))) map) }
+    ensures inserted { (map : SeenMap) (o : ℕ) (key : Contents) → IsKeyed map → IsUnder key (map (entry_at o (normal key)))
+        → IsKeyed (after_access (updates (order_at o) (key_inserted key)) map) }
+    ensures deleted { (map : SeenMap) (o : ℕ) (key : Contents) → IsKeyed map
+        → IsKeyed (after_accesses (sets (entry_at o (normal key)) (entry_is None) ∷ updates (order_at o) (key_deleted key) ∷ []) map) }
+    ensures begun { (map : SeenMap) (o : ℕ) (pairs : List (Contents × Contents)) → IsKeyed map → AreApart (firsts pairs)
+        → IsKeyed (after_accesses (sets (order_at o) (order_is (firsts pairs)) ∷ entries_set o pairs) map) }
+    ensures plain { (map : SeenMap) (plan : List SeenAccess) → IsKeyed map → ArePlain plan → IsKeyed (after_accesses plan map) }
+{
+    tests_are_equality();
+}
+
+/// The law that plans suit a map: one that writes no entry and no order, one that sets entries, and two that suit one after the other.
+pub fn plans_suit()
+    ensures plain { (map : SeenMap) (plan : List SeenAccess) → ArePlain plan → SuitInTurn map plan }
+    ensures entries { (map : SeenMap) (o : ℕ) (pairs : List (Contents × Contents)) → SuitInTurn map (entries_set o pairs) }
+    ensures joined { (map : SeenMap) (plan more : List SeenAccess) → SuitInTurn map plan → SuitInTurn (after_accesses plan map) more
+        → SuitInTurn map (plan ++ more) }
+    ensures after { (map : SeenMap) (plan more : List SeenAccess) → after_accesses (plan ++ more) map ≡ after_accesses more (after_accesses plan map) }
+{}

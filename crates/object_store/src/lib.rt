@@ -24,5 +24,7 @@ mod need;
 mod object;
 mod store;
 
-pub use laws::{named_stays, plan_over_contents, store_over_contents};
+pub use laws::{
+    keys_have_entries, named_stays, plan_over_contents, plans_suit, store_over_contents,
+};
 pub use store::Store;
