@@ -1,6 +1,6 @@
 -- Where there is the place that each access of a plan needs, with room for all keys and bytes of the plan in it, there is
 -- room for each access in its turn.
-use Rattle.std.proofs.Common.{◌≡◌, ℕ, zero, suc, ◌+◌, ◌-◌, ◌<◌, ◌≤◌, List, [], ◌∷◌, ◌++◌, map, length, slice_get, slice_index_or, Option, Some, refl, ap, sym, subst, ◌∙◌, arith}
+use Rattle.std.proofs.Common.{◌≡◌, ℕ, zero, suc, ◌+◌, ◌-◌, ◌<◌, ◌≤◌, List, [], ◌∷◌, ◌++◌, map, length, slice_get, slice_index_or, ◌⊎◌, inl, inr, ⊎_elim, Option, Some, refl, ap, sym, subst, ◌∙◌, arith}
 use Rattle.std.specs.Prelude.{None}
 use Rattle.py_value.specs.declared.access.Access.{Access}
 use Rattle.py_value.specs.declared.access.Access.TheVariants.{Read, Set, Update}
@@ -11,7 +11,7 @@ use Rattle.py_value.specs.declared.access.Location.TheVariants.{Item, Order, Fil
 use Rattle.py_value.specs.Values.{ValuesView}
 use Rattle.object_store.specs.Object.{ObjectView, no_object}
 use Rattle.object_store.specs.Room.{Room, Takes, HasPlaceFor, HasRoomFor, IsReserved, IsAccessWithin, AreWithin, cells_of, keys_of, bytes_of, cells_in, keys_in, bytes_in_all}
-use Rattle.object_store.specs.Store.{StoreView, Keeps, Makes, HasRoomForAll, IsReservedFor, room_of, room_with_next, count_with}
+use Rattle.object_store.specs.Store.{StoreView, FewCells, Keeps, Makes, HasRoomForAll, IsReservedFor, room_of, room_with_next, count_with}
 use Rattle.object_store.proofs.Reserving.{place_later}
 
 has_room : (values : ValuesView) (room : Room) (keys bytes : ℕ) (access : Access) → HasPlaceFor room keys bytes access → IsAccessWithin (length room.objects) access
@@ -135,3 +135,62 @@ reserved_for values old store plan (Some kind) room within count = (
       (λ k access at. place_later (room_with_next store) (room_of after) 0 0 0 takes (keys_in plan) (bytes_in_all values plan) (keys_in plan) (bytes_in_all values plan) (omega arith) (omega arith) access (room.places k access at))
       (subst (λ n. AreWithin n plan) (sym objects) within) (omega (arith, makes.cells_stay, room.cells)) (omega arith) (omega arith),
 )
+
+takes_after : (a b c : Room) (cells keys bytes : ℕ) → Takes a b 0 0 0 → Takes b c cells keys bytes → Takes a c cells keys bytes
+takes_after a b c cells keys bytes first second = record {
+  objects_stay = second.objects_stay ∙ first.objects_stay;
+  cells_left = omega (arith, first.cells_left, second.cells_left);
+  items_left = λ o. omega (arith, first.items_left o, second.items_left o);
+  keys_left = λ o. omega (arith, first.keys_left o, second.keys_left o);
+  slots_left = λ path there. second.slots_left path (first.slots_left path there);
+  bytes_left = λ path. omega (arith, first.bytes_left path, second.bytes_left path);
+}
+
+-- where no room is taken, there is room for what there was room for
+room_later : (values : ValuesView) (old new : Room) → Takes old new 0 0 0 → (access : Access) → HasRoomFor values old access → HasRoomFor values new access
+room_later values old new takes (Read l) room = tt
+room_later values old new takes (Set (Item o i) content) room = (omega (arith, takes.objects_stay, room.0), omega (arith, takes.items_left o, room.1))
+room_later values old new takes (Set (Order o) (OrderContent ks)) room = (omega (arith, takes.objects_stay, room.0), omega (arith, takes.keys_left o, room.1))
+room_later values old new takes (Set (Order o) content) room = tt
+room_later values old new takes (Set (File path) content) room = takes.slots_left path room
+room_later values old new takes (Set l content) room = omega (arith, takes.cells_left, room)
+room_later values old new takes (Update (Order o) (Insert key)) room = (omega (arith, takes.objects_stay, room.0), omega (arith, takes.keys_left o, room.1))
+room_later values old new takes (Update (Order o) (Delete key)) room = omega (arith, takes.objects_stay, room)
+room_later values old new takes (Update (File path) (Append text)) room = (takes.slots_left path room.0, omega (arith, takes.bytes_left path, room.1))
+room_later values old new takes (Update l change) room = tt
+
+reserved_later : (values : ValuesView) (plan : List Access) (old new : Room) → Takes old new 0 0 0 → IsReserved values old plan → IsReserved values new plan
+reserved_later values [] old new takes room = tt
+reserved_later values (access ∷ plan) old new takes room = (
+  room_later values old new takes access room.0,
+  λ after more. room.1 after (takes_after old new after (cells_of access) (keys_of access) (bytes_of values access) takes more),
+)
+
+-- files that come with as much room as was there leave a reserved plan so
+pub reserved_files : (values : ValuesView) (old new : StoreView) (made : Option Kind) (plan : List Access) → new ≡ record old { files = new.files } → Takes (room_of old) (room_of new) 0 0 0
+    → IsReservedFor values old made plan → IsReservedFor values new made plan
+reserved_files values old new None plan same takes room = reserved_later values plan (room_of old) (room_of new) takes room
+reserved_files values old new (Some kind) plan same takes room = (
+  subst (λ n. 0 < n) (sym (ap (λ (s : StoreView). s.spare_objects) same)) room.0,
+  λ after makes.
+      let before : StoreView = record old { objects = old.objects ++ record old.next_object { kind = kind } ∷ [] } in
+      let objects : after.objects ≡ before.objects = makes.objects_are ∙ ap (λ (s : StoreView). s.objects ++ record s.next_object { kind = kind } ∷ []) same in
+      let cells : after.spare_cells ≡ old.spare_cells = makes.cells_stay ∙ ap (λ (s : StoreView). s.spare_cells) same in
+      reserved_later values plan (room_of before) (room_of after)
+      (subst (λ all. Takes (room_of before) (record { objects = all; files = after.files; cells = after.spare_cells }) 0 0 0) (sym objects)
+      (subst (λ files. Takes (room_of before) (record { objects = before.objects; files = files; cells = after.spare_cells }) 0 0 0) (sym makes.files_stay)
+      (record {
+        objects_stay = refl;
+        cells_left = omega (arith, cells);
+        items_left = λ o. omega arith;
+        keys_left = λ o. omega arith;
+        slots_left = λ path there. takes.slots_left path there;
+        bytes_left = λ path. takes.bytes_left path;
+      })))
+      (room.1 before (record { objects_are = refl; files_stay = refl; cells_stay = refl })),
+)
+
+-- the room for cells after the steps of a reservation
+pub few_cells : (old objects cells new : StoreView) (count : ℕ) → objects ≡ record old { spare_objects = objects.spare_objects } → FewCells objects cells count → new.spare_cells ≡ cells.spare_cells
+    → FewCells old new count
+few_cells old objects cells new count same few stay = ⊎_elim (λ is. inl (stay ∙ is ∙ ap (λ (s : StoreView). s.spare_cells) same)) (λ fits. inr (omega (arith, fits, stay, ap (λ (s : StoreView). length s.cells) same))) few

@@ -1,6 +1,6 @@
 -- The store of a run (this project's profile): a finite map from locations to what stands there, with the kinds of the
 -- objects and the names of functions and classes.
-use Rattle.std.specs.Prelude.{⊤, ◌≡◌, ℕ, ◌+◌, ◌<◌, ◌≤◌, List, [], ◌∷◌, ◌++◌, map, length, slice_get, unwrap_or, nat_eq, Option, Some, None, IfSome, if◌then◌else◌}
+use Rattle.std.specs.Prelude.{⊤, ◌≡◌, ◌⊎◌, ℕ, ◌+◌, ◌*◌, ◌<◌, ◌≤◌, List, [], ◌∷◌, ◌++◌, map, length, slice_get, unwrap_or, nat_eq, Option, Some, None, IfSome, if◌then◌else◌}
 use Rattle.std.specs.Option.{option_map, option_and_then}
 use Rattle.std.specs.Map.{lookup}
 use Rattle.prov_base.specs.declared.place.Pos.{Pos}
@@ -165,6 +165,13 @@ pub record HasRoomForAll (values : ValuesView) (store : StoreView) (made : Optio
   pub object : IfSome made (λ kind. 0 < store.spare_objects)
   pub cells : cells_in plan ≤ store.spare_cells
   pub places : HasPlaces (room_with_next store) (keys_in plan) (bytes_in_all values plan) plan
+
+-- The room for objects is as before, or there is less than twice what is needed in all; so for this many cells, up to 64 more.
+abbrev pub FewObjects : StoreView → StoreView → Type 0
+FewObjects old new = (new.spare_objects ≡ old.spare_objects) ⊎ (length old.objects + new.spare_objects < 2 * (length old.objects + 1))
+
+abbrev pub FewCells : StoreView → StoreView → ℕ → Type 0
+FewCells old new count = (new.spare_cells ≡ old.spare_cells) ⊎ (length old.cells + new.spare_cells ≤ 2 * (length old.cells + count) + 64)
 
 -- how many objects a plan may name: those that are there, and the one that it makes
 abbrev pub count_with : Option Kind → StoreView → ℕ

@@ -33,13 +33,16 @@ impl File {
         }
     }
 
-    /// A file with these bytes.
-    pub fn holding(alloc: Global, bytes: &[u8]) -> Result<File, Memory>
-        ensures { IfOk result (λ file. file.content ≡ Some bytes.now) }
+    /// A file with these bytes, and room for so many more.
+    pub fn holding(alloc: Global, bytes: &[u8], room: usize) -> Result<File, Memory>
+        ensures content { IfOk result (λ file. file.content ≡ Some bytes.now) }
+        ensures room { IfOk result (λ file. room ≤ file.spare) }
     {
+        let mut bytes = Vec::from_slice(alloc, bytes)?;
+        bytes.reserve(room)?;
         Ok(File {
             is_there: true,
-            bytes: Vec::from_slice(alloc, bytes)?,
+            bytes,
         })
     }
 

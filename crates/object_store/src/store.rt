@@ -126,9 +126,14 @@ impl Store {
     pub fn place_file(&mut self, alloc: Global, path: u32, bytes: &[u8]) -> Result<(), Memory>
         ensures held { OnOk result (Writes self.old self.new (FileAt path) (held_bytes bytes.now)) }
         ensures err { OnErr result (self.new ≡ self.old) }
+        ensures same { self.new ≡ record self.old { files = self.new.files } }
+
+        // A plan that was reserved stays reserved, and so does the room of each file.
+        ensures left { Takes (room_of self.old) (room_of self.new) 0 0 0 }
+        ensures reserved { (values : ValuesView) (made : Option OneKind) (plan : List OneAccess)
+            → IsReservedFor values self.old made plan → IsReservedFor values self.new made plan }
     {
-        let file = File::holding(alloc, bytes)?;
-        self.files.insert(path, file)?;
+        self.put_file(alloc, path, bytes)?;
         Ok(())
     }
 
@@ -180,6 +185,8 @@ impl Store {
         requires room { HasRoomToSet (room_of self.old) l c }
         ensures writes { Writes self.old self.new l (written c) }
         ensures left { Takes (room_of self.old) (room_of self.new) (cells_set l) (keys_set c) 0 }
+        ensures next { self.new.next_object ≡ self.old.next_object }
+        ensures objects { self.new.spare_objects ≡ self.old.spare_objects }
     {
         self.set_to(l, &c);
     }
@@ -190,6 +197,8 @@ impl Store {
         requires room { HasRoomToSet (room_of self.old) l c.now }
         ensures writes { Writes self.old self.new l (written c.now) }
         ensures left { Takes (room_of self.old) (room_of self.new) (cells_set l) (keys_set c.now) 0 }
+        ensures next { self.new.next_object ≡ self.old.next_object }
+        ensures objects { self.new.spare_objects ≡ self.old.spare_objects }
     {
         if let Some(cell) = Cell::of(c) {
             self.set_cell(l, cell);
@@ -210,6 +219,8 @@ impl Store {
         requires room { HasRoomToUpdate values.now (room_of self.old) l c }
         ensures writes { Writes self.old self.new l (changed values.now self.old l c) }
         ensures left { Takes (room_of self.old) (room_of self.new) 0 (keys_put c) (bytes_put values.now c) }
+        ensures next { self.new.next_object ≡ self.old.next_object }
+        ensures objects { self.new.spare_objects ≡ self.old.spare_objects }
     {
         match (l, c) {
             (Location::Order(o), Change::Insert(key)) => self.insert_key(o, key),

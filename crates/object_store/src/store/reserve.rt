@@ -1,10 +1,10 @@
 // Memory for a plan of writes, taken before the first of them. Whether it is had or refused, all that stands in the
 // store is as before.
-ghost use Rattle.std.specs.Prelude.{◌≡◌, ℕ, ◌+◌, ◌<◌, ◌≤◌, length, slice_set, slice_get, Some, IsSome, IsOk, IfSome, OnOk};
+ghost use Rattle.std.specs.Prelude.{◌≡◌, ◌*◌, ℕ, ◌+◌, ◌<◌, ◌≤◌, length, slice_set, slice_get, Some, IsSome, IsOk, IfSome, OnOk};
 ghost use Rattle.py_value.specs.declared.access.Access.{Access as OneAccess};
 ghost use Rattle.object_store.specs.Object.{Grows};
-ghost use Rattle.object_store.specs.Room.{object_in, slot_in, bytes_in, AreNamedAccesses, AreWithin, IsAccessWithin, Takes, HasPlaceFor, HasPlaces};
-ghost use Rattle.object_store.specs.Store.{object_at, room_of, room_with_next, count_with, file_at, Keeps, HasRoomForAll, IsReservedFor};
+ghost use Rattle.object_store.specs.Room.{cells_in, object_in, slot_in, bytes_in, AreNamedAccesses, AreWithin, IsAccessWithin, Takes, HasPlaceFor, HasPlaces};
+ghost use Rattle.object_store.specs.Store.{object_at, room_of, room_with_next, count_with, file_at, Keeps, FewCells, FewObjects, HasRoomForAll, IsReservedFor};
 
 use super::Store;
 use crate::file::File;
@@ -13,6 +13,9 @@ use prov_base::Memory;
 use py_value::{Access, Kind, Location, Values};
 use region_pool::NoRoom;
 use std::alloc::Global;
+
+// The map of cells may take room for so many more than twice what is needed.
+const MOST_CELLS_MORE: usize = 64;
 
 impl Store {
     /// Takes all memory that the writes of a plan need, in their order, with the object that is made first. The plan names
@@ -33,6 +36,11 @@ impl Store {
         // Where all the room is there already, as right after a call with this plan, nothing is taken.
         ensures had_room { HasRoomForAll values.now self.old made plan.now → IsOk result }
         ensures no_more { HasRoomForAll values.now self.old made plan.now → self.new ≡ self.old }
+
+        // Room never shrinks, also after a refusal. Of objects and cells less than about twice what is needed in all is taken.
+        ensures grows { Takes (room_with_next self.old) (room_with_next self.new) 0 0 0 }
+        ensures objects { (self.old.spare_objects ≤ self.new.spare_objects) × FewObjects self.old self.new }
+        ensures frugal { OnOk result (FewCells self.old self.new (cells_in plan.now)) }
     {
         let need = Need::of(plan, values)?;
         self.make_object_room(alloc, made)?;
@@ -44,13 +52,22 @@ impl Store {
         Ok(())
     }
 
-    // Makes room for so many cells more.
+    // Makes room for so many cells more. The map of cells promises no bound on the room that it takes: it is tested.
     fn make_cell_room(&mut self, count: usize) -> Result<(), Memory>
         ensures room { OnOk result (count ≤ self.new.spare_cells) }
         ensures same { self.new ≡ record self.old { spare_cells = self.new.spare_cells } }
         ensures grows { self.old.spare_cells ≤ self.new.spare_cells }
+        ensures frugal { OnOk result (FewCells self.old self.new count) }
     {
+        if count <= self.cell_room() {
+            return Ok(());
+        }
         self.cells.reserve(count)?;
+        let needed = self.cells.len().saturating_add(count);
+        let more = self.cell_room() - count;
+        if more.saturating_sub(MOST_CELLS_MORE) > needed {
+            return Err(Memory);
+        }
         Ok(())
     }
 
@@ -60,6 +77,8 @@ impl Store {
         ensures same { self.new ≡ record self.old { spare_objects = self.new.spare_objects } }
         ensures had_room { IfSome made (λ kind. 0 < self.old.spare_objects) → IsOk result }
         ensures no_more { IfSome made (λ kind. 0 < self.old.spare_objects) → self.new ≡ self.old }
+        ensures grows { self.old.spare_objects ≤ self.new.spare_objects }
+        ensures frugal { FewObjects self.old self.new }
     {
         if made.is_none() {
             return Ok(());
@@ -78,6 +97,7 @@ impl Store {
         ensures left { Takes (room_with_next self.old) (room_with_next self.new) 0 0 0 }
         ensures spare { self.new.spare_objects ≡ self.old.spare_objects }
         ensures count { length self.new.objects ≡ length self.old.objects }
+        ensures cells { self.new.spare_cells ≡ self.old.spare_cells }
     {
         for access in plan {
             self.make_place(alloc, access, need)?;
@@ -93,6 +113,7 @@ impl Store {
         ensures left { Takes (room_with_next self.old) (room_with_next self.new) 0 0 0 }
         ensures spare { self.new.spare_objects ≡ self.old.spare_objects }
         ensures count { length self.new.objects ≡ length self.old.objects }
+        ensures cells { self.new.spare_cells ≡ self.old.spare_cells }
     {
         match access {
             Access::Set(Location::Item(o, i), _) => {
@@ -119,6 +140,7 @@ impl Store {
         ensures left { Takes (room_with_next self.old) (room_with_next self.new) 0 0 0 }
         ensures spare { self.new.spare_objects ≡ self.old.spare_objects }
         ensures count { length self.new.objects ≡ length self.old.objects }
+        ensures cells { self.new.spare_cells ≡ self.old.spare_cells }
     {
         if o < self.objects.len() {
             self.make_item_of(o, i)?;
@@ -153,6 +175,7 @@ impl Store {
         ensures left { Takes (room_with_next self.old) (room_with_next self.new) 0 0 0 }
         ensures spare { self.new.spare_objects ≡ self.old.spare_objects }
         ensures count { length self.new.objects ≡ length self.old.objects }
+        ensures cells { self.new.spare_cells ≡ self.old.spare_cells }
     {
         if o < self.objects.len() {
             self.make_keys_of(o, count)?;

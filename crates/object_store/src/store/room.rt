@@ -60,6 +60,16 @@ impl Store {
         }
     }
 
+    // For how many more bytes there is room in a file.
+    pub(super) fn file_room(&self, path: u32) -> usize
+        ensures { result ≡ bytes_in (room_of self.now) path }
+    {
+        match self.files.get(&path) {
+            Some(file) => file.room(),
+            None => 0,
+        }
+    }
+
     // For how many more cells there is room.
     pub(super) fn cell_room(&self) -> usize
         ensures { result ≡ self.now.spare_cells }

@@ -1,15 +1,19 @@
 // The single writes: of a cell, an item, an order, a file. Each says what it leaves of the store's parts.
-ghost use Rattle.std.specs.Prelude.{◌≡◌, ℕ, ◌==◌, ◌<◌, ◌≤◌, ◌+◌, [], ◌++◌, length, unwrap_or, slice_set, is_some, if◌then◌else◌, Some, IsSome};
+ghost use Rattle.std.specs.Prelude.{◌≡◌, ℕ, ◌==◌, ◌<◌, ◌≤◌, ◌+◌, [], ◌++◌, length, unwrap_or, slice_set, is_some, if◌then◌else◌, Some, IsSome, OnOk, OnErr};
 ghost use Rattle.py_value.specs.declared.access.Location.{Location as OneLocation};
+ghost use Rattle.py_value.specs.declared.access.Location.TheVariants.{File as FileAt};
 ghost use Rattle.py_value.specs.contracts.access.LocationPartialEq.TheImpl.{ghosts as locations};
 ghost use Rattle.object_store.specs.Cell.{content_of};
 ghost use Rattle.object_store.specs.Object.{with_item, with_key, with_keys, without_key, HasKeys};
-ghost use Rattle.object_store.specs.Store.{content_at, object_at, file_at, room_of, IsOwn};
-ghost use Rattle.object_store.specs.Room.{slot_in, bytes_in};
+ghost use Rattle.object_store.specs.Store.{content_at, object_at, file_at, room_of, bytes as held_bytes, IsOwn, Writes};
+ghost use Rattle.object_store.specs.Room.{slot_in, bytes_in, Takes};
 
 use super::Store;
 use crate::cell::Cell;
+use crate::file::File;
+use prov_base::Memory;
 use py_value::{Location, Value};
+use std::alloc::Global;
 
 impl Store {
     // Sets what is no item, order or file.
@@ -86,5 +90,18 @@ impl Store {
         if let Some(file) = self.files.get_mut(&path) {
             file.append(bytes);
         }
+    }
+
+    // Puts a file at a path, with as much room as was there.
+    pub(super) fn put_file(&mut self, alloc: Global, path: u32, bytes: &[u8]) -> Result<(), Memory>
+        ensures held { OnOk result (Writes self.old self.new (FileAt path) (held_bytes bytes.now)) }
+        ensures err { OnErr result (self.new ≡ self.old) }
+        ensures same { self.new ≡ record self.old { files = self.new.files } }
+        ensures left { Takes (room_of self.old) (room_of self.new) 0 0 0 }
+    {
+        let room = self.file_room(path);
+        let file = File::holding(alloc, bytes, room)?;
+        self.files.insert(path, file)?;
+        Ok(())
     }
 }

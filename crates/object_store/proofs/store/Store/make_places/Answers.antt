@@ -12,9 +12,10 @@ loop-access-preserved c =
       takes_then (room_with_next c.args.self.now) (room_with_next c.loop-access.self) (room_with_next c.make_place.new.self) c.loop-access.invariant.1 c.make_place.ensures.left,
       c.make_place.ensures.spare ∙ c.loop-access.invariant.2,
       c.make_place.ensures.count ∙ c.loop-access.invariant.3,
+      c.make_place.ensures.cells ∙ c.loop-access.invariant.4,
       up_to (HasPlaceFor (room_with_next c.make_place.new.self) c.args.need.keys c.args.need.bytes) c.args.plan.now c.loop-access.access-index c.access-item.result at c.in_ok-make_place.ensures.place
-          (λ k a below is. place_later (room_with_next c.loop-access.self) (room_with_next c.make_place.new.self) 0 0 0 c.make_place.ensures.left c.args.need.keys c.args.need.bytes c.args.need.keys c.args.need.bytes (omega arith) (omega arith) a (c.loop-access.invariant.4 k a below is)),
+          (λ k a below is. place_later (room_with_next c.loop-access.self) (room_with_next c.make_place.new.self) 0 0 0 c.make_place.ensures.left c.args.need.keys c.args.need.bytes c.args.need.keys c.args.need.bytes (omega arith) (omega arith) a (c.loop-access.invariant.5 k a below is)),
     )
 
 pub returns-clause-places : goal.returns-clause-places
-returns-clause-places c = λ k access is. c.loop-access.invariant.4 k access (let within = slice_get_within c.args.plan.now k access is in omega (arith, within)) is
+returns-clause-places c = λ k access is. c.loop-access.invariant.5 k access (let within = slice_get_within c.args.plan.now k access is in omega (arith, within)) is

@@ -10,4 +10,5 @@ invariant-loop-access l =
     × Takes (room_with_next l.fn.self) (room_with_next l.self) 0 0 0
     × (l.self.spare_objects ≡ l.fn.self.spare_objects)
     × (length l.self.objects ≡ length l.fn.self.objects)
+    × (l.self.spare_cells ≡ l.fn.self.spare_cells)
     × ((k : ℕ) (access : Access) → k < l.access-index → slice_get l.plan k ≡ Some access → HasPlaceFor (room_with_next l.self) l.need.keys l.need.bytes access)
