@@ -1,9 +1,9 @@
 -- The words of object 0, and what stands in a store as a run begins.
-use Rattle.std.proofs.Common.{◌≡◌, ℕ, zero, suc, ◌==◌, ◌&&◌, Bool, true, false, List, [], ◌∷◌, ◌++◌, length, slice_get, Option, Some, cond, nat_eq, unwrap_or, if◌then◌else◌, refl, ap, ◌∙◌, arith, rules}
+use Rattle.std.proofs.Common.{◌≡◌, ℕ, zero, suc, ◌==◌, ◌&&◌, Bool, true, false, List, [], ◌∷◌, ◌++◌, length, slice_get, Option, Some, cond, nat_eq, unwrap_or, if◌then◌else◌, refl, ap, sym, subst, ◌∙◌, arith, rules, append_assoc, append-nil}
 use Rattle.std.specs.Prelude.{None as Nothing}
 use Rattle.py_value.specs.declared.value.Value.{Value}
 use Rattle.py_value.specs.declared.value.Value.TheVariants.{Text}
-use Rattle.py_value.specs.Values.{ValuesView, Keeps}
+use Rattle.py_value.specs.Values.{ValuesView, Adds, Keeps}
 use Rattle.std.specs.Option.{option_map, option_and_then}
 use Rattle.std.specs.Map.{lookup}
 use Rattle.std.proofs.lemmas.Grind.{common_steps}
@@ -17,7 +17,7 @@ use Rattle.object_store.specs.Cell.{content_of}
 use Rattle.object_store.specs.File.{FileView}
 use Rattle.object_store.specs.Object.{ObjectView, item_of}
 use Rattle.object_store.specs.Store.{StoreView, held_at, content_at, whole, keys, bytes}
-use Rattle.object_store.specs.Opening.{IsWord, AreWords, GainsTexts, opening_at}
+use Rattle.object_store.specs.Opening.{IsWord, AreWords, GainsTexts, AddsAll, AddsFront, opening_at}
 
 word_stays : (old new : ValuesView) → Keeps old.texts new.texts → (item : Option Value) (word : List ℕ) → IsWord old item word → IsWord new item word
 word_stays old new keeps (Some (Text number)) word is = keeps number word is
@@ -74,3 +74,35 @@ module _ (store : StoreView) (object : ObjectView) (name main : ℕ) (objects_ar
   opened (Order o) = ap (λ ks. Some (keys ks)) (ap (λ objects. unwrap_or (option_map (λ (ob : ObjectView). ob.keys) (slice_get objects o)) []) objects_are ∙ keys_of o)
   opened (File path) = ap (λ files. option_map bytes (option_and_then (λ (file : FileView). file.content) (lookup (nat_eq path) files))) files_none
   opened l = ap (option_map whole) (found l)
+
+-- one text more, and more texts behind those that came
+pub adds_last : (old mid new : List (List ℕ)) (texts : List (List ℕ)) (text : List ℕ) → AddsAll old mid texts → Adds mid new text → AddsAll old new (texts ++ text ∷ [])
+adds_last old mid new [] text adds one = (new, (subst (λ xs. Adds xs new text) adds one, refl))
+adds_last old mid new (first ∷ texts) text adds one = (adds.0, (adds.1.0, adds_last adds.0 mid new texts text adds.1.1 one))
+
+pub adds_more : (old mid new : List (List ℕ)) (texts more : List (List ℕ)) → AddsAll old mid texts → AddsAll mid new more → AddsAll old new (texts ++ more)
+adds_more old mid new [] more adds then_adds = subst (λ xs. AddsAll xs new more) adds then_adds
+adds_more old mid new (first ∷ texts) more adds then_adds = (adds.0, (adds.1.0, adds_more adds.0 mid new texts more adds.1.1 then_adds))
+
+pub front_whole : (old new all : List (List ℕ)) → AddsAll old new all → AddsFront old new all
+front_whole old new all adds = record { front = all; rest = []; split = sym (append-nil all); adds = adds }
+
+pub front_none : (old new all : List (List ℕ)) → new ≡ old → AddsFront old new all
+front_none old new all same = record { front = []; rest = all; split = refl; adds = same }
+
+-- what came is a front of more texts too
+pub front_longer : (old new all more : List (List ℕ)) → AddsFront old new all → AddsFront old new (all ++ more)
+front_longer old new all more came = record {
+  front = came.front;
+  rest = came.rest ++ more;
+  split = ap (λ xs. xs ++ more) came.split ∙ append_assoc came.front came.rest more;
+  adds = came.adds;
+}
+
+pub front_behind : (old mid new all more : List (List ℕ)) → AddsAll old mid all → AddsFront mid new more → AddsFront old new (all ++ more)
+front_behind old mid new all more adds came = record {
+  front = all ++ came.front;
+  rest = came.rest;
+  split = ap (λ xs. all ++ xs) came.split ∙ sym (append_assoc all came.front came.rest);
+  adds = adds_more old mid new all came.front adds came.adds;
+}

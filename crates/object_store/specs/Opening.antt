@@ -1,6 +1,6 @@
 -- The store as a run begins (this project's profile): the script's path and arguments as the list with number 0, and the
 -- script's own name.
-use Rattle.std.specs.Prelude.{◌≡◌, ℕ, ◌≤◌, ◌==◌, ◌&&◌, ⊤, List, [], ◌∷◌, length, slice_get, Option, Some, None, if◌then◌else◌, codes}
+use Rattle.std.specs.Prelude.{◌≡◌, ℕ, ◌≤◌, ◌==◌, ◌&&◌, ⊤, List, [], ◌∷◌, ◌++◌, length, slice_get, Option, Some, None, if◌then◌else◌, codes}
 use Rattle.std.specs.Option.{option_map}
 use Rattle.py_value.specs.declared.value.Value.{Value}
 use Rattle.py_value.specs.declared.value.Value.TheVariants.{Text}
@@ -8,7 +8,7 @@ use Rattle.py_value.specs.declared.access.Kind.TheVariants.{List as ListKind}
 use Rattle.py_value.specs.declared.access.Location.{Location}
 use Rattle.py_value.specs.declared.access.Location.TheVariants.{Var, Len, Item, Order}
 use Rattle.py_value.specs.declared.access.Content.TheVariants.{Var as VarContent, Len as LenContent, Item as ItemContent}
-use Rattle.py_value.specs.Values.{ValuesView, Keeps}
+use Rattle.py_value.specs.Values.{ValuesView, Adds, Keeps}
 use Rattle.object_store.specs.Object.{item_in}
 use Rattle.object_store.specs.Store.{StoreView, Held, whole, keys, held_at, kinds}
 
@@ -48,3 +48,19 @@ pub record GainsTexts (old new : ValuesView) : Type 0 where
   pub keeps : Keeps old.texts new.texts
   pub grows : length old.texts ≤ length new.texts
   pub tuples_stay : new.tuples ≡ old.tuples
+
+-- the texts come, each where it is not there yet
+abbrev pub AddsAll : List (List ℕ) → List (List ℕ) → List (List ℕ) → Type 0
+AddsAll old new [] = new ≡ old
+AddsAll old new (text ∷ texts) = (after : List (List ℕ)) × (Adds old after text × AddsAll after new texts)
+
+-- the first of these texts come, the others do not
+pub record AddsFront (old new all : List (List ℕ)) : Type 0 where
+  pub front : List (List ℕ)
+  pub rest : List (List ℕ)
+  pub split : all ≡ front ++ rest
+  pub adds : AddsAll old new front
+
+-- the texts of a run as it begins: the script's path, its arguments, and the script's own name
+abbrev pub opening_texts : List ℕ → List (List ℕ) → List (List ℕ)
+opening_texts path arguments = (path ∷ arguments) ++ (codes "__name__" ∷ codes "__main__" ∷ [])

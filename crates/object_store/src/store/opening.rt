@@ -1,10 +1,11 @@
 // The store as a run begins.
-ghost use Rattle.std.specs.Prelude.{◌≡◌, ℕ, List, [], ◌∷◌, ◌++◌, codes, slice_get, Some, IfOk, OnOk};
+ghost use Rattle.std.specs.Prelude.{◌≡◌, ℕ, List, [], ◌∷◌, ◌++◌, codes, slice_get, Some, IfOk, OnErr, OnOk};
 ghost use Rattle.py_value.specs.declared.access.Kind.TheVariants.{List as ListKind};
 ghost use Rattle.py_value.specs.declared.access.Location.TheVariants.{Var as VarAt, Len as LenAt};
 ghost use Rattle.py_value.specs.declared.value.Value.TheVariants.{Text as TextValue};
 ghost use Rattle.object_store.specs.declared.cell.Cell.TheVariants.{Var as VarCell, Len as LenCell};
-ghost use Rattle.object_store.specs.Opening.{AreWords, IsOpening, GainsTexts};
+ghost use Rattle.object_store.specs.Opening.{AreWords, IsOpening, GainsTexts, AddsAll, AddsFront, opening_texts};
+ghost use Rattle.py_value.specs.Values.{Adds};
 
 use super::Store;
 use crate::cell::Cell;
@@ -27,6 +28,10 @@ impl Store {
 
         // What had a number keeps it.
         ensures gains { GainsTexts values.old values.new }
+
+        // The texts that come are the path, the arguments, `__name__` and `__main__`: after a refusal, the first of them.
+        ensures texts { OnOk result (AddsAll values.old.texts values.new.texts (opening_texts path.now arguments.now)) }
+        ensures front { AddsFront values.old.texts values.new.texts (opening_texts path.now arguments.now) }
     {
         let items = words(alloc, values, path, arguments)?;
         let (name, main) = own_name(alloc, values)?;
@@ -46,6 +51,8 @@ fn own_name(alloc: Global, values: &mut Values) -> Result<(u32, u32), Memory>
     ensures name { IfOk result (λ pair. slice_get values.new.texts pair.0 ≡ Some (codes "__name__")) }
     ensures main { IfOk result (λ pair. slice_get values.new.texts pair.1 ≡ Some (codes "__main__")) }
     ensures gains { GainsTexts values.old values.new }
+    ensures texts { OnOk result (AddsAll values.old.texts values.new.texts (codes "__name__" ∷ codes "__main__" ∷ [])) }
+    ensures front { AddsFront values.old.texts values.new.texts (codes "__name__" ∷ codes "__main__" ∷ []) }
 {
     let name = values.text(alloc, "__name__")?;
     let main = values.text(alloc, "__main__")?;
@@ -61,6 +68,8 @@ fn words(
 ) -> Result<Vec<Option<Value>>, Memory>
     ensures words { IfOk result (λ items. AreWords values.new items.items (path.now ∷ arguments.now)) }
     ensures gains { GainsTexts values.old values.new }
+    ensures texts { OnOk result (AddsAll values.old.texts values.new.texts (path.now ∷ arguments.now)) }
+    ensures front { AddsFront values.old.texts values.new.texts (path.now ∷ arguments.now) }
 {
     let mut items = Vec::new(alloc);
     push_word(alloc, values, &mut items, path)?;
@@ -80,9 +89,12 @@ fn push_word(
     ensures words { OnOk result ((words : List (List ℕ)) → AreWords values.old items.old.items words
         → AreWords values.new items.new.items (words ++ word.now ∷ [])) }
     ensures gains { GainsTexts values.old values.new }
+    ensures text { OnOk result (Adds values.old.texts values.new.texts word.now) }
+    ensures err { OnErr result (values.new ≡ values.old) }
 {
+    items.reserve(1)?;
     let number = values.text(alloc, word)?;
-    items.push(Some(Value::Text(number)))?;
+    items.push_reserved(Some(Value::Text(number)));
     Ok(())
 }
 

@@ -1,4 +1,4 @@
-use Rattle.std.proofs.Common.{◌≡◌, ◌∷◌, [], map, length, ap, sym, subst, ◌∙◌, arith, Some}
+use Rattle.std.proofs.Common.{◌≡◌, ◌∷◌, [], codes, map, length, ap, sym, subst, ◌∙◌, arith, Some}
 use Rattle.py_value.specs.declared.value.Value.TheVariants.{Text}
 use Rattle.py_value.specs.declared.access.Location.TheVariants.{Var, Len}
 use Rattle.object_store.specs.declared.cell.Cell.TheVariants.{Var as VarCell, Len as LenCell}
@@ -7,7 +7,7 @@ use Rattle.object_store.specs.Store.{AreOwn}
 use Rattle.object_store.proofs.Writing.{own_none, own_first}
 use Rattle.object_store.specs.Opening.{AreWords}
 use Rattle.object_store.specs.contracts.store.Store.{the_view}
-use Rattle.object_store.proofs.Beginning.{gains_then, words_stay, opened}
+use Rattle.object_store.proofs.Beginning.{gains_then, words_stay, opened, adds_more, front_longer, front_behind}
 use Rattle.object_store.proofs.store.Store.new.Goals as goal
 
 pub invariant_of-result : goal.invariant_of-result
@@ -41,3 +41,32 @@ returns-clause-opening c =
 
 pub returns-clause-gains : goal.returns-clause-gains
 returns-clause-gains c = gains_then c.args.values.now c.words.new.values c.own_name.new.values c.words.ensures.gains c.own_name.ensures.gains
+
+pub returns-in_err-items-clause-front : goal.returns-in_err-items-clause-front
+returns-in_err-items-clause-front c = front_longer c.args.values.now.texts c.words.new.values.texts (c.args.path.now ∷ c.args.arguments.now) (codes "__name__" ∷ codes "__main__" ∷ []) c.words.ensures.front
+
+pub returns-in_err-name-clause-front : goal.returns-in_err-name-clause-front
+returns-in_err-name-clause-front c = front_behind c.args.values.now.texts c.words.new.values.texts c.own_name.new.values.texts (c.args.path.now ∷ c.args.arguments.now) (codes "__name__" ∷ codes "__main__" ∷ [])
+    c.in_ok-items.ensures.texts c.own_name.ensures.front
+
+pub returns-in_err-one_object-clause-gains : goal.returns-in_err-one_object-clause-gains
+returns-in_err-one_object-clause-gains c = gains_then c.args.values.now c.words.new.values c.own_name.new.values c.words.ensures.gains c.own_name.ensures.gains
+
+pub returns-in_err-one_object-clause-front : goal.returns-in_err-one_object-clause-front
+returns-in_err-one_object-clause-front c = front_behind c.args.values.now.texts c.words.new.values.texts c.own_name.new.values.texts (c.args.path.now ∷ c.args.arguments.now) (codes "__name__" ∷ codes "__main__" ∷ [])
+    c.in_ok-items.ensures.texts c.own_name.ensures.front
+
+pub returns-in_err-opening_cells-clause-gains : goal.returns-in_err-opening_cells-clause-gains
+returns-in_err-opening_cells-clause-gains c = gains_then c.args.values.now c.words.new.values c.own_name.new.values c.words.ensures.gains c.own_name.ensures.gains
+
+pub returns-in_err-opening_cells-clause-front : goal.returns-in_err-opening_cells-clause-front
+returns-in_err-opening_cells-clause-front c = front_behind c.args.values.now.texts c.words.new.values.texts c.own_name.new.values.texts (c.args.path.now ∷ c.args.arguments.now) (codes "__name__" ∷ codes "__main__" ∷ [])
+    c.in_ok-items.ensures.texts c.own_name.ensures.front
+
+pub returns-clause-texts : goal.returns-clause-texts
+returns-clause-texts c = adds_more c.args.values.now.texts c.words.new.values.texts c.own_name.new.values.texts (c.args.path.now ∷ c.args.arguments.now) (codes "__name__" ∷ codes "__main__" ∷ [])
+    c.in_ok-items.ensures.texts c.in_ok-name.ensures.texts
+
+pub returns-clause-front : goal.returns-clause-front
+returns-clause-front c = front_behind c.args.values.now.texts c.words.new.values.texts c.own_name.new.values.texts (c.args.path.now ∷ c.args.arguments.now) (codes "__name__" ∷ codes "__main__" ∷ [])
+    c.in_ok-items.ensures.texts c.own_name.ensures.front
