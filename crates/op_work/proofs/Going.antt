@@ -1,12 +1,11 @@
 -- What was done joins, and so do plans that go on.
-use Rattle.std.proofs.Common.{◌≡◌, refl, sym, ap, ◌∙◌, subst, arith, append-nil, ℕ, ◌+◌, ◌/◌, ◌<◌, ◌≤◌, List, [], ◌∷◌, ◌++◌, map, length, Option, Some, None, Result, Ok, Err}
-use Rattle.std.specs.Prelude.{⊤}
+use Rattle.std.proofs.Common.{◌≡◌, refl, sym, ap, ◌∙◌, subst, arith, append-nil, ℕ, ◌+◌, ◌<◌, List, [], ◌∷◌, ◌++◌, map, length, Option, Result, Ok, Err}
 use Rattle.std.specs.Result.{IsErrAnd, OnOk, OnErr, IfErr}
 use Rattle.std.proofs.lemmas.List.{map_push, append_assoc, length-map, length-append}
 use Rattle.py_value.specs.Contents.{Contents, contents, text, exception_class}
 use Rattle.py_value.specs.declared.value.Value.{Value}
 use Rattle.py_value.specs.Seen.{SeenAccess, SeenKind, access_seen, location_seen, reads}
-use Rattle.py_value.specs.Values.{ValuesView, AreInterned, Keeps, IsNamed}
+use Rattle.py_value.specs.Values.{ValuesView, AreInterned, IsNamed}
 use Rattle.py_value.specs.declared.access.Access.{Access}
 use Rattle.py_value.specs.declared.access.Access.TheVariants.{Read}
 use Rattle.py_value.specs.declared.access.Location.{Location}
@@ -17,7 +16,7 @@ use Rattle.py_model.specs.Store.{RunStore}
 use Rattle.py_model.specs.Touches.{prefixed}
 use Rattle.op_work.specs.declared.stop.Stop.{Stop}
 use Rattle.op_work.specs.declared.stop.Stop.TheVariants.{Raises, TooDear, Memory}
-use Rattle.op_work.specs.Work.{WorkView, Extends, IsSeen, ArePlain, Leads, under, cost_of, Goes, IsDear, IsKept, IsUnpaid, IsNamedResult, Plans, CameTo, Comes, Faults, RaisesIt, is_any, as_is, raising, seen_kind, Wrote}
+use Rattle.op_work.specs.Work.{WorkView, Extends, IsSeen, ArePlain, Leads, under, Goes, IsDear, IsKept, IsUnpaid, IsNamedResult, Plans, CameTo, Comes, Faults, RaisesIt, is_any, as_is, raising, seen_kind, Wrote}
 
 pub extends_same : (values : ValuesView) → Extends values values
 extends_same values = record { texts = λ i x is. is; tuples = λ i x is. is; few = (omega (arith), omega (arith)) }
@@ -66,8 +65,12 @@ characters_join touches more plain = by_plain (λ ts. characters_in (ts ++ more)
 -- nothing was done
 pub stays : (table : ValuesView) (old : WorkView) (before : Leads) → Goes table old old before before
 stays table old before = record {
-  touches = []; plain = tt; effect_is = λ answers. refl;
-  touched_is = sym (append-nil (map (access_seen table) old.touched)); looks_are = omega (arith); characters_are = omega (arith);
+  touches = [];
+  plain = tt;
+  effect_is = λ answers. refl;
+  touched_is = sym (append-nil (map (access_seen table) old.touched));
+  looks_are = omega (arith);
+  characters_are = omega (arith);
 }
 
 -- one thing was done, and then another
@@ -90,8 +93,17 @@ dear_then {table} {a} {b} {p} {q} left_is one dear = record {
   plain = plain_join one.touches dear.touches one.plain dear.plain;
   behind = dear.behind;
   effect_is = λ answers. one.effect_is answers ∙ (ap (prefixed one.touches) (dear.effect_is answers) ∙ sym (prefixed_join one.touches dear.touches (dear.behind answers)));
-  dear = omega (arith, left_is, dear.dear, touched, accesses, one.looks_are, looks_join one.touches dear.touches one.plain, one.characters_are,
-      characters_join one.touches dear.touches one.plain);
+  dear = omega (
+    arith,
+    left_is,
+    dear.dear,
+    touched,
+    accesses,
+    one.looks_are,
+    looks_join one.touches dear.touches one.plain,
+    one.characters_are,
+    characters_join one.touches dear.touches one.plain,
+  );
 }
   where
     touched : length b.touched ≡ length a.touched + length (accesses_in one.touches)
@@ -121,7 +133,7 @@ module _ {A B T U : Type 0} {n : ValuesView → T → Type 0} {m : ValuesView �
     is_named = other.is_named;
     came = λ table store extends seen. by_result table store result
         (λ go. subst (λ plan. Goes table a b (under store (p table (λ x. q table x go))) (under store plan)) (same table seen.interned (extends_then other.kept.extends extends) go)
-            (one.came table store (extends_then other.kept.extends extends) seen (λ x. q table x go)))
+        (one.came table store (extends_then other.kept.extends extends) seen (λ x. q table x go)))
         (other.came table store extends (subst (λ held. IsSeen table held store) (sym one.kept.store_is) seen));
   }
     where
@@ -148,7 +160,7 @@ module _ {A B T U : Type 0} {n : ValuesView → T → Type 0} {m : ValuesView �
 -- a plan that reads a location and goes on with what stands there
 module _ {A T : Type 0} {named : ValuesView → T → Type 0} {seen : ValuesView → T → A} (plan : Plans A) (l : Location) (content : ValuesView → RunStore → A)
     (reads_first : (table : ValuesView) (store : RunStore) (go : A → Plan) (answers : Answers)
-        → effect store answers (plan table go) ≡ touching (accessed (reads (location_seen table l))) (effect store answers (go (content table store))))
+    → effect store answers (plan table go) ≡ touching (accessed (reads (location_seen table l))) (effect store answers (go (content table store))))
     {old new : WorkView} where
   pub read_comes : new ≡ record old { touched = old.touched ++ Read l ∷ [] } → (answer : T) → named new.values answer
       → ((table : ValuesView) (store : RunStore) → Extends new.values table → IsSeen table old.store store → content table store ≡ seen table answer)
@@ -203,7 +215,7 @@ module _ {A T : Type 0} {named : ValuesView → T → Type 0} {seen : ValuesView
     (is : new ≡ record old { values = new.values }) where
   pub gives_comes : (answer : T) → named new.values answer
       → ((table : ValuesView) (store : RunStore) → Extends new.values table → IsSeen table old.store store → (go : A → Plan) (answers : Answers)
-        → effect store answers (plan table go) ≡ effect store answers (go (seen table answer)))
+      → effect store answers (plan table go) ≡ effect store answers (go (seen table answer)))
       → Comes named seen plan old new (Ok answer)
   gives_comes answer is_named effect_is = record {
     kept = record { store_is = ap (λ w. w.store) is; made_is = ap (λ w. w.made) is; left_is = ap (λ w. w.left) is; extends = extends };
@@ -235,7 +247,9 @@ look_comes n {old} {new} (Ok done) is unpaid same = record {
   kept = kept_same (ap (λ w. w.store) is) (ap (λ w. w.made) is) (ap (λ w. w.left) is) (ap (λ w. w.values) is);
   is_named = tt;
   came = λ table store extends seen go. record {
-    touches = looked n ∷ []; plain = tt; effect_is = λ answers. refl;
+    touches = looked n ∷ [];
+    plain = tt;
+    effect_is = λ answers. refl;
     touched_is = ap (λ w. map (access_seen table) w.touched) is ∙ sym (append-nil (map (access_seen table) old.touched));
     looks_are = ap (λ w. w.looks) is ∙ omega (arith);
     characters_are = ap (λ w. w.characters) is ∙ omega (arith);
@@ -243,12 +257,19 @@ look_comes n {old} {new} (Ok done) is unpaid same = record {
 }
 look_comes n {old} {new} (Err (Raises class argument)) is unpaid same = absurd unpaid
 look_comes n {old} {new} (Err Memory) is unpaid same = record {
-  kept = kept_same (ap (λ w. w.store) same) (ap (λ w. w.made) same) (ap (λ w. w.left) same) (ap (λ w. w.values) same); is_named = tt; came = λ table store extends seen. tt;
+  kept = kept_same (ap (λ w. w.store) same) (ap (λ w. w.made) same) (ap (λ w. w.left) same) (ap (λ w. w.values) same);
+  is_named = tt;
+  came = λ table store extends seen. tt;
 }
 look_comes n {old} {new} (Err TooDear) is unpaid same = record {
-  kept = kept_same (ap (λ w. w.store) same) (ap (λ w. w.made) same) (ap (λ w. w.left) same) (ap (λ w. w.values) same); is_named = tt;
+  kept = kept_same (ap (λ w. w.store) same) (ap (λ w. w.made) same) (ap (λ w. w.left) same) (ap (λ w. w.values) same);
+  is_named = tt;
   came = λ table store extends seen go. record {
-    touches = looked n ∷ []; plain = tt; behind = under store (go tt); effect_is = λ answers. refl; dear = omega (arith, unpaid);
+    touches = looked n ∷ [];
+    plain = tt;
+    behind = under store (go tt);
+    effect_is = λ answers. refl;
+    dear = omega (arith, unpaid);
   };
 }
 
@@ -258,7 +279,9 @@ count_comes n {old} {new} (Ok done) is unpaid same = record {
   kept = kept_same (ap (λ w. w.store) is) (ap (λ w. w.made) is) (ap (λ w. w.left) is) (ap (λ w. w.values) is);
   is_named = tt;
   came = λ table store extends seen go. record {
-    touches = counted n ∷ []; plain = tt; effect_is = λ answers. refl;
+    touches = counted n ∷ [];
+    plain = tt;
+    effect_is = λ answers. refl;
     touched_is = ap (λ w. map (access_seen table) w.touched) is ∙ sym (append-nil (map (access_seen table) old.touched));
     looks_are = ap (λ w. w.looks) is ∙ omega (arith);
     characters_are = ap (λ w. w.characters) is ∙ omega (arith);
@@ -266,12 +289,19 @@ count_comes n {old} {new} (Ok done) is unpaid same = record {
 }
 count_comes n {old} {new} (Err (Raises class argument)) is unpaid same = absurd unpaid
 count_comes n {old} {new} (Err Memory) is unpaid same = record {
-  kept = kept_same (ap (λ w. w.store) same) (ap (λ w. w.made) same) (ap (λ w. w.left) same) (ap (λ w. w.values) same); is_named = tt; came = λ table store extends seen. tt;
+  kept = kept_same (ap (λ w. w.store) same) (ap (λ w. w.made) same) (ap (λ w. w.left) same) (ap (λ w. w.values) same);
+  is_named = tt;
+  came = λ table store extends seen. tt;
 }
 count_comes n {old} {new} (Err TooDear) is unpaid same = record {
-  kept = kept_same (ap (λ w. w.store) same) (ap (λ w. w.made) same) (ap (λ w. w.left) same) (ap (λ w. w.values) same); is_named = tt;
+  kept = kept_same (ap (λ w. w.store) same) (ap (λ w. w.made) same) (ap (λ w. w.left) same) (ap (λ w. w.values) same);
+  is_named = tt;
   came = λ table store extends seen go. record {
-    touches = counted n ∷ []; plain = tt; behind = under store (go tt); effect_is = λ answers. refl; dear = omega (arith, unpaid);
+    touches = counted n ∷ [];
+    plain = tt;
+    behind = under store (go tt);
+    effect_is = λ answers. refl;
+    dear = omega (arith, unpaid);
   };
 }
 
@@ -298,7 +328,8 @@ one_text words table go = go (text words)
 module _ (class : ℕ) (words : List ℕ) {old new : WorkView} where
   pub faults_ok : (argument : Value) → Comes IsNamed contents (one_text words) old new (Ok argument) → Faults class words old new (Raises class argument)
   faults_ok argument comes = record {
-    kept = comes.kept; is_named = comes.is_named;
+    kept = comes.kept;
+    is_named = comes.is_named;
     came = λ table store extends seen. comes.came table store extends seen (λ c. raises (exception_class class) (c ∷ []));
   }
 
@@ -308,13 +339,14 @@ module _ (class : ℕ) (words : List ℕ) {old new : WorkView} where
 -- one access more was written
 module _ (first : ValuesView → Writes → Writes) (access : Access) {old new : WorkView}
     (writes_first : (table : ValuesView) (store : RunStore) (made : Option SeenKind) (rest : Writes)
-        → written store made (first table rest) ≡ touching (accessed (access_seen table access)) (written store made rest)) where
+    → written store made (first table rest) ≡ touching (accessed (access_seen table access)) (written store made rest)) where
   pub wrote : (result : Result (Unit {0}) Stop) → OnOk result (new ≡ record old { touched = old.touched ++ access ∷ [] })
       → IfErr result (λ stop. IsUnpaid old 1 0 stop) → OnErr result (new ≡ old) → Wrote first old new result
   wrote (Ok done) is unpaid same = record {
     kept = kept_same (ap (λ w. w.store) is) (ap (λ w. w.made) is) (ap (λ w. w.left) is) (ap (λ w. w.values) is);
     came = λ table store extends seen rest. record {
-      touches = accessed (access_seen table access) ∷ []; plain = tt;
+      touches = accessed (access_seen table access) ∷ [];
+      plain = tt;
       effect_is = λ answers. writes_first table store (seen_kind table old.made) rest
           ∙ ap (λ made. touching (accessed (access_seen table access)) (written store (seen_kind table made) rest)) (sym (ap (λ w. w.made) is));
       touched_is = ap (λ w. map (access_seen table) w.touched) is ∙ map_push (access_seen table) old.touched access;
@@ -330,7 +362,8 @@ module _ (first : ValuesView → Writes → Writes) (access : Access) {old new :
   wrote (Err TooDear) is unpaid same = record {
     kept = kept_same (ap (λ w. w.store) same) (ap (λ w. w.made) same) (ap (λ w. w.left) same) (ap (λ w. w.values) same);
     came = λ table store extends seen rest. record {
-      touches = accessed (access_seen table access) ∷ []; plain = tt;
+      touches = accessed (access_seen table access) ∷ [];
+      plain = tt;
       behind = λ answers. written store (seen_kind table old.made) rest;
       effect_is = λ answers. writes_first table store (seen_kind table old.made) rest;
       dear = omega (arith, unpaid);

@@ -1,3 +1,4 @@
+pub mod Finishing
 pub mod Going
 pub mod Named
 pub mod Reading

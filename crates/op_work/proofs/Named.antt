@@ -1,9 +1,14 @@
 -- What is named, and within the objects that there are, is so behind more of it.
-use Rattle.std.proofs.Common.{◌≡◌, refl, ap, sym, ◌∙◌, subst, ℕ, zero, suc, ◌+◌, ◌<◌, ◌≤◌, length, List, [], ◌∷◌, ◌++◌, Option, Some, None, arith, slice_get}
-use Rattle.object_store.specs.Room.{IsWithin, IsAccessWithin, AreWithin}
+use Rattle.std.proofs.Common.{◌≡◌, ap, sym, ◌∙◌, subst, ℕ, zero, suc, ◌+◌, ◌≤◌, length, List, [], ◌∷◌, ◌++◌, Option, Some, None, arith, slice_get}
+use Rattle.object_store.specs.Room.{IsWithin, IsAccessWithin, AreWithin, IsNamedAccess as IsNamedText}
+use Rattle.object_store.specs.Named.{IsNamedStore}
+use Rattle.object_store.specs.Performing.{kinds_with}
+use Rattle.std.specs.Map.{lookup}
+use Rattle.prov_base.specs.contracts.place.PosPartialEq.TheImpl.{ghosts as places}
+use Rattle.py_value.specs.declared.access.Change.TheVariants.{Insert, Delete, Append}
 use Rattle.py_value.specs.Named.{IsNamedAccess, AreNamedAccesses}
-use Rattle.std.proofs.lemmas.List.{length_push}
-use Rattle.object_store.specs.Store.{StoreView, count_with}
+use Rattle.std.proofs.lemmas.List.{length_push, length-map}
+use Rattle.object_store.specs.Store.{StoreView, Keeps, kinds, count_with}
 use Rattle.op_work.specs.Work.{cost_of}
 use Rattle.py_value.specs.declared.access.Kind.{Kind}
 use Rattle.py_value.specs.Values.{ValuesView}
@@ -63,3 +68,43 @@ access_more n m more (Update l change) within = location_more n m more l within
 -- one object more may be named once an operation makes one
 pub within_made : (store : StoreView) (kind : Kind) (accesses : List Access) → AreWithin (count_with None store) accesses → AreWithin (count_with (Some kind) store) accesses
 within_made store kind accesses within k access is = access_more (length store.objects) (length store.objects + 1) (omega (arith)) access (within k access is)
+
+within_more : (n m : ℕ) → n ≤ m → (accesses : List Access) → AreWithin n accesses → AreWithin m accesses
+within_more n m more accesses within k access is = access_more n m more access (within k access is)
+
+objects_are : (store : StoreView) → length (kinds store) ≡ length store.objects
+objects_are store = length-map store.objects (λ ob. ob.kind)
+
+count_more : (made : Option Kind) (old new : StoreView) → length (kinds old) ≤ length (kinds new) → count_with made old ≤ count_with made new
+count_more None old new more = omega (arith, more, objects_are old, objects_are new)
+count_more (Some kind) old new more = omega (arith, more, objects_are old, objects_are new)
+
+-- what was within the objects is so in a store with as many or more
+pub within_grown : (made : Option Kind) (old new : StoreView) (accesses : List Access) → length (kinds old) ≤ length (kinds new)
+    → AreWithin (count_with made old) accesses → AreWithin (count_with made new) accesses
+within_grown made old new accesses more within = within_more (count_with made old) (count_with made new) (count_more made old new more) accesses within
+
+pub kinds_more : (made : Option Kind) (ks : List Kind) → length ks ≤ length (kinds_with made ks)
+kinds_more None ks = omega (arith)
+kinds_more (Some kind) ks = let longer = length_push ks kind in omega (arith, longer)
+
+-- a store that holds the same is named as before
+pub named_kept : (values : ValuesView) (old new : StoreView) → Keeps old new → IsNamedStore values old → IsNamedStore values new
+named_kept values old new keeps named = record {
+  held = λ l w is. named.held l w (sym (keeps.held l) ∙ is);
+  kinds_named = λ o kind is. named.kinds_named o kind (subst (λ ks. slice_get ks o ≡ Some kind) keeps.kinds_stay is);
+  names_named = λ place name is. named.names_named place name (subst (λ names. lookup (places.eq place) names ≡ Some name) keeps.names_stay is);
+}
+
+-- the texts of what is appended have numbers
+pub texts_named : (values : ValuesView) (plan : List Access) → AreNamedAccesses values plan → (k : ℕ) (access : Access) → slice_get plan k ≡ Some access → IsNamedText values access
+texts_named values [] named k access is = cc
+texts_named values (first ∷ plan) named zero access is = subst (IsNamedText values) (same first access is) (text_named first named.0)
+  where
+    text_named : (access : Access) → IsNamedAccess values access → IsNamedText values access
+    text_named (Read l) named = tt
+    text_named (Set l content) named = tt
+    text_named (Update l (Insert key)) named = tt
+    text_named (Update l (Delete key)) named = tt
+    text_named (Update l (Append text)) named = named.1.1
+texts_named values (first ∷ plan) named (suc k) access is = texts_named values plan named.1 k access is

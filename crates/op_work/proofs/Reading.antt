@@ -1,10 +1,9 @@
 -- What is read at a location is what the store holds there.
-use Rattle.std.proofs.Common.{◌≡◌, refl, sym, ap, ◌∙◌, subst, ℕ, ◌<◌, length, Bool, List, slice_get, map, Option, Some, None}
+use Rattle.std.proofs.Common.{◌≡◌, refl, ap, ◌∙◌, ℕ, ◌<◌, length, slice_get, Option, Some, None}
 use Rattle.std.specs.Option.{option_map}
 use Rattle.std.proofs.lemmas.Option.{slice_get-map}
 use Rattle.prov_base.specs.declared.place.Pos.{Pos}
-use Rattle.py_value.specs.Contents.{Contents, contents}
-use Rattle.py_value.specs.Seen.{SeenContent, content_seen, location_seen, kind_seen, bytes_of, IsNamedLocation, var_at, len_at, item_at as item_place, offset_at, closed_at, method_at, base_at}
+use Rattle.py_value.specs.Seen.{SeenContent, content_seen, location_seen, kind_seen, bytes_of, IsNamedLocation}
 use Rattle.py_value.specs.Values.{ValuesView}
 use Rattle.py_value.specs.declared.access.Content.{Content}
 use Rattle.py_value.specs.declared.access.Content.TheVariants.{Var as VarContent, Len as LenContent, Item as ItemContent, Entry as EntryContent, Order as OrderContent, File as FileContent, Offset as OffsetContent, Closed as ClosedContent, Method as MethodContent, Base as BaseContent}
@@ -13,7 +12,7 @@ use Rattle.py_value.specs.declared.access.Location.{Location}
 use Rattle.py_value.specs.declared.access.Location.TheVariants.{Var, Len, Item, Offset, Closed, Method, Base}
 use Rattle.py_value.specs.declared.value.Value.{Value}
 use Rattle.object_store.specs.Seen.{held_seen}
-use Rattle.object_store.specs.Store.{StoreView, Held, whole, held_at, content_at, item_at, kinds, name_at, IsReadWhole}
+use Rattle.object_store.specs.Store.{StoreView, whole, held_at, content_at, item_at, kinds, name_at, IsReadWhole}
 use Rattle.py_model.specs.Store.{RunStore, empty, var_of, len_of, item_of, offset_of, closed_of, method_of, base_of}
 use Rattle.py_value.specs.Named.{IsNamedContent, IsNamedKind}
 use Rattle.object_store.specs.Named.{IsNamedStore}

@@ -2,6 +2,7 @@
 //! are left pay for.
 #![tactic(auto)]
 
+mod finish;
 mod reads;
 mod steps;
 mod stop;

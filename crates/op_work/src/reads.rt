@@ -1,9 +1,11 @@
 // The content of a location is read, and the access is noted. What was never set reads as unset.
-ghost use Rattle.std.specs.Prelude.{◌≡◌, ◌<◌, length, slice_get, None};
-ghost use Rattle.object_store.specs.Store.{content_at, item_at, kinds, name_at};
+ghost use Rattle.std.specs.Prelude.{◌≡◌, ◌<◌, length, slice_get, map, Some, IfOk};
+ghost use Rattle.object_store.specs.Store.{content_at, item_at, keys_at};
 ghost use Rattle.op_work.specs.Work.{Comes, is_any, as_is, IsNamedMaybe, seen_maybe, var_in, len_in, offset_in, closed_in, method_in, base_in};
-ghost use Rattle.py_model.specs.Plan.{read_var as plan_var, read_len as plan_len, read_item as plan_item, read_offset as plan_offset, read_closed as plan_closed, read_method as plan_method, read_base as plan_base};
+ghost use Rattle.py_model.specs.Plan.{read_var as plan_var, read_len as plan_len, read_item as plan_item, read_offset as plan_offset, read_closed as plan_closed, read_method as plan_method, read_base as plan_base, read_order as plan_order};
+ghost use Rattle.py_value.specs.Contents.{contents};
 ghost use Rattle.py_value.specs.Seen.{bytes_of};
+ghost use Rattle.py_value.specs.Values.{AreNamed};
 ghost use Rattle.py_value.specs.declared.access.Location.TheVariants.{Var, Len, Offset, Closed, Method, Base};
 
 use crate::{Stop, Work};
@@ -108,11 +110,11 @@ impl Work {
         ensures { Comes is_any as_is (λ table. plan_method place (bytes_of table name)) self.old self.new result }
     {
         self.note_read(Location::Method(place, name))?;
-        Ok(self.method(place, name))
+        Ok(self.method_there(place, name))
     }
 
     // The method of a class as it stands.
-    fn method(&self, place: Pos, name: u32) -> Option<Pos>
+    pub(crate) fn method_there(&self, place: Pos, name: u32) -> Option<Pos>
         ensures { result ≡ method_in (content_at self.now.store (Method place name)) }
     {
         match self.store.read(Location::Method(place, name)) {
@@ -137,5 +139,33 @@ impl Work {
             Some(Content::Base(value)) => value,
             _ => None,
         }
+    }
+
+    /// How many keys a dictionary or an instance has. The keys are the order's, by `key`.
+    pub fn read_order(&mut self, o: u32) -> Result<u32, Stop>
+        ensures comes { Comes (λ values count. AreNamed values (keys_at self.old.store o)) (λ table count. map (contents table) (keys_at self.old.store o))
+            (λ table. plan_order o) self.old self.new result }
+        ensures count { IfOk result (λ count. count ≡ length (keys_at self.old.store o)) }
+    {
+        self.note_read(Location::Order(o))?;
+        Ok(self.key_count(o))
+    }
+
+    // How many keys an order has as it stands.
+    fn key_count(&self, o: u32) -> u32
+        ensures { result ≡ length (keys_at self.now.store o) }
+    {
+        if o >= self.store.next() {
+            return 0;
+        }
+        self.store.order_len(o)
+    }
+
+    /// The key at a place of an order, which was read.
+    pub fn key(&self, o: u32, i: u32) -> Value
+        requires { i < length (keys_at self.now.store o) }
+        ensures { slice_get (keys_at self.now.store o) i ≡ Some result }
+    {
+        self.store.order_key(o, i)
     }
 }

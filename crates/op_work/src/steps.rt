@@ -1,18 +1,19 @@
 // Items that are looked at, characters that are counted, what objects and places are, and texts that are made.
-ghost use Rattle.std.specs.Prelude.{◌≡◌, Ok, Some, IfOk, IfErr, slice_get};
+ghost use Rattle.std.specs.Prelude.{◌≡◌, Ok, Some, IfOk, IfErr, slice_get, map};
 ghost use Rattle.object_store.specs.Store.{kinds, name_at};
 ghost use Rattle.object_store.specs.Named.{IsNamedStore};
 ghost use Rattle.op_work.specs.Work.{Comes, Faults, is_any, as_is, seen_kind, seen_name, IsNamedName, Extends};
 ghost use Rattle.op_work.specs.declared.stop.Stop.TheVariants.{Memory as NoMemory};
+ghost use Rattle.py_model.specs.Effect.{parts_of};
 ghost use Rattle.py_model.specs.Plan.{Plan, looks, counts, kind_of, name_of};
-ghost use Rattle.py_value.specs.Contents.{Contents, contents, text as text_contents};
-ghost use Rattle.py_value.specs.Values.{IsNamed, AreInterned};
+ghost use Rattle.py_value.specs.Contents.{Contents, contents, text as text_contents, tuple as tuple_contents};
+ghost use Rattle.py_value.specs.Values.{IsNamed, AreNamed, AreInterned};
 ghost use Rattle.py_value.specs.Named.{IsNamedKind};
 
 use crate::{Stop, Work};
 use object_store::named_stays;
 use prov_base::{Memory, Pos};
-use py_value::{Kind, Value};
+use py_value::{Kind, Value, tuples_are_their_parts};
 use std::alloc::Global;
 
 impl Work {
@@ -80,6 +81,28 @@ impl Work {
     {
         named_stays();
         let number = self.values.text(alloc, words)?;
+        Ok(number)
+    }
+
+    /// The tuple of these values.
+    pub fn tuple(&mut self, alloc: Global, items: &[Value]) -> Result<Value, Stop>
+        requires { AreNamed self.old.values items.now }
+        ensures { Comes IsNamed contents (λ table (go : Contents → Plan). go (tuple_contents (parts_of (map (contents table) items.now)))) self.old self.new result }
+    {
+        tuples_are_their_parts();
+        let number = self.tuple_number(alloc, items)?;
+        Ok(Value::Tuple(number))
+    }
+
+    // The number of the tuple of these values.
+    fn tuple_number(&mut self, alloc: Global, items: &[Value]) -> Result<u32, Memory>
+        requires { AreNamed self.old.values items.now }
+        ensures name { IfOk result (λ id. slice_get self.new.values.tuples id ≡ Some items.now) }
+        ensures same { self.new ≡ record self.old { values = self.new.values } }
+        ensures extends { Extends self.old.values self.new.values }
+    {
+        named_stays();
+        let number = self.values.tuple(alloc, items)?;
         Ok(number)
     }
 

@@ -19,9 +19,9 @@ pub struct Work {
     pub(crate) values: Values,
     pub(crate) touched: Vec<Access>,
     pub(crate) made: Option<Kind>,
-    looks: u64,
-    characters: u64,
-    left: u32,
+    pub(crate) looks: u64,
+    pub(crate) characters: u64,
+    pub(crate) left: u32,
 }
 
 impl Model for Work {

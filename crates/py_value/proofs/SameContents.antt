@@ -1,4 +1,5 @@
 -- Values of one run have equal contents exactly where they are the same value.
+use Rattle.std.proofs.lemmas.Option.{slice_get_within}
 use Rattle.std.proofs.Common.{◌≡◌, ℕ, zero, suc, ◌<◌, ◌≤◌, List, [], ◌∷◌, length, slice_get, unwrap_or, Some, refl, sym, ap, ◌∙◌, arith}
 use Rattle.std.proofs.lemmas.Option.{slice_get-get_or, slice_get_within}
 use Rattle.py_value.proofs.Interning.{below_more}
@@ -116,3 +117,21 @@ module _ (old new : ValuesView) (interned : AreInterned old) (texts : Keeps old.
   -- what has texts and tuples keeps its contents
   pub contents_stay : (v : Value) → IsNamed old v → contents new v ≡ contents old v
   contents_stay v named = let more = keeps_length old.tuples new.tuples tuples in stay_to (length old.tuples) (length new.tuples) v named named (below_more (length old.texts) (length old.tuples) (length old.texts) (length new.tuples) v (omega arith) more named)
+
+-- a tuple is the tuple of its parts
+pub tuple_parts : (view : ValuesView) → AreInterned view → (id : ℕ) (items : List Value) → slice_get view.tuples id ≡ Some items
+    → contents view (Tuple id) ≡ tuple (parts_by (contents view) items)
+tuple_parts view interned id items is = at_level (length view.tuples) refl
+  where
+    named : id < length view.tuples
+    named = slice_get_within view.tuples id items is
+
+    at_level : (n : ℕ) → length view.tuples ≡ n → contents_to n view (Tuple id) ≡ tuple (parts_by (contents_to n view) items)
+    at_level zero none = absurd (omega (arith, named, none))
+    at_level (suc m) some =
+        ap (λ found. tuple (parts_by (contents_to m view) (unwrap_or found []))) is
+        ∙ ap tuple (stay_lists view view interned (λ i x at. at) (λ i x at. at) (suc m) m id
+        (λ v below. stay_to view view interned (λ i x at. at) (λ i x at. at) (suc m) m v
+        (below_more (length view.texts) id (length view.texts) (length view.tuples) v (omega arith) (omega (arith, named)) below)
+        (below_more (length view.texts) id (length view.texts) (suc m) v (omega arith) (omega (arith, named, some)) below)
+        (below_more (length view.texts) id (length view.texts) m v (omega arith) (omega (arith, named, some)) below)) items (interned.parts id items is))

@@ -27,4 +27,4 @@ pub use access::{
 pub use key::{Key, KeyFault};
 pub use laws::{key_faults_of_contents, same_key_same_normal_contents, tests_are_equality};
 pub use value::{Keys, Value};
-pub use values::{Values, contents_stay, same_contents_same_value};
+pub use values::{Values, contents_stay, same_contents_same_value, tuples_are_their_parts};

@@ -1,6 +1,8 @@
 // The texts and tuples of a run, each with one number.
 ghost use Rattle.std.specs.Prelude.{◌≡◌, ◌<◌, ◌≤◌, [], length, slice_get, Some, IfOk, IsOk, OnOk, OnErr, Contains};
-ghost use Rattle.py_value.specs.Contents.{contents};
+ghost use Rattle.std.specs.Prelude.{ℕ, List};
+ghost use Rattle.py_value.specs.Contents.{contents, parts_by, tuple as tuple_of_parts};
+ghost use Rattle.py_value.specs.declared.value.Value.TheVariants.{Tuple as TupleValue};
 ghost use Rattle.py_value.specs.Values.{ValuesView, Adds, Keeps, IsNamed, AreNamed, AreInterned};
 ghost use Rattle.py_value.specs.declared.value.Value.{Value as OneValue};
 
@@ -21,6 +23,12 @@ pub fn same_contents_same_value()
 pub fn contents_stay()
     ensures { (old new : ValuesView) (v : OneValue) → AreInterned old → Keeps old.texts new.texts → Keeps old.tuples new.tuples
         → IsNamed old v → contents new v ≡ contents old v }
+{}
+
+/// The law that the contents of a tuple are the tuple of the contents of its parts.
+pub fn tuples_are_their_parts()
+    ensures { (view : ValuesView) (id : ℕ) (items : List OneValue) → AreInterned view → slice_get view.tuples id ≡ Some items
+        → contents view (TupleValue id) ≡ tuple_of_parts (parts_by (contents view) items) }
 {}
 
 /// The texts and tuples of a run. Each is named by a number, counted from 0 in the order in which they came. Equal texts

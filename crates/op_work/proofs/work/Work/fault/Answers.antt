@@ -1,4 +1,3 @@
-use Rattle.std.proofs.Common.{rules, ◌≡◌, refl, sym, ap, subst, ◌∙◌, ◌<◌, ◌≤◌, length, arith, Ok, Err, Some, None, Option, List, [], ◌∷◌, slice_get}
 use Rattle.op_work.proofs.Going.{faults_ok, faults_err}
 use Rattle.op_work.proofs.work.Work.fault.Goals as goal
 

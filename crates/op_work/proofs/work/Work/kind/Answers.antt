@@ -1,4 +1,4 @@
-use Rattle.std.proofs.Common.{rules, ◌≡◌, refl, sym, ap, subst, ◌∙◌, ◌<◌, ◌≤◌, length, arith, Ok, Err, Some, None, Option, List, [], ◌∷◌, slice_get}
+use Rattle.std.proofs.Common.{refl, sym, ap, subst, ◌∙◌}
 use Rattle.py_model.specs.Effect.{effect}
 use Rattle.py_model.specs.Plan.{kind_of}
 use Rattle.py_value.specs.Named.{IsNamedKind}
@@ -11,4 +11,4 @@ pub returns : goal.returns
 returns c = gives_comes (λ table. kind_of c.args.o) (extends_same c.args.self.now.values) refl c.kind_there.result
     (subst (λ kind. IsNamedKind c.args.self.now.values kind) (sym c.kind_there.ensures.kind) (kind_named c.args.self.now.values c.args.self.now.store c.kind_there.ensures.named c.args.o))
     (λ table store extends seen go answers. ap (λ kind. effect store answers (go kind))
-        (kind_read table c.args.self.now.store store seen c.args.o ∙ ap (seen_kind table) (sym c.kind_there.ensures.kind)))
+    (kind_read table c.args.self.now.store store seen c.args.o ∙ ap (seen_kind table) (sym c.kind_there.ensures.kind)))

@@ -1,4 +1,3 @@
-use Rattle.std.proofs.Common.{rules, ◌≡◌, refl, sym, ap, subst, ◌∙◌, ◌<◌, ◌≤◌, length, arith, Ok, Err, Some, None, Option, List, [], ◌∷◌, slice_get}
 use Rattle.op_work.proofs.Going.{look_comes}
 use Rattle.op_work.proofs.work.Work.look.Goals as goal
 

@@ -1,4 +1,4 @@
-use Rattle.std.proofs.Common.{rules, ◌≡◌, refl, sym, ap, subst, ◌∙◌, ◌<◌, ◌≤◌, length, arith, Ok, Err, Some, None, Option, List, [], ◌∷◌, slice_get}
+use Rattle.std.proofs.Common.{refl, sym, ap, subst, ◌∙◌}
 use Rattle.py_model.specs.Effect.{effect}
 use Rattle.py_model.specs.Plan.{name_of}
 use Rattle.op_work.proofs.Going.{gives_comes, extends_same}

@@ -1,4 +1,4 @@
-use Rattle.std.proofs.Common.{rules, ◌≡◌, refl, sym, subst, ◌+◌, ◌≤◌, length, arith, Ok, Err}
+use Rattle.std.proofs.Common.{rules, sym, subst, ◌+◌, ◌≤◌, length}
 use Rattle.py_value.specs.Seen.{IsNamedLocation}
 use Rattle.py_value.specs.declared.access.Access.TheVariants.{Read}
 use Rattle.op_work.specs.Work.{WorkView, cost_of}

@@ -1,4 +1,4 @@
-use Rattle.std.proofs.Common.{rules, ◌≡◌, refl, sym, subst, ◌+◌, ◌≤◌, length, arith, Ok, Err}
+use Rattle.std.proofs.Common.{rules, sym, subst, ◌+◌, ◌≤◌, length}
 use Rattle.object_store.specs.Room.{IsWithin}
 use Rattle.object_store.specs.Store.{count_with}
 use Rattle.py_value.specs.Named.{IsNamedAccess}

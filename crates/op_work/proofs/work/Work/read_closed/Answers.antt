@@ -1,22 +1,21 @@
-use Rattle.std.proofs.Common.{rules, ◌≡◌, refl, sym, ap, subst, ◌∙◌, Ok, Err}
-use Rattle.object_store.specs.Store.{StoreView, content_at, item_at}
+use Rattle.std.proofs.Common.{refl, sym, ap, ◌∙◌}
+use Rattle.object_store.specs.Store.{StoreView, content_at}
 use Rattle.py_model.specs.Plan.{read_closed as plan_closed}
 use Rattle.py_model.specs.Store.{closed_of}
-use Rattle.py_value.specs.Seen.{bytes_of}
 use Rattle.py_value.specs.declared.access.Location.TheVariants.{Closed}
-use Rattle.op_work.specs.Work.{WorkView, Comes, is_any, as_is, IsNamedMaybe, seen_maybe, var_in, len_in, offset_in, closed_in, method_in, base_in}
-use Rattle.op_work.proofs.Going.{read_comes, read_stops, passes_err, text_stays}
+use Rattle.op_work.specs.Work.{WorkView, Comes, is_any, as_is, closed_in}
+use Rattle.op_work.proofs.Going.{read_comes, read_stops, passes_err}
 use Rattle.op_work.proofs.Reading.{closed_read}
 use Rattle.op_work.proofs.work.Work.read_closed.Goals as goal
 
 pub returns-in_err-note_read : goal.returns-in_err-note_read
 returns-in_err-note_read c = passes_err (λ result. Comes is_any as_is (λ table. plan_closed c.args.o) c.args.self.now c.note_read.new.self result) c.from_residual.result c.from_residual.ensures.1
     (read_stops (λ table. plan_closed c.args.o) (Closed c.args.o) (λ table store. closed_of store c.args.o) (λ table store go answers. refl)
-        c.in_err-note_read.ensures.same c.in_err-note_read.field-0.0 c.in_err-note_read.ensures.unpaid)
+    c.in_err-note_read.ensures.same c.in_err-note_read.field-0.0 c.in_err-note_read.ensures.unpaid)
 
 pub returns : goal.returns
 returns c = read_comes (λ table. plan_closed c.args.o) (Closed c.args.o) (λ table store. closed_of store c.args.o) (λ table store go answers. refl)
     c.in_ok-note_read.ensures.done c.closed.result tt
     (λ table store extends is_seen. closed_read table c.args.self.now.store store is_seen c.args.o
-        ∙ ap (λ (held : StoreView). closed_in (content_at held (Closed c.args.o))) (sym (ap (λ (w : WorkView). w.store) c.in_ok-note_read.ensures.done))
-        ∙ (sym c.closed.ensures))
+    ∙ ap (λ (held : StoreView). closed_in (content_at held (Closed c.args.o))) (sym (ap (λ (w : WorkView). w.store) c.in_ok-note_read.ensures.done))
+    ∙ (sym c.closed.ensures))

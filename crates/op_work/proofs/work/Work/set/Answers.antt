@@ -1,7 +1,7 @@
-use Rattle.std.proofs.Common.{rules, ◌≡◌, refl}
-use Rattle.py_model.specs.Plan.{write, change as plan_change}
-use Rattle.py_value.specs.Seen.{location_seen, content_seen, change_seen}
-use Rattle.py_value.specs.declared.access.Access.TheVariants.{Set, Update}
+use Rattle.std.proofs.Common.{refl}
+use Rattle.py_model.specs.Plan.{write}
+use Rattle.py_value.specs.Seen.{location_seen, content_seen}
+use Rattle.py_value.specs.declared.access.Access.TheVariants.{Set}
 use Rattle.op_work.proofs.Going.{wrote}
 use Rattle.op_work.proofs.work.Work.set.Goals as goal
 

@@ -1,4 +1,4 @@
-use Rattle.std.proofs.Common.{rules, ◌≡◌, refl, sym, ap, subst, ◌∙◌, ◌<◌, ◌≤◌, length, arith, Ok, Err, Some, None, Option, List, [], ◌∷◌, slice_get}
+use Rattle.std.proofs.Common.{sym, ap, []}
 use Rattle.std.specs.Prelude.{unwrap_or}
 use Rattle.std.proofs.lemmas.Option.{slice_get_within}
 use Rattle.py_model.specs.Effect.{effect}
