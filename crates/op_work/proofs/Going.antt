@@ -343,7 +343,7 @@ module _ (first : ValuesView → Writes → Writes) (access : Access) {old new :
   pub wrote : (result : Result (Unit {0}) Stop) → OnOk result (new ≡ record old { touched = old.touched ++ access ∷ [] })
       → IfErr result (λ stop. IsUnpaid old 1 0 stop) → OnErr result (new ≡ old) → Wrote first old new result
   wrote (Ok done) is unpaid same = record {
-    kept = kept_same (ap (λ w. w.store) is) (ap (λ w. w.made) is) (ap (λ w. w.left) is) (ap (λ w. w.values) is);
+    kept = kept_same (ap (λ w. w.store) is) (ap (λ w. w.made) is) (ap (λ w. w.left) is) (ap (λ w. w.values) is); is_named = tt;
     came = λ table store extends seen rest. record {
       touches = accessed (access_seen table access) ∷ [];
       plain = tt;
@@ -356,11 +356,11 @@ module _ (first : ValuesView → Writes → Writes) (access : Access) {old new :
   }
   wrote (Err (Raises class argument)) is unpaid same = absurd unpaid
   wrote (Err Memory) is unpaid same = record {
-    kept = kept_same (ap (λ w. w.store) same) (ap (λ w. w.made) same) (ap (λ w. w.left) same) (ap (λ w. w.values) same);
+    kept = kept_same (ap (λ w. w.store) same) (ap (λ w. w.made) same) (ap (λ w. w.left) same) (ap (λ w. w.values) same); is_named = tt;
     came = λ table store extends seen. tt;
   }
   wrote (Err TooDear) is unpaid same = record {
-    kept = kept_same (ap (λ w. w.store) same) (ap (λ w. w.made) same) (ap (λ w. w.left) same) (ap (λ w. w.values) same);
+    kept = kept_same (ap (λ w. w.store) same) (ap (λ w. w.made) same) (ap (λ w. w.left) same) (ap (λ w. w.values) same); is_named = tt;
     came = λ table store extends seen rest. record {
       touches = accessed (access_seen table access) ∷ [];
       plain = tt;

@@ -129,6 +129,9 @@ pub record Comes {A T : Type 0} (named : ValuesView → T → Type 0) (seen : Va
 abbrev pub seen_kind : ValuesView → Option Kind → Option SeenKind
 seen_kind table kind = option_map (kind_seen table) kind
 
+abbrev pub is_any : {T : Type 0} → ValuesView → T → Type 0
+is_any values result = ⊤
+
 -- The writes of a plan go on behind one that was done, or cost more than can be paid for.
 abbrev pub WroteTo : (ValuesView → Writes → Writes) → ValuesView → RunStore → WorkView → WorkView → Result (Unit {0}) Stop → Type 0
 WroteTo first table store old new (Ok done) = (rest : Writes) → Goes table old new (λ answers. written store (seen_kind table old.made) (first table rest))
@@ -139,6 +142,7 @@ WroteTo first table store old new (Err Memory) = ⊤
 
 pub record Wrote (first : ValuesView → Writes → Writes) (old new : WorkView) (result : Result (Unit {0}) Stop) : Type 0 where
   pub kept : IsKept old new
+  pub is_named : IsNamedResult is_any new.values result
   pub came : (table : ValuesView) (store : RunStore) → Extends new.values table → IsSeen table old.store store → WroteTo first table store old new result
 
 -- The whole plan came to its end.
@@ -158,10 +162,19 @@ pub record Ends (plan : ValuesView → Plan) (old new : WorkView) (result : Resu
   pub is_named : IsNamedResult IsNamedAnswer new.values result
   pub came : (table : ValuesView) (store : RunStore) → Extends new.values table → IsSeen table old.store store → EndedSo plan table store old new result
 
--- numbers, and values that may be absent, are what they are
-abbrev pub is_any : {T : Type 0} → ValuesView → T → Type 0
-is_any values result = ⊤
+-- All writes that a plan still has are done, up to its answer.
+abbrev pub WroteAllTo : (ValuesView → Writes) → ValuesView → RunStore → WorkView → WorkView → Result OneAnswer Stop → Type 0
+WroteAllTo all table store old new (Ok answer) = Goes table old new (λ answers. written store (seen_kind table old.made) (all table)) (ended table new answer)
+WroteAllTo all table store old new (Err (Raises class argument)) = ⊥
+WroteAllTo all table store old new (Err TooDear) = IsDear old (λ answers. written store (seen_kind table old.made) (all table))
+WroteAllTo all table store old new (Err Memory) = ⊤
 
+pub record WroteAll (all : ValuesView → Writes) (old new : WorkView) (result : Result OneAnswer Stop) : Type 0 where
+  pub kept : IsKept old new
+  pub is_named : IsNamedResult IsNamedAnswer new.values result
+  pub came : (table : ValuesView) (store : RunStore) → Extends new.values table → IsSeen table old.store store → WroteAllTo all table store old new result
+
+-- numbers, and values that may be absent, are what they are
 abbrev pub as_is : {T : Type 0} → ValuesView → T → T
 as_is table result = result
 
