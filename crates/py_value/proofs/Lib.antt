@@ -1,3 +1,4 @@
+pub mod AddedForms
 pub mod Equality
 pub mod Interning
 pub mod KeyFaults

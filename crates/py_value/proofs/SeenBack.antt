@@ -1,5 +1,5 @@
 -- What a location without numbers leads to has these contents.
-use Rattle.std.proofs.Common.{◌≡◌, ℕ, zero, suc, ◌<◌, Bool, true, false, List, [], ◌∷◌, length, slice_get, Option, Some, unwrap_or, refl, sym, ap, subst, ◌∙◌, arith, if◌then◌else◌}
+use Rattle.std.proofs.Common.{◌≡◌, ℕ, zero, suc, ◌<◌, Bool, true, false, List, [], ◌∷◌, length, slice_get, Option, Some, unwrap_or, refl, sym, ap, subst, ◌∙◌, if◌then◌else◌}
 use Rattle.std.specs.Prelude.{None as Absent}
 use Rattle.std.specs.Option.{option_map, option_and_then}
 use Rattle.std.specs.Str.{bytes_eq}
@@ -12,11 +12,10 @@ use Rattle.py_value.specs.contracts.value.ValuePartialEq.TheImpl.{ghosts}
 use Rattle.py_value.specs.declared.access.Location.{Location}
 use Rattle.py_value.specs.declared.access.Location.TheVariants.{Var, Len, Item, Order, File, Offset, Closed, Method, Base}
 use Rattle.py_value.specs.Values.{ValuesView, AreInterned, IsNamed, AreNamed}
-use Rattle.py_value.specs.Contents.{Contents, Parts, nothing, truth, int, text, tuple, range, function, class, exception_class, builtin, object, no_parts, part, parts_by, contents_to, contents}
+use Rattle.py_value.specs.Contents.{Contents, Parts, nothing, truth, int, text, tuple, range, function, class, exception_class, builtin, object, no_parts, part, parts_by, contents}
 use Rattle.py_value.specs.Seen.{SeenLocation, var_at, len_at, item_at, entry_at, order_at, file_at, offset_at, closed_at, method_at, base_at, IsNamedLocation, location_seen, location_at, value_at, values_at, number_by, bytes_of, entry_of}
 use Rattle.py_value.proofs.Equality.{values_decide}
-use Rattle.py_value.proofs.Interning.{below_more}
-use Rattle.py_value.proofs.SameContents.{stay_lists, stay_to}
+use Rattle.py_value.proofs.NormalForms.{tuple_contents}
 
 -- what was mapped
 record Mapped {A B : Type 0} (f : A → B) (found : Option A) (y : B) : Type 0 where
@@ -71,16 +70,6 @@ part_front : (view : ValuesView) (v : Value) (vs : List Value) (c : Contents) (p
 part_front view v vs c ps one more = ap (λ x. part x (parts_by (contents view) vs)) one ∙ ap (part c) more
 
 module _ (view : ValuesView) (interned : AreInterned view) where
-  -- the contents of a tuple are those of its parts
-  tuple_contents : (n i : ℕ) (items : List Value) → n ≡ length view.tuples → i < n → slice_get view.tuples i ≡ Some items → contents_to n view (Tuple i) ≡ tuple (parts_by (contents view) items)
-  tuple_contents zero i items is within at = absurd (omega (arith, within))
-  tuple_contents (suc m) i items is within at =
-      ap (λ found. tuple (parts_by (contents_to m view) (unwrap_or found []))) at
-      ∙ ap tuple (stay_lists view view interned (λ k x found. found) (λ k x found. found) (length view.tuples) m i (λ v below. stay_to view view interned (λ k x found. found) (λ k x found. found) (length view.tuples) m v
-      (below_more (length view.texts) i (length view.texts) (length view.tuples) v (omega arith) (omega (arith, is, within)) below)
-      (below_more (length view.texts) i (length view.texts) (length view.tuples) v (omega arith) (omega (arith, is, within)) below)
-      (below_more (length view.texts) i (length view.texts) m v (omega arith) (omega (arith, within)) below)) items (interned.parts i items at))
-
   text_is : (bytes : List ℕ) (i : ℕ) → number_by (bytes_eq bytes) view.texts ≡ Some i → (i < length view.texts) × (bytes_of view i ≡ bytes)
   text_is bytes i is =
       let found = finds (bytes_eq bytes) view.texts i is in
@@ -95,7 +84,7 @@ module _ (view : ValuesView) (interned : AreInterned view) where
       let within = slice_get_within view.tuples number.item found.item found.at in
       subst (IsValueOf view (tuple ps)) number.is (record {
         named = within;
-        same = tuple_contents (length view.tuples) number.item items.item refl within (found.at ∙ ap Some (sym same)) ∙ ap tuple (parts items.item items.there).same;
+        same = tuple_contents view interned number.item items.item (found.at ∙ ap Some (sym same)) ∙ ap tuple (parts items.item items.there).same;
       })
 
   parts_are : (c : Contents) (ps : Parts) (vs : List Value) → ((v : Value) → value_at view c ≡ Some v → IsValueOf view c v) → ((us : List Value) → values_at view ps ≡ Some us → AreValuesOf view ps us)

@@ -1,6 +1,6 @@
 -- Keys of dictionaries (The Python Language Reference 3, section 6.2.7, in this project's profile): what is refused of a
 -- value, and the normal form of one that is a key.
-use Rattle.std.specs.Prelude.{◌≡◌, ℕ, zero, suc, true, false, List, [], ◌∷◌, slice_get, unwrap_or, Option, Some, pos}
+use Rattle.std.specs.Prelude.{◌≡◌, ◌⊎◌, ◌<◌, ◌≤◌, ℕ, zero, suc, true, false, List, [], ◌∷◌, length, slice_get, unwrap_or, Option, Some, pos}
 use Rattle.std.specs.Option.{option_or}
 use Rattle.std.specs.Prelude.{None as Nothing}
 use Rattle.py_value.specs.declared.value.Value.{Value}
@@ -61,3 +61,21 @@ abbrev mutual
 pub record IsNormalOf (old now : ValuesView) (value form : Value) : Type 0 where
   pub named : IsNamed now form
   pub form_is : contents now form ≡ normal (contents old value)
+
+-- a tuple that is in contents: it is these, or in a part
+abbrev mutual
+  pub IsTupleIn : Contents → Contents → Type 0
+  IsTupleIn c (tuple parts) = (c ≡ tuple parts) ⊎ IsTupleInParts c parts
+  IsTupleIn c other = ⊥
+
+  pub IsTupleInParts : Contents → Parts → Type 0
+  IsTupleInParts c no_parts = ⊥
+  IsTupleInParts c (part first rest) = IsTupleIn c first ⊎ IsTupleInParts c rest
+
+-- each tuple that came is the normal form of one of these
+abbrev pub AddsOnly : ValuesView → ValuesView → (Contents → Type 0) → Type 0
+AddsOnly old now among = (t : ℕ) → length old.tuples ≤ t → t < length now.tuples → (c : Contents) × (among c × (contents now (Tuple t) ≡ normal c))
+
+-- the normal form of contents has a number
+abbrev pub HasForm : ValuesView → Contents → Type 0
+HasForm view c = (t : ℕ) × ((t < length view.tuples) × (contents view (Tuple t) ≡ normal c))

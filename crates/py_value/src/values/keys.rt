@@ -4,7 +4,8 @@ ghost use Rattle.std.specs.Prelude.{◌≡◌, ◌<◌, ◌≤◌, ◌⊎◌, le
 ghost use Rattle.std.specs.Prelude.{None as Nothing};
 ghost use Rattle.std.specs.Option.{option_or};
 ghost use Rattle.py_value.specs.Values.{Keeps, IsNamed, AreNamed, AreInterned};
-ghost use Rattle.py_value.specs.KeyOf.{first_fault, fault_within, IsNormalOf};
+ghost use Rattle.py_value.specs.Contents.{Contents, contents, parts_by};
+ghost use Rattle.py_value.specs.KeyOf.{first_fault, fault_within, AddsOnly, HasForm, IsNormalOf, IsTupleIn, IsTupleInParts};
 ghost use Rattle.py_value.specs.Notes.{IsKnown, AreKnown, AreNormalOf};
 ghost use Rattle.py_value.specs.declared.key.KeyFault.TheVariants.{Memory as OutOfMemory};
 ghost use Rattle.py_value.specs.declared.value.Value.TheVariants.{Tuple};
@@ -178,6 +179,7 @@ impl Values {
         ensures texts { self.new.texts ≡ self.old.texts }
         ensures keeps { Keeps self.old.tuples self.new.tuples }
         ensures interned { AreInterned self.new }
+        ensures only { AddsOnly self.old self.new (λ c. IsTupleIn c (contents self.old value)) }
     {
         let _ = &self.texts;
         match value {
@@ -204,6 +206,7 @@ impl Values {
         ensures texts { self.new.texts ≡ self.old.texts }
         ensures keeps { Keeps self.old.tuples self.new.tuples }
         ensures interned { AreInterned self.new }
+        ensures only { AddsOnly self.old self.new (λ c. IsTupleIn c (contents self.old (Tuple id))) }
     {
         let _ = &self.texts;
         if let Some(number) = self.noted_form(id) {
@@ -230,6 +233,7 @@ impl Values {
         ensures texts { self.new.texts ≡ self.old.texts }
         ensures keeps { Keeps self.old.tuples self.new.tuples }
         ensures interned { AreInterned self.new }
+        ensures only { AddsOnly self.old self.new (λ c. IsTupleInParts c (parts_by (contents self.old) values.now)) }
     {
         let _ = &self.texts;
         let mut forms = Vec::new(alloc);
@@ -265,6 +269,10 @@ impl Values {
         ensures grows { length self.old.tuples ≤ length self.new.tuples }
         ensures err { OnErr result (self.new ≡ self.old) }
         ensures interned { AreInterned self.new }
+
+        // Only normal forms of the value's tuples come, and nothing where these are there already.
+        ensures only { AddsOnly self.old self.new (λ c. IsTupleIn c (contents self.old value)) }
+        ensures known { ((c : Contents) → IsTupleIn c (contents self.old value) → HasForm self.old c) → self.new ≡ self.old }
     {
         let _ = &self.texts;
         self.note_tuples()?;

@@ -1,7 +1,9 @@
 use Rattle.std.proofs.Common.{◌≡◌, ◌≤◌, ◌∙◌, length, take, vec_items, sym, ap, inr, subst, arith}
 use Rattle.std.proofs.lemmas.List.{length-map}
 use Rattle.py_value.specs.Values.{Keeps, AreInterned}
-use Rattle.py_value.specs.KeyOf.{fault_within}
+use Rattle.py_value.specs.Contents.{contents}
+use Rattle.py_value.specs.KeyOf.{fault_within, AddsOnly, IsTupleIn}
+use Rattle.py_value.proofs.AddedForms.{nothing_new}
 use Rattle.py_value.proofs.SameContents.{keeps_length}
 use Rattle.py_value.proofs.NormalForms.{front_kept, same_views, is_none}
 use Rattle.py_value.proofs.values.Values.key_of.Goals as goal
@@ -26,3 +28,17 @@ returns-in-Err-clause-grows c = subst (λ v. length c.args.self.now.tuples ≤ l
 
 pub returns-in-Err-clause-interned : goal.returns-in-Err-clause-interned
 returns-in-Err-clause-interned c = subst AreInterned (sym (returns-in-Err-clause-err c)) (subst AreInterned c.self.view_is c.self.invariant.interned)
+
+pub returns-in-Ok-clause-only : goal.returns-in-Ok-clause-only
+returns-in-Ok-clause-only c = subst (λ v. AddsOnly v c.form_of.new.self (λ x. IsTupleIn x (contents v c.args.value))) c.note_tuples.ensures c.form_of.ensures.only
+
+pub returns-in-Ok-clause-known : goal.returns-in-Ok-clause-known
+returns-in-Ok-clause-known c = λ there.
+    nothing_new c.args.self.now c.form_of.new.self (λ x. IsTupleIn x (contents c.args.self.now c.args.value)) (subst AreInterned c.self.view_is c.self.invariant.interned) c.form_of.ensures.interned
+    (c.form_of.ensures.texts ∙ ap (λ v. v.texts) c.note_tuples.ensures) (subst (λ v. Keeps v.tuples c.form_of.new.self.tuples) c.note_tuples.ensures c.form_of.ensures.keeps) (returns-in-Ok-clause-only c) there
+
+pub returns-in-Err-clause-only : goal.returns-in-Err-clause-only
+returns-in-Err-clause-only c = subst (λ v. AddsOnly c.args.self.now v (λ x. IsTupleIn x (contents c.args.self.now c.args.value))) (sym (returns-in-Err-clause-err c)) (λ t low high. absurd (omega (arith, low, high)))
+
+pub returns-in-Err-clause-known : goal.returns-in-Err-clause-known
+returns-in-Err-clause-known c = λ there. returns-in-Err-clause-err c
