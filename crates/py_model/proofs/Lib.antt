@@ -18,10 +18,17 @@ pub mod AlikeSorting
 pub mod AlikeTexts
 pub mod AlikeWalks
 pub mod Correspondence
+pub mod Cuts
 pub mod Drawings
 pub mod Effects
 pub mod Frames
 pub mod Goings
+pub mod GraphAtoms
+pub mod GraphContents
+pub mod GraphCuts
+pub mod GraphValues
+pub mod GraphWords
+pub mod GraphsTold
 pub mod Histories
 pub mod Joins
 pub mod Levels

@@ -14,15 +14,15 @@ use Rattle.py_model.specs.SameGraph.{Setting, Match, PartsMatch, OptionsMatch, E
 use Rattle.py_model.specs.Store.{RunStore, len_of, item_of, entry_of, order_of, offset_of, closed_of}
 use Rattle.py_model.specs.Texts.{size}
 
-abbrev file_text : List ℕ → Mode → ℕ → Bool → List ℕ
+abbrev pub file_text : List ℕ → Mode → ℕ → Bool → List ℕ
 file_text path mode offset is_closed =
     codes "file(" ++ literal path ++ codes ", " ++ mode_text mode ++ codes ", " ++ int_text (pos offset) ++ codes ", " ++ closed_text is_closed ++ codes ")"
 
-abbrev name_text : Contents → List ℕ
+abbrev pub name_text : Contents → List ℕ
 name_text (text bytes) = bytes
 name_text other = key_text other
 
-name_is : (script : ScriptTree) (store : RunStore) (f : ℕ → Drawing → Drawing) (k : Contents) (d : Drawing) → attribute_name script store f k d ≡ add (name_text k) d
+pub name_is : (script : ScriptTree) (store : RunStore) (f : ℕ → Drawing → Drawing) (k : Contents) (d : Drawing) → attribute_name script store f k d ≡ add (name_text k) d
 name_is script store f (text bytes) d = refl
 name_is script store f other d = refl
 

@@ -25,6 +25,7 @@ pub mod Occurrences
 pub mod Operands
 pub mod Operations
 pub mod Places
+pub mod PlainGraph
 pub mod Plan
 pub mod Printing
 pub mod Quiet

@@ -1,11 +1,12 @@
 // Laws of plans and their effects, each a function without a body that says it.
-ghost use Rattle.std.specs.Prelude.{◌≡◌, ◌⊎◌, ◌≤◌, ℕ, ◌+◌, false, ◌||◌, List, [], ◌++◌, map, length, Option, Some};
+ghost use Rattle.std.specs.Prelude.{◌≡◌, ◌⊎◌, ◌≤◌, ℕ, ◌+◌, ◌^◌, false, ◌||◌, List, [], ◌++◌, map, length, Option, Some};
 ghost use Rattle.py_value.specs.Contents.{Contents};
 ghost use Rattle.py_model.specs.Effect.{Answers, Touch, Effect, effect, answered, unanswered, accesses_in, looked_at, characters_in, after, after_touches, after_accesses, weight, cost, IsThrown, IsUntouched, IsThere};
 ghost use Rattle.py_model.specs.Agreement.{Alike, Agrees};
 ghost use Rattle.py_model.specs.AlikeOperations.{renamed_op};
 ghost use Rattle.py_model.specs.Operations.{Op, plan};
 ghost use Rattle.py_model.specs.Plan.{Plan, Answer, raised};
+ghost use Rattle.py_model.specs.PlainGraph.{IsPlain, IsPlainSetting};
 ghost use Rattle.py_model.specs.Quiet.{may_ask, IsQuiet};
 ghost use Rattle.py_model.specs.Renaming.{Renaming, renamed_list, renamed_effect};
 ghost use Rattle.py_model.specs.Store.{RunStore};
@@ -167,10 +168,14 @@ pub fn spans_change_nothing()
         → run (moved m script) path arguments capture steps ≡ run script path arguments capture steps }
 {}
 
-/// The law of graph texts: values with the same graph, up to the names of objects, have the same graph text.
-pub fn same_graphs_have_same_texts()
-    ensures { (here there : Setting) (v w : Contents) → HaveSameGraph here there v w
+/// The law of graph texts: they are equal exactly where the graphs are, up to the names of objects. Equal graphs have equal texts; and
+/// equal texts of fewer than 10^20 bytes are of equal graphs, where names are names and all that objects hold is there.
+pub fn graph_texts_tell_graphs()
+    ensures same { (here there : Setting) (v w : Contents) → HaveSameGraph here there v w
         → graph_text here.script here.store v ≡ graph_text there.script there.store w }
+    ensures told { (here there : Setting) (v w : Contents) → IsPlainSetting here → IsPlainSetting there → IsPlain v → IsPlain w
+        → length (graph_text here.script here.store v) < 10 ^ 20 → graph_text here.script here.store v ≡ graph_text there.script there.store w
+        → HaveSameGraph here there v w }
 {
     tests_are_equality();
 }
