@@ -1,0 +1,4 @@
+//! Frames that perform the meaning of an expression.
+#![tactic(auto)]
+
+mod node;
