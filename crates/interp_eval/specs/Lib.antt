@@ -1,2 +1,5 @@
 pub mod Machine
 pub mod Seen
+pub mod Held
+pub mod Delivery
+pub mod Turns

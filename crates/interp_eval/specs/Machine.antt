@@ -1,13 +1,13 @@
 -- What is still to be done of an expression that is being evaluated, in the words of its meaning (The Python Language Reference 3, section 6,
 -- in this project's profile): nodes that wait for operands, one inside the other.
-use Rattle.std.specs.Prelude.{ℕ, Bool, true, false, List, [], ◌∷◌, ◌++◌, nat_lt, if◌then◌else◌, Option}
+use Rattle.std.specs.Prelude.{ℕ, pos, ◌+◌, ◌-◌, Bool, true, false, List, [], ◌∷◌, ◌++◌, length, slice_get, not, nat_lt, if◌then◌else◌, Option, Some, None}
 use Rattle.prov_base.specs.declared.place.Pos.{Pos}
 use Rattle.py_tree.specs.Tree.{ExprTree, MaybeTree, ExprsTree, PairsTree, ScriptTree, const_expr, var_expr, unary_expr, binary_expr, compare_expr, logic_expr, choose_expr, call_expr, attr_expr, part_expr, range_expr, list_expr, dict_expr, tuple_expr, some_expr, end_exprs, more_exprs, end_pairs, more_pairs}
 use Rattle.py_tree.specs.declared.expr.LogicOp.{LogicOp}
 use Rattle.py_tree.specs.declared.expr.LogicOp.TheVariants.{And as Both, Or as Either}
-use Rattle.py_value.specs.Contents.{Contents, nothing, builtin}
+use Rattle.py_value.specs.Contents.{Contents, nothing, truth, int, function, class, exception_class, builtin, object}
 use Rattle.py_model.specs.Act.{Act, Walked, perform, ret, normal}
-use Rattle.py_model.specs.Expressions.{Here, Task, op, op_named, op_scoped, op_of, by_answer, by_truth, doing, walking, unary_number, binary_number, compare_number, constant, failing, not_callable, giving, calling, calling_method, calling_attribute, eval, eval_maybe, eval_all}
+use Rattle.py_model.specs.Expressions.{Here, Task, op, op_named, op_scoped, op_of, by_answer, by_truth, doing, walking, unary_number, binary_number, compare_number, constant, failing, not_callable, takes_so_many, function_arities, method_arities, giving, calling, calling_method, calling_attribute, eval, eval_maybe, eval_all}
 use Rattle.py_model.specs.Functions.{expr_place}
 use Rattle.py_model.specs.Operations.{Op}
 
@@ -55,6 +55,12 @@ pub record Waiting : Type 0 where
 pub record Machine : Type 0 where
   pub top : Waiting
   pub below : List Waiting
+
+abbrev pub waiting : Node → List Contents → Waiting
+waiting n vs = record { node = n; have = vs }
+
+abbrev pub machine : Node → List Contents → List Waiting → Machine
+machine n vs fs = record { top = waiting n vs; below = fs }
 
 abbrev pub expr_list : ExprsTree → List MaybeTree
 expr_list end_exprs = []
@@ -148,3 +154,107 @@ module _ (script : ScriptTree) (next : Task → Act) where
   -- what a machine still means, before what follows the whole expression
   unfoldable pub remains : Here → Machine → (Contents → Act) → Act
   remains here m go = waits here m.top (goes here m.below go)
+
+-- a test is true of the truth value True alone, since it is the answer of the operation `truth`
+abbrev pub is_true : Contents → Bool
+is_true (truth b) = b
+is_true v = false
+
+-- The node after a test: what is left to be evaluated, with a `give` at the end, or the tested value itself.
+abbrev pub giving_node : Pos → ExprTree → Node
+giving_node at e = node at (does_one 2 plain) (some_expr e ∷ [])
+
+abbrev pub after_test : Pos → Branch → Contents → Bool → Node
+after_test at (both_of r) v true = giving_node at r
+after_test at (both_of r) v false = node at (gives_one v) []
+after_test at (either_of r) v true = node at (gives_one v) []
+after_test at (either_of r) v false = giving_node at r
+after_test at (one_of chosen other) v true = giving_node at chosen
+after_test at (one_of chosen other) v false = giving_node at other
+
+-- The node after the look-up of what is called: a method of a value of the language and one of an instance get what they were looked up on.
+abbrev pub is_method : Contents → Bool
+is_method (builtin number) = not (nat_lt number 80)
+is_method called = false
+
+abbrev pub is_instance : Contents → Option Pos → Bool
+is_instance (object o) (Some method) = true
+is_instance owner method = false
+
+abbrev pub takes_receiver : Contents → Contents → Option Pos → Bool
+takes_receiver (builtin number) owner method = not (nat_lt number 80)
+takes_receiver called owner method = is_instance owner method
+
+abbrev pub after_find : Pos → ExprsTree → Contents → Contents → Option Pos → Waiting
+after_find at arguments owner v method = record {
+  node = node at (if is_method v then calls_method else calls_one) (expr_list arguments);
+  have = v ∷ (if takes_receiver v owner method then owner ∷ [] else []);
+}
+
+-- What comes of the value of an operation: it is the node's; it decides a branch; it is what is called; or the operation only raises.
+pub data After : Type 0 where
+  pops : After
+  branches : Branch → After
+  binds : ExprsTree → After
+  never : After
+
+-- what a node with all its operands is to do: an operation on its values, or on all but the first of them; or a call that its caller makes
+pub data Turn : Type 0 where
+  performs : Pos → ℕ → Want → Bool → After → Turn
+  hands_over : Turn
+
+abbrev pub fails : Pos → ℕ → Turn
+fails at reason = performs at 38 (a_value (int (pos reason))) false never
+
+abbrev pub builtin_turn : Pos → ℕ → ℕ → Turn
+builtin_turn at number count =
+    if takes_so_many (slice_get function_arities number) count then performs at (50 + number) plain true pops
+    else fails at (if nat_lt number 22 then 1 else 0)
+
+abbrev pub call_turn : Pos → List Contents → Turn
+call_turn at [] = fails at 0
+call_turn at (function place ∷ arguments) = hands_over
+call_turn at (class place ∷ arguments) = hands_over
+call_turn at (exception_class number ∷ arguments) = hands_over
+call_turn at (builtin number ∷ arguments) = builtin_turn at number (length arguments)
+call_turn at (other ∷ arguments) = fails at 0
+
+abbrev pub number_turn : Pos → ℕ → ℕ → Turn
+number_turn at number count =
+    if nat_lt number 80 then fails at 0
+    else (if takes_so_many (slice_get method_arities (number - 80)) count then performs at number plain true pops else fails at 1)
+
+abbrev pub method_turn : Pos → List Contents → Turn
+method_turn at (builtin number ∷ receiver ∷ arguments) = number_turn at number (length arguments)
+method_turn at vs = fails at 0
+
+abbrev pub turn_by : Pos → Finish → List Contents → Turn
+turn_by at (does_one number want) vs = performs at number want false pops
+turn_by at (gives_one v) vs = performs at 2 plain false pops
+turn_by at (tests_one place branch) vs = performs place 3 plain false (branches branch)
+turn_by at (finds_one dot name arguments) vs = performs dot 32 (a_name name) false (binds arguments)
+turn_by at calls_one vs = call_turn at vs
+turn_by at calls_method vs = method_turn at vs
+
+abbrev pub behind_first : List Contents → List Contents
+behind_first [] = []
+behind_first (v ∷ vs) = vs
+
+-- the values of the operation
+abbrev pub values_by : Finish → List Contents → Bool → List Contents
+values_by (gives_one v) vs skip = v ∷ []
+values_by finish vs true = behind_first vs
+values_by finish vs false = vs
+
+module _ (script : ScriptTree) (next : Task → Act) where
+  -- what follows an operation of a node, by its value and the method that its walk found
+  abbrev pub follows : Here → Pos → Contents → After → (Contents → Act) → Walked → Contents → Act
+  follows here at v pops go came = go
+  follows here at v (branches branch) go came = tested script next here at branch v go
+  follows here at v (binds arguments) go came = λ callee. found script next here at arguments v go callee came.method
+  follows here at v never go came = λ value. ret normal
+
+  abbrev pub turn_act : Here → Pos → Finish → List Contents → Turn → (Contents → Act) → Act
+  turn_act here at finish vs (performs place number want skip after) go =
+      perform place (wanted_op here number want) (values_by finish vs skip) (λ answer came. by_answer here (ret normal) (follows here at (first_of vs) after go came) answer)
+  turn_act here at finish vs hands_over go = called script next here at vs go

@@ -17,7 +17,9 @@ use Rattle.interp_eval.specs.declared.node.Finish.TheVariants.{Do, Giving, Test,
 use Rattle.interp_eval.specs.declared.node.Operands.{Operands}
 use Rattle.interp_eval.specs.declared.node.Operands.TheVariants.{Nothing, One, Two, Items, Then, Pairs, Entry, Slice, Bounds, Bound}
 use Rattle.interp_eval.specs.declared.node.Node.{Node as NodeRefs}
-use Rattle.interp_eval.specs.Machine.{Want, plain, a_name, a_variable, a_value, Branch, both_of, either_of, one_of, Finish, does_one, gives_one, tests_one, finds_one, calls_one, calls_method, Node, node}
+use Rattle.interp_eval.specs.Machine.{Want, plain, a_name, a_variable, a_value, Branch, both_of, either_of, one_of, Finish, does_one, gives_one, tests_one, finds_one, calls_one, calls_method, Node, node, Waiting, Machine}
+use Rattle.interp_eval.specs.declared.frames.Frame.{Frame}
+use Rattle.interp_eval.specs.declared.frames.EvalFrames.{EvalFrames}
 
 abbrev pub code_number : Code → ℕ
 code_number (Const atom) = 0
@@ -78,3 +80,9 @@ abbrev pub next_seen : Next → List MaybeTree
 next_seen Done = []
 next_seen (Absent rest) = no_expr ∷ operands_seen rest
 next_seen (Begin e rest) = some_of e.now ∷ operands_seen rest
+
+abbrev pub waiting_seen : ValuesView → Frame → Waiting
+waiting_seen table f = record { node = node_seen table f.node; have = map (contents table) f.have.items }
+
+abbrev pub machine_seen : ValuesView → EvalFrames → Machine
+machine_seen table frames = record { top = waiting_seen table frames.top; below = map (waiting_seen table) frames.below.items }
