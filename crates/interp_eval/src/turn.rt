@@ -136,15 +136,23 @@ fn takes(arity: Arity, count: usize) -> bool
     }
 }
 
+/// Whether what has this number takes so many arguments.
+fn takes_at(arities: &[Arity], number: u64, count: usize) -> bool
+    ensures takes { result ≡ takes_so_many (slice_get arities.now number) count }
+    ensures within { result ≡ true → number < length arities.now }
+{
+    match arities.get(number as usize) {
+        None => false,
+        Some(arity) => takes(*arity, count),
+    }
+}
+
 /// Whether the function of the language with this number takes so many arguments.
 fn function_takes(number: u64, count: usize) -> bool
     ensures takes { result ≡ takes_so_many (slice_get function_arities number) count }
     ensures within { result ≡ true → number < 22 }
 {
-    match FUNCTIONS.get(number as usize) {
-        None => false,
-        Some(arity) => takes(*arity, count),
-    }
+    takes_at(&FUNCTIONS, number, count)
 }
 
 /// Whether the method with this number, counted from 0, takes so many arguments.
@@ -152,10 +160,7 @@ fn method_takes(number: u64, count: usize) -> bool
     ensures takes { result ≡ takes_so_many (slice_get method_arities number) count }
     ensures within { result ≡ true → number < 32 }
 {
-    match METHODS.get(number as usize) {
-        None => false,
-        Some(arity) => takes(*arity, count),
-    }
+    takes_at(&METHODS, number, count)
 }
 
 /// A call fails: what is called is not callable, or the number of arguments is wrong.
