@@ -3,3 +3,5 @@ pub mod Seen
 pub mod Held
 pub mod Delivery
 pub mod Turns
+pub mod Scopes
+pub mod Performing

@@ -1,13 +1,14 @@
 -- What turns are, with the contents of their values.
-use Rattle.std.specs.Prelude.{◌≡◌, true, map, ⊤}
+use Rattle.std.specs.Prelude.{◌≡◌, ℕ, true, false, map, ⊤}
 use Rattle.py_tree.specs.Erasure.{expr_of, exprs_list}
-use Rattle.py_model.specs.Told.{is_operation}
+use Rattle.py_model.specs.Told.{is_operation, names_text}
 use Rattle.py_value.specs.Contents.{contents, text}
 use Rattle.py_value.specs.Values.{ValuesView}
 use Rattle.interp_eval.specs.declared.turn.Want.{Want as WantRefs}
 use Rattle.interp_eval.specs.declared.turn.Want.TheVariants.{Plain, Name, Variable, Value, Text}
 use Rattle.interp_eval.specs.declared.turn.After.{After as AfterRefs}
 use Rattle.interp_eval.specs.declared.turn.After.TheVariants.{Pop, Branch, Bind, Never}
+use Rattle.interp_eval.specs.declared.turn.Order.{Order}
 use Rattle.interp_eval.specs.declared.turn.Turn.{Turn as TurnRefs}
 use Rattle.interp_eval.specs.declared.turn.Turn.TheVariants.{Perform, Call}
 use Rattle.interp_eval.specs.Machine.{Want, plain, a_name, a_variable, a_value, After, pops, branches, binds, never, Turn, performs, hands_over}
@@ -30,7 +31,19 @@ abbrev pub turn_seen : ValuesView → TurnRefs → Turn
 turn_seen table (Perform order) = performs order.at order.no (want_seen table order.want) order.skip (after_seen order.after)
 turn_seen table Call = hands_over
 
+-- whether the operation names a text is told by its number
+abbrev pub IsWanted : ℕ → WantRefs → Type 0
+IsWanted number Plain = names_text number ≡ false
+IsWanted number (Name name) = names_text number ≡ true
+IsWanted number (Variable name) = names_text number ≡ true
+IsWanted number (Value v) = names_text number ≡ false
+IsWanted number (Text name) = names_text number ≡ false
+
 -- the operation is one of the language
+pub record IsOrderly (order : Order) : Type 0 where
+  pub operation : is_operation order.no ≡ true
+  pub wanted : IsWanted order.no order.want
+
 abbrev pub IsOfOperation : TurnRefs → Type 0
-IsOfOperation (Perform order) = is_operation order.no ≡ true
+IsOfOperation (Perform order) = IsOrderly order
 IsOfOperation Call = ⊤

@@ -2,7 +2,9 @@
 #![tactic(auto)]
 
 mod frames;
+mod locals;
 mod node;
+mod perform;
 mod turn;
 
 pub use frames::{EvalFrames, EvalNext, Scope};

@@ -1,13 +1,13 @@
 // What a node with all its operands is to do.
 ghost use Rattle.std.specs.Prelude.{false, ◌<◌, ◌≡◌, ◌+◌, ◌-◌, true, length, map, slice_get};
 ghost use Rattle.py_model.specs.Expressions.{function_arities, method_arities, takes, takes_so_many, unary_number, binary_number, compare_number};
-ghost use Rattle.py_model.specs.Told.{is_operation};
+ghost use Rattle.py_model.specs.Told.{is_operation, names_text};
 ghost use Rattle.py_value.specs.Contents.{contents};
 ghost use Rattle.py_value.specs.Values.{ValuesView};
 ghost use Rattle.interp_eval.specs.Machine.{builtin_turn, call_turn, method_turn, number_turn, turn_by, fails, performs, plain, pops};
 ghost use Rattle.interp_eval.specs.declared.turn.Turn.TheVariants.{Perform};
 ghost use Rattle.interp_eval.specs.Seen.{code_number, code_want, finish_seen};
-ghost use Rattle.interp_eval.specs.Turns.{turn_seen, want_seen, IsOfOperation};
+ghost use Rattle.interp_eval.specs.Turns.{turn_seen, want_seen, IsOfOperation, IsWanted};
 
 use crate::frames::Frame;
 use crate::node::{Branch, Code, Finish};
@@ -179,7 +179,8 @@ fn fails<'a>(at: Pos, reason: u8) -> Turn<'a>
 
 /// A function or method of the language is called: its operation.
 fn calls<'a>(at: Pos, no: u8) -> Turn<'a>
-    requires { is_operation no ≡ true }
+    requires operation { is_operation no ≡ true }
+    requires plain { names_text no ≡ false }
     ensures means { (table : ValuesView) → turn_seen table result ≡ performs at no plain true pops }
     ensures operation { IsOfOperation result }
 {
@@ -338,8 +339,10 @@ impl<'a> Code<'a> {
     }
 
     /// What the operation names.
+    #[tactic(auto, using(crate::proofs::Codes::unary_plain, crate::proofs::Codes::binary_plain, crate::proofs::Codes::compare_plain))]
     fn want(self) -> Want<'a>
-        ensures { (table : ValuesView) → want_seen table result ≡ code_want self.entry }
+        ensures means { (table : ValuesView) → want_seen table result ≡ code_want self.entry }
+        ensures wanted { IsWanted (code_number self.entry) result }
     {
         match self {
             Code::Const(atom) => match atom {
