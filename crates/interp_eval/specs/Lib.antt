@@ -5,3 +5,5 @@ pub mod Delivery
 pub mod Turns
 pub mod Scopes
 pub mod Performing
+pub mod Step
+pub mod Values

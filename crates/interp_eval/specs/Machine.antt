@@ -201,7 +201,7 @@ pub data After : Type 0 where
 -- what a node with all its operands is to do: an operation on its values, or on all but the first of them; or a call that its caller makes
 pub data Turn : Type 0 where
   performs : Pos → ℕ → Want → Bool → After → Turn
-  hands_over : Turn
+  hands_over : Contents → Turn
 
 abbrev pub fails : Pos → ℕ → Turn
 fails at reason = performs at 38 (a_value (int (pos reason))) false never
@@ -213,9 +213,9 @@ builtin_turn at number count =
 
 abbrev pub call_turn : Pos → List Contents → Turn
 call_turn at [] = fails at 0
-call_turn at (function place ∷ arguments) = hands_over
-call_turn at (class place ∷ arguments) = hands_over
-call_turn at (exception_class number ∷ arguments) = hands_over
+call_turn at (function place ∷ arguments) = hands_over (function place)
+call_turn at (class place ∷ arguments) = hands_over (class place)
+call_turn at (exception_class number ∷ arguments) = hands_over (exception_class number)
 call_turn at (builtin number ∷ arguments) = builtin_turn at number (length arguments)
 call_turn at (other ∷ arguments) = fails at 0
 
@@ -257,4 +257,4 @@ module _ (script : ScriptTree) (next : Task → Act) where
   abbrev pub turn_act : Here → Pos → Finish → List Contents → Turn → (Contents → Act) → Act
   turn_act here at finish vs (performs place number want skip after) go =
       perform place (wanted_op here number want) (values_by finish vs skip) (λ answer came. by_answer here (ret normal) (follows here at (first_of vs) after go came) answer)
-  turn_act here at finish vs hands_over go = called script next here at vs go
+  turn_act here at finish vs (hands_over f) go = calling script next here at f (behind_first vs) go

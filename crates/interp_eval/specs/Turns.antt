@@ -4,6 +4,8 @@ use Rattle.py_tree.specs.Erasure.{expr_of, exprs_list}
 use Rattle.py_model.specs.Told.{is_operation, names_text}
 use Rattle.py_value.specs.Contents.{contents, text}
 use Rattle.py_value.specs.Values.{ValuesView}
+use Rattle.py_value.specs.declared.value.Value.{Value as OneValue}
+use Rattle.py_value.specs.declared.value.Value.TheVariants.{Fn, Class, Exc}
 use Rattle.interp_eval.specs.declared.turn.Want.{Want as WantRefs}
 use Rattle.interp_eval.specs.declared.turn.Want.TheVariants.{Plain, Name, Variable, Value, Text}
 use Rattle.interp_eval.specs.declared.turn.After.{After as AfterRefs}
@@ -29,7 +31,7 @@ after_seen Never = never
 
 abbrev pub turn_seen : ValuesView → TurnRefs → Turn
 turn_seen table (Perform order) = performs order.at order.no (want_seen table order.want) order.skip (after_seen order.after)
-turn_seen table Call = hands_over
+turn_seen table (Call f) = hands_over (contents table f)
 
 -- whether the operation names a text is told by its number
 abbrev pub IsWanted : ℕ → WantRefs → Type 0
@@ -39,6 +41,13 @@ IsWanted number (Variable name) = names_text number ≡ true
 IsWanted number (Value v) = names_text number ≡ false
 IsWanted number (Text name) = names_text number ≡ false
 
+-- functions, classes and exception classes are called by the caller of a step
+abbrev pub IsCallable : OneValue → Type 0
+IsCallable (Fn place) = ⊤
+IsCallable (Class place) = ⊤
+IsCallable (Exc number) = ⊤
+IsCallable v = ⊥
+
 -- the operation is one of the language
 pub record IsOrderly (order : Order) : Type 0 where
   pub operation : is_operation order.no ≡ true
@@ -46,4 +55,4 @@ pub record IsOrderly (order : Order) : Type 0 where
 
 abbrev pub IsOfOperation : TurnRefs → Type 0
 IsOfOperation (Perform order) = IsOrderly order
-IsOfOperation Call = ⊤
+IsOfOperation (Call f) = IsCallable f

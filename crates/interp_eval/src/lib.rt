@@ -5,6 +5,7 @@ mod frames;
 mod locals;
 mod node;
 mod perform;
+mod step;
 mod turn;
 
 pub use frames::{EvalFrames, EvalNext, Scope};

@@ -57,7 +57,7 @@ pub(crate) struct Order<'a> {
 #[derive(Clone, Copy)]
 pub(crate) enum Turn<'a> {
     Perform(Order<'a>),
-    Call,
+    Call(Value),
 }
 
 /// How many arguments a function takes: at least, and at most.
@@ -217,9 +217,9 @@ fn call_turn<'a>(at: Pos, have: &[Value]) -> Turn<'a>
         return fails(at, 0);
     };
     match callee {
-        Value::Fn(_) => Turn::Call,
-        Value::Class(_) => Turn::Call,
-        Value::Exc(_) => Turn::Call,
+        Value::Fn(_) => Turn::Call(*callee),
+        Value::Class(_) => Turn::Call(*callee),
+        Value::Exc(_) => Turn::Call(*callee),
         Value::Builtin(number) => builtin_turn(at, *number, arguments.len()),
         Value::None => fails(at, 0),
         Value::Bool(_) => fails(at, 0),
