@@ -5,3 +5,6 @@ pub mod Payments
 pub mod Staying
 pub mod Codes
 pub mod Performed
+pub mod Goings
+pub mod Steps
+pub mod LocalWalks

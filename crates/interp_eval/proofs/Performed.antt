@@ -94,7 +94,8 @@ module _ (first mid last : Fits) (before between after : Stands) (number : ℕ) 
           → ForEach last before (λ table capture s. s.left ≡ left → WasCut at op values (after table capture) was is table capture s)
       was_not_told was is tells table capture fit s stands steps =
           let d = done table capture fit s (word table capture (kept table capture fit) s stands).1.1 steps in
-          not_told deed.answer d.walked d.next d.happened d.stands (tells table capture fit)
+          not_told deed.answer d.walked d.next (moment_seen table moment)
+          (subst (λ vs. d.next.told ≡ moment_seen table (Do at op.no vs deed.answer deed.made deed.accesses deed.weight) ∷ s.told) (sym same) d.told_is) d.happened d.stands (tells table capture fit)
 
   -- what does not happen is not told
   pub was_too_dear : (at : Pos) (op : Op) (values : List Value) (left : ℕ) (was : Option (List SeenMoment))

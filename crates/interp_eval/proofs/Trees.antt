@@ -13,7 +13,8 @@ use Rattle.py_tree.proofs.ExprTrees.{const_tree, var_tree, unary_tree, binary_tr
 use Rattle.interp_eval.specs.Machine.{node, calls_one, expr_list, pair_list, call_node, node_for}
 use Rattle.interp_eval.specs.Seen.{some_of, pairs_seen}
 
-listed : (es : List Expr) → expr_list (exprs_list (map expr_of es)) ≡ map some_of es
+-- the items of a row, as operands
+pub listed : (es : List Expr) → expr_list (exprs_list (map expr_of es)) ≡ map some_of es
 listed [] = refl
 listed (e ∷ es) = ap (λ rest. some_of e ∷ rest) (listed es)
 

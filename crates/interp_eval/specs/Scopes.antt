@@ -1,6 +1,6 @@
 -- Where an expression is evaluated: the activation, and its function by the number of the `def` (this project's profile).
-use Rattle.std.specs.Prelude.{◌≡◌, ◌==◌, ℕ, List, Option, Some, None, if◌then◌else◌}
-use Rattle.std.specs.Option.{option_or}
+use Rattle.std.specs.Prelude.{◌≡◌, ◌==◌, ℕ, Bool, List, Option, Some, None, if◌then◌else◌}
+use Rattle.std.specs.Option.{option_map, option_or}
 use Rattle.prov_base.specs.declared.place.Pos.{Pos}
 use Rattle.py_tree.specs.Tree.{StmtTree, FormTree, SuiteTree, ScriptTree, one_stmt, def_form, class_form, end_suite, more_suite}
 use Rattle.py_model.specs.Expressions.{Here}
@@ -38,3 +38,13 @@ activation_by (Some f) activation name = if is_local f name then activation else
 
 abbrev pub activation_of : ScriptTree → Scope → List ℕ → ℕ
 activation_of script scope name = activation_by (function_in script scope.function) scope.activation name
+
+-- whether a name is local in the function with a number
+abbrev pub local_in : ℕ → List ℕ → SuiteTree → Option Bool
+local_in n name suite = option_map (λ f. is_local f name) (numbered_in n suite)
+
+abbrev pub local_by : ℕ → List ℕ → StmtTree → Option Bool
+local_by n name s = option_map (λ f. is_local f name) (numbered_by n s)
+
+abbrev pub local_at : ℕ → List ℕ → ℕ → Pos → FormTree → Option Bool
+local_at n name number at form = option_map (λ f. is_local f name) (numbered_at n number at form)

@@ -6,6 +6,7 @@ ghost use Rattle.std.specs.Prelude.{map, ◌++◌};
 ghost use Rattle.py_value.specs.Contents.{contents, nothing};
 ghost use Rattle.py_value.specs.Values.{IsNamed};
 ghost use Rattle.interp_eval.specs.Held.{AreHeld};
+ghost use Rattle.interp_eval.specs.Step.{given};
 ghost use Rattle.interp_eval.specs.Machine.{node_for, node, machine, waiting};
 ghost use Rattle.interp_eval.specs.Delivery.{IsDelivered};
 ghost use Rattle.interp_eval.specs.Seen.{finish_seen, operands_seen};
@@ -57,9 +58,9 @@ pub(crate) struct Frame<'a> {
 /// An expression that is being evaluated: the innermost node, and those around it, the outermost first.
 #[derive(Drop)]
 pub struct EvalFrames<'a> {
-    scope: Scope,
-    top: Frame<'a>,
-    below: Vec<Frame<'a>>,
+    pub(crate) scope: Scope,
+    pub(crate) top: Frame<'a>,
+    pub(crate) below: Vec<Frame<'a>>,
 }
 
 impl<'a> EvalFrames<'a> {
@@ -80,7 +81,12 @@ impl<'a> EvalFrames<'a> {
     }
 
     /// An operand is begun: its node goes above the one that waits for it, which has these operands left.
-    fn begin(&mut self, alloc: Global, operand: &'a Expr, rest: Operands<'a>) -> Result<(), Memory>
+    pub(crate) fn begin(
+        &mut self,
+        alloc: Global,
+        operand: &'a Expr,
+        rest: Operands<'a>,
+    ) -> Result<(), Memory>
         ensures scope { self.new.scope ≡ self.old.scope }
         ensures held { OnOk result ((table : ValuesView) → AreHeld table self.old → AreHeld table self.new) }
         ensures means { OnOk result ((table : ValuesView) → machine_seen table self.new ≡ machine (node_for (expr_of operand.entry.now)) []
@@ -104,7 +110,7 @@ impl<'a> EvalFrames<'a> {
     }
 
     /// An operand is absent: the innermost node has None for it, and these operands left.
-    fn skip(&mut self, rest: Operands<'a>) -> Result<(), Memory>
+    pub(crate) fn skip(&mut self, rest: Operands<'a>) -> Result<(), Memory>
         ensures scope { self.new.scope ≡ self.old.scope }
         ensures held { OnOk result ((table : ValuesView) → AreHeld table self.old → AreHeld table self.new) }
         ensures means { OnOk result ((table : ValuesView) → machine_seen table self.new ≡ machine (node self.old.top.node.at (finish_seen table self.old.top.node.finish) (operands_seen rest.entry))
@@ -121,7 +127,7 @@ impl<'a> EvalFrames<'a> {
 
     /// The innermost node has this value, and is left: the one around it has it for its operand. Where there is none, it is the value of the
     /// expression.
-    fn deliver(&mut self, value: Value) -> Result<EvalNext, Memory>
+    pub(crate) fn deliver(&mut self, value: Value) -> Result<EvalNext, Memory>
         ensures scope { self.new.scope ≡ self.old.scope }
         ensures means { IsDelivered value self.old self.new result }
     {
@@ -131,5 +137,17 @@ impl<'a> EvalFrames<'a> {
         self.top = frame;
         self.top.have.push(value)?;
         Ok(EvalNext::More)
+    }
+
+    /// The call that the last step answered has this value: the next step performs the operation `give` with it.
+    pub fn give(&mut self, v: Value)
+        ensures given { self.new ≡ given v self.old }
+        ensures held { (table : ValuesView) → AreHeld table self.old → IsNamed table v → AreHeld table self.new }
+    {
+        self.top.node = Node {
+            at: self.top.node.at,
+            finish: Finish::Giving(v),
+            rest: Operands::Nothing,
+        };
     }
 }

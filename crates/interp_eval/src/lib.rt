@@ -9,3 +9,4 @@ mod step;
 mod turn;
 
 pub use frames::{EvalFrames, EvalNext, Scope};
+pub use step::eval_step;
