@@ -4,3 +4,4 @@ pub mod Going
 pub mod Named
 pub mod Reading
 pub mod Tuples
+pub mod Turning
