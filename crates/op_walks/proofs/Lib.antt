@@ -1,0 +1,3 @@
+pub mod ManyItems
+pub mod NamedValues
+pub mod OneItem
