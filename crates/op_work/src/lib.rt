@@ -3,6 +3,7 @@
 #![tactic(auto)]
 
 mod finish;
+mod readers;
 mod reads;
 mod steps;
 mod stop;
