@@ -1,3 +1,5 @@
 pub mod ManyItems
 pub mod NamedValues
+pub mod Objects
 pub mod OneItem
+pub mod Tuples

@@ -2,5 +2,7 @@
 #![tactic(auto)]
 
 mod items;
+mod walk;
 
 pub use items::{items_from, value_at};
+pub use walk::{walk_keys, walk_object, walk_tuple};

@@ -383,3 +383,19 @@ pub comes_as : {A B T U : Type 0} {n : ValuesView → T → Type 0} {m : ValuesV
     → Comes m r (λ table go. p table (λ x. q table x go)) a b (Ok u)
 comes_as {s = s} {r = r} {p = p} {b = b} q {t} u one is_named same = comes_then q one (λ table interned extends go. refl)
     (at_once (λ table go. q table (s table t) go) b u is_named same)
+
+-- what a plan came to, an equal one came to as well
+pub comes_same : {A T : Type 0} {named : ValuesView → T → Type 0} {seen : ValuesView → T → A} {plan : Plans A} {a b : WorkView} {result : Result T Stop} (other : Plans A)
+    → ((table : ValuesView) → AreInterned table → Extends b.values table → (go : A → Plan) → other table go ≡ plan table go)
+    → Comes named seen plan a b result → Comes named seen other a b result
+comes_same {seen = seen} {plan = plan} {a = a} {b = b} {result = result} other same comes = record {
+  kept = comes.kept; is_named = comes.is_named;
+  came = λ table store extends seen_is. by_result table store result (same table seen_is.interned extends) (comes.came table store extends seen_is);
+}
+  where
+    by_result : (table : ValuesView) (store : RunStore) (result : Result _ Stop) → ((go : _ → Plan) → other table go ≡ plan table go)
+        → CameTo seen plan table store a b result → CameTo seen other table store a b result
+    by_result table store (Ok t) same came = λ go. subst (λ p. Goes table a b (under store p) (under store (go (seen table t)))) (sym (same go)) (came go)
+    by_result table store (Err (Raises class argument)) same came = λ go. subst (λ p. Goes table a b (under store p) (under store (raising table class argument))) (sym (same go)) (came go)
+    by_result table store (Err TooDear) same came = λ go. subst (λ p. IsDear a (under store p)) (sym (same go)) (came go)
+    by_result table store (Err Memory) same came = tt
