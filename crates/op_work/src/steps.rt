@@ -38,8 +38,8 @@ impl Work {
         self.kind_there(o)
     }
 
-    // What an object is, and that all that stands there is named.
-    fn kind_there(&self, o: u32) -> Option<Kind>
+    /// What an object is, as the store has it, and that all that stands there is named.
+    pub fn kind_there(&self, o: u32) -> Option<Kind>
         ensures kind { result ≡ slice_get (kinds self.now.store) o }
         ensures named { IsNamedStore self.now.values self.now.store }
     {
