@@ -124,7 +124,7 @@ pub modules_differ : (m n : ℕ) → m < 3 → n < 3 → named_in module_names m
 modules_differ = names_differ module_names 3 refl
 
 pub class_named : (here : Setting) → IsPlainSetting here → (of : Contents) → is_name (class_text here.script here.store of) ≡ true
-class_named here plain (class at) = plain.classes at
+class_named here plain (class at) = plain.names.classes at
 class_named here plain (exception_class number) = names_ok class_names refl number
 class_named here plain other = refl
 

@@ -234,7 +234,7 @@ module _ (decides : (v w : Contents) → (same_value v w ≡ true) ↔ (v ≡ w)
             int_in (int k) = k
             int_in other = i
     by_views _ _ _ (v_function {p}) (v_function {p = q}) pv pw parts xs ys k l ready stops ends is =
-        let cut = angled_cut (codes "function ") _ _ (k xs) (l ys) (plain.functions p) (well.functions q) is in
+        let cut = angled_cut (codes "function ") _ _ (k xs) (l ys) (plain.names.functions p) (well.names.functions q) is in
         plain_cut here there xs ys _ k l _ cut.1 ready.even (shorter (angled (codes "function ") (function_name here.script here.store p)) (k xs)) (λ F G. cut.0)
     by_views _ _ _ (v_class {p}) (v_class {p = q}) pv pw parts xs ys k l ready stops ends is = classes_cut (class p) (class q) xs ys k l ready is
     by_views _ _ _ (v_class {p}) (v_exception {n = q}) pv pw parts xs ys k l ready stops ends is = classes_cut (class p) (exception_class q) xs ys k l ready is

@@ -32,6 +32,7 @@ pub mod GraphsTold
 pub mod Histories
 pub mod Joins
 pub mod Levels
+pub mod Openings
 pub mod Askings
 pub mod Budgets
 pub mod Payments

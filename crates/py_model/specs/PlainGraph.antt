@@ -1,10 +1,11 @@
 -- Scripts and stores whose graph texts tell the graphs (this project's profile): integers have 64 bits, names are letters, digits and `_`,
--- and all that lists, dictionaries and instances hold is there. That those of runs are such is not shown.
+-- and all that lists, dictionaries and instances hold is there. Runs begin so; that they go on so is not shown.
 use Rattle.std.specs.Prelude.{◌≡◌, ℕ, ◌<◌, pos, Bool, true, false, ◌&&◌, ◌||◌, ◌==◌, nat_le, List, [], ◌∷◌, slice_get, Option, Some, None, ⊤}
 use Rattle.prov_base.specs.declared.place.Pos.{Pos}
+use Rattle.py_tree.specs.Tree.{ScriptTree}
 use Rattle.py_value.specs.Contents.{Contents, Parts, int, text, tuple, range, builtin, no_parts, part}
 use Rattle.py_value.specs.Seen.{an_instance}
-use Rattle.py_model.specs.Graph.{function_name, class_name}
+use Rattle.py_model.specs.Graph.{names_in, first_name}
 use Rattle.py_model.specs.Numbers.{is_int}
 use Rattle.py_model.specs.SameGraph.{Setting}
 use Rattle.py_model.specs.Store.{RunStore, len_of, item_of, entry_of, order_of, offset_of}
@@ -57,10 +58,14 @@ abbrev pub AreNames : List Contents → Type 0
 AreNames [] = ⊤
 AreNames (key ∷ keys) = IsNamedBy key × AreNames keys
 
--- the script and the store, at each place and of each object
+-- each function and class of the script has a name
+pub record HasNames (script : ScriptTree) : Type 0 where
+  pub functions : (at : Pos) → is_name (first_name false at (names_in script.body)) ≡ true
+  pub classes : (at : Pos) → is_name (first_name true at (names_in script.body)) ≡ true
+
+-- the script and the store, of each object
 pub record IsPlainSetting (here : Setting) : Type 0 where
-  pub functions : (at : Pos) → is_name (function_name here.script here.store at) ≡ true
-  pub classes : (at : Pos) → is_name (class_name here.script here.store at) ≡ true
+  pub names : HasNames here.script
   pub items : (o i : ℕ) → i < len_of here.store o → HasPlain (item_of here.store o i)
   pub keys : (o : ℕ) → KeysPlain here.store o (order_of here.store o)
   pub offsets : (o : ℕ) → is_int (pos (offset_of here.store o)) ≡ true

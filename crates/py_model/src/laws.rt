@@ -6,10 +6,10 @@ ghost use Rattle.py_model.specs.Agreement.{Alike, Agrees};
 ghost use Rattle.py_model.specs.AlikeOperations.{renamed_op};
 ghost use Rattle.py_model.specs.Operations.{Op, plan};
 ghost use Rattle.py_model.specs.Plan.{Plan, Answer, raised};
-ghost use Rattle.py_model.specs.PlainGraph.{IsPlain, IsPlainSetting};
+ghost use Rattle.py_model.specs.PlainGraph.{IsPlain, HasNames, IsPlainSetting};
 ghost use Rattle.py_model.specs.Quiet.{may_ask, IsQuiet};
 ghost use Rattle.py_model.specs.Renaming.{Renaming, renamed_list, renamed_effect};
-ghost use Rattle.py_model.specs.Store.{RunStore};
+ghost use Rattle.py_model.specs.Store.{RunStore, opening};
 ghost use Rattle.std.specs.Prelude.{◌<◌};
 ghost use Rattle.prov_base.specs.declared.place.Span.{Span};
 ghost use Rattle.py_tree.specs.Tree.{ScriptTree};
@@ -169,13 +169,16 @@ pub fn spans_change_nothing()
 {}
 
 /// The law of graph texts: they are equal exactly where the graphs are, up to the names of objects. Equal graphs have equal texts; and
-/// equal texts of fewer than 10^20 bytes are of equal graphs, where names are names and all that objects hold is there.
+/// equal texts of fewer than 10^20 bytes are of equal graphs, where names are names and all that objects hold is there. So it is where a
+/// run begins.
 pub fn graph_texts_tell_graphs()
     ensures same { (here there : Setting) (v w : Contents) → HaveSameGraph here there v w
         → graph_text here.script here.store v ≡ graph_text there.script there.store w }
     ensures told { (here there : Setting) (v w : Contents) → IsPlainSetting here → IsPlainSetting there → IsPlain v → IsPlain w
         → length (graph_text here.script here.store v) < 10 ^ 20 → graph_text here.script here.store v ≡ graph_text there.script there.store w
         → HaveSameGraph here there v w }
+    ensures begins { (script : ScriptTree) (path : List ℕ) (arguments : List (List ℕ)) (files : List (List ℕ × List ℕ)) → HasNames script
+        → IsPlainSetting (record { script = script; store = opening path arguments files }) }
 {
     tests_are_equality();
 }

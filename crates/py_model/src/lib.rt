@@ -9,6 +9,9 @@
 //! come to is `History.antt` and `Occurrences.antt`. [`Doer`] is what performs operations and [`Watch`] what is told the moments.
 //! Nothing implements `Doer` yet, so that its contract can be met is not shown.
 //!
+//! `specs/Graph.antt` is the graph text of a value. [`graph_texts_tell_graphs`] says that two are equal exactly where the graphs are, in
+//! stores that are plain (`specs/PlainGraph.antt`). A run begins with such a store; that it goes on so is not shown.
+//!
 //! [`operations_agree`] is the law that all an operation depends on is among what it reads and asks: `specs/Agreement.antt` says what
 //! has to correspond in two stores, `specs/Renaming.antt` under which renaming.
 #![tactic(auto)]
