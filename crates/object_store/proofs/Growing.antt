@@ -24,6 +24,7 @@ use Rattle.py_value.specs.declared.value.Value.TheVariants.{Text, Tuple}
 use Rattle.object_store.specs.Named.{IsNamedStore, IsNamedHeld}
 use Rattle.object_store.specs.Object.{item_in}
 use Rattle.object_store.specs.Opening.{IsOpening, IsWord, AreWords, opening_at}
+use Rattle.object_store.specs.Room.{IsNamedAccess as HasNamedText, AreNamedAccesses as HaveNamedTexts}
 use Rattle.object_store.specs.Store.{StoreView, Held, whole, keys, bytes, held_at, kinds, name_at, Notes}
 
 keeps_length : {A : Type 0} (xs ys : List A) → KeepsNumbers xs ys → length xs ≤ length ys
@@ -95,6 +96,22 @@ module _ (values more : ValuesView) (texts : KeepsNumbers values.texts more.text
 
   pub accesses_grown : (plan : List Access) → AreNamedAccesses values plan → AreNamedAccesses more plan
   accesses_grown plan named = accesses_more values more (keeps_length values.texts more.texts texts) (keeps_length values.tuples more.tuples tuples) plan named
+
+-- what is asked of the texts of a plan where room for it is taken
+text_named : (values : ValuesView) (access : Access) → IsNamedAccess values access → HasNamedText values access
+text_named values (Read l) named = tt
+text_named values (Set l content) named = tt
+text_named values (Update l (Insert key)) named = tt
+text_named values (Update l (Delete key)) named = tt
+text_named values (Update l (Append text)) named = named.1.1
+
+pub texts_named : (values : ValuesView) (plan : List Access) → AreNamedAccesses values plan → HaveNamedTexts values plan
+texts_named values [] named k access at = absurd (nowhere at)
+  where
+    nowhere : None ≡ Some access → ⊥
+    nowhere is = cc
+texts_named values (first ∷ plan) named zero access at = subst (HasNamedText values) (same_Some first access at) (text_named values first named.0)
+texts_named values (first ∷ plan) named (suc k) access at = texts_named values plan named.1 k access at
 
 -- noted names are no location
 held_noted : (old : StoreView) (names : List (Pos × ℕ)) (l : Location) → held_at (record old { names = names }) l ≡ held_at old l

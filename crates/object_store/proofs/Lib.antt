@@ -1,4 +1,5 @@
 pub mod Beginning
+pub mod Below
 pub mod Growing
 pub mod Keyed
 pub mod Making

@@ -1,3 +1,4 @@
+pub mod Below
 pub mod Cell
 pub mod File
 pub mod Keyed

@@ -1,5 +1,5 @@
 // What a store is without numbers for texts and tuples: the map that the meaning of a script speaks of.
-ghost use Rattle.std.specs.Prelude.{◌≡◌, ◌<◌, [], ◌∷◌, ◌++◌, None, ℕ, List, Option, Some, length, map};
+ghost use Rattle.std.specs.Prelude.{◌≡◌, ◌<◌, ◌≤◌, [], ◌∷◌, ◌++◌, None, ℕ, List, Option, Some, length, map};
 ghost use Rattle.prov_base.specs.declared.place.Pos.{Pos};
 ghost use Rattle.std.specs.Option.{option_map};
 ghost use Rattle.py_value.specs.Changes.{after_access, after_accesses};
@@ -11,10 +11,12 @@ ghost use Rattle.py_value.specs.Values.{ValuesView, AreInterned, Keeps as KeepsN
 ghost use Rattle.py_value.specs.declared.access.Access.{Access as OneAccess};
 ghost use Rattle.py_value.specs.declared.access.Kind.{Kind as OneKind};
 ghost use Rattle.py_value.specs.declared.access.Location.{Location as OneLocation};
+ghost use Rattle.object_store.specs.Below.{AccessesBelow, MapBelow};
 ghost use Rattle.object_store.specs.Keyed.{SeenMap, ArePlain, HasFirst, IsKeyed, IsUnder, entries_set, firsts};
 ghost use Rattle.object_store.specs.Named.{IsNamedStore, IsNamedHeld};
 ghost use Rattle.object_store.specs.Opening.{IsOpening};
 ghost use Rattle.object_store.specs.Performing.{AreApart, Does, DoesAll, IsOnly, SuitInTurn, keys_among, kinds_with};
+ghost use Rattle.object_store.specs.Room.{AreNamedAccesses as HaveNamedTexts};
 ghost use Rattle.object_store.specs.Seen.{held_seen, seen_at, store_seen};
 ghost use Rattle.object_store.specs.Store.{StoreView, Held, Notes, Writes, held_at, kinds};
 
@@ -66,6 +68,9 @@ pub fn named_stays()
         → IsNamedStore values store → IsNamedStore table store }
     ensures plans { (values table : ValuesView) (plan : List OneAccess) → KeepsNumbers values.texts table.texts → KeepsNumbers values.tuples table.tuples
         → AreNamedAccesses values plan → AreNamedAccesses table plan }
+
+    // What `reserve_for` asks of the texts of a plan.
+    ensures texts { (values : ValuesView) (plan : List OneAccess) → AreNamedAccesses values plan → HaveNamedTexts values plan }
     ensures opening { (values : ValuesView) (words : List (List ℕ)) (store : StoreView) → IsOpening values words store → IsNamedStore values store }
 {
     equality_is_same();
@@ -97,3 +102,12 @@ pub fn plans_suit()
         → SuitInTurn map (plan ++ more) }
     ensures after { (map : SeenMap) (plan more : List SeenAccess) → after_accesses (plan ++ more) map ≡ after_accesses more (after_accesses plan map) }
 {}
+
+/// The law that the objects which a map names stay below a number, as a plan is done that names no others, and as the number grows.
+pub fn objects_stay_below()
+    ensures done { (count : ℕ) (map : SeenMap) (plan : List SeenAccess) → MapBelow count map → AccessesBelow count plan
+        → MapBelow count (after_accesses plan map) }
+    ensures grown { (count more : ℕ) (map : SeenMap) → count ≤ more → MapBelow count map → MapBelow more map }
+{
+    tests_are_equality();
+}

@@ -3,7 +3,7 @@
 ghost use Rattle.std.specs.Prelude.{◌≡◌, ◌<◌, IfOk, IsTrue, OnOk, length};
 ghost use Rattle.py_value.specs.Values.{ValuesView, AreBelow};
 ghost use Rattle.object_store.specs.Room.{HasRoomToSet, HasRoomToUpdate, HasRoomFor, IsReserved, IsNamedChange, IsNamedAccess, AreNamedAccesses, IsWithin, IsAccessWithin, AreWithin, Takes, cells_of, keys_of, bytes_of, cells_set, keys_set, keys_put, bytes_put};
-ghost use Rattle.object_store.specs.Store.{IsFresh, IsOwn, IsOwnChange, IsReservedFor, count_with, room_of};
+ghost use Rattle.object_store.specs.Store.{IsOwn, IsOwnChange, IsReservedFor, count_with, room_of};
 
 use crate::Stop;
 use crate::map::write_map;
@@ -92,7 +92,7 @@ fn play(
     }
     match line.split_once(": ") {
         Some((made, words)) => run(alloc, store, values, last, made, words, out),
-        None => call(alloc, store, line, out),
+        None => call(alloc, store, values, line, out),
     }
 }
 
@@ -100,15 +100,30 @@ fn number(word: &str) -> u32 {
     word.parse::<u32>().unwrap_or(0)
 }
 
-// Sets a file at a fetch, notes the name of a place, or tells the name that is noted there.
-fn call(alloc: Global, store: &mut Store, line: &str, out: &mut Vec<u8>) -> Result<(), Stop> {
+// Sets a file at a fetch, notes the name of a place, makes a list by a whole plan, or tells the name that is noted at a place.
+fn call(
+    alloc: Global,
+    store: &mut Store,
+    values: &Values,
+    line: &str,
+    out: &mut Vec<u8>,
+) -> Result<(), Stop> {
     let (command, words) = line.split_once(' ').unwrap_or((line, ""));
     let (first, second) = words.split_once(' ').unwrap_or((words, ""));
     match command {
         "place" => store.place_file(alloc, number(first), second.as_bytes())?,
+        "list" => perform_list(alloc, store, values)?,
         "name" => store.name_place(place(number(first)), number(second))?,
         _ => write_name(alloc, store.name_at(place(number(first))), out)?,
     }
+    Ok(())
+}
+
+// Makes a list of no items.
+fn perform_list(alloc: Global, store: &mut Store, values: &Values) -> Result<(), Memory> {
+    let plan = [Access::Set(Location::Len(store.next()), Content::Len(0))];
+    store.reserve_for(alloc, &plan, Some(Kind::List), values)?;
+    store.perform(&plan, Some(Kind::List), values);
     Ok(())
 }
 
@@ -217,9 +232,7 @@ fn set(store: &mut Store, l: Location, c: Content) -> Result<(), Stop>
     requires { HasRoomToSet (room_of store.old) l c }
     ensures { OnOk result (Takes (room_of store.old) (room_of store.new) (cells_set l) (keys_set c) 0) }
 {
-    let is_own = is_own(l, &c);
-    let is_fresh = is_fresh(store, l);
-    if !is_own || !is_fresh {
+    if !is_own(l, &c) {
         return Err(Stop::Failed);
     }
     store.set(l, c);
@@ -268,16 +281,6 @@ fn is_own_change(l: Location, c: Change) -> bool
         (Location::Order(_), Change::Delete(_)) => true,
         (Location::File(_), Change::Append(_)) => true,
         _ => false,
-    }
-}
-
-// The location is no order, or that of an object without keys.
-fn is_fresh(store: &Store, l: Location) -> bool
-    ensures { IsTrue result → IsFresh store.now l }
-{
-    match l {
-        Location::Order(o) => o < store.next() && store.order_len(o) == 0,
-        _ => true,
     }
 }
 

@@ -1,4 +1,4 @@
-use Rattle.object_store.proofs.Growing.{store_grown, accesses_grown, named_noted, opening_named}
+use Rattle.object_store.proofs.Growing.{store_grown, accesses_grown, texts_named, named_noted, opening_named}
 use Rattle.object_store.proofs.Naming.{named_does, named_written, named_made}
 use Rattle.object_store.proofs.laws.named_stays.Goals as goal
 
@@ -22,3 +22,6 @@ returns-clause-plans c = λ values table plan texts tuples named. accesses_grown
 
 pub returns-clause-opening : goal.returns-clause-opening
 returns-clause-opening c = λ values words store opening. opening_named values words store opening
+
+pub returns-clause-texts : goal.returns-clause-texts
+returns-clause-texts c = λ values plan named. texts_named values plan named
