@@ -1,11 +1,26 @@
 -- Objects stay below the number of the next one.
-use Rattle.std.proofs.Common.{◌≡◌, ℕ, ◌≤◌, ◌↔◌, Bool, true, false, List, [], ◌∷◌, ◌++◌, Option, Some, refl, subst, arith, if◌then◌else◌}
+use Rattle.std.proofs.Common.{◌≡◌, ℕ, ◌<◌, ◌≤◌, ◌↔◌, ◌==◌, ◌&&◌, Bool, true, false, List, [], ◌∷◌, ◌++◌, length, Option, Some, refl, sym, ap, subst, ◌∙◌, arith, eqb-true, if◌then◌else◌}
 use Rattle.std.proofs.lemmas.Option.{same_Some}
 use Rattle.py_value.specs.Changes.{has_key, with_key, without_key, changed, after_access, after_accesses}
 use Rattle.py_value.specs.Contents.{Contents, Parts, object, tuple, no_parts, part}
 use Rattle.py_value.specs.KeyOf.{normal}
 use Rattle.py_value.specs.Same.{same_value, same_location, put}
 use Rattle.py_value.specs.Seen.{SeenLocation, SeenContent, SeenChange, SeenAccess, len_at, item_at, entry_at, offset_at, closed_at, var_is, item_is, entry_is, order_is, file_is, base_is, key_inserted, key_deleted, bytes_appended, reads, sets, updates}
+use Rattle.std.specs.Prelude.{⊤, None}
+use Rattle.std.specs.Option.{option_map, option_and_then}
+use Rattle.py_value.specs.Contents.{contents}
+use Rattle.py_value.specs.Seen.{order_at, len_is, entry_of, value_at, location_at}
+use Rattle.py_value.specs.Values.{ValuesView}
+use Rattle.py_value.specs.declared.access.Content.TheVariants.{Var as VarContent, Len as LenContent, Item as ItemContent}
+use Rattle.py_value.specs.declared.access.Location.{Location}
+use Rattle.py_value.specs.declared.access.Location.TheVariants.{Var, Len, Item, Entry, Order, Offset, Closed}
+use Rattle.py_value.specs.declared.value.Value.{Value}
+use Rattle.py_value.specs.declared.value.Value.TheVariants.{Text}
+use Rattle.object_store.specs.Object.{item_in}
+use Rattle.object_store.specs.Opening.{IsOpening, opening_at}
+use Rattle.object_store.specs.Seen.{held_seen, seen_at}
+use Rattle.object_store.specs.Store.{StoreView, held_at, whole}
+use Rattle.object_store.proofs.Growing.{none_is, item_text}
 use Rattle.object_store.specs.Below.{ObjectsBelow, PartsBelow, AllBelow, PlaceBelow, ContentBelow, ChangeBelow, AccessBelow, AccessesBelow, MapBelow}
 use Rattle.object_store.specs.Keyed.{SeenMap}
 
@@ -90,3 +105,62 @@ module _ (count : ℕ) (tested : (l m : SeenLocation) → (same_location l m ≡
   pub plan_below : (plan : List SeenAccess) (map : SeenMap) → AccessesBelow count plan → MapBelow count map → MapBelow count (after_accesses plan map)
   plan_below [] map all below = below
   plan_below (access ∷ plan) map all below = plan_below plan (after_access access map) all.1 (access_below access map all.0 below)
+
+-- A store as a run begins has object 0 alone, and its words.
+module _ (values table : ValuesView) (words : List (List ℕ)) (store : StoreView) (opening : IsOpening values words store) where
+  abbrev LocationBelow : Location → Type 0
+  LocationBelow (Len o) = o < 1
+  LocationBelow (Item o i) = o < 1
+  LocationBelow (Entry o key) = ⊥
+  LocationBelow (Offset o) = ⊥
+  LocationBelow (Closed o) = ⊥
+  LocationBelow l = ⊤
+
+  abbrev Below : Location → SeenContent → Type 0
+  Below l content = LocationBelow l × ContentBelow 1 content
+
+  var_case : (scope number : ℕ) (content : SeenContent) (b : Bool)
+      → option_map (held_seen table) (if b then Some (whole (VarContent (Some (Text opening.main)))) else None) ≡ Some content → Below (Var scope number) content
+  var_case scope number content true at = (tt, subst (ContentBelow 1) (same_Some (var_is (Some (contents table (Text opening.main)))) content at) tt)
+  var_case scope number content false at = absurd (none_is at)
+
+  len_case : (o : ℕ) (content : SeenContent) (b : Bool) → (o == 0) ≡ b
+      → option_map (held_seen table) (if b then Some (whole (LenContent (length opening.items))) else None) ≡ Some content → Below (Len o) content
+  len_case o content true is at = (omega (arith, eqb-true o 0 is), subst (ContentBelow 1) (same_Some (len_is (length opening.items)) content at) tt)
+  len_case o content false is at = absurd (none_is at)
+
+  item_case : (o i : ℕ) (content : SeenContent) (b : Bool) (found : Option Value) → (o == 0) ≡ b → item_in opening.items i ≡ found
+      → option_map (held_seen table) (if b then option_map (λ (item : Value). whole (ItemContent item)) found else None) ≡ Some content → Below (Item o i) content
+  item_case o i content true (Some v) is there at =
+      let word = item_text values opening.items words opening.items_are i v there in
+      (omega (arith, eqb-true o 0 is), subst (ContentBelow 1) (same_Some (item_is (contents table v)) content at) (subst (λ (u : Value). ObjectsBelow 1 (contents table u)) word.1 tt))
+  item_case o i content true None is there at = absurd (none_is at)
+  item_case o i content false found is there at = absurd (none_is at)
+
+  opening_case : (l : Location) (content : SeenContent) → option_map (held_seen table) (opening_at opening.items opening.name opening.main l) ≡ Some content → Below l content
+  opening_case (Var scope number) content at = var_case scope number content ((scope == 0) && (number == opening.name)) at
+  opening_case (Len o) content at = len_case o content (o == 0) refl at
+  opening_case (Item o i) content at = item_case o i content (o == 0) (item_in opening.items i) refl refl at
+  opening_case (Order o) content at = (tt, subst (ContentBelow 1) (same_Some (order_is []) content at) tt)
+  opening_case l content at = absurd (none_is at)
+
+  held_below : (l : Location) (content : SeenContent) → option_map (held_seen table) (held_at store l) ≡ Some content → Below l content
+  held_below l content at = opening_case l content (sym (ap (option_map (held_seen table)) (opening.held l)) ∙ at)
+
+  -- what stands at a location that was found
+  content_found : (found : Option Location) (content : SeenContent) → option_and_then (λ (l : Location). option_map (held_seen table) (held_at store l)) found ≡ Some content → ContentBelow 1 content
+  content_found None content at = absurd (none_is at)
+  content_found (Some l) content at = (held_below l content at).1
+
+  entry_found : (o : ℕ) (found : Option Value) (content : SeenContent) → option_and_then (λ (l : Location). option_map (held_seen table) (held_at store l)) (option_map (entry_of o) found) ≡ Some content → ⊥
+  entry_found o None content at = none_is at
+  entry_found o (Some v) content at = (held_below (entry_of o v) content at).0
+
+  pub opening_below : MapBelow 1 (seen_at table store)
+  opening_below (len_at o) content at = held_below (Len o) content at
+  opening_below (item_at o i) content at = held_below (Item o i) content at
+  opening_below (entry_at o form) content at = absurd (entry_found o (value_at table form) content at)
+  opening_below (offset_at o) content at = absurd (held_below (Offset o) content at).0
+  opening_below (closed_at o) content at = absurd (held_below (Closed o) content at).0
+  opening_below (order_at o) content at = (tt, (held_below (Order o) content at).1)
+  opening_below place content at = (tt, content_found (location_at table place) content at)

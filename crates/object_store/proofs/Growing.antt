@@ -133,7 +133,7 @@ named_noted values old new place name named within same notes = record {
     by other found false is = named.names_named other found is
 
 -- the store as a run begins
-none_is : {A : Type 0} {x : A} → None ≡ Some x → ⊥
+pub none_is : {A : Type 0} {x : A} → None ≡ Some x → ⊥
 none_is is = cc
 
 word_named : (values : ValuesView) (item : Option Value) (word : List ℕ) (v : Value) → IsWord values item word → item ≡ Some v → IsNamed values v
@@ -145,6 +145,17 @@ words_named values [] [] are i v at = cc
 words_named values (item ∷ items) (word ∷ words) are zero v at = word_named values item word v are.0 at
 words_named values (item ∷ items) (word ∷ words) are (suc i) v at = words_named values items words are.1 i v at
 words_named values items words are i v at = absurd are
+
+-- the items are texts
+word_text : (values : ValuesView) (item : Option Value) (word : List ℕ) (v : Value) → IsWord values item word → item ≡ Some v → (number : ℕ) × (Text number ≡ v)
+word_text values (Some (Text number)) word v is at = (number, same_Some (Text number) v at)
+word_text values item word v is at = absurd is
+
+pub item_text : (values : ValuesView) (items : List (Option Value)) (words : List (List ℕ)) → AreWords values items words → (i : ℕ) (v : Value) → item_in items i ≡ Some v → (number : ℕ) × (Text number ≡ v)
+item_text values [] [] are i v at = absurd (none_is at)
+item_text values (item ∷ items) (word ∷ words) are zero v at = word_text values item word v are.0 at
+item_text values (item ∷ items) (word ∷ words) are (suc i) v at = item_text values items words are.1 i v at
+item_text values items words are i v at = absurd are
 
 module _ (values : ValuesView) (words : List (List ℕ)) (store : StoreView) (opening : IsOpening values words store) where
   abbrev Named : Location → Held → Type 0

@@ -7,6 +7,15 @@ use Rattle.py_value.specs.Contents.{Contents, nothing}
 use Rattle.py_value.specs.KeyOf.{normal}
 use Rattle.py_value.specs.Same.{same_value, put}
 use Rattle.py_value.specs.Seen.{SeenLocation, SeenContent, SeenAccess, entry_at, order_at, file_at, entry_is, order_is, file_is, key_inserted, key_deleted, reads, sets, updates}
+use Rattle.std.specs.Option.{option_map, option_and_then}
+use Rattle.py_value.specs.Seen.{entry_of, value_at}
+use Rattle.py_value.specs.Values.{ValuesView}
+use Rattle.py_value.specs.declared.access.Location.{Location}
+use Rattle.py_value.specs.declared.access.Location.TheVariants.{Order}
+use Rattle.py_value.specs.declared.value.Value.{Value}
+use Rattle.object_store.specs.Opening.{IsOpening}
+use Rattle.object_store.specs.Seen.{held_seen, seen_at}
+use Rattle.object_store.specs.Store.{StoreView, held_at}
 use Rattle.object_store.specs.Keyed.{SeenMap, HasFirst, IsUnder, AreUnder, IsKeyed, IsPlainPlace, IsPlain, ArePlain, firsts, entries_set}
 use Rattle.object_store.specs.Performing.{AreApart, IsOnly, Suits, SuitInTurn, keys_among}
 
@@ -360,3 +369,25 @@ module _ (tested : (v w : Contents) → (same_value v w ≡ true) ↔ (v ≡ w))
 pub entries_suit : (pairs : List (Contents × Contents)) (o : ℕ) (map : SeenMap) → SuitInTurn map (entries_set o pairs)
 entries_suit [] o map = tt
 entries_suit (pair ∷ pairs) o map = (tt, entries_suit pairs o (put (entry_at o (normal pair.0)) (entry_is (Some pair)) map))
+
+-- A store as a run begins has no keys and no entries.
+module _ (values table : ValuesView) (words : List (List ℕ)) (store : StoreView) (opening : IsOpening values words store) where
+  no_keys : (o : ℕ) → seen_at table store (order_at o) ≡ Some (order_is [])
+  no_keys o = ap (option_map (held_seen table)) (opening.held (Order o))
+
+  no_entry : (o : ℕ) (form : Contents) → seen_at table store (entry_at o form) ≡ None
+  no_entry o form = by (value_at table form)
+    where
+      by : (found : Option Value) → option_and_then (λ (l : Location). option_map (held_seen table) (held_at store l)) (option_map (entry_of o) found) ≡ None
+      by None = refl
+      by (Some v) = ap (option_map (held_seen table)) (opening.held (entry_of o v))
+
+  pub opening_keyed : IsKeyed (seen_at table store)
+  opening_keyed = record {
+    apart = λ o. subst (λ found. AreApart (keys_among found)) (sym (no_keys o)) tt;
+    entries = λ o. subst (λ found. AreUnder (seen_at table store) o (keys_among found)) (sym (no_keys o)) tt;
+    forms = λ o form pair at. absurd (no_pair pair (sym (no_entry o form) ∙ at));
+  }
+    where
+      no_pair : (pair : Contents × Contents) → None ≡ Some (entry_is (Some pair)) → ⊥
+      no_pair pair is = cc

@@ -90,6 +90,7 @@ pub fn keys_have_entries()
     ensures begun { (map : SeenMap) (o : ℕ) (pairs : List (Contents × Contents)) → IsKeyed map → AreApart (firsts pairs)
         → IsKeyed (after_accesses (sets (order_at o) (order_is (firsts pairs)) ∷ entries_set o pairs) map) }
     ensures plain { (map : SeenMap) (plan : List SeenAccess) → IsKeyed map → ArePlain plan → IsKeyed (after_accesses plan map) }
+    ensures opening { (values table : ValuesView) (words : List (List ℕ)) (store : StoreView) → IsOpening values words store → IsKeyed (seen_at table store) }
 {
     tests_are_equality();
 }
@@ -108,6 +109,7 @@ pub fn objects_stay_below()
     ensures done { (count : ℕ) (map : SeenMap) (plan : List SeenAccess) → MapBelow count map → AccessesBelow count plan
         → MapBelow count (after_accesses plan map) }
     ensures grown { (count more : ℕ) (map : SeenMap) → count ≤ more → MapBelow count map → MapBelow more map }
+    ensures opening { (values table : ValuesView) (words : List (List ℕ)) (store : StoreView) → IsOpening values words store → MapBelow 1 (seen_at table store) }
 {
     tests_are_equality();
 }

@@ -1,4 +1,4 @@
-use Rattle.object_store.proofs.Keyed.{only, entry_set, key_put_keyed, key_taken_keyed, begun_keyed, plan_plain}
+use Rattle.object_store.proofs.Keyed.{only, entry_set, key_put_keyed, key_taken_keyed, begun_keyed, plan_plain, opening_keyed}
 use Rattle.object_store.proofs.laws.keys_have_entries.Goals as goal
 
 pub returns-clause-only : goal.returns-clause-only
@@ -18,3 +18,6 @@ returns-clause-begun c = λ map o pairs keyed apart. begun_keyed c.tests_are_equ
 
 pub returns-clause-plain : goal.returns-clause-plain
 returns-clause-plain c = λ map plan keyed plain. plan_plain plan map plain keyed
+
+pub returns-clause-opening : goal.returns-clause-opening
+returns-clause-opening c = λ values table words store opening. opening_keyed values table words store opening
