@@ -3,6 +3,7 @@ pub mod Finishing
 pub mod Going
 pub mod KindOf
 pub mod Named
+pub mod Raising
 pub mod Reading
 pub mod Tuples
 pub mod Turning

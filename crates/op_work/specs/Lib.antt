@@ -1,3 +1,4 @@
 pub mod Finish
+pub mod Raise
 pub mod Turns
 pub mod Work

@@ -3,6 +3,7 @@
 #![tactic(auto)]
 
 mod finish;
+mod raise;
 mod readers;
 mod reads;
 mod steps;

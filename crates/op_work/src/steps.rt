@@ -74,7 +74,7 @@ impl Work {
     }
 
     // The number of the text with these bytes.
-    fn number(&mut self, alloc: Global, words: &str) -> Result<u32, Memory>
+    pub(crate) fn number(&mut self, alloc: Global, words: &str) -> Result<u32, Memory>
         ensures name { IfOk result (λ id. slice_get self.new.values.texts id ≡ Some words.now) }
         ensures same { self.new ≡ record self.old { values = self.new.values } }
         ensures extends { Extends self.old.values self.new.values }
@@ -95,7 +95,7 @@ impl Work {
     }
 
     // The number of the tuple of these values.
-    fn tuple_number(&mut self, alloc: Global, items: &[Value]) -> Result<u32, Memory>
+    pub(crate) fn tuple_number(&mut self, alloc: Global, items: &[Value]) -> Result<u32, Memory>
         requires { AreNamed self.old.values items.now }
         ensures name { IfOk result (λ id. slice_get self.new.values.tuples id ≡ Some items.now) }
         ensures same { self.new ≡ record self.old { values = self.new.values } }
