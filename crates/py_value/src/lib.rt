@@ -8,10 +8,12 @@
 //! - [`same_contents_same_value`], [`contents_stay`]: two values have equal contents only where they are the same value, and
 //!   contents stay as texts and tuples come (`specs/Contents.antt`).
 //! - [`equality_is_same`], [`tests_are_equality`]: `==` of values and locations, and the tests of their contents, are equality.
-//! - [`same_place_same_location`]: what a location is without numbers leads back to it.
+//! - [`same_place_same_location`]: what a location is without numbers leads back to it, and to no other.
 //! - `Values::key_of`: a value is a key exactly where nothing of it is refused, and the first part that is refused is answered. A
-//!   key is the value with each truth value as 0 or 1, inside tuples too. [`key_faults_of_contents`] and
-//!   [`same_key_same_normal_contents`] say the same of contents.
+//!   key is the value with each truth value as 0 or 1, inside tuples too. Only normal forms of the value's tuples are put behind
+//!   the tuples. [`key_faults_of_contents`] and [`same_key_same_normal_contents`] say the same of contents.
+//! - What accesses make of a map over contents is defined in `specs/Changes.antt`, and what names only texts and tuples that have
+//!   numbers in `specs/Named.antt`, for the crates above.
 #![tactic(auto)]
 
 mod access;
