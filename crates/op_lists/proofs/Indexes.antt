@@ -1,15 +1,13 @@
 -- What indexes are as plans.
-use Rattle.std.proofs.Common.{◌≡◌, refl, ap, ℕ, ℤ, Bool, true, false, Option, Some, None, unwrap_or}
-use Rattle.py_value.specs.Contents.{Contents, contents, nothing}
-use Rattle.py_value.specs.Values.{ValuesView, IsNamed}
+use Rattle.std.proofs.Common.{◌≡◌, refl, ap, ℕ, ℤ, true, false, Option, Some, None}
+use Rattle.py_value.specs.Contents.{contents}
+use Rattle.py_value.specs.Values.{ValuesView}
 use Rattle.py_value.specs.declared.value.Value.{Value}
 use Rattle.py_value.specs.declared.value.Value.TheVariants.{None as NoneValue, Bool as TruthValue, Int, Text, Tuple, Range, Fn, Class, Exc, Builtin, Object}
 use Rattle.py_model.specs.Faults.{wrong_kind, bad_index}
 use Rattle.py_model.specs.Lists.{with_place}
-use Rattle.std.specs.Option.{option_map}
 use Rattle.py_model.specs.Places.{with_index, place_in}
 use Rattle.py_model.specs.Plan.{Plan}
-use Rattle.op_work.specs.Work.{IsNamedMaybe}
 use Rattle.op_work.proofs.Tuples.{some_tuple}
 use Rattle.op_lists.specs.Numbers.{number_of_value}
 
@@ -41,15 +39,3 @@ by_place go (Some p) = refl
 
 pub place_is : (i : ℤ) (n : ℕ) (go : ℕ → Plan) → with_place i n go ≡ or_bad (place_in i n) go
 place_is i n go = by_place go (place_in i n)
-
--- an item that was never set is read as None
-abbrev pub or_nothing : ValuesView → Option Contents → (Contents → Plan) → Plan
-or_nothing table item go = go (unwrap_or item nothing)
-
-pub item_seen : (table : ValuesView) (item : Option Value) → unwrap_or (option_map (contents table) item) nothing ≡ contents table (unwrap_or item NoneValue)
-item_seen table None = refl
-item_seen table (Some v) = refl
-
-pub item_is_named : (values : ValuesView) (item : Option Value) → IsNamedMaybe values item → IsNamed values (unwrap_or item NoneValue)
-item_is_named values None named = tt
-item_is_named values (Some v) named = named

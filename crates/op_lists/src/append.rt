@@ -28,12 +28,7 @@ pub fn list(work: &mut Work, alloc: Global, o: u32) -> Result<(), Stop>
 }
 
 /// `l.append(v)` on an object: the length is read, then the item is set behind the others, and the length.
-pub fn append_to(
-    work: &mut Work,
-    alloc: Global,
-    o: u32,
-    item: Value,
-) -> Result<Answer, Stop>
+pub fn append_to(work: &mut Work, alloc: Global, o: u32, item: Value) -> Result<Answer, Stop>
     requires named { IsNamed work.old.values item }
     requires fresh { work.old.made ≡ None }
     ensures { Ends (λ table. append_plan (object o ∷ contents table item ∷ [])) work.old work.new result }

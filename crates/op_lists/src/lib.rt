@@ -1,4 +1,10 @@
-//! Operations on lists.
+//! Operations on lists, each as its plan (`specs/Lists.antt` and `Places.antt` of `py_model`).
+//!
+//! - [`index`], [`place`], [`get_item`]: the number of an index, its place among so many items, and the item there.
+//! - [`list`]: an object is a list, or TypeError is raised.
+//! - [`append_to`]: `l.append(v)` on an object. A length that passes 64 bits is refused as want of memory.
+//!
+//! Not here yet: all other operations on lists.
 #![tactic(auto)]
 
 mod append;
@@ -6,4 +12,4 @@ mod numbers;
 mod places;
 
 pub use append::{append_to, list};
-pub use places::{index, place, value_at};
+pub use places::{get_item, index, place};

@@ -4,11 +4,11 @@ ghost use Rattle.op_lists.specs.Items.{item_at_index};
 ghost use Rattle.op_work.specs.Work.{Comes, is_any, as_is};
 ghost use Rattle.py_model.specs.Places.{with_index, place_in as place_of};
 ghost use Rattle.py_model.specs.Lists.{with_place};
-ghost use Rattle.py_model.specs.Walks.{read_value};
 ghost use Rattle.py_value.specs.Contents.{contents};
 ghost use Rattle.py_value.specs.Values.{IsNamed};
 
 use crate::numbers::number_of;
+use op_walks::value_at;
 use op_work::{Stop, Work};
 use py_value::Value;
 use std::alloc::Global;
@@ -45,14 +45,6 @@ fn place_in(i: i64, n: u64) -> Option<u64>
     } else {
         None
     }
-}
-
-/// The item of a list at a place. What was never set is read as None.
-pub fn value_at(work: &mut Work, o: u32, p: u64) -> Result<Value, Stop>
-    ensures { Comes IsNamed contents (λ table. read_value o p) work.old work.new result }
-{
-    let item = work.read_item(o, p)?;
-    Ok(item.unwrap_or(Value::None))
 }
 
 /// The item of a list at an index.

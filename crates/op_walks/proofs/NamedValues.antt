@@ -1,5 +1,5 @@
 -- Values that are named stay so, and so does a list with one more.
-use Rattle.std.proofs.Common.{◌≡◌, refl, ap, subst, arith, ℕ, zero, suc, ◌<◌, ◌≤◌, length, List, [], ◌∷◌, ◌++◌, Some, slice_get}
+use Rattle.std.proofs.Common.{◌≡◌, subst, arith, zero, suc, ◌≤◌, length, List, [], ◌∷◌, ◌++◌, Some}
 use Rattle.py_value.specs.Values.{ValuesView, IsNamed, AreNamed}
 use Rattle.py_value.specs.declared.value.Value.{Value}
 use Rattle.py_value.specs.declared.value.Value.TheVariants.{None as NoneValue, Bool, Int, Text, Tuple, Range, Fn, Class, Exc, Builtin, Object}

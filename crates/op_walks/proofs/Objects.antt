@@ -1,13 +1,11 @@
 -- Walks of objects, by what they are.
-use Rattle.std.proofs.Common.{◌≡◌, refl, ℕ, List, Option, Some, None}
-use Rattle.py_model.specs.Faults.{wrong_kind, not_there}
-use Rattle.py_model.specs.Plan.{Plan, read_len, read_order}
+use Rattle.std.proofs.Common.{◌≡◌, refl, ℕ, List, Option, Some}
+use Rattle.py_model.specs.Plan.{Plan, read_len}
 use Rattle.py_model.specs.Walks.{walk_object, read_items}
 use Rattle.py_value.specs.Contents.{Contents}
 use Rattle.py_value.specs.Seen.{SeenKind}
 use Rattle.py_value.specs.Values.{ValuesView}
-use Rattle.py_value.specs.declared.access.Kind.{Kind}
-use Rattle.py_value.specs.declared.access.Kind.TheVariants.{List as ListKind, Dict as DictKind, Instance, File as FileKind}
+use Rattle.py_value.specs.declared.access.Kind.TheVariants.{List as ListKind}
 use Rattle.op_work.specs.Work.{seen_kind}
 
 -- the walk goes on with what the object is

@@ -1,5 +1,5 @@
 -- Walks of tuples.
-use Rattle.std.proofs.Common.{◌≡◌, refl, sym, ap, ◌∙◌, ℕ, List, [], ◌∷◌, ◌++◌, ◌+◌, zero, suc, map, length, take, get_or, Some, slice_get}
+use Rattle.std.proofs.Common.{◌≡◌, refl, ap, ◌∙◌, ℕ, List, [], ◌∷◌, ◌++◌, ◌+◌, zero, suc, map, length, take, get_or, Some, slice_get}
 use Rattle.std.proofs.lemmas.List.{length-map, take_more}
 use Rattle.std.proofs.lemmas.Option.{slice_get_within}
 use Rattle.py_model.specs.Plan.{Plan, looks}

@@ -1,4 +1,7 @@
-//! Walks that several operations make: over the items of a sequence, and over two values that are compared.
+//! Walks that several operations make, each as its plan (`specs/Walks.antt` of `py_model`): the items of a list, the keys of a dictionary and
+//! the items of a tuple, each read or looked at. A list whose items were never set reads them as None.
+//!
+//! Not here yet: walks of ranges and texts, and of two values that are compared.
 #![tactic(auto)]
 
 mod items;

@@ -1,5 +1,5 @@
 -- How whole operations come to their end.
-use Rattle.std.proofs.Common.{◌≡◌, refl, sym, ap, subst, ◌∙◌, arith, append-nil, ℕ, ◌+◌, List, [], ◌∷◌, map, length, Option, Some, None, Result, Ok, Err}
+use Rattle.std.proofs.Common.{◌≡◌, refl, sym, ap, subst, ◌∙◌, arith, append-nil, ℕ, List, [], map, length, Some, None, Result, Ok, Err}
 use Rattle.std.proofs.lemmas.List.{length-map}
 use Rattle.object_store.specs.Store.{kinds}
 use Rattle.py_model.specs.Effect.{Answers, effect, written}
@@ -8,7 +8,7 @@ use Rattle.py_model.specs.Plan.{Plan, Writes, done, done_at_end, writes, makes, 
 use Rattle.py_model.specs.Store.{RunStore}
 use Rattle.py_model.specs.Told.{IsNamedAnswer}
 use Rattle.py_model.specs.declared.moment.Answer.{Answer as OneAnswer}
-use Rattle.py_model.specs.declared.moment.Answer.TheVariants.{Value as ValueAnswer, Raised, End}
+use Rattle.py_model.specs.declared.moment.Answer.TheVariants.{Value as ValueAnswer, End}
 use Rattle.py_value.specs.Contents.{contents}
 use Rattle.py_value.specs.Seen.{access_seen, kind_seen}
 use Rattle.py_value.specs.Values.{ValuesView, AreInterned, IsNamed}
@@ -16,8 +16,8 @@ use Rattle.py_value.specs.declared.access.Kind.{Kind}
 use Rattle.py_value.specs.declared.value.Value.{Value}
 use Rattle.op_work.specs.declared.stop.Stop.{Stop}
 use Rattle.op_work.specs.declared.stop.Stop.TheVariants.{Raises, TooDear, Memory}
-use Rattle.op_work.specs.Work.{WorkView, Extends, IsSeen, IsKept, Leads, under, ended, raising, seen_kind, Goes, IsDear, Plans, CameTo, Comes, EndedSo, Ends, Wrote, WroteTo, WroteAll, WroteAllTo, Faults, RaisesIt, IsNamedResult, is_any}
-use Rattle.op_work.proofs.Going.{extends_then, extends_same, goes_then, dear_then, kept_then, stays}
+use Rattle.op_work.specs.Work.{WorkView, Extends, IsSeen, Leads, under, ended, raising, seen_kind, Goes, Plans, CameTo, Comes, EndedSo, Ends, Wrote, WroteTo, WroteAll, WroteAllTo, Faults, RaisesIt, IsNamedResult, is_any}
+use Rattle.op_work.proofs.Going.{extends_then, extends_same, goes_then, dear_then, kept_then}
 
 -- one plan came to something, and the plan that goes on with it came to its end
 module _ {A T : Type 0} {n : ValuesView → T → Type 0} {s : ValuesView → T → A} {p : Plans A} {w : ValuesView → Plan} {a b c : WorkView} where
@@ -31,7 +31,7 @@ module _ {A T : Type 0} {n : ValuesView → T → Type 0} {s : ValuesView → T 
     is_named = other.is_named;
     came = λ table store extends seen. by_result table store result
         (subst (λ plan. Goes table a b (under store (p table (λ x. q table x))) (under store plan)) (same table seen.interned (extends_then other.extends extends))
-            (one.came table store (extends_then other.extends extends) seen (λ x. q table x)))
+        (one.came table store (extends_then other.extends extends) seen (λ x. q table x)))
         (other.came table store extends (subst (λ held. IsSeen table held store) (sym one.kept.store_is) seen));
   }
     where
@@ -47,7 +47,9 @@ module _ {A T : Type 0} {n : ValuesView → T → Type 0} {s : ValuesView → T 
 module _ {A T : Type 0} {n : ValuesView → T → Type 0} {s : ValuesView → T → A} {p : Plans A} {a b : WorkView} where
   pub ends_stop : (q : ValuesView → A → Plan) (stop : Stop) → Comes n s p a b (Err stop) → Ends (λ table. p table (λ x. q table x)) a b (Err stop)
   ends_stop q stop one = record {
-    store_is = one.kept.store_is; left_is = one.kept.left_is; extends = one.kept.extends;
+    store_is = one.kept.store_is;
+    left_is = one.kept.left_is;
+    extends = one.kept.extends;
     is_named = named stop one.is_named;
     came = λ table store extends seen. by_stop table store stop (one.came table store extends seen);
   }
@@ -65,7 +67,10 @@ module _ {A T : Type 0} {n : ValuesView → T → Type 0} {s : ValuesView → T 
 pub ends_fault : (plan : ValuesView → Plan) (class : ℕ) (words : List ℕ) {old new : WorkView} (stop : Stop) → Faults class words old new stop
     → ((table : ValuesView) → AreInterned table → Extends new.values table → plan table ≡ fault class words) → Ends plan old new (Err stop)
 ends_fault plan class words {old} {new} stop faults plan_is = record {
-  store_is = faults.kept.store_is; left_is = faults.kept.left_is; extends = faults.kept.extends; is_named = faults.is_named;
+  store_is = faults.kept.store_is;
+  left_is = faults.kept.left_is;
+  extends = faults.kept.extends;
+  is_named = faults.is_named;
   came = by_stop stop faults.came;
 }
   where
@@ -79,14 +84,22 @@ ends_fault plan class words {old} {new} stop faults plan_is = record {
 -- an end at once
 at_end_goes : (table : ValuesView) (w : WorkView) (before behind : Leads) → ((answers : Answers) → before answers ≡ behind answers) → Goes table w w before behind
 at_end_goes table w before behind is = record {
-  touches = []; plain = tt; effect_is = is; touched_is = sym (append-nil (map (access_seen table) w.touched)); looks_are = omega (arith); characters_are = omega (arith);
+  touches = [];
+  plain = tt;
+  effect_is = is;
+  touched_is = sym (append-nil (map (access_seen table) w.touched));
+  looks_are = omega (arith);
+  characters_are = omega (arith);
 }
 
 -- a plan that gives a value, and writes nothing
 pub ends_gives : (plan : ValuesView → Plan) (w : WorkView) (v : Value) → w.made ≡ None → IsNamed w.values v
     → ((table : ValuesView) → AreInterned table → Extends w.values table → plan table ≡ writes (done (contents table v))) → Ends plan w w (Ok (ValueAnswer v))
 ends_gives plan w v none named plan_is = record {
-  store_is = refl; left_is = refl; extends = extends_same w.values; is_named = named;
+  store_is = refl;
+  left_is = refl;
+  extends = extends_same w.values;
+  is_named = named;
   came = λ table store extends seen. at_end_goes table w (under store (plan table)) (ended table w (ValueAnswer v))
       (λ answers. ap (effect store answers) (plan_is table seen.interned extends) ∙ ap (λ made. written store made (done (contents table v))) (sym (ap (seen_kind table) none)));
 }
@@ -95,7 +108,10 @@ ends_gives plan w v none named plan_is = record {
 pub ends_at_end : (plan : ValuesView → Plan) (w : WorkView) → w.made ≡ None
     → ((table : ValuesView) → AreInterned table → Extends w.values table → plan table ≡ ends) → Ends plan w w (Ok End)
 ends_at_end plan w none plan_is = record {
-  store_is = refl; left_is = refl; extends = extends_same w.values; is_named = tt;
+  store_is = refl;
+  left_is = refl;
+  extends = extends_same w.values;
+  is_named = tt;
   came = λ table store extends seen. at_end_goes table w (under store (plan table)) (ended table w End)
       (λ answers. ap (effect store answers) (plan_is table seen.interned extends) ∙ ap (λ made. written store made done_at_end) (sym (ap (seen_kind table) none)));
 }
@@ -152,7 +168,10 @@ module _ (plan : ValuesView → Plan) {w c : WorkView} {result : Result OneAnswe
   pub ends_writes : (all : ValuesView → Writes) → ((table : ValuesView) → AreInterned table → Extends w.values table → plan table ≡ writes (all table))
       → WroteAll all w c result → Ends plan w c result
   ends_writes all plan_is wrote = record {
-    store_is = wrote.kept.store_is; left_is = wrote.kept.left_is; extends = wrote.kept.extends; is_named = wrote.is_named;
+    store_is = wrote.kept.store_is;
+    left_is = wrote.kept.left_is;
+    extends = wrote.kept.extends;
+    is_named = wrote.is_named;
     came = λ table store extends seen. by_result table store result
         (λ answers. ap (effect store answers) (plan_is table seen.interned (extends_then wrote.kept.extends extends)) ∙ ap (λ made. written store made (all table)) (sym (ap (seen_kind table) none)))
         (wrote.came table store extends seen);
@@ -176,16 +195,19 @@ module _ (plan : ValuesView → Plan) {w c : WorkView} {result : Result OneAnswe
     is_named = wrote.is_named;
     came = λ table store extends seen. by_result table store result
         (λ answers. ap (effect store answers) (plan_is table seen.interned (extends_then (subst (λ values. Extends values c.values) (ap (λ x. x.values) made) wrote.kept.extends) extends))
-            ∙ (ap (λ o. written store (Some (kind_seen table kind)) (all table o)) (ap length seen.kinds_are ∙ length-map (kinds w.store) (kind_seen table))
-            ∙ ap (λ m. written store m (all table (length (kinds w.store)))) (sym (ap (λ x. seen_kind table x.made) made))))
+        ∙ (ap (λ o. written store (Some (kind_seen table kind)) (all table o)) (ap length seen.kinds_are ∙ length-map (kinds w.store) (kind_seen table))
+        ∙ ap (λ m. written store m (all table (length (kinds w.store)))) (sym (ap (λ x. seen_kind table x.made) made))))
         (wrote.came table store extends (subst (λ held. IsSeen table held store) (sym (ap (λ x. x.store) made)) seen));
   }
     where
       made_goes : (table : ValuesView) (before behind : Leads) → ((answers : Answers) → before answers ≡ behind answers) → Goes table w b before behind
       made_goes table before behind is = record {
-        touches = []; plain = tt; effect_is = is;
+        touches = [];
+        plain = tt;
+        effect_is = is;
         touched_is = ap (λ x. map (access_seen table) x.touched) made ∙ sym (append-nil (map (access_seen table) w.touched));
-        looks_are = ap (λ x. x.looks) made ∙ omega (arith); characters_are = ap (λ x. x.characters) made ∙ omega (arith);
+        looks_are = ap (λ x. x.looks) made ∙ omega (arith);
+        characters_are = ap (λ x. x.characters) made ∙ omega (arith);
       }
 
       by_result : (table : ValuesView) (store : RunStore) (result : Result OneAnswer Stop)

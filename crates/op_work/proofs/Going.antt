@@ -343,7 +343,8 @@ module _ (first : ValuesView → Writes → Writes) (access : Access) {old new :
   pub wrote : (result : Result (Unit {0}) Stop) → OnOk result (new ≡ record old { touched = old.touched ++ access ∷ [] })
       → IfErr result (λ stop. IsUnpaid old 1 0 stop) → OnErr result (new ≡ old) → Wrote first old new result
   wrote (Ok done) is unpaid same = record {
-    kept = kept_same (ap (λ w. w.store) is) (ap (λ w. w.made) is) (ap (λ w. w.left) is) (ap (λ w. w.values) is); is_named = tt;
+    kept = kept_same (ap (λ w. w.store) is) (ap (λ w. w.made) is) (ap (λ w. w.left) is) (ap (λ w. w.values) is);
+    is_named = tt;
     came = λ table store extends seen rest. record {
       touches = accessed (access_seen table access) ∷ [];
       plain = tt;
@@ -356,11 +357,13 @@ module _ (first : ValuesView → Writes → Writes) (access : Access) {old new :
   }
   wrote (Err (Raises class argument)) is unpaid same = absurd unpaid
   wrote (Err Memory) is unpaid same = record {
-    kept = kept_same (ap (λ w. w.store) same) (ap (λ w. w.made) same) (ap (λ w. w.left) same) (ap (λ w. w.values) same); is_named = tt;
+    kept = kept_same (ap (λ w. w.store) same) (ap (λ w. w.made) same) (ap (λ w. w.left) same) (ap (λ w. w.values) same);
+    is_named = tt;
     came = λ table store extends seen. tt;
   }
   wrote (Err TooDear) is unpaid same = record {
-    kept = kept_same (ap (λ w. w.store) same) (ap (λ w. w.made) same) (ap (λ w. w.left) same) (ap (λ w. w.values) same); is_named = tt;
+    kept = kept_same (ap (λ w. w.store) same) (ap (λ w. w.made) same) (ap (λ w. w.left) same) (ap (λ w. w.values) same);
+    is_named = tt;
     came = λ table store extends seen rest. record {
       touches = accessed (access_seen table access) ∷ [];
       plain = tt;
@@ -389,7 +392,8 @@ pub comes_same : {A T : Type 0} {named : ValuesView → T → Type 0} {seen : Va
     → ((table : ValuesView) → AreInterned table → Extends b.values table → (go : A → Plan) → other table go ≡ plan table go)
     → Comes named seen plan a b result → Comes named seen other a b result
 comes_same {seen = seen} {plan = plan} {a = a} {b = b} {result = result} other same comes = record {
-  kept = comes.kept; is_named = comes.is_named;
+  kept = comes.kept;
+  is_named = comes.is_named;
   came = λ table store extends seen_is. by_result table store result (same table seen_is.interned extends) (comes.came table store extends seen_is);
 }
   where

@@ -1,9 +1,9 @@
 -- What an object is, as a plan asks it.
-use Rattle.std.proofs.Common.{◌≡◌, refl, sym, ap, subst, ◌∙◌, arith, ℕ, ◌<◌, length, List, map, Option, Some, None, Ok, slice_get}
+use Rattle.std.proofs.Common.{◌≡◌, refl, sym, ap, subst, ◌∙◌, arith, ℕ, ◌<◌, length, Option, Some, Ok, slice_get}
 use Rattle.std.proofs.lemmas.Option.{slice_get_within}
 use Rattle.std.proofs.lemmas.List.{length-map}
 use Rattle.object_store.specs.Named.{IsNamedStore}
-use Rattle.object_store.specs.Store.{StoreView, kinds}
+use Rattle.object_store.specs.Store.{kinds}
 use Rattle.py_model.specs.Effect.{effect}
 use Rattle.py_model.specs.Plan.{kind_of}
 use Rattle.py_value.specs.Named.{IsNamedKind}

@@ -1,8 +1,8 @@
 -- An exception that is made and raised.
-use Rattle.std.proofs.Common.{◌≡◌, refl, sym, ap, subst, ◌∙◌, arith, append-nil, ℕ, ◌+◌, List, [], ◌∷◌, map, length, codes, Option, Some, None, Result, Ok, Err}
+use Rattle.std.proofs.Common.{◌≡◌, sym, ap, subst, ◌∙◌, arith, append-nil, ℕ, [], ◌∷◌, map, length, codes, Option, Some, Result, Ok, Err}
 use Rattle.std.proofs.lemmas.List.{length-map}
 use Rattle.object_store.specs.Store.{kinds}
-use Rattle.py_model.specs.Effect.{Answers, Effect, Outcome, answered, accessed, effect, written, parts_of}
+use Rattle.py_model.specs.Effect.{Answers, Effect, Outcome, answered, accessed, written, parts_of}
 use Rattle.py_model.specs.Plan.{raised}
 use Rattle.py_model.specs.Store.{RunStore}
 use Rattle.py_model.specs.Told.{IsNamedAnswer}
@@ -17,7 +17,7 @@ use Rattle.py_value.specs.declared.value.Value.TheVariants.{Exc}
 use Rattle.op_work.specs.declared.stop.Stop.{Stop}
 use Rattle.op_work.specs.declared.stop.Stop.TheVariants.{Raises, TooDear, Memory}
 use Rattle.op_work.specs.Raise.{args_set}
-use Rattle.op_work.specs.Work.{WorkView, Extends, IsSeen, Leads, under, ended, raising, seen_kind, Goes, IsDear, EndedSo, Ends, WroteAll, WroteAllTo, IsNamedResult}
+use Rattle.op_work.specs.Work.{WorkView, Extends, IsSeen, Leads, under, raising, seen_kind, Goes, IsDear, EndedSo, Ends, WroteAll, WroteAllTo, IsNamedResult}
 use Rattle.op_work.proofs.Going.{extends_then, goes_then, dear_then}
 
 -- the same with another outcome
@@ -26,14 +26,19 @@ with_outcome outcome leads answers = record (leads answers) { outcome = outcome 
 
 outcome_goes : {table : ValuesView} {a b : WorkView} {p q : Leads} (outcome : Outcome) → Goes table a b p q → Goes table a b (with_outcome outcome p) (with_outcome outcome q)
 outcome_goes outcome goes = record {
-  touches = goes.touches; plain = goes.plain;
+  touches = goes.touches;
+  plain = goes.plain;
   effect_is = λ answers. ap (λ (e : Effect). record e { outcome = outcome }) (goes.effect_is answers);
-  touched_is = goes.touched_is; looks_are = goes.looks_are; characters_are = goes.characters_are;
+  touched_is = goes.touched_is;
+  looks_are = goes.looks_are;
+  characters_are = goes.characters_are;
 }
 
 outcome_dear : {a : WorkView} {p : Leads} (outcome : Outcome) → IsDear a p → IsDear a (with_outcome outcome p)
 outcome_dear outcome dear = record {
-  touches = dear.touches; plain = dear.plain; behind = with_outcome outcome dear.behind;
+  touches = dear.touches;
+  plain = dear.plain;
+  behind = with_outcome outcome dear.behind;
   effect_is = λ answers. ap (λ (e : Effect). record e { outcome = outcome }) (dear.effect_is answers);
   dear = dear.dear;
 }
@@ -45,7 +50,8 @@ as_raised o (Err stop) = Err stop
 -- what is made and set, with the outcome of a raised exception
 abbrev thrown_so : ℕ → Contents → Contents → Option SeenKind → Effect
 thrown_so o args items made = record {
-  outcome = answered (raised o); made = made;
+  outcome = answered (raised o);
+  made = made;
   touches = accessed (sets (order_at o) (order_is (args ∷ []))) ∷ accessed (sets (entry_at o args) (entry_is (Some (args, items)))) ∷ [];
 }
 
@@ -67,7 +73,9 @@ module _ (class : ℕ) (argument args items : Value) {w v u : WorkView} (extends
 
   begins : (table : ValuesView) (before behind : Leads) → ((answers : Answers) → before answers ≡ behind answers) → Goes table w u before behind
   begins table before behind is = record {
-    touches = []; plain = tt; effect_is = is;
+    touches = [];
+    plain = tt;
+    effect_is = is;
     touched_is = ap (λ x. map (access_seen table) x.touched) made ∙ (ap (λ x. map (access_seen table) x.touched) same ∙ sym (append-nil (map (access_seen table) w.touched)));
     looks_are = ap (λ x. x.looks) made ∙ (ap (λ x. x.looks) same ∙ omega (arith));
     characters_are = ap (λ x. x.characters) made ∙ (ap (λ x. x.characters) same ∙ omega (arith));

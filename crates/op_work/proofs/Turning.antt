@@ -1,5 +1,5 @@
 -- Turns of a plan join, and lead to what the plan comes to.
-use Rattle.std.proofs.Common.{◌≡◌, refl, sym, ap, subst, ◌∙◌, Result, Ok, Err}
+use Rattle.std.proofs.Common.{◌≡◌, refl, sym, subst, Result, Ok, Err}
 use Rattle.py_model.specs.Plan.{Plan}
 use Rattle.py_model.specs.Store.{RunStore}
 use Rattle.py_value.specs.Values.{ValuesView, AreInterned}
@@ -44,7 +44,7 @@ turns_more {s = s} {p = p} {m = m} {a = a} {b = b} {c = c} {t = t} q one step sa
   came = λ table store extends seen go. goes_then
       (one.came table store (extends_then step.kept.extends extends) seen go)
       (subst (λ plan. Goes table b c (under store (m table (λ x. q table x go))) (under store plan)) (same table seen.interned extends go)
-          (step.came table store extends (subst (λ held. IsSeen table held store) (sym one.kept.store_is) seen) (λ x. q table x go)));
+      (step.came table store extends (subst (λ held. IsSeen table held store) (sym one.kept.store_is) seen) (λ x. q table x go)));
 }
 
 -- the plan that is left is another, equal one

@@ -28,13 +28,7 @@ impl Work {
     }
 
     // The attributes of an exception begin with `args`.
-    fn set_args(
-        &mut self,
-        alloc: Global,
-        o: u32,
-        args: Value,
-        items: Value,
-    ) -> Result<Answer, Stop>
+    fn set_args(&mut self, alloc: Global, o: u32, args: Value, items: Value) -> Result<Answer, Stop>
         requires args { IsNamed self.old.values args }
         requires items { IsNamed self.old.values items }
         requires within { o < count_with self.old.made self.old.store }

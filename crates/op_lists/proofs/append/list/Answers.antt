@@ -1,8 +1,5 @@
-use Rattle.std.proofs.Common.{rules, ◌≡◌, refl, sym, ap, subst, ◌∙◌, Some, None, Ok, Err}
-use Rattle.op_work.specs.Work.{Comes, is_any, as_is, seen_kind}
-use Rattle.py_model.specs.Lists.{when_list}
-use Rattle.py_model.specs.Plan.{Plan, kind_of}
-use Rattle.py_value.specs.Named.{IsNamedKind}
+use Rattle.std.proofs.Common.{refl, sym, ap, ◌∙◌, Some, None}
+use Rattle.op_work.specs.Work.{seen_kind}
 use Rattle.py_value.specs.declared.access.Kind.TheVariants.{List as ListKind, Dict as DictKind, Instance, File as FileKind}
 use Rattle.op_work.proofs.Going.{comes_then, comes_as, fault_comes}
 use Rattle.op_work.proofs.KindOf.{kind_comes, there}

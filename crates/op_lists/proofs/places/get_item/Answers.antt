@@ -1,4 +1,4 @@
-use Rattle.std.proofs.Common.{rules, ◌≡◌, ◌∙◌, refl, sym, ap, subst, ℤ, w64, to_z, of_z, Ok, Err}
+use Rattle.std.proofs.Common.{rules, ◌≡◌, refl, subst, ℤ, w64, to_z, of_z, Ok, Err}
 use Rattle.py_value.specs.Contents.{contents}
 use Rattle.py_value.specs.Values.{ValuesView, IsNamed}
 use Rattle.py_model.specs.Lists.{with_place}
@@ -18,7 +18,7 @@ returns-in_err-p c =
     let placed = subst (λ (i : ℤ). Comes is_any as_is (λ (table : ValuesView). with_place i c.in_ok-n.n) c.read_len.new.self c.place.new.work (Err c.in_err-p.field-0.0)) back c.in_err-p.ensures in
     passes_err (λ result. Comes IsNamed contents (λ table. item_at_index c.args.o c.args.i) c.args.work.now c.place.new.work result)
     c.from_residual-in_err-p.result c.from_residual-in_err-p.ensures.1 (comes_then (λ table n go. with_place c.args.i n (λ p. read_value c.args.o p go)) c.in_ok-n.ensures (λ table interned extends go. refl)
-        (comes_stop (λ table p go. read_value c.args.o p go) placed))
+    (comes_stop (λ table p go. read_value c.args.o p go) placed))
 
 pub returns : goal.returns
 returns c =

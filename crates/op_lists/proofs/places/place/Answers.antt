@@ -1,4 +1,4 @@
-use Rattle.std.proofs.Common.{rules, ◌≡◌, ◌∙◌, refl, sym, ap, ℤ, w64, to_z, of_z}
+use Rattle.std.proofs.Common.{rules, ◌≡◌, ◌∙◌, sym, ap, ℤ, w64, to_z, of_z}
 use Rattle.py_model.specs.Places.{place_in}
 use Rattle.py_model.specs.Lists.{with_place}
 use Rattle.op_work.proofs.Going.{fault_comes}

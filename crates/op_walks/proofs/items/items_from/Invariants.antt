@@ -1,4 +1,4 @@
-use Rattle.std.proofs.Common.{◌≡◌, ℕ, ◌+◌, ◌-◌, ◌≤◌, ◌++◌}
+use Rattle.std.proofs.Common.{◌+◌, ◌-◌, ◌++◌}
 use Rattle.op_walks.specs.Items.{values_seen}
 use Rattle.op_work.specs.Turns.{Turns}
 use Rattle.py_model.specs.Walks.{read_items}

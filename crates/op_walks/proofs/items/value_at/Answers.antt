@@ -1,4 +1,4 @@
-use Rattle.std.proofs.Common.{rules, ◌≡◌, ◌∙◌, refl, sym, ap, subst}
+use Rattle.std.proofs.Common.{◌∙◌, sym, ap, subst}
 use Rattle.py_value.specs.Contents.{contents}
 use Rattle.py_value.specs.Values.{IsNamed}
 use Rattle.py_model.specs.Walks.{read_value}

@@ -1,4 +1,4 @@
-use Rattle.std.proofs.Common.{rules, ◌≡◌, refl, sym, ap, subst, ◌∙◌, ◌++◌, ◌∷◌, [], take}
+use Rattle.std.proofs.Common.{sym, ap, ◌∙◌, ◌++◌, ◌∷◌, []}
 use Rattle.object_store.specs.Store.{keys_at}
 use Rattle.op_walks.proofs.Tuples.{take_next}
 use Rattle.op_walks.proofs.walk.keys_of.Goals as goal

@@ -1,4 +1,4 @@
-use Rattle.std.proofs.Common.{rules, ◌≡◌, refl, sym, ap, subst, ◌∙◌, length, List, map, Ok, Err}
+use Rattle.std.proofs.Common.{sym, ap, subst, ◌∙◌, List, map}
 use Rattle.object_store.specs.Store.{keys_at}
 use Rattle.op_walks.specs.Items.{values_seen}
 use Rattle.op_work.specs.Work.{Comes}

@@ -1,4 +1,4 @@
-use Rattle.std.proofs.Common.{rules, ◌≡◌, refl, sym, ap, subst, ◌∙◌, length, Ok, Err}
+use Rattle.std.proofs.Common.{◌≡◌, sym, ap, subst, ◌∙◌}
 use Rattle.op_walks.specs.Items.{values_seen}
 use Rattle.op_work.specs.Work.{Comes}
 use Rattle.py_model.specs.Walks.{walk}
@@ -14,17 +14,17 @@ returns-in_err-look c = passes_err
     (λ result. Comes (λ values vs. AreNamed values vs.items) (λ table vs. values_seen table vs.items) (λ table. walk (contents table (Tuple c.args.id))) c.args.work.now c.look.new.self result)
     c.from_residual.result c.from_residual.ensures.1
     (comes_same (λ table. walk (contents table (Tuple c.args.id)))
-        (λ table interned extends go. tuple_walk table c.args.id c.tuple_of.result.now
-            (c.tuples_are_their_parts.ensures table c.args.id c.tuple_of.result.now interned (extends.tuples c.args.id c.tuple_of.result.now (c.look.ensures.kept.extends.tuples c.args.id c.tuple_of.result.now c.tuple_of.ensures.items))) go)
-        (comes_stop (λ table done go. go (values_seen table c.tuple_of.result.now)) c.in_err-look.ensures))
+    (λ table interned extends go. tuple_walk table c.args.id c.tuple_of.result.now
+    (c.tuples_are_their_parts.ensures table c.args.id c.tuple_of.result.now interned (extends.tuples c.args.id c.tuple_of.result.now (c.look.ensures.kept.extends.tuples c.args.id c.tuple_of.result.now c.tuple_of.ensures.items))) go)
+    (comes_stop (λ table done go. go (values_seen table c.tuple_of.result.now)) c.in_err-look.ensures))
 
 pub returns : goal.returns
 returns c =
     let there = c.look.ensures.kept.extends.tuples c.args.id c.tuple_of.result.now c.tuple_of.ensures.items in
     let same : c.tuple_of.result.now ≡ c.in_ok-items.items.items = one_item _ _ (sym there ∙ c.tuple_of-2.ensures.items) ∙ sym c.in_ok-items.ensures.items in
     comes_same (λ table. walk (contents table (Tuple c.args.id)))
-        (λ table interned extends go. tuple_walk table c.args.id c.tuple_of.result.now
-            (c.tuples_are_their_parts.ensures table c.args.id c.tuple_of.result.now interned (extends.tuples c.args.id c.tuple_of.result.now there)) go)
-        (comes_as (λ table done go. go (values_seen table c.tuple_of.result.now)) c.in_ok-items.items c.in_ok-look.ensures
-            (subst (AreNamed c.look.new.self.values) (sym c.in_ok-items.ensures.items) c.tuple_of-2.ensures.named)
-            (λ table interned extends go. ap (λ items. go (values_seen table items)) same))
+    (λ table interned extends go. tuple_walk table c.args.id c.tuple_of.result.now
+    (c.tuples_are_their_parts.ensures table c.args.id c.tuple_of.result.now interned (extends.tuples c.args.id c.tuple_of.result.now there)) go)
+    (comes_as (λ table done go. go (values_seen table c.tuple_of.result.now)) c.in_ok-items.items c.in_ok-look.ensures
+    (subst (AreNamed c.look.new.self.values) (sym c.in_ok-items.ensures.items) c.tuple_of-2.ensures.named)
+    (λ table interned extends go. ap (λ items. go (values_seen table items)) same))

@@ -1,7 +1,5 @@
-use Rattle.std.proofs.Common.{rules, ◌≡◌, refl, sym, ap, subst, ◌∙◌, ◌∷◌, [], map, codes, unwrap_or, ℕ, Ok, Err}
-use Rattle.object_store.specs.Store.{kinds}
-use Rattle.py_value.specs.Contents.{contents, text, tuple}
-use Rattle.py_value.specs.Values.{ValuesView, AreInterned}
+use Rattle.std.proofs.Common.{sym, ap, subst, ◌∙◌, ◌∷◌, [], codes, unwrap_or, ℕ, Ok, Err}
+use Rattle.py_value.specs.Contents.{contents, text}
 use Rattle.py_value.specs.declared.value.Value.TheVariants.{Text, Tuple}
 use Rattle.op_work.specs.Raise.{args_set}
 use Rattle.op_work.specs.Work.{WorkView, Ends, WroteAll, raising}
@@ -14,8 +12,8 @@ pub returns-in_err-set_args : goal.returns-in_err-set_args
 returns-in_err-set_args c =
     let same = c.tuple_number.ensures.same ∙ ap (λ (x : WorkView). record x { values = c.tuple_number.new.self.values }) c.number.ensures.same in
     let ends = raised_ends c.args.class c.args.argument (Text c.in_ok-args.args) (Tuple c.in_ok-items.items) (extends_then c.number.ensures.extends c.tuple_number.ensures.extends) same c.make-o.ensures.made
-        (λ table known. ap (λ bytes. text (unwrap_or bytes [])) (known.texts c.in_ok-args.args (codes "args") (c.tuple_number.ensures.extends.texts c.in_ok-args.args (codes "args") c.in_ok-args.ensures.name)))
-        (λ table interned known. c.tuples_are_their_parts.ensures table c.in_ok-items.items (c.args.argument ∷ []) interned (known.tuples c.in_ok-items.items (c.args.argument ∷ []) c.in_ok-items.ensures.name)) in
+    (λ table known. ap (λ bytes. text (unwrap_or bytes [])) (known.texts c.in_ok-args.args (codes "args") (c.tuple_number.ensures.extends.texts c.in_ok-args.args (codes "args") c.in_ok-args.ensures.name)))
+    (λ table interned known. c.tuples_are_their_parts.ensures table c.in_ok-items.items (c.args.argument ∷ []) interned (known.tuples c.in_ok-items.items (c.args.argument ∷ []) c.in_ok-items.ensures.name)) in
     let wrote = subst (λ (o : ℕ). WroteAll (λ table. args_set o (contents table (Text c.in_ok-args.args)) (contents table (Tuple c.in_ok-items.items))) c.make-o.new.self c.set_args.new.self (Err c.in_err-set_args.field-0.0)) c.make-o.ensures.number c.in_err-set_args.ensures in
     passes_err (λ result. Ends (λ table. raising table c.args.class c.args.argument) c.args.self.now c.set_args.new.self result) c.from_residual-in_err-set_args.result c.from_residual-in_err-set_args.ensures.1
     (ends (Err c.in_err-set_args.field-0.0) wrote)
@@ -24,7 +22,7 @@ pub returns : goal.returns
 returns c =
     let same = c.tuple_number.ensures.same ∙ ap (λ (x : WorkView). record x { values = c.tuple_number.new.self.values }) c.number.ensures.same in
     let ends = raised_ends c.args.class c.args.argument (Text c.in_ok-args.args) (Tuple c.in_ok-items.items) (extends_then c.number.ensures.extends c.tuple_number.ensures.extends) same c.make-o.ensures.made
-        (λ table known. ap (λ bytes. text (unwrap_or bytes [])) (known.texts c.in_ok-args.args (codes "args") (c.tuple_number.ensures.extends.texts c.in_ok-args.args (codes "args") c.in_ok-args.ensures.name)))
-        (λ table interned known. c.tuples_are_their_parts.ensures table c.in_ok-items.items (c.args.argument ∷ []) interned (known.tuples c.in_ok-items.items (c.args.argument ∷ []) c.in_ok-items.ensures.name)) in
+    (λ table known. ap (λ bytes. text (unwrap_or bytes [])) (known.texts c.in_ok-args.args (codes "args") (c.tuple_number.ensures.extends.texts c.in_ok-args.args (codes "args") c.in_ok-args.ensures.name)))
+    (λ table interned known. c.tuples_are_their_parts.ensures table c.in_ok-items.items (c.args.argument ∷ []) interned (known.tuples c.in_ok-items.items (c.args.argument ∷ []) c.in_ok-items.ensures.name)) in
     let wrote = subst (λ (o : ℕ). WroteAll (λ table. args_set o (contents table (Text c.in_ok-args.args)) (contents table (Tuple c.in_ok-items.items))) c.make-o.new.self c.set_args.new.self (Ok c.in_ok-set_args.field-0)) c.make-o.ensures.number c.in_ok-set_args.ensures in
     subst (λ (o : ℕ). Ends (λ table. raising table c.args.class c.args.argument) c.args.self.now c.set_args.new.self (Ok (Raised o))) (sym c.make-o.ensures.number) (ends (Ok c.in_ok-set_args.field-0) wrote)

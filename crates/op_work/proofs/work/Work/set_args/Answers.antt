@@ -1,4 +1,4 @@
-use Rattle.std.proofs.Common.{rules, ◌≡◌, refl, sym, ap, subst, ◌∙◌, List, [], ◌∷◌, map, Some, Ok, Err}
+use Rattle.std.proofs.Common.{rules, ◌≡◌, refl, subst, List, [], ◌∷◌, map, Some, Ok, Err}
 use Rattle.py_model.specs.Plan.{write, done}
 use Rattle.py_value.specs.Contents.{contents, nothing}
 use Rattle.py_value.specs.Seen.{order_at, order_is, entry_at, entry_is}
@@ -15,17 +15,17 @@ returns-in_err-set c =
     let keys : c.of.result ≡ c.args.args ∷ [] = search rules in
     passes_err (λ result. WroteAll (λ table. args_set c.args.o (contents table c.args.args) (contents table c.args.items)) c.args.self.now c.set.new.self result) c.from_residual-in_err-set.result c.from_residual-in_err-set.ensures.1
     (writes_stop (λ table. write (entry_at c.args.o (contents table c.args.args)) (entry_is (Some (contents table c.args.args, contents table c.args.items))) (done nothing)) c.in_err-set.field-0.0
-        (subst (λ (ks : List Value). Wrote (λ table. write (order_at c.args.o) (order_is (map (contents table) ks))) c.args.self.now c.set.new.self (Err c.in_err-set.field-0.0)) keys c.in_err-set.ensures))
+    (subst (λ (ks : List Value). Wrote (λ table. write (order_at c.args.o) (order_is (map (contents table) ks))) c.args.self.now c.set.new.self (Err c.in_err-set.field-0.0)) keys c.in_err-set.ensures))
 
 pub returns-in_err-set-2 : goal.returns-in_err-set-2
 returns-in_err-set-2 c =
     let keys : c.of.result ≡ c.args.args ∷ [] = search rules in
     passes_err (λ result. WroteAll (λ table. args_set c.args.o (contents table c.args.args) (contents table c.args.items)) c.args.self.now c.set-2.new.self result) c.from_residual-in_err-set-2.result c.from_residual-in_err-set-2.ensures.1
     (writes_then (subst (λ (ks : List Value). Wrote (λ table. write (order_at c.args.o) (order_is (map (contents table) ks))) c.args.self.now c.set.new.self (Ok tt)) keys c.in_ok-set.ensures)
-        (writes_stop (λ table. done nothing) c.in_err-set-2.field-0.0 c.in_err-set-2.ensures))
+    (writes_stop (λ table. done nothing) c.in_err-set-2.field-0.0 c.in_err-set-2.ensures))
 
 pub returns : goal.returns
 returns c =
     let keys : c.of.result ≡ c.args.args ∷ [] = search rules in
     writes_then (subst (λ (ks : List Value). Wrote (λ table. write (order_at c.args.o) (order_is (map (contents table) ks))) c.args.self.now c.set.new.self (Ok tt)) keys c.in_ok-set.ensures)
-        (writes_then c.in_ok-set-2.ensures (writes_done c.set-2.new.self NoneValue (λ table. done nothing) tt (λ table extends. refl)))
+    (writes_then c.in_ok-set-2.ensures (writes_done c.set-2.new.self NoneValue (λ table. done nothing) tt (λ table extends. refl)))
