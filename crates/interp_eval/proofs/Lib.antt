@@ -7,4 +7,3 @@ pub mod Codes
 pub mod Performed
 pub mod Goings
 pub mod Steps
-pub mod LocalWalks

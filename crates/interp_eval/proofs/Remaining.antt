@@ -8,7 +8,7 @@ use Rattle.py_tree.specs.declared.expr.LogicOp.TheVariants.{And as Both, Or as E
 use Rattle.py_value.specs.Contents.{Contents, nothing, truth, int, text, tuple, range, function, class, exception_class, builtin, object}
 use Rattle.py_model.specs.Act.{Act, Walked, perform, ret, normal}
 use Rattle.py_model.specs.Expressions.{Here, Task, by_answer, by_truth, giving, calling, calling_builtin, calling_method, calling_attribute, with_receiver, failing, not_callable, wrong_arguments, takes_so_many, function_arities, method_arities, doing, op, eval, eval_maybe, eval_all, eval_pairs}
-use Rattle.interp_eval.specs.Machine.{Branch, both_of, either_of, one_of, Finish, Node, Waiting, Machine, plain, a_name, a_variable, a_value, does_one, gives_one, tests_one, finds_one, calls_one, calls_method, pops, performs, fails, call_turn, method_turn, turn_by, turn_act, is_instance, expr_list, pair_list, node, node_for, evals, tested, found, called, called_method, finishes, having, waits, gives, goes, remains, is_true, giving_node, after_test, is_method, takes_receiver, after_find}
+use Rattle.interp_eval.specs.Machine.{machine, Branch, both_of, either_of, one_of, Finish, Node, Waiting, Machine, plain, a_name, a_variable, a_value, does_one, gives_one, tests_one, finds_one, calls_one, calls_method, pops, performs, fails, call_turn, method_turn, turn_by, turn_act, is_instance, expr_list, pair_list, node, node_for, evals, tested, found, called, called_method, finishes, having, waits, gives, goes, remains, is_true, giving_node, after_test, is_method, takes_receiver, after_find}
 
 module _ (script : ScriptTree) (next : Task → Act) (here : Here) where
   all_evals : (es : ExprsTree) (go : List Contents → Act) → evals script next here (expr_list es) go ≡ eval_all script next here es go
@@ -52,6 +52,11 @@ module _ (script : ScriptTree) (next : Task → Act) (here : Here) where
   pub goes_more : (fs : List Waiting) (f : Waiting) (go : Contents → Act) → goes script next here (fs ++ f ∷ []) go ≡ gives script next here f (goes script next here fs go)
   goes_more [] f go = refl
   goes_more (g ∷ fs) f go = goes_more fs f (gives script next here g go)
+
+  -- an expression of which nothing is evaluated
+  pub started_means : (e : ExprTree) (go : Contents → Act) → remains script next here (machine (node_for e) [] []) go ≡ eval script next here e go
+  unfolding remains
+  started_means e go = node_means e go
 
   -- an operand that is absent is None
   pub absent_means : (at : Pos) (finish : Finish) (ms : List MaybeTree) (vs : List Contents) (fs : List Waiting) (go : Contents → Act)

@@ -3,10 +3,13 @@ ghost use Rattle.std.specs.Prelude.{◌≡◌, IfOk, OnOk, [], ◌∷◌, None a
 ghost use Rattle.py_tree.specs.Erasure.{expr_of};
 ghost use Rattle.py_value.specs.Values.{ValuesView};
 ghost use Rattle.std.specs.Prelude.{map, ◌++◌};
-ghost use Rattle.py_value.specs.Contents.{contents, nothing};
+ghost use Rattle.py_value.specs.Contents.{Contents, contents, nothing};
 ghost use Rattle.py_value.specs.Values.{IsNamed};
 ghost use Rattle.interp_eval.specs.Held.{AreHeld};
-ghost use Rattle.interp_eval.specs.Step.{given};
+ghost use Rattle.interp_eval.specs.Step.{given, remaining};
+ghost use Rattle.py_tree.specs.Tree.{ScriptTree};
+ghost use Rattle.py_model.specs.Act.{Act};
+ghost use Rattle.py_model.specs.Expressions.{Here, Task, eval};
 ghost use Rattle.interp_eval.specs.Machine.{node_for, node, machine, waiting};
 ghost use Rattle.interp_eval.specs.Delivery.{IsDelivered};
 ghost use Rattle.interp_eval.specs.Seen.{finish_seen, operands_seen};
@@ -68,7 +71,8 @@ impl<'a> EvalFrames<'a> {
     pub fn start(alloc: Global, expr: &'a Expr, scope: Scope) -> Result<EvalFrames<'a>, Memory>
         ensures scope { IfOk result (λ frames. frames.scope ≡ scope) }
         ensures held { IfOk result (λ frames. (table : ValuesView) → AreHeld table frames) }
-        ensures means { IfOk result (λ frames. (table : ValuesView) → machine_seen table frames ≡ machine (node_for (expr_of expr.entry.now)) [] []) }
+        ensures means { IfOk result (λ frames. (script : ScriptTree) (next : Task → Act) (here : Here) (go : Contents → Act) (table : ValuesView)
+            → remaining script next here go table frames ≡ eval script next here (expr_of expr.entry.now) go) }
     {
         Ok(EvalFrames {
             scope,

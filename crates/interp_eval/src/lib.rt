@@ -2,7 +2,6 @@
 #![tactic(auto)]
 
 mod frames;
-mod locals;
 mod node;
 mod perform;
 mod step;

@@ -122,7 +122,7 @@ fn call_node<'a>(at: Pos, callee: &'a Expr, arguments: &'a [Expr]) -> Node<'a>
 }
 
 /// The node of an operator or a display.
-fn code_node<'a>(at: Pos, code: Code<'a>, rest: Operands<'a>) -> Node<'a>
+pub(crate) fn code_node<'a>(at: Pos, code: Code<'a>, rest: Operands<'a>) -> Node<'a>
     ensures { result ≡ record { at = at; finish = Do code.entry; rest = rest.entry } }
 {
     Node {

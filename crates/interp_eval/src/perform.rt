@@ -9,8 +9,8 @@ ghost use Rattle.interp_eval.specs.Performing.{HasState, AreNamedBy, MakesOp, Ha
 ghost use Rattle.interp_eval.specs.Turns.{IsWanted};
 
 use crate::frames::Scope;
-use crate::locals::activation_of;
 use crate::turn::Want;
+use local_names::activation_of;
 use prov_base::{Memory, Pos};
 use py_model::{Answer, Args, Deed, Doer, Done, Moment, Op, Watch};
 use py_tree::Script;
@@ -56,7 +56,7 @@ pub(crate) fn make_op<D: Doer>(
             })
         }
         Want::Variable(name) => {
-            let scope = activation_of(script, scope, name.as_str());
+            let scope = activation_of(script, scope.function, scope.activation, name.as_str());
             let name = doer.word(alloc, name.as_str())?;
             Ok(Op {
                 no,

@@ -18,7 +18,7 @@ ghost use Rattle.interp_eval.specs.Turns.{IsOrderly, turn_seen};
 ghost use Rattle.interp_eval.specs.Values.{behind_values};
 
 use crate::frames::{EvalFrames, EvalNext, Frame};
-use crate::node::{Branch, Code, Finish, Next, Node, Operands};
+use crate::node::{Branch, Code, Finish, Next, Node, Operands, code_node};
 use crate::perform::{Came, make_op, perform};
 use crate::turn::{After, Order, Turn};
 use prov_base::{Memory, Pos};
@@ -90,17 +90,6 @@ fn is_true(value: Value) -> bool
     }
 }
 
-/// The node that evaluates an expression and gives its value.
-fn giving_node<'a>(at: Pos, expr: &'a Expr) -> Node<'a>
-    ensures { result ≡ record { at = at; finish = Do Give; rest = One expr.entry } }
-{
-    Node {
-        at,
-        finish: Finish::Do(Code::Give),
-        rest: Operands::One(expr),
-    }
-}
-
 /// The node after a test of a value.
 fn after_test<'a>(at: Pos, branch: Branch<'a>, value: Value, holds: bool) -> Node<'a>
     ensures means { (table : ValuesView) → node_seen table result ≡ after_test at (branch_seen branch.entry) (contents table value) holds }
@@ -114,7 +103,7 @@ fn after_test<'a>(at: Pos, branch: Branch<'a>, value: Value, holds: bool) -> Nod
     match branch {
         Branch::And(right) => {
             if holds {
-                giving_node(at, right)
+                code_node(at, Code::Give, Operands::One(right))
             } else {
                 itself
             }
@@ -123,10 +112,13 @@ fn after_test<'a>(at: Pos, branch: Branch<'a>, value: Value, holds: bool) -> Nod
             if holds {
                 itself
             } else {
-                giving_node(at, right)
+                code_node(at, Code::Give, Operands::One(right))
             }
         }
-        Branch::Choose(chosen, other) => giving_node(at, if holds { chosen } else { other }),
+        Branch::Choose(chosen, other) => {
+            let next = if holds { chosen } else { other };
+            code_node(at, Code::Give, Operands::One(next))
+        }
     }
 }
 

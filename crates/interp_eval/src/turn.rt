@@ -1,6 +1,6 @@
 // What a node with all its operands is to do.
 ghost use Rattle.std.specs.Prelude.{false, ◌<◌, ◌≡◌, ◌+◌, ◌-◌, true, length, map, slice_get};
-ghost use Rattle.py_model.specs.Expressions.{function_arities, method_arities, takes, takes_so_many, unary_number, binary_number, compare_number};
+ghost use Rattle.py_model.specs.Expressions.{takes_so_many, unary_number, binary_number, compare_number};
 ghost use Rattle.py_model.specs.Told.{is_operation, names_text};
 ghost use Rattle.py_value.specs.Contents.{contents};
 ghost use Rattle.py_value.specs.Values.{ValuesView};
@@ -126,41 +126,18 @@ const METHODS: [Arity; 32] = [
     (1, Some(1)),
 ];
 
-/// Whether so many arguments may be given.
-fn takes(arity: Arity, count: usize) -> bool
-    ensures { result ≡ takes arity.0 arity.1 count }
-{
-    match arity.1 {
-        None => arity.0 <= count,
-        Some(most) => arity.0 <= count && count <= most,
-    }
-}
-
 /// Whether what has this number takes so many arguments.
 fn takes_at(arities: &[Arity], number: u64, count: usize) -> bool
     ensures takes { result ≡ takes_so_many (slice_get arities.now number) count }
     ensures within { result ≡ true → number < length arities.now }
 {
-    match arities.get(number as usize) {
-        None => false,
-        Some(arity) => takes(*arity, count),
+    let Some((least, most)) = arities.get(number as usize) else {
+        return false;
+    };
+    match most {
+        None => *least <= count,
+        Some(most) => *least <= count && count <= *most,
     }
-}
-
-/// Whether the function of the language with this number takes so many arguments.
-fn function_takes(number: u64, count: usize) -> bool
-    ensures takes { result ≡ takes_so_many (slice_get function_arities number) count }
-    ensures within { result ≡ true → number < 22 }
-{
-    takes_at(&FUNCTIONS, number, count)
-}
-
-/// Whether the method with this number, counted from 0, takes so many arguments.
-fn method_takes(number: u64, count: usize) -> bool
-    ensures takes { result ≡ takes_so_many (slice_get method_arities number) count }
-    ensures within { result ≡ true → number < 32 }
-{
-    takes_at(&METHODS, number, count)
 }
 
 /// A call fails: what is called is not callable, or the number of arguments is wrong.
@@ -198,7 +175,7 @@ fn builtin_turn<'a>(at: Pos, number: u64, count: usize) -> Turn<'a>
     ensures means { (table : ValuesView) → turn_seen table result ≡ builtin_turn at number count }
     ensures operation { IsOfOperation result }
 {
-    if function_takes(number, count) {
+    if takes_at(&FUNCTIONS, number, count) {
         return calls(at, 50 + number as u8);
     }
     if number < 22 {
@@ -239,7 +216,7 @@ fn number_turn<'a>(at: Pos, number: u64, count: usize) -> Turn<'a>
     if number < 80 {
         return fails(at, 0);
     }
-    if method_takes(number - 80, count) {
+    if takes_at(&METHODS, number - 80, count) {
         return calls(at, number as u8);
     }
     fails(at, 1)

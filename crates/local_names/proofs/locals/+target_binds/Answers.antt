@@ -3,7 +3,7 @@ use Rattle.py_tree.specs.declared.expr.Target.{Target}
 use Rattle.py_tree.specs.Erasure.{target_of, targets_list}
 use Rattle.py_tree.specs.Binds.{targets_bind}
 use Rattle.py_tree.proofs.TargetTrees.{targets_tree}
-use Rattle.interp_eval.proofs.locals.+target_binds.Goals as goal
+use Rattle.local_names.proofs.locals.+target_binds.Goals as goal
 
 pub targets_bind-loop-target-init : goal.targets_bind-loop-target-init
 targets_bind-loop-target-init t c =

@@ -6,10 +6,9 @@ ghost use Rattle.std.specs.Str.{bytes_eq};
 ghost use Rattle.py_tree.specs.Binds.{bound_is, form_binds, handlers_bind, target_binds, targets_bind};
 ghost use Rattle.py_tree.specs.Erasure.{branches_of, else_tree, form_of, handlers_of, script_of, stmt_of, suite_of, target_of, targets_of};
 ghost use Rattle.py_model.specs.Functions.{is_local, branches_bind, else_binds, handler_suites_bind, inner_binds, stmt_binds, suite_binds};
-ghost use Rattle.interp_eval.specs.Scopes.{activation_of, local_in, local_by, local_at};
+ghost use Rattle.local_names.specs.Scopes.{activation_by, function_in, local_in, local_by, local_at};
 ghost use Rattle.prov_base.specs.declared.place.Pos.{Pos};
 
-use crate::frames::Scope;
 use prov_base::Name;
 use py_tree::{
     Bound, Branches, Form, Globals, Handlers, Params, Script, Stmt, Suite, Target, Targets,
@@ -221,15 +220,16 @@ fn local_at(own: u32, form: &Form, number: u32, name: &str) -> Option<bool>
     }
 }
 
-/// The activation of a name: that of the scope where it is local, and else the module's.
-pub(crate) fn activation_of(script: &Script, scope: Scope, name: &str) -> u32
-    ensures { result ≡ activation_of (script_of script.now) scope name.now }
+/// The activation of a name in the function whose `def` has this number, or at module level: the given one where the name is local, and else
+/// 0, the module's. A number that no `def` has is the module's too.
+pub fn activation_of(script: &Script, function: Option<u32>, activation: u32, name: &str) -> u32
+    ensures { result ≡ activation_by (function_in (script_of script.now) function) activation name.now }
 {
-    let Some(number) = scope.function else {
+    let Some(number) = function else {
         return 0;
     };
     match local_in(&script.body, number, name) {
         None => 0,
-        Some(is_local) => { if is_local { scope.activation } else { 0 } }
+        Some(is_local) => { if is_local { activation } else { 0 } }
     }
 }

@@ -1,9 +1,9 @@
 use Rattle.std.proofs.Common.{ap, sym, ◌∙◌}
 use Rattle.py_tree.specs.Erasure.{stmt_of}
 use Rattle.py_tree.proofs.StmtTrees.{suite_tree}
-use Rattle.interp_eval.specs.Scopes.{local_in, local_by}
-use Rattle.interp_eval.proofs.LocalWalks.{locals_left, more_locals, first_here, first_next, first_end, other_has_none, def_has}
-use Rattle.interp_eval.proofs.locals.+local_in.Goals as goal
+use Rattle.local_names.specs.Scopes.{local_in, local_by}
+use Rattle.local_names.proofs.LocalWalks.{locals_left, more_locals, first_here, first_next, first_end, other_has_none, def_has}
+use Rattle.local_names.proofs.locals.+local_in.Goals as goal
 
 pub local_in-loop-stmt-init : goal.local_in-loop-stmt-init
 local_in-loop-stmt-init t c = ap (locals_left c.args.number c.args.name.now) c.deref-stmt-items.ensures.value ∙ ap (local_in c.args.number c.args.name.now) (sym (suite_tree c.args.suite.now))

@@ -1,8 +1,8 @@
 use Rattle.std.proofs.Common.{ap, sym, ◌∙◌}
 use Rattle.py_tree.proofs.StmtTrees.{suite_tree, branches_tree, handlers_tree}
 use Rattle.py_model.specs.Functions.{suite_binds, branches_bind, handler_suites_bind}
-use Rattle.interp_eval.proofs.LocalWalks.{stmts_left, branches_left, handlers_left, leaf_binds_none}
-use Rattle.interp_eval.proofs.locals.+suite_binds.Goals as goal
+use Rattle.local_names.proofs.LocalWalks.{stmts_left, branches_left, handlers_left, leaf_binds_none}
+use Rattle.local_names.proofs.locals.+suite_binds.Goals as goal
 
 pub suite_binds-loop-stmt-init : goal.suite_binds-loop-stmt-init
 suite_binds-loop-stmt-init t c = ap (stmts_left c.args.name.now) c.deref-stmt-items.ensures.value ∙ ap (λ ss. suite_binds ss c.args.name.now) (sym (suite_tree c.args.suite.now))

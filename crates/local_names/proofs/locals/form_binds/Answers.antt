@@ -1,5 +1,5 @@
 use Rattle.py_tree.proofs.BindsLeaves.{nameless_binds_none}
-use Rattle.interp_eval.proofs.locals.form_binds.Goals as goal
+use Rattle.local_names.proofs.locals.form_binds.Goals as goal
 
 pub returns-in_default : goal.returns-in_default
 returns-in_default c = nameless_binds_none c.args.name.now c.args.form.now (record {

@@ -1,8 +1,8 @@
 use Rattle.std.proofs.Common.{◌≡◌, map, drop}
 use Rattle.py_tree.specs.Erasure.{suite_of, branches_of, handlers_of}
 use Rattle.py_model.specs.Functions.{suite_binds, branches_bind, handler_suites_bind}
-use Rattle.interp_eval.proofs.LocalWalks.{stmts_left, branches_left, handlers_left}
-use Rattle.interp_eval.proofs.locals.+suite_binds.Given as goal
+use Rattle.local_names.proofs.LocalWalks.{stmts_left, branches_left, handlers_left}
+use Rattle.local_names.proofs.locals.+suite_binds.Given as goal
 
 abbrev pub invariant-suite_binds-loop-stmt : goal.invariant-suite_binds-loop-stmt
 invariant-suite_binds-loop-stmt l = stmts_left l.name (drop l.stmt-index l.stmt-items) ≡ suite_binds (suite_of l.suite) l.name
