@@ -7,3 +7,4 @@ pub mod Codes
 pub mod Performed
 pub mod Goings
 pub mod Steps
+pub mod Weights

@@ -7,3 +7,4 @@ pub mod Scopes
 pub mod Performing
 pub mod Step
 pub mod Values
+pub mod Weight

@@ -1,5 +1,5 @@
 // One step of an evaluation.
-ghost use Rattle.std.specs.Prelude.{◌≡◌, [], ◌∷◌, map, IfOk, OnOk, if◌then◌else◌};
+ghost use Rattle.std.specs.Prelude.{◌≡◌, ◌<◌, [], ◌∷◌, map, IfOk, OnOk, if◌then◌else◌};
 ghost use Rattle.py_tree.specs.Erasure.{expr_of, exprs_list, script_of};
 ghost use Rattle.py_value.specs.Contents.{contents};
 ghost use Rattle.py_value.specs.Values.{ValuesView, IsNamed};
@@ -14,7 +14,8 @@ ghost use Rattle.interp_eval.specs.declared.node.Operands.TheVariants.{One};
 ghost use Rattle.interp_eval.specs.Seen.{branch_seen, finish_seen, node_seen, operands_seen, waiting_seen};
 ghost use Rattle.interp_eval.specs.Step.{Steps, AreHeldBy, HoldsNext, IsHeldNext};
 ghost use Rattle.interp_eval.specs.declared.turn.Turn.TheVariants.{Perform};
-ghost use Rattle.interp_eval.specs.Turns.{IsOrderly, turn_seen};
+ghost use Rattle.interp_eval.specs.Turns.{after_seen, IsOrderly, turn_seen};
+ghost use Rattle.interp_eval.specs.Weight.{after_weight, finish_weight, no_values, LeavesLess};
 ghost use Rattle.interp_eval.specs.Values.{behind_values};
 
 use crate::frames::{EvalFrames, EvalNext, Frame};
@@ -238,6 +239,7 @@ impl<'a> EvalFrames<'a> {
         ensures scope { self.new.scope ≡ self.old.scope }
         ensures means { HasGoneOn after.entry value method self.old self.new result }
         ensures held { (table : ValuesView) → AreHeld table self.old → IsNamed table value → IsHeldNext table self.new result }
+        ensures falls { after_weight (after_seen after.entry) < finish_weight (finish_seen no_values self.old.top.node.finish) → LeavesLess self.old self.new result }
     {
         let at = self.top.node.at;
         let had = first(self.top.have.as_slice());
@@ -278,6 +280,7 @@ fn order_step<'a, D: Doer, W: Watch>(
     ensures knew { Knew (D.fits doer.old) (D.fits doer.new) }
     ensures scope { frames.new.scope ≡ frames.old.scope }
     ensures held { HoldsNext (D.fits doer.new) frames.new result }
+    ensures falls { LeavesLess frames.old frames.new result }
     ensures step { Steps (script_of script.entry.now) frames.old frames.new left.old left.new (D.fits doer.new) (D.stands doer.old) (D.stands doer.new) (W.history watch.old) (W.history watch.new) result }
 {
     let Ok(values) = values_of(alloc, &frames.top, order.skip) else {
@@ -317,6 +320,7 @@ fn turn_step<'a, D: Doer, W: Watch>(
     ensures knew { Knew (D.fits doer.old) (D.fits doer.new) }
     ensures scope { frames.new.scope ≡ frames.old.scope }
     ensures held { HoldsNext (D.fits doer.new) frames.new result }
+    ensures falls { LeavesLess frames.old frames.new result }
     ensures step { Steps (script_of script.entry.now) frames.old frames.new left.old left.new (D.fits doer.new) (D.stands doer.old) (D.stands doer.new) (W.history watch.old) (W.history watch.new) result }
 {
     match frames.top.turn() {
@@ -345,6 +349,7 @@ pub fn eval_step<'a, D: Doer, W: Watch>(
     ensures knew { Knew (D.fits doer.old) (D.fits doer.new) }
     ensures scope { frames.new.scope ≡ frames.old.scope }
     ensures held { HoldsNext (D.fits doer.new) frames.new result }
+    ensures falls { LeavesLess frames.old frames.new result }
     ensures step { Steps (script_of script.entry.now) frames.old frames.new left.old left.new (D.fits doer.new) (D.stands doer.old) (D.stands doer.new) (W.history watch.old) (W.history watch.new) result }
 {
     match frames.top.node.rest.split() {

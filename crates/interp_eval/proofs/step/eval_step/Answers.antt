@@ -1,5 +1,7 @@
 use Rattle.py_tree.specs.Erasure.{expr_of, script_of}
 use Rattle.interp_eval.specs.Step.{remaining}
+use Rattle.interp_eval.specs.Weight.{no_values}
+use Rattle.interp_eval.proofs.Weights.{skip_less, begin_less}
 use Rattle.interp_eval.proofs.Steps.{stood_on, cut_here, absent_step, begun_step}
 use Rattle.interp_eval.proofs.step.eval_step.Goals as goal
 
@@ -26,3 +28,9 @@ returns-in-Ok-begin-clause-step g c = λ next here go is_at table capture fit s 
 pub returns-in-Err-begin-clause-step : goal.returns-in-Err-begin-clause-step
 returns-in-Err-begin-clause-step g c = λ next here go is_at table capture fit s stands steps.
     cut_here capture (remaining (script_of c.args.script.now) next here go table c.args.frames.now) s _ _ stands
+
+pub returns-in-Ok-clause-falls : goal.returns-in-Ok-clause-falls
+returns-in-Ok-clause-falls g c = skip_less c.args.frames.now c.skip.new.self c.in-Absent.rest c.in-Absent.ensures (c.in-Ok.ensures.means no_values)
+
+pub returns-in-Ok-begin-clause-falls : goal.returns-in-Ok-begin-clause-falls
+returns-in-Ok-begin-clause-falls g c = begin_less c.args.frames.now c.begin.new.self (expr_of c.in-Begin.operand.now) c.in-Begin.rest c.in-Begin.ensures (c.in-Ok-begin.ensures.means no_values)

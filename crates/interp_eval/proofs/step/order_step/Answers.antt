@@ -1,4 +1,10 @@
+use Rattle.std.proofs.Common.{map}
 use Rattle.py_tree.specs.Erasure.{script_of}
+use Rattle.py_value.specs.Contents.{contents}
+use Rattle.interp_eval.specs.Seen.{finish_seen}
+use Rattle.interp_eval.specs.Turns.{after_seen, want_seen}
+use Rattle.interp_eval.specs.Weight.{no_values}
+use Rattle.interp_eval.proofs.Weights.{after_lighter}
 use Rattle.interp_eval.specs.Step.{remaining}
 use Rattle.interp_eval.specs.declared.perform.Came.TheVariants.{Did, TooDear, Unanswered}
 use Rattle.interp_eval.proofs.Steps.{cut_here, made_state, made_named, known_came, order_cut, order_spent, order_unanswered, order_raised, order_ended, order_value, order_named}
@@ -78,3 +84,8 @@ returns-in-Value-clause-held g c = λ table capture fit.
     c.requires.whole c.requires.turn c.in-Ok.ensures.means c.in-Ok-perform.ensures.knew c.in-Ok-make_op.ensures.makes.1 c.in-Did.method (g.D.Doer.fits c.args.doer.now) c.in-Ok-make_op.ensures.knew c.requires.state c.in-Did.answer c.in-Value.value c.in-Value.is
     (known_came c.args.order.at c.in-Ok-make_op.op c.in-Ok.values.items c.args.left.now c.perform.new.left (g.D.Doer.fits c.perform.new.doer) (g.D.Doer.stands c.make_op.new.doer) (g.D.Doer.stands c.perform.new.doer)
     (g.W.Watch.history c.args.watch.now) (g.W.Watch.history c.perform.new.watch) c.in-Ok-perform.came (Did c.in-Did.answer c.in-Did.method) c.in-Did.is c.in-Ok-perform.ensures.performed) table capture fit)
+
+pub returns-in-Value-clause-falls : goal.returns-in-Value-clause-falls
+returns-in-Value-clause-falls g c =
+    c.go_on.ensures.falls (after_lighter c.args.frames.now.top.node.at c.args.order.at c.args.order.no (want_seen no_values c.args.order.want) c.args.order.skip (after_seen c.args.order.after)
+    (finish_seen no_values c.args.frames.now.top.node.finish) (map (contents no_values) c.args.frames.now.top.have.items) (c.requires.turn no_values))

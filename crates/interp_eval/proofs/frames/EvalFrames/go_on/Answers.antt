@@ -1,11 +1,14 @@
-use Rattle.std.proofs.Common.{refl, sym, subst, ap, map, ◌∙◌}
+use Rattle.std.proofs.Common.{◌<◌, refl, sym, subst, ap, map, ◌∙◌}
 use Rattle.prov_base.specs.declared.refusal.Memory.{Memory}
 use Rattle.py_tree.specs.Erasure.{expr_of, exprs_list}
 use Rattle.py_value.specs.Contents.{contents}
 use Rattle.interp_eval.specs.Delivery.{GoesOn, following}
 use Rattle.interp_eval.specs.Held.{AreAllNamed}
 use Rattle.interp_eval.specs.Machine.{first_of, remains}
-use Rattle.interp_eval.specs.Seen.{machine_seen}
+use Rattle.interp_eval.specs.Seen.{machine_seen, branch_seen, finish_seen}
+use Rattle.interp_eval.specs.Turns.{after_seen}
+use Rattle.interp_eval.specs.Weight.{after_weight, finish_weight, no_values}
+use Rattle.interp_eval.proofs.Weights.{pop_less, branch_less, bind_less}
 use Rattle.interp_eval.specs.declared.turn.After.TheVariants.{Pop, Branch, Bind}
 use Rattle.interp_eval.proofs.Goings.{pop_goes, pop_held, branch_goes, bind_goes, replaced_held, fresh_held}
 use Rattle.interp_eval.proofs.frames.EvalFrames.go_on.Goals as goal
@@ -44,3 +47,19 @@ returns-in_ok-self-in-Bind-clause-held c = λ table held one.
     replaced_held table c.args.self.now (record { scope = c.args.self.now.scope; top = c.in_ok-self-in-Bind.field-0; below = c.args.self.now.below })
     (c.in_ok-self-in-Bind.ensures.named table (c.first-had.ensures.named table (subst (AreAllNamed table) (sym c.as_slice.ensures.value) held.top.have)) one)
     refl held
+
+pub returns-in-Pop-clause-falls : goal.returns-in-Pop-clause-falls
+returns-in-Pop-clause-falls c = λ light. pop_less c.args.self.now c.deliver.new.self c.args.value c.deliver.result c.deliver.ensures.means
+
+pub returns-in-Branch-clause-falls : goal.returns-in-Branch-clause-falls
+returns-in-Branch-clause-falls c = λ light.
+    branch_less c.args.self.now (record { scope = c.args.self.now.scope; top = record { node = c.after_test-node.result; have = c.new.result }; below = c.args.self.now.below })
+    c.args.self.now.top.node.at (branch_seen c.in-Branch.branch) (contents no_values c.first-had.result) c.is_true.result (c.after_test-node.ensures.means no_values) refl
+    (subst (λ a. after_weight (after_seen a) < finish_weight (finish_seen no_values c.args.self.now.top.node.finish)) c.in-Branch.is light)
+
+pub returns-in_ok-self-in-Bind-clause-falls : goal.returns-in_ok-self-in-Bind-clause-falls
+returns-in_ok-self-in-Bind-clause-falls c = λ light.
+    bind_less c.args.self.now (record { scope = c.args.self.now.scope; top = c.in_ok-self-in-Bind.field-0; below = c.args.self.now.below })
+    c.args.self.now.top.node.at (exprs_list (map expr_of c.in-Bind.arguments.now)) (contents no_values c.first-had.result) (contents no_values c.args.value) c.args.method
+    (c.in_ok-self-in-Bind.ensures.means no_values) refl
+    (subst (λ a. after_weight (after_seen a) < finish_weight (finish_seen no_values c.args.self.now.top.node.finish)) c.in-Bind.is light)
