@@ -4,7 +4,7 @@ use Rattle.prov_base.specs.declared.place.Pos.{Pos}
 use Rattle.prov_base.specs.declared.refusal.Memory.{Memory}
 use Rattle.py_tree.specs.Erasure.{expr_of}
 use Rattle.py_tree.specs.Tree.{ExprTree, MaybeTree, ScriptTree, no_expr, some_expr}
-use Rattle.py_model.specs.Act.{Act, Walked, ret, perform, normal, threw}
+use Rattle.py_model.specs.Act.{Act, Walked, stop, ret, perform, normal, threw}
 use Rattle.py_model.specs.Capture.{Capture}
 use Rattle.py_model.specs.Doing.{Standing, standing, Fits, Stands, Knew, ForEach, IsRefused}
 use Rattle.py_model.specs.Expressions.{Here, Task, by_answer, calling, giving}
@@ -27,9 +27,11 @@ use Rattle.interp_eval.specs.Machine.{Machine, machine, node, node_for, waiting,
 use Rattle.interp_eval.specs.Performing.{HasState, AreNamedBy, IsOp, HasHappened, WasTooDear, WasLacking, WasCut, nothing_happened, not_told, HasPerformed}
 use Rattle.interp_eval.specs.declared.perform.Came.{Came}
 use Rattle.py_model.specs.declared.moment.Answer.{Answer as OneAnswer}
+use Rattle.local_names.specs.Scopes.{function_in}
+use Rattle.interp_eval.specs.declared.frames.Scope.{Scope}
 use Rattle.interp_eval.specs.Scopes.{IsAt}
 use Rattle.interp_eval.specs.Seen.{machine_seen, waiting_seen, finish_seen, operands_seen, some_of}
-use Rattle.interp_eval.specs.Step.{Went, stayed, went_on, IsOn, IsSpent, IsUnanswered, IsCut, IsCall, IsStep, given, remaining, AreHeldBy}
+use Rattle.interp_eval.specs.Step.{Went, stayed, went_on, IsOn, IsSpent, IsUnanswered, IsCut, IsCall, IsStep, Steps, given, remaining, AreHeldBy}
 use Rattle.interp_eval.specs.Turns.{want_seen, after_seen, turn_seen, IsCallable}
 use Rattle.interp_eval.specs.Values.{behind_values}
 use Rattle.interp_eval.specs.declared.frames.EvalFrames.{EvalFrames}
@@ -348,3 +350,34 @@ module _ (script : ScriptTree) (frames : EvalFrames) (order : Order) (op : OneOp
         let s = state table capture (knew table capture (kept table capture fit)) in
         let o = makes table capture (kept table capture fit) (state_of s.0 left) s.1 in
         (subst HappensWith same known table capture fit (state_of s.0 left) o.stands refl).named
+
+-- somewhere in the scope
+abbrev here_in : ScriptTree → Scope → Here
+here_in script scope = record {
+  activation = scope.activation;
+  function = function_in script scope.function;
+  open_activations = 0;
+  handled = None;
+  in_class = None;
+  line = 0;
+}
+
+-- a doer that stood for a state stands for one after the step
+pub steps_state : (script : ScriptTree) (before after : EvalFrames) (left rest : ℕ) (first last : Fits) (stood stands : Stands) (was is : Option (List Moment)) (result : Result EvalNext Memory)
+    → Knew first last → HasState first stood → Steps {E = Memory} script before after left rest last stood stands was is result → HasState last stands
+steps_state script before after left rest first last stood stands was is result knew state steps table capture fit =
+    let s = state table capture (knew table capture fit) in
+    some result (steps (λ task. stop) (here_in script before.scope) (λ v. stop) (record { activation_is = refl; function_is = refl }) table capture fit (state_of s.0 left) s.1 refl)
+  where
+    some : (result : Result EvalNext Memory)
+        → IsStep script (λ task. stop) (here_in script before.scope) (λ v. stop) {E = Memory} before after rest (stands table capture) was is table capture
+        (state_of (state table capture (knew table capture fit)).0 left) result
+        → (t : Standing) × stands table capture t
+    some (Ok More) d = (standing d.next, d.stands_so)
+    some (Ok (TheValue v)) d = (standing d.next, d.stands_so)
+    some (Ok (Raised o)) d = (standing d.next, d.stands_so)
+    some (Ok Ended) d = (standing d.next, d.stands_so)
+    some (Ok (CallNext f args at)) d = (_, d.stands_so)
+    some (Ok Spent) d = (standing d.next, d.stands_so)
+    some (Ok Unanswered) d = (_, d.stands_so)
+    some (Err want) d = (_, d.refused.stands)

@@ -347,6 +347,7 @@ pub fn eval_step<'a, D: Doer, W: Watch>(
     requires state { HasState (D.fits doer.old) (D.stands doer.old) }
     requires held { AreHeldBy (D.fits doer.old) frames.old }
     ensures knew { Knew (D.fits doer.old) (D.fits doer.new) }
+    ensures state { HasState (D.fits doer.new) (D.stands doer.new) }
     ensures scope { frames.new.scope ≡ frames.old.scope }
     ensures held { HoldsNext (D.fits doer.new) frames.new result }
     ensures falls { LeavesLess frames.old frames.new result }
