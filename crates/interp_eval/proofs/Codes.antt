@@ -1,5 +1,5 @@
 -- The operations of operators name no text.
-use Rattle.std.proofs.Common.{◌≡◌, ℕ, ◌+◌, ◌<◌, ◌≤◌, false, refl, arith}
+use Rattle.std.proofs.Common.{◌≡◌, false, refl}
 use Rattle.py_tree.specs.declared.expr.UnOp.{UnOp}
 use Rattle.py_tree.specs.declared.expr.UnOp.TheVariants.{Minus, Plus, Not as Negation}
 use Rattle.py_tree.specs.declared.expr.BinOp.{BinOp}

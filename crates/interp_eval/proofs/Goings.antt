@@ -1,5 +1,5 @@
 -- What follows an operation is what remains of the frames after it.
-use Rattle.std.proofs.Common.{◌≡◌, ℕ, Bool, true, false, List, [], ◌∷◌, ◌++◌, map, Option, Result, Ok, Err, refl, ap, sym, ◌∙◌, subst, if◌then◌else◌}
+use Rattle.std.proofs.Common.{◌≡◌, Bool, true, false, List, [], ◌∷◌, map, Option, Result, Ok, Err, refl, ap, sym, ◌∙◌, subst, if◌then◌else◌}
 use Rattle.prov_base.specs.declared.place.Pos.{Pos}
 use Rattle.prov_base.specs.declared.refusal.Memory.{Memory}
 use Rattle.py_tree.specs.declared.expr.Expr.{Expr}
@@ -13,18 +13,17 @@ use Rattle.py_value.specs.declared.value.Value.{Value}
 use Rattle.interp_eval.proofs.Machines.{machine_same}
 use Rattle.interp_eval.proofs.Remaining.{delivered_means, tested_means, found_means}
 use Rattle.interp_eval.proofs.Trees.{listed}
-use Rattle.interp_eval.specs.Delivery.{IsGiven, IsDelivered, GoesOn, following}
+use Rattle.interp_eval.specs.Delivery.{IsDelivered, GoesOn, following}
 use Rattle.interp_eval.specs.Held.{AreHeld, AreHeldFrames, IsHeldFrame, IsHeldFinish, AreAllNamed}
-use Rattle.interp_eval.specs.Machine.{Node, Finish, Waiting, Machine, machine, waiting, node, remains, goes, found, tested, first_of, calls_method, calls_one, is_method, is_true, takes_receiver, after_find, after_test, expr_list}
+use Rattle.interp_eval.specs.Machine.{Node, Finish, Waiting, Machine, waiting, node, remains, goes, found, first_of, calls_method, calls_one, is_method, is_true, takes_receiver, after_find, after_test}
 use Rattle.interp_eval.specs.Seen.{machine_seen, waiting_seen, node_seen, finish_seen, operands_seen, branch_seen, some_of}
 use Rattle.interp_eval.specs.Step.{IsHeldNext}
 use Rattle.interp_eval.specs.declared.frames.EvalFrames.{EvalFrames}
 use Rattle.interp_eval.specs.declared.frames.Frame.{Frame}
 use Rattle.interp_eval.specs.declared.frames.EvalNext.{EvalNext}
-use Rattle.interp_eval.specs.declared.frames.EvalNext.TheVariants.{More, Value as TheValue, Call, Raised, Ended, Spent, Unanswered}
+use Rattle.interp_eval.specs.declared.frames.EvalNext.TheVariants.{More, Value as TheValue}
 use Rattle.interp_eval.specs.declared.node.Branch.{Branch as BranchRefs}
-use Rattle.interp_eval.specs.declared.turn.After.{After}
-use Rattle.interp_eval.specs.declared.turn.After.TheVariants.{Pop, Branch, Bind, Never}
+use Rattle.interp_eval.specs.declared.turn.After.TheVariants.{Pop, Branch}
 
 node_same : (a b : Pos) (f g : Finish) (ms ns : List MaybeTree) → a ≡ b → f ≡ g → ms ≡ ns → node a f ms ≡ node b g ns
 node_same a b f g ms ns x y z = cc

@@ -12,7 +12,7 @@ use Rattle.py_tree.specs.declared.expr.LogicOp.TheVariants.{And as Both, Or as E
 use Rattle.interp_eval.specs.declared.node.Node.{Node as NodeRefs}
 use Rattle.interp_eval.specs.declared.node.Finish.{Finish as FinishRefs}
 use Rattle.interp_eval.specs.declared.node.Finish.TheVariants.{Giving}
-use Rattle.interp_eval.specs.Machine.{Node, Finish, gives_one, Waiting, Machine, machine, waiting, node_for}
+use Rattle.interp_eval.specs.Machine.{Node, Finish, gives_one, Waiting, machine, waiting, node_for}
 use Rattle.interp_eval.specs.Seen.{machine_seen, waiting_seen, node_seen, finish_seen}
 use Rattle.interp_eval.specs.Held.{AreHeld, AreHeldFrames, IsHeldFrame, IsHeldFinish, AreAllNamed}
 use Rattle.interp_eval.specs.Delivery.{IsGiven}

@@ -1,16 +1,16 @@
 -- What an operation that happened costs, read off the moment that was told of it.
-use Rattle.std.proofs.Common.{◌≡◌, ℕ, suc, ◌+◌, ◌-◌, ◌≤◌, Bool, true, false, if◌then◌else◌, List, ◌∷◌, length, map, Option, refl, ap, sym, ◌∙◌, subst, arith, leb-true, nat_le}
+use Rattle.std.proofs.Common.{◌≡◌, ℕ, suc, ◌+◌, ◌-◌, ◌≤◌, Bool, true, false, if◌then◌else◌, List, ◌∷◌, length, Option, refl, ap, sym, ◌∙◌, subst, leb-true, nat_le}
 use Rattle.prov_base.specs.declared.place.Pos.{Pos}
 use Rattle.py_value.specs.Contents.{Contents}
 use Rattle.py_value.specs.Seen.{SeenAccess, SeenKind}
 use Rattle.py_model.proofs.Histories.{note_keeps}
 use Rattle.py_model.specs.Act.{Walked}
 use Rattle.py_model.specs.Capture.{Capture}
-use Rattle.py_model.specs.Effect.{Touch, Outcome, answered, unanswered, unpaid, Effect, accesses_in, weight, cost}
+use Rattle.py_model.specs.Effect.{Outcome, answered, unanswered, unpaid, Effect, accesses_in, weight, cost}
 use Rattle.py_model.specs.Moment.{Moment, does}
 use Rattle.py_model.specs.Operations.{Op}
 use Rattle.py_model.specs.Plan.{Answer}
-use Rattle.py_model.specs.Running.{State, did, too_dear, lacked, askings_at, note, walked, performed, happened, effect_of, operation}
+use Rattle.py_model.specs.Running.{State, did, too_dear, askings_at, note, walked, performed, happened, effect_of, operation}
 
 pub record IsPaidBy (price : ℕ) (s next : State) : Type 0 where
   pub pays : price ≤ s.left

@@ -1,5 +1,5 @@
 -- What one operation comes to, behind the word that is asked for before it.
-use Rattle.std.proofs.Common.{◌≡◌, ℕ, suc, ◌+◌, ◌-◌, ◌<◌, ◌≤◌, true, List, [], ◌∷◌, map, length, Option, None, Result, Ok, refl, ap, sym, ◌∙◌, subst}
+use Rattle.std.proofs.Common.{◌≡◌, ℕ, ◌+◌, ◌-◌, ◌<◌, ◌≤◌, true, List, [], ◌∷◌, map, length, Option, Ok, refl, ap, sym, ◌∙◌, subst}
 use Rattle.std.proofs.lemmas.List.{length-map}
 use Rattle.std.specs.Option.{option_map}
 use Rattle.prov_base.specs.declared.place.Pos.{Pos}
@@ -9,17 +9,17 @@ use Rattle.py_value.specs.Seen.{access_seen, kind_seen, bytes_of}
 use Rattle.py_value.specs.Values.{ValuesView, AreNamed}
 use Rattle.py_value.specs.declared.value.Value.{Value}
 use Rattle.py_model.specs.Capture.{Capture}
-use Rattle.py_model.specs.Doing.{Standing, standing, Fits, Stands, Knew, ForEach, IsDone, IsTooDear, IsLacking, IsRefused, Performs}
+use Rattle.py_model.specs.Doing.{Standing, standing, Fits, Stands, Knew, ForEach, IsDone, IsTooDear, IsLacking, Performs}
 use Rattle.py_model.specs.declared.doer.Done.{Done}
 use Rattle.py_model.specs.Moment.{Moment as SeenMoment}
-use Rattle.py_model.specs.Running.{State, Asking}
-use Rattle.py_model.specs.Told.{answer_seen, op_seen, moment_seen, is_operation, IsTellable, IsToldNow, TellsOn}
+use Rattle.py_model.specs.Running.{State}
+use Rattle.py_model.specs.Told.{answer_seen, op_seen, moment_seen, is_operation, IsTellable, TellsOn}
 use Rattle.py_model.specs.declared.doer.Deed.{Deed}
 use Rattle.py_model.specs.declared.moment.Op.{Op}
 use Rattle.py_model.specs.declared.moment.Moment.{Moment}
 use Rattle.py_model.specs.declared.moment.Moment.TheVariants.{Do}
 use Rattle.interp_eval.proofs.Payments.{IsPaidBy, did_pays}
-use Rattle.interp_eval.specs.Performing.{HasState, AreNamedBy, HasHappened, WasTooDear, WasLacking, WasCut, nothing_happened, not_told}
+use Rattle.interp_eval.specs.Performing.{HasState, AreNamedBy, HasHappened, WasTooDear, WasLacking, WasCut, not_told}
 
 -- a state with so many steps left that stands so
 abbrev pub state_of : Standing → ℕ → State

@@ -1,14 +1,14 @@
 -- What a machine still means is what it meant, where a node is begun and where a value comes.
-use Rattle.std.proofs.Common.{◌≡◌, ℕ, Bool, true, false, List, [], ◌∷◌, ◌++◌, append_assoc, not, Option, Some, None, refl, ap, sym, ◌∙◌, subst, nat_lt, nat_le, if◌then◌else◌, length, slice_get, ◌-◌, ◌+◌}
+use Rattle.std.proofs.Common.{◌≡◌, ℕ, Bool, true, false, List, [], ◌∷◌, ◌++◌, append_assoc, not, Option, Some, None, refl, ap, sym, ◌∙◌, nat_lt, if◌then◌else◌, length, slice_get, ◌-◌, ◌+◌}
 use Rattle.std.proofs.Math.Path.{fun_ext}
 use Rattle.std.proofs.lemmas.List.{append-nil}
 use Rattle.prov_base.specs.declared.place.Pos.{Pos}
 use Rattle.py_tree.specs.Tree.{ExprTree, MaybeTree, ExprsTree, PairsTree, ScriptTree, const_expr, var_expr, unary_expr, binary_expr, compare_expr, logic_expr, choose_expr, call_expr, attr_expr, part_expr, range_expr, list_expr, dict_expr, tuple_expr, no_expr, some_expr, end_exprs, more_exprs, end_pairs, more_pairs}
 use Rattle.py_tree.specs.declared.expr.LogicOp.TheVariants.{And as Both, Or as Either}
-use Rattle.py_value.specs.Contents.{Contents, nothing, truth, int, text, tuple, range, function, class, exception_class, builtin, object}
-use Rattle.py_model.specs.Act.{Act, Walked, perform, ret, normal}
-use Rattle.py_model.specs.Expressions.{Here, Task, by_answer, by_truth, giving, calling, calling_builtin, calling_method, calling_attribute, with_receiver, failing, not_callable, wrong_arguments, takes_so_many, function_arities, method_arities, doing, op, eval, eval_maybe, eval_all, eval_pairs}
-use Rattle.interp_eval.specs.Machine.{machine, Branch, both_of, either_of, one_of, Finish, Node, Waiting, Machine, plain, a_name, a_variable, a_value, does_one, gives_one, tests_one, finds_one, calls_one, calls_method, pops, performs, fails, call_turn, method_turn, turn_by, turn_act, is_instance, expr_list, pair_list, node, node_for, evals, tested, found, called, called_method, finishes, having, waits, gives, goes, remains, is_true, giving_node, after_test, is_method, takes_receiver, after_find}
+use Rattle.py_value.specs.Contents.{Contents, nothing, truth, function, class, exception_class, builtin, object}
+use Rattle.py_model.specs.Act.{Act}
+use Rattle.py_model.specs.Expressions.{Here, Task, by_truth, calling, calling_builtin, calling_method, calling_attribute, with_receiver, failing, not_callable, wrong_arguments, takes_so_many, function_arities, method_arities, doing, op, eval, eval_all, eval_pairs}
+use Rattle.interp_eval.specs.Machine.{machine, Branch, both_of, either_of, one_of, Finish, Waiting, plain, a_name, a_variable, a_value, does_one, gives_one, tests_one, finds_one, calls_one, calls_method, pops, performs, fails, call_turn, method_turn, turn_by, turn_act, is_instance, expr_list, pair_list, node, node_for, evals, tested, found, called, called_method, finishes, having, gives, goes, remains, is_true, after_test, is_method, takes_receiver, after_find}
 
 module _ (script : ScriptTree) (next : Task → Act) (here : Here) where
   all_evals : (es : ExprsTree) (go : List Contents → Act) → evals script next here (expr_list es) go ≡ eval_all script next here es go

@@ -1,5 +1,5 @@
 -- What is named in one table is the same in a longer one.
-use Rattle.std.proofs.Common.{◌≡◌, ℕ, zero, suc, ◌<◌, List, [], ◌∷◌, map, length, slice_get, unwrap_or, Option, Some, None, refl, ap, sym, ◌∙◌}
+use Rattle.std.proofs.Common.{◌≡◌, ℕ, suc, ◌<◌, List, [], ◌∷◌, map, length, slice_get, unwrap_or, Option, Some, None, refl, ap, sym, ◌∙◌}
 use Rattle.std.specs.Option.{option_map}
 use Rattle.py_value.specs.Contents.{Contents, contents}
 use Rattle.py_value.proofs.SameContents.{item_at}

@@ -1,15 +1,13 @@
 -- One step does what its clause says.
-use Rattle.std.proofs.Common.{◌≡◌, ◌⊎◌, inl, inr, ℕ, zero, suc, true, List, [], ◌∷◌, ◌++◌, map, slice_get, Option, Some, None, Result, Ok, Err, refl, ap, sym, ◌∙◌, subst}
+use Rattle.std.proofs.Common.{◌≡◌, ◌⊎◌, inl, inr, ℕ, zero, suc, true, List, [], ◌∷◌, ◌++◌, map, Option, Some, None, Result, Ok, Err, refl, ap, sym, ◌∙◌, subst}
 use Rattle.prov_base.specs.declared.place.Pos.{Pos}
 use Rattle.prov_base.specs.declared.refusal.Memory.{Memory}
-use Rattle.py_tree.specs.Erasure.{expr_of}
 use Rattle.py_tree.specs.Tree.{ExprTree, MaybeTree, ScriptTree, no_expr, some_expr}
 use Rattle.py_model.specs.Act.{Act, Walked, stop, ret, perform, normal, threw}
 use Rattle.py_model.specs.Capture.{Capture}
 use Rattle.py_model.specs.Doing.{Standing, standing, Fits, Stands, Knew, ForEach, IsRefused}
 use Rattle.py_model.specs.Expressions.{Here, Task, by_answer, calling, giving}
 use Rattle.py_model.specs.Moment.{Moment}
-use Rattle.py_model.specs.Operations.{Op}
 use Rattle.py_model.specs.Plan.{Answer, value}
 use Rattle.py_model.specs.Running.{State}
 use Rattle.py_model.specs.Told.{op_seen, TellsOn}
@@ -21,17 +19,17 @@ use Rattle.py_value.specs.declared.value.Value.{Value}
 use Rattle.py_value.specs.declared.value.Value.TheVariants.{Fn, Class, Exc}
 use Rattle.interp_eval.proofs.Performed.{state_of}
 use Rattle.interp_eval.proofs.Remaining.{absent_means, begun_means, turn_means}
-use Rattle.interp_eval.specs.Delivery.{GoesOn, HasGoneOn, following}
-use Rattle.interp_eval.specs.Held.{AreHeld, AreAllNamed, IsHeldFrame}
-use Rattle.interp_eval.specs.Machine.{Machine, machine, node, node_for, waiting, remains, goes, follows, first_of, behind_first, wanted_op, turn_by, turn_act, values_by, gives_one}
+use Rattle.interp_eval.specs.Delivery.{GoesOn, HasGoneOn}
+use Rattle.interp_eval.specs.Held.{AreAllNamed, IsHeldFrame}
+use Rattle.interp_eval.specs.Machine.{machine, node, node_for, waiting, remains, goes, follows, first_of, behind_first, wanted_op, turn_by, turn_act, values_by}
 use Rattle.interp_eval.specs.Performing.{HasState, AreNamedBy, IsOp, HasHappened, WasTooDear, WasLacking, WasCut, nothing_happened, not_told, HasPerformed}
 use Rattle.interp_eval.specs.declared.perform.Came.{Came}
 use Rattle.py_model.specs.declared.moment.Answer.{Answer as OneAnswer}
 use Rattle.local_names.specs.Scopes.{function_in}
 use Rattle.interp_eval.specs.declared.frames.Scope.{Scope}
 use Rattle.interp_eval.specs.Scopes.{IsAt}
-use Rattle.interp_eval.specs.Seen.{machine_seen, waiting_seen, finish_seen, operands_seen, some_of}
-use Rattle.interp_eval.specs.Step.{Went, stayed, went_on, IsOn, IsSpent, IsUnanswered, IsCut, IsCall, IsStep, Steps, given, remaining, AreHeldBy}
+use Rattle.interp_eval.specs.Seen.{machine_seen, waiting_seen, finish_seen, operands_seen}
+use Rattle.interp_eval.specs.Step.{stayed, went_on, IsOn, IsSpent, IsUnanswered, IsCut, IsCall, IsStep, Steps, given, remaining, AreHeldBy}
 use Rattle.interp_eval.specs.Turns.{want_seen, after_seen, turn_seen, IsCallable}
 use Rattle.interp_eval.specs.Values.{behind_values}
 use Rattle.interp_eval.specs.declared.frames.EvalFrames.{EvalFrames}

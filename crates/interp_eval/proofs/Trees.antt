@@ -7,9 +7,9 @@ use Rattle.py_tree.specs.declared.expr.Pairs.{Pairs}
 use Rattle.py_tree.specs.declared.expr.Expr.TheOpen.{Expr-F, Unary as Unary-F, Binary as Binary-F, Compare as Compare-F, Logic as Logic-F, Choose as Choose-F, Call as Call-F, Attr as Attr-F, Part as Part-F, Range as Range-F, List as List-F, Dict as Dict-F, Tuple as Tuple-F, Const as Const-F, Var as Var-F}
 use Rattle.py_tree.specs.declared.expr.Expr.TheVariants.{rolls-Const, rolls-Var, rolls-Unary, rolls-Binary, rolls-Compare, rolls-Logic, rolls-Choose, rolls-Call, rolls-Attr, rolls-Part, rolls-List, rolls-Dict, rolls-Tuple, rolls-Range}
 use Rattle.py_tree.specs.declared.expr.Expr.TheViews.{Attr, Call}
-use Rattle.py_tree.specs.Tree.{ExprTree, ExprsTree, const_expr, var_expr, unary_expr, binary_expr, compare_expr, logic_expr, choose_expr, call_expr, attr_expr, part_expr, range_expr, list_expr, dict_expr, tuple_expr, some_expr}
+use Rattle.py_tree.specs.Tree.{ExprTree, ExprsTree, attr_expr, some_expr}
 use Rattle.py_tree.specs.Erasure.{expr_of, exprs_of, pairs_of, exprs_list, pairs_list}
-use Rattle.py_tree.proofs.ExprTrees.{const_tree, var_tree, unary_tree, binary_tree, compare_tree, logic_tree, choose_tree, call_tree, attr_tree, part_tree, range_tree, list_tree, dict_tree, tuple_tree, exprs_tree, pairs_tree}
+use Rattle.py_tree.proofs.ExprTrees.{const_tree, var_tree, unary_tree, binary_tree, compare_tree, logic_tree, choose_tree, call_tree, part_tree, range_tree, list_tree, dict_tree, tuple_tree, exprs_tree, pairs_tree}
 use Rattle.interp_eval.specs.Machine.{node, calls_one, expr_list, pair_list, call_node, node_for}
 use Rattle.interp_eval.specs.Seen.{some_of, pairs_seen}
 

@@ -1,5 +1,5 @@
 -- Each step that leads on leaves less.
-use Rattle.std.proofs.Common.{◌≡◌, ℕ, ◌+◌, ◌-◌, ◌<◌, ◌≤◌, nat_lt, length, slice_get, Bool, true, false, List, [], ◌∷◌, ◌++◌, map, Option, Result, Ok, Err, if◌then◌else◌, refl, ap, sym, ◌∙◌, subst, arith}
+use Rattle.std.proofs.Common.{◌≡◌, ℕ, ◌+◌, ◌-◌, ◌<◌, ◌≤◌, nat_lt, length, slice_get, Bool, true, false, List, [], ◌∷◌, ◌++◌, map, Option, Result, Ok, Err, if◌then◌else◌, refl, ap, sym, subst, arith}
 use Rattle.prov_base.specs.declared.place.Pos.{Pos}
 use Rattle.prov_base.specs.declared.refusal.Memory.{Memory}
 use Rattle.py_tree.specs.declared.expr.LogicOp.TheVariants.{And as Both, Or as Either}
@@ -13,8 +13,8 @@ use Rattle.interp_eval.specs.declared.frames.EvalFrames.{EvalFrames}
 use Rattle.interp_eval.specs.declared.frames.EvalNext.{EvalNext}
 use Rattle.interp_eval.specs.declared.frames.EvalNext.TheVariants.{More}
 use Rattle.interp_eval.specs.declared.node.Operands.{Operands}
-use Rattle.interp_eval.specs.Machine.{After, pops, branches, binds, never, Turn, performs, hands_over, fails, Want, plain, call_turn, method_turn, turn_by, Branch, both_of, either_of, one_of, Finish, does_one, gives_one, tests_one, finds_one, calls_one, calls_method, Node, Waiting, Machine, machine, waiting, node, node_for, expr_list, pair_list, after_test, after_find, is_method}
-use Rattle.interp_eval.specs.Weight.{after_weight, no_values, left_in, LeavesLess, weight, weight_all, weight_pairs, weight_maybe, branch_weight, finish_weight, rest_weight, node_weight, below_weight, machine_weight}
+use Rattle.interp_eval.specs.Machine.{After, pops, branches, binds, Turn, performs, hands_over, fails, Want, plain, call_turn, method_turn, turn_by, Branch, both_of, either_of, one_of, Finish, does_one, gives_one, tests_one, finds_one, calls_one, calls_method, Node, Waiting, machine, waiting, node, node_for, expr_list, pair_list, after_test, after_find, is_method}
+use Rattle.interp_eval.specs.Weight.{after_weight, no_values, left_in, LeavesLess, weight, weight_all, weight_pairs, branch_weight, finish_weight, rest_weight, node_weight, below_weight, machine_weight}
 
 all_weight : (es : ExprsTree) → rest_weight (expr_list es) ≡ weight_all es
 all_weight end_exprs = refl

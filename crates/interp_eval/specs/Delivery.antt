@@ -11,9 +11,8 @@ use Rattle.interp_eval.specs.Turns.{after_seen}
 use Rattle.py_value.specs.Values.{ValuesView, IsNamed}
 use Rattle.py_value.specs.declared.value.Value.{Value}
 use Rattle.interp_eval.specs.declared.frames.EvalFrames.{EvalFrames}
-use Rattle.interp_eval.specs.declared.frames.Frame.{Frame}
 use Rattle.interp_eval.specs.declared.frames.EvalNext.{EvalNext}
-use Rattle.interp_eval.specs.declared.frames.EvalNext.TheVariants.{More, Value as TheValue, Call, Raised, Ended, Spent, Unanswered}
+use Rattle.interp_eval.specs.declared.frames.EvalNext.TheVariants.{More, Value as TheValue, Ended}
 use Rattle.interp_eval.specs.Held.{AreHeld}
 use Rattle.interp_eval.specs.Machine.{machine, Waiting, first_of, follows, goes, remains}
 use Rattle.interp_eval.specs.Seen.{machine_seen, waiting_seen}

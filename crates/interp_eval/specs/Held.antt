@@ -3,7 +3,7 @@ use Rattle.std.specs.Prelude.{List, [], ◌∷◌, ⊤}
 use Rattle.py_value.specs.Values.{ValuesView, IsNamed}
 use Rattle.py_value.specs.declared.value.Value.{Value}
 use Rattle.interp_eval.specs.declared.node.Finish.{Finish}
-use Rattle.interp_eval.specs.declared.node.Finish.TheVariants.{Do, Giving, Test, Find, Call, Method}
+use Rattle.interp_eval.specs.declared.node.Finish.TheVariants.{Giving}
 use Rattle.interp_eval.specs.declared.frames.Frame.{Frame}
 use Rattle.interp_eval.specs.declared.frames.EvalFrames.{EvalFrames}
 

@@ -1,9 +1,8 @@
 -- What is still to be done of an expression that is being evaluated, in the words of its meaning (The Python Language Reference 3, section 6,
 -- in this project's profile): nodes that wait for operands, one inside the other.
-use Rattle.std.specs.Prelude.{ℕ, pos, ◌+◌, ◌-◌, Bool, true, false, List, [], ◌∷◌, ◌++◌, length, slice_get, not, nat_lt, if◌then◌else◌, Option, Some, None}
+use Rattle.std.specs.Prelude.{ℕ, pos, ◌+◌, ◌-◌, Bool, true, false, List, [], ◌∷◌, ◌++◌, length, slice_get, not, nat_lt, if◌then◌else◌, Option, Some}
 use Rattle.prov_base.specs.declared.place.Pos.{Pos}
 use Rattle.py_tree.specs.Tree.{ExprTree, MaybeTree, ExprsTree, PairsTree, ScriptTree, const_expr, var_expr, unary_expr, binary_expr, compare_expr, logic_expr, choose_expr, call_expr, attr_expr, part_expr, range_expr, list_expr, dict_expr, tuple_expr, some_expr, end_exprs, more_exprs, end_pairs, more_pairs}
-use Rattle.py_tree.specs.declared.expr.LogicOp.{LogicOp}
 use Rattle.py_tree.specs.declared.expr.LogicOp.TheVariants.{And as Both, Or as Either}
 use Rattle.py_value.specs.Contents.{Contents, nothing, truth, int, function, class, exception_class, builtin, object}
 use Rattle.py_model.specs.Act.{Act, Walked, perform, ret, normal}

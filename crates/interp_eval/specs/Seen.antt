@@ -1,8 +1,8 @@
 -- What frames are, read on the pure tree and with the contents of their values.
-use Rattle.std.specs.Prelude.{ℕ, List, [], ◌∷◌, map, Option, option_map}
+use Rattle.std.specs.Prelude.{ℕ, List, [], ◌∷◌, map, option_map}
 use Rattle.py_tree.specs.declared.expr.Expr.{Expr}
 use Rattle.py_tree.specs.Erasure.{expr_of, maybe_tree, exprs_list}
-use Rattle.py_tree.specs.Tree.{ExprTree, MaybeTree, no_expr, some_expr}
+use Rattle.py_tree.specs.Tree.{MaybeTree, no_expr, some_expr}
 use Rattle.interp_eval.specs.declared.node.Next.{Next}
 use Rattle.interp_eval.specs.declared.node.Next.TheVariants.{Done, Absent, Begin}
 use Rattle.py_model.specs.Expressions.{unary_number, binary_number, compare_number, constant}

@@ -1,4 +1,21 @@
-//! Frames that perform the meaning of an expression.
+//! The evaluation of an expression, one moment at a time, over any [`Doer`](py_model::Doer) of operations and any
+//! [`Watch`](py_model::Watch). It stands on the meaning of `py_model` and on the pure tree of `py_tree`.
+//!
+//! [`EvalFrames`] are nodes that wait for values of their operands, one inside the other. `specs/Machine.antt` says in the words of the meaning
+//! what they still mean (`remains`), `specs/Seen.antt` which machine the frames are, `specs/Step.antt` what a step does, and
+//! `specs/Weight.antt` why steps come to an end.
+//!
+//! [`eval_step`] begins one operand, or performs one operation and tells the watch of it, and of nothing else. What remains afterwards is what
+//! remained before: the same act in the same state, or what follows the answer of its first operation, in the state after it. That is
+//! said for every table of texts and tuples that fits the doer afterwards, every state that the doer stood for, everything that may follow
+//! the expression, and every meaning of calls.
+//!
+//! Calls of functions and classes of a script are answered, and made by the caller, who gives their value by [`EvalFrames::give`]. Calls of
+//! functions and methods of the language, and calls of what is not callable, are performed here.
+//!
+//! What is not said: a body that always answers Memory would be proved, since no contract ties that answer to a cause. That no operation of an
+//! expression answers as the operation `next` alone does, and that the failing call only raises, is not shown; where one did, the
+//! step answers [`EvalNext::Ended`], as the meaning has it.
 #![tactic(auto)]
 
 mod frames;

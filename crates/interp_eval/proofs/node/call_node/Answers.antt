@@ -1,4 +1,3 @@
-use Rattle.py_tree.specs.Erasure.{expr_of}
 use Rattle.interp_eval.proofs.Trees.{other_call}
 use Rattle.interp_eval.proofs.node.call_node.Goals as goal
 

@@ -1,4 +1,4 @@
-use Rattle.std.proofs.Common.{refl, ◌∙◌}
+use Rattle.std.proofs.Common.{◌∙◌}
 use Rattle.interp_eval.proofs.Trees.{call_known}
 use Rattle.interp_eval.proofs.node.node_for.Goals as goal
 

@@ -1,6 +1,5 @@
-use Rattle.std.proofs.Common.{[], Ok, subst, refl, sym, ◌∙◌}
-use Rattle.py_model.specs.declared.doer.Done.{Done}
-use Rattle.py_model.specs.declared.doer.Done.TheVariants.{Did, TooDear, Unanswered}
+use Rattle.std.proofs.Common.{[]}
+use Rattle.py_model.specs.declared.doer.Done.TheVariants.{Did, Unanswered}
 use Rattle.interp_eval.proofs.Performed.{known_done, word_known, can_pay, can_tell, has_happened, was_not_told, was_lacking}
 use Rattle.interp_eval.proofs.perform.perform.Goals as goal
 

@@ -1,6 +1,6 @@
 use Rattle.std.proofs.Common.{sym, subst}
 use Rattle.py_model.specs.Moment.{Moment}
-use Rattle.py_model.specs.Told.{moment_seen, IsToldNow, TellsOn}
+use Rattle.py_model.specs.Told.{IsToldNow, TellsOn}
 use Rattle.interp_eval.proofs.Staying.{moment_stays}
 use Rattle.interp_eval.proofs.perform.tell.Goals as goal
 

@@ -2,7 +2,7 @@ use Rattle.std.proofs.Common.{ap, sym, ◌∙◌}
 use Rattle.py_tree.specs.Erasure.{stmt_of}
 use Rattle.py_tree.proofs.StmtTrees.{suite_tree}
 use Rattle.local_names.specs.Scopes.{local_in, local_by}
-use Rattle.local_names.proofs.LocalWalks.{locals_left, more_locals, first_here, first_next, first_end, other_has_none, def_has}
+use Rattle.local_names.proofs.LocalWalks.{locals_left, more_locals, first_here, first_next, other_has_none, def_has}
 use Rattle.local_names.proofs.locals.+local_in.Goals as goal
 
 pub local_in-loop-stmt-init : goal.local_in-loop-stmt-init

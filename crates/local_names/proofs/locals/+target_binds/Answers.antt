@@ -1,4 +1,4 @@
-use Rattle.std.proofs.Common.{rules, List, map, refl, ap, sym, ◌∙◌}
+use Rattle.std.proofs.Common.{List, map, ap, sym, ◌∙◌}
 use Rattle.py_tree.specs.declared.expr.Target.{Target}
 use Rattle.py_tree.specs.Erasure.{target_of, targets_list}
 use Rattle.py_tree.specs.Binds.{targets_bind}

@@ -1,4 +1,4 @@
-use Rattle.std.proofs.Common.{refl, ap, sym, ◌∙◌}
+use Rattle.std.proofs.Common.{ap, ◌∙◌}
 use Rattle.py_tree.specs.Erasure.{expr_of}
 use Rattle.interp_eval.specs.Seen.{node_seen}
 use Rattle.interp_eval.proofs.Machines.{begun_held}

@@ -1,4 +1,4 @@
-use Rattle.std.proofs.Common.{refl, ap, sym, ◌∙◌}
+use Rattle.std.proofs.Common.{refl}
 use Rattle.interp_eval.proofs.Machines.{delivered}
 use Rattle.interp_eval.proofs.frames.EvalFrames.deliver.Goals as goal
 

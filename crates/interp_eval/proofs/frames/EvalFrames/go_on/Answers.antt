@@ -4,12 +4,11 @@ use Rattle.py_tree.specs.Erasure.{expr_of, exprs_list}
 use Rattle.py_value.specs.Contents.{contents}
 use Rattle.interp_eval.specs.Delivery.{GoesOn, following}
 use Rattle.interp_eval.specs.Held.{AreAllNamed}
-use Rattle.interp_eval.specs.Machine.{first_of, remains}
-use Rattle.interp_eval.specs.Seen.{machine_seen, branch_seen, finish_seen}
+use Rattle.interp_eval.specs.Machine.{first_of}
+use Rattle.interp_eval.specs.Seen.{branch_seen, finish_seen}
 use Rattle.interp_eval.specs.Turns.{after_seen}
 use Rattle.interp_eval.specs.Weight.{after_weight, finish_weight, no_values}
 use Rattle.interp_eval.proofs.Weights.{pop_less, branch_less, bind_less}
-use Rattle.interp_eval.specs.declared.turn.After.TheVariants.{Pop, Branch, Bind}
 use Rattle.interp_eval.proofs.Goings.{pop_goes, pop_held, branch_goes, bind_goes, replaced_held, fresh_held}
 use Rattle.interp_eval.proofs.frames.EvalFrames.go_on.Goals as goal
 

@@ -1,5 +1,4 @@
 use Rattle.std.proofs.Common.{refl}
-use Rattle.interp_eval.specs.declared.node.Node.{Node}
 use Rattle.py_value.specs.declared.value.Value.TheVariants.{None}
 use Rattle.interp_eval.proofs.Machines.{skipped_held}
 use Rattle.interp_eval.proofs.frames.EvalFrames.skip.Goals as goal
