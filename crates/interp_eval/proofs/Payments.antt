@@ -10,7 +10,7 @@ use Rattle.py_model.specs.Effect.{Outcome, answered, unanswered, unpaid, Effect,
 use Rattle.py_model.specs.Moment.{Moment, does}
 use Rattle.py_model.specs.Operations.{Op}
 use Rattle.py_model.specs.Plan.{Answer}
-use Rattle.py_model.specs.Running.{State, did, too_dear, askings_at, note, walked, performed, happened, effect_of, operation}
+use Rattle.py_model.specs.Running.{State, did, too_dear, lacked, askings_at, note, walked, performed, happened, effect_of, operation}
 
 pub record IsPaidBy (price : ℕ) (s next : State) : Type 0 where
   pub pays : price ≤ s.left
@@ -61,4 +61,61 @@ module _ (capture : Capture) (at : Pos) (op : Op) (values : List Contents) where
       by_left true is = paid_by (effect_of capture at op values s) s (note at (suc (askings_at at s.askings)) (effect_of capture at op values s).touches s) next answer made accesses w
           (note_keeps (λ told left entered store. left ≡ s.left) at (suc (askings_at at s.askings)) (effect_of capture at op values s).touches s refl)
           (did_so (effect_of capture at op values s) (effect_of capture at op values s).outcome _ answer came next is) told
+      by_left false is = absurd cc
+
+-- what does not happen leaves the steps and the moments as they are
+pub record IsKeptSo (s t : State) : Type 0 where
+  pub left_is : t.left ≡ s.left
+  pub told_is : t.told ≡ s.told
+
+same_dear : (t u : State) → too_dear t ≡ too_dear u → u ≡ t
+same_dear t u is = cc
+
+same_lacked : (t u : State) → lacked t ≡ lacked u → u ≡ t
+same_lacked t u is = cc
+
+kept_along : (s t u : State) → u ≡ t → t.left ≡ s.left → t.told ≡ s.told → IsKeptSo s u
+kept_along s t u same left told = record { left_is = ap (λ (x : State). x.left) same ∙ left; told_is = ap (λ (x : State). x.told) same ∙ told }
+
+module _ (capture : Capture) (at : Pos) (op : Op) (values : List Contents) where
+  dear_by : (e : Effect) (o : Outcome) (t u : State) → happened at op values e o t ≡ too_dear u → u ≡ t
+  dear_by e (answered own) t u is = by_cost (nat_le (cost e) t.left) is
+    where
+      by_cost : (b : Bool) → (if b then did own (walked t.store (accesses_in e.touches)) (performed at op values own e t) else too_dear t) ≡ too_dear u → u ≡ t
+      by_cost true is = absurd cc
+      by_cost false is = same_dear t u is
+  dear_by e unanswered t u is = absurd cc
+  dear_by e unpaid t u is = same_dear t u is
+
+  lacking_by : (e : Effect) (o : Outcome) (t u : State) → happened at op values e o t ≡ lacked u → u ≡ t
+  lacking_by e (answered own) t u is = by_cost (nat_le (cost e) t.left) is
+    where
+      by_cost : (b : Bool) → (if b then did own (walked t.store (accesses_in e.touches)) (performed at op values own e t) else too_dear t) ≡ lacked u → u ≡ t
+      by_cost true is = absurd cc
+      by_cost false is = absurd cc
+  lacking_by e unanswered t u is = same_lacked t u is
+  lacking_by e unpaid t u is = absurd cc
+
+  note_left : (s : State) → (note at (suc (askings_at at s.askings)) (effect_of capture at op values s).touches s).left ≡ s.left
+  note_left s = note_keeps (λ told left entered store. left ≡ s.left) at (suc (askings_at at s.askings)) (effect_of capture at op values s).touches s refl
+
+  note_told : (s : State) → (note at (suc (askings_at at s.askings)) (effect_of capture at op values s).touches s).told ≡ s.told
+  note_told s = note_keeps (λ told left entered store. told ≡ s.told) at (suc (askings_at at s.askings)) (effect_of capture at op values s).touches s refl
+
+  pub dear_keeps : (s u : State) → operation capture at op values s ≡ too_dear u → IsKeptSo s u
+  dear_keeps s u is = by_left (nat_le 1 s.left) is
+    where
+      by_left : (b : Bool)
+          → (if b then (let e = effect_of capture at op values s in happened at op values e e.outcome (note at (suc (askings_at at s.askings)) e.touches s)) else too_dear s) ≡ too_dear u
+          → IsKeptSo s u
+      by_left true is = kept_along s _ u (dear_by (effect_of capture at op values s) (effect_of capture at op values s).outcome _ u is) (note_left s) (note_told s)
+      by_left false is = kept_along s s u (same_dear s u is) refl refl
+
+  pub lacking_keeps : (s u : State) → operation capture at op values s ≡ lacked u → IsKeptSo s u
+  lacking_keeps s u is = by_left (nat_le 1 s.left) is
+    where
+      by_left : (b : Bool)
+          → (if b then (let e = effect_of capture at op values s in happened at op values e e.outcome (note at (suc (askings_at at s.askings)) e.touches s)) else too_dear s) ≡ lacked u
+          → IsKeptSo s u
+      by_left true is = kept_along s _ u (lacking_by (effect_of capture at op values s) (effect_of capture at op values s).outcome _ u is) (note_left s) (note_told s)
       by_left false is = absurd cc

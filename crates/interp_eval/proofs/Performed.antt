@@ -18,7 +18,7 @@ use Rattle.py_model.specs.declared.doer.Deed.{Deed}
 use Rattle.py_model.specs.declared.moment.Op.{Op}
 use Rattle.py_model.specs.declared.moment.Moment.{Moment}
 use Rattle.py_model.specs.declared.moment.Moment.TheVariants.{Do}
-use Rattle.interp_eval.proofs.Payments.{IsPaidBy, did_pays}
+use Rattle.interp_eval.proofs.Payments.{IsPaidBy, did_pays, dear_keeps, lacking_keeps}
 use Rattle.interp_eval.specs.Performing.{HasState, AreNamedBy, HasHappened, WasTooDear, WasLacking, WasCut, not_told}
 
 -- a state with so many steps left that stands so
@@ -100,14 +100,16 @@ module _ (first mid last : Fits) (before between after : Stands) (number : ℕ) 
   -- what does not happen is not told
   pub was_too_dear : (at : Pos) (op : Op) (values : List Value) (left : ℕ) (was : Option (List SeenMoment))
       → ForEach last between (λ table capture s. s.left ≡ left → IsTooDear at op values (after table capture) table capture s)
-      → ForEach last before (λ table capture s. s.left ≡ left → WasTooDear at op values (after table capture) was was table capture s)
+      → ForEach last before (λ table capture s. s.left ≡ left → WasTooDear at op values left (after table capture) was was table capture s)
   was_too_dear at op values left was known table capture fit s stands steps =
       let d = known table capture fit s (word table capture (kept table capture fit) s stands).1.1 steps in
-      record { next = d.next; happened = d.happened; stands = d.stands; tells = refl }
+      let keeps = dear_keeps capture at (op_seen table op) (map (contents table) values) s d.next d.happened in
+      record { next = d.next; happened = d.happened; stands = d.stands; left_is = keeps.left_is ∙ steps; told_is = keeps.told_is; tells = refl }
 
   pub was_lacking : (at : Pos) (op : Op) (values : List Value) (left : ℕ) (was : Option (List SeenMoment))
       → ForEach last between (λ table capture s. s.left ≡ left → IsLacking at op values (after table capture) table capture s)
-      → ForEach last before (λ table capture s. s.left ≡ left → WasLacking at op values (after table capture) was was table capture s)
+      → ForEach last before (λ table capture s. s.left ≡ left → WasLacking at op values left (after table capture) was was table capture s)
   was_lacking at op values left was known table capture fit s stands steps =
       let d = known table capture fit s (word table capture (kept table capture fit) s stands).1.1 steps in
-      record { next = d.next; askings = d.askings; fetches = d.fetches; happened = d.happened; stands = d.stands; tells = refl }
+      let keeps = lacking_keeps capture at (op_seen table op) (map (contents table) values) s d.next d.happened in
+      record { next = d.next; askings = d.askings; fetches = d.fetches; happened = d.happened; stands = d.stands; left_is = keeps.left_is ∙ steps; told_is = keeps.told_is; tells = refl }

@@ -187,7 +187,7 @@ module _ (script : ScriptTree) (next : Task → Act) (here : Here) (go : Content
       tells = d.tells;
     }
 
-    pub spent_step : WasTooDear order.at op values stands was is table capture s → IsSpent capture (remaining script next here go table frames) s stands was is
+    pub spent_step : WasTooDear order.at op values left stands was is table capture s → IsSpent capture (remaining script next here go table frames) s left stands was is
     spent_step d = record {
       at = order.at;
       what = op_seen table op;
@@ -197,10 +197,12 @@ module _ (script : ScriptTree) (next : Task → Act) (here : Here) (go : Content
       act_is = act;
       dear = d.happened;
       stands_so = d.stands;
+      left_is = d.left_is;
+      told_is = d.told_is;
       tells = d.tells;
     }
 
-    pub unanswered_step : WasLacking order.at op values stands was is table capture s → IsUnanswered capture (remaining script next here go table frames) s stands was is
+    pub unanswered_step : WasLacking order.at op values left stands was is table capture s → IsUnanswered capture (remaining script next here go table frames) s left stands was is
     unanswered_step d = record {
       at = order.at;
       what = op_seen table op;
@@ -212,6 +214,8 @@ module _ (script : ScriptTree) (next : Task → Act) (here : Here) (go : Content
       act_is = act;
       lacks = d.happened;
       stands_so = d.stands;
+      left_is = d.left_is;
+      told_is = d.told_is;
       tells = d.tells;
     }
 
@@ -300,16 +304,16 @@ module _ (script : ScriptTree) (frames : EvalFrames) (order : Order) (op : OneOp
       cut_step script next here go table frames frames order op values capture rest (after table capture) was is s (first_act next here go is_at table capture fit s stands)
       (known table capture fit s (makes table capture (kept table capture fit) s stands).stands steps)
 
-  pub order_spent : ForEach last between (λ table capture s. s.left ≡ left → WasTooDear order.at op values (after table capture) was is table capture s)
+  pub order_spent : ForEach last between (λ table capture s. s.left ≡ left → WasTooDear order.at op values rest (after table capture) was is table capture s)
       → (next : Task → Act) (here : Here) (go : Contents → Act) → IsAt script frames.scope here
-      → ForEach last before (λ table capture s. s.left ≡ left → IsSpent capture (remaining script next here go table frames) s (after table capture) was is)
+      → ForEach last before (λ table capture s. s.left ≡ left → IsSpent capture (remaining script next here go table frames) s rest (after table capture) was is)
   order_spent known next here go is_at table capture fit s stands steps =
       spent_step script next here go table frames frames order op values capture rest (after table capture) was is s (first_act next here go is_at table capture fit s stands)
       (known table capture fit s (makes table capture (kept table capture fit) s stands).stands steps)
 
-  pub order_unanswered : ForEach last between (λ table capture s. s.left ≡ left → WasLacking order.at op values (after table capture) was is table capture s)
+  pub order_unanswered : ForEach last between (λ table capture s. s.left ≡ left → WasLacking order.at op values rest (after table capture) was is table capture s)
       → (next : Task → Act) (here : Here) (go : Contents → Act) → IsAt script frames.scope here
-      → ForEach last before (λ table capture s. s.left ≡ left → IsUnanswered capture (remaining script next here go table frames) s (after table capture) was is)
+      → ForEach last before (λ table capture s. s.left ≡ left → IsUnanswered capture (remaining script next here go table frames) s rest (after table capture) was is)
   order_unanswered known next here go is_at table capture fit s stands steps =
       unanswered_step script next here go table frames frames order op values capture rest (after table capture) was is s (first_act next here go is_at table capture fit s stands)
       (known table capture fit s (makes table capture (kept table capture fit) s stands).stands steps)

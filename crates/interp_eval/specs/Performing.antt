@@ -51,18 +51,22 @@ pub record HasHappened (at : Pos) (op : Op) (values : List Value) (answer : Answ
   pub tells : TellsOn was is (λ told more. more ≡ moment ∷ told)
   pub named : IsNamedAnswer table answer
 
-pub record WasTooDear (at : Pos) (op : Op) (values : List Value) (after : Standing → Type 0) (was is : Option (List Moment)) (table : ValuesView) (capture : Capture) (s : State) : Type 0 where
+pub record WasTooDear (at : Pos) (op : Op) (values : List Value) (left : ℕ) (after : Standing → Type 0) (was is : Option (List Moment)) (table : ValuesView) (capture : Capture) (s : State) : Type 0 where
   pub next : State
   pub happened : operation capture at (op_seen table op) (map (contents table) values) s ≡ too_dear next
   pub stands : after (standing next)
+  pub left_is : next.left ≡ left
+  pub told_is : next.told ≡ s.told
   pub tells : is ≡ was
 
-pub record WasLacking (at : Pos) (op : Op) (values : List Value) (after : Standing → Type 0) (was is : Option (List Moment)) (table : ValuesView) (capture : Capture) (s : State) : Type 0 where
+pub record WasLacking (at : Pos) (op : Op) (values : List Value) (left : ℕ) (after : Standing → Type 0) (was is : Option (List Moment)) (table : ValuesView) (capture : Capture) (s : State) : Type 0 where
   pub next : State
   pub askings : List Asking
   pub fetches : List (List ℕ)
   pub happened : operation capture at (op_seen table op) (map (contents table) values) s ≡ lacked next
   pub stands : after (record (standing s) { askings = askings; fetches = fetches })
+  pub left_is : next.left ≡ left
+  pub told_is : next.told ≡ s.told
   pub tells : is ≡ was
 
 -- Want of memory: nothing happened but what was asked, or the operation happened and the watch was not told.
@@ -75,8 +79,8 @@ abbrev pub HasPerformed : {E : Type 0} → Pos → Op → List Value → ℕ →
 HasPerformed at op values left rest fits before after was is (Ok (Did answer method)) =
     ForEach fits before (λ table capture s. s.left ≡ left → HasHappened at op values answer method rest (after table capture) was is table capture s)
 HasPerformed at op values left rest fits before after was is (Ok TooDear) =
-    ForEach fits before (λ table capture s. s.left ≡ left → WasTooDear at op values (after table capture) was is table capture s)
+    ForEach fits before (λ table capture s. s.left ≡ left → WasTooDear at op values rest (after table capture) was is table capture s)
 HasPerformed at op values left rest fits before after was is (Ok Unanswered) =
-    ForEach fits before (λ table capture s. s.left ≡ left → WasLacking at op values (after table capture) was is table capture s)
+    ForEach fits before (λ table capture s. s.left ≡ left → WasLacking at op values rest (after table capture) was is table capture s)
 HasPerformed at op values left rest fits before after was is (Err want) =
     ForEach fits before (λ table capture s. s.left ≡ left → WasCut at op values (after table capture) was is table capture s)

@@ -42,8 +42,8 @@ pub record IsOn (capture : Capture) (before : Act) (s : State) (after : Act) (le
   pub left_is : next.left ≡ left
   pub tells : TellsOn was is (λ told more. more ≡ news ++ told)
 
--- the first action is an operation that costs more than is left
-pub record IsSpent (capture : Capture) (before : Act) (s : State) (stands : Standing → Type 0) (was is : Option (List Moment)) : Type 0 where
+-- The first action is an operation that costs more than is left: no step is taken, and nothing is told.
+pub record IsSpent (capture : Capture) (before : Act) (s : State) (left : ℕ) (stands : Standing → Type 0) (was is : Option (List Moment)) : Type 0 where
   pub at : Pos
   pub what : Op
   pub values : List Contents
@@ -52,10 +52,12 @@ pub record IsSpent (capture : Capture) (before : Act) (s : State) (stands : Stan
   pub act_is : before ≡ perform at what values go
   pub dear : operation capture at what values s ≡ too_dear next
   pub stands_so : stands (standing next)
+  pub left_is : next.left ≡ left
+  pub told_is : next.told ≡ s.told
   pub tells : is ≡ was
 
--- the first action is an operation that asks for what is not there
-pub record IsUnanswered (capture : Capture) (before : Act) (s : State) (stands : Standing → Type 0) (was is : Option (List Moment)) : Type 0 where
+-- The first action is an operation that asks for what is not there: the same holds.
+pub record IsUnanswered (capture : Capture) (before : Act) (s : State) (left : ℕ) (stands : Standing → Type 0) (was is : Option (List Moment)) : Type 0 where
   pub at : Pos
   pub what : Op
   pub values : List Contents
@@ -66,6 +68,8 @@ pub record IsUnanswered (capture : Capture) (before : Act) (s : State) (stands :
   pub act_is : before ≡ perform at what values go
   pub lacks : operation capture at what values s ≡ lacked next
   pub stands_so : stands (record (standing s) { askings = askings; fetches = fetches })
+  pub left_is : next.left ≡ left
+  pub told_is : next.told ≡ s.told
   pub tells : is ≡ was
 
 -- Want of memory: the doer stands for the state before or after the operation, but for what was asked, and the watch was told of it or not.
@@ -101,8 +105,8 @@ module _ (script : ScriptTree) (next : Task → Act) (here : Here) (go : Content
   IsStep before after left stands was is table capture s (Ok (Raised o)) = IsOn capture (remaining table before) s (ret (threw o here.line)) left stands was is
   IsStep before after left stands was is table capture s (Ok Ended) = IsOn capture (remaining table before) s (ret normal) left stands was is
   IsStep before after left stands was is table capture s (Ok (Call f args at)) = IsCall f args at before after left stands was is table s
-  IsStep before after left stands was is table capture s (Ok Spent) = IsSpent capture (remaining table before) s stands was is
-  IsStep before after left stands was is table capture s (Ok Unanswered) = IsUnanswered capture (remaining table before) s stands was is
+  IsStep before after left stands was is table capture s (Ok Spent) = IsSpent capture (remaining table before) s left stands was is
+  IsStep before after left stands was is table capture s (Ok Unanswered) = IsUnanswered capture (remaining table before) s left stands was is
   IsStep before after left stands was is table capture s (Err want) = IsCut capture (remaining table before) s stands was is
 
 -- One step, for whatever follows the expression and whatever calls mean, wherever the scope says that the expression stands.

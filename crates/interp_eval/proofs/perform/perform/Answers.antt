@@ -1,6 +1,6 @@
 use Rattle.std.proofs.Common.{[]}
-use Rattle.py_model.specs.declared.doer.Done.TheVariants.{Did, Unanswered}
-use Rattle.interp_eval.proofs.Performed.{known_done, word_known, can_pay, can_tell, has_happened, was_not_told, was_lacking}
+use Rattle.py_model.specs.declared.doer.Done.TheVariants.{Did, TooDear, Unanswered}
+use Rattle.interp_eval.proofs.Performed.{known_done, word_known, can_pay, can_tell, has_happened, was_not_told, was_too_dear, was_lacking}
 use Rattle.interp_eval.proofs.perform.perform.Goals as goal
 
 pub returns-in-Unanswered-clause-performed : goal.returns-in-Unanswered-clause-performed
@@ -41,3 +41,9 @@ returns-clause-performed g c =
     c.in_ok-number.number [] c.in_ok-number.ensures.named c.in_ok-number.ensures.knew c.in_ok-deed.ensures.knew c.args.at c.args.op c.args.values.items c.args.left.now c.in-Did.deed
     (known_done c.args.at c.args.op c.args.left.now (g.D.Doer.fits c.perform.new.self) (g.D.Doer.stands c.word.new.self) (g.D.Doer.stands c.perform.new.self) c.args.values.items c.as_slice.result.now c.in_ok-deed.field-0 (Did c.in-Did.deed) c.as_slice.ensures.value c.in-Did.is c.in_ok-deed.ensures.performed)
     c.of.result c.of.ensures (g.W.Watch.history c.args.watch.now) (g.W.Watch.history c.tell.new.watch) c.in-Err.ensures
+
+pub returns-in-TooDear-clause-performed : goal.returns-in-TooDear-clause-performed
+returns-in-TooDear-clause-performed g c =
+    was_too_dear (g.D.Doer.fits c.args.doer.now) (g.D.Doer.fits c.word.new.self) (g.D.Doer.fits c.perform.new.self) (g.D.Doer.stands c.args.doer.now) (g.D.Doer.stands c.word.new.self) (g.D.Doer.stands c.perform.new.self)
+    c.in_ok-number.number [] c.in_ok-number.ensures.named c.in_ok-number.ensures.knew c.in_ok-deed.ensures.knew c.args.at c.args.op c.args.values.items c.args.left.now (g.W.Watch.history c.args.watch.now)
+    (known_done c.args.at c.args.op c.args.left.now (g.D.Doer.fits c.perform.new.self) (g.D.Doer.stands c.word.new.self) (g.D.Doer.stands c.perform.new.self) c.args.values.items c.as_slice.result.now c.in_ok-deed.field-0 TooDear c.as_slice.ensures.value c.in-TooDear.is c.in_ok-deed.ensures.performed)
