@@ -8,8 +8,9 @@ use Rattle.py_model.specs.Capture.{Capture}
 use Rattle.py_model.specs.Doing.{Standing, standing, Fits, Stands, Knew, ForEach, IsRefused}
 use Rattle.py_model.specs.Expressions.{Here, Task, by_answer, calling, giving}
 use Rattle.py_model.specs.Moment.{Moment}
+use Rattle.py_model.specs.Operations.{Op}
 use Rattle.py_model.specs.Plan.{Answer, value}
-use Rattle.py_model.specs.Running.{State}
+use Rattle.py_model.specs.Running.{State, Happened, did, too_dear, lacked, operation, outcome, spent, lacking}
 use Rattle.py_model.specs.Told.{op_seen, TellsOn}
 use Rattle.py_model.specs.declared.moment.Answer.TheVariants.{Value as ValueAnswer, Raised as RaisedAnswer, End as EndAnswer}
 use Rattle.py_model.specs.declared.moment.Op.{Op as OneOp}
@@ -29,7 +30,7 @@ use Rattle.local_names.specs.Scopes.{function_in}
 use Rattle.interp_eval.specs.declared.frames.Scope.{Scope}
 use Rattle.interp_eval.specs.Scopes.{IsAt}
 use Rattle.interp_eval.specs.Seen.{machine_seen, waiting_seen, finish_seen, operands_seen}
-use Rattle.interp_eval.specs.Step.{stayed, went_on, IsOn, IsSpent, IsUnanswered, IsCut, IsCall, IsStep, Steps, given, remaining, AreHeldBy}
+use Rattle.interp_eval.specs.Step.{Went, stayed, went_on, IsOn, IsSpent, IsUnanswered, IsCut, IsCall, IsStep, Steps, given, remaining, AreHeldBy}
 use Rattle.interp_eval.specs.Turns.{want_seen, after_seen, turn_seen, IsCallable}
 use Rattle.interp_eval.specs.Values.{behind_values}
 use Rattle.interp_eval.specs.declared.frames.EvalFrames.{EvalFrames}
@@ -55,10 +56,20 @@ told_weaker (Some told) (Some more) P Q weaker tells = weaker told more tells
 unasked : (stands : Standing → Type 0) (s : State) → stands (standing s) → IsRefused stands s
 unasked stands s holds = record { askings = s.askings; fetches = s.fetches; asked = inl refl; fetched = inl refl; stands = holds }
 
+-- A run comes out the same from what remains after a step.
+came_out : (capture : Capture) (at : Pos) (what : Op) (values : List Contents) (go : Answer → Walked → Act) (s : State) (h : Happened) → operation capture at what values s ≡ h
+    → outcome capture (perform at what values go) s ≡ elim h [ did answer came t ↦ outcome capture (go answer came) t | too_dear t ↦ spent t | lacked t ↦ lacking t ]
+came_out capture at what values go s h is = ap (λ h. elim h [ did answer came t ↦ outcome capture (go answer came) t | too_dear t ↦ spent t | lacked t ↦ lacking t ]) is
+
+went_same : (capture : Capture) (before : Act) (s : State) (after : Act) (t : State) (news : List Moment) → Went capture before s after t news → outcome capture before s ≡ outcome capture after t
+went_same capture before s after t news (stayed same state none) = ap (λ a. outcome capture a s) (sym same) ∙ ap (outcome capture after) (sym state)
+went_same capture before s after t news (went_on at what values go answer came moment act happened next told one) =
+    ap (λ a. outcome capture a s) act ∙ came_out capture at what values go s (did answer came t) happened ∙ ap (λ a. outcome capture a t) (sym next)
+
 -- nothing was performed
 pub stood_on : (capture : Capture) (before after : Act) (s : State) (left : ℕ) (stands : Standing → Type 0) (was : Option (List Moment)) → after ≡ before → stands (standing s) → s.left ≡ left
     → IsOn capture before s after left stands was was
-stood_on capture before after s left stands was same holds steps = record { next = s; news = []; went = stayed same refl refl; stands_so = holds; left_is = steps; tells = told_same was }
+stood_on capture before after s left stands was same holds steps = record { next = s; news = []; went = stayed same refl refl; comes_out = ap (λ a. outcome capture a s) (sym same); stands_so = holds; left_is = steps; tells = told_same was }
 
 -- want of memory before anything was performed
 pub cut_off : (capture : Capture) (before : Act) (s : State) (stands : Standing → Type 0) (was : Option (List Moment)) → IsRefused stands s → IsCut capture before s stands was was
@@ -167,25 +178,31 @@ module _ (script : ScriptTree) (next : Task → Act) (here : Here) (go : Content
       (act : remaining script next here go table frames ≡ perform order.at (op_seen table op) (map (contents table) values) (answers frames order)) where
     pub raised_step : (o : ℕ) (method : Option Pos) → HasHappened order.at op values (RaisedAnswer o) method left stands was is table capture s
         → IsOn capture (remaining script next here go table frames) s (ret (threw o here.line)) left stands was is
-    raised_step o method d = record {
-      next = d.next;
-      news = d.moment ∷ [];
-      went = went_on order.at (op_seen table op) (map (contents table) values) (answers frames order) _ d.came d.moment act d.happened refl d.told_is refl;
-      stands_so = d.stands;
-      left_is = d.left_is;
-      tells = d.tells;
-    }
+    raised_step o method d =
+        let step : Went capture (remaining script next here go table frames) s (ret (threw o here.line)) d.next (d.moment ∷ []) = went_on order.at (op_seen table op) (map (contents table) values) (answers frames order) _ d.came d.moment act d.happened refl d.told_is refl in
+        record {
+          next = d.next;
+          news = d.moment ∷ [];
+          went = step;
+          comes_out = went_same capture (remaining script next here go table frames) s (ret (threw o here.line)) d.next (d.moment ∷ []) step;
+          stands_so = d.stands;
+          left_is = d.left_is;
+          tells = d.tells;
+        }
 
     pub ended_step : (method : Option Pos) → HasHappened order.at op values EndAnswer method left stands was is table capture s
         → IsOn capture (remaining script next here go table frames) s (ret normal) left stands was is
-    ended_step method d = record {
-      next = d.next;
-      news = d.moment ∷ [];
-      went = went_on order.at (op_seen table op) (map (contents table) values) (answers frames order) _ d.came d.moment act d.happened refl d.told_is refl;
-      stands_so = d.stands;
-      left_is = d.left_is;
-      tells = d.tells;
-    }
+    ended_step method d =
+        let step : Went capture (remaining script next here go table frames) s (ret normal) d.next (d.moment ∷ []) = went_on order.at (op_seen table op) (map (contents table) values) (answers frames order) _ d.came d.moment act d.happened refl d.told_is refl in
+        record {
+          next = d.next;
+          news = d.moment ∷ [];
+          went = step;
+          comes_out = went_same capture (remaining script next here go table frames) s (ret normal) d.next (d.moment ∷ []) step;
+          stands_so = d.stands;
+          left_is = d.left_is;
+          tells = d.tells;
+        }
 
     pub spent_step : WasTooDear order.at op values left stands was is table capture s → IsSpent capture (remaining script next here go table frames) s left stands was is
     spent_step d = record {
@@ -196,6 +213,7 @@ module _ (script : ScriptTree) (next : Task → Act) (here : Here) (go : Content
       next = d.next;
       act_is = act;
       dear = d.happened;
+      comes_out = ap (λ a. outcome capture a s) act ∙ came_out capture order.at (op_seen table op) (map (contents table) values) (answers frames order) s (too_dear d.next) d.happened;
       stands_so = d.stands;
       left_is = d.left_is;
       told_is = d.told_is;
@@ -213,6 +231,7 @@ module _ (script : ScriptTree) (next : Task → Act) (here : Here) (go : Content
       fetches = d.fetches;
       act_is = act;
       lacks = d.happened;
+      comes_out = ap (λ a. outcome capture a s) act ∙ came_out capture order.at (op_seen table op) (map (contents table) values) (answers frames order) s (lacked d.next) d.happened;
       stands_so = d.stands;
       left_is = d.left_is;
       told_is = d.told_is;
@@ -235,30 +254,39 @@ module _ (script : ScriptTree) (next : Task → Act) (here : Here) (go : Content
     pub value_step : (v : Value) (method : Option Pos) → (d : HasHappened order.at op values (ValueAnswer v) method left stands was is table capture s)
         → (result : Result EvalNext Memory) → GoesOn {E = Memory} order.after v method frames after script next here go table d.came result
         → IsStep script next here go {E = Memory} frames after left stands was is table capture s result
-    value_step v method d (Ok More) goes_on = record {
-      next = d.next;
-      news = d.moment ∷ [];
-      went = went_on order.at (op_seen table op) (map (contents table) values) (answers frames order) _ d.came d.moment act d.happened goes_on d.told_is refl;
-      stands_so = d.stands;
-      left_is = d.left_is;
-      tells = d.tells;
-    }
-    value_step v method d (Ok (TheValue w)) goes_on = record {
-      next = d.next;
-      news = d.moment ∷ [];
-      went = went_on order.at (op_seen table op) (map (contents table) values) (answers frames order) _ d.came d.moment act d.happened goes_on d.told_is refl;
-      stands_so = d.stands;
-      left_is = d.left_is;
-      tells = d.tells;
-    }
-    value_step v method d (Ok Ended) goes_on = record {
-      next = d.next;
-      news = d.moment ∷ [];
-      went = went_on order.at (op_seen table op) (map (contents table) values) (answers frames order) _ d.came d.moment act d.happened goes_on d.told_is refl;
-      stands_so = d.stands;
-      left_is = d.left_is;
-      tells = d.tells;
-    }
+    value_step v method d (Ok More) goes_on =
+        let step : Went capture (remaining script next here go table frames) s (remaining script next here go table after) d.next (d.moment ∷ []) = went_on order.at (op_seen table op) (map (contents table) values) (answers frames order) _ d.came d.moment act d.happened goes_on d.told_is refl in
+        record {
+          next = d.next;
+          news = d.moment ∷ [];
+          went = step;
+          comes_out = went_same capture (remaining script next here go table frames) s (remaining script next here go table after) d.next (d.moment ∷ []) step;
+          stands_so = d.stands;
+          left_is = d.left_is;
+          tells = d.tells;
+        }
+    value_step v method d (Ok (TheValue w)) goes_on =
+        let step : Went capture (remaining script next here go table frames) s (go (contents table w)) d.next (d.moment ∷ []) = went_on order.at (op_seen table op) (map (contents table) values) (answers frames order) _ d.came d.moment act d.happened goes_on d.told_is refl in
+        record {
+          next = d.next;
+          news = d.moment ∷ [];
+          went = step;
+          comes_out = went_same capture (remaining script next here go table frames) s (go (contents table w)) d.next (d.moment ∷ []) step;
+          stands_so = d.stands;
+          left_is = d.left_is;
+          tells = d.tells;
+        }
+    value_step v method d (Ok Ended) goes_on =
+        let step : Went capture (remaining script next here go table frames) s (ret normal) d.next (d.moment ∷ []) = went_on order.at (op_seen table op) (map (contents table) values) (answers frames order) _ d.came d.moment act d.happened goes_on d.told_is refl in
+        record {
+          next = d.next;
+          news = d.moment ∷ [];
+          went = step;
+          comes_out = went_same capture (remaining script next here go table frames) s (ret normal) d.next (d.moment ∷ []) step;
+          stands_so = d.stands;
+          left_is = d.left_is;
+          tells = d.tells;
+        }
     value_step v method d (Ok other) goes_on = absurd goes_on
     value_step v method d (Err want) goes_on = record {
       rest = answers frames order (value (contents table v)) d.came;

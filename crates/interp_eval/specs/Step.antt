@@ -12,7 +12,7 @@ use Rattle.py_model.specs.Expressions.{Here, Task, calling, giving}
 use Rattle.py_model.specs.Moment.{Moment}
 use Rattle.py_model.specs.Operations.{Op}
 use Rattle.py_model.specs.Plan.{Answer}
-use Rattle.py_model.specs.Running.{State, Asking, operation, did, too_dear, lacked}
+use Rattle.py_model.specs.Running.{State, Asking, operation, did, too_dear, lacked, outcome, spent, lacking}
 use Rattle.py_model.specs.Told.{TellsOn}
 use Rattle.interp_eval.specs.declared.frames.EvalFrames.{EvalFrames}
 use Rattle.interp_eval.specs.declared.frames.EvalNext.{EvalNext}
@@ -33,11 +33,12 @@ pub data Went (capture : Capture) (before : Act) (s : State) (after : Act) (t : 
       → before ≡ perform at what values next → operation capture at what values s ≡ did answer came t → after ≡ next answer came → t.told ≡ moment ∷ s.told → news ≡ moment ∷ []
       → Went capture before s after t news
 
--- The doer stands for the state, so many steps are left, and the watch was told what was performed.
+-- The doer stands for the state, so many steps are left, and the watch was told what was performed. So the run comes out the same from there.
 pub record IsOn (capture : Capture) (before : Act) (s : State) (after : Act) (left : ℕ) (stands : Standing → Type 0) (was is : Option (List Moment)) : Type 0 where
   pub next : State
   pub news : List Moment
   pub went : Went capture before s after next news
+  pub comes_out : outcome capture before s ≡ outcome capture after next
   pub stands_so : stands (standing next)
   pub left_is : next.left ≡ left
   pub tells : TellsOn was is (λ told more. more ≡ news ++ told)
@@ -51,6 +52,7 @@ pub record IsSpent (capture : Capture) (before : Act) (s : State) (left : ℕ) (
   pub next : State
   pub act_is : before ≡ perform at what values go
   pub dear : operation capture at what values s ≡ too_dear next
+  pub comes_out : outcome capture before s ≡ spent next
   pub stands_so : stands (standing next)
   pub left_is : next.left ≡ left
   pub told_is : next.told ≡ s.told
@@ -67,6 +69,7 @@ pub record IsUnanswered (capture : Capture) (before : Act) (s : State) (left : �
   pub fetches : List (List ℕ)
   pub act_is : before ≡ perform at what values go
   pub lacks : operation capture at what values s ≡ lacked next
+  pub comes_out : outcome capture before s ≡ lacking next
   pub stands_so : stands (record (standing s) { askings = askings; fetches = fetches })
   pub left_is : next.left ≡ left
   pub told_is : next.told ≡ s.told
