@@ -13,9 +13,9 @@
 //! Calls of functions and classes of a script are answered, and made by the caller, who gives their value by [`EvalFrames::give`]. Calls of
 //! functions and methods of the language, and calls of what is not callable, are performed here.
 //!
-//! What is not said: a body that always answers Memory would be proved, since no contract ties that answer to a cause. That no operation of an
-//! expression answers as the operation `next` alone does, and that the failing call only raises, is not shown; where one did, the
-//! step answers [`EvalNext::Ended`], as the meaning has it.
+//! What is not said: a body that always answers Memory would be proved, since no contract ties that answer to a cause. It is not shown that no
+//! operation of an expression answers the end of a sequence, and that the failing call only raises. Where one did otherwise, the
+//! step would answer [`EvalNext::Ended`], as the meaning has it.
 #![tactic(auto)]
 
 mod frames;
