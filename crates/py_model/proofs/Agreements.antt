@@ -6,6 +6,7 @@ use Rattle.py_model.proofs.Correspondence.{allowed, operation_alike}
 use Rattle.py_model.proofs.AlikePlans.{AlikeBy}
 use Rattle.py_model.specs.AlikeOperations.{renamed_op}
 use Rattle.py_model.specs.Operations.{Op, plan}
+use Rattle.py_model.specs.Orderly.{IsOrderly, other_read}
 use Rattle.py_model.specs.Quiet.{may_ask, IsQuiet}
 use Rattle.py_model.specs.Renaming.{Renaming, renamed_list}
 
@@ -25,3 +26,6 @@ as_they_are = record {
 
 pub every_quiet : (op : Op) (values : List Contents) → may_ask op.no ≡ false → IsQuiet (plan op values)
 every_quiet op values none = (every_alike as_they_are op values).quiet none
+
+pub every_orderly : (op : Op) (values : List Contents) → IsOrderly (plan op values)
+every_orderly op values = (every_alike as_they_are op values).orderly other_read

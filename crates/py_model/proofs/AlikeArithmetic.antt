@@ -8,8 +8,7 @@ use Rattle.py_model.proofs.Agreeing.{parts_renamed}
 use Rattle.py_model.proofs.AlikeComparing.{if_alike, equals_alike, compare_within_alike}
 use Rattle.py_model.proofs.AlikeOperands.{AlikeFor, of_one_alike, of_two_alike, number_alike, numbers_alike, text_alike, gives_int_alike, gives_text_alike, lists_alike, key_alike}
 use Rattle.py_model.proofs.AlikeWalks.{wrong_kind_alike, wrong_number_alike, not_there_alike, fault_alike, items_renamed, length_renamed, size_renamed, read_value_alike, walk_alike, if_walked_alike, set_items_alike, new_list_alike, same_renamed}
-use Rattle.py_model.proofs.AlikePlans.{Allowed, AlikeBy, both_read_len, both_read_entry, both_read_order, both_kind, both_look, both_count, both_writes}
-use Rattle.py_model.specs.Agreement.{both_write, both_done}
+use Rattle.py_model.proofs.AlikePlans.{Allowed, AlikeBy, both_read_len, both_read_entry, both_read_order, both_kind, both_look, both_count, both_writes, both_write, both_done}
 use Rattle.py_model.specs.Arithmetic.{truth_of, truth_plan, not_plan, neg_plan, pos_plan, sub_plan, divided, floor_div_plan, mod_plan, added, add_plan, repeated, repeats, multiplied, mul_plan, add_in_place, iadd_plan, eq_plan, ne_plan, unless_apart, in_order, is_less, is_more, lt_plan, le_plan, gt_plan, ge_plan, among_items, among_parts, among_numbers, contained, in_plan, not_in_plan, identical, is_plan, is_not_plan, abs_plan, bool_plan, len_plan, length_of, best_from, best_of, best_plan, max_plan, min_plan, a_range, range_plan, numbers_in, sum_from, sum_plan}
 use Rattle.py_model.specs.Faults.{wrong_kind}
 use Rattle.py_model.specs.Keys.{with_key_of}
@@ -111,7 +110,7 @@ module _ (may : Allowed) (r : Renaming) where
 
   extended_by_alike : (o : ℕ) (w : Contents) (kind : Option SeenKind) → AlikeBy may r (extended_by o w kind) (extended_by (r.objects o) (renamed r w) (option_map (renamed_kind r) kind))
   extended_by_alike o w (Some a_list) = if_walked_alike may r w _ _ (both_read_len (λ n. walk_alike may r w _ _ (λ items.
-      both_writes (set_items_alike r o n items _ _ (both_write refl (ap (λ m. len_is (n + m)) (length_renamed r items)) (both_done refl))))))
+      both_writes (set_items_alike r o n items _ _ (both_write tt refl (ap (λ m. len_is (n + m)) (length_renamed r items)) (both_done refl))))))
   extended_by_alike o w other = added_alike (object o) w
 
   add_in_place_alike : (v w : Contents) → AlikeBy may r (add_in_place v w) (add_in_place (renamed r v) (renamed r w))

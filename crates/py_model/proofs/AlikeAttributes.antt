@@ -1,5 +1,5 @@
 -- Attributes, definitions and exceptions are alike for corresponding operands.
-use Rattle.std.proofs.Common.{◌≡◌, ℕ, zero, suc, ◌+◌, pos, Bool, true, false, ◌&&◌, ◌==◌, List, [], Option, Some, None, option_map, codes, refl, sym, ap, ap₂}
+use Rattle.std.proofs.Common.{◌≡◌, ℕ, zero, suc, ◌+◌, pos, Bool, true, false, ◌&&◌, ◌==◌, List, [], ◌∷◌, Option, Some, None, option_map, codes, refl, sym, ap, ap₂}
 use Rattle.std.specs.Str.{bytes_eq}
 use Rattle.prov_base.specs.declared.place.Pos.{Pos}
 use Rattle.py_value.specs.Contents.{Contents, Parts, truth, int, text, tuple, function, class, exception_class, builtin, object, no_parts, part}
@@ -9,10 +9,13 @@ use Rattle.py_model.proofs.AlikeClasses.{derived_alike, end_alike, method_alike}
 use Rattle.py_model.proofs.AlikeComparing.{if_alike}
 use Rattle.py_model.proofs.AlikeOperands.{AlikeFor}
 use Rattle.py_model.proofs.AlikeWalks.{wrong_kind_alike, wrong_number_alike, not_there_alike, too_deep_alike, fault_alike}
-use Rattle.py_model.proofs.AlikePlans.{Allowed, AlikeBy, both_read_entry, both_kind, both_look, both_writes, both_make, both_raise, both_again}
-use Rattle.py_model.specs.Agreement.{AlikeWrites, both_write, both_change, both_note, both_done}
+use Rattle.py_model.proofs.AlikePlans.{Allowed, AlikeBy, both_read_entry, both_kind, both_look, both_writes, both_make, both_raise, both_again, AlikeAfter, after_writes, both_begin, both_read_entry_and_write, both_write, both_note, both_done}
+use Rattle.py_model.specs.Agreement as plans
+use Rattle.py_model.specs.Agreement.{AlikeWrites}
 use Rattle.py_model.specs.Classes.{object_is, value_is, isinstance, list_name, dict_name, end_of_chain, method_of_class, class_attribute, instance_attribute, operation, no_method_value, getattr_of_object, getattr, setattr_entry, setattr_of_object, setattr, method_found, find_of_object, find, instance_begun, make_of, make, is_class, is_kind, each_part, first_hit, answers_truth, define, define_method, class_begun, begin_class, import_module, is_module, sys_module, time_module, random_module, list_methods, dict_methods, text_methods, file_methods, time_methods, random_methods, args_key}
+use Rattle.py_model.specs.Effect.{parts_of}
 use Rattle.py_model.specs.Faults.{not_there, no_attribute, wrong_kind}
+use Rattle.py_model.specs.Orderly.{LastRead, entry_read, resets, inserts, BeginsWith}
 use Rattle.py_model.specs.Plan.{Plan, writes, done, raises, raises_again}
 use Rattle.py_model.specs.Raising.{raise_object, raise_class, raise, object_matches, value_matches, matches, assertion_failed, call_failed}
 use Rattle.py_model.specs.Renaming.{Renaming, renamed, renamed_parts, renamed_option, renamed_list, renamed_entry, renamed_kind}
@@ -84,12 +87,12 @@ module _ (may : Allowed) (r : Renaming) where
   find_alike name other = fault_alike may r _ _
 
   -- setting
-  setattr_entry_alike : (name : List ℕ) (o : ℕ) (v : Contents) (entry : Option (Contents × Contents)) → AlikeBy may r (setattr_entry name o v entry) (setattr_entry name (r.objects o) (renamed r v) (renamed_entry r entry))
-  setattr_entry_alike name o v (Some pair) = both_writes (both_write refl refl (both_done refl))
-  setattr_entry_alike name o v None = both_writes (both_write refl refl (both_change refl refl (both_done refl)))
+  setattr_entry_alike : (name : List ℕ) (o : ℕ) (v : Contents) (entry : Option (Contents × Contents)) → AlikeAfter (entry_read o (text name) entry) may r (setattr_entry name o v entry) (setattr_entry name (r.objects o) (renamed r v) (renamed_entry r entry))
+  setattr_entry_alike name o v (Some pair) = after_writes (plans.both_write refl refl (plans.both_done refl)) resets
+  setattr_entry_alike name o v None = after_writes (plans.both_write refl refl (plans.both_change refl refl (plans.both_done refl))) inserts
 
   setattr_of_alike : (name : List ℕ) (o : ℕ) (v : Contents) (kind : Option SeenKind) → AlikeBy may r (setattr_of_object name o v kind) (setattr_of_object name (r.objects o) (renamed r v) (option_map (renamed_kind r) kind))
-  setattr_of_alike name o v (Some (an_instance of)) = both_read_entry (setattr_entry_alike name o v)
+  setattr_of_alike name o v (Some (an_instance of)) = both_read_entry_and_write (setattr_entry_alike name o v)
   setattr_of_alike name o v kind = not_there_alike may r
 
   pub setattr_alike : (name : List ℕ) (w v : Contents) → AlikeBy may r (setattr name w v) (setattr name (renamed r w) (renamed r v))
@@ -103,12 +106,16 @@ module _ (may : Allowed) (r : Renaming) where
 
   -- instances
   instance_begun_alike : (items : List Contents) (end : Option ℕ) (o : ℕ) → AlikeWrites r (instance_begun items end o) (instance_begun (renamed_list r items) end (r.objects o))
-  instance_begun_alike items None o = both_write refl refl (both_done refl)
+  instance_begun_alike items None o = plans.both_write refl refl (plans.both_done refl)
   instance_begun_alike items (Some number) o =
-      both_write refl refl (both_write refl (ap (λ ps. entry_is (Some (args_key, tuple ps))) (parts_renamed r items)) (both_done refl))
+      plans.both_write refl refl (plans.both_write refl (ap (λ ps. entry_is (Some (args_key, tuple ps))) (parts_renamed r items)) (plans.both_done refl))
+
+  instance_begins : (items : List Contents) (end : Option ℕ) (o : ℕ) → BeginsWith o (instance_begun items end o)
+  instance_begins items None o = record { pairs = []; answer = object o; apart = tt; writes_are = refl }
+  instance_begins items (Some number) o = record { pairs = (args_key, tuple (parts_of items)) ∷ []; answer = object o; apart = (tt, tt); writes_are = refl }
 
   make_of_alike : (of : Contents) (items : List Contents) → AlikeBy may r (make_of of items) (make_of (renamed r of) (renamed_list r items))
-  make_of_alike of items = method_alike may r (codes "__init__") of _ _ (λ at. end_alike may r of _ _ (λ end. both_make refl (λ o. instance_begun_alike items end o)))
+  make_of_alike of items = method_alike may r (codes "__init__") of _ _ (λ at. end_alike may r of _ _ (λ end. both_begin refl (instance_begun_alike items end) (instance_begins items end)))
 
   pub make_alike : (of : Contents) (items : List Contents) → AlikeBy may r (make of items) (make (renamed r of) (renamed_list r items))
   make_alike (class place) items = make_of_alike (class place) items
@@ -117,15 +124,15 @@ module _ (may : Allowed) (r : Renaming) where
 
   -- definitions
   pub define_alike : (name : List ℕ) (v : Contents) → AlikeBy may r (define name v) (define name (renamed r v))
-  define_alike name (function place) = both_writes (both_note (both_write (ap (λ s. var_at s name) (sym r.module_stays)) refl (both_done refl)))
+  define_alike name (function place) = both_writes (both_note (both_write tt (ap (λ s. var_at s name) (sym r.module_stays)) refl (both_done refl)))
   define_alike name other = wrong_kind_alike may r
 
   pub define_method_alike : (name : List ℕ) (v of : Contents) → AlikeBy may r (define_method name v of) (define_method name (renamed r v) (renamed r of))
-  define_method_alike name (function place) (class of) = both_writes (both_note (both_write refl refl (both_done refl)))
+  define_method_alike name (function place) (class of) = both_writes (both_note (both_write tt refl refl (both_done refl)))
   define_method_alike name v other = wrong_kind_alike may r
 
   class_begun_alike : (name : List ℕ) (v : Contents) (base : Option Contents) → AlikeBy may r (class_begun name v base) (class_begun name (renamed r v) (renamed_option r base))
-  class_begun_alike name (class place) base = both_writes (both_note (both_write refl refl (both_done refl)))
+  class_begun_alike name (class place) base = both_writes (both_note (both_write tt refl refl (both_done refl)))
   class_begun_alike name other base = wrong_kind_alike may r
 
   class_stays : (v : Contents) → is_class (renamed r v) ≡ is_class v
@@ -138,7 +145,7 @@ module _ (may : Allowed) (r : Renaming) where
   begin_class_alike name v (Some base) = if_alike may r (is_class base) (is_class (renamed r base)) _ _ _ _ (class_stays base) (class_begun_alike name v (Some base)) (wrong_kind_alike may r)
 
   pub import_alike : (scope : ℕ) (name : List ℕ) (v : Contents) → AlikeBy may r (import_module scope name v) (import_module (r.scopes scope) name (renamed r v))
-  import_alike scope name v = both_writes (both_write refl refl (both_done refl))
+  import_alike scope name v = both_writes (both_write tt refl refl (both_done refl))
 
   -- exceptions
   pub raise_object_alike : (o : ℕ) → may.again o → (kind : Option SeenKind) → AlikeBy may r (raise_object o kind) (raise_object (r.objects o) (option_map (renamed_kind r) kind))

@@ -11,8 +11,7 @@ use Rattle.py_model.proofs.AlikeComparing.{if_alike}
 use Rattle.py_model.proofs.AlikeItems.{next_alike}
 use Rattle.py_model.proofs.AlikeOperands.{AlikeFor}
 use Rattle.py_model.proofs.AlikeWalks.{wrong_kind_alike, wrong_number_alike, fault_alike}
-use Rattle.py_model.proofs.AlikePlans.{Allowed, AlikeBy, both_read_file, both_read_offset, both_read_closed, both_kind, both_was_opened, both_ask, both_fetch, both_count, both_print, both_writes, both_make}
-use Rattle.py_model.specs.Agreement.{AlikeWrites, both_write, both_change, both_open, both_done, both_done_at_end}
+use Rattle.py_model.proofs.AlikePlans.{Allowed, AlikeBy, both_read_file, both_read_offset, both_read_closed, both_kind, both_was_opened, both_ask, both_fetch, both_count, both_print, both_writes, both_make, AlikePlainly, both_write, both_change, both_open, both_done, both_done_at_end}
 use Rattle.py_model.specs.Faults.{fault, os_error, eof_error, wrong_kind}
 use Rattle.py_model.specs.Files.{bad_file, no_file, is_closed_fault, wrong_mode, not_utf8, device_failed, begun, with_file, open_with, open_plan, to_be_read, taken, read_plan, first_line, readline_plan, next_line, write_plan, close_plan, input_plan, time_ns_plan, drawn, no_range, draw_between, randint_plan, draw_below, randrange_plan}
 use Rattle.py_model.specs.Lists.{next}
@@ -22,8 +21,8 @@ use Rattle.py_model.specs.Renaming.{Renaming, renamed, renamed_kind}
 use Rattle.py_model.specs.Texts.{size}
 
 module _ (may : Allowed) (r : Renaming) where
-  begun_alike : (o : ℕ) → AlikeWrites r (begun o) (begun (r.objects o))
-  begun_alike o = both_write refl refl (both_write refl refl (both_done refl))
+  begun_alike : (o : ℕ) → AlikePlainly r (begun o) (begun (r.objects o))
+  begun_alike o = both_write tt refl refl (both_write tt refl refl (both_done refl))
 
   -- what stands at a path for a run
   abbrev by_found : List ℕ → (Option (List ℕ) → Plan) → Found → Plan
@@ -66,7 +65,7 @@ module _ (may : Allowed) (r : Renaming) where
 
   to_append_alike : (path : List ℕ) (bytes : Option (List ℕ)) → AlikeBy may r (to_append path bytes) (to_append path bytes)
   to_append_alike path (Some bytes) = both_make refl (λ o. both_open (begun_alike o))
-  to_append_alike path None = both_make refl (λ o. both_write refl refl (both_open (begun_alike o)))
+  to_append_alike path None = both_make refl (λ o. both_write refl refl refl (both_open (begun_alike o)))
 
   abbrev at_path : List ℕ → Plan → Plan
   at_path path plan = if is_path path then plan else fault os_error (codes "bad path")
@@ -77,7 +76,7 @@ module _ (may : Allowed) (r : Renaming) where
   open_with_alike : may.asks ≡ true → (path mode : List ℕ) → AlikeBy may r (open_with path mode) (open_with path mode)
   open_with_alike asks path mode =
       if_alike may r (bytes_eq mode (codes "r")) (bytes_eq mode (codes "r")) _ _ _ _ refl (at_path_alike path _ _ (with_file_alike asks path (to_read path) (to_read path) (to_read_alike path)))
-      (if_alike may r (bytes_eq mode (codes "w")) (bytes_eq mode (codes "w")) _ _ _ _ refl (at_path_alike path _ _ (both_make refl (λ o. both_write refl refl (both_open (begun_alike o)))))
+      (if_alike may r (bytes_eq mode (codes "w")) (bytes_eq mode (codes "w")) _ _ _ _ refl (at_path_alike path _ _ (both_make refl (λ o. both_write refl refl refl (both_open (begun_alike o)))))
       (if_alike may r (bytes_eq mode (codes "a")) (bytes_eq mode (codes "a")) _ _ _ _ refl (at_path_alike path _ _ (with_file_alike asks path (to_append path) (to_append path) (to_append_alike path)))
       (fault_alike may r _ _)))
 
@@ -120,7 +119,7 @@ module _ (may : Allowed) (r : Renaming) where
   to_be_read_alike o go gone each = both_kind (read_by_kind_alike o go gone each)
 
   taken_alike : (o offset : ℕ) (bytes : List ℕ) → AlikeBy may r (taken o offset bytes) (taken (r.objects o) offset bytes)
-  taken_alike o offset bytes = if_alike may r (is_utf8 bytes) (is_utf8 bytes) _ _ _ _ refl (both_count refl (both_writes (both_write refl refl (both_done refl)))) (fault_alike may r _ _)
+  taken_alike o offset bytes = if_alike may r (is_utf8 bytes) (is_utf8 bytes) _ _ _ _ refl (both_count refl (both_writes (both_write tt refl refl (both_done refl)))) (fault_alike may r _ _)
 
   pub read_alike : AlikeFor may r read_plan
   read_alike (object o ∷ []) = to_be_read_alike o _ _ (λ path offset bytes. taken_alike o offset bytes)
@@ -137,7 +136,7 @@ module _ (may : Allowed) (r : Renaming) where
   line_or_end o offset (byte ∷ bytes) = taken o offset (first_line (byte ∷ bytes))
 
   line_or_end_alike : (o offset : ℕ) (bytes : List ℕ) → AlikeBy may r (line_or_end o offset bytes) (line_or_end (r.objects o) offset bytes)
-  line_or_end_alike o offset [] = both_writes (both_write refl refl both_done_at_end)
+  line_or_end_alike o offset [] = both_writes (both_write tt refl refl both_done_at_end)
   line_or_end_alike o offset (byte ∷ bytes) = taken_alike o offset (first_line (byte ∷ bytes))
 
   next_line_alike : (o : ℕ) → AlikeBy may r (next_line o) (next_line (r.objects o))
@@ -156,7 +155,7 @@ module _ (may : Allowed) (r : Renaming) where
   write_by_closed_alike : (bytes path : List ℕ) (mode : Mode) (b : Bool) → AlikeBy may r (write_by_closed bytes path mode b) (write_by_closed bytes path mode b)
   write_by_closed_alike bytes path mode true = fault_alike may r _ _
   write_by_closed_alike bytes path Read false = fault_alike may r _ _
-  write_by_closed_alike bytes path mode false = both_count refl (both_writes (both_change refl refl (both_done refl)))
+  write_by_closed_alike bytes path mode false = both_count refl (both_writes (both_change tt refl refl (both_done refl)))
 
   abbrev write_by_kind : ℕ → List ℕ → Option SeenKind → Plan
   write_by_kind o bytes (Some (a_file path mode)) = read_closed o (write_by_closed bytes path mode)
@@ -176,7 +175,7 @@ module _ (may : Allowed) (r : Renaming) where
   close_by_kind o other = wrong_kind
 
   close_by_kind_alike : (o : ℕ) (kind : Option SeenKind) → AlikeBy may r (close_by_kind o kind) (close_by_kind (r.objects o) (option_map (renamed_kind r) kind))
-  close_by_kind_alike o (Some (a_file path mode)) = both_writes (both_write refl refl (both_done refl))
+  close_by_kind_alike o (Some (a_file path mode)) = both_writes (both_write tt refl refl (both_done refl))
   close_by_kind_alike o other = wrong_kind_alike may r
 
   pub close_alike : AlikeFor may r close_plan

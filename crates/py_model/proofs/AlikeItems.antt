@@ -9,8 +9,7 @@ use Rattle.py_model.proofs.AlikeDicts.{get_entry_alike, set_entry_alike, del_ent
 use Rattle.py_model.proofs.AlikeLists.{get_item_alike, set_item_alike, del_item_alike, tuple_display_alike}
 use Rattle.py_model.proofs.AlikeOperands.{AlikeFor, index_alike, place_alike, bounds_alike, list_alike}
 use Rattle.py_model.proofs.AlikeWalks.{wrong_kind_alike, wrong_number_alike, fault_alike, items_renamed, length_renamed, size_renamed, texts_stay, read_value_alike, read_items_alike, new_list_alike}
-use Rattle.py_model.proofs.AlikePlans.{Allowed, AlikeBy, both_read_len, both_read_order, both_kind, both_look, both_count, both_writes, both_end}
-use Rattle.py_model.specs.Agreement.{both_done}
+use Rattle.py_model.proofs.AlikePlans.{Allowed, AlikeBy, both_read_len, both_read_order, both_kind, both_look, both_count, both_writes, both_end, both_done}
 use Rattle.py_model.specs.Effect.{parts_of}
 use Rattle.py_model.specs.Lists.{tuple_display, get_of, getitem, set_of, setitem, del_of, delitem, slice_of, slice, with_part, unpack, item_or_end, next_of, next, changed_size}
 use Rattle.py_model.specs.Making.{new_list}

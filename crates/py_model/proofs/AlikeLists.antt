@@ -6,8 +6,7 @@ use Rattle.py_model.proofs.Agreeing.{parts_renamed}
 use Rattle.py_model.proofs.AlikeComparing.{equals_alike}
 use Rattle.py_model.proofs.AlikeOperands.{AlikeFor, index_alike, place_alike, list_alike}
 use Rattle.py_model.proofs.AlikeWalks.{wrong_kind_alike, wrong_number_alike, fault_alike, length_renamed, read_value_alike, walk_alike, if_walked_alike, set_items_alike, new_list_alike}
-use Rattle.py_model.proofs.AlikePlans.{Allowed, AlikeBy, both_read_len, both_read_order, both_kind, both_writes}
-use Rattle.py_model.specs.Agreement.{AlikeWrites, both_write, both_move, both_done}
+use Rattle.py_model.proofs.AlikePlans.{Allowed, AlikeBy, both_read_len, both_read_order, both_kind, both_writes, AlikePlainly, both_write, both_move, both_done}
 use Rattle.py_model.specs.Dicts.{paired}
 use Rattle.py_model.specs.Effect.{parts_of}
 use Rattle.py_model.specs.Lists.{list_display, tuple_display, get_item, set_item, move_down, move_up, close_gap, del_item, append, extend_list, extend, insert_item, insert, pop_item, pop, seek, answer_place, index_method, turned, reverse_method, numbered, enumerate, list_builtin, tuple_builtin, zip_builtin, iter_of, iter}
@@ -34,32 +33,32 @@ module _ (may : Allowed) (r : Renaming) where
       read_value_alike may r o p (λ item. writes (done item)) (λ item. writes (done item)) (λ item. both_writes (both_done refl))))
 
   pub set_item_alike : (o : ℕ) (item : Contents) (i : ℤ) → AlikeBy may r (set_item o item i) (set_item (r.objects o) (renamed r item) i)
-  set_item_alike o item i = both_read_len (λ n. place_alike may r i n n _ _ refl (λ p. both_writes (both_write refl refl (both_done refl))))
+  set_item_alike o item i = both_read_len (λ n. place_alike may r i n n _ _ refl (λ p. both_writes (both_write tt refl refl (both_done refl))))
 
   -- moves
-  move_down_alike : (n o p : ℕ) (rest more : Writes) → AlikeWrites r rest more → AlikeWrites r (move_down n o p rest) (move_down n (r.objects o) p more)
+  move_down_alike : (n o p : ℕ) (rest more : Writes) → AlikePlainly r rest more → AlikePlainly r (move_down n o p rest) (move_down n (r.objects o) p more)
   move_down_alike zero o p rest more both = both
   move_down_alike (suc n) o p rest more both = both_move (move_down_alike n o (suc p) rest more both)
 
-  move_up_alike : (n o p : ℕ) (rest more : Writes) → AlikeWrites r rest more → AlikeWrites r (move_up n o p rest) (move_up n (r.objects o) p more)
+  move_up_alike : (n o p : ℕ) (rest more : Writes) → AlikePlainly r rest more → AlikePlainly r (move_up n o p rest) (move_up n (r.objects o) p more)
   move_up_alike zero o p rest more both = both
   move_up_alike (suc n) o p rest more both = both_move (move_up_alike n o (suc p) rest more both)
 
-  close_gap_alike : (o n p : ℕ) (answer : Contents) → AlikeWrites r (close_gap o n p answer) (close_gap (r.objects o) n p (renamed r answer))
-  close_gap_alike o n p answer = move_down_alike (n - suc p) o p _ _ (both_write refl refl (both_done refl))
+  close_gap_alike : (o n p : ℕ) (answer : Contents) → AlikePlainly r (close_gap o n p answer) (close_gap (r.objects o) n p (renamed r answer))
+  close_gap_alike o n p answer = move_down_alike (n - suc p) o p _ _ (both_write tt refl refl (both_done refl))
 
   pub del_item_alike : (o : ℕ) (i : ℤ) → AlikeBy may r (del_item o i) (del_item (r.objects o) i)
   del_item_alike o i = both_read_len (λ n. place_alike may r i n n _ _ refl (λ p. both_writes (close_gap_alike o n p nothing)))
 
   -- methods of lists
   pub append_alike : AlikeFor may r append
-  append_alike (object o ∷ (item ∷ [])) = both_kind (list_alike may r _ _ (both_read_len (λ n. both_writes (both_write refl refl (both_write refl refl (both_done refl))))))
+  append_alike (object o ∷ (item ∷ [])) = both_kind (list_alike may r _ _ (both_read_len (λ n. both_writes (both_write tt refl refl (both_write tt refl refl (both_done refl))))))
   append_alike (object o ∷ other) = wrong_number_alike may r
   append_alike other = wrong_kind_alike may r
 
   extend_list_alike : (o : ℕ) (other : Contents) → AlikeBy may r (extend_list o other) (extend_list (r.objects o) (renamed r other))
   extend_list_alike o other = if_walked_alike may r other _ _ (both_read_len (λ n. walk_alike may r other _ _ (λ items.
-      both_writes (set_items_alike r o n items _ _ (both_write refl (ap (λ m. len_is (n + m)) (length_renamed r items)) (both_done refl))))))
+      both_writes (set_items_alike r o n items _ _ (both_write tt refl (ap (λ m. len_is (n + m)) (length_renamed r items)) (both_done refl))))))
 
   pub extend_alike : AlikeFor may r extend
   extend_alike (object o ∷ (other ∷ [])) = both_kind (list_alike may r _ _ (extend_list_alike o other))
@@ -68,7 +67,7 @@ module _ (may : Allowed) (r : Renaming) where
 
   insert_item_alike : (o : ℕ) (item : Contents) (i : ℤ) → AlikeBy may r (insert_item o item i) (insert_item (r.objects o) (renamed r item) i)
   insert_item_alike o item i = both_read_len (λ n. both_writes (move_up_alike (n - clipped i n) o (clipped i n) _ _
-      (both_write refl refl (both_write refl refl (both_done refl)))))
+      (both_write tt refl refl (both_write tt refl refl (both_done refl)))))
 
   pub insert_alike : AlikeFor may r insert
   insert_alike (object o ∷ (index ∷ (item ∷ []))) = both_kind (list_alike may r _ _ (index_alike may r index _ _ (λ i. insert_item_alike o item i)))

@@ -4,8 +4,7 @@ use Rattle.std.specs.Str.{bytes_eq}
 use Rattle.py_value.specs.Contents.{Contents, nothing, exception_class, builtin, object}
 use Rattle.py_value.specs.Seen.{SeenKind, number_by, a_file, closed_at, closed_is}
 use Rattle.py_model.proofs.AlikeWalks.{wrong_kind_alike, fault_alike}
-use Rattle.py_model.proofs.AlikePlans.{Allowed, AlikeBy, both_read_var, both_read_closed, both_kind, both_writes}
-use Rattle.py_model.specs.Agreement.{both_write, both_done}
+use Rattle.py_model.proofs.AlikePlans.{Allowed, AlikeBy, both_read_var, both_read_closed, both_kind, both_writes, both_write, both_done}
 use Rattle.py_model.specs.Faults.{fault, value_error, wrong_kind}
 use Rattle.py_model.specs.Names.{builtin_names, class_names, unset_name, const, load_unset, load, give, bind, unset, unbind, begin_with, end_with}
 use Rattle.py_model.specs.Plan.{Plan, read_closed, write, done, writes}
@@ -19,7 +18,7 @@ module _ (may : Allowed) (r : Renaming) where
   give_alike v = both_writes (both_done refl)
 
   pub bind_alike : (scope : ℕ) (name : List ℕ) (v : Contents) → AlikeBy may r (bind scope name v) (bind (r.scopes scope) name (renamed r v))
-  bind_alike scope name v = both_writes (both_write refl refl (both_done refl))
+  bind_alike scope name v = both_writes (both_write tt refl refl (both_done refl))
 
   -- the activation of the module stays, and no other becomes it
   not_module : (n : ℕ) → r.scopes (suc n) ≡ 0 → ⊥
@@ -65,7 +64,7 @@ module _ (may : Allowed) (r : Renaming) where
       by_option (Some v) = both_writes (both_done refl)
 
   unset_alike : (scope : ℕ) (name : List ℕ) → AlikeBy may r (unset scope name) (unset (r.scopes scope) name)
-  unset_alike scope name = both_writes (both_write refl refl (both_done refl))
+  unset_alike scope name = both_writes (both_write tt refl refl (both_done refl))
 
   pub unbind_alike : (silent : Bool) (scope : ℕ) (name : List ℕ) → AlikeBy may r (unbind silent scope name) (unbind silent (r.scopes scope) name)
   unbind_alike true scope name = both_read_var (λ v. unset_alike scope name)
@@ -102,7 +101,7 @@ module _ (may : Allowed) (r : Renaming) where
   closed_with n other = wrong_kind
 
   closed_with_alike : (n : ℕ) (kind : Option SeenKind) → AlikeBy may r (closed_with n kind) (closed_with (r.objects n) (option_map (renamed_kind r) kind))
-  closed_with_alike n (Some (a_file path mode)) = both_writes (both_write refl refl (both_done refl))
+  closed_with_alike n (Some (a_file path mode)) = both_writes (both_write tt refl refl (both_done refl))
   closed_with_alike n other = wrong_kind_alike may r
 
   pub end_with_alike : (v : Contents) → AlikeBy may r (end_with v) (end_with (renamed r v))

@@ -7,8 +7,7 @@ use Rattle.py_value.specs.Contents.{Contents, Parts, nothing, truth, int, text, 
 use Rattle.py_value.specs.KeyOf.{key_fault, parts_fault}
 use Rattle.py_value.specs.Seen.{SeenKind, a_list, a_dict}
 use Rattle.py_model.proofs.AlikeWalks.{wrong_kind_alike, wrong_number_alike, not_there_alike, too_deep_alike, fault_alike}
-use Rattle.py_model.proofs.AlikePlans.{Allowed, AlikeBy, both_kind, both_count, both_writes}
-use Rattle.py_model.specs.Agreement.{both_done}
+use Rattle.py_model.proofs.AlikePlans.{Allowed, AlikeBy, both_kind, both_count, both_writes, both_done}
 use Rattle.py_model.specs.Dicts.{when_dict}
 use Rattle.py_model.specs.Faults.{not_there, too_deep, bad_index, out_of_range}
 use Rattle.py_model.specs.Keys.{no_key_of, with_key_of}

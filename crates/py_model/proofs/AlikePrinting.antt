@@ -6,8 +6,7 @@ use Rattle.py_value.specs.Seen.{SeenKind, a_list, a_dict, an_instance, a_file}
 use Rattle.py_model.proofs.AlikeClasses.{end_alike}
 use Rattle.py_model.proofs.AlikeOperands.{AlikeFor}
 use Rattle.py_model.proofs.AlikeWalks.{wrong_kind_alike, too_deep_alike, read_value_alike, same_object}
-use Rattle.py_model.proofs.AlikePlans.{Allowed, AlikeBy, both_read_len, both_read_entry, both_read_order, both_kind, both_name, both_look, both_count, both_print, both_writes, both_run_away}
-use Rattle.py_model.specs.Agreement.{both_done}
+use Rattle.py_model.proofs.AlikePlans.{Allowed, AlikeBy, both_read_len, both_read_entry, both_read_order, both_kind, both_name, both_look, both_count, both_print, both_writes, both_run_away, both_done}
 use Rattle.py_model.specs.Faults.{too_deep, key_error}
 use Rattle.py_model.specs.Raising.{read_args}
 use Rattle.py_model.specs.Plan.{Plan}

@@ -4,8 +4,7 @@ use Rattle.std.specs.Option.{option_or}
 use Rattle.py_value.specs.Contents.{Contents, Parts, nothing, truth, int, text, tuple, object, part}
 use Rattle.py_model.proofs.AlikeOperands.{AlikeFor, list_alike}
 use Rattle.py_model.proofs.AlikeWalks.{wrong_kind_alike, wrong_number_alike, too_deep_alike, items_renamed, length_renamed, walk_alike, set_items_alike, new_list_alike}
-use Rattle.py_model.proofs.AlikePlans.{Allowed, AlikeBy, both_kind, both_writes}
-use Rattle.py_model.specs.Agreement.{both_done}
+use Rattle.py_model.proofs.AlikePlans.{Allowed, AlikeBy, both_kind, both_writes, both_done}
 use Rattle.py_model.specs.Faults.{wrong_kind}
 use Rattle.py_model.specs.Lists.{sort_method, sorted_builtin}
 use Rattle.py_model.specs.Making.{set_items, new_list}

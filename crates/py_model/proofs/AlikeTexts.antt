@@ -4,8 +4,7 @@ use Rattle.py_value.specs.Contents.{Contents, text}
 use Rattle.py_model.proofs.AlikeComparing.{if_alike}
 use Rattle.py_model.proofs.AlikeOperands.{AlikeFor, of_one_alike, of_two_alike, number_alike, text_alike, gives_int_alike, gives_text_alike}
 use Rattle.py_model.proofs.AlikeWalks.{wrong_number_alike, not_there_alike, fault_alike, texts_stay, walk_alike, new_list_alike}
-use Rattle.py_model.proofs.AlikePlans.{Allowed, AlikeBy, both_count, both_writes}
-use Rattle.py_model.specs.Agreement.{both_done}
+use Rattle.py_model.proofs.AlikePlans.{Allowed, AlikeBy, both_count, both_writes, both_done}
 use Rattle.py_model.specs.Arithmetic.{chr_plan, int_plan, ord_plan}
 use Rattle.py_model.specs.Faults.{fault, value_error}
 use Rattle.py_model.specs.Making.{new_list}

@@ -4,8 +4,7 @@ use Rattle.std.proofs.lemmas.Bool.{false≢true}
 use Rattle.py_value.specs.Contents.{Contents, Parts, nothing, truth, int, text, tuple, range, function, class, exception_class, builtin, object, no_parts, part}
 use Rattle.py_value.specs.Same.{same_value, same_parts}
 use Rattle.py_value.specs.Seen.{SeenKind, a_list, a_dict, an_instance, a_file, len_is}
-use Rattle.py_model.proofs.AlikePlans.{Allowed, AlikeBy, both_read_len, both_read_item, both_read_order, both_kind, both_look, both_count, both_writes, both_make, both_raise}
-use Rattle.py_model.specs.Agreement.{AlikeWrites, both_write, both_done}
+use Rattle.py_model.proofs.AlikePlans.{Allowed, AlikeBy, both_read_len, both_read_item, both_read_order, both_kind, both_look, both_count, both_writes, both_make, both_raise, AlikePlainly, both_write, both_done}
 use Rattle.py_model.specs.Faults.{fault, wrong_kind, wrong_number, not_there, too_deep}
 use Rattle.py_model.specs.Making.{set_items, new_list}
 use Rattle.py_model.specs.Numbers.{range_count}
@@ -36,10 +35,10 @@ module _ (r : Renaming) where
   texts_stay [] = refl
   texts_stay (bytes ∷ texts) = ap (λ (items : List Contents). text bytes ∷ items) (texts_stay texts)
 
-  pub set_items_alike : (o i : ℕ) (items : List Contents) (rest more : Writes) → AlikeWrites r rest more
-      → AlikeWrites r (set_items o i items rest) (set_items (r.objects o) i (renamed_list r items) more)
+  pub set_items_alike : (o i : ℕ) (items : List Contents) (rest more : Writes) → AlikePlainly r rest more
+      → AlikePlainly r (set_items o i items rest) (set_items (r.objects o) i (renamed_list r items) more)
   set_items_alike o i [] rest more both = both
-  set_items_alike o i (item ∷ items) rest more both = both_write refl refl (set_items_alike o (suc i) items rest more both)
+  set_items_alike o i (item ∷ items) rest more both = both_write tt refl refl (set_items_alike o (suc i) items rest more both)
 
 module _ (may : Allowed) (r : Renaming) where
   -- the same exceptions, and what is answered
@@ -112,7 +111,7 @@ module _ (may : Allowed) (r : Renaming) where
 
   -- a list that is made
   pub new_list_alike : (items : List Contents) → AlikeBy may r (new_list items) (new_list (renamed_list r items))
-  new_list_alike items = both_make refl (λ o. both_write refl (ap len_is (length_renamed r items)) (set_items_alike r o 0 items _ _ (both_done refl)))
+  new_list_alike items = both_make refl (λ o. both_write tt refl (ap len_is (length_renamed r items)) (set_items_alike r o 0 items _ _ (both_done refl)))
 
 -- tests of equality of renamed values
 module _ (r : Renaming) where

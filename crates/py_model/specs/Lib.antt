@@ -24,6 +24,7 @@ pub mod Numbers
 pub mod Occurrences
 pub mod Operands
 pub mod Operations
+pub mod Orderly
 pub mod Places
 pub mod PlainGraph
 pub mod Plan

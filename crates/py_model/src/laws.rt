@@ -5,6 +5,7 @@ ghost use Rattle.py_model.specs.Effect.{Answers, Touch, Effect, effect, answered
 ghost use Rattle.py_model.specs.Agreement.{Alike, Agrees};
 ghost use Rattle.py_model.specs.AlikeOperations.{renamed_op};
 ghost use Rattle.py_model.specs.Operations.{Op, plan};
+ghost use Rattle.py_model.specs.Orderly.{IsOrderly};
 ghost use Rattle.py_model.specs.Plan.{Plan, Answer, raised};
 ghost use Rattle.py_model.specs.PlainGraph.{IsPlain, HasNames, IsPlainSetting};
 ghost use Rattle.py_model.specs.Quiet.{may_ask, IsQuiet};
@@ -126,6 +127,12 @@ pub fn few_operations_ask()
     ensures same { (store : RunStore) (answers others : Answers) (p : Plan) → IsQuiet p → effect store others p ≡ effect store answers p }
     ensures unnoted { (store : RunStore) (answers : Answers) (p : Plan) (at : Pos) (k : ℕ) (s : State) → IsQuiet p
         → note at k (effect store answers p).touches s ≡ s }
+{}
+
+/// The law of orderly writes: every operation writes entries and orders in few ways alone. It sets the entry that it has just read, and puts a
+/// new key behind the others; or takes an entry out with its key; or makes an object that begins with keys and their entries.
+pub fn operations_are_orderly()
+    ensures { (op : Op) (values : List Contents) → IsOrderly (plan op values) }
 {}
 
 /// The law of payment: an operation happens only where it answers, and where its cost is left. So one for which no budget pays never
