@@ -9,13 +9,13 @@ use Rattle.py_model.proofs.AlikeClasses.{derived_alike, end_alike, method_alike}
 use Rattle.py_model.proofs.AlikeComparing.{if_alike}
 use Rattle.py_model.proofs.AlikeOperands.{AlikeFor}
 use Rattle.py_model.proofs.AlikeWalks.{wrong_kind_alike, wrong_number_alike, not_there_alike, too_deep_alike, fault_alike}
-use Rattle.py_model.proofs.AlikePlans.{Allowed, AlikeBy, both_read_entry, both_kind, both_look, both_writes, both_make, both_raise, both_again, AlikeAfter, after_writes, both_begin, both_read_entry_and_write, both_write, both_note, both_done}
+use Rattle.py_model.proofs.AlikePlans.{Allowed, AlikeBy, both_read_entry, both_kind, both_look, both_writes, both_raise, both_again, AlikeAfter, after_writes, both_begin, both_read_entry_and_write, both_write, both_note, both_done}
 use Rattle.py_model.specs.Agreement as plans
 use Rattle.py_model.specs.Agreement.{AlikeWrites}
 use Rattle.py_model.specs.Classes.{object_is, value_is, isinstance, list_name, dict_name, end_of_chain, method_of_class, class_attribute, instance_attribute, operation, no_method_value, getattr_of_object, getattr, setattr_entry, setattr_of_object, setattr, method_found, find_of_object, find, instance_begun, make_of, make, is_class, is_kind, each_part, first_hit, answers_truth, define, define_method, class_begun, begin_class, import_module, is_module, sys_module, time_module, random_module, list_methods, dict_methods, text_methods, file_methods, time_methods, random_methods, args_key}
 use Rattle.py_model.specs.Effect.{parts_of}
 use Rattle.py_model.specs.Faults.{not_there, no_attribute, wrong_kind}
-use Rattle.py_model.specs.Orderly.{LastRead, entry_read, resets, inserts, BeginsWith}
+use Rattle.py_model.specs.Orderly.{entry_read, resets, inserts, BeginsWith}
 use Rattle.py_model.specs.Plan.{Plan, writes, done, raises, raises_again}
 use Rattle.py_model.specs.Raising.{raise_object, raise_class, raise, object_matches, value_matches, matches, assertion_failed, call_failed}
 use Rattle.py_model.specs.Renaming.{Renaming, renamed, renamed_parts, renamed_option, renamed_list, renamed_entry, renamed_kind}

@@ -8,13 +8,13 @@ use Rattle.py_model.proofs.Agreeing.{normal_renamed}
 use Rattle.py_model.proofs.AlikeLists.{paired_renamed}
 use Rattle.py_model.proofs.AlikeOperands.{AlikeFor, key_alike, dict_alike}
 use Rattle.py_model.proofs.AlikeWalks.{wrong_kind_alike, wrong_number_alike, new_list_alike, same_renamed}
-use Rattle.py_model.proofs.AlikePlans.{Allowed, AlikeBy, both_read_entry, both_read_order, both_kind, both_writes, both_make, both_raise, AlikeAfter, after_any, after_writes, both_begin, both_read_entry_and_write, both_done}
+use Rattle.py_model.proofs.AlikePlans.{Allowed, AlikeBy, both_read_entry, both_read_order, both_kind, both_writes, both_raise, AlikeAfter, after_any, after_writes, both_begin, both_read_entry_and_write, both_done}
 use Rattle.py_model.specs.Agreement as plans
 use Rattle.py_model.specs.Agreement.{AlikeWrites}
 use Rattle.py_model.specs.Dicts.{with_pair, set_entries, new_dict, with_pairs, dict_display, dict_builtin, get_entry, set_entry, del_entry, value_or, get_method, read_entries, paired, items_method, keys_method, values_method}
 use Rattle.py_model.specs.Keys.{lacks_key}
 use Rattle.py_model.specs.Making.{new_list}
-use Rattle.py_model.specs.Orderly.{LastRead, entry_read, resets, inserts, deletes, HasNoKey, HasKeysApart, BeginsWith}
+use Rattle.py_model.specs.Orderly.{entry_read, resets, inserts, deletes, HasNoKey, HasKeysApart}
 use Rattle.py_model.specs.Plan.{Plan, Writes, write, change, done, writes, read_entry}
 use Rattle.py_model.specs.Renaming.{Renaming, renamed, renamed_list, renamed_entry}
 

@@ -13,7 +13,8 @@
 //! stores that are plain (`specs/PlainGraph.antt`). A run begins with such a store; that it goes on so is not shown.
 //!
 //! [`operations_agree`] is the law that all an operation depends on is among what it reads and asks: `specs/Agreement.antt` says what
-//! has to correspond in two stores, `specs/Renaming.antt` under which renaming.
+//! has to correspond in two stores, `specs/Renaming.antt` under which renaming. [`operations_are_orderly`] says in which ways alone operations
+//! write entries and orders of keys (`specs/Orderly.antt`).
 #![tactic(auto)]
 
 mod doer;
