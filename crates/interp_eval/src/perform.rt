@@ -38,47 +38,31 @@ pub(crate) fn make_op<D: Doer>(
     ensures knew { Knew (D.fits doer.old) (D.fits doer.new) }
     ensures makes { MakesOp (script_of script.now) scope no want.entry (D.fits doer.new) (D.stands doer.old) (D.stands doer.new) result }
 {
-    let value = Value::None;
+    let plain = Op {
+        no,
+        scope: 0,
+        name: 0,
+        value: Value::None,
+    };
     match want {
-        Want::Plain => Ok(Op {
-            no,
-            scope: 0,
-            name: 0,
-            value,
-        }),
+        Want::Plain => Ok(plain),
         Want::Name(name) => {
             let name = doer.word(alloc, name.as_str())?;
-            Ok(Op {
-                no,
-                scope: 0,
-                name,
-                value,
-            })
+            Ok(Op { name, ..plain })
         }
         Want::Variable(name) => {
             let scope = activation_of(script, scope.function, scope.activation, name.as_str());
             let name = doer.word(alloc, name.as_str())?;
             Ok(Op {
-                no,
                 scope,
                 name,
-                value,
+                ..plain
             })
         }
-        Want::Value(value) => Ok(Op {
-            no,
-            scope: 0,
-            name: 0,
-            value,
-        }),
+        Want::Value(value) => Ok(Op { value, ..plain }),
         Want::Text(text) => {
-            let number = doer.word(alloc, text.as_str())?;
-            Ok(Op {
-                no,
-                scope: 0,
-                name: 0,
-                value: Value::Text(number),
-            })
+            let value = Value::Text(doer.word(alloc, text.as_str())?);
+            Ok(Op { value, ..plain })
         }
     }
 }
