@@ -1,12 +1,13 @@
 -- What operands are as plans.
-use Rattle.std.proofs.Common.{◌≡◌, refl, ap, ℕ, ℤ, pos, negsuc, ◌<◌, arith, le-leb, leb-true, w64, FitsSigned, Bool, true, false, Option, Some, None, List, [], ◌∷◌, map, length, slice_index_or, if◌then◌else◌}
+use Rattle.std.proofs.Common.{◌≡◌, refl, ap, ℕ, zero, suc, neg_ℤ, unsigned_abs, SomeIff, ℤ, pos, negsuc, ◌<◌, arith, le-leb, leb-true, w64, FitsSigned, Bool, true, false, Option, Some, None, List, [], ◌∷◌, map, length, slice_index_or, if◌then◌else◌}
 use Rattle.py_value.specs.Contents.{Contents, contents, int}
 use Rattle.py_value.specs.Values.{ValuesView, IsNamed, AreNamed}
 use Rattle.py_value.specs.declared.value.Value.{Value}
 use Rattle.py_value.specs.declared.value.Value.TheVariants.{None as NoneValue, Bool as TruthValue, Int, Text, Tuple, Range, Fn, Class, Exc, Builtin, Object}
 use Rattle.py_model.specs.Faults.{wrong_kind, wrong_number, out_of_range}
-use Rattle.py_model.specs.Numbers.{is_int}
+use Rattle.py_model.specs.Numbers.{is_int, absolute}
 use Rattle.py_model.specs.Operands.{with_number, of_one, of_two, gives, gives_int}
+use Rattle.py_model.specs.Operations.{of_none}
 use Rattle.py_model.specs.Plan.{Plan}
 use Rattle.op_work.proofs.Tuples.{some_tuple}
 use Rattle.op_numbers.specs.Numbers.{number_of_value}
@@ -88,3 +89,22 @@ int_gives i fits = by_test (is_int i) (gives (int i)) out_of_range (int_fits i f
 
 pub int_out : (i : ℤ) → (FitsSigned w64 i → ⊥) → gives_int i ≡ out_of_range
 int_out i out = by_other (is_int i) (gives (int i)) out_of_range (λ is. out (fits_int i is))
+
+-- the number without its sign
+pub absolute_found : (i : ℤ) (found : Option ℤ) → FitsSigned w64 i → SomeIff found (FitsSigned w64 (neg_ℤ i)) (pos (unsigned_abs i))
+    → SomeIff found (FitsSigned w64 (absolute i)) (absolute i)
+absolute_found (pos n) (Some x) fits is = (fits, is.1)
+absolute_found (pos zero) None fits is = absurd (is fits)
+absolute_found (pos (suc n)) None fits is = absurd (is (omega (arith, fits)))
+absolute_found (negsuc n) (Some x) fits is = is
+absolute_found (negsuc n) None fits is = is
+
+-- no operands, or some
+module _ (go : Plan) (f : Value → Contents) where
+  pub none_is : (operands : List Value) → length operands ≡ 0 → of_none go (map f operands) ≡ go
+  none_is [] is = refl
+  none_is (v ∷ more) is = absurd (omega (arith, is))
+
+  pub not_none : (operands : List Value) → (length operands ≡ 0 → ⊥) → of_none go (map f operands) ≡ wrong_number
+  not_none [] other = absurd (other refl)
+  not_none (v ∷ more) other = refl

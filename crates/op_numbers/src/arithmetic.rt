@@ -1,7 +1,7 @@
 // Arithmetic of numbers.
 ghost use Rattle.std.specs.Prelude.{◌≡◌, None, map};
 ghost use Rattle.op_work.specs.Work.{Ends};
-ghost use Rattle.py_model.specs.Arithmetic.{neg_plan, sub_plan};
+ghost use Rattle.py_model.specs.Arithmetic.{neg_plan, pos_plan, sub_plan, abs_plan};
 ghost use Rattle.py_value.specs.Contents.{contents};
 ghost use Rattle.py_value.specs.Values.{AreNamed};
 
@@ -11,7 +11,7 @@ use py_model::Answer;
 use py_value::Value;
 use std::alloc::Global;
 
-/// `-a`.
+/// `-a` of a number.
 pub fn neg(work: &mut Work, alloc: Global, operands: &[Value]) -> Result<Answer, Stop>
     requires named { AreNamed work.old.values operands.now }
     requires fresh { work.old.made ≡ None }
@@ -21,7 +21,27 @@ pub fn neg(work: &mut Work, alloc: Global, operands: &[Value]) -> Result<Answer,
     int_answer(work, alloc, i.checked_neg())
 }
 
-/// `a - b`.
+/// `+a` of a number.
+pub fn pos(work: &mut Work, alloc: Global, operands: &[Value]) -> Result<Answer, Stop>
+    requires named { AreNamed work.old.values operands.now }
+    requires fresh { work.old.made ≡ None }
+    ensures { Ends (λ table. pos_plan (map (contents table) operands.now)) work.old work.new result }
+{
+    let i = one_number(work, alloc, operands)?;
+    int_answer(work, alloc, Some(i))
+}
+
+/// `abs` of a number: without its sign.
+pub fn abs(work: &mut Work, alloc: Global, operands: &[Value]) -> Result<Answer, Stop>
+    requires named { AreNamed work.old.values operands.now }
+    requires fresh { work.old.made ≡ None }
+    ensures { Ends (λ table. abs_plan (map (contents table) operands.now)) work.old work.new result }
+{
+    let i = one_number(work, alloc, operands)?;
+    int_answer(work, alloc, i.checked_abs())
+}
+
+/// `a - b` of numbers.
 pub fn sub(work: &mut Work, alloc: Global, operands: &[Value]) -> Result<Answer, Stop>
     requires named { AreNamed work.old.values operands.now }
     requires fresh { work.old.made ≡ None }
