@@ -1,2 +1,6 @@
 pub mod Division
+pub mod EndsAlike
+pub mod IdentityPlans
 pub mod NumberPlans
+pub mod RangePlans
+pub mod TruthPlans

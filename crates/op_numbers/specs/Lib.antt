@@ -1,1 +1,3 @@
+pub mod Identity
 pub mod Numbers
+pub mod RangeBounds
