@@ -5,7 +5,7 @@ use Rattle.py_model.specs.Plan.{Plan}
 use Rattle.py_value.specs.Contents.{Parts, contents, tuple}
 use Rattle.py_value.specs.Values.{ValuesView}
 use Rattle.py_value.specs.declared.value.Value.{Value}
-use Rattle.py_value.specs.declared.value.Value.TheVariants.{None as NoneValue, Bool as TruthValue, Int, Text, Tuple, Range, Fn, Class, Exc, Builtin, Object}
+use Rattle.py_value.specs.declared.value.Value.TheVariants.{Tuple}
 use Rattle.op_work.proofs.Tuples.{some_tuple}
 use Rattle.op_numbers.specs.Identity.{identity_of, or_not_there}
 

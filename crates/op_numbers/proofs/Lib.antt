@@ -1,3 +1,4 @@
+pub mod CharacterPlans
 pub mod Division
 pub mod EndsAlike
 pub mod IdentityPlans

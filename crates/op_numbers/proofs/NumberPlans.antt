@@ -1,5 +1,5 @@
 -- What operands are as plans.
-use Rattle.std.proofs.Common.{◌≡◌, refl, ap, ℕ, zero, suc, neg_ℤ, unsigned_abs, SomeIff, ℤ, pos, negsuc, ◌<◌, arith, le-leb, leb-true, w64, FitsSigned, Bool, true, false, Option, Some, None, List, [], ◌∷◌, map, length, slice_index_or, if◌then◌else◌}
+use Rattle.std.proofs.Common.{◌≡◌, refl, ap, zero, suc, neg_ℤ, unsigned_abs, SomeIff, ℤ, pos, negsuc, arith, le-leb, leb-true, w64, FitsSigned, Bool, true, false, Option, Some, None, List, [], ◌∷◌, map, length, slice_index_or, if◌then◌else◌}
 use Rattle.py_value.specs.Contents.{Contents, contents, int}
 use Rattle.py_value.specs.Values.{ValuesView, IsNamed, AreNamed}
 use Rattle.py_value.specs.declared.value.Value.{Value}

@@ -1,5 +1,5 @@
 -- Truth values as plans.
-use Rattle.std.proofs.Common.{◌≡◌, refl, ap, ◌∙◌, ℕ, suc, Bool, true, not, ◌==◌, length, List, [], ◌∷◌, Option, Some}
+use Rattle.std.proofs.Common.{◌≡◌, refl, ap, ℕ, suc, Bool, true, not, ◌==◌, length, List, [], ◌∷◌, Option, Some}
 use Rattle.py_model.specs.Plan.{Plan, read_len, read_order}
 use Rattle.py_model.specs.Walks.{items_of}
 use Rattle.py_value.specs.Contents.{Contents, parts_by}

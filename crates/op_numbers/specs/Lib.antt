@@ -1,3 +1,4 @@
+pub mod Characters
 pub mod Identity
 pub mod Numbers
 pub mod RangeBounds

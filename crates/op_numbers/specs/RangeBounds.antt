@@ -3,7 +3,7 @@ use Rattle.std.specs.Prelude.{ℤ, pos, List, [], ◌∷◌, Option, Some, None}
 use Rattle.py_model.specs.Faults.{wrong_number}
 use Rattle.py_model.specs.Operands.{with_number, with_numbers}
 use Rattle.py_model.specs.Plan.{Plan}
-use Rattle.py_value.specs.Contents.{Contents, contents}
+use Rattle.py_value.specs.Contents.{contents}
 use Rattle.py_value.specs.Values.{ValuesView}
 use Rattle.py_value.specs.declared.value.Value.{Value}
 use Rattle.py_value.specs.declared.value.Value.TheVariants.{Int}

@@ -3,6 +3,7 @@
 
 mod answers;
 mod arithmetic;
+mod characters;
 mod divisions;
 mod identities;
 mod operands;
@@ -12,6 +13,7 @@ mod truths;
 
 pub use answers::{int_answer, truth_answer, value_answer};
 pub use arithmetic::{abs, neg, pos, sub};
+pub use characters::{chr, ord, text_number};
 pub use divisions::{floor_div, remainder};
 pub use identities::{is, is_not};
 pub use operands::{number, one, one_number, two, two_numbers};

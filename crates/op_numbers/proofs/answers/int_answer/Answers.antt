@@ -1,9 +1,6 @@
-use Rattle.std.proofs.Common.{rules, ◌≡◌, ◌∙◌, refl, sym, ap, subst, ℤ, w64, to_z, of_z, Ok, FitsSigned, SomeIff}
-use Rattle.op_work.specs.Work.{Ends}
+use Rattle.std.proofs.Common.{rules, ◌≡◌, ◌∙◌, sym, ap, subst, w64, to_z, of_z, FitsSigned, SomeIff}
 use Rattle.py_model.specs.Operands.{gives, gives_int}
 use Rattle.py_value.specs.Contents.{int}
-use Rattle.py_model.specs.declared.moment.Answer.TheVariants.{Value as ValueAnswer}
-use Rattle.py_value.specs.declared.value.Value.TheVariants.{Int}
 use Rattle.op_work.proofs.Ending.{ends_gives, ends_fault}
 use Rattle.op_numbers.proofs.NumberPlans.{int_gives, int_out}
 use Rattle.op_numbers.proofs.answers.int_answer.Goals as goal

@@ -1,4 +1,4 @@
-use Rattle.std.proofs.Common.{rules, ◌≡◌, refl, subst, map, ℤ, neg_ℤ, ◌-ℤ◌, ◌*ℤ◌, ◌+ℤ◌, w64, to_z, of_z, SomeIff, FitsSigned}
+use Rattle.std.proofs.Common.{rules, ◌≡◌, refl, subst, map, ℤ, ◌-ℤ◌, w64, to_z, of_z, SomeIff, FitsSigned}
 use Rattle.op_work.specs.Work.{Ends}
 use Rattle.py_model.specs.Arithmetic.{sub_plan}
 use Rattle.py_model.specs.Operands.{gives_int}

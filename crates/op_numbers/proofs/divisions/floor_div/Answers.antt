@@ -1,4 +1,4 @@
-use Rattle.std.proofs.Common.{rules, ◌≡◌, ◌∙◌, refl, sym, ap, subst, map, ℤ, pos, w64, to_z, of_z, SomeIff, FitsSigned, Some, if◌then◌else◌, codes}
+use Rattle.std.proofs.Common.{rules, ◌≡◌, ◌∙◌, refl, sym, ap, subst, map, ℤ, pos, w64, to_z, of_z, SomeIff, FitsSigned, if◌then◌else◌, codes}
 use Rattle.std.specs.Ordering.{int_eq}
 use Rattle.op_work.specs.Work.{Ends}
 use Rattle.py_model.specs.Arithmetic.{floor_div_plan}

@@ -1,5 +1,4 @@
-use Rattle.std.proofs.Common.{rules, arith, ◌≡◌, ◌<ℤ◌, pos}
-use Rattle.std.proofs.lemmas.Int.{ints}
+use Rattle.std.proofs.Common.{rules, ◌<ℤ◌, pos}
 use Rattle.op_numbers.proofs.Division.{above_below}
 use Rattle.op_numbers.proofs.divisions.floor_remainder.Goals as goal
 

@@ -1,4 +1,4 @@
-use Rattle.std.proofs.Common.{◌≡◌, ◌∙◌, sym, ap}
+use Rattle.std.proofs.Common.{◌∙◌, sym, ap}
 use Rattle.py_model.specs.Arithmetic.{identical}
 use Rattle.py_value.specs.Contents.{contents}
 use Rattle.op_work.proofs.Going.{fault_comes, at_once}

@@ -1,4 +1,4 @@
-use Rattle.std.proofs.Common.{◌≡◌, ◌∙◌, sym, map, Bool, true, false}
+use Rattle.std.proofs.Common.{map}
 use Rattle.py_model.specs.Operands.{of_one}
 use Rattle.py_model.specs.Plan.{Plan}
 use Rattle.py_value.specs.Contents.{Contents, contents}

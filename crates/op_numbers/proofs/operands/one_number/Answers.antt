@@ -1,4 +1,4 @@
-use Rattle.std.proofs.Common.{◌≡◌, refl, map}
+use Rattle.std.proofs.Common.{refl, map}
 use Rattle.op_numbers.specs.Numbers.{of_number}
 use Rattle.op_work.specs.Work.{Comes, is_any, as_is}
 use Rattle.py_model.specs.Operands.{with_number}

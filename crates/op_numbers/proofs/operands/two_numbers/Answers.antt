@@ -1,4 +1,4 @@
-use Rattle.std.proofs.Common.{rules, ◌≡◌, refl, sym, subst, map, ℤ, w64, to_z, of_z, Ok, Err}
+use Rattle.std.proofs.Common.{rules, ◌≡◌, refl, sym, subst, map, ℤ, w64, to_z, of_z, Ok}
 use Rattle.op_numbers.specs.Numbers.{of_numbers}
 use Rattle.op_work.specs.Work.{Comes, is_any, as_is}
 use Rattle.py_model.specs.Operands.{with_number, with_numbers}

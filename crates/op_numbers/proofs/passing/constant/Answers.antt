@@ -1,4 +1,4 @@
-use Rattle.std.proofs.Common.{◌≡◌, ◌∙◌, refl, map}
+use Rattle.std.proofs.Common.{map}
 use Rattle.py_model.specs.Names.{const}
 use Rattle.py_model.specs.Operations.{of_none}
 use Rattle.py_value.specs.Contents.{contents}

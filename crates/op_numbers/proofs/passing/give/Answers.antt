@@ -1,4 +1,4 @@
-use Rattle.std.proofs.Common.{◌≡◌, refl, map}
+use Rattle.std.proofs.Common.{refl, map}
 use Rattle.op_work.specs.Work.{Ends}
 use Rattle.py_model.specs.Names.{give}
 use Rattle.py_model.specs.Operands.{of_one}

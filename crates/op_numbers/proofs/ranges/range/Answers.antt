@@ -5,7 +5,7 @@ use Rattle.py_model.specs.Operands.{with_number}
 use Rattle.py_value.specs.Contents.{contents}
 use Rattle.op_work.proofs.Ending.{ends_then, ends_stop, ends_fault}
 use Rattle.op_work.proofs.Going.{passes_err}
-use Rattle.op_numbers.specs.RangeBounds.{bounds_of, of_bounds}
+use Rattle.op_numbers.specs.RangeBounds.{of_bounds}
 use Rattle.op_numbers.proofs.EndsAlike.{ends_as}
 use Rattle.op_numbers.proofs.RangePlans.{bounds_plan}
 use Rattle.op_numbers.proofs.ranges.range.Goals as goal

@@ -1,8 +1,5 @@
-use Rattle.std.proofs.Common.{rules, ◌≡◌, ◌∙◌, sym, ap, ℤ, pos, w64, to_z, of_z, if◌then◌else◌}
-use Rattle.std.specs.Ordering.{int_eq}
-use Rattle.py_model.specs.Arithmetic.{a_range, empty_or_zero}
-use Rattle.py_model.specs.Operands.{gives}
-use Rattle.py_value.specs.Contents.{range}
+use Rattle.std.proofs.Common.{rules, ◌≡◌, ◌∙◌, sym, ap, ℤ, w64, to_z, of_z}
+use Rattle.py_model.specs.Arithmetic.{a_range}
 use Rattle.op_work.proofs.Ending.{ends_fault}
 use Rattle.op_numbers.proofs.ranges.range_answer.Goals as goal
 

@@ -1,4 +1,4 @@
-use Rattle.std.proofs.Common.{◌≡◌, refl, sym, ap, subst, ◌∙◌, not, ◌==◌, length, map, Some, None, Ok, Err}
+use Rattle.std.proofs.Common.{refl, sym, ap, subst, ◌∙◌, not, ◌==◌, length, Some, None, Ok}
 use Rattle.std.proofs.lemmas.List.{length-map}
 use Rattle.object_store.specs.Store.{keys_at}
 use Rattle.op_work.specs.Work.{Comes, seen_kind, is_any, as_is}
@@ -6,7 +6,7 @@ use Rattle.py_model.specs.Arithmetic.{truth_of}
 use Rattle.py_model.specs.Plan.{kind_of}
 use Rattle.py_value.specs.Contents.{contents, object}
 use Rattle.py_value.specs.Named.{IsNamedKind}
-use Rattle.py_value.specs.declared.access.Kind.TheVariants.{List as ListKind, Dict as DictKind, Instance, File as FileKind}
+use Rattle.py_value.specs.declared.access.Kind.TheVariants.{Instance, File as FileKind}
 use Rattle.op_work.proofs.Going.{comes_then, comes_stop, comes_as, at_once, passes_err}
 use Rattle.op_numbers.proofs.TruthPlans.{by_kind}
 use Rattle.op_numbers.proofs.truths.object_truth.Goals as goal

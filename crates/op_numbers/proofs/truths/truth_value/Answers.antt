@@ -1,4 +1,4 @@
-use Rattle.std.proofs.Common.{◌≡◌, ◌∙◌, refl, sym, ap, subst, not, ◌==◌, length}
+use Rattle.std.proofs.Common.{◌∙◌, sym, ap, subst, not, ◌==◌}
 use Rattle.op_work.specs.Work.{Comes, is_any, as_is}
 use Rattle.py_model.specs.Arithmetic.{truth_of}
 use Rattle.py_value.specs.Contents.{contents}
