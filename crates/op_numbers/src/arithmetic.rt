@@ -1,11 +1,12 @@
 // Arithmetic of numbers.
-ghost use Rattle.std.specs.Prelude.{◌≡◌, None, map};
+ghost use Rattle.std.specs.Prelude.{◌≡◌, None, map, ◌+ℤ◌};
 ghost use Rattle.op_work.specs.Work.{Ends};
 ghost use Rattle.py_model.specs.Arithmetic.{neg_plan, pos_plan, sub_plan, abs_plan};
+ghost use Rattle.py_model.specs.Operands.{with_numbers, gives_int};
 ghost use Rattle.py_value.specs.Contents.{contents};
 ghost use Rattle.py_value.specs.Values.{AreNamed};
 
-use crate::{int_answer, one_number, two_numbers};
+use crate::{int_answer, number, one_number, two_numbers};
 use op_work::{Stop, Work};
 use py_model::Answer;
 use py_value::Value;
@@ -49,4 +50,14 @@ pub fn sub(work: &mut Work, alloc: Global, operands: &[Value]) -> Result<Answer,
 {
     let (i, j) = two_numbers(work, alloc, operands)?;
     int_answer(work, alloc, i.checked_sub(j))
+}
+
+/// `a + b` of numbers.
+pub fn add_numbers(work: &mut Work, alloc: Global, v: Value, w: Value) -> Result<Answer, Stop>
+    requires fresh { work.old.made ≡ None }
+    ensures { Ends (λ table. with_numbers (contents table v) (contents table w) (λ i j. gives_int (i +ℤ j))) work.old work.new result }
+{
+    let i = number(work, alloc, v)?;
+    let j = number(work, alloc, w)?;
+    int_answer(work, alloc, i.checked_add(j))
 }

@@ -1,4 +1,9 @@
-//! Operations on numbers, and those that need no walk of objects.
+//! Operations on numbers, and those that need no walk of objects. Each is one function, whose clause is that it ends as its plan says.
+//!
+//! There are, with their numbers: const 0 ([`constant`]), give 2, truth 3 and bool 51 ([`truth`]), not 4, neg 5, pos 6, sub 8,
+//! floordiv 10 ([`floor_div`]), mod 11 ([`remainder`]), is 20, is-not 21, abs 50, chr 52, ord 63 and range 65.
+//!
+//! Of add 7 there is what it does with all but two texts, tuples or objects ([`add_numbers`]). There are not yet mul 9 and int 56.
 #![tactic(auto)]
 
 mod answers;
@@ -12,7 +17,7 @@ mod ranges;
 mod truths;
 
 pub use answers::{int_answer, truth_answer, value_answer};
-pub use arithmetic::{abs, neg, pos, sub};
+pub use arithmetic::{abs, add_numbers, neg, pos, sub};
 pub use characters::{chr, ord, text_number};
 pub use divisions::{floor_div, remainder};
 pub use identities::{is, is_not};
