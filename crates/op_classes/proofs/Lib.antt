@@ -1,0 +1,3 @@
+pub mod EndsSame
+pub mod NamedTexts
+pub mod Variables
