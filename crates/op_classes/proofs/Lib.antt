@@ -1,3 +1,5 @@
 pub mod EndsSame
+pub mod FailedCalls
 pub mod NamedTexts
 pub mod Variables
+pub mod WithFiles
