@@ -1,5 +1,10 @@
+pub mod ClassWalks
+pub mod Deriving
 pub mod EndsSame
 pub mod FailedCalls
 pub mod NamedTexts
+pub mod OtherWalks
+pub mod Passes
 pub mod Variables
+pub mod Walking
 pub mod WithFiles

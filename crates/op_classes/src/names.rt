@@ -1,6 +1,7 @@
 // Reads and writes of variables.
 ghost use Rattle.std.specs.Prelude.{◌≡◌, ◌<◌, length, None, Err};
 ghost use Rattle.op_work.specs.Work.{Ends};
+ghost use Rattle.py_model.specs.Classes.{import_module as plan_import};
 ghost use Rattle.py_model.specs.Names.{load as plan_load, load_unset as plan_load_unset, bind as plan_bind, unbind as plan_unbind, unset as plan_clear, unset_name as plan_no_name};
 ghost use Rattle.py_value.specs.Contents.{contents};
 ghost use Rattle.py_value.specs.Seen.{bytes_of};
@@ -73,6 +74,16 @@ pub fn bind(work: &mut Work, scope: u32, name: u32, v: Value) -> Result<Answer, 
 {
     work.set(Location::Var(scope, name), Content::Var(Some(v)))?;
     Ok(Answer::Value(Value::None))
+}
+
+/// Imports a module (operation 44): a variable of an activation, or of the module, is set to it.
+pub fn import_module(work: &mut Work, scope: u32, name: u32, v: Value) -> Result<Answer, Stop>
+    requires first { work.old.made ≡ None }
+    requires name { name < length work.old.values.texts }
+    requires value { IsNamed work.old.values v }
+    ensures { Ends (λ table. plan_import scope (bytes_of table name) (contents table v)) work.old work.new result }
+{
+    bind(work, scope, name, v)
 }
 
 // A variable is unset.
