@@ -2,6 +2,7 @@ pub mod ClassWalks
 pub mod Deriving
 pub mod EndsSame
 pub mod FailedCalls
+pub mod Matches
 pub mod NamedTexts
 pub mod OtherWalks
 pub mod Passes

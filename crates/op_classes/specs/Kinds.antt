@@ -2,7 +2,7 @@
 use Rattle.std.specs.Prelude.{ℕ, zero, suc, pos, Bool, true, false, Option, Some, None}
 use Rattle.prov_base.specs.declared.place.Pos.{Pos}
 use Rattle.py_value.specs.declared.access.Kind.{Kind}
-use Rattle.py_value.specs.declared.access.Kind.TheVariants.{File}
+use Rattle.py_value.specs.declared.access.Kind.TheVariants.{File, Instance}
 use Rattle.py_value.specs.declared.value.Value.{Value}
 use Rattle.py_value.specs.declared.value.Value.TheVariants.{Int, Class, Object}
 
@@ -22,3 +22,7 @@ failed_call other = 2
 abbrev pub is_file_kind : Option Kind → Bool
 is_file_kind (Some (File path mode)) = true
 is_file_kind other = false
+
+abbrev pub instance_of : Option Kind → Option Value
+instance_of (Some (Instance of)) = Some of
+instance_of other = None

@@ -1,6 +1,6 @@
 // What values are.
 ghost use Rattle.std.specs.Prelude.{◌≡◌};
-ghost use Rattle.op_classes.specs.Kinds.{object_in, class_in, failed_call, is_file_kind};
+ghost use Rattle.op_classes.specs.Kinds.{object_in, class_in, failed_call, is_file_kind, instance_of};
 
 use prov_base::Pos;
 use py_value::{Kind, Value};
@@ -41,4 +41,14 @@ pub fn is_file(kind: Option<Kind>) -> bool
     ensures { result ≡ is_file_kind kind }
 {
     matches!(kind, Some(Kind::File(_, _)))
+}
+
+/// The class of an object that is an instance.
+pub fn class_of_instance(kind: Option<Kind>) -> Option<Value>
+    ensures { result ≡ instance_of kind }
+{
+    match kind {
+        Some(Kind::Instance(of)) => Some(of),
+        _ => None,
+    }
 }
