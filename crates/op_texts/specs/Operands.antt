@@ -2,6 +2,7 @@
 use Rattle.std.specs.Prelude.{ℕ, ◌<◌, List, [], ◌∷◌, length, Option, Some, None}
 use Rattle.py_model.specs.Operands.{with_text, of_one, of_two}
 use Rattle.py_model.specs.Plan.{Plan}
+use Rattle.py_model.specs.TextMethods.{searched}
 use Rattle.py_value.specs.Contents.{Contents}
 use Rattle.py_value.specs.Seen.{bytes_of}
 use Rattle.py_value.specs.Values.{ValuesView}
@@ -38,3 +39,7 @@ with_one_text operands go = of_one (λ v. with_text v go) operands
 
 abbrev pub with_two_texts : List Contents → (List ℕ × List ℕ → Plan) → Plan
 with_two_texts operands go = of_two (λ v w. with_text v (λ bytes. with_text w (λ other. go (bytes, other)))) operands
+
+-- the text that is the only operand, whose characters count first
+abbrev pub with_one_searched : List Contents → (List ℕ → Plan) → Plan
+with_one_searched operands go = of_one (λ v. with_text v (λ bytes. searched bytes (go bytes))) operands

@@ -24,14 +24,21 @@ fn begun(bytes: &[u8]) -> u64
     n
 }
 
+/// How many characters bytes have.
+pub fn size_of(bytes: &[u8]) -> u64
+    ensures count { result ≡ text_size bytes.now }
+    ensures few { result ≤ length bytes.now }
+{
+    if bytes.is_empty() {
+        return 0;
+    }
+    begun(&bytes[1..]) + 1
+}
+
 /// How many characters a text has.
 pub fn size(text: &str) -> u64
     ensures count { result ≡ text_size text.now }
     ensures few { result ≤ length text.now }
 {
-    let bytes = text.as_bytes();
-    if bytes.is_empty() {
-        return 0;
-    }
-    begun(&bytes[1..]) + 1
+    size_of(text.as_bytes())
 }

@@ -1,12 +1,13 @@
 // Searches in texts.
-ghost use Rattle.std.specs.Prelude.{◌≡◌, map, None};
+ghost use Rattle.std.specs.Prelude.{◌≡◌, ◌≤◌, map, length, None, IfSome};
 ghost use Rattle.op_work.specs.Work.{Ends};
-ghost use Rattle.py_model.specs.TextMethods.{startswith_plan, endswith_plan, isdigit_plan};
-ghost use Rattle.py_model.specs.Texts.{begins_with as text_begins, ends_with as text_ends, is_digit as byte_is_digit, all_digits as text_all_digits, are_digits as text_are_digits};
+ghost use Rattle.py_model.specs.TextMethods.{startswith_plan, endswith_plan, isdigit_plan, find_plan};
+ghost use Rattle.py_model.specs.Texts.{begins_with as text_begins, ends_with as text_ends, is_digit as byte_is_digit, all_digits as text_all_digits, are_digits as text_are_digits, place_of as text_place_of};
 ghost use Rattle.py_value.specs.Contents.{contents};
 ghost use Rattle.py_value.specs.Values.{AreNamed};
 
 use crate::answers::searched;
+use crate::characters::size_of;
 use crate::operands::{one_text, two_texts};
 use op_work::{Stop, Work};
 use py_model::Answer;
@@ -92,4 +93,39 @@ pub fn isdigit(work: &mut Work, alloc: Global, operands: &[Value]) -> Result<Ans
     let text = one_text(work, alloc, operands)?;
     let is = all_digits(work.text_of(text).as_bytes());
     Ok(Answer::Value(Value::Bool(is)))
+}
+
+// How many bytes stand before others, where these stand first.
+fn place_of(bytes: &[u8], sought: &[u8]) -> Option<usize>
+    ensures place { result ≡ text_place_of bytes.now sought.now }
+    ensures within { IfSome result (λ n. n ≤ length bytes.now) }
+{
+    for at in 0..bytes.len() {
+        if begins_with(&bytes[at..], sought) {
+            return Some(at);
+        }
+    }
+    if sought.is_empty() {
+        Some(bytes.len())
+    } else {
+        None
+    }
+}
+
+/// `find` (97): how many characters stand before the first place where a text stands in the text, or -1.
+pub fn find(work: &mut Work, alloc: Global, operands: &[Value]) -> Result<Answer, Stop>
+    requires named { AreNamed work.old.values operands.now }
+    requires fresh { work.old.made ≡ None }
+    ensures { Ends (λ table. find_plan (map (contents table) operands.now)) work.old work.new result }
+{
+    let (text, sought) = two_texts(work, alloc, operands)?;
+    searched(work, text)?;
+    let bytes = work.text_of(text).as_bytes();
+    let Some(n) = place_of(bytes, work.text_of(sought).as_bytes()) else {
+        return Ok(Answer::Value(Value::Int(-1)));
+    };
+    let Ok(before) = i64::try_from(size_of(&bytes[..n])) else {
+        return Err(Stop::Memory);
+    };
+    Ok(Answer::Value(Value::Int(before)))
 }
