@@ -1,16 +1,16 @@
 -- What operands are as plans.
-use Rattle.std.proofs.Common.{◌≡◌, refl, sym, ap, subst, ◌∙◌, arith, ℕ, zero, suc, ◌<◌, ◌≤◌, length, List, [], ◌∷◌, map, Option, Some, None, slice_get, unwrap_or}
+use Rattle.std.proofs.Common.{◌≡◌, refl, sym, ap, subst, ◌∙◌, arith, ℕ, ℤ, true, false, zero, suc, ◌<◌, ◌≤◌, length, List, [], ◌∷◌, map, Option, Some, None, slice_get, unwrap_or}
 use Rattle.py_value.specs.Contents.{Contents, contents}
 use Rattle.py_value.specs.Seen.{bytes_of}
 use Rattle.py_value.specs.Values.{ValuesView, IsNamed, AreNamed}
 use Rattle.py_value.specs.declared.value.Value.{Value}
 use Rattle.py_value.specs.declared.value.Value.TheVariants.{None as NoneValue, Bool as TruthValue, Int, Text, Tuple, Range, Fn, Class, Exc, Builtin, Object}
 use Rattle.py_model.specs.Faults.{wrong_kind, wrong_number}
-use Rattle.py_model.specs.Operands.{with_text, of_one, of_two}
+use Rattle.py_model.specs.Operands.{with_text, with_number, of_one, of_two}
 use Rattle.py_model.specs.Plan.{Plan}
 use Rattle.op_work.proofs.Tuples.{some_tuple}
 use Rattle.op_work.specs.Work.{Extends}
-use Rattle.op_texts.specs.Operands.{one_value, two_values, text_of_value, with_two_texts}
+use Rattle.op_texts.specs.Operands.{one_value, two_values, text_of_value, number_of_value, with_two_texts, with_text_number}
 
 module _ (old new : ValuesView) (extends : Extends old new) where
   pub named_stays : (v : Value) → IsNamed old v → IsNamed new v
@@ -108,3 +108,28 @@ two_are_named values operands v w is named = subst (AreTwoNamed values) is (two_
 -- a text that has a number has these bytes in each table that goes on
 pub bytes_stay : (old table : ValuesView) (id : ℕ) (bytes : List ℕ) → slice_get old.texts id ≡ Some bytes → Extends old table → bytes_of table id ≡ bytes
 bytes_stay old table id bytes is extends = ap (λ found. unwrap_or found []) (extends.texts id bytes is)
+
+-- a number, or another kind of value
+abbrev pub number_or_wrong : Option ℤ → (ℤ → Plan) → Plan
+number_or_wrong (Some i) go = go i
+number_or_wrong None go = wrong_kind
+
+pub number_is : (table : ValuesView) (v : Value) (go : ℤ → Plan) → with_number (contents table v) go ≡ number_or_wrong (number_of_value v) go
+number_is table NoneValue go = refl
+number_is table (TruthValue true) go = refl
+number_is table (TruthValue false) go = refl
+number_is table (Int i) go = refl
+number_is table (Text id) go = refl
+number_is table (Tuple id) go = ap (λ c. with_number c go) (some_tuple table id).1
+number_is table (Range a b c) go = refl
+number_is table (Fn place) go = refl
+number_is table (Class place) go = refl
+number_is table (Exc number) go = refl
+number_is table (Builtin number) go = refl
+number_is table (Object o) go = refl
+
+-- both operands as a text and a number
+pub text_number_are : (table : ValuesView) (operands : List Value) (v w : Value) (go : List ℕ × ℤ → Plan) → ◌≡◌ {A = Option (Value × Value)} (two_values operands) (Some (v, w))
+    → with_text_number (map (contents table) operands) go ≡ with_text (contents table v) (λ bytes. with_number (contents table w) (λ i. go (bytes, i)))
+text_number_are table operands v w go is = two_is table (λ x y. with_text x (λ bytes. with_number y (λ i. go (bytes, i)))) operands
+    ∙ ap (by_two table (λ x y. with_text x (λ bytes. with_number y (λ i. go (bytes, i))))) is

@@ -1,13 +1,13 @@
 -- What operands are taken as, as parts of plans.
-use Rattle.std.specs.Prelude.{ℕ, ◌<◌, List, [], ◌∷◌, length, Option, Some, None}
-use Rattle.py_model.specs.Operands.{with_text, of_one, of_two}
+use Rattle.std.specs.Prelude.{ℕ, ℤ, pos, true, false, ◌<◌, List, [], ◌∷◌, length, Option, Some, None}
+use Rattle.py_model.specs.Operands.{with_text, with_number, of_one, of_two}
 use Rattle.py_model.specs.Plan.{Plan}
 use Rattle.py_model.specs.TextMethods.{searched}
 use Rattle.py_value.specs.Contents.{Contents}
 use Rattle.py_value.specs.Seen.{bytes_of}
 use Rattle.py_value.specs.Values.{ValuesView}
 use Rattle.py_value.specs.declared.value.Value.{Value}
-use Rattle.py_value.specs.declared.value.Value.TheVariants.{Text}
+use Rattle.py_value.specs.declared.value.Value.TheVariants.{Text, Int, Bool}
 
 -- the only value, or both
 abbrev pub one_value : List Value → Option Value
@@ -43,3 +43,20 @@ with_two_texts operands go = of_two (λ v w. with_text v (λ bytes. with_text w 
 -- the text that is the only operand, whose characters count first
 abbrev pub with_one_searched : List Contents → (List ℕ → Plan) → Plan
 with_one_searched operands go = of_one (λ v. with_text v (λ bytes. searched bytes (go bytes))) operands
+
+-- the number that a value is
+abbrev pub number_of_value : Value → Option ℤ
+number_of_value (Int i) = Some i
+number_of_value (Bool true) = Some (pos 1)
+number_of_value (Bool false) = Some (pos 0)
+number_of_value other = None
+
+-- a text has the first number; the second stands for itself
+abbrev pub IsTextNumber : ValuesView → ℕ × ℤ → Type 0
+IsTextNumber values two = IsText values two.0
+
+abbrev pub text_number_of : ValuesView → ℕ × ℤ → List ℕ × ℤ
+text_number_of table two = (bytes_of table two.0, two.1)
+
+abbrev pub with_text_number : List Contents → (List ℕ × ℤ → Plan) → Plan
+with_text_number operands go = of_two (λ v w. with_text v (λ bytes. with_number w (λ i. go (bytes, i)))) operands

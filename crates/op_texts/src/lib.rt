@@ -1,4 +1,10 @@
-//! Operations on texts, each as its plan says.
+//! Operations on texts, each as its plan says: what it reads of its operands, how many characters it counts, the text or value that it
+//! answers, and the fault where an operand is of a wrong kind or the operands are of a wrong number. Characters are counted before the
+//! text is put among the texts of the run, so one that costs too much has no number.
+//!
+//! Performed are strip (91), lstrip (92), rstrip (93), find (97), startswith (98), endswith (99), upper (100), lower (101), isdigit (102),
+//! ljust (103) and rjust (104).
+//! Not there yet are split (94), join (95), replace (96), and the printed forms, repr (66) and str (68).
 #![tactic(auto)]
 
 mod answers;
@@ -7,6 +13,7 @@ mod characters;
 mod operands;
 mod searches;
 mod strips;
+mod widths;
 
 pub use answers::{gives_text, searched};
 pub use cases::{lower, upper};
@@ -14,3 +21,4 @@ pub use characters::{size, size_of};
 pub use operands::{one_text, text, two_texts};
 pub use searches::{endswith, find, isdigit, startswith};
 pub use strips::{lstrip, rstrip, strip};
+pub use widths::{ljust, number, rjust};

@@ -22,7 +22,7 @@ fn one(operands: &[Value]) -> Option<Value>
 }
 
 // The operands, where there are two.
-fn two(operands: &[Value]) -> Option<(Value, Value)>
+pub(crate) fn two(operands: &[Value]) -> Option<(Value, Value)>
     ensures { result ≡ two_values operands.now }
 {
     match operands {
