@@ -1,5 +1,5 @@
 -- How operations on texts come to their end.
-use Rattle.std.proofs.Common.{rules, ◌≡◌, refl, ap, ◌∙◌, ℕ, Bool, true, false, cond, nat_lt, ◌+◌, ◌-◌, ◌&&◌, nat_le, List, [], ◌∷◌, map, Err}
+use Rattle.std.proofs.Common.{rules, ◌≡◌, refl, ap, ◌∙◌, ℕ, List, [], ◌∷◌, map, Err}
 use Rattle.std.specs.Char.{to_ascii_uppercase, to_ascii_lowercase}
 use Rattle.py_value.specs.Values.{ValuesView}
 use Rattle.py_model.specs.Plan.{Plan}

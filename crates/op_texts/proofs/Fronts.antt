@@ -1,5 +1,5 @@
 -- What stands in a text.
-use Rattle.std.proofs.Common.{rules, ◌≡◌, refl, sym, ap, ◌∙◌, ℕ, zero, suc, length, take, Bool, true, false, nat_eq, ◌&&◌, ◌==◌, List, [], ◌∷◌}
+use Rattle.std.proofs.Common.{rules, ◌≡◌, refl, ap, ◌∙◌, ℕ, nat_eq, ◌&&◌, ◌==◌, List, [], ◌∷◌}
 use Rattle.std.specs.List.{starts_with}
 use Rattle.py_model.specs.Texts.{begins_with}
 

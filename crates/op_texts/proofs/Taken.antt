@@ -1,5 +1,5 @@
 -- What operands are as plans.
-use Rattle.std.proofs.Common.{◌≡◌, refl, sym, ap, subst, ◌∙◌, arith, ℕ, ℤ, true, false, zero, suc, ◌<◌, ◌≤◌, length, List, [], ◌∷◌, map, Option, Some, None, slice_get, unwrap_or}
+use Rattle.std.proofs.Common.{◌≡◌, refl, ap, subst, ◌∙◌, arith, ℕ, ℤ, true, false, ◌<◌, length, List, [], ◌∷◌, map, Option, Some, None, slice_get, unwrap_or}
 use Rattle.py_value.specs.Contents.{Contents, contents}
 use Rattle.py_value.specs.Seen.{bytes_of}
 use Rattle.py_value.specs.Values.{ValuesView, IsNamed, AreNamed}

@@ -1,5 +1,5 @@
 -- White space at the ends of a text.
-use Rattle.std.proofs.Common.{rules, ◌≡◌, refl, sym, ap, subst, ◌∙◌, arith, ℕ, zero, suc, ◌+◌, ◌-◌, ◌==◌, ◌<◌, length, take, drop, Bool, true, false, slice_index, slice_range, if◌then◌else◌, List, [], ◌∷◌, ◌++◌}
+use Rattle.std.proofs.Common.{rules, ◌≡◌, refl, sym, ap, ◌∙◌, arith, ℕ, ◌+◌, ◌-◌, ◌==◌, ◌<◌, length, take, drop, true, false, slice_index, slice_range, if◌then◌else◌, List, [], ◌∷◌, ◌++◌}
 use Rattle.std.proofs.lemmas.List.{take_more, take_all}
 use Rattle.py_model.specs.Texts.{is_white, without_white_front, without_white_back}
 

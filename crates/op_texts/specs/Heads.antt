@@ -1,5 +1,5 @@
 -- Where characters begin.
-use Rattle.std.specs.Prelude.{ℕ, zero, suc, List, [], ◌∷◌, if◌then◌else◌}
+use Rattle.std.specs.Prelude.{ℕ, suc, List, [], ◌∷◌, if◌then◌else◌}
 use Rattle.py_model.specs.Texts.{is_continuation}
 
 -- how many bytes begin a character

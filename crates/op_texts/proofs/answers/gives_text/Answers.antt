@@ -1,4 +1,4 @@
-use Rattle.std.proofs.Common.{◌≡◌, refl, sym, ap, ◌∙◌, subst, ℕ, Ok, Err}
+use Rattle.std.proofs.Common.{refl, ◌∙◌, subst, ℕ, Ok, Err}
 use Rattle.py_value.specs.Contents.{contents, text}
 use Rattle.py_model.specs.Operands.{gives, gives_text}
 use Rattle.py_model.specs.Plan.{Plan, counts}

@@ -1,4 +1,4 @@
-use Rattle.std.proofs.Common.{◌≡◌, refl, sym, ap, ◌∙◌, subst, ℕ}
+use Rattle.std.proofs.Common.{sym, ap, ◌∙◌}
 use Rattle.py_value.specs.Seen.{bytes_of}
 use Rattle.py_model.specs.Plan.{Plan, counts}
 use Rattle.py_model.specs.TextMethods.{searched}

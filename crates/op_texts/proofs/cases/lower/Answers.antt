@@ -1,6 +1,5 @@
-use Rattle.std.proofs.Common.{◌≡◌, refl, sym, ap, ◌∙◌, map, ℕ, List}
+use Rattle.std.proofs.Common.{sym, ap, ◌∙◌, map, ℕ, List}
 use Rattle.py_value.specs.Contents.{contents}
-use Rattle.py_value.specs.Seen.{bytes_of}
 use Rattle.py_value.specs.Values.{ValuesView}
 use Rattle.py_model.specs.Operands.{gives_text}
 use Rattle.py_model.specs.Plan.{Plan}

@@ -1,4 +1,4 @@
-use Rattle.std.proofs.Common.{◌≡◌, sym, ◌∙◌}
+use Rattle.std.proofs.Common.{sym, ◌∙◌}
 use Rattle.op_texts.proofs.Counted.{size_behind}
 use Rattle.op_texts.proofs.characters.size_of.Goals as goal
 

@@ -1,4 +1,4 @@
-use Rattle.std.proofs.Common.{rules, ◌≡◌, refl, sym, ap, ◌∙◌, map, None}
+use Rattle.std.proofs.Common.{rules, ◌≡◌, sym, ap, ◌∙◌, map, None}
 use Rattle.py_value.specs.Contents.{Contents, contents}
 use Rattle.py_model.specs.Operands.{with_text}
 use Rattle.op_work.proofs.Going.{comes_same, fault_comes}

@@ -1,4 +1,4 @@
-use Rattle.std.proofs.Common.{rules, ◌≡◌, refl, sym, ap, ◌∙◌}
+use Rattle.std.proofs.Common.{sym, ap, ◌∙◌}
 use Rattle.py_value.specs.Contents.{contents}
 use Rattle.py_model.specs.Operands.{with_text}
 use Rattle.op_work.proofs.Going.{at_once, fault_comes}

@@ -1,4 +1,4 @@
-use Rattle.std.proofs.Common.{rules, ◌≡◌, refl, sym, ap, ◌∙◌, map, ℕ, List, Option, Some, None}
+use Rattle.std.proofs.Common.{rules, ◌≡◌, refl, sym, ap, ◌∙◌, map, ℕ, List, None}
 use Rattle.py_value.specs.Contents.{Contents, contents}
 use Rattle.py_value.specs.Seen.{bytes_of}
 use Rattle.py_value.specs.declared.value.Value.{Value}
@@ -7,7 +7,7 @@ use Rattle.py_model.specs.Operands.{with_text}
 use Rattle.py_model.specs.Plan.{Plan}
 use Rattle.op_work.specs.Work.{Comes}
 use Rattle.op_work.proofs.Going.{comes_same, comes_then, comes_as, comes_stop, fault_comes, passes_err, text_stays}
-use Rattle.op_texts.specs.Operands.{IsTwoTexts, bytes_of_two, two_values, with_two_texts}
+use Rattle.op_texts.specs.Operands.{IsTwoTexts, bytes_of_two, with_two_texts}
 use Rattle.op_texts.proofs.Taken.{two_is, two_texts_are, two_are_named, named_stays, by_two}
 use Rattle.op_texts.proofs.operands.two_texts.Goals as goal
 

@@ -1,4 +1,4 @@
-use Rattle.std.proofs.Common.{◌≡◌, refl, sym, ap, ◌∙◌}
+use Rattle.std.proofs.Common.{◌∙◌}
 use Rattle.op_texts.proofs.Fronts.{begins_is}
 use Rattle.op_texts.proofs.searches.begins_with.Goals as goal
 

@@ -1,4 +1,4 @@
-use Rattle.std.proofs.Common.{rules, ◌≡◌, refl, sym, ap, ◌∙◌, map, ℕ, ℤ, pos, negsuc, List, [], ◌∷◌, Some, None, Ok, take, subst, w64, to_z, of_z}
+use Rattle.std.proofs.Common.{rules, ◌≡◌, refl, sym, ap, ◌∙◌, map, ℕ, ℤ, pos, negsuc, List, [], ◌∷◌, None, Ok, take, subst, w64, to_z, of_z}
 use Rattle.py_value.specs.Contents.{contents, text, int}
 use Rattle.py_value.specs.Seen.{bytes_of}
 use Rattle.py_value.specs.Values.{ValuesView}
@@ -12,7 +12,7 @@ use Rattle.op_work.specs.Work.{Ends}
 use Rattle.op_work.proofs.Ending.{ends_then, ends_stop, ends_gives}
 use Rattle.op_work.proofs.Going.{passes_err}
 use Rattle.op_texts.proofs.Taken.{bytes_stay}
-use Rattle.op_texts.proofs.Places.{after, found_is, not_found_is, rest_is}
+use Rattle.op_texts.proofs.Places.{after, found_is, not_found_is}
 use Rattle.op_texts.proofs.searches.find.Goals as goal
 
 abbrev found : ValuesView → List ℕ × List ℕ → Plan

@@ -1,4 +1,4 @@
-use Rattle.std.proofs.Common.{◌≡◌, refl, sym, ap, ◌∙◌, map, ℕ, List}
+use Rattle.std.proofs.Common.{refl, sym, ap, ◌∙◌, map, ℕ, List}
 use Rattle.py_value.specs.Contents.{contents}
 use Rattle.py_value.specs.Seen.{bytes_of}
 use Rattle.py_value.specs.Values.{ValuesView}

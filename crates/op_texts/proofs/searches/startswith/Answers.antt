@@ -1,5 +1,5 @@
-use Rattle.std.proofs.Common.{◌≡◌, refl, sym, ap, ◌∙◌, map, ℕ, List}
-use Rattle.py_value.specs.Contents.{contents, truth}
+use Rattle.std.proofs.Common.{refl, sym, ap, ◌∙◌, map, ℕ, List}
+use Rattle.py_value.specs.Contents.{contents}
 use Rattle.py_value.specs.Seen.{bytes_of}
 use Rattle.py_value.specs.Values.{ValuesView}
 use Rattle.py_value.specs.declared.value.Value.TheVariants.{Bool as TruthValue}
@@ -9,7 +9,7 @@ use Rattle.py_model.specs.TextMethods.{startswith_plan, searched}
 use Rattle.py_model.specs.Texts.{begins_with}
 use Rattle.op_work.specs.Work.{Ends}
 use Rattle.op_work.proofs.Ending.{ends_then, ends_stop, ends_gives}
-use Rattle.op_work.proofs.Going.{passes_err, extends_then}
+use Rattle.op_work.proofs.Going.{passes_err}
 use Rattle.op_texts.proofs.Taken.{bytes_stay}
 use Rattle.op_texts.proofs.searches.startswith.Goals as goal
 

@@ -1,10 +1,10 @@
-use Rattle.std.proofs.Common.{◌≡◌, refl, sym, ap, ◌∙◌, map, ℕ, List}
+use Rattle.std.proofs.Common.{sym, ap, ◌∙◌, map, ℕ, List}
 use Rattle.py_value.specs.Contents.{contents}
 use Rattle.py_value.specs.Values.{ValuesView}
 use Rattle.py_model.specs.Operands.{gives_text}
 use Rattle.py_model.specs.Plan.{Plan}
 use Rattle.py_model.specs.TextMethods.{lstrip_plan}
-use Rattle.py_model.specs.Texts.{without_white, without_white_front, without_white_back}
+use Rattle.py_model.specs.Texts.{without_white_front}
 use Rattle.op_work.specs.Work.{Ends}
 use Rattle.op_work.proofs.Ending.{ends_then, ends_stop}
 use Rattle.op_work.proofs.Going.{passes_err}

@@ -1,4 +1,4 @@
-use Rattle.std.proofs.Common.{rules, ◌≡◌, sym, ap, ◌∙◌, ◌-◌, length, slice_index}
+use Rattle.std.proofs.Common.{sym, ap, ◌∙◌, ◌-◌, length, slice_index}
 use Rattle.py_model.specs.Texts.{is_white, without_white_back}
 use Rattle.op_texts.proofs.White.{back_step, back_stop, front_range}
 use Rattle.op_texts.proofs.strips.without_back.Goals as goal

@@ -1,7 +1,7 @@
-use Rattle.std.proofs.Common.{rules, ◌≡◌, sym, ap, subst, ◌∙◌, slice_index, ◌<◌}
+use Rattle.std.proofs.Common.{sym, ap, ◌∙◌, slice_index}
 use Rattle.std.proofs.lemmas.Str.{IsCharBoundary-after_ascii}
 use Rattle.py_model.specs.Texts.{is_white}
-use Rattle.op_texts.proofs.White.{front_step, front_stop, white_ascii, some_more}
+use Rattle.op_texts.proofs.White.{front_stop, white_ascii, some_more}
 use Rattle.op_texts.proofs.strips.without_front.Goals as goal
 
 pub is_empty-requires-text-self : goal.is_empty-requires-text-self

@@ -1,4 +1,4 @@
-use Rattle.std.proofs.Common.{rules, ◌≡◌, refl, sym, ap, ◌∙◌, map, ℕ, ℤ, w64, to_z, of_z, ◌+◌, ◌-◌, List, ◌++◌, append-nil}
+use Rattle.std.proofs.Common.{rules, ◌≡◌, refl, sym, ap, ◌∙◌, map, ℕ, ℤ, w64, to_z, of_z, ◌+◌, ◌-◌, List, ◌++◌}
 use Rattle.py_value.specs.Contents.{contents, text}
 use Rattle.py_value.specs.Values.{ValuesView}
 use Rattle.py_model.specs.Numbers.{times}
@@ -8,7 +8,7 @@ use Rattle.py_model.specs.TextMethods.{ljust_plan}
 use Rattle.py_model.specs.Texts.{size, spaces}
 use Rattle.op_work.specs.Work.{Ends}
 use Rattle.op_work.proofs.Ending.{ends_then, ends_stop, ends_gives}
-use Rattle.op_work.proofs.Going.{passes_err, extends_then, extends_same}
+use Rattle.op_work.proofs.Going.{passes_err, extends_same}
 use Rattle.op_texts.proofs.Counted.{size_with_behind}
 use Rattle.op_texts.proofs.Taken.{bytes_stay}
 use Rattle.op_texts.proofs.widths.ljust.Goals as goal

@@ -1,4 +1,4 @@
-use Rattle.std.proofs.Common.{rules, ◌≡◌, ◌∙◌, refl, sym, ap, subst, ℤ, w64, to_z, of_z, Ok}
+use Rattle.std.proofs.Common.{rules, ◌≡◌, ◌∙◌, sym, ap, subst, ℤ, w64, to_z, of_z, Ok}
 use Rattle.py_model.specs.Operands.{with_number}
 use Rattle.py_value.specs.Contents.{contents}
 use Rattle.op_work.specs.Work.{Comes, is_any, as_is}

@@ -10,7 +10,7 @@ use Rattle.py_model.specs.TextMethods.{rjust_plan}
 use Rattle.py_model.specs.Texts.{size, spaces}
 use Rattle.op_work.specs.Work.{Ends}
 use Rattle.op_work.proofs.Ending.{ends_then, ends_stop, ends_gives}
-use Rattle.op_work.proofs.Going.{passes_err, extends_then, extends_same}
+use Rattle.op_work.proofs.Going.{passes_err, extends_same}
 use Rattle.op_texts.proofs.Counted.{size_with_before}
 use Rattle.op_texts.proofs.Taken.{bytes_stay}
 use Rattle.op_texts.proofs.widths.rjust.Goals as goal

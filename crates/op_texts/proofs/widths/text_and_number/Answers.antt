@@ -1,14 +1,14 @@
-use Rattle.std.proofs.Common.{rules, ◌≡◌, refl, sym, ap, ◌∙◌, map, ℕ, ℤ, subst, w64, to_z, of_z, Ok, Err, List, Option, Some, None}
+use Rattle.std.proofs.Common.{rules, ◌≡◌, refl, sym, ap, ◌∙◌, map, ℕ, ℤ, subst, w64, to_z, of_z, Ok, List, None}
 use Rattle.py_value.specs.Contents.{Contents, contents}
 use Rattle.py_value.specs.Seen.{bytes_of}
 use Rattle.py_value.specs.declared.value.Value.{Value}
 use Rattle.py_value.specs.Values.{ValuesView}
 use Rattle.py_model.specs.Operands.{with_text, with_number}
 use Rattle.py_model.specs.Plan.{Plan}
-use Rattle.op_work.specs.Work.{Comes, is_any, as_is}
+use Rattle.op_work.specs.Work.{Comes}
 use Rattle.op_work.proofs.Going.{comes_same, comes_then, comes_as, comes_stop, fault_comes, passes_err, text_stays}
-use Rattle.op_texts.specs.Operands.{IsTextNumber, text_number_of, two_values, with_text_number}
-use Rattle.op_texts.proofs.Taken.{two_is, text_number_are, two_are_named, named_stays, by_two}
+use Rattle.op_texts.specs.Operands.{IsTextNumber, text_number_of, with_text_number}
+use Rattle.op_texts.proofs.Taken.{two_is, text_number_are, two_are_named, by_two}
 use Rattle.op_texts.proofs.widths.text_and_number.Goals as goal
 
 abbrev second : Value → ValuesView → List ℕ → (List ℕ × ℤ → Plan) → Plan
