@@ -5,3 +5,4 @@ pub mod IdentityPlans
 pub mod NumberPlans
 pub mod RangePlans
 pub mod TruthPlans
+pub mod TuplePlans

@@ -3,7 +3,7 @@
 //! There are, with their numbers: const 0 ([`constant`]), give 2, truth 3 and bool 51 ([`truth`]), not 4, neg 5, pos 6, sub 8,
 //! floordiv 10 ([`floor_div`]), mod 11 ([`remainder`]), is 20, is-not 21, abs 50, chr 52, ord 63 and range 65.
 //!
-//! Of add 7 there is what it does with all but two texts, tuples or objects ([`add_numbers`]). There are not yet mul 9 and int 56.
+//! Of add 7 there is what it does with all but two texts or objects ([`add_numbers`], [`join_tuples`]). There are not yet mul 9 and int 56.
 #![tactic(auto)]
 
 mod answers;
@@ -15,6 +15,7 @@ mod operands;
 mod passing;
 mod ranges;
 mod truths;
+mod tuples;
 
 pub use answers::{int_answer, truth_answer, value_answer};
 pub use arithmetic::{abs, add_numbers, neg, pos, sub};
@@ -25,3 +26,4 @@ pub use operands::{number, one, one_number, two, two_numbers};
 pub use passing::{constant, give};
 pub use ranges::range;
 pub use truths::{not, object_truth, truth, truth_value};
+pub use tuples::join_tuples;
