@@ -16,6 +16,8 @@
 //! operation ends, and what a loop keeps. A body that always answers `Memory` meets `Comes`: that calls succeed with memory at hand is for
 //! the cases of the operations.
 //!
+//! What the counters are after [`Work::finish`] is not said, since [`Work::begin`] sets them.
+//!
 //! Not here yet: entries of dictionaries, files and devices, notes of names, and what is printed.
 #![tactic(auto)]
 
