@@ -1,6 +1,6 @@
-//! Operations on texts, each as its plan says: what it reads of its operands, how many characters it counts, the text or value that it
-//! answers, and the fault where an operand is of a wrong kind or the operands are of a wrong number. Characters are counted before the
-//! text is put among the texts of the run, so one that costs too much has no number.
+//! Operations on texts, each as its plan says: what it reads, how many characters it counts, and what it answers. An operand of a wrong
+//! kind, and a wrong number of operands, are faults. Characters are counted before the text is put among the texts of the run, so one
+//! that costs too much has no number.
 //!
 //! Performed are strip (91), lstrip (92), rstrip (93), find (97), startswith (98), endswith (99), upper (100), lower (101), isdigit (102),
 //! ljust (103) and rjust (104).

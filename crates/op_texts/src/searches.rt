@@ -124,6 +124,7 @@ pub fn find(work: &mut Work, alloc: Global, operands: &[Value]) -> Result<Answer
     let Some(n) = place_of(bytes, work.text_of(sought).as_bytes()) else {
         return Ok(Answer::Value(Value::Int(-1)));
     };
+    // No text in memory has more characters than 64 bits with a sign can say.
     let Ok(before) = i64::try_from(size_of(&bytes[..n])) else {
         return Err(Stop::Memory);
     };
