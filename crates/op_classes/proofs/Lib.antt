@@ -2,7 +2,8 @@ pub mod ClassWalks
 pub mod Deriving
 pub mod EndsSame
 pub mod FailedCalls
-pub mod Matches
+pub mod FirstHits
+pub mod MatchedKinds
 pub mod NamedTexts
 pub mod OtherWalks
 pub mod Passes

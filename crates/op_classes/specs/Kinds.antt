@@ -4,7 +4,7 @@ use Rattle.prov_base.specs.declared.place.Pos.{Pos}
 use Rattle.py_value.specs.declared.access.Kind.{Kind}
 use Rattle.py_value.specs.declared.access.Kind.TheVariants.{File, Instance}
 use Rattle.py_value.specs.declared.value.Value.{Value}
-use Rattle.py_value.specs.declared.value.Value.TheVariants.{Int, Class, Object}
+use Rattle.py_value.specs.declared.value.Value.TheVariants.{Int, Tuple, Class, Object}
 
 abbrev pub object_in : Value → Option ℕ
 object_in (Object o) = Some o
@@ -26,3 +26,7 @@ is_file_kind other = false
 abbrev pub instance_of : Option Kind → Option Value
 instance_of (Some (Instance of)) = Some of
 instance_of other = None
+
+abbrev pub tuple_in : Value → Option ℕ
+tuple_in (Tuple id) = Some id
+tuple_in other = None

@@ -1,6 +1,6 @@
 // What values are.
 ghost use Rattle.std.specs.Prelude.{◌≡◌};
-ghost use Rattle.op_classes.specs.Kinds.{object_in, class_in, failed_call, is_file_kind, instance_of};
+ghost use Rattle.op_classes.specs.Kinds.{object_in, class_in, failed_call, is_file_kind, instance_of, tuple_in};
 
 use prov_base::Pos;
 use py_value::{Kind, Value};
@@ -49,6 +49,16 @@ pub fn class_of_instance(kind: Option<Kind>) -> Option<Value>
 {
     match kind {
         Some(Kind::Instance(of)) => Some(of),
+        _ => None,
+    }
+}
+
+/// The tuple that a value is, by its number.
+pub fn tuple_number(v: Value) -> Option<u32>
+    ensures { result ≡ tuple_in v }
+{
+    match v {
+        Value::Tuple(id) => Some(id),
         _ => None,
     }
 }

@@ -2,7 +2,7 @@ use Rattle.std.proofs.Common.{refl, sym, ◌∙◌, Bool, false}
 use Rattle.py_model.specs.Plan.{Plan}
 use Rattle.py_value.specs.Values.{ValuesView}
 use Rattle.op_work.proofs.Going.{at_once}
-use Rattle.op_classes.proofs.Matches.{no_instance, an_instance_of}
+use Rattle.op_classes.proofs.MatchedKinds.{no_instance, an_instance_of}
 use Rattle.op_classes.proofs.matching.object_matches.Goals as goal
 
 pub returns-in-Some : goal.returns-in-Some

@@ -2,7 +2,7 @@ use Rattle.std.proofs.Common.{sym, ap, ◌∙◌, false}
 use Rattle.py_model.specs.Raising.{value_matches as plan_value_matches}
 use Rattle.py_value.specs.Contents.{contents}
 use Rattle.op_work.proofs.Going.{at_once, comes_same}
-use Rattle.op_classes.proofs.Matches.{no_object}
+use Rattle.op_classes.proofs.MatchedKinds.{no_object}
 use Rattle.op_classes.proofs.WithFiles.{object_is}
 use Rattle.op_classes.proofs.matching.value_matches.Goals as goal
 

@@ -55,7 +55,7 @@ module _ (o : ℕ) (sought : Value) {a b : WorkView} {result : Result Bool Stop}
       one v w is = cc
   an_instance_of (Some (FileKind path mode)) of is known comes = cc
 
-next_left : (items : List Value) (i : ℕ) (x : Value) → i < length items → drop i items ≡ get_or items i x ∷ drop (i + 1) items
+pub next_left : (items : List Value) (i : ℕ) (x : Value) → i < length items → drop i items ≡ get_or items i x ∷ drop (i + 1) items
 next_left items i x within = by_suc items i x within ∙ ap (λ n. get_or items i x ∷ drop n items) (more i)
   where
     more : (i : ℕ) → suc i ≡ i + 1
