@@ -2,7 +2,6 @@
 ghost use Rattle.std.specs.Prelude.{◌≡◌};
 ghost use Rattle.std.specs.Option.{option_copied};
 ghost use Rattle.keeper.specs.Batch.{last_head, last_page, last_content, last_current};
-ghost use Rattle.keeper.specs.Tables.{head_at};
 
 use crate::{Head, Page};
 use prov_base::{Bytes, Digest, Name};
@@ -15,8 +14,8 @@ pub(crate) fn head_in(heads: &[(u32, Head)], trial: u32) -> Option<&Head>
     Some(&entry.1)
 }
 
-// The last page with this trial and number.
-pub(crate) fn page_in(pages: &[(u32, u32, Page)], trial: u32, number: u32) -> Option<&Page>
+/// The page with this trial and number that was put last.
+pub fn page_in(pages: &[(u32, u32, Page)], trial: u32, number: u32) -> Option<&Page>
     ensures { option_copied result ≡ last_page pages.now trial number }
 {
     let entry = pages
@@ -26,26 +25,18 @@ pub(crate) fn page_in(pages: &[(u32, u32, Page)], trial: u32, number: u32) -> Op
     Some(&entry.2)
 }
 
-// The last content with this digest.
-pub(crate) fn content_in<'a>(contents: &'a [(Digest, Bytes)], digest: &Digest) -> Option<&'a Bytes>
+/// The content with this digest that was put last.
+pub fn content_in<'a>(contents: &'a [(Digest, Bytes)], digest: &Digest) -> Option<&'a Bytes>
     ensures { option_copied result ≡ last_content contents.now digest.now }
 {
     let entry = contents.iter().rev().find(|entry| entry.0 == *digest)?;
     Some(&entry.1)
 }
 
-// The last trial that was made current for this path.
-pub(crate) fn current_in(current: &[(Name, u32)], path: &str) -> Option<u32>
+/// The trial that was made current for this path last.
+pub fn current_in(current: &[(Name, u32)], path: &str) -> Option<u32>
     ensures { result ≡ last_current current.now path.now }
 {
     let entry = current.iter().rev().find(|entry| entry.0.as_str() == path)?;
     Some(entry.1)
-}
-
-// The head of the trial with this number, of heads that are numbered from 1.
-pub(crate) fn head_of(heads: &[Head], trial: u32) -> Option<&Head>
-    ensures { option_copied result ≡ head_at heads.now trial }
-{
-    let earlier = trial.checked_sub(1)?;
-    heads.get(earlier as usize)
 }

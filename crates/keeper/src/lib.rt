@@ -2,8 +2,8 @@
 //! current trial of each path, and a batch of changes that is open or not. Readers see the tables with the open batch over
 //! them. `commit` makes the batch part of the tables, whole or not at all, and says which tables a stop may leave.
 //!
-//! `Batch` is how a keeper holds its open batch, and `MemoryKeeper` is a keeper in memory, which tells all that it holds and
-//! fails exactly at the calls that it is told to.
+//! `Batch` is how a keeper holds its open batch. `page_in`, `content_in` and `current_in` look entries up, a later one over an earlier one with
+//! the same key, and `copied_bytes` and the `copied` of heads and pages copy what is kept.
 //!
 //! A call that always answers `Memory` meets its clauses, since no clause can say that memory is left: that calls succeed is
 //! tested by `keeper_cases`.
@@ -12,13 +12,11 @@
 mod batch;
 mod entries;
 mod fault;
-mod held;
 mod keeper;
-mod memory_keeper;
 mod records;
 
 pub use batch::Batch;
+pub use entries::{content_in, current_in, page_in};
 pub use fault::KeepFault;
 pub use keeper::Keeper;
-pub use memory_keeper::MemoryKeeper;
-pub use records::{Head, Page, Tables};
+pub use records::{Head, Page, copied_bytes};

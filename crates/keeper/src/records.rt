@@ -1,12 +1,8 @@
-// What a keeper keeps: heads of trials, pages, and the four tables as lists.
+// What a keeper keeps: heads of trials and pages.
 ghost use Rattle.std.specs.Prelude.{◌≡◌, IfOk};
-ghost use Rattle.keeper.specs.Held.{are_pages_of, are_whole, listed};
 
 use prov_base::{Bytes, Digest, Memory, Name};
 use std::alloc::Global;
-
-// There are at most so many trials.
-const MOST_TRIALS: usize = 4_294_967_295;
 
 /// A page of a trial's rows, with the digest of its bytes.
 #[derive(Drop)]
@@ -52,40 +48,8 @@ pub struct Head {
     pub parent: u32,
 }
 
-/// The four tables as lists. Heads are numbered from 1; of several other entries with one key the last one stands.
-#[derive(Drop)]
-pub struct Tables {
-    /// The heads of the trials 1, 2 and so on.
-    pub heads: Vec<Head>,
-    /// The pages, each with its trial and its number.
-    pub pages: Vec<(u32, u32, Page)>,
-    /// The contents by their digests.
-    pub contents: Vec<(Digest, Bytes)>,
-    /// The current trials by their paths.
-    pub current: Vec<(Name, u32)>,
-}
-
-impl Tables {
-    /// Whether these can be the tables of a keeper: at most 4294967295 heads, and pages only of trials that have one.
-    pub fn are_whole(&self) -> bool
-        ensures { result ≡ are_whole (listed self.now) }
-    {
-        let count = self.heads.len();
-        count <= MOST_TRIALS && are_of_first(count, &self.pages)
-    }
-}
-
-// Each page is of one of the first so many trials.
-fn are_of_first(count: usize, pages: &[(u32, u32, Page)]) -> bool
-    ensures { result ≡ are_pages_of count pages.now }
-{
-    pages
-        .iter()
-        .all(|page| 1 <= page.0 && page.0 as usize <= count)
-}
-
-// A copy of bytes.
-pub(crate) fn copied_bytes(alloc: Global, bytes: &[u8]) -> Result<Bytes, Memory>
+/// A copy of bytes.
+pub fn copied_bytes(alloc: Global, bytes: &[u8]) -> Result<Bytes, Memory>
     ensures { IfOk result (λ copy. copy ≡ bytes.now) }
 {
     Ok(Bytes::of(Vec::from_slice(alloc, bytes)?))
@@ -99,8 +63,8 @@ pub(crate) fn copied_name(alloc: Global, name: &str) -> Result<Name, Memory>
 }
 
 impl Page {
-    // A copy of the page.
-    pub(crate) fn copied(&self, alloc: Global) -> Result<Page, Memory>
+    /// A copy of the page.
+    pub fn copied(&self, alloc: Global) -> Result<Page, Memory>
         ensures { IfOk result (λ page. page ≡ self.now) }
     {
         Ok(Page {
@@ -111,8 +75,8 @@ impl Page {
 }
 
 impl Head {
-    // A copy of the head.
-    pub(crate) fn copied(&self, alloc: Global) -> Result<Head, Memory>
+    /// A copy of the head.
+    pub fn copied(&self, alloc: Global) -> Result<Head, Memory>
         ensures { IfOk result (λ head. head ≡ self.now) }
     {
         Ok(Head {

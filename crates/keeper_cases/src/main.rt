@@ -10,7 +10,8 @@ mod tables;
 mod texts;
 mod writes;
 
-use keeper::{Keeper, MemoryKeeper, Tables};
+use keeper::Keeper;
+use memory_keeper::{MemoryKeeper, Tables};
 use prov_outside::{Console, Trouble};
 use prov_real::RealConsole;
 use reads::read;

@@ -1,7 +1,8 @@
 // The calls that read.
 use crate::texts::{digest_of, halves, small, write, write_fault, write_number};
 use content_store::get;
-use keeper::{Head, KeepFault, Keeper, MemoryKeeper, Page};
+use keeper::{Head, KeepFault, Keeper, Page};
+use memory_keeper::MemoryKeeper;
 use prov_base::Bytes;
 use std::alloc::{AllocError, Global};
 

@@ -1,6 +1,7 @@
 // The tables that a row begins with, and how committed tables are written.
 use crate::texts::{bytes_of, digest_of, halves, head_of, name_of, small, write};
-use keeper::{Head, Page, Tables};
+use keeper::{Head, Page};
+use memory_keeper::Tables;
 use prov_base::{Bytes, Digest, Name};
 use std::alloc::{AllocError, Global};
 

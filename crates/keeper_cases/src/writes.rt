@@ -5,7 +5,8 @@ use crate::texts::{
     digest_of, halves, head_of, small, write, write_digest, write_done, write_number,
 };
 use content_store::{ContentFault, put};
-use keeper::{KeepFault, Keeper, MemoryKeeper};
+use keeper::{KeepFault, Keeper};
+use memory_keeper::MemoryKeeper;
 use prov_base::Digest;
 use std::alloc::{AllocError, Global};
 

@@ -1,9 +1,0 @@
-use Rattle.std.proofs.Common.{rules, false}
-use Rattle.keeper.specs.Held.{IsHeld, listed}
-use Rattle.keeper.proofs.HeldLaws.{kept_at}
-use Rattle.keeper.proofs.held.Held.of.Goals as goal
-
-pub returns-clause-kept : goal.returns-clause-kept
-returns-clause-kept c =
-    let is : IsHeld (listed c.args.tables) c.new.result false = search rules in
-    kept_at _ _ _ is

@@ -1,9 +1,0 @@
-use Rattle.std.proofs.Common.{rules}
-use Rattle.keeper.specs.Held.{IsHeld, listed}
-use Rattle.keeper.proofs.HeldLaws.{kept_at}
-use Rattle.keeper.proofs.held.Held.set_current.Goals as goal
-
-pub returns-clause-kept : goal.returns-clause-kept
-returns-clause-kept c =
-    let is : IsHeld (listed c.self.inside.tables) c.set_current.new.self c.self.inside.is_open = search rules in
-    kept_at _ _ _ is

@@ -1,9 +1,0 @@
-use Rattle.std.proofs.Common.{◌+◌, sym, ap, ◌∙◌}
-use Rattle.keeper.specs.declared.held.Held.TheInside.{Inside}
-use Rattle.keeper.proofs.HeldLaws.{trials_seen}
-use Rattle.keeper.proofs.held.Held.trials.Goals as goal
-
-pub returns : goal.returns
-returns c =
-    let seen = trials_seen _ _ _ c.self.invariant in
-    rw (← c.self.view_is) (ap (λ (i : Inside). i.batch.committed + i.batch.added) c.self-inside.view_is ∙ sym seen)
