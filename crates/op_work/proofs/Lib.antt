@@ -1,6 +1,8 @@
 pub mod Ending
+pub mod EntryReads
 pub mod Finishing
 pub mod Going
+pub mod KeyPlans
 pub mod KindOf
 pub mod Named
 pub mod Raising

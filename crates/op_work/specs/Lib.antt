@@ -1,3 +1,4 @@
+pub mod Entries
 pub mod Finish
 pub mod Raise
 pub mod Turns

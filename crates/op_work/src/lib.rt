@@ -7,6 +7,7 @@
 //!   operation costs never passes them is an invariant.
 //! - [`Work::look`], [`Work::count`], [`Work::text`], [`Work::tuple`], [`Work::fault`]: items and characters, new texts and tuples, and the
 //!   exceptions of the language with a text.
+//! - [`Work::key_of`], [`Work::read_entry`]: the key that a value is, its normal form, and the entry of a dictionary that stands there.
 //! - [`Work::make`], [`Work::set`], [`Work::update`]: the writes (`Wrote`). They are noted, and nothing is done to the store yet.
 //! - [`Work::raise`] makes an exception with one argument and raises it.
 //! - [`Work::finish`] takes memory for all writes, does them, and answers what is told of the operation; after a refusal the store is as before.
@@ -18,9 +19,10 @@
 //!
 //! What the counters are after [`Work::finish`] is not said, since [`Work::begin`] sets them.
 //!
-//! Not here yet: entries of dictionaries, files and devices, notes of names, and what is printed.
+//! Not here yet: files and devices, notes of names, and what is printed.
 #![tactic(auto)]
 
+mod entries;
 mod finish;
 mod raise;
 mod readers;
