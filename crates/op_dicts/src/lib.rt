@@ -1,0 +1,12 @@
+//! Operations on dictionaries, each as its plan (`specs/Dicts.antt` of `py_model`).
+//!
+//! - [`entry_at`]: the key that a value is, and the entry that stands there.
+//! - [`get_entry`], [`set_entry`], [`del_entry`]: the item at a key of a dictionary is read, set or deleted.
+//!
+//! Not here yet: displays and the methods.
+#![tactic(auto)]
+
+mod entries;
+mod puts;
+
+pub use entries::{del_entry, entry_at, get_entry, set_entry};
