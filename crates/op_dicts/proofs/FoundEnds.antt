@@ -1,5 +1,9 @@
 -- How plans go on with what is found at a key.
 use Rattle.std.proofs.Common.{◌≡◌, refl, sym, subst, ℕ, Option, Some, None, Err}
+use Rattle.std.specs.Prelude.{unwrap_or}
+use Rattle.std.specs.Option.{option_map}
+use Rattle.py_model.specs.Dicts.{when_dict}
+use Rattle.py_value.specs.Seen.{SeenKind}
 use Rattle.op_dicts.specs.Founds.{pair_set, pair_added, pair_removed}
 use Rattle.op_work.proofs.EntryReads.{ContentsStay, form_on, named_on}
 use Rattle.op_work.proofs.Going.{extends_same, stays}
@@ -42,6 +46,15 @@ set_next o item table x = set_found o (contents table item) x.0 x.1
 
 abbrev pub del_next : ℕ → ValuesView → Found → Plan
 del_next o table x = del_found o x.0 x.1
+
+abbrev pub only_dicts : ValuesView → Option SeenKind → (Unit {0} → Plan) → Plan
+only_dicts table kind go = when_dict (go tt) kind
+
+abbrev or_found : Contents → Option (Contents × Contents) → Plan
+or_found instead entry = writes (done (unwrap_or (option_map (λ (pair : Contents × Contents). pair.1) entry) instead))
+
+abbrev pub or_next : Value → ValuesView → Found → Plan
+or_next instead table x = or_found (contents table instead) x.1
 
 -- a plan that raises an exception of the language with a value
 pub ends_raises : (plan : ValuesView → Plan) (w : WorkView) (class : ℕ) (v : Value) → IsNamed w.values v

@@ -2,11 +2,14 @@
 //!
 //! - [`entry_at`]: the key that a value is, and the entry that stands there.
 //! - [`get_entry`], [`set_entry`], [`del_entry`]: the item at a key of a dictionary is read, set or deleted.
+//! - [`dict`]: an object is a dictionary, or TypeError is raised. [`get`], [`get_or`]: `d.get(key)` and `d.get(key, instead)` on an object.
 //!
-//! Not here yet: displays and the methods.
+//! Not here yet: displays, and the methods that make lists.
 #![tactic(auto)]
 
 mod entries;
+mod gets;
 mod puts;
 
 pub use entries::{del_entry, entry_at, get_entry, set_entry};
+pub use gets::{dict, get, get_or};
