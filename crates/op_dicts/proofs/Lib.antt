@@ -1,1 +1,3 @@
+pub mod EndsEqual
 pub mod FoundEnds
+pub mod OperandPlans
