@@ -2,4 +2,5 @@ pub mod ManyItems
 pub mod NamedValues
 pub mod Objects
 pub mod OneItem
+pub mod OtherKinds
 pub mod Tuples
