@@ -1,7 +1,9 @@
 pub mod ManyItems
+pub mod ManyLetters
 pub mod NamedValues
 pub mod Objects
 pub mod OneItem
 pub mod OtherKinds
 pub mod RangeNumbers
+pub mod TextParts
 pub mod Tuples

@@ -1,17 +1,20 @@
 //! Walks that several operations make, each as its plan (`specs/Walks.antt` of `py_model`): the items of a list, the keys of a dictionary, the items
 //! of a tuple and the numbers of a range, each read or looked at. A list whose items were never set reads them as None. A range is looked
-//! at as a whole before its numbers are built.
+//! at as a whole before its numbers are built. The characters of a text are counted before any of them is a text.
 //! [`if_walked`] asks only whether a value can be walked, and reads nothing of it.
 //!
-//! Not here yet: the walk of a text, and that of two values that are compared.
+//! Not here yet: the walk of two values that are compared.
 #![tactic(auto)]
 
 mod items;
+mod letters;
 mod ranges;
+mod texts;
 mod walk;
 mod walked;
 
 pub use items::{items_from, value_at};
 pub use ranges::{range_count, walk_range};
+pub use texts::walk_text;
 pub use walk::{walk_keys, walk_object, walk_tuple};
 pub use walked::if_walked;
