@@ -1,7 +1,7 @@
 //! Walks that several operations make, each as its plan (`specs/Walks.antt` of `py_model`): the items of a list, the keys of a dictionary, the items
 //! of a tuple and the numbers of a range, each read or looked at. A list whose items were never set reads them as None. A range is looked
 //! at as a whole before its numbers are built. The characters of a text are counted before any of them is a text.
-//! [`if_walked`] asks only whether a value can be walked, and reads nothing of it.
+//! [`walk_value`] is the walk of any value. [`if_walked`] asks only whether it can be walked, and reads nothing of it.
 //!
 //! Not here yet: the walk of two values that are compared.
 #![tactic(auto)]
@@ -16,5 +16,5 @@ mod walked;
 pub use items::{items_from, value_at};
 pub use ranges::{range_count, walk_range};
 pub use texts::walk_text;
-pub use walk::{walk_keys, walk_object, walk_tuple};
+pub use walk::{walk_keys, walk_object, walk_tuple, walk_value};
 pub use walked::if_walked;

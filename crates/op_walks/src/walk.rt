@@ -6,10 +6,10 @@ ghost use Rattle.object_store.specs.Store.{keys_at};
 ghost use Rattle.py_model.specs.Walks.{walk, walk_object};
 ghost use Rattle.py_model.specs.Plan.{kind_of, read_order};
 ghost use Rattle.py_value.specs.Contents.{contents};
-ghost use Rattle.py_value.specs.Values.{AreNamed};
+ghost use Rattle.py_value.specs.Values.{IsNamed, AreNamed};
 ghost use Rattle.py_value.specs.declared.value.Value.TheVariants.{Tuple};
 
-use crate::items_from;
+use crate::{items_from, walk_range, walk_text};
 use op_work::{Stop, Work};
 use prov_base::Memory;
 use py_value::{Kind, Value, tuples_are_their_parts};
@@ -60,5 +60,19 @@ pub fn walk_object(work: &mut Work, alloc: Global, o: u32) -> Result<Vec<Value>,
         Some(Kind::File(_, _)) => Err(work.fault(alloc, 13, "not in this profile")),
         Some(Kind::Instance(_)) => Err(work.fault(alloc, 9, "wrong kind of value")),
         None => Err(work.fault(alloc, 9, "wrong kind of value")),
+    }
+}
+
+/// The items of a value that can be walked: a list, a dictionary, a tuple, a range or a text. Another is a fault.
+pub fn walk_value(work: &mut Work, alloc: Global, v: Value) -> Result<Vec<Value>, Stop>
+    requires { IsNamed work.old.values v }
+    ensures { Comes (λ values vs. AreNamed values vs.items) (λ table vs. values_seen table vs.items) (λ table. walk (contents table v)) work.old work.new result }
+{
+    match v {
+        Value::Text(id) => walk_text(work, alloc, id),
+        Value::Tuple(id) => walk_tuple(work, alloc, id),
+        Value::Range(start, end, step) => walk_range(work, alloc, start, end, step),
+        Value::Object(o) => walk_object(work, alloc, o),
+        _ => Err(work.fault(alloc, 9, "wrong kind of value")),
     }
 }
