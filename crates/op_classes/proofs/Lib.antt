@@ -6,7 +6,6 @@ pub mod FirstHits
 pub mod MatchedKinds
 pub mod NamedTexts
 pub mod OtherWalks
-pub mod Passes
 pub mod Variables
 pub mod Walking
 pub mod WithFiles

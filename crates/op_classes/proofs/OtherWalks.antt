@@ -1,5 +1,5 @@
 -- The walk to the end of a chain and the method walk as plans, step by step.
-use Rattle.std.proofs.Common.{◌≡◌, refl, ap, ◌∙◌, ℕ, suc, ◌+◌, ◌-◌, ◌<◌, List, Option, Some, None}
+use Rattle.std.proofs.Common.{◌≡◌, refl, ap, ◌∙◌, arith, ℕ, suc, ◌+◌, ◌-◌, ◌<◌, ◌≤◌, List, Option, Some, None}
 use Rattle.prov_base.specs.declared.place.Pos.{Pos}
 use Rattle.py_model.specs.Classes.{longest_chain, chain_end, method_walk}
 use Rattle.py_model.specs.Plan.{Plan, read_method}
@@ -72,3 +72,7 @@ pub method_on : (i name : ℕ) (at : Value) (place : Pos) → i < longest_chain 
     → method_left i name at table go ≡ read_method place (bytes_of table name) (λ x. behind_method (longest_chain - (i + 1)) name place table x go)
 method_on i name at place less is table go = ap (λ n. method_walk n (bytes_of table name) (contents table at) go) (one_step i less)
     ∙ ap (λ v. method_walk (suc (longest_chain - (i + 1))) (bytes_of table name) (contents table v) go) (class_is at place is)
+
+-- no step is left behind all of them
+pub none_left : (i : ℕ) → longest_chain ≤ i → longest_chain - i ≡ 0
+none_left i more = omega (arith, more)

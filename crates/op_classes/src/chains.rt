@@ -95,7 +95,6 @@ fn meets(sought: Value, end: Value) -> bool
 
 /// The class walk: whether a class is the one that is sought or derives from it. The bases of classes of the script are read.
 pub fn class_walk(work: &mut Work, sought: Value, of: Value) -> Result<bool, Stop>
-    requires { work.old.left ≤ 1000000 }
     ensures { Comes is_any as_is (λ table. plan_class_walk longest_chain (contents table sought) (contents table of)) work.old work.new result }
 {
     let mut at = of;
@@ -128,7 +127,6 @@ fn exception_of(v: Value) -> Option<u64>
 
 /// The class of the language, by its number, at which the chain of a class ends, where it ends at one.
 pub fn end_of_chain(work: &mut Work, of: Value) -> Result<Option<u64>, Stop>
-    requires { work.old.left ≤ 1000000 }
     ensures { Comes is_any as_is (λ table. plan_end (contents table of)) work.old work.new result }
 {
     let mut at = of;
@@ -146,7 +144,6 @@ pub fn end_of_chain(work: &mut Work, of: Value) -> Result<Option<u64>, Stop>
 
 /// The method of a name in a class or in the first of its bases that has one.
 pub fn method_of_class(work: &mut Work, name: u32, of: Value) -> Result<Option<Pos>, Stop>
-    requires left { work.old.left ≤ 1000000 }
     requires name { name < length work.old.values.texts }
     ensures { Comes is_any as_is (λ table. plan_method (bytes_of table name) (contents table of)) work.old work.new result }
 {

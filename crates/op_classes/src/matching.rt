@@ -41,7 +41,6 @@ fn all_classes(values: &[Value]) -> bool
 
 /// Whether an exception is of a class. Another value is of none.
 pub fn value_matches(work: &mut Work, v: Value, sought: Value) -> Result<bool, Stop>
-    requires { work.old.left ≤ 1000000 }
     ensures { Comes is_any as_is (λ table. plan_value_matches (contents table v) (contents table sought)) work.old work.new result }
 {
     match object_of(v) {
@@ -52,7 +51,6 @@ pub fn value_matches(work: &mut Work, v: Value, sought: Value) -> Result<bool, S
 
 // Whether an object is an exception of a class.
 fn object_matches(work: &mut Work, o: u32, sought: Value) -> Result<bool, Stop>
-    requires { work.old.left ≤ 1000000 }
     ensures { Comes is_any as_is (λ table. plan_value_matches (contents table (Object o)) (contents table sought)) work.old work.new result }
 {
     match class_of_instance(work.kind(o)) {
@@ -63,7 +61,6 @@ fn object_matches(work: &mut Work, o: u32, sought: Value) -> Result<bool, Stop>
 
 // Whether an exception is of one of several classes, each of which is looked at, up to the first that is hit.
 fn matches_one(work: &mut Work, v: Value, classes: &[Value]) -> Result<bool, Stop>
-    requires { work.old.left ≤ 1000000 }
     ensures { Comes is_any as_is (λ table. first_hit (plan_value_matches (contents table v)) (parts_by (contents table) classes.now)) work.old work.new result }
 {
     for i in 0..classes.len() {
@@ -79,7 +76,6 @@ fn matches_one(work: &mut Work, v: Value, classes: &[Value]) -> Result<bool, Sto
 /// Whether an exception is of a class, or of one of a tuple of classes (operation 41).
 pub fn matches(work: &mut Work, alloc: Global, v: Value, sought: Value) -> Result<Answer, Stop>
     requires first { work.old.made ≡ None }
-    requires left { work.old.left ≤ 1000000 }
     requires sought { IsNamed work.old.values sought }
     ensures { Ends (λ table. plan_matches (contents table v) (contents table sought)) work.old work.new result }
 {
@@ -92,7 +88,6 @@ pub fn matches(work: &mut Work, alloc: Global, v: Value, sought: Value) -> Resul
 // Whether an exception is of a class, which is no tuple.
 fn matches_class(work: &mut Work, alloc: Global, v: Value, sought: Value) -> Result<Answer, Stop>
     requires first { work.old.made ≡ None }
-    requires left { work.old.left ≤ 1000000 }
     requires single { tuple_in sought ≡ None }
     ensures { Ends (λ table. plan_matches (contents table v) (contents table sought)) work.old work.new result }
 {
@@ -107,7 +102,6 @@ fn matches_class(work: &mut Work, alloc: Global, v: Value, sought: Value) -> Res
 // Whether an exception is of one of a tuple of classes.
 fn matches_tuple(work: &mut Work, alloc: Global, v: Value, id: u32) -> Result<Answer, Stop>
     requires first { work.old.made ≡ None }
-    requires left { work.old.left ≤ 1000000 }
     requires id { id < length work.old.values.tuples }
     ensures { Ends (λ table. plan_matches (contents table v) (contents table (Tuple id))) work.old work.new result }
 {

@@ -16,7 +16,7 @@ use Rattle.py_value.specs.declared.access.Kind.{Kind}
 use Rattle.py_value.specs.declared.value.Value.{Value}
 use Rattle.op_work.specs.declared.stop.Stop.{Stop}
 use Rattle.op_work.specs.declared.stop.Stop.TheVariants.{Raises, TooDear, Memory}
-use Rattle.op_work.specs.Work.{WorkView, Extends, IsSeen, Leads, under, ended, raising, seen_kind, Goes, Plans, CameTo, Comes, EndedSo, Ends, Wrote, WroteTo, WroteAll, WroteAllTo, Faults, RaisesIt, IsNamedResult, is_any}
+use Rattle.op_work.specs.Work.{WorkView, Extends, IsSeen, said_of, Leads, under, ended, raising, seen_kind, Goes, Plans, CameTo, Comes, EndedSo, Ends, Wrote, WroteTo, WroteAll, WroteAllTo, Faults, RaisesIt, IsNamedResult, is_any}
 use Rattle.op_work.proofs.Going.{extends_then, extends_same, goes_then, dear_then, kept_then}
 
 -- one plan came to something, and the plan that goes on with it came to its end
@@ -90,6 +90,7 @@ at_end_goes table w before behind is = record {
   touched_is = sym (append-nil (map (access_seen table) w.touched));
   looks_are = omega (arith);
   characters_are = omega (arith);
+  said_is = refl;
 }
 
 -- a plan that gives a value, and writes nothing
@@ -208,6 +209,7 @@ module _ (plan : ValuesView → Plan) {w c : WorkView} {result : Result OneAnswe
         touched_is = ap (λ x. map (access_seen table) x.touched) made ∙ sym (append-nil (map (access_seen table) w.touched));
         looks_are = ap (λ x. x.looks) made ∙ omega (arith);
         characters_are = ap (λ x. x.characters) made ∙ omega (arith);
+        said_is = ap (said_of table) made;
       }
 
       by_result : (table : ValuesView) (store : RunStore) (result : Result OneAnswer Stop)

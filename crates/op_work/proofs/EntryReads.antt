@@ -1,5 +1,5 @@
 -- Plans that read an entry.
-use Rattle.std.proofs.Common.{◌≡◌, refl, sym, ap, ◌∙◌, subst, arith, ◌≤◌, ℕ, length, slice_get, List, [], ◌∷◌, ◌++◌, map, Option, Some, None, Ok, Err}
+use Rattle.std.proofs.Common.{◌≡◌, refl, sym, ap, ◌∙◌, subst, arith, ◌≤◌, inl, ℕ, length, slice_get, List, [], ◌∷◌, ◌++◌, map, Option, Some, None, Ok, Err}
 use Rattle.std.specs.Option.{option_map}
 use Rattle.std.proofs.lemmas.List.{map_push}
 use Rattle.object_store.specs.Named.{IsNamedStore}
@@ -12,7 +12,7 @@ use Rattle.py_value.specs.Contents.{Contents, contents}
 use Rattle.py_value.specs.KeyOf.{normal}
 use Rattle.py_value.specs.Named.{IsNamedContent, IsNamedKind}
 use Rattle.py_value.specs.Seen.{SeenLocation, SeenContent, access_seen, location_seen, reads, entry_at}
-use Rattle.py_value.specs.Values.{ValuesView, AreInterned, IsNamed, Keeps}
+use Rattle.py_value.specs.Values.{ValuesView, AreInterned, IsNamed, AreNamed, Keeps}
 use Rattle.py_value.specs.declared.access.Access.TheVariants.{Read}
 use Rattle.py_value.specs.declared.access.Content.{Content}
 use Rattle.py_value.specs.declared.access.Content.TheVariants.{Var as VarContent, Len as LenContent, Item as ItemContent, Entry as EntryContent, Order as OrderContent, File as FileContent, Offset as OffsetContent, Closed as ClosedContent, Method as MethodContent, Base as BaseContent}
@@ -26,7 +26,7 @@ use Rattle.py_value.specs.declared.value.Value.TheVariants.{None as NoneValue, B
 use Rattle.op_work.specs.declared.stop.Stop.{Stop}
 use Rattle.op_work.specs.declared.stop.Stop.TheVariants.{Raises, TooDear, Memory}
 use Rattle.op_work.specs.Entries.{IsKeyOf, IsNamedEntry, seen_entry, entry_in}
-use Rattle.op_work.specs.Work.{WorkView, Extends, IsSeen, IsUnpaid, IsNamedResult, Plans, CameTo, Comes}
+use Rattle.op_work.specs.Work.{WorkView, said_of, Extends, IsSeen, IsUnpaid, IsNamedResult, Plans, CameTo, Comes}
 use Rattle.op_work.proofs.Going.{extends_same}
 
 -- A plan that reads a location and goes on with what stands there. Which location it is depends on what the numbers mean.
@@ -49,6 +49,7 @@ module _ {A T : Type 0} {named : ValuesView → T → Type 0} {seen : ValuesView
           ∙ ap (λ at. map (access_seen table) old.touched ++ reads at ∷ []) (place_is table store extends seen_is);
       looks_are = ap (λ w. w.looks) is ∙ omega (arith);
       characters_are = ap (λ w. w.characters) is ∙ omega (arith);
+      said_is = ap (said_of table) is;
     };
   }
 
@@ -71,7 +72,7 @@ module _ {A T : Type 0} {named : ValuesView → T → Type 0} {seen : ValuesView
         plain = tt;
         behind = λ answers. effect store answers (go (content table store));
         effect_is = λ answers. reads_first table store go answers;
-        dear = omega (arith, unpaid);
+        dear = inl (omega (arith, unpaid));
       }
       by_stop table store Memory unpaid = tt
 
@@ -88,6 +89,9 @@ named_on extends (Class place) named = tt
 named_on extends (Exc number) named = tt
 named_on extends (Builtin number) named = tt
 named_on extends (Object o) named = tt
+
+pub all_on : {old table : ValuesView} → Extends old table → (items : List Value) → AreNamed old items → AreNamed table items
+all_on extends items named = λ i item is. named_on extends item (named i item is)
 
 pub kind_on : {old table : ValuesView} → Extends old table → (kind : Option Kind) → IsNamedKind old kind → IsNamedKind table kind
 kind_on extends (Some (Instance of)) named = named_on extends of named

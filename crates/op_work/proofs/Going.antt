@@ -1,7 +1,8 @@
 -- What was done joins, and so do plans that go on.
-use Rattle.std.proofs.Common.{◌≡◌, refl, sym, ap, ◌∙◌, subst, arith, append-nil, ℕ, ◌+◌, ◌<◌, List, [], ◌∷◌, ◌++◌, map, length, Option, Result, Ok, Err}
+use Rattle.std.proofs.Common.{◌≡◌, refl, sym, ap, ◌∙◌, subst, arith, append-nil, ◌⊎◌, inl, inr, ℕ, ◌+◌, ◌<◌, List, [], ◌∷◌, ◌++◌, map, length, Option, Result, Ok, Err}
 use Rattle.std.specs.Result.{IsErrAnd, OnOk, OnErr, IfErr}
 use Rattle.std.proofs.lemmas.List.{map_push, append_assoc, length-map, length-append}
+use Rattle.prov_base.specs.declared.place.Pos.{Pos}
 use Rattle.py_value.specs.Contents.{Contents, contents, text, exception_class}
 use Rattle.py_value.specs.declared.value.Value.{Value}
 use Rattle.py_value.specs.Seen.{SeenAccess, SeenKind, access_seen, location_seen, reads}
@@ -9,14 +10,14 @@ use Rattle.py_value.specs.Values.{ValuesView, AreInterned, IsNamed}
 use Rattle.py_value.specs.declared.access.Access.{Access}
 use Rattle.py_value.specs.declared.access.Access.TheVariants.{Read}
 use Rattle.py_value.specs.declared.access.Location.{Location}
-use Rattle.py_model.specs.Effect.{Answers, Effect, Touch, accessed, looked, counted, printed, opened, noted, asked, fetched, touching, effect, written, accesses_in, looked_at, characters_in}
+use Rattle.py_model.specs.Effect.{Answers, Effect, Touch, accessed, looked, counted, printed, opened, noted, asked, fetched, unpaid as no_budget, touching, effect, written, accesses_in, looked_at, characters_in}
 use Rattle.py_model.specs.Faults.{fault}
 use Rattle.py_model.specs.Plan.{Plan, looks as plan_looks, counts as plan_counts, raises, Writes}
 use Rattle.py_model.specs.Store.{RunStore}
 use Rattle.py_model.specs.Touches.{prefixed}
 use Rattle.op_work.specs.declared.stop.Stop.{Stop}
 use Rattle.op_work.specs.declared.stop.Stop.TheVariants.{Raises, TooDear, Memory}
-use Rattle.op_work.specs.Work.{WorkView, Extends, IsSeen, ArePlain, Leads, under, Goes, IsDear, IsKept, IsUnpaid, IsNamedResult, Plans, CameTo, Comes, Faults, RaisesIt, is_any, as_is, raising, seen_kind, Wrote}
+use Rattle.op_work.specs.Work.{WorkView, cost_of, Extends, IsSeen, ArePlain, Said, said_after, said_of, Leads, under, Goes, IsDear, IsKept, IsUnpaid, IsNamedResult, Plans, CameTo, Comes, Faults, RaisesIt, is_any, as_is, raising, seen_kind, Wrote}
 
 pub extends_same : (values : ValuesView) → Extends values values
 extends_same values = record { texts = λ i x is. is; tuples = λ i x is. is; few = (omega (arith), omega (arith)) }
@@ -31,36 +32,50 @@ extends_then one other = record {
 prefixed_join : (touches more : List Touch) (rest : Effect) → prefixed (touches ++ more) rest ≡ prefixed touches (prefixed more rest)
 prefixed_join touches more rest = ap (λ ts. record rest { touches = ts }) (append_assoc touches more rest.touches)
 
--- what holds of a touch that is an access, of items that were looked at, or of characters that were counted
+-- what holds of each touch that asks and fetches nothing
 by_plain : (P : List Touch → Type 0) → P []
     → ((access : SeenAccess) (touches : List Touch) → P touches → P (accessed access ∷ touches))
     → ((n : ℕ) (touches : List Touch) → P touches → P (looked n ∷ touches))
     → ((n : ℕ) (touches : List Touch) → P touches → P (counted n ∷ touches))
+    → ((bytes : List ℕ) (touches : List Touch) → P touches → P (printed bytes ∷ touches))
+    → ((path : List ℕ) (touches : List Touch) → P touches → P (opened path ∷ touches))
+    → ((place : Pos) (name : List ℕ) (touches : List Touch) → P touches → P (noted place name ∷ touches))
     → (touches : List Touch) → ArePlain touches → P touches
-by_plain P none one look count [] plain = none
-by_plain P none one look count (accessed access ∷ touches) plain = one access touches (by_plain P none one look count touches plain)
-by_plain P none one look count (looked n ∷ touches) plain = look n touches (by_plain P none one look count touches plain)
-by_plain P none one look count (counted n ∷ touches) plain = count n touches (by_plain P none one look count touches plain)
-by_plain P none one look count (printed bytes ∷ touches) plain = absurd plain
-by_plain P none one look count (opened path ∷ touches) plain = absurd plain
-by_plain P none one look count (noted place name ∷ touches) plain = absurd plain
-by_plain P none one look count (asked what ∷ touches) plain = absurd plain
-by_plain P none one look count (fetched path ∷ touches) plain = absurd plain
+by_plain P none one look count print open_it name_it [] plain = none
+by_plain P none one look count print open_it name_it (accessed access ∷ touches) plain = one access touches (by_plain P none one look count print open_it name_it touches plain)
+by_plain P none one look count print open_it name_it (looked n ∷ touches) plain = look n touches (by_plain P none one look count print open_it name_it touches plain)
+by_plain P none one look count print open_it name_it (counted n ∷ touches) plain = count n touches (by_plain P none one look count print open_it name_it touches plain)
+by_plain P none one look count print open_it name_it (printed bytes ∷ touches) plain = print bytes touches (by_plain P none one look count print open_it name_it touches plain)
+by_plain P none one look count print open_it name_it (opened path ∷ touches) plain = open_it path touches (by_plain P none one look count print open_it name_it touches plain)
+by_plain P none one look count print open_it name_it (noted place name ∷ touches) plain = name_it place name touches (by_plain P none one look count print open_it name_it touches plain)
+by_plain P none one look count print open_it name_it (asked what ∷ touches) plain = absurd plain
+by_plain P none one look count print open_it name_it (fetched path ∷ touches) plain = absurd plain
 
 plain_join : (touches more : List Touch) → ArePlain touches → ArePlain more → ArePlain (touches ++ more)
-plain_join touches more plain plain_more = by_plain (λ ts. ArePlain (ts ++ more)) plain_more (λ access ts is. is) (λ n ts is. is) (λ n ts is. is) touches plain
+plain_join touches more plain plain_more = by_plain (λ ts. ArePlain (ts ++ more)) plain_more (λ access ts is. is) (λ n ts is. is) (λ n ts is. is) (λ b ts is. is) (λ p ts is. is) (λ p n ts is. is) touches plain
 
 accesses_join : (touches more : List Touch) → ArePlain touches → accesses_in (touches ++ more) ≡ accesses_in touches ++ accesses_in more
 accesses_join touches more plain = by_plain (λ ts. accesses_in (ts ++ more) ≡ accesses_in ts ++ accesses_in more)
-    refl (λ access ts is. ap (λ rest. access ∷ rest) is) (λ n ts is. is) (λ n ts is. is) touches plain
+    refl (λ access ts is. ap (λ rest. access ∷ rest) is) (λ n ts is. is) (λ n ts is. is) (λ b ts is. is) (λ p ts is. is) (λ p n ts is. is) touches plain
 
 looks_join : (touches more : List Touch) → ArePlain touches → looked_at (touches ++ more) ≡ looked_at touches + looked_at more
 looks_join touches more plain = by_plain (λ ts. looked_at (ts ++ more) ≡ looked_at ts + looked_at more)
-    (omega (arith)) (λ access ts is. is) (λ n ts is. omega (arith, is)) (λ n ts is. is) touches plain
+    (omega (arith)) (λ access ts is. is) (λ n ts is. omega (arith, is)) (λ n ts is. is) (λ b ts is. is) (λ p ts is. is) (λ p n ts is. is) touches plain
 
 characters_join : (touches more : List Touch) → ArePlain touches → characters_in (touches ++ more) ≡ characters_in touches + characters_in more
 characters_join touches more plain = by_plain (λ ts. characters_in (ts ++ more) ≡ characters_in ts + characters_in more)
-    (omega (arith)) (λ access ts is. is) (λ n ts is. is) (λ n ts is. omega (arith, is)) touches plain
+    (omega (arith)) (λ access ts is. is) (λ n ts is. is) (λ n ts is. omega (arith, is)) (λ b ts is. is) (λ p ts is. is) (λ p n ts is. is) touches plain
+
+said_join : (touches more : List Touch) (said : Said) → said_after (touches ++ more) said ≡ said_after more (said_after touches said)
+said_join [] more said = refl
+said_join (accessed access ∷ touches) more said = said_join touches more said
+said_join (looked n ∷ touches) more said = said_join touches more said
+said_join (counted n ∷ touches) more said = said_join touches more said
+said_join (printed bytes ∷ touches) more said = said_join touches more (record said { bytes = said.bytes ++ bytes })
+said_join (opened path ∷ touches) more said = said_join touches more (record said { paths = said.paths ++ path ∷ [] })
+said_join (noted place name ∷ touches) more said = said_join touches more (record said { names = said.names ++ (place, name) ∷ [] })
+said_join (asked what ∷ touches) more said = said_join touches more said
+said_join (fetched path ∷ touches) more said = said_join touches more said
 
 -- nothing was done
 pub stays : (table : ValuesView) (old : WorkView) (before : Leads) → Goes table old old before before
@@ -71,6 +86,7 @@ stays table old before = record {
   touched_is = sym (append-nil (map (access_seen table) old.touched));
   looks_are = omega (arith);
   characters_are = omega (arith);
+  said_is = refl;
 }
 
 -- one thing was done, and then another
@@ -84,7 +100,12 @@ goes_then {table} {a} {b} {c} {p} {q} {r} one other = record {
       ∙ ap (λ accesses. map (access_seen table) a.touched ++ accesses) (sym (accesses_join one.touches other.touches one.plain))));
   looks_are = omega (arith, one.looks_are, other.looks_are, looks_join one.touches other.touches one.plain);
   characters_are = omega (arith, one.characters_are, other.characters_are, characters_join one.touches other.touches one.plain);
+  said_is = other.said_is ∙ (ap (said_after other.touches) one.said_is ∙ sym (said_join one.touches other.touches (said_of table a)));
 }
+
+-- these touches cost more than was left
+abbrev IsMore : WorkView → List Touch → Type 0
+IsMore w touches = w.left < cost_of (length w.touched + length (accesses_in touches)) (w.looks + looked_at touches) (w.characters + characters_in touches)
 
 -- one thing was done, and then more than can be paid for
 pub dear_then : {table : ValuesView} {a b : WorkView} {p q : Leads} → b.left ≡ a.left → Goes table a b p q → IsDear b q → IsDear a p
@@ -93,17 +114,7 @@ dear_then {table} {a} {b} {p} {q} left_is one dear = record {
   plain = plain_join one.touches dear.touches one.plain dear.plain;
   behind = dear.behind;
   effect_is = λ answers. one.effect_is answers ∙ (ap (prefixed one.touches) (dear.effect_is answers) ∙ sym (prefixed_join one.touches dear.touches (dear.behind answers)));
-  dear = omega (
-    arith,
-    left_is,
-    dear.dear,
-    touched,
-    accesses,
-    one.looks_are,
-    looks_join one.touches dear.touches one.plain,
-    one.characters_are,
-    characters_join one.touches dear.touches one.plain,
-  );
+  dear = by_dear dear.dear;
 }
   where
     touched : length b.touched ≡ length a.touched + length (accesses_in one.touches)
@@ -112,6 +123,21 @@ dear_then {table} {a} {b} {p} {q} left_is one dear = record {
 
     accesses : length (accesses_in (one.touches ++ dear.touches)) ≡ length (accesses_in one.touches) + length (accesses_in dear.touches)
     accesses = ap length (accesses_join one.touches dear.touches one.plain) ∙ length-append (accesses_in one.touches) (accesses_in dear.touches)
+
+    by_dear : IsMore b dear.touches ⊎ ((answers : Answers) → (dear.behind answers).outcome ≡ no_budget)
+        → IsMore a (one.touches ++ dear.touches) ⊎ ((answers : Answers) → (dear.behind answers).outcome ≡ no_budget)
+    by_dear (inr never) = inr never
+    by_dear (inl less) = inl (omega (
+      arith,
+      left_is,
+      less,
+      touched,
+      accesses,
+      one.looks_are,
+      looks_join one.touches dear.touches one.plain,
+      one.characters_are,
+      characters_join one.touches dear.touches one.plain,
+    ))
 
 pub kept_then : {a b c : WorkView} → IsKept a b → IsKept b c → IsKept a c
 kept_then one other = record {
@@ -175,6 +201,7 @@ module _ {A T : Type 0} {named : ValuesView → T → Type 0} {seen : ValuesView
       touched_is = ap (λ w. map (access_seen table) w.touched) is ∙ map_push (access_seen table) old.touched (Read l);
       looks_are = ap (λ w. w.looks) is ∙ omega (arith);
       characters_are = ap (λ w. w.characters) is ∙ omega (arith);
+      said_is = ap (said_of table) is;
     };
   }
 
@@ -197,7 +224,7 @@ module _ {A T : Type 0} {named : ValuesView → T → Type 0} {seen : ValuesView
         plain = tt;
         behind = λ answers. effect store answers (go (content table store));
         effect_is = λ answers. reads_first table store go answers;
-        dear = omega (arith, unpaid);
+        dear = inl (omega (arith, unpaid));
       }
       by_stop table store Memory unpaid = tt
 
@@ -227,6 +254,7 @@ module _ {A T : Type 0} {named : ValuesView → T → Type 0} {seen : ValuesView
       touched_is = ap (λ w. map (access_seen table) w.touched) is ∙ sym (append-nil (map (access_seen table) old.touched));
       looks_are = ap (λ w. w.looks) is ∙ omega (arith);
       characters_are = ap (λ w. w.characters) is ∙ omega (arith);
+      said_is = ap (said_of table) is;
     };
   }
 
@@ -238,7 +266,7 @@ module _ {A T : Type 0} {named : ValuesView → T → Type 0} {seen : ValuesView
   }
 
 -- items were looked at, or characters counted
-kept_same : {old new : WorkView} → new.store ≡ old.store → new.made ≡ old.made → new.left ≡ old.left → new.values ≡ old.values → IsKept old new
+pub kept_same : {old new : WorkView} → new.store ≡ old.store → new.made ≡ old.made → new.left ≡ old.left → new.values ≡ old.values → IsKept old new
 kept_same {old} {new} store_is made_is left_is values_are = record { store_is = store_is; made_is = made_is; left_is = left_is; extends = subst (λ values. Extends values new.values) values_are (extends_same new.values) }
 
 pub look_comes : (n : ℕ) {old new : WorkView} (result : Result (Unit {0}) Stop) → OnOk result (new ≡ record old { looks = old.looks + n })
@@ -253,6 +281,7 @@ look_comes n {old} {new} (Ok done) is unpaid same = record {
     touched_is = ap (λ w. map (access_seen table) w.touched) is ∙ sym (append-nil (map (access_seen table) old.touched));
     looks_are = ap (λ w. w.looks) is ∙ omega (arith);
     characters_are = ap (λ w. w.characters) is ∙ omega (arith);
+    said_is = ap (said_of table) is;
   };
 }
 look_comes n {old} {new} (Err (Raises class argument)) is unpaid same = absurd unpaid
@@ -269,7 +298,7 @@ look_comes n {old} {new} (Err TooDear) is unpaid same = record {
     plain = tt;
     behind = under store (go tt);
     effect_is = λ answers. refl;
-    dear = omega (arith, unpaid);
+    dear = inl (omega (arith, unpaid));
   };
 }
 
@@ -285,6 +314,7 @@ count_comes n {old} {new} (Ok done) is unpaid same = record {
     touched_is = ap (λ w. map (access_seen table) w.touched) is ∙ sym (append-nil (map (access_seen table) old.touched));
     looks_are = ap (λ w. w.looks) is ∙ omega (arith);
     characters_are = ap (λ w. w.characters) is ∙ omega (arith);
+    said_is = ap (said_of table) is;
   };
 }
 count_comes n {old} {new} (Err (Raises class argument)) is unpaid same = absurd unpaid
@@ -301,7 +331,7 @@ count_comes n {old} {new} (Err TooDear) is unpaid same = record {
     plain = tt;
     behind = under store (go tt);
     effect_is = λ answers. refl;
-    dear = omega (arith, unpaid);
+    dear = inl (omega (arith, unpaid));
   };
 }
 
@@ -353,6 +383,7 @@ module _ (first : ValuesView → Writes → Writes) (access : Access) {old new :
       touched_is = ap (λ w. map (access_seen table) w.touched) is ∙ map_push (access_seen table) old.touched access;
       looks_are = ap (λ w. w.looks) is ∙ omega (arith);
       characters_are = ap (λ w. w.characters) is ∙ omega (arith);
+      said_is = ap (said_of table) is;
     };
   }
   wrote (Err (Raises class argument)) is unpaid same = absurd unpaid
@@ -369,7 +400,7 @@ module _ (first : ValuesView → Writes → Writes) (access : Access) {old new :
       plain = tt;
       behind = λ answers. written store (seen_kind table old.made) rest;
       effect_is = λ answers. writes_first table store (seen_kind table old.made) rest;
-      dear = omega (arith, unpaid);
+      dear = inl (omega (arith, unpaid));
     };
   }
 

@@ -1,5 +1,6 @@
 pub mod Ending
 pub mod EntryReads
+pub mod FileReads
 pub mod Finishing
 pub mod Going
 pub mod KeyPlans
@@ -7,5 +8,6 @@ pub mod KindOf
 pub mod Named
 pub mod Raising
 pub mod Reading
+pub mod Saying
 pub mod Tuples
 pub mod Turning

@@ -1,15 +1,16 @@
 -- What is named, and within the objects that there are, is so behind more of it.
-use Rattle.std.proofs.Common.{◌≡◌, ap, sym, ◌∙◌, subst, ℕ, zero, suc, ◌+◌, ◌≤◌, length, List, [], ◌∷◌, ◌++◌, Option, Some, None, arith, slice_get}
+use Rattle.std.proofs.Common.{◌≡◌, refl, ap, sym, ◌∙◌, subst, ℕ, zero, suc, ◌+◌, ◌≤◌, length, List, [], ◌∷◌, ◌++◌, Option, Some, None, IsSome, arith, slice_get}
 use Rattle.object_store.specs.Room.{IsWithin, IsAccessWithin, AreWithin, IsNamedAccess as IsNamedText}
 use Rattle.object_store.specs.Named.{IsNamedStore}
+use Rattle.std.specs.Option.{option_map}
 use Rattle.object_store.specs.Performing.{kinds_with}
 use Rattle.std.specs.Map.{lookup}
 use Rattle.prov_base.specs.contracts.place.PosPartialEq.TheImpl.{ghosts as places}
 use Rattle.py_value.specs.declared.access.Change.TheVariants.{Insert, Delete, Append}
 use Rattle.py_value.specs.Named.{IsNamedAccess, AreNamedAccesses}
 use Rattle.std.proofs.lemmas.List.{length_push, length-map}
-use Rattle.object_store.specs.Store.{StoreView, Keeps, kinds, count_with}
-use Rattle.op_work.specs.Work.{cost_of}
+use Rattle.object_store.specs.Store.{StoreView, Keeps, bytes, file_at, held_at, kinds, count_with}
+use Rattle.op_work.specs.Work.{cost_of, IsThere, AreThere}
 use Rattle.py_value.specs.declared.access.Kind.{Kind}
 use Rattle.py_value.specs.Values.{ValuesView}
 use Rattle.py_value.specs.declared.access.Access.{Access}
@@ -35,13 +36,19 @@ within_behind count (first ∷ accesses) access within one (suc k) a is = within
 pub record AreSound (values : ValuesView) (store : StoreView) (made : Option Kind) (accesses : List Access) : Type 0 where
   pub named : AreNamedAccesses values accesses
   pub within : AreWithin (count_with made store) accesses
+  pub there : AreThere store accesses
+
+there_behind : (store : StoreView) (accesses : List Access) (access : Access) → AreThere store accesses → IsThere store access → AreThere store (accesses ++ access ∷ [])
+there_behind store [] access there one = (one, tt)
+there_behind store (first ∷ accesses) access there one = (there.0, there_behind store accesses access there.1 one)
 
 pub sound_behind : (values : ValuesView) (store : StoreView) (made : Option Kind) (accesses new : List Access) (access : Access) → new ≡ accesses ++ access ∷ []
-    → AreNamedAccesses values accesses → AreWithin (count_with made store) accesses → IsNamedAccess values access → IsAccessWithin (count_with made store) access
+    → AreNamedAccesses values accesses → AreWithin (count_with made store) accesses → AreThere store accesses → IsNamedAccess values access → IsAccessWithin (count_with made store) access → IsThere store access
     → AreSound values store made new
-sound_behind values store made accesses new access is named within one there = subst (AreSound values store made) (sym is) (record {
+sound_behind values store made accesses new access is named within are one inside there = subst (AreSound values store made) (sym is) (record {
   named = named_behind values accesses access named one;
-  within = within_behind (count_with made store) accesses access within there;
+  within = within_behind (count_with made store) accesses access within inside;
+  there = there_behind store accesses access are there;
 })
 
 pub cost_behind : (accesses new : List Access) (access : Access) (looks characters left : ℕ) → new ≡ accesses ++ access ∷ []
@@ -108,3 +115,27 @@ texts_named values (first ∷ plan) named zero access is = subst (IsNamedText va
     text_named (Update l (Delete key)) named = tt
     text_named (Update l (Append text)) named = named.1.1
 texts_named values (first ∷ plan) named (suc k) access is = texts_named values plan named.1 k access is
+
+-- the files that are there stay, where the store holds the same
+there_same : (old new : Option (List ℕ)) → option_map bytes new ≡ option_map bytes old → IsSome old → IsSome new
+there_same (Some b) (Some c) is there = refl
+there_same (Some b) None is there = cc
+there_same None new is there = cc
+
+pub there_kept : (old new : StoreView) → ((l : Location) → held_at new l ≡ held_at old l) → (accesses : List Access) → AreThere old accesses → AreThere new accesses
+there_kept old new held [] there = tt
+there_kept old new held (access ∷ accesses) there = (one access there.0, there_kept old new held accesses there.1)
+  where
+    one : (access : Access) → IsThere old access → IsThere new access
+    one (Update (File path) how) there = there_same (file_at old path) (file_at new path) (held (File path)) there
+    one (Update (Var scope name) how) there = tt
+    one (Update (Len o) how) there = tt
+    one (Update (Item o i) how) there = tt
+    one (Update (Entry o key) how) there = tt
+    one (Update (Order o) how) there = tt
+    one (Update (Offset o) how) there = tt
+    one (Update (Closed o) how) there = tt
+    one (Update (Method place name) how) there = tt
+    one (Update (Base place) how) there = tt
+    one (Read l) there = tt
+    one (Set l content) there = tt

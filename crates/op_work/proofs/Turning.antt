@@ -1,6 +1,6 @@
 -- Turns of a plan join, and lead to what the plan comes to.
-use Rattle.std.proofs.Common.{◌≡◌, refl, sym, subst, Result, Ok, Err}
-use Rattle.py_model.specs.Plan.{Plan}
+use Rattle.std.proofs.Common.{◌≡◌, refl, sym, subst, inr, Result, Ok, Err}
+use Rattle.py_model.specs.Plan.{Plan, runs_away}
 use Rattle.py_model.specs.Store.{RunStore}
 use Rattle.py_value.specs.Values.{ValuesView, AreInterned}
 use Rattle.op_work.specs.declared.stop.Stop.{Stop}
@@ -53,4 +53,20 @@ pub turns_same : {A : Type 0} {p q r : Plans A} {a b : WorkView} → Turns p q a
 turns_same {p = p} {a = a} {b = b} one same = record {
   kept = one.kept;
   came = λ table store extends seen go. subst (λ plan. Goes table a b (under store (p table go)) (under store plan)) (same table seen.interned extends go) (one.came table store extends seen go);
+}
+
+-- the plan that is left never ends within any budget
+pub turns_away : {A T : Type 0} {named : ValuesView → T → Type 0} {seen : ValuesView → T → A} {p : Plans A} {a b : WorkView} → Turns p (λ table go. runs_away) a b
+    → Comes named seen p a b (Err TooDear)
+turns_away one = record {
+  kept = one.kept;
+  is_named = tt;
+  came = λ table store extends seen_is go.
+      let goes = one.came table store extends seen_is go in record {
+        touches = goes.touches;
+        plain = goes.plain;
+        behind = under store runs_away;
+        effect_is = goes.effect_is;
+        dear = inr (λ answers. refl);
+      };
 }

@@ -1,7 +1,7 @@
 -- What an operation that is at its end leaves (this project's profile).
-use Rattle.std.specs.Prelude.{◌≡◌, ◌+◌, ◌/◌, List, [], ◌∷◌, Option, None}
+use Rattle.std.specs.Prelude.{◌≡◌, ℕ, ◌+◌, ◌/◌, List, [], ◌∷◌, Option, Some, None}
 use Rattle.prov_base.specs.declared.place.Pos.{Pos}
-use Rattle.object_store.specs.Store.{StoreView, content_at}
+use Rattle.object_store.specs.Store.{StoreView, content_at, Notes}
 use Rattle.op_work.specs.Work.{WorkView, method_in}
 use Rattle.py_model.specs.declared.doer.Deed.{Deed}
 use Rattle.py_model.specs.declared.moment.Answer.{Answer as OneAnswer}
@@ -28,3 +28,8 @@ pub record IsDeed (work : WorkView) (answer : OneAnswer) (deed : Deed) : Type 0 
   pub accesses_are : deed.accesses ≡ work.touched
   pub weight_is : deed.weight ≡ work.looks + (work.characters + 63) / 64
   pub method_is : deed.method ≡ last_method work.store work.touched None
+
+-- the name that the operation notes is noted, and every other place keeps its name
+abbrev pub Noted : Option (Pos × ℕ) → StoreView → StoreView → Type 0
+Noted None old new = new.names ≡ old.names
+Noted (Some note) old new = Notes old new note.0 note.1

@@ -1,30 +1,35 @@
 -- What an operation did so far, beside its plan (this project's profile).
-use Rattle.std.specs.Prelude.{◌≡◌, ℕ, Bool, false, ◌+◌, ◌/◌, ◌≤◌, ◌<◌, ⊤, List, [], ◌∷◌, ◌++◌, map, length, Option, Some, None, Result, Ok, Err}
+use Rattle.std.specs.Prelude.{◌≡◌, ◌⊎◌, ℕ, Bool, false, ◌+◌, ◌/◌, ◌≤◌, ◌<◌, ⊤, List, [], ◌∷◌, ◌++◌, map, length, slice_get, Option, Some, None, IsSome, Result, Ok, Err}
 use Rattle.std.specs.Option.{option_map}
 use Rattle.prov_base.specs.declared.place.Pos.{Pos}
 use Rattle.py_value.specs.Contents.{Contents, contents, exception_class}
 use Rattle.py_value.specs.Seen.{SeenKind, location_seen, access_seen, kind_seen, bytes_of, IsNamedLocation}
 use Rattle.py_value.specs.Values.{ValuesView, IsNamed, AreInterned, Keeps}
 use Rattle.py_value.specs.declared.access.Access.{Access}
+use Rattle.py_value.specs.declared.access.Access.TheVariants.{Update}
 use Rattle.py_value.specs.declared.access.Content.{Content}
 use Rattle.py_value.specs.declared.access.Content.TheVariants.{Var as VarContent, Len as LenContent, Offset as OffsetContent, Closed as ClosedContent, Method as MethodContent, Base as BaseContent}
 use Rattle.py_value.specs.declared.access.Kind.{Kind}
+use Rattle.py_value.specs.declared.access.Kind.TheVariants.{File as FileKind}
+use Rattle.py_value.specs.declared.access.Mode.{Mode}
 use Rattle.py_value.specs.declared.access.Location.{Location}
+use Rattle.py_value.specs.declared.access.Location.TheVariants.{File as FilePlace}
 use Rattle.py_value.specs.declared.value.Value.{Value}
 use Rattle.object_store.specs.Seen.{held_seen}
-use Rattle.object_store.specs.Store.{StoreView, IsReadWhole, held_at, keys_at, kinds, name_at}
-use Rattle.py_model.specs.Effect.{Answers, Effect, Touch, accessed, looked, counted, effect, written, answered, accesses_in, looked_at, characters_in}
+use Rattle.object_store.specs.Store.{StoreView, IsReadWhole, held_at, keys_at, file_at as held_file, kinds, name_at}
+use Rattle.py_model.specs.Effect.{Answers, Effect, Touch, accessed, looked, counted, printed, noted, opened, asked, fetched, effect, written, answered, unpaid, accesses_in, looked_at, characters_in}
 use Rattle.py_model.specs.Faults.{fault}
 use Rattle.py_model.specs.declared.moment.Answer.{Answer as OneAnswer}
 use Rattle.py_model.specs.Told.{answer_seen, IsNamedAnswer}
 use Rattle.py_model.specs.Plan.{Plan, Writes, raises}
-use Rattle.py_model.specs.Store.{RunStore, order_of}
+use Rattle.py_model.specs.Store.{RunStore, order_of, file_of}
 use Rattle.py_model.specs.Touches.{prefixed}
 use Rattle.op_work.specs.declared.stop.Stop.{Stop}
 use Rattle.op_work.specs.declared.stop.Stop.TheVariants.{Raises, TooDear, Memory}
 
 -- The store and the values, and what the operation did so far: its accesses, the kind of the object that it makes, how many items it
--- looked at and characters it counted; and the steps that were left when it began.
+-- looked at and characters it counted; the steps that were left when it began; and the bytes that it prints, the name that it notes, and
+-- the paths that it opened for writing.
 pub record WorkView : Type 0 where
   pub store : StoreView
   pub values : ValuesView
@@ -33,6 +38,9 @@ pub record WorkView : Type 0 where
   pub looks : ℕ
   pub characters : ℕ
   pub left : ℕ
+  pub printed : List ℕ
+  pub note : Option (Pos × ℕ)
+  pub opens : List ℕ
 
 -- what the operation costs so far
 abbrev pub cost_of : ℕ → ℕ → ℕ → ℕ
@@ -44,21 +52,61 @@ pub record Extends (old new : ValuesView) : Type 0 where
   pub tuples : Keeps old.tuples new.tuples
   pub few : (length old.texts ≤ length new.texts) × (length old.tuples ≤ length new.tuples)
 
--- A store of a run is what the store holds, by the numbers of a table. Nothing is said of files.
+-- A store of a run is what the store holds, by the numbers of a table. A file that the store has not yet may be there. Of each file object
+-- the store has the file.
 pub record IsSeen (table : ValuesView) (store : StoreView) (seen : RunStore) : Type 0 where
   pub interned : AreInterned table
   pub whole : (l : Location) → IsReadWhole l → IsNamedLocation table l → seen.at (location_seen table l) ≡ option_map (held_seen table) (held_at store l)
   pub orders : (o : ℕ) → order_of seen o ≡ map (contents table) (keys_at store o)
+  pub files : (path : ℕ) → path < length table.texts → IsSome (held_file store path) → file_of seen (bytes_of table path) ≡ held_file store path
+  pub opened_files : (o path : ℕ) (mode : Mode) → slice_get (kinds store) o ≡ Some (FileKind path mode) → IsSome (held_file store path)
   pub kinds_are : seen.kinds ≡ map (kind_seen table) (kinds store)
   pub names_are : (place : Pos) → seen.names place ≡ option_map (bytes_of table) (name_at store place)
 
--- each touch is an access, items that were looked at, or characters that were counted
+-- nothing is asked and nothing fetched
 abbrev pub ArePlain : List Touch → Type 0
 ArePlain [] = ⊤
-ArePlain (accessed access ∷ touches) = ArePlain touches
-ArePlain (looked n ∷ touches) = ArePlain touches
-ArePlain (counted n ∷ touches) = ArePlain touches
-ArePlain (other ∷ touches) = ⊥
+ArePlain (asked what ∷ touches) = ⊥
+ArePlain (fetched path ∷ touches) = ⊥
+ArePlain (other ∷ touches) = ArePlain touches
+
+-- the name that it notes, and the paths that it opened, have numbers
+abbrev pub AreNamedPaths : ValuesView → List ℕ → Type 0
+AreNamedPaths values [] = ⊤
+AreNamedPaths values (path ∷ paths) = (path < length values.texts) × AreNamedPaths values paths
+
+abbrev pub AreNamedSayings : ValuesView → Option (Pos × ℕ) → List ℕ → Type 0
+AreNamedSayings values (Some note) paths = (note.1 < length values.texts) × AreNamedPaths values paths
+AreNamedSayings values None paths = AreNamedPaths values paths
+
+-- each file that is appended to is there
+abbrev pub IsThere : StoreView → Access → Type 0
+IsThere store (Update (FilePlace path) how) = IsSome (held_file store path)
+IsThere store access = ⊤
+
+abbrev pub AreThere : StoreView → List Access → Type 0
+AreThere store [] = ⊤
+AreThere store (access ∷ accesses) = IsThere store access × AreThere store accesses
+
+-- what an operation says besides its accesses: the bytes that it prints, the names that it notes, and the paths that it opened for writing
+pub record Said : Type 0 where
+  pub bytes : List ℕ
+  pub names : List (Pos × List ℕ)
+  pub paths : List (List ℕ)
+
+abbrev pub said_after : List Touch → Said → Said
+said_after [] said = said
+said_after (printed bytes ∷ touches) said = said_after touches (record said { bytes = said.bytes ++ bytes })
+said_after (noted place name ∷ touches) said = said_after touches (record said { names = said.names ++ (place, name) ∷ [] })
+said_after (opened path ∷ touches) said = said_after touches (record said { paths = said.paths ++ path ∷ [] })
+said_after (other ∷ touches) said = said_after touches said
+
+abbrev pub names_said : ValuesView → Option (Pos × ℕ) → List (Pos × List ℕ)
+names_said table (Some note) = (note.0, bytes_of table note.1) ∷ []
+names_said table None = []
+
+abbrev pub said_of : ValuesView → WorkView → Said
+said_of table work = record { bytes = work.printed; names = names_said table work.note; paths = map (bytes_of table) work.opens }
 
 abbrev pub Leads : Type 0
 Leads = Answers → Effect
@@ -75,14 +123,16 @@ pub record Goes (table : ValuesView) (old new : WorkView) (before behind : Leads
   pub touched_is : map (access_seen table) new.touched ≡ map (access_seen table) old.touched ++ accesses_in touches
   pub looks_are : new.looks ≡ old.looks + looked_at touches
   pub characters_are : new.characters ≡ old.characters + characters_in touches
+  pub said_is : said_of table new ≡ said_after touches (said_of table old)
 
--- What an effect begins with costs more than was left.
+-- What an effect begins with costs more than was left, or no budget pays for it.
 pub record IsDear (old : WorkView) (before : Leads) : Type 0 where
   pub touches : List Touch
   pub plain : ArePlain touches
   pub behind : Leads
   pub effect_is : (answers : Answers) → before answers ≡ prefixed touches (behind answers)
-  pub dear : old.left < cost_of (length old.touched + length (accesses_in touches)) (old.looks + looked_at touches) (old.characters + characters_in touches)
+  pub dear : (old.left < cost_of (length old.touched + length (accesses_in touches)) (old.looks + looked_at touches) (old.characters + characters_in touches))
+      ⊎ ((answers : Answers) → (behind answers).outcome ≡ unpaid)
 
 -- the store stays, nothing is made, and what had a number keeps it
 pub record IsKept (old new : WorkView) : Type 0 where

@@ -12,7 +12,7 @@ ghost use Rattle.py_value.specs.Values.{AreInterned, IsNamed};
 ghost use Rattle.py_value.specs.declared.access.Location.TheVariants.{Entry};
 ghost use Rattle.py_value.specs.declared.key.KeyFault.TheVariants.{Memory as OutOfMemory};
 
-use crate::{Stop, Work};
+use crate::{Stop, Work, sayings_stay};
 use object_store::named_stays;
 use py_value::{
     Content, Key, KeyFault, Kind, Location, Value, contents_stay, key_faults_of_contents,
@@ -48,6 +48,7 @@ impl Work {
         ensures interned { AreInterned self.old.values }
     {
         named_stays();
+        sayings_stay();
         self.values.key_of(alloc, v)
     }
 

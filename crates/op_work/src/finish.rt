@@ -4,7 +4,7 @@ ghost use Rattle.object_store.specs.Named.{IsNamedStore};
 ghost use Rattle.object_store.specs.Performing.{SuitInTurn, kinds_with};
 ghost use Rattle.object_store.specs.Seen.{seen_at};
 ghost use Rattle.object_store.specs.Store.{Keeps as KeepsStore, IsReservedFor, kinds};
-ghost use Rattle.op_work.specs.Finish.{IsDeed, last_method};
+ghost use Rattle.op_work.specs.Finish.{IsDeed, Noted, last_method};
 ghost use Rattle.op_work.specs.Work.{Extends};
 ghost use Rattle.py_value.specs.Changes.{after_accesses};
 ghost use Rattle.py_value.specs.Seen.{access_seen};
@@ -21,7 +21,7 @@ use std::mem;
 impl Work {
     /// A new operation begins, with so many steps left. It is too dear where there is none.
     pub fn begin(&mut self, left: u32) -> Result<(), Stop>
-        ensures begun { OnOk result (self.new ≡ record self.old { touched = []; made = None; looks = 0; characters = 0; left = left }) }
+        ensures begun { OnOk result (self.new ≡ record self.old { touched = []; made = None; looks = 0; characters = 0; left = left; printed = []; note = None; opens = [] }) }
         ensures left { OnOk result (0 < left) }
         ensures dear { OnErr result ((left ≡ 0) × (self.new ≡ self.old)) }
     {
@@ -33,6 +33,9 @@ impl Work {
         self.characters = 0;
         self.made = None;
         self.touched.clear();
+        self.printed.clear();
+        self.note = None;
+        self.opens.clear();
         Ok(())
     }
 
@@ -41,7 +44,8 @@ impl Work {
         ensures deed { IfOk result (λ deed. IsDeed self.old answer deed) }
         ensures values { self.new.values ≡ self.old.values }
         ensures kinds { OnOk result (kinds self.new.store ≡ kinds_with self.old.made (kinds self.old.store)) }
-        ensures names { OnOk result (self.new.store.names ≡ self.old.store.names) }
+        ensures names { OnOk result (Noted self.old.note self.old.store self.new.store) }
+        ensures said { (self.new.printed ≡ self.old.printed) × (self.new.opens ≡ self.old.opens) }
         ensures writes { OnOk result ((table : ValuesView) → AreInterned table → Extends self.old.values table → IsNamedStore table self.old.store
             → SuitInTurn (seen_at table self.old.store) (map (access_seen table) self.old.touched)
             → seen_at table self.new.store ≡ after_accesses (map (access_seen table) self.old.touched) (seen_at table self.old.store)) }
@@ -50,8 +54,8 @@ impl Work {
         let method = self.method();
         let weight = (self.looks + (self.characters + 63) / 64) as u32;
         self.reserve(alloc)?;
-        self.write_all();
-        let accesses = Accesses::of(mem::replace(&mut self.touched, Vec::new(alloc)));
+        self.note_name()?;
+        let accesses = self.write_all(alloc);
         let made = self.made;
         self.made = None;
         Ok(Deed {
@@ -87,10 +91,29 @@ impl Work {
             .reserve_for(alloc, self.touched.as_slice(), self.made, &self.values)
     }
 
-    // All writes of the operation are done.
-    fn write_all(&mut self)
+    // The name that the operation notes is noted.
+    fn note_name(&mut self) -> Result<(), Memory>
         requires { IsReservedFor self.old.values self.old.store self.old.made self.old.touched }
+        ensures noted { OnOk result (Noted self.old.note self.old.store self.new.store) }
+        ensures only { self.new.store ≡ record self.old.store { names = self.new.store.names } }
+        ensures named { (table : ValuesView) → Extends self.old.values table → IsNamedStore table self.old.store → IsNamedStore table self.new.store }
+        ensures kinds { kinds self.new.store ≡ kinds self.old.store }
+        ensures reserved { IsReservedFor self.new.values self.new.store self.new.made self.new.touched }
+        ensures err { OnErr result (self.new ≡ self.old) }
         ensures same { self.new ≡ record self.old { store = self.new.store } }
+    {
+        named_stays();
+        if let Some((place, name)) = self.note {
+            self.store.name_place(place, name)?;
+        }
+        Ok(())
+    }
+
+    // All writes of the operation are done, and its accesses are told.
+    fn write_all(&mut self, alloc: Global) -> Accesses
+        requires { IsReservedFor self.old.values self.old.store self.old.made self.old.touched }
+        ensures touched { result ≡ self.old.touched }
+        ensures same { self.new ≡ record self.old { store = self.new.store; touched = [] } }
         ensures kinds { kinds self.new.store ≡ kinds_with self.old.made (kinds self.old.store) }
         ensures names { self.new.store.names ≡ self.old.store.names }
         ensures writes { (table : ValuesView) → AreInterned table → Extends self.old.values table → IsNamedStore table self.old.store
@@ -98,7 +121,9 @@ impl Work {
             → seen_at table self.new.store ≡ after_accesses (map (access_seen table) self.old.touched) (seen_at table self.old.store) }
     {
         named_stays();
+        let touched = mem::replace(&mut self.touched, Vec::new(alloc));
         self.store
-            .perform(self.touched.as_slice(), self.made, &self.values);
+            .perform(touched.as_slice(), self.made, &self.values);
+        Accesses::of(touched)
     }
 }

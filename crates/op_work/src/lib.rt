@@ -9,7 +9,9 @@
 //!   exceptions of the language with a text.
 //! - [`Work::key_of`], [`Work::read_entry`]: the key that a value is, its normal form, and the entry of a dictionary that stands there.
 //! - [`Work::make`], [`Work::set`], [`Work::update`]: the writes (`Wrote`). They are noted, and nothing is done to the store yet.
-//! - [`Work::raise`] makes an exception with one argument and raises it.
+//! - [`Work::print`], [`Work::note`], [`Work::open`]: what it prints, the name of a function or class, a path that was opened for writing. They are kept
+//!   until the end. [`Work::read_file`], [`Work::move_item`]: a file that is read, an item of a list that moves.
+//! - [`Work::raise`] makes an exception with one argument and raises it, [`Work::throw`] one of any class with any arguments.
 //! - [`Work::finish`] takes memory for all writes, does them, and answers what is told of the operation; after a refusal the store is as before.
 //!   What the map over contents is afterwards is said where the writes suit it (`SuitInTurn` of `object_store`).
 //!
@@ -19,18 +21,21 @@
 //!
 //! What the counters are after [`Work::finish`] is not said, since [`Work::begin`] sets them.
 //!
-//! Not here yet: files and devices, notes of names, and what is printed.
+//! What is asked of devices and fetched is no step here: the plan is followed up to there, and from there on with what was answered.
 #![tactic(auto)]
 
 mod entries;
+mod files;
 mod finish;
 mod raise;
 mod readers;
 mod reads;
+mod sayings;
 mod steps;
 mod stop;
 mod work;
 mod writes;
 
+pub use sayings::sayings_stay;
 pub use stop::Stop;
 pub use work::Work;

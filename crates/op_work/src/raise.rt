@@ -1,10 +1,11 @@
 // The exception that an operation raises: it is made, with what it was given as its attribute `args`.
-ghost use Rattle.std.specs.Prelude.{◌≡◌, None, length};
+ghost use Rattle.std.specs.Prelude.{◌≡◌, None, length, map};
 ghost use Rattle.object_store.specs.Store.{count_with};
 ghost use Rattle.op_work.specs.Raise.{args_set};
 ghost use Rattle.op_work.specs.Work.{Ends, WroteAll, raising};
 ghost use Rattle.py_value.specs.Contents.{contents};
-ghost use Rattle.py_value.specs.Values.{IsNamed};
+ghost use Rattle.py_model.specs.Plan.{raises};
+ghost use Rattle.py_value.specs.Values.{IsNamed, AreNamed};
 ghost use Rattle.std.specs.Prelude.{◌<◌};
 
 use crate::{Stop, Work};
@@ -19,10 +20,20 @@ impl Work {
         requires fresh { self.old.made ≡ None }
         ensures { Ends (λ table. raising table class argument) self.old self.new result }
     {
+        self.throw(alloc, Value::Exc(class), &[argument])
+    }
+
+    /// An exception of a class is made with its arguments and raised.
+    pub fn throw(&mut self, alloc: Global, of: Value, given: &[Value]) -> Result<Answer, Stop>
+        requires class { IsNamed self.old.values of }
+        requires named { AreNamed self.old.values given.now }
+        requires fresh { self.old.made ≡ None }
+        ensures { Ends (λ table. raises (contents table of) (map (contents table) given.now)) self.old self.new result }
+    {
         tuples_are_their_parts();
         let args = self.number(alloc, "args")?;
-        let items = self.tuple_number(alloc, &[argument])?;
-        let o = self.make(Kind::Instance(Value::Exc(class)));
+        let items = self.tuple_number(alloc, given)?;
+        let o = self.make(Kind::Instance(of));
         self.set_args(alloc, o, Value::Text(args), Value::Tuple(items))?;
         Ok(Answer::Raised(o))
     }

@@ -59,7 +59,7 @@ impl Work {
     }
 
     // The item of a list as it stands.
-    fn item(&self, o: u32, i: u64) -> Option<Value>
+    pub(crate) fn item(&self, o: u32, i: u64) -> Option<Value>
         ensures { result ≡ item_at self.now.store o i }
     {
         match self.store.read(Location::Item(o, i)) {

@@ -10,7 +10,7 @@ ghost use Rattle.py_value.specs.Contents.{Contents, contents, text as text_conte
 ghost use Rattle.py_value.specs.Values.{IsNamed, AreNamed, AreInterned};
 ghost use Rattle.py_value.specs.Named.{IsNamedKind};
 
-use crate::{Stop, Work};
+use crate::{Stop, Work, sayings_stay};
 use object_store::named_stays;
 use prov_base::{Memory, Pos};
 use py_value::{Kind, Value, tuples_are_their_parts};
@@ -80,6 +80,7 @@ impl Work {
         ensures extends { Extends self.old.values self.new.values }
     {
         named_stays();
+        sayings_stay();
         let number = self.values.text(alloc, words)?;
         Ok(number)
     }
@@ -102,6 +103,7 @@ impl Work {
         ensures extends { Extends self.old.values self.new.values }
     {
         named_stays();
+        sayings_stay();
         let number = self.values.tuple(alloc, items)?;
         Ok(number)
     }

@@ -8,6 +8,7 @@ ghost use Rattle.py_value.specs.declared.access.Access.TheVariants.{Read};
 
 use crate::Stop;
 use object_store::Store;
+use prov_base::Pos;
 use py_value::{Access, Kind, Location, Values};
 use std::alloc::Global;
 use std::marker::Model;
@@ -22,11 +23,14 @@ pub struct Work {
     pub(crate) looks: u64,
     pub(crate) characters: u64,
     pub(crate) left: u32,
+    pub(crate) printed: Vec<u8>,
+    pub(crate) note: Option<(Pos, u32)>,
+    pub(crate) opens: Vec<u32>,
 }
 
 impl Model for Work {
     ghost use Rattle.std.specs.Prelude.{◌≤◌, ◌+◌, length};
-    ghost use Rattle.op_work.specs.Work.{WorkView, cost_of};
+    ghost use Rattle.op_work.specs.Work.{WorkView, cost_of, AreNamedSayings, AreThere};
     ghost use Rattle.object_store.specs.Named.{IsNamedStore};
     ghost use Rattle.object_store.specs.Room.{AreWithin};
     ghost use Rattle.object_store.specs.Store.{count_with};
@@ -35,9 +39,9 @@ impl Model for Work {
 
     ghost Value = { WorkView };
 
-    ghost view = { λ w. record { store = w.store; values = w.values; touched = w.touched.items; made = w.made; looks = w.looks; characters = w.characters; left = w.left } };
+    ghost view = { λ w. record { store = w.store; values = w.values; touched = w.touched.items; made = w.made; looks = w.looks; characters = w.characters; left = w.left; printed = w.printed.items; note = w.note; opens = w.opens.items } };
 
-    ghost invariant = { λ w. (cost_of (length w.touched.items) w.looks w.characters ≤ w.left) × ((AreInterned w.values × IsNamedStore w.values w.store) × (AreNamedAccesses w.values w.touched.items × (IsNamedKind w.values w.made × AreWithin (count_with w.made w.store) w.touched.items))) };
+    ghost invariant = { λ w. ((cost_of (length w.touched.items) w.looks w.characters ≤ w.left) × AreNamedSayings w.values w.note w.opens.items) × ((AreInterned w.values × IsNamedStore w.values w.store) × (AreNamedAccesses w.values w.touched.items × (IsNamedKind w.values w.made × (AreWithin (count_with w.made w.store) w.touched.items × AreThere w.store w.touched.items)))) };
 }
 
 impl Work {
@@ -45,7 +49,7 @@ impl Work {
     pub fn new(alloc: Global, store: Store, values: Values) -> Work
         requires interned { AreInterned values }
         requires named { IsNamedStore values store }
-        ensures { result ≡ record { store = store; values = values; touched = []; made = None; looks = 0; characters = 0; left = 1 } }
+        ensures { result ≡ record { store = store; values = values; touched = []; made = None; looks = 0; characters = 0; left = 1; printed = []; note = None; opens = [] } }
     {
         Work {
             store,
@@ -55,6 +59,9 @@ impl Work {
             looks: 0,
             characters: 0,
             left: 1,
+            printed: Vec::new(alloc),
+            note: None,
+            opens: Vec::new(alloc),
         }
     }
 

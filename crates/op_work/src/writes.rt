@@ -2,7 +2,7 @@
 ghost use Rattle.std.specs.Prelude.{◌≡◌, ◌∷◌, ◌++◌, [], length, None, Some, OnOk, OnErr, IfErr};
 ghost use Rattle.object_store.specs.Room.{IsWithin};
 ghost use Rattle.object_store.specs.Store.{count_with, kinds};
-ghost use Rattle.op_work.specs.Work.{Wrote, IsUnpaid};
+ghost use Rattle.op_work.specs.Work.{Wrote, IsUnpaid, IsThere};
 ghost use Rattle.py_model.specs.Plan.{write, change as plan_change};
 ghost use Rattle.py_value.specs.Named.{IsNamedAccess, IsNamedKind};
 ghost use Rattle.py_value.specs.Seen.{location_seen, content_seen, change_seen};
@@ -34,7 +34,7 @@ impl Work {
     }
 
     // A Set is noted, where it can be paid for.
-    fn note_set(&mut self, l: Location, content: Content) -> Result<(), Stop>
+    pub(crate) fn note_set(&mut self, l: Location, content: Content) -> Result<(), Stop>
         requires named { IsNamedAccess self.old.values (Set l content) }
         requires within { IsWithin (count_with self.old.made self.old.store) l }
         ensures done { OnOk result (self.new ≡ record self.old { touched = self.old.touched ++ Set l content ∷ [] }) }
@@ -48,10 +48,11 @@ impl Work {
         Ok(())
     }
 
-    /// A location is changed, and keeps the rest of what stands there.
+    /// A location is changed, and keeps the rest of what stands there. A file that is appended to is there.
     pub fn update(&mut self, l: Location, how: Change) -> Result<(), Stop>
         requires named { IsNamedAccess self.old.values (Update l how) }
         requires within { IsWithin (count_with self.old.made self.old.store) l }
+        requires there { IsThere self.old.store (Update l how) }
         ensures { Wrote (λ table. plan_change (location_seen table l) (change_seen table how)) self.old self.new result }
     {
         self.note_update(l, how)
@@ -61,6 +62,7 @@ impl Work {
     fn note_update(&mut self, l: Location, how: Change) -> Result<(), Stop>
         requires named { IsNamedAccess self.old.values (Update l how) }
         requires within { IsWithin (count_with self.old.made self.old.store) l }
+        requires there { IsThere self.old.store (Update l how) }
         ensures done { OnOk result (self.new ≡ record self.old { touched = self.old.touched ++ Update l how ∷ [] }) }
         ensures unpaid { IfErr result (λ stop. IsUnpaid self.old 1 0 stop) }
         ensures same { OnErr result (self.new ≡ self.old) }

@@ -10,7 +10,7 @@ pub invariant_of-self : goal.invariant_of-self
 invariant_of-self c =
     let w = c.self.inside in
     let extends = tuples_more w.values c.key_of.new.self c.key_of.ensures.texts c.key_of.ensures.keeps c.key_of.ensures.grows in (
-      c.self.invariant.0,
+      (c.self.invariant.0.0, c.sayings_stay.ensures.grown w.values c.key_of.new.self w.note w.opens.items extends.few.0 c.self.invariant.0.1),
       (
         (c.key_of.ensures.interned, c.named_stays.ensures.grown w.values c.key_of.new.self w.store extends.texts extends.tuples c.self.invariant.1.0.1),
         (c.named_stays.ensures.plans w.values c.key_of.new.self w.touched.items extends.texts extends.tuples c.self.invariant.1.1.0, (kind_on extends w.made c.self.invariant.1.1.1.0, c.self.invariant.1.1.1.1)),

@@ -18,7 +18,7 @@ invariant_of-self c =
           c.self.invariant.1.1.0,
           (
             named,
-            within_made w.store c.args.kind w.touched.items (subst (λ made. AreWithin (count_with made w.store) w.touched.items) none c.self.invariant.1.1.1.1),
+            (within_made w.store c.args.kind w.touched.items (subst (λ made. AreWithin (count_with made w.store) w.touched.items) none c.self.invariant.1.1.1.1.0), c.self.invariant.1.1.1.1.1),
           ),
         ),
       ),
