@@ -1,10 +1,13 @@
 -- What an operation that is at its end leaves (this project's profile).
-use Rattle.std.specs.Prelude.{◌≡◌, ℕ, ◌+◌, ◌/◌, List, [], ◌∷◌, Option, Some, None}
+use Rattle.std.specs.Prelude.{◌≡◌, ℕ, ◌+◌, ◌/◌, ◌≤◌, length, List, [], ◌∷◌, Option, Some, None}
 use Rattle.prov_base.specs.declared.place.Pos.{Pos}
 use Rattle.object_store.specs.Store.{StoreView, content_at, Notes}
-use Rattle.op_work.specs.Work.{WorkView, method_in}
+use Rattle.op_work.specs.Work.{WorkView, cost_of, method_in, AreThere, AreNamedSayings}
 use Rattle.py_model.specs.declared.doer.Deed.{Deed}
 use Rattle.py_model.specs.declared.moment.Answer.{Answer as OneAnswer}
+use Rattle.object_store.specs.Named.{IsNamedStore}
+use Rattle.py_value.specs.Named.{AreNamedAccesses, IsNamedKind}
+use Rattle.py_value.specs.Values.{AreInterned}
 use Rattle.py_value.specs.declared.access.Access.{Access}
 use Rattle.py_value.specs.declared.access.Access.TheVariants.{Read, Set, Update}
 use Rattle.py_value.specs.declared.access.Location.{Location}
@@ -33,3 +36,13 @@ pub record IsDeed (work : WorkView) (answer : OneAnswer) (deed : Deed) : Type 0 
 abbrev pub Noted : Option (Pos × ℕ) → StoreView → StoreView → Type 0
 Noted None old new = new.names ≡ old.names
 Noted (Some note) old new = Notes old new note.0 note.1
+
+-- What is so at any time: the operation is paid for, all that it names has numbers, and the files that it appends to are there.
+pub record IsSound (work : WorkView) : Type 0 where
+  pub pays : cost_of (length work.touched) work.looks work.characters ≤ work.left
+  pub interned : AreInterned work.values
+  pub store : IsNamedStore work.values work.store
+  pub accesses : AreNamedAccesses work.values work.touched
+  pub kind : IsNamedKind work.values work.made
+  pub there : AreThere work.store work.touched
+  pub said : AreNamedSayings work.values work.note work.opens

@@ -4,7 +4,7 @@ ghost use Rattle.object_store.specs.Named.{IsNamedStore};
 ghost use Rattle.object_store.specs.Performing.{SuitInTurn, kinds_with};
 ghost use Rattle.object_store.specs.Seen.{seen_at};
 ghost use Rattle.object_store.specs.Store.{Keeps as KeepsStore, IsReservedFor, kinds};
-ghost use Rattle.op_work.specs.Finish.{IsDeed, Noted, last_method};
+ghost use Rattle.op_work.specs.Finish.{IsDeed, IsSound, Noted, last_method};
 ghost use Rattle.op_work.specs.Work.{Extends};
 ghost use Rattle.py_value.specs.Changes.{after_accesses};
 ghost use Rattle.py_value.specs.Seen.{access_seen};
@@ -50,6 +50,10 @@ impl Work {
             → SuitInTurn (seen_at table self.old.store) (map (access_seen table) self.old.touched)
             → seen_at table self.new.store ≡ after_accesses (map (access_seen table) self.old.touched) (seen_at table self.old.store)) }
         ensures refused { OnErr result (KeepsStore self.old.store self.new.store) }
+
+        // What is known of the work before, and of the store afterwards.
+        ensures sound { IsSound self.old }
+        ensures named { IsNamedStore self.new.values self.new.store }
     {
         let method = self.method();
         let weight = (self.looks + (self.characters + 63) / 64) as u32;

@@ -1,6 +1,6 @@
 use Rattle.std.proofs.Common.{ap, subst, ◌∙◌}
 use Rattle.object_store.specs.Seen.{seen_at}
-use Rattle.op_work.specs.Finish.{Noted}
+use Rattle.op_work.specs.Finish.{IsSound, Noted}
 use Rattle.op_work.specs.Work.{WorkView}
 use Rattle.op_work.proofs.Finishing.{writes_reserved, writes_noted, noted_between}
 use Rattle.op_work.proofs.work.Work.finish.Goals as goal
@@ -17,3 +17,17 @@ returns-clause-names c = noted_between c.args.self.now.note c.args.self.now.stor
     c.reserve.ensures.keeps.names_stay
     (subst (λ note. Noted note c.reserve.new.self.store c.note_name.new.self.store) (ap (λ (w : WorkView). w.note) c.reserve.ensures.same) c.in_ok-note_name.ensures.noted)
     (ap (λ (w : WorkView). w.store.names) c.self-2.view_is ∙ c.write_all-accesses.ensures.names)
+
+pub returns-clause-sound : goal.returns-clause-sound
+returns-clause-sound c = subst IsSound c.self.view_is (record {
+  pays = c.self.invariant.0.0;
+  interned = c.self.invariant.1.0.0;
+  store = c.self.invariant.1.0.1;
+  accesses = c.self.invariant.1.1.0;
+  kind = c.self.invariant.1.1.1.0;
+  there = c.self.invariant.1.1.1.1.1;
+  said = c.self.invariant.0.1;
+})
+
+pub returns-clause-named : goal.returns-clause-named
+returns-clause-named c = c.self-2.invariant.1.0.1
