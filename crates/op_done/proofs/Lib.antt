@@ -1,0 +1,4 @@
+pub mod Completing
+pub mod Finding
+pub mod Sayings
+pub mod Seeing
