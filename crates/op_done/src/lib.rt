@@ -6,6 +6,7 @@
 //! - [`complete`]: whatever plan of `py_model` the operation followed, its effect in the run's store is what is told of it (answer, object made,
 //!   accesses, weight, method), it is paid for, and what is held afterwards is the run's store then (`IsHappened` in `specs/Happening.antt`). Asked
 //!   is that the plan's writes suit that store, which `keyed_plans` says of every operation.
+//! - [`operations_happen`]: so one that asks nothing happened in a run as it is told; and one that came to more than can be paid for did not happen.
 //! - [`holding_is_seen`]: what is held is seen by the work of an operation (`IsSeen` of `op_work`).
 #![tactic(auto)]
 
@@ -13,4 +14,4 @@ mod ending;
 mod laws;
 
 pub use ending::complete;
-pub use laws::holding_is_seen;
+pub use laws::{holding_is_seen, operations_happen};
