@@ -1,1 +1,2 @@
+pub mod AddingPlans
 pub mod ReceiverPlans

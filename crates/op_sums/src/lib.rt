@@ -3,8 +3,10 @@
 //! - [`extend`] (81): a list is extended in place; [`extend_list`] serves `+=` too.
 #![tactic(auto)]
 
+mod adding;
 mod extending;
 mod receivers;
 
+pub use adding::{add, added};
 pub use extending::{extend, extend_list};
 pub use receivers::list_operand;
