@@ -9,7 +9,7 @@ use Rattle.py_model.specs.Faults.{wrong_kind}
 use Rattle.py_model.specs.Operands.{when_lists, with_numbers, gives_int}
 use Rattle.py_model.specs.Plan.{Plan}
 use Rattle.py_model.specs.Texts.{size, is_continuation}
-use Rattle.py_value.specs.Contents.{Contents, contents}
+use Rattle.py_value.specs.Contents.{contents}
 use Rattle.py_value.specs.Seen.{bytes_of}
 use Rattle.py_value.specs.Values.{ValuesView, IsNamed, AreNamed}
 use Rattle.py_value.specs.declared.access.Kind.{Kind}

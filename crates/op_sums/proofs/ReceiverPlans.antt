@@ -1,5 +1,5 @@
 -- Methods of lists as plans of their operands.
-use Rattle.std.proofs.Common.{◌≡◌, ◌∙◌, refl, sym, ap, arith, eqb-true, eq-eqb, ℕ, suc, ◌==◌, Bool, true, false, Option, Some, None, List, [], ◌∷◌, map, length, slice_index_or, if◌then◌else◌}
+use Rattle.std.proofs.Common.{◌≡◌, ◌∙◌, refl, sym, ap, arith, eqb-true, eq-eqb, ℕ, suc, ◌==◌, Bool, true, false, Some, None, List, [], ◌∷◌, map, length, slice_index_or, if◌then◌else◌}
 use Rattle.std.proofs.lemmas.List.{length-map}
 use Rattle.py_model.specs.Faults.{wrong_kind, wrong_number}
 use Rattle.py_model.specs.Lists.{when_list, extend}
@@ -16,7 +16,7 @@ by_true : (b : Bool) (one other : Plan) → b ≡ true → (if b then one else o
 by_true true one other is = refl
 by_true false one other is = absurd (cc)
 
-by_false : (b : Bool) (one other : Plan) → (b ≡ true → ⊥) → (if b then one else other) ≡ other
+pub by_false : (b : Bool) (one other : Plan) → (b ≡ true → ⊥) → (if b then one else other) ≡ other
 by_false true one other apart = absurd (apart refl)
 by_false false one other apart = refl
 

@@ -1,5 +1,5 @@
 -- Which two values are put one behind the other, and which are added as numbers.
-use Rattle.std.specs.Prelude.{◌++◌, ◌+ℤ◌, Bool, true, false, Option, Some, None}
+use Rattle.std.specs.Prelude.{◌++◌, ◌+ℤ◌, Bool, true, false, Option, Some}
 use Rattle.op_sums.specs.declared.adding.Pair.{Pair}
 use Rattle.op_sums.specs.declared.adding.Pair.TheVariants.{Texts, Tuples, Objects, Others}
 use Rattle.py_model.specs.Arithmetic.{added}

@@ -1,5 +1,5 @@
 -- The list that a method is called on.
-use Rattle.std.specs.Prelude.{ℕ, ◌==◌, List, [], ◌∷◌, length, Option, Some, None, if◌then◌else◌}
+use Rattle.std.specs.Prelude.{ℕ, ◌==◌, List, ◌∷◌, length, Option, Some, None, if◌then◌else◌}
 use Rattle.py_model.specs.Faults.{wrong_kind, wrong_number}
 use Rattle.py_model.specs.Lists.{when_list}
 use Rattle.py_model.specs.Plan.{Plan, kind_of}

@@ -1,4 +1,4 @@
-use Rattle.std.proofs.Common.{◌≡◌, ◌∙◌, refl, sym, ap, ◌+◌, ◌++◌}
+use Rattle.std.proofs.Common.{◌∙◌, refl, sym, ap, ◌+◌, ◌++◌}
 use Rattle.py_model.specs.Operands.{gives, gives_text}
 use Rattle.py_model.specs.Plan.{counts}
 use Rattle.py_model.specs.Texts.{size}

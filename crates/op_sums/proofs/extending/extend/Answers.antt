@@ -1,8 +1,7 @@
-use Rattle.std.proofs.Common.{◌<◌, refl, sym, ap, subst, map, length, ℕ}
+use Rattle.std.proofs.Common.{◌<◌, sym, ap, subst, map, length}
 use Rattle.object_store.specs.Store.{StoreView}
 use Rattle.py_model.specs.Lists.{extend}
 use Rattle.py_value.specs.Contents.{contents, nothing}
-use Rattle.py_value.specs.declared.value.Value.TheVariants.{None as NoneValue}
 use Rattle.op_numbers.proofs.EndsAlike.{ends_as}
 use Rattle.op_numbers.proofs.NumberPlans.{two_named}
 use Rattle.op_walks.proofs.NamedValues.{named_stays}

@@ -1,4 +1,4 @@
-use Rattle.std.proofs.Common.{◌≡◌, ◌<◌, ◌∙◌, refl, sym, ap, subst, map, length, ℕ, ◌+◌, Option, Some, None, List}
+use Rattle.std.proofs.Common.{◌≡◌, ◌<◌, ◌∙◌, refl, sym, ap, subst, map, length, ℕ, ◌+◌, Option, None, List}
 use Rattle.std.proofs.lemmas.List.{length-map}
 use Rattle.object_store.specs.Store.{StoreView, count_with}
 use Rattle.py_model.specs.Making.{set_items}
@@ -6,10 +6,9 @@ use Rattle.py_model.specs.Plan.{Plan, Writes, write, done, writes, read_len}
 use Rattle.py_model.specs.Walks.{walk}
 use Rattle.py_value.specs.Contents.{Contents, contents}
 use Rattle.py_value.specs.Seen.{len_at, len_is}
-use Rattle.py_value.specs.Values.{ValuesView, AreNamed}
+use Rattle.py_value.specs.Values.{ValuesView}
 use Rattle.py_value.specs.declared.access.Kind.{Kind}
 use Rattle.py_value.specs.declared.value.Value.{Value}
-use Rattle.op_walks.specs.Items.{values_seen}
 use Rattle.op_walks.proofs.NamedValues.{named_stays}
 use Rattle.op_work.specs.Work.{Ends}
 use Rattle.op_work.proofs.Ending.{ends_then, ends_stop, ends_writes}

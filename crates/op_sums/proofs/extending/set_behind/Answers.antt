@@ -4,7 +4,6 @@ use Rattle.py_model.specs.Plan.{write, done}
 use Rattle.py_model.specs.declared.moment.Answer.TheVariants.{Value as ValueAnswer}
 use Rattle.py_value.specs.Contents.{contents}
 use Rattle.py_value.specs.Seen.{len_at, len_is}
-use Rattle.py_value.specs.Values.{ValuesView, IsNamed}
 use Rattle.op_work.specs.Work.{WroteAll}
 use Rattle.op_work.proofs.Ending.{writes_then, writes_stop, writes_done}
 use Rattle.op_work.proofs.Going.{extends_then, passes_err}
