@@ -1,0 +1,4 @@
+pub mod Building
+pub mod OneSequence
+pub mod Pairing
+pub mod Writing

@@ -1,0 +1,4 @@
+pub mod AddingPlans
+pub mod InPlacePlans
+pub mod ReceiverPlans
+pub mod TurningPlans
