@@ -1,0 +1,11 @@
+pub mod Decided
+pub mod EntryWalks
+pub mod ItemWalks
+pub mod Lengths
+pub mod OrderKeys
+pub mod Plain
+pub mod SameNumbers
+pub mod Shapes
+pub mod TextOrder
+pub mod TextPlans
+pub mod TupleWalks

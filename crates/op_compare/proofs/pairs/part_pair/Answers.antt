@@ -1,0 +1,22 @@
+use Rattle.std.proofs.Common.{◌∙◌, refl, sym, ap, ap₂}
+use Rattle.py_model.specs.Plan.{Plan, looks}
+use Rattle.py_value.specs.Contents.{Contents, contents}
+use Rattle.op_numbers.specs.Numbers.{IsNamedPair, seen_pair}
+use Rattle.op_work.specs.Work.{Comes}
+use Rattle.op_work.proofs.Going.{comes_stop, comes_as, passes_err}
+use Rattle.op_compare.specs.Pairs.{part_in}
+use Rattle.op_compare.proofs.TupleWalks.{part_stays, more_tuples}
+use Rattle.op_compare.proofs.pairs.part_pair.Goals as goal
+
+pub returns-in_err-look : goal.returns-in_err-look
+returns-in_err-look c = passes_err
+    (λ result. Comes IsNamedPair seen_pair (λ table (go : Contents × Contents → Plan). looks 2 (go (contents table (part_in table c.args.a c.args.i), contents table (part_in table c.args.b c.args.i)))) c.args.work.now c.look.new.self result)
+    c.from_residual.result c.from_residual.ensures.1
+    (comes_stop (λ table done go. go (contents table (part_in table c.args.a c.args.i), contents table (part_in table c.args.b c.args.i))) c.in_err-look.ensures)
+
+pub returns : goal.returns
+returns c = comes_as (λ table done go. go (contents table (part_in table c.args.a c.args.i), contents table (part_in table c.args.b c.args.i))) _ c.in_ok-look.ensures
+    (c.part_at.ensures.named, c.part_at-2.ensures.named)
+    (λ table interned extends go. ap₂ (λ v w. go (contents table v, contents table w))
+    (part_stays extends c.args.a c.args.i (more_tuples c.look.ensures.kept.extends c.args.a c.requires.one) ∙ sym c.part_at.ensures.part)
+    (part_stays extends c.args.b c.args.i (more_tuples c.look.ensures.kept.extends c.args.b c.requires.other) ∙ sym c.part_at-2.ensures.part))

@@ -1,0 +1,16 @@
+//! Comparisons of two values, each as its plan (`specs/Walks.antt` and `Arithmetic.antt` of `py_model`).
+//!
+//! - [`compare_to`]: the walk of two values, with their order or for equality alone; it answers a [`Comparison`]. Containers are gone into at most
+//!   100 levels deep, so the calls that lie in one another are few. Each pair of a shared tuple is looked at, so the steps that are left end the walk.
+//! - [`equals`]: whether two values are equal.
+//!
+//! A value of an order that is no key is answered as want of memory. None stands in one: what is set was a key.
+#![tactic(auto)]
+
+mod compare;
+mod comparison;
+mod pairs;
+mod texts;
+
+pub use compare::{compare_to, equals};
+pub use comparison::Comparison;
