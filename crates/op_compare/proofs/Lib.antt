@@ -3,6 +3,7 @@ pub mod EntryWalks
 pub mod ItemWalks
 pub mod Lengths
 pub mod OrderKeys
+pub mod OrderPlans
 pub mod Plain
 pub mod SameNumbers
 pub mod Shapes

@@ -1,10 +1,11 @@
 -- What a comparison is in the model, and how two values compare of which nothing is read.
-use Rattle.std.specs.Prelude.{ℕ, ℤ, Bool, true, ◌==◌, ◌&&◌, if◌then◌else◌, Option, Some, None}
+use Rattle.std.specs.Prelude.{ℕ, ℤ, Bool, List, true, ◌==◌, ◌&&◌, if◌then◌else◌, Option, Some, None}
 use Rattle.prov_base.specs.contracts.place.PosPartialEq.TheImpl.{ghosts as places}
 use Rattle.op_compare.specs.declared.comparison.Comparison.{Comparison as OneComparison}
 use Rattle.op_compare.specs.declared.comparison.Comparison.TheVariants.{Alike, Before, Behind, Apart}
 use Rattle.op_numbers.specs.Numbers.{number_of_value}
-use Rattle.py_model.specs.Walks.{Comparison, alike, before, behind, apart, by_number, when_same, same_range}
+use Rattle.py_model.specs.Walks.{Comparison, alike, before, behind, apart, by_number, when_same, same_range, shorter, order_of_texts}
+use Rattle.py_model.specs.Plan.{Plan, counts}
 use Rattle.py_value.specs.Values.{ValuesView}
 use Rattle.py_value.specs.declared.value.Value.{Value}
 use Rattle.py_value.specs.declared.value.Value.TheVariants.{None as NoneValue, Range, Fn, Class, Exc, Builtin}
@@ -36,3 +37,7 @@ plain_of (Class p) (Class q) = when_same (places.eq p q)
 plain_of (Exc m) (Exc n) = when_same (m == n)
 plain_of (Builtin m) (Builtin n) = when_same (m == n)
 plain_of v w = by_numbers (number_of_value v) (number_of_value w)
+
+-- two texts whose order is asked: the shorter is counted
+abbrev pub texts_ordered : List ℕ → List ℕ → (Comparison → Plan) → Plan
+texts_ordered one other go = counts (shorter one other) (go (order_of_texts one other))

@@ -1,0 +1,22 @@
+use Rattle.std.proofs.Common.{refl, sym, ap, map, not}
+use Rattle.op_work.specs.Work.{Ends}
+use Rattle.py_model.specs.Arithmetic.{eq_plan}
+use Rattle.py_model.specs.Walks.{equals}
+use Rattle.py_model.specs.Operands.{gives_truth}
+use Rattle.py_value.specs.Contents.{contents}
+use Rattle.op_work.proofs.Ending.{ends_then, ends_stop}
+use Rattle.op_work.proofs.Going.{passes_err}
+use Rattle.op_compare.proofs.operators.eq.Goals as goal
+
+pub returns-in_err-v : goal.returns-in_err-v
+returns-in_err-v c = passes_err (λ result. Ends (λ table. eq_plan (map (contents table) c.args.operands.now)) c.args.work.now c.two.new.work result)
+    c.from_residual.result c.from_residual.ensures.1 (ends_stop (λ table x. equals x.0 x.1 gives_truth) _ c.in_err-v.ensures)
+
+pub returns-in_err-same : goal.returns-in_err-same
+returns-in_err-same c = passes_err (λ result. Ends (λ table. eq_plan (map (contents table) c.args.operands.now)) c.args.work.now c.equals.new.work result)
+    c.from_residual-in_err-same.result c.from_residual-in_err-same.ensures.1
+    (ends_then (λ table x. equals x.0 x.1 gives_truth) c.in_ok-v.ensures (λ table interned extends. refl) (ends_stop (λ table b. gives_truth b) _ c.in_err-same.ensures))
+
+pub returns : goal.returns
+returns c = ends_then (λ table x. equals x.0 x.1 gives_truth) c.in_ok-v.ensures (λ table interned extends. refl)
+    (ends_then (λ table b. gives_truth b) c.in_ok-same.ensures (λ table interned extends. refl) c.truth_answer.ensures)
