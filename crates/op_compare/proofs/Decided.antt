@@ -2,8 +2,6 @@
 use Rattle.std.proofs.Common.{◌≡◌, refl, sym, true, false, true≢false}
 use Rattle.py_model.specs.Plan.{Plan}
 use Rattle.py_model.specs.Walks.{Comparison, alike, before, behind, apart, decided, is_alike}
-use Rattle.op_compare.specs.declared.comparison.Comparison.{Comparison as OneComparison}
-use Rattle.op_compare.specs.Comparisons.{how}
 
 pub decided_on : (go : Comparison → Plan) (next : Plan) (x : Comparison) → is_alike x ≡ true → decided go next x ≡ next
 decided_on go next alike is = refl

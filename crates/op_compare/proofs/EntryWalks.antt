@@ -1,10 +1,10 @@
 -- The entries of two dictionaries, one pair after another.
-use Rattle.std.proofs.Common.{◌≡◌, refl, sym, ap, ◌∙◌, arith, ℕ, zero, suc, ◌+◌, ◌<◌, ◌≤◌, length, Bool, false, List, [], ◌∷◌, map, drop, Option, Some, None, slice_get, eq-eqb, ◌==◌, if◌then◌else◌}
+use Rattle.std.proofs.Common.{◌≡◌, refl, sym, ap, ◌∙◌, arith, ℕ, zero, suc, ◌+◌, ◌≤◌, length, false, List, [], ◌∷◌, map, drop, Option, Some, None, slice_get, eq-eqb, ◌==◌, if◌then◌else◌}
 use Rattle.std.proofs.Math.Path.{fun_ext}
 use Rattle.std.proofs.lemmas.List.{drop_all, length-map}
 use Rattle.std.proofs.lemmas.Bool.{ne_eqb}
 use Rattle.py_model.specs.Plan.{Plan, read_entry}
-use Rattle.py_model.specs.Walks.{Comparison, alike, before, behind, apart, Pairs, compare_entries}
+use Rattle.py_model.specs.Walks.{Comparison, alike, apart, Pairs, compare_entries}
 use Rattle.py_value.specs.Contents.{Contents, contents}
 use Rattle.py_value.specs.Values.{ValuesView}
 use Rattle.py_value.specs.declared.value.Value.{Value}

@@ -1,5 +1,5 @@
 -- The items of two lists, one pair after another.
-use Rattle.std.proofs.Common.{◌≡◌, refl, ap, ap₂, arith, ◌⊎◌, inl, inr, ℕ, suc, ◌+◌, ◌-◌, ◌<◌, ◌≤◌, Bool, true, false, not, ◌&&◌, ◌==◌, nat_lt, eq-eqb, if◌then◌else◌}
+use Rattle.std.proofs.Common.{◌≡◌, ap, ap₂, arith, ◌⊎◌, inl, inr, ℕ, suc, ◌+◌, ◌-◌, ◌<◌, ◌≤◌, Bool, true, false, not, ◌&&◌, ◌==◌, nat_lt, eq-eqb, if◌then◌else◌}
 use Rattle.py_model.specs.Plan.{Plan}
 use Rattle.py_model.specs.Walks.{Comparison, apart, by_length, Pairs, compare_items, decided}
 use Rattle.py_value.specs.Contents.{Contents}

@@ -1,11 +1,10 @@
 -- The key of a value is asked for with no step, so nothing was done.
-use Rattle.std.proofs.Common.{◌≡◌, refl, sym, ap, ◌∙◌, append-nil, ℕ, ◌+◌, List, [], ◌∷◌, ◌++◌, map, length, Option, Some, None, slice_get, Ok}
+use Rattle.std.proofs.Common.{◌≡◌, refl, sym, ap, ◌∙◌, append-nil, ◌+◌, List, [], ◌++◌, map, Option, Some, None, slice_get, Ok}
 use Rattle.py_model.specs.Effect.{Answers, Touch, effect, answered, unpaid, accesses_in, looked_at, characters_in}
 use Rattle.py_model.specs.Keys.{with_key_of, no_key_of}
 use Rattle.py_model.specs.Faults.{not_there}
 use Rattle.py_model.specs.Plan.{Plan, Answer, runs_away}
 use Rattle.py_model.specs.Store.{RunStore}
-use Rattle.py_model.specs.Touches.{prefixed}
 use Rattle.py_model.specs.Walks.{deepest}
 use Rattle.py_value.specs.Contents.{Contents, contents}
 use Rattle.py_value.specs.KeyOf.{key_fault}

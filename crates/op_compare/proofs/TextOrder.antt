@@ -1,5 +1,5 @@
 -- Which of two texts comes first, byte by byte.
-use Rattle.std.proofs.Common.{◌≡◌, refl, sym, ◌∙◌, arith, ℕ, zero, suc, ◌+◌, ◌<◌, ◌≤◌, ◌⊎◌, inl, inr, length, Bool, true, false, nat_lt, if◌then◌else◌, List, [], ◌∷◌, drop, slice_index}
+use Rattle.std.proofs.Common.{◌≡◌, refl, sym, ◌∙◌, arith, ℕ, zero, suc, ◌<◌, ◌≤◌, ◌⊎◌, inl, inr, length, Bool, true, false, nat_lt, if◌then◌else◌, List, [], ◌∷◌, drop, slice_index}
 use Rattle.py_model.specs.Texts.{is_before}
 use Rattle.op_compare.proofs.Lengths.{lt_yes, lt_no, lt_suc}
 

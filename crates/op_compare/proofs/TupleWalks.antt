@@ -1,7 +1,7 @@
 -- The parts of two tuples, one pair after another.
 use Rattle.std.proofs.Common.{◌≡◌, refl, sym, ap, subst, ap₂, ◌∙◌, arith, ◌⊎◌, inl, inr, ℕ, zero, suc, ◌+◌, ◌<◌, ◌≤◌, length, Bool, List, [], ◌∷◌, drop, Some, slice_get, unwrap_or}
 use Rattle.py_model.specs.Plan.{Plan, looks}
-use Rattle.py_model.specs.Walks.{Comparison, Pairs, compare_parts, by_length, decided, compare_within, compare_step}
+use Rattle.py_model.specs.Walks.{Comparison, Pairs, compare_parts, by_length, decided, compare_within}
 use Rattle.py_value.specs.Contents.{Contents, contents, parts_by, tuple}
 use Rattle.py_value.specs.Values.{ValuesView, AreInterned}
 use Rattle.py_value.specs.declared.value.Value.{Value}

@@ -1,5 +1,5 @@
 -- What a comparison is in the model, and how two values compare of which nothing is read.
-use Rattle.std.specs.Prelude.{ℕ, ℤ, Bool, List, true, ◌==◌, ◌&&◌, if◌then◌else◌, Option, Some, None}
+use Rattle.std.specs.Prelude.{ℕ, ℤ, Bool, List, true, ◌==◌, ◌&&◌, if◌then◌else◌, Option, Some}
 use Rattle.prov_base.specs.contracts.place.PosPartialEq.TheImpl.{ghosts as places}
 use Rattle.op_compare.specs.declared.comparison.Comparison.{Comparison as OneComparison}
 use Rattle.op_compare.specs.declared.comparison.Comparison.TheVariants.{Alike, Before, Behind, Apart}

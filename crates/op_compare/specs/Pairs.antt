@@ -1,5 +1,5 @@
 -- Pairs of items that are compared, and what objects are compared as.
-use Rattle.std.specs.Prelude.{ℕ, List, [], ◌∷◌, Option, Some, None, slice_get, unwrap_or}
+use Rattle.std.specs.Prelude.{ℕ, List, [], Option, Some, None, slice_get, unwrap_or}
 use Rattle.op_compare.specs.declared.pairs.Shape.{Shape}
 use Rattle.op_compare.specs.declared.pairs.Shape.TheVariants.{Lists, Dicts, Others}
 use Rattle.py_model.specs.Plan.{Plan, read_entry}

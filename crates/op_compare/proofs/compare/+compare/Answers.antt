@@ -1,27 +1,26 @@
-use Rattle.std.proofs.Common.{rules, ◌≡◌, ◌∙◌, refl, sym, ap, ap₂, subst, arith, ◌-◌, ◌+◌, ◌<◌, ℕ, suc, Bool, true, false, List, map, length, drop, Some, Ok, slice_get}
+use Rattle.std.proofs.Common.{rules, ◌≡◌, ◌∙◌, refl, sym, ap, ap₂, subst, arith, ◌-◌, suc, true, false, map, length, Some, slice_get}
 use Rattle.object_store.specs.Store.{keys_at}
-use Rattle.py_model.specs.Plan.{Plan, kind_of, read_len, read_order}
-use Rattle.py_model.specs.Walks.{Comparison, compare_within, compare_parts, compare_lists, compare_items, compare_dicts, compare_entries, compare_step, decided, by_length, is_alike, alike, apart}
-use Rattle.py_value.specs.Contents.{Contents, contents, object}
-use Rattle.py_value.specs.Values.{ValuesView, AreNamed}
+use Rattle.py_model.specs.Plan.{read_len, read_order}
+use Rattle.py_model.specs.Walks.{compare_within, compare_parts, compare_lists, compare_items, compare_dicts, compare_entries, decided, is_alike, alike}
+use Rattle.py_value.specs.Contents.{contents}
+use Rattle.py_value.specs.Values.{AreNamed}
 use Rattle.py_value.specs.declared.value.Value.TheVariants.{Text, Tuple, Object}
 use Rattle.op_walks.proofs.NamedValues.{all_named_stay}
 use Rattle.op_work.specs.Entries.{seen_entry}
 use Rattle.std.proofs.lemmas.Bool.{ne_eqb}
-use Rattle.op_work.specs.Work.{Comes, is_any, as_is}
-use Rattle.op_work.specs.Turns.{Turns}
+use Rattle.op_work.specs.Work.{Comes, is_any}
 use Rattle.op_work.proofs.Going.{comes_same, comes_stop, comes_then, comes_as, at_once, fault_comes, passes_err, extends_then}
 use Rattle.op_work.proofs.Turning.{turns_then, turns_more, turns_same}
 use Rattle.op_compare.specs.Comparisons.{how, how_seen}
-use Rattle.op_compare.specs.Pairs.{parts_in, read_both, read_entries, shape_seen}
+use Rattle.op_compare.specs.Pairs.{parts_in}
 use Rattle.op_compare.proofs.Decided.{decided_on, decided_at, alike_or_apart, alike_on, apart_at}
 use Rattle.op_compare.proofs.EntryWalks.{with_found, sizes, sizes_same, sizes_differ, left as entries_left, left_is as entries_left_is, left_none as entries_left_none, left_more as entries_left_more}
-use Rattle.op_compare.proofs.ItemWalks.{lengths, lengths_differ, lengths_pass, next as items_next, left_is as items_left_is, left_none as items_left_none, left_more as items_left_more}
+use Rattle.op_compare.proofs.ItemWalks.{lengths, lengths_differ, lengths_pass, next as items_next, left_is as items_left_is, left_more as items_left_more}
 use Rattle.op_compare.proofs.Plain.{inside_of, text_plain, tuple_plain, object_plain, other_plain, plain_within, texts_within}
 use Rattle.op_compare.proofs.Shapes.{by_shape, objects_at, ShapeComes, others_apart}
 use Rattle.op_compare.proofs.TextOrder.{end_on}
 use Rattle.op_compare.specs.declared.pairs.Shape.TheVariants.{Lists, Dicts, Others}
-use Rattle.op_compare.proofs.TupleWalks.{items_are, left as parts_left, next as parts_next, left_is as parts_left_is, left_end as parts_left_end, left_more as parts_left_more, tuple_is, tuples_step, tuples_deep, within_both, more_tuples, left_end_at as parts_left_end_at}
+use Rattle.op_compare.proofs.TupleWalks.{left as parts_left, next as parts_next, left_is as parts_left_is, left_more as parts_left_more, tuple_is, tuples_step, tuples_deep, within_both, more_tuples, left_end_at as parts_left_end_at}
 use Rattle.op_compare.proofs.compare.+compare.Goals as goal
 
 -- lists

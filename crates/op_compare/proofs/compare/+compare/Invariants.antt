@@ -1,4 +1,4 @@
-use Rattle.std.proofs.Common.{◌+◌, ◌-◌, ◌*◌, drop, map}
+use Rattle.std.proofs.Common.{◌+◌, ◌*◌, drop, map}
 use Rattle.object_store.specs.Store.{keys_at}
 use Rattle.op_compare.specs.Comparisons.{how}
 use Rattle.op_compare.specs.Pairs.{parts_in}

@@ -1,4 +1,4 @@
-use Rattle.std.proofs.Common.{refl, sym, ap, map, not}
+use Rattle.std.proofs.Common.{refl, sym, ap, map}
 use Rattle.op_work.specs.Work.{Ends}
 use Rattle.py_model.specs.Arithmetic.{gt_plan}
 use Rattle.py_model.specs.Arithmetic.{in_order, is_more}

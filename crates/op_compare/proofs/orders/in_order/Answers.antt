@@ -1,6 +1,5 @@
 use Rattle.std.proofs.Common.{refl, sym, ap, ap₂, ◌∙◌, true}
 use Rattle.py_model.specs.Arithmetic.{in_order, unless_apart}
-use Rattle.py_model.specs.Plan.{kind_of}
 use Rattle.py_model.specs.Walks.{compare_to}
 use Rattle.py_value.specs.Contents.{contents, object}
 use Rattle.op_work.specs.Work.{Comes, is_any}

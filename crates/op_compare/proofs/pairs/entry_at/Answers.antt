@@ -1,4 +1,4 @@
-use Rattle.std.proofs.Common.{◌∙◌, refl, sym, ap}
+use Rattle.std.proofs.Common.{refl}
 use Rattle.py_model.specs.Plan.{read_entry}
 use Rattle.py_value.specs.Contents.{contents}
 use Rattle.op_work.specs.Entries.{IsNamedEntry, seen_entry}

@@ -1,4 +1,4 @@
-use Rattle.std.proofs.Common.{◌∙◌, refl, sym, ap}
+use Rattle.std.proofs.Common.{refl}
 use Rattle.py_model.specs.Walks.{read_value}
 use Rattle.py_value.specs.Contents.{contents}
 use Rattle.op_numbers.specs.Numbers.{IsNamedPair, seen_pair}

@@ -1,4 +1,4 @@
-use Rattle.std.proofs.Common.{◌∙◌, refl, sym, ap, ap₂}
+use Rattle.std.proofs.Common.{◌∙◌, sym, ap₂}
 use Rattle.py_model.specs.Plan.{Plan, looks}
 use Rattle.py_value.specs.Contents.{Contents, contents}
 use Rattle.op_numbers.specs.Numbers.{IsNamedPair, seen_pair}
