@@ -15,7 +15,7 @@ use Rattle.py_value.specs.declared.key.KeyFault.{KeyFault}
 use Rattle.py_value.specs.declared.key.KeyFault.TheVariants.{NoKey, NotHere, TooDeep, Memory as NoMemory}
 use Rattle.py_value.specs.declared.value.Value.{Value}
 use Rattle.op_work.specs.Entries.{IsKeyOf, value_seen}
-use Rattle.op_work.specs.Work.{WorkView, Comes, Goes, Leads, under}
+use Rattle.op_work.specs.Work.{WorkView, Comes, Goes, Leads, under, said_after, said_of}
 use Rattle.op_work.proofs.KeyPlans.{key_passes, key_of_object, key_not_there, key_too_deep}
 
 key_other : (c : Contents) (go : Contents → Plan) → key_fault deepest c ≡ Some NoMemory → with_key_of c go ≡ not_there
@@ -64,6 +64,7 @@ module _ {table : ValuesView} (store : RunStore) {a b : WorkView} (c : Contents)
         touched_is = one.touched_is ∙ ap (λ ts. map (access_seen table) a.touched ++ accesses_in ts) none;
         looks_are = one.looks_are ∙ ap (λ ts. a.looks + looked_at ts) none;
         characters_are = one.characters_are ∙ ap (λ ts. a.characters + characters_in ts) none;
+        said_is = one.said_is ∙ ap (λ ts. said_after ts (said_of table a)) none;
       }
 
 -- a key that was found, where no key is asked for
