@@ -8,15 +8,14 @@ use Rattle.object_store.specs.Keyed.{SeenMap, IsKeyed}
 use Rattle.object_store.specs.Named.{IsNamedStore}
 use Rattle.object_store.specs.Performing.{SuitInTurn, kinds_with}
 use Rattle.object_store.specs.Seen.{held_seen, seen_at}
-use Rattle.object_store.specs.Store.{StoreView, bytes, held_at, file_at as held_file, kinds, name_at}
+use Rattle.object_store.specs.Store.{StoreView, bytes, file_at as held_file, kinds, name_at}
 use Rattle.prov_base.specs.declared.place.Pos.{Pos}
 use Rattle.prov_base.specs.contracts.place.PosPartialEq.TheImpl.{ghosts as places}
-use Rattle.py_model.specs.Effect.{Answers, Effect, Touch, effect, answered, accesses_in, looked_at, characters_in, weight, cost, after, after_touches, with_made, after_accesses}
+use Rattle.py_model.specs.Effect.{Answers, Effect, Touch, effect, answered, accesses_in, looked_at, characters_in, weight, cost, after, with_made, after_accesses}
 use Rattle.py_model.specs.Plan.{Plan}
 use Rattle.py_model.specs.Running.{method_found}
-use Rattle.py_model.specs.Store.{RunStore, with_name}
+use Rattle.py_model.specs.Store.{RunStore}
 use Rattle.py_model.specs.Told.{answer_seen, IsNamedAnswer, IsNamedKind, AreNamedAccesses}
-use Rattle.py_model.specs.Touches.{prefixed}
 use Rattle.py_model.specs.declared.doer.Deed.{Deed}
 use Rattle.py_model.specs.declared.moment.Answer.{Answer as OneAnswer}
 use Rattle.py_value.specs.Seen.{SeenKind, access_seen, kind_seen, bytes_of, file_at}

@@ -1,13 +1,13 @@
 -- A map with files that were not fetched yet, as accesses change it.
-use Rattle.std.proofs.Common.{◌≡◌, refl, sym, ap, subst, ◌∙◌, ℕ, Bool, true, false, List, [], ◌∷◌, map, Option, Some, None, IsSome, if◌then◌else◌}
+use Rattle.std.proofs.Common.{◌≡◌, refl, ap, subst, ◌∙◌, ℕ, Bool, true, false, List, [], ◌∷◌, Option, Some, None, IsSome, if◌then◌else◌}
 use Rattle.std.specs.Bool.{⊤}
 use Rattle.std.proofs.Math.Path.{fun_ext}
-use Rattle.object_store.specs.Keyed.{SeenMap, IsKeyed, IsUnder, AreUnder}
+use Rattle.object_store.specs.Keyed.{SeenMap, IsKeyed, AreUnder}
 use Rattle.object_store.specs.Performing.{Suits, SuitInTurn}
 use Rattle.py_value.specs.Changes.{changed, after_access, after_accesses}
 use Rattle.py_value.specs.Contents.{Contents}
 use Rattle.py_value.specs.Same.{same_location, put}
-use Rattle.py_value.specs.Seen.{SeenLocation, SeenContent, SeenChange, SeenAccess, var_at, len_at, item_at, entry_at, order_at, file_at, offset_at, closed_at, method_at, base_at, reads, sets, updates, key_inserted, key_deleted, bytes_appended, order_is, file_is}
+use Rattle.py_value.specs.Seen.{SeenLocation, SeenContent, SeenChange, SeenAccess, var_at, len_at, item_at, entry_at, order_at, file_at, offset_at, closed_at, method_at, base_at, reads, sets, updates, key_inserted, key_deleted, bytes_appended}
 use Rattle.op_done.specs.Holding.{Found, or_found, with_found}
 
 -- a file that is appended to is there
@@ -119,9 +119,11 @@ suits_held found held (updates (base_at at) how) suits = tt
 
 pub suit_held : (found : Found) (held : SeenMap) (accesses : List SeenAccess) → AreThereSeen held accesses → SuitInTurn (with_found found held) accesses → SuitInTurn held accesses
 suit_held found held [] there suits = tt
-suit_held found held (access ∷ accesses) there suits = (suits_held found held access suits.0,
-    suit_held found (after_access access held) accesses (there_later held access accesses there.1)
-    (subst (λ seen. SuitInTurn seen accesses) (access_found found held access there.0) suits.1))
+suit_held found held (access ∷ accesses) there suits = (
+  suits_held found held access suits.0,
+  suit_held found (after_access access held) accesses (there_later held access accesses there.1)
+      (subst (λ seen. SuitInTurn seen accesses) (access_found found held access there.0) suits.1),
+)
 
 -- the keys of orders have their entries in the one where they have them in the other
 under_found : (found : Found) (held : SeenMap) (o : ℕ) (keys : List Contents) → AreUnder held o keys → AreUnder (with_found found held) o keys

@@ -1,9 +1,9 @@
 -- What touches say, and what a run's store is after them.
-use Rattle.std.proofs.Common.{◌≡◌, refl, sym, ap, ◌∙◌, append-nil, ℕ, List, [], ◌∷◌, ◌++◌, map, Option, Some, None}
+use Rattle.std.proofs.Common.{◌≡◌, refl, sym, ap, ◌∙◌, append-nil, ℕ, List, [], ◌∷◌, ◌++◌, Option}
 use Rattle.std.proofs.lemmas.List.{append_assoc}
 use Rattle.prov_base.specs.declared.place.Pos.{Pos}
 use Rattle.py_model.specs.Effect.{Touch, accessed, looked, counted, printed, opened, noted, asked, fetched, after_touch, after_touches}
-use Rattle.py_model.specs.Store.{RunStore, with_name, with_path}
+use Rattle.py_model.specs.Store.{RunStore, with_name}
 use Rattle.op_work.specs.Work.{Said, said_after}
 use Rattle.op_done.specs.Happening.{with_paths}
 

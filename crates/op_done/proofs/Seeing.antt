@@ -1,12 +1,11 @@
 -- The store of a run, where it is what is held, is seen so by the work of an operation.
-use Rattle.std.proofs.Common.{◌≡◌, refl, sym, ap, subst, ◌∙◌, ℕ, ◌<◌, length, map, List, [], Option, Some, None, IsSome}
+use Rattle.std.proofs.Common.{◌≡◌, refl, ap, ◌∙◌, ℕ, List, [], Option, Some, None, IsSome}
 use Rattle.std.specs.Option.{option_map}
 use Rattle.object_store.specs.Keyed.{SeenMap}
 use Rattle.object_store.specs.Seen.{held_seen, seen_at, store_seen}
-use Rattle.object_store.specs.Store.{StoreView, bytes, held_at, keys_at, file_at as held_file, IsReadWhole}
+use Rattle.object_store.specs.Store.{StoreView, bytes, held_at, file_at as held_file, IsReadWhole}
 use Rattle.py_model.specs.Store.{RunStore, empty, order_of, file_of}
-use Rattle.py_value.specs.Contents.{contents}
-use Rattle.py_value.specs.Seen.{SeenContent, SeenLocation, location_seen, bytes_of, order_at, file_at, IsNamedLocation}
+use Rattle.py_value.specs.Seen.{SeenContent, location_seen, bytes_of, order_at, file_at, IsNamedLocation}
 use Rattle.py_value.specs.Values.{ValuesView, AreInterned}
 use Rattle.py_value.specs.declared.access.Location.{Location}
 use Rattle.py_value.specs.declared.access.Location.TheVariants.{Var, Len, Item, Entry, Order, File, Offset, Closed, Method, Base}

@@ -1,15 +1,14 @@
 -- What an operation that asks nothing comes to in a run.
-use Rattle.std.proofs.Common.{◌≡◌, refl, sym, ap, subst, ◌∙◌, arith, inl, inr, ◌⊎◌, ℕ, suc, ◌+◌, ◌<◌, ◌≤◌, Bool, true, false, nat_le, List, [], ◌∷◌, map, length, if◌then◌else◌}
+use Rattle.std.proofs.Common.{◌≡◌, refl, sym, ap, subst, ◌∙◌, arith, inl, inr, ◌⊎◌, ℕ, suc, ◌+◌, ◌<◌, ◌≤◌, List, ◌∷◌, map, length, if◌then◌else◌}
 use Rattle.std.proofs.lemmas.Bool.{le-leb, lt-leb}
 use Rattle.prov_base.specs.declared.place.Pos.{Pos}
 use Rattle.py_model.specs.Capture.{Capture, answers_at}
-use Rattle.py_model.specs.Doing.{standing}
-use Rattle.py_model.specs.Effect.{Answers, Effect, Touch, Outcome, answered, unanswered, unpaid, effect, accesses_in, looked_at, characters_in, weight, cost, after}
+use Rattle.py_model.specs.Effect.{Answers, Effect, Touch, Outcome, answered, unanswered, unpaid, effect, accesses_in, looked_at, characters_in, weight, cost}
 use Rattle.py_model.specs.Moment.{does}
 use Rattle.py_model.specs.Operations.{Op as SeenOp, plan}
 use Rattle.py_model.specs.Plan.{Answer, Plan}
 use Rattle.py_model.specs.Quiet.{IsQuiet}
-use Rattle.py_model.specs.Running.{State, Happened, did, too_dear, lacked, operation, effect_of, happened, note, askings_at, walked, performed}
+use Rattle.py_model.specs.Running.{State, did, too_dear, operation, effect_of, happened, note, askings_at, walked, performed}
 use Rattle.py_model.specs.Store.{RunStore}
 use Rattle.py_model.specs.Told.{answer_seen, op_seen}
 use Rattle.py_model.specs.Touches.{prefixed, cost_so_far}
@@ -19,7 +18,6 @@ use Rattle.std.specs.Option.{option_map}
 use Rattle.py_value.specs.Contents.{Contents, contents}
 use Rattle.py_value.specs.Seen.{access_seen, kind_seen}
 use Rattle.py_value.specs.Values.{ValuesView}
-use Rattle.py_value.specs.declared.access.Access.{Access}
 use Rattle.py_value.specs.declared.value.Value.{Value}
 use Rattle.op_work.specs.Work.{WorkView, IsDear, cost_of}
 use Rattle.op_done.specs.Happening.{IsBegun, IsHappened}

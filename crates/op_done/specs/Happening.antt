@@ -1,5 +1,5 @@
 -- An operation that happened: its effect on the store of a run is what is told of it, and what is held afterwards is the run's store then.
-use Rattle.std.specs.Prelude.{◌≡◌, ◌≤◌, ℕ, List, [], ◌∷◌, ◌++◌, map, length, Option, Some, None, IsSome, Result, Ok}
+use Rattle.std.specs.Prelude.{◌≡◌, ◌≤◌, ℕ, List, [], ◌∷◌, ◌++◌, map, Some, None, IsSome, Ok}
 use Rattle.std.specs.Option.{option_map}
 use Rattle.object_store.specs.Keyed.{IsKeyed}
 use Rattle.object_store.specs.Performing.{SuitInTurn}

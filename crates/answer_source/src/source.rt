@@ -1,0 +1,40 @@
+// What a source of answers promises.
+ghost use Rattle.std.specs.Prelude.{◌≡◌, ℕ, List, OnOk, option_copied};
+ghost use Rattle.std.specs.Option.{option_map};
+ghost use Rattle.answer_source.specs.Sources.{Knew, Asks, Stays, found_seen};
+ghost use Rattle.py_model.specs.Capture.{Capture, found_in};
+ghost use Rattle.py_model.specs.Running.{Asking};
+
+use capture::{Ask, Given};
+use prov_base::{Memory, Pos};
+use prov_outside::Found;
+use std::alloc::Global;
+
+/// Where a run gets what devices give it.
+pub trait Source {
+    /// A capture that fits the source: it has all that the source has given so far, and may have more.
+    ghost fits: { Self → Capture → Type 0 };
+
+    /// What was asked so far, the latest first.
+    ghost stands: { Self → List Asking → Type 0 };
+
+    /// What a device gives to a question that is asked at a place, for the next time there; none where nothing is kept of it. After an
+    /// `Err` it was not asked.
+    fn ask(&mut self, alloc: Global, what: Ask, at: Pos) -> Result<Option<Given>, Memory>
+        ensures knew { Knew (fits self.old) (fits self.new) }
+        ensures asked { Asks what at (fits self.new) (stands self.old) (stands self.new) result };
+
+    /// The paths that were fetched.
+    ghost has: { Self → List ℕ → Type 0 };
+
+    /// Fetches what stands at a path, where it was not fetched before. After an `Err` it was not.
+    fn fetch(&mut self, alloc: Global, path: &str) -> Result<(), Memory>
+        ensures knew { Knew (fits self.old) (fits self.new) }
+        ensures stays { Stays (stands self.old) (stands self.new) }
+        ensures has { OnOk result (has self.new path.now) };
+
+    /// What stands at a path that was fetched; none where nothing is kept of it.
+    fn found(&self, path: &str) -> Option<&Found>
+        requires { has self.now path.now }
+        ensures { (capture : Capture) → fits self.now capture → found_in capture.files path.now ≡ option_map found_seen (option_copied result) };
+}
