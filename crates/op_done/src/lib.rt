@@ -3,9 +3,9 @@
 //!
 //! - What is held is a store over numbers of texts and tuples; `Holds` (`specs/Holding.antt`) says for which stores of a run it stands. Files
 //!   that a device has and that were not fetched yet may stand in the run's store besides.
-//! - [`complete`]: whatever plan of `py_model` the operation followed, its effect in the run's store is what is told of it (answer, object made,
-//!   accesses, weight, method), it is paid for, and what is held afterwards is the run's store then (`IsHappened` in `specs/Happening.antt`). Asked
-//!   is that the plan's writes suit that store, which `keyed_plans` says of every operation.
+//! - [`complete`]: whatever plan of `py_model` the operation followed, its effect in the run's store is what is told of it: answer, object made,
+//!   accesses, weight and method. It is paid for, and what is held afterwards is the run's store then (`IsHappened` in `specs/Happening.antt`).
+//!   The plan's writes have to suit that store, which `keyed_plans` says of every operation.
 //! - [`operations_happen`]: so one that asks nothing happened in a run as it is told; and one that came to more than can be paid for did not happen.
 //! - [`holding_is_seen`]: what is held is seen by the work of an operation (`IsSeen` of `op_work`).
 #![tactic(auto)]
