@@ -1,0 +1,3 @@
+pub mod OtherLengths
+pub mod ReceiverPlans
+pub mod ViewPlans
