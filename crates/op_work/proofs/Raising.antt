@@ -51,7 +51,6 @@ outcome_dear {a} {p} outcome paid dear = record {
     by_dear (inl less) = inl less
     by_dear (inr never) = absurd (paid no_answers (ap (λ (e : Effect). e.outcome) (dear.effect_is no_answers) ∙ never no_answers))
 
-
 abbrev pub as_raised : ℕ → Result OneAnswer Stop → Result OneAnswer Stop
 as_raised o (Ok answer) = Ok (Raised o)
 as_raised o (Err stop) = Err stop

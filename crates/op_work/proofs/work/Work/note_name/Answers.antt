@@ -16,7 +16,7 @@ invariant_of-self c =
         (
           c.self.invariant.1.0.0,
           c.named_stays.ensures.noted w.values w.store c.name_place.new.self c.in-Some.place c.in-Some.name c.self.invariant.1.0.1
-          (noted_named w.values w.note w.opens.items c.in-Some.place c.in-Some.name c.in-Some.is c.self.invariant.0.1) c.name_place.ensures.same c.in_ok-name_place.ensures.noted,
+              (noted_named w.values w.note w.opens.items c.in-Some.place c.in-Some.name c.in-Some.is c.self.invariant.0.1) c.name_place.ensures.same c.in_ok-name_place.ensures.noted,
         ),
         (
           c.self.invariant.1.1.0,
