@@ -1,0 +1,4 @@
+pub mod EndsWhere
+pub mod OfClasses
+pub mod RaisedAgain
+pub mod TextNumbers
