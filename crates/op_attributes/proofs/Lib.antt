@@ -1,0 +1,4 @@
+pub mod Entries
+pub mod HeldBy
+pub mod Lacking
+pub mod OfKinds

@@ -1,0 +1,21 @@
+use Rattle.std.proofs.Common.{refl}
+use Rattle.py_model.specs.Plan.{change, done}
+use Rattle.py_value.specs.Contents.{contents, nothing, text}
+use Rattle.py_value.specs.Seen.{bytes_of, order_at, key_inserted}
+use Rattle.py_value.specs.declared.value.Value.TheVariants.{None as NoneValue}
+use Rattle.op_work.specs.Work.{WroteAll}
+use Rattle.op_work.proofs.Ending.{writes_then, writes_stop, writes_done}
+use Rattle.op_work.proofs.Going.{passes_err}
+use Rattle.op_attributes.specs.Owns.{own_added}
+use Rattle.op_attributes.proofs.sets.add.Goals as goal
+
+pub returns-in_err-set : goal.returns-in_err-set
+returns-in_err-set c = passes_err (λ result. WroteAll (λ table. own_added c.args.o (bytes_of table c.args.name) (contents table c.args.v)) c.args.work.now c.set.new.self result)
+    c.from_residual.result c.from_residual.ensures.1 (writes_stop (λ table. change (order_at c.args.o) (key_inserted (text (bytes_of table c.args.name))) (done nothing)) c.in_err-set.field-0.0 c.in_err-set.ensures)
+
+pub returns-in_err-update : goal.returns-in_err-update
+returns-in_err-update c = passes_err (λ result. WroteAll (λ table. own_added c.args.o (bytes_of table c.args.name) (contents table c.args.v)) c.args.work.now c.update.new.self result)
+    c.from_residual-in_err-update.result c.from_residual-in_err-update.ensures.1 (writes_then c.in_ok-set.ensures (writes_stop (λ table. done nothing) c.in_err-update.field-0.0 c.in_err-update.ensures))
+
+pub returns : goal.returns
+returns c = writes_then c.in_ok-set.ensures (writes_then c.in_ok-update.ensures (writes_done c.update.new.self NoneValue (λ table. done nothing) tt (λ table extends. refl)))
