@@ -4,7 +4,7 @@ use Rattle.py_model.specs.Operations.{make_plan}
 use Rattle.py_value.specs.Contents.{contents}
 use Rattle.py_value.specs.Values.{AreNamed}
 use Rattle.op_work.proofs.Ending.{ends_fault}
-use Rattle.op_objects.proofs.EndsWhere.{ends_where}
+use Rattle.op_classes.proofs.EndsSame.{ends_same}
 use Rattle.op_objects.proofs.OfClasses.{make_is, make_none, when_class}
 use Rattle.op_objects.proofs.TextNumbers.{others_named}
 use Rattle.op_objects.proofs.instances.make.Goals as goal
@@ -17,7 +17,7 @@ pub make_of-requires-clause-named : goal.make_of-requires-clause-named
 make_of-requires-clause-named c = others_named c.args.work.now.values c.in-Some.of.now c.in-Some.arguments.now (subst (AreNamed c.args.work.now.values) c.in-Some.ensures.cases.0 c.requires.named)
 
 pub returns-then-there : goal.returns-then-there
-returns-then-there c = ends_where (λ table. make_plan (map (contents table) c.args.operands.now))
+returns-then-there c = ends_same (λ table. make_plan (map (contents table) c.args.operands.now))
     (λ table interned extends. ap (λ vs. make_plan (map (contents table) vs)) c.in-Some.ensures.cases.0
     ∙ (make_is table c.in-Some.of.now (map (contents table) c.in-Some.arguments.now)
     ∙ ap (when_class (make_of (contents table c.in-Some.of.now) (map (contents table) c.in-Some.arguments.now))) (sym c.is_class-there.ensures ∙ c.if-there.true))) c.make_of.ensures
