@@ -1,11 +1,10 @@
 -- What operations on attributes are as plans, by what a value is.
-use Rattle.std.proofs.Common.{◌≡◌, refl, ap, ◌∙◌, ℕ, Bool, true, false, ◌==◌, ◌&&◌, List, codes, if◌then◌else◌}
+use Rattle.std.proofs.Common.{◌≡◌, refl, ap, ◌∙◌, ℕ, Bool, ◌==◌, ◌&&◌, List, codes, if◌then◌else◌}
 use Rattle.std.specs.Str.{bytes_eq}
-use Rattle.py_model.specs.Classes.{getattr, setattr, find, class_attribute, no_method_value, method_found, is_module, sys_module, time_module, random_module, operation, text_methods, time_methods, random_methods}
+use Rattle.py_model.specs.Classes.{getattr, setattr, find, class_attribute, no_method_value, method_found, is_module, sys_module, operation, text_methods, time_methods, random_methods}
 use Rattle.py_model.specs.Faults.{not_there, no_attribute}
 use Rattle.py_model.specs.Plan.{Plan, writes, done}
 use Rattle.py_value.specs.Contents.{Contents, contents, object, builtin}
-use Rattle.py_value.specs.Seen.{bytes_of}
 use Rattle.py_value.specs.Values.{ValuesView}
 use Rattle.py_value.specs.declared.value.Value.{Value}
 use Rattle.py_value.specs.declared.value.Value.TheVariants.{None as NoneValue, Bool as TruthValue, Int, Text, Tuple, Range, Fn, Class, Exc, Builtin, Object}

@@ -3,7 +3,7 @@ use Rattle.std.proofs.Common.{◌≡◌, refl, sym, ap, ◌∙◌, ℕ, ◌+◌,
 use Rattle.std.specs.Option.{option_map}
 use Rattle.std.specs.Str.{bytes_eq}
 use Rattle.py_model.specs.Classes.{operation}
-use Rattle.py_model.specs.Faults.{fault, no_attribute, not_there}
+use Rattle.py_model.specs.Faults.{no_attribute, not_there}
 use Rattle.py_model.specs.Plan.{Plan, writes, done}
 use Rattle.py_value.specs.Contents.{builtin}
 use Rattle.py_value.specs.Seen.{bytes_of, number_by}

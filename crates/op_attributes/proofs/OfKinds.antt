@@ -1,7 +1,7 @@
 -- What operations on the attributes of an object come to, by its kind.
 use Rattle.std.proofs.Common.{◌≡◌, refl, ap, ℕ, ◌<◌, length, slice_get, Option, Some, None, Result}
 use Rattle.object_store.specs.Store.{kinds}
-use Rattle.py_model.specs.Classes.{getattr, setattr, find, getattr_of_object, setattr_of_object, find_of_object, instance_attribute, no_method_value, setattr_entry}
+use Rattle.py_model.specs.Classes.{getattr, setattr, getattr_of_object, setattr_of_object, find_of_object, instance_attribute, no_method_value, setattr_entry}
 use Rattle.py_model.specs.Faults.{not_there}
 use Rattle.py_model.specs.Plan.{Plan, read_entry}
 use Rattle.py_model.specs.declared.moment.Answer.{Answer as OneAnswer}
@@ -17,7 +17,6 @@ use Rattle.op_work.proofs.Ending.{ends_then}
 use Rattle.op_work.proofs.KindOf.{there}
 use Rattle.op_work.specs.Work.{WorkView, Ends}
 use Rattle.op_work.specs.declared.stop.Stop.{Stop}
-use Rattle.op_attributes.proofs.Entries.{sets_entry}
 
 one : (v w : Value) → Some v ≡ Some w → v ≡ w
 one v w is = cc

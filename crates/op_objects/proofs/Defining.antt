@@ -1,5 +1,5 @@
 -- What definitions are as plans, by what values are.
-use Rattle.std.proofs.Common.{◌≡◌, refl, ap, ◌∙◌, arith, ℕ, Bool, true, false, List, [], ◌∷◌, map, length, ◌<◌, Option, Some, None, if◌then◌else◌}
+use Rattle.std.proofs.Common.{◌≡◌, refl, ap, ◌∙◌, arith, ℕ, List, [], ◌∷◌, map, length, ◌<◌, Option, Some, None}
 use Rattle.std.proofs.lemmas.List.{length-map}
 use Rattle.prov_base.specs.declared.place.Pos.{Pos}
 use Rattle.py_model.specs.Classes.{define, define_method, class_begun, begin_class, is_class}

@@ -1,5 +1,5 @@
 -- Whether values are of a kind, by what values and objects are.
-use Rattle.std.proofs.Common.{◌≡◌, refl, sym, ap, ◌∙◌, subst, ℕ, ℤ, Bool, true, false, List, Option, Some, None, Result, Ok}
+use Rattle.std.proofs.Common.{◌≡◌, refl, sym, ap, ◌∙◌, subst, ℕ, ℤ, Bool, false, List, Option, Some, None, Result}
 use Rattle.prov_base.specs.declared.place.Pos.{Pos}
 use Rattle.py_model.specs.Classes.{longest_chain, class_walk, value_is, object_is as plan_object_is}
 use Rattle.py_model.specs.Plan.{Plan}
@@ -14,7 +14,7 @@ use Rattle.py_value.specs.declared.value.Value.TheVariants.{None as NoneValue, B
 use Rattle.op_classes.specs.Kinds.{object_in, instance_of}
 use Rattle.op_classes.proofs.WithFiles.{Known}
 use Rattle.op_objects.specs.Kinds.{builtin_in, kind_named, value_named, plain_named}
-use Rattle.op_work.proofs.Going.{comes_then, comes_as}
+use Rattle.op_work.proofs.Going.{comes_then}
 use Rattle.op_work.proofs.Tuples.{some_tuple}
 use Rattle.op_work.specs.Work.{WorkView, Comes, is_any, as_is, seen_kind}
 use Rattle.op_work.specs.declared.stop.Stop.{Stop}

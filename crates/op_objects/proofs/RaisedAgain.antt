@@ -1,6 +1,6 @@
 -- An exception that is raised again, and objects that are none.
 use Rattle.std.proofs.Common.{◌≡◌, sym, ap, ◌∙◌, refl, arith, append-nil, ℕ, [], map, Option, Some, None, Ok, Result}
-use Rattle.py_model.specs.Effect.{Effect, Outcome, answered, effect}
+use Rattle.py_model.specs.Effect.{Effect, answered, effect}
 use Rattle.py_model.specs.Faults.{wrong_kind}
 use Rattle.py_model.specs.Plan.{Plan, raised, raises_again}
 use Rattle.py_model.specs.Raising.{raise, raise_object}

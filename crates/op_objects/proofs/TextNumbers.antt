@@ -1,5 +1,5 @@
 -- Numbers of texts.
-use Rattle.std.proofs.Common.{◌≡◌, refl, ℕ, suc, List, [], ◌∷◌, slice_get, Option, Some}
+use Rattle.std.proofs.Common.{◌≡◌, refl, ℕ, suc, List, [], ◌∷◌, Some}
 use Rattle.py_model.specs.Plan.{Plan}
 use Rattle.py_value.specs.Contents.{Contents, text}
 use Rattle.py_value.specs.Values.{ValuesView, IsNamed, AreNamed}

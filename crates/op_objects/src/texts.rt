@@ -22,7 +22,7 @@ fn number_in(v: Value) -> Option<u32>
     }
 }
 
-/// The number of the text with these bytes.
+/// The number of the text with these bytes. What `Work::text` answers is a text, which its clause does not say: the last arm is not met.
 pub(crate) fn text_number(work: &mut Work, alloc: Global, words: &str) -> Result<u32, Stop>
     ensures { Comes IsTextNumber bytes_by (λ table (go : List ℕ → Plan). go words.now) work.old work.new result }
 {

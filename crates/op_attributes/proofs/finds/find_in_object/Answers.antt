@@ -1,9 +1,8 @@
-use Rattle.std.proofs.Common.{refl, sym, ap, ◌∙◌, subst, Some, None, Ok}
+use Rattle.std.proofs.Common.{refl, ap, ◌∙◌, subst, Some, Ok}
 use Rattle.py_model.specs.Classes.{list_methods, dict_methods, file_methods}
 use Rattle.py_model.specs.Faults.{not_there}
 use Rattle.py_model.specs.Plan.{kind_of}
 use Rattle.py_value.specs.Named.{IsNamedKind}
-use Rattle.py_value.specs.declared.access.Kind.TheVariants.{List as ListKind, Dict as DictKind, Instance, File as FileKind}
 use Rattle.op_work.specs.Work.{Comes, seen_kind}
 use Rattle.op_work.proofs.Ending.{ends_then, ends_fault}
 use Rattle.op_attributes.proofs.Lacking.{method_is}

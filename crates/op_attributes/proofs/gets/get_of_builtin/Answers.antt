@@ -1,4 +1,4 @@
-use Rattle.std.proofs.Common.{◌≡◌, refl, sym, ap, ◌∙◌, true, false}
+use Rattle.std.proofs.Common.{refl, sym, ◌∙◌, true, false}
 use Rattle.py_model.specs.Classes.{getattr as plan_getattr}
 use Rattle.py_value.specs.Contents.{builtin}
 use Rattle.py_value.specs.Seen.{bytes_of}

@@ -1,4 +1,4 @@
-use Rattle.std.proofs.Common.{refl, subst, Some, None, Ok, ap, arith}
+use Rattle.std.proofs.Common.{refl, subst, Ok}
 use Rattle.py_model.specs.Classes.{class_attribute, method_of_class as plan_method}
 use Rattle.py_model.specs.Faults.{no_attribute}
 use Rattle.py_value.specs.Contents.{contents}

@@ -1,4 +1,4 @@
-use Rattle.std.proofs.Common.{refl, subst, ◌∙◌, Some, None, Ok}
+use Rattle.std.proofs.Common.{refl, subst, ◌∙◌, Ok}
 use Rattle.py_model.specs.Classes.{setattr_entry}
 use Rattle.py_model.specs.Plan.{read_entry, writes}
 use Rattle.py_value.specs.Contents.{contents, text}

@@ -1,4 +1,4 @@
-use Rattle.std.proofs.Common.{sym, ap, ◌∙◌, subst, map, arith, length, ◌≡◌, true, false, Some}
+use Rattle.std.proofs.Common.{sym, ap, ◌∙◌, subst, map, arith, length, ◌≡◌, Some}
 use Rattle.py_model.specs.Classes.{class_begun}
 use Rattle.py_model.specs.Operations.{class_plan}
 use Rattle.py_value.specs.Contents.{contents}

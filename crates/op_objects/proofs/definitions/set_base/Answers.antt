@@ -1,4 +1,4 @@
-use Rattle.std.proofs.Common.{refl, subst}
+use Rattle.std.proofs.Common.{refl}
 use Rattle.py_model.specs.Classes.{class_begun}
 use Rattle.py_model.specs.Plan.{notes, write, done}
 use Rattle.py_value.specs.Contents.{class}

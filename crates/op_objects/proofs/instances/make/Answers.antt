@@ -1,4 +1,4 @@
-use Rattle.std.proofs.Common.{sym, ap, ◌∙◌, subst, map, true, false}
+use Rattle.std.proofs.Common.{sym, ap, ◌∙◌, subst, map}
 use Rattle.py_model.specs.Classes.{make_of}
 use Rattle.py_model.specs.Operations.{make_plan}
 use Rattle.py_value.specs.Contents.{contents}

@@ -1,8 +1,6 @@
-use Rattle.std.proofs.Common.{refl, subst, ◌∙◌, map, Option, Some, None, Ok}
-use Rattle.py_model.specs.Classes.{make_of as plan_make_of, end_of_chain as plan_end, instance_begun}
-use Rattle.py_model.specs.Plan.{makes}
+use Rattle.std.proofs.Common.{refl, subst, map, Ok}
+use Rattle.py_model.specs.Classes.{make_of as plan_make_of, end_of_chain as plan_end}
 use Rattle.py_value.specs.Contents.{contents}
-use Rattle.py_value.specs.Seen.{an_instance}
 use Rattle.op_work.specs.Work.{Comes, Ends, is_any, as_is}
 use Rattle.op_work.proofs.Ending.{ends_then, ends_stop}
 use Rattle.op_work.proofs.EntryReads.{all_on}

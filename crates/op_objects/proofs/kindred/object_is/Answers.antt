@@ -1,7 +1,6 @@
 use Rattle.std.proofs.Common.{sym, ap, ◌∙◌}
-use Rattle.py_model.specs.Classes.{value_is, object_is as plan_object_is}
+use Rattle.py_model.specs.Classes.{object_is as plan_object_is}
 use Rattle.py_value.specs.Contents.{contents}
-use Rattle.py_value.specs.declared.value.Value.TheVariants.{Object}
 use Rattle.op_work.specs.Work.{seen_kind}
 use Rattle.op_work.proofs.Going.{comes_as}
 use Rattle.op_objects.proofs.OfKinds.{by_object, builtin_is, object_named}

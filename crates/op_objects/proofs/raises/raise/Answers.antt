@@ -1,4 +1,4 @@
-use Rattle.std.proofs.Common.{sym, ap, ◌∙◌, true, false}
+use Rattle.std.proofs.Common.{sym, ap, ◌∙◌}
 use Rattle.py_model.specs.Raising.{raise as plan_raise, raise_class}
 use Rattle.py_value.specs.Contents.{contents}
 use Rattle.op_classes.proofs.WithFiles.{object_is}

@@ -1,4 +1,4 @@
-use Rattle.std.proofs.Common.{refl, subst, Some, None, Ok}
+use Rattle.std.proofs.Common.{refl, subst, Ok}
 use Rattle.py_model.specs.Classes.{end_of_chain as plan_end}
 use Rattle.py_model.specs.Faults.{wrong_kind}
 use Rattle.py_model.specs.Raising.{raise_class as plan_raise_class}

@@ -1,4 +1,4 @@
-use Rattle.std.proofs.Common.{refl, subst, codes, Some, None, Ok}
+use Rattle.std.proofs.Common.{refl, subst, codes, Ok}
 use Rattle.py_model.specs.Classes.{method_of_class as plan_method}
 use Rattle.py_model.specs.Faults.{not_there}
 use Rattle.py_value.specs.Contents.{contents}

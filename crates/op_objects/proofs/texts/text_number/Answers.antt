@@ -1,4 +1,4 @@
-use Rattle.std.proofs.Common.{refl, sym, ◌∙◌, subst, Ok, List, ℕ}
+use Rattle.std.proofs.Common.{refl, sym, ◌∙◌, subst, Ok}
 use Rattle.py_model.specs.Plan.{Plan}
 use Rattle.py_value.specs.Contents.{Contents, contents, text}
 use Rattle.py_value.specs.Values.{IsNamed}
