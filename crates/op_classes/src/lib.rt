@@ -1,9 +1,6 @@
 //! Operations on names and classes: load (1), bind (33), unbind (34) and import (44) of names; the beginning (46) and the end (45) of a
 //! `with`; a call that fails (38); match (41) of an exception. And the walks that operations on classes share: the class walk, the walk to
 //! the end of a chain and the method walk. Each does what its plan says, or stops as its plan does, or costs more than is left.
-//!
-//! Not there yet: getattr (30), setattr (31), find (32), make (39), raise (40), def (42), class (43), an assertion that fails (47) and
-//! `isinstance` (57). The walks ask that at most 1,000,000 steps are left, since a plan walks no longer chain.
 #![tactic(auto)]
 
 mod chains;

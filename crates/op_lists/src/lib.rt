@@ -4,7 +4,7 @@
 //! - [`list`]: an object is a list, or TypeError is raised.
 //! - [`append_to`]: `l.append(v)` on an object. A length that passes 64 bits is refused as want of memory.
 //!
-//! Not here yet: all other operations on lists.
+//! Other operations on lists stand in `op_making`, `op_sums` and `op_compare`, or are not here yet.
 #![tactic(auto)]
 
 mod append;

@@ -3,7 +3,7 @@
 //! at as a whole before its numbers are built. The characters of a text are counted before any of them is a text.
 //! [`walk_value`] is the walk of any value. [`if_walked`] asks only whether it can be walked, and reads nothing of it.
 //!
-//! Not here yet: the walk of two values that are compared.
+//! The walk of two values that are compared is that of `op_compare`.
 #![tactic(auto)]
 
 mod items;
