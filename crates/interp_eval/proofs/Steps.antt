@@ -24,7 +24,7 @@ use Rattle.interp_eval.specs.Delivery.{GoesOn, HasGoneOn}
 use Rattle.interp_eval.specs.Held.{AreAllNamed, IsHeldFrame}
 use Rattle.interp_eval.specs.Machine.{machine, node, node_for, waiting, remains, goes, follows, first_of, behind_first, wanted_op, turn_by, turn_act, values_by}
 use Rattle.interp_eval.specs.Performing.{HasState, AreNamedBy, IsOp, HasHappened, WasTooDear, WasLacking, WasCut, nothing_happened, not_told, HasPerformed}
-use Rattle.interp_eval.specs.declared.perform.Came.{Came}
+use Rattle.interp_eval.specs.declared.performing.Came.{Came}
 use Rattle.py_model.specs.declared.moment.Answer.{Answer as OneAnswer}
 use Rattle.local_names.specs.Scopes.{function_in}
 use Rattle.interp_eval.specs.declared.frames.Scope.{Scope}

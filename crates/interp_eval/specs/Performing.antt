@@ -15,8 +15,8 @@ use Rattle.py_model.specs.Told.{answer_seen, op_seen, TellsOn, IsNamedAnswer}
 use Rattle.py_model.specs.declared.moment.Answer.{Answer}
 use Rattle.py_model.specs.declared.moment.Op.{Op}
 use Rattle.interp_eval.specs.declared.frames.Scope.{Scope}
-use Rattle.interp_eval.specs.declared.perform.Came.{Came}
-use Rattle.interp_eval.specs.declared.perform.Came.TheVariants.{Did, TooDear, Unanswered}
+use Rattle.interp_eval.specs.declared.performing.Came.{Came}
+use Rattle.interp_eval.specs.declared.performing.Came.TheVariants.{Did, TooDear, Unanswered}
 use Rattle.interp_eval.specs.declared.turn.Want.{Want}
 use Rattle.interp_eval.specs.Machine.{wanted_op}
 use Rattle.interp_eval.specs.Scopes.{IsAt}

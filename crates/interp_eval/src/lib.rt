@@ -20,9 +20,12 @@
 
 mod frames;
 mod node;
-mod perform;
+mod performing;
 mod step;
 mod turn;
 
 pub use frames::{EvalFrames, EvalNext, Scope};
+pub use node::place_of;
+pub use performing::{Came, make_op, perform, tell};
 pub use step::eval_step;
+pub use turn::Want;

@@ -81,7 +81,7 @@ pub(crate) struct Node<'a> {
 
 /// The place of an expression.
 #[tactic(auto, using(py_tree::proofs::ExprTrees::expr_trees))]
-fn place_of(expr: &Expr) -> Pos
+pub fn place_of(expr: &Expr) -> Pos
     ensures { result ≡ expr_place (expr_of expr.now) }
 {
     match expr {

@@ -20,7 +20,7 @@ ghost use Rattle.interp_eval.specs.Values.{behind_values};
 
 use crate::frames::{EvalFrames, EvalNext, Frame};
 use crate::node::{Branch, Code, Finish, Next, Node, Operands, code_node};
-use crate::perform::{Came, make_op, perform};
+use crate::performing::{Came, make_op, perform};
 use crate::turn::{After, Order, Turn};
 use prov_base::{Memory, Pos};
 use py_model::{Answer, Args, Doer, Watch};

@@ -17,7 +17,7 @@ use py_value::Value;
 
 /// What an operation names beside its number.
 #[derive(Clone, Copy)]
-pub(crate) enum Want<'a> {
+pub enum Want<'a> {
     /// Nothing.
     Plain,
     /// A text.

@@ -6,7 +6,7 @@ use Rattle.interp_eval.specs.Turns.{after_seen, want_seen}
 use Rattle.interp_eval.specs.Weight.{no_values}
 use Rattle.interp_eval.proofs.Weights.{after_lighter}
 use Rattle.interp_eval.specs.Step.{remaining}
-use Rattle.interp_eval.specs.declared.perform.Came.TheVariants.{Did, TooDear, Unanswered}
+use Rattle.interp_eval.specs.declared.performing.Came.TheVariants.{Did, TooDear, Unanswered}
 use Rattle.interp_eval.proofs.Steps.{cut_here, made_state, made_named, known_came, order_cut, order_spent, order_unanswered, order_raised, order_ended, order_value, order_named}
 use Rattle.interp_eval.proofs.step.order_step.Goals as goal
 

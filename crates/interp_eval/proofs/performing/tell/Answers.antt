@@ -2,7 +2,7 @@ use Rattle.std.proofs.Common.{sym, subst}
 use Rattle.py_model.specs.Moment.{Moment}
 use Rattle.py_model.specs.Told.{IsToldNow, TellsOn}
 use Rattle.interp_eval.proofs.Staying.{moment_stays}
-use Rattle.interp_eval.proofs.perform.tell.Goals as goal
+use Rattle.interp_eval.proofs.performing.tell.Goals as goal
 
 pub returns : goal.returns
 returns g c = λ table capture fits.

@@ -19,14 +19,17 @@ use std::alloc::Global;
 
 /// What an operation came to: its answer, with the method that its walk found; or why it did not happen.
 #[derive(Clone, Copy)]
-pub(crate) enum Came {
+pub enum Came {
+    /// It happened, and answers this; a method walk of it found this method.
     Did(Answer, Option<Pos>),
+    /// It costs more than is left.
     TooDear,
+    /// It asks for what is not there.
     Unanswered,
 }
 
 /// An operation with what it names. Names and texts get their numbers from the doer.
-pub(crate) fn make_op<D: Doer>(
+pub fn make_op<D: Doer>(
     alloc: Global,
     script: &Script,
     scope: Scope,
@@ -77,7 +80,7 @@ fn pay<D: Doer>(doer: &D, deed: &Deed, left: u32) -> u32
 }
 
 /// The watch is told a moment. Some text has a number, so the doer's texts and tuples are known to have one each.
-fn tell<D: Doer, W: Watch>(
+pub fn tell<D: Doer, W: Watch>(
     alloc: Global,
     doer: &D,
     watch: &mut W,
@@ -96,7 +99,7 @@ fn tell<D: Doer, W: Watch>(
 }
 
 /// An operation is performed and paid for, and the watch is told.
-pub(crate) fn perform<D: Doer, W: Watch>(
+pub fn perform<D: Doer, W: Watch>(
     alloc: Global,
     doer: &mut D,
     watch: &mut W,

@@ -1,7 +1,7 @@
 use Rattle.std.proofs.Common.{[]}
 use Rattle.py_model.specs.declared.doer.Done.TheVariants.{Did, TooDear, Unanswered}
 use Rattle.interp_eval.proofs.Performed.{known_done, word_known, can_pay, can_tell, has_happened, was_not_told, was_too_dear, was_lacking}
-use Rattle.interp_eval.proofs.perform.perform.Goals as goal
+use Rattle.interp_eval.proofs.performing.perform.Goals as goal
 
 pub returns-in-Unanswered-clause-performed : goal.returns-in-Unanswered-clause-performed
 returns-in-Unanswered-clause-performed g c =

@@ -1,0 +1,5 @@
+pub mod Machine
+pub mod Seen
+pub mod Popping
+pub mod Telling
+pub mod Step
