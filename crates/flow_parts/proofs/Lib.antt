@@ -1,0 +1,4 @@
+pub mod Plain
+pub mod Flows
+pub mod Holding
+pub mod Tellings

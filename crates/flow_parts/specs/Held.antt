@@ -1,0 +1,80 @@
+-- The texts and tuples that the values of a flow name are named in a table.
+use Rattle.std.specs.Prelude.{List, [], ◌∷◌, Option, Some, None, ⊤}
+use Rattle.py_value.specs.Values.{ValuesView, IsNamed}
+use Rattle.py_value.specs.declared.value.Value.{Value}
+use Rattle.py_model.specs.Capture.{Capture}
+use Rattle.py_model.specs.Doing.{Fits}
+use Rattle.interp_eval.specs.Held.{AreHeld, AreAllNamed}
+use Rattle.flow_parts.specs.declared.control.End.{End}
+use Rattle.flow_parts.specs.declared.control.End.TheVariants.{Returned}
+use Rattle.flow_parts.specs.declared.control.Goal.{Goal}
+use Rattle.flow_parts.specs.declared.control.Goal.TheVariants.{Finishes, Turns}
+use Rattle.flow_parts.specs.declared.control.Stage.{Stage}
+use Rattle.flow_parts.specs.declared.control.Stage.TheVariants.{Stores, Holder, Index, Stored, Sized, Turn, Item, Repeats, Key, Named, Inside, Closes}
+use Rattle.flow_parts.specs.declared.control.Work.{Work}
+use Rattle.flow_parts.specs.declared.control.Work.TheVariants.{Evaluates, Operation}
+use Rattle.flow_parts.specs.declared.control.Now.{Now}
+use Rattle.flow_parts.specs.declared.control.Now.TheVariants.{InSuite, Opens, Gives, Ended}
+use Rattle.flow_parts.specs.declared.frames.Spot.{Spot}
+use Rattle.flow_parts.specs.declared.frames.Waits.{Waits}
+use Rattle.flow_parts.specs.declared.frames.Waits.TheVariants.{Stmt as StmtWaits, Part as PartWaits}
+use Rattle.flow_parts.specs.declared.frames.Frame.{Frame}
+use Rattle.flow_parts.specs.declared.frames.FlowFrames.{FlowFrames}
+
+abbrev pub IsHeldEnd : ValuesView → End → Type 0
+IsHeldEnd table (Returned v) = IsNamed table v
+IsHeldEnd table end = ⊤
+
+abbrev pub IsHeldGoal : ValuesView → Goal → Type 0
+IsHeldGoal table Finishes = ⊤
+IsHeldGoal table (Turns items n size) = IsNamed table items × IsNamed table size
+
+abbrev pub IsHeldStage : ValuesView → Stage → Type 0
+IsHeldStage table (Stores goal v) = IsHeldGoal table goal × IsNamed table v
+IsHeldStage table (Holder goal v) = IsHeldGoal table goal × IsNamed table v
+IsHeldStage table (Index goal v o) = IsHeldGoal table goal × (IsNamed table v × IsNamed table o)
+IsHeldStage table (Stored goal) = IsHeldGoal table goal
+IsHeldStage table (Sized items) = IsNamed table items
+IsHeldStage table (Turn items n size) = IsNamed table items × IsNamed table size
+IsHeldStage table (Item items n size) = IsNamed table items × IsNamed table size
+IsHeldStage table (Repeats items n size) = IsNamed table items × IsNamed table size
+IsHeldStage table (Key o) = IsNamed table o
+IsHeldStage table (Named v) = IsNamed table v
+IsHeldStage table (Inside v) = IsNamed table v
+IsHeldStage table (Closes end) = IsHeldEnd table end
+IsHeldStage table stage = ⊤
+
+abbrev pub IsHeldWork : ValuesView → Work → Type 0
+IsHeldWork table (Evaluates frames) = AreHeld table frames
+IsHeldWork table (Operation at code values) = AreAllNamed table values.items
+
+abbrev pub IsHeldNow : ValuesView → Now → Type 0
+IsHeldNow table (InSuite stmts) = ⊤
+IsHeldNow table (Opens p) = IsHeldStage table p.stage
+IsHeldNow table (Gives g) = IsHeldWork table g.value.work × IsHeldStage table g.value.part.stage
+IsHeldNow table (Ended end) = IsHeldEnd table end
+
+abbrev pub IsHeldClass : ValuesView → Option Value → Type 0
+IsHeldClass table None = ⊤
+IsHeldClass table (Some of) = IsNamed table of
+
+abbrev pub IsHeldWaits : ValuesView → Waits → Type 0
+IsHeldWaits table (StmtWaits number rest) = ⊤
+IsHeldWaits table (PartWaits None p) = IsHeldStage table p.stage
+IsHeldWaits table (PartWaits (Some frames) p) = AreHeld table frames.value × IsHeldStage table p.stage
+
+abbrev pub IsHeldFrame : ValuesView → Frame → Type 0
+IsHeldFrame table f = IsHeldClass table f.spot.in_class × IsHeldWaits table f.waits
+
+abbrev pub AreHeldFrames : ValuesView → List Frame → Type 0
+AreHeldFrames table [] = ⊤
+AreHeldFrames table (f ∷ fs) = IsHeldFrame table f × AreHeldFrames table fs
+
+-- so of all of a flow
+pub record IsHeldFlow (table : ValuesView) (frames : FlowFrames) : Type 0 where
+  pub spot : IsHeldClass table frames.spot.in_class
+  pub now : IsHeldNow table frames.now
+  pub below : AreHeldFrames table frames.below.items
+
+abbrev pub IsHeldBy : Fits → FlowFrames → Type 0
+IsHeldBy fits frames = (table : ValuesView) (capture : Capture) → fits table capture → IsHeldFlow table frames

@@ -1,0 +1,371 @@
+-- What is still to be done of a script that is being run, in the words of its meaning (The Python Language Reference 3, sections 7 and 8, in
+-- this project's profile): what is done now, and what waits for its end. A part of a statement is named by its form and a stage.
+use Rattle.std.specs.Prelude.{ℕ, zero, suc, List, [], ◌∷◌, Option, Some, None}
+use Rattle.prov_base.specs.declared.place.Pos.{Pos}
+use Rattle.py_tree.specs.declared.stmt.Bound.{Bound}
+use Rattle.py_tree.specs.Tree.{ExprTree, FormTree, SuiteTree, BranchesTree, HandlersTree, TargetTree, ScriptTree, part_target, field_target, assign_form, aug_form, del_form, return_form, raise_form, assert_form, if_form, while_form, for_form, try_form, with_form, class_form, end_branches, more_branches, end_handlers, more_handlers}
+use Rattle.py_value.specs.Contents.{Contents, object}
+use Rattle.py_model.specs.Act.{Act, How, ret, close, to, ending, normal, returned, threw}
+use Rattle.py_model.specs.Expressions.{Here, Task, while_again, for_again, by_truth, doing, op, op_named, op_scoped, left_with, eval}
+use Rattle.py_model.specs.Functions.{expr_place}
+use Rattle.py_model.specs.Operations.{Op}
+use Rattle.py_model.specs.Statements.{suite, rule, store, choose, otherwise, handle, caught, turned, then_so, binding, unbinding, handling, in_class_of, failed_assert, while_turn, for_turn, class_body}
+use Rattle.interp_eval.specs.Machine.{Machine, Want, wanted_op, machine, node, gives_one, node_for, remains}
+
+-- What follows a value that is stored in a target: the end of the statement; or the suite of a turn of a `for`, with its items, the number of the turns
+-- before it, and their size.
+pub data Goal : Type 0 where
+  finishes : Goal
+  turns : Contents → ℕ → Contents → Goal
+
+-- How far a statement is. A stage has the values that are held until its end: of a target its container and its index, of a `for` its
+-- items, turns and size, of a handler its number and the exception.
+pub data Stage : Type 0 where
+  -- nothing is done; the value of its expression is awaited; that of a test by its number; the answer whether that is true
+  whole : Stage
+  valued : Stage
+  tested : ℕ → Stage
+  answered : ℕ → Stage
+  -- the answer of its last operation is awaited; its suite is next; the message of a failed assertion is awaited
+  done : Stage
+  body : Stage
+  failed : Stage
+  -- a value is to be stored; the container of its target is awaited; the index; the answer of the operation that stores it
+  stores : Goal → Contents → Stage
+  holder : Goal → Contents → Stage
+  at_index : Goal → Contents → Contents → Stage
+  stored : Goal → Stage
+  -- of a `for` the size is awaited; a turn is next; its item is awaited; its suite is next
+  sized : Contents → Stage
+  turn : Contents → ℕ → Contents → Stage
+  item : Contents → ℕ → Contents → Stage
+  repeats : Contents → ℕ → Contents → Stage
+  -- the container of a target is awaited, with no value yet to be stored; its index
+  owner : Stage
+  key : Contents → Stage
+  -- the file of a `with` is awaited, or a class; what the name of a `with` was bound to; the suite of one is next
+  entered : Stage
+  named : Contents → Stage
+  inside : Contents → Stage
+  -- an operation after an end is awaited
+  closes : How → Stage
+  -- the handler with a number is next, for an exception of a line; its class is awaited; the answer whether the exception is of it; that
+  -- of its binding; its suite is next
+  handler : ℕ → ℕ → ℕ → Stage
+  sought : ℕ → ℕ → ℕ → Stage
+  matched : ℕ → ℕ → ℕ → Stage
+  catches : ℕ → ℕ → Stage
+  handles : ℕ → ℕ → Stage
+
+-- a statement from a stage on: its place and its form
+pub record Part : Type 0 where
+  pub at : Pos
+  pub form : FormTree
+  pub stage : Stage
+
+abbrev pub part : Pos → FormTree → Stage → Part
+part at form stage = record { at = at; form = form; stage = stage }
+
+-- an operation with the text and the value that it names
+abbrev pub flow_op : Here → ℕ → Want → Contents → Op
+flow_op here number want v = record (wanted_op here number want) { value = v }
+
+-- what gives a value: an expression that is being evaluated, or an operation on values
+pub data Work : Type 0 where
+  evaluates : Machine → Work
+  operation : Pos → ℕ → Want → Contents → List Contents → Work
+
+-- What is done now: the statements of a suite, a part of a statement, what gives a value with the part that follows it; or the end.
+pub data Now : Type 0 where
+  in_suite : SuiteTree → Now
+  opens : Part → Now
+  gives : Work → Part → Now
+  ended : How → Now
+
+-- What waits for an end: a statement by its number with the rest of its suite, a part of a statement, and the caller of a function with
+-- the part that follows the value of its expression.
+pub data Waits : Type 0 where
+  a_stmt : ℕ → SuiteTree → Waits
+  a_part : Part → Waits
+  a_call : Machine → Part → Waits
+
+-- an expression whose call has this value: the operation `give` is next
+abbrev pub given_to : Machine → Contents → Machine
+given_to m v = machine (node m.top.node.at (gives_one v) []) m.top.have m.below
+
+-- each with the place where it stands
+pub record Frame : Type 0 where
+  pub here : Here
+  pub waits : Waits
+
+-- what is done now and where, and what waits, the outermost first
+pub record Flow : Type 0 where
+  pub here : Here
+  pub now : Now
+  pub below : List Frame
+
+abbrev pub flow : Here → Now → List Frame → Flow
+flow here now below = record { here = here; now = now; below = below }
+
+abbrev pub frame : Here → Waits → Frame
+frame here waits = record { here = here; waits = waits }
+
+-- the branches of an `if` from a number on
+abbrev pub branches_from : ℕ → BranchesTree → BranchesTree
+branches_from zero branches = branches
+branches_from (suc n) end_branches = end_branches
+branches_from (suc n) (more_branches test run rest) = branches_from n rest
+
+-- the test with a number
+abbrev pub first_test : BranchesTree → Option ExprTree
+first_test end_branches = None
+first_test (more_branches test run rest) = Some test
+
+abbrev pub test_of : FormTree → ℕ → Option ExprTree
+test_of (if_form branches other) n = first_test (branches_from n branches)
+test_of (while_form test run) n = Some test
+test_of (assert_form test message) n = Some test
+test_of form n = None
+
+-- the target of a statement
+abbrev pub target_in : FormTree → Option TargetTree
+target_in (assign_form target e) = Some target
+target_in (aug_form target sign place e) = Some target
+target_in (del_form target) = Some target
+target_in (for_form target e run) = Some target
+target_in form = None
+
+-- the name after the `as` of a `with`
+abbrev pub bound_in : FormTree → Option Bound
+bound_in (with_form e bound run) = bound
+bound_in form = None
+
+-- the suite of a statement that has one
+abbrev pub suite_in : FormTree → Option SuiteTree
+suite_in (while_form test run) = Some run
+suite_in (for_form target e run) = Some run
+suite_in (try_form run handlers) = Some run
+suite_in (with_form e bound run) = Some run
+suite_in (class_form name base run) = Some run
+suite_in form = None
+
+-- the handlers of a `try` from a number on, and the first of some
+abbrev pub handlers_in : FormTree → HandlersTree
+handlers_in (try_form run handlers) = handlers
+handlers_in form = end_handlers
+
+abbrev pub handlers_from : ℕ → HandlersTree → HandlersTree
+handlers_from zero handlers = handlers
+handlers_from (suc n) end_handlers = end_handlers
+handlers_from (suc n) (more_handlers kind bound run rest) = handlers_from n rest
+
+pub record Handler : Type 0 where
+  pub kind : Option ExprTree
+  pub bound : Option Bound
+  pub run : SuiteTree
+
+abbrev pub first_handler : HandlersTree → Option Handler
+first_handler end_handlers = None
+first_handler (more_handlers kind bound run rest) = Some (record { kind = kind; bound = bound; run = run })
+
+abbrev pub handler_in : FormTree → ℕ → Option Handler
+handler_in form n = first_handler (handlers_from n (handlers_in form))
+
+-- where the suite of a stage stands
+abbrev pub inside_here : FormTree → Contents → Here → Here
+inside_here (class_form name base run) v here = in_class_of v here
+inside_here form v here = here
+
+abbrev pub inner_here : FormTree → Stage → Here → Here
+inner_here form (inside v) here = inside_here form v here
+inner_here form (handles n o) here = handling o here
+inner_here form stage here = here
+
+module _ (script : ScriptTree) (next : Task → Act) where
+  abbrev pub first_suite : Here → BranchesTree → Act
+  first_suite here end_branches = ret normal
+  first_suite here (more_branches test run rest) = suite script next here run
+
+  abbrev pub others : Here → BranchesTree → Act → Act
+  others here end_branches other = ret normal
+  others here (more_branches test run rest) other = choose script next here rest other
+
+  -- what a statement does where its test with a number is true, and where it is not
+  abbrev pub when_true : Here → FormTree → ℕ → Act
+  when_true here (if_form branches other) n = first_suite here (branches_from n branches)
+  when_true here (while_form test run) n = to (suite script next here run) (turned (next (while_again here test run)))
+  when_true here form n = ret normal
+
+  abbrev pub when_false : Here → Pos → FormTree → ℕ → Act
+  when_false here at (if_form branches other) n = others here (branches_from n branches) (otherwise script next here other)
+  when_false here at (assert_form test message) n = failed_assert script next here at message
+  when_false here at form n = ret normal
+
+  -- a suite; that of a handler
+  abbrev pub suite_act : Here → Option SuiteTree → Act
+  suite_act here None = ret normal
+  suite_act here (Some run) = suite script next here run
+
+  abbrev pub handled_act : Here → Option Handler → Act
+  handled_act here None = ret normal
+  handled_act here (Some h) = suite script next here h.run
+
+  abbrev pub stage_act : Here → FormTree → Stage → Act
+  stage_act here form (handles n o) = handled_act here (handler_in form n)
+  stage_act here form stage = suite_act here (suite_in form)
+
+  -- What a statement does when the suite of its stage has ended so. A further turn of a loop goes on with what such a task is.
+  abbrev pub body_ended : (Task → Act) → Here → Pos → FormTree → How → Act
+  body_ended again here at (while_form test run) how = turned (again (while_again here test run)) how
+  body_ended again here at (try_form run handlers) how = caught script next (handle script next here at handlers) how
+  body_ended again here at form how = ret how
+
+  abbrev pub turn_ended : (Task → Act) → Here → Pos → FormTree → Contents → ℕ → Contents → How → Act
+  turn_ended again here at (for_form target e run) items n size how = turned (again (for_again here at target run items (suc n) size)) how
+  turn_ended again here at form items n size how = ret how
+
+  abbrev pub inside_ended : Here → Pos → FormTree → Contents → How → Act
+  inside_ended here at (with_form e bound run) v how = doing here at (op 45) (v ∷ []) (λ done. ret how)
+  inside_ended here at (class_form name base run) v how = then_so (doing here at (op_scoped 33 here name) (v ∷ []) (λ done. ret normal)) how
+  inside_ended here at form v how = ret how
+
+  abbrev pub handled_end : Here → Option Handler → How → Act
+  handled_end here None how = ret how
+  handled_end here (Some h) how = unbinding here h.bound (ret how)
+
+  abbrev pub suite_ended : (Task → Act) → Here → Pos → FormTree → Stage → How → Act
+  suite_ended again here at form body how = body_ended again here at form how
+  suite_ended again here at form (repeats items n size) how = turn_ended again here at form items n size how
+  suite_ended again here at form (inside v) how = inside_ended here at form v how
+  suite_ended again here at form (handles n o) how = handled_end here (handler_in form n) how
+  suite_ended again here at form stage how = ret how
+
+  -- the suite of a stage, and what follows it
+  abbrev pub runs_act : Here → Pos → FormTree → Stage → Act
+  runs_act here at form stage = to (stage_act (inner_here form stage here) form stage) (suite_ended next here at form stage)
+
+  -- a turn of a `for`; what follows a value that was stored
+  abbrev pub turn_act : Here → Pos → FormTree → Contents → ℕ → Contents → Act
+  turn_act here at (for_form target e run) items n size =
+      for_turn script next here at target (suite script next here run) items n size (next (for_again here at target run items (suc n) size))
+  turn_act here at form items n size = ret normal
+
+  abbrev pub goal_act : Here → Pos → Goal → FormTree → Act
+  goal_act here at finishes form = ret normal
+  goal_act here at (turns items n size) form = runs_act here at form (repeats items n size)
+
+  -- a value is stored in the target of a statement; its container is there; its index is there
+  abbrev pub stored_act : Here → Pos → FormTree → Goal → Option TargetTree → Contents → Act
+  stored_act here at form goal None v = ret normal
+  stored_act here at form goal (Some target) v = store script next here at target v (goal_act here at goal form)
+
+  abbrev pub holder_act : Here → Pos → FormTree → Goal → Option TargetTree → Contents → Contents → Act
+  holder_act here at form goal (Some (part_target place e index)) v o =
+      eval script next here index (λ i. doing here place (op 28) (o ∷ i ∷ v ∷ []) (λ done. goal_act here at goal form))
+  holder_act here at form goal (Some (field_target place e name)) v o = doing here place (op_named 31 name) (o ∷ v ∷ []) (λ done. goal_act here at goal form)
+  holder_act here at form goal target v o = ret normal
+
+  abbrev pub index_act : Here → Pos → FormTree → Goal → Option TargetTree → Contents → Contents → Contents → Act
+  index_act here at form goal (Some (part_target place e index)) v o i = doing here place (op 28) (o ∷ i ∷ v ∷ []) (λ done. goal_act here at goal form)
+  index_act here at form goal target v o i = ret normal
+
+  -- the container of what is deleted is there; its index is there
+  abbrev pub owner_act : Here → Option TargetTree → Contents → Act
+  owner_act here (Some (part_target place e index)) o = eval script next here index (λ i. doing here place (op 29) (o ∷ i ∷ []) (λ done. ret normal))
+  owner_act here target o = ret normal
+
+  abbrev pub key_act : Here → Option TargetTree → Contents → Contents → Act
+  key_act here (Some (part_target place e index)) o i = doing here place (op 29) (o ∷ i ∷ []) (λ done. ret normal)
+  key_act here target o i = ret normal
+
+  -- the file of a `with` is bound; and its suite or that of a class
+  abbrev pub entered_act : Here → Pos → FormTree → Contents → Act
+  entered_act here at form v = binding here (bound_in form) v (runs_act here at form (inside v))
+
+  -- the value of the expression of a statement
+  abbrev pub valued_act : Here → Pos → FormTree → Contents → Act
+  valued_act here at (assign_form target e) v = store script next here at target v (ret normal)
+  valued_act here at (return_form e) v = ret (returned v)
+  valued_act here at (raise_form e) v = doing here at (op 40) (v ∷ []) (λ done. ret normal)
+  valued_act here at (for_form target e run) v = doing here at (op 36) (v ∷ []) (λ size. turn_act here at (for_form target e run) v 0 size)
+  valued_act here at (with_form e bound run) v = doing here at (op 46) (v ∷ []) (λ file. entered_act here at (with_form e bound run) file)
+  valued_act here at (class_form name base run) v = class_body script next here at name (λ of. suite script next (in_class_of of here) run) (v ∷ [])
+  valued_act here at form v = ret normal
+
+  abbrev pub test_act : Here → Pos → FormTree → ℕ → Option ExprTree → Contents → Act
+  test_act here at form n None v = ret normal
+  test_act here at form n (Some test) v = doing here (expr_place test) (op 3) (v ∷ []) (by_truth (when_true here form n) (when_false here at form n))
+
+  -- a handler: its clause; where it does not match
+  abbrev pub clause_act : Here → Pos → FormTree → ℕ → ℕ → Option Handler → Act
+  clause_act here at form n o None = ret normal
+  clause_act here at form n o (Some h) = binding here h.bound (object o) (runs_act here at form (handles n o))
+
+  abbrev pub missed_act : Here → Pos → FormTree → ℕ → ℕ → ℕ → Act
+  missed_act here at form n o line = handle script next here at (handlers_from (suc n) (handlers_in form)) o line
+
+  abbrev pub match_act : Here → Pos → FormTree → ℕ → ℕ → ℕ → Contents → Act
+  match_act here at form n o line = by_truth (clause_act here at form n o (handler_in form n)) (missed_act here at form n o line)
+
+  -- what follows a value
+  abbrev pub then_act : Here → Pos → FormTree → Stage → Contents → Act
+  then_act here at form valued v = valued_act here at form v
+  then_act here at form (tested n) v = test_act here at form n (test_of form n) v
+  then_act here at form (answered n) v = by_truth (when_true here form n) (when_false here at form n) v
+  then_act here at form failed v = doing here at (op 47) (v ∷ []) (λ end. ret normal)
+  then_act here at form (holder goal u) v = holder_act here at form goal (target_in form) u v
+  then_act here at form (at_index goal u o) v = index_act here at form goal (target_in form) u o v
+  then_act here at form (stored goal) v = goal_act here at goal form
+  then_act here at form (sized items) v = turn_act here at form items 0 v
+  then_act here at form (item items n size) v = stored_act here at form (turns items n size) (target_in form) v
+  then_act here at form owner v = owner_act here (target_in form) v
+  then_act here at form (key o) v = key_act here (target_in form) o v
+  then_act here at form entered v = entered_act here at form v
+  then_act here at form (named file) v = runs_act here at form (inside file)
+  then_act here at form (closes how) v = ret how
+  then_act here at form (sought n o line) v = doing here at (op 41) (object o ∷ v ∷ []) (match_act here at form n o line)
+  then_act here at form (matched n o line) v = match_act here at form n o line v
+  then_act here at form (catches n o) v = runs_act here at form (handles n o)
+  then_act here at form stage v = ret normal
+
+  -- a statement from a test on
+  abbrev pub from_test : Here → FormTree → ℕ → Act
+  from_test here (if_form branches other) n = choose script next here (branches_from n branches) (otherwise script next here other)
+  from_test here (while_form test run) n = while_turn script next here test (suite script next here run) (next (while_again here test run))
+  from_test here form n = ret normal
+
+  abbrev pub open_act : Here → Pos → FormTree → Stage → Act
+  open_act here at form whole = rule script next here at form
+  open_act here at form (tested n) = from_test here form n
+  open_act here at form (stores goal v) = stored_act here at form goal (target_in form) v
+  open_act here at form (turn items n size) = turn_act here at form items n size
+  open_act here at form (handler n o line) = handle script next here at (handlers_from n (handlers_in form)) o line
+  open_act here at form stage = runs_act here at form stage
+
+  abbrev pub work_act : Here → Work → (Contents → Act) → Act
+  work_act here (evaluates m) go = remains script next here m go
+  work_act here (operation at number want v values) go = doing here at (flow_op here number want v) values go
+
+  -- what is done now
+  abbrev pub now_act : Here → Now → Act
+  now_act here (in_suite run) = suite script next here run
+  now_act here (opens p) = open_act here p.at p.form p.stage
+  now_act here (gives work p) = work_act here work (then_act here p.at p.form p.stage)
+  now_act here (ended how) = ret how
+
+  abbrev pub waits_act : Here → Waits → How → Act
+  waits_act here (a_stmt number rest) how = close number (ending how) (then_so (suite script next here rest) how)
+  waits_act here (a_part p) how = suite_ended next here p.at p.form p.stage how
+  waits_act here (a_call m p) how = left_with script next (λ v. remains script next here (given_to m v) (then_act here p.at p.form p.stage)) how
+
+  -- what waits goes on from an end, the innermost first
+  abbrev pub resumes : List Frame → (How → Act) → How → Act
+  resumes [] go = go
+  resumes (f ∷ above) go = resumes above (λ how. to (waits_act f.here f.waits how) go)
+
+  -- what a flow still means
+  unfoldable pub remaining : Flow → Act
+  remaining f = to (now_act f.here f.now) (resumes f.below (λ how. ret how))
+
+abbrev pub start_eval : ExprTree → Part → Now
+start_eval e p = gives (evaluates (machine (node_for e) [] [])) p

@@ -1,5 +1,0 @@
-pub mod Machine
-pub mod Seen
-pub mod Popping
-pub mod Telling
-pub mod Step
