@@ -1,0 +1,227 @@
+// How a part of a statement is opened.
+ghost use Rattle.std.specs.Prelude.{◌≡◌, IfOk, pos};
+ghost use Rattle.py_tree.specs.Erasure.{form_of};
+ghost use Rattle.py_tree.specs.Tree.{ScriptTree};
+ghost use Rattle.py_value.specs.Contents.{contents, int};
+ghost use Rattle.py_value.specs.Values.{ValuesView, IsNamed};
+ghost use Rattle.py_model.specs.Act.{Act};
+ghost use Rattle.py_model.specs.Expressions.{Here, Task};
+ghost use Rattle.py_model.specs.Statements.{suite};
+ghost use Rattle.flow_parts.specs.Held.{IsHeldClass, IsHeldNow, IsHeldStage};
+ghost use Rattle.flow_parts.specs.Machine.{handled_act, handler_in, inside_here, now_act, suite_act, suite_in, turn_act};
+ghost use Rattle.flow_parts.specs.Seen.{here_seen, now_seen, stmts_seen};
+ghost use Rattle.flow_stages.specs.Running.{HoldsWay, OpensBy};
+ghost use Rattle.flow_parts.specs.declared.control.End.TheVariants.{Normal};
+ghost use Rattle.flow_parts.specs.declared.control.Now.TheVariants.{Ended, InSuite};
+ghost use Rattle.flow_stages.specs.declared.running.Way.TheVariants.{Becomes, Runs, Unwritten};
+
+use crate::forms::{handler_in, suite_in};
+use crate::handling::handled;
+use crate::opening::test_opened;
+use flow_parts::{Code, End, Now, Part, Spot, Stage, on_three};
+use prov_base::Memory;
+use py_tree::{Form, Stmt};
+use py_value::Value;
+use std::alloc::Global;
+
+/// How a part of a statement is opened.
+#[derive(Clone, Copy)]
+pub enum Way {
+    /// What is done now stands where the part stands.
+    Becomes,
+    /// It stands at this spot, and the part waits for its end.
+    Runs(Spot),
+    /// Nothing is opened: augmented assignments, and a value that is taken apart by several targets.
+    Unwritten,
+}
+
+/// What a part of a statement is opened as.
+#[derive(Drop)]
+pub struct Opened<'a> {
+    /// What is done now.
+    pub now: Now<'a>,
+    /// How.
+    pub way: Way,
+}
+
+/// A number of turns, as a value.
+fn counted(number: u32) -> Value
+    ensures means { (table : ValuesView) → contents table result ≡ int (pos number) }
+    ensures named { (table : ValuesView) → IsNamed table result }
+{
+    Value::Int(i64::from(number))
+}
+
+/// The next item of a `for` is asked for.
+#[tactic(auto, using(py_tree::proofs::StmtTrees::form_trees))]
+fn turned<'a>(
+    alloc: Global,
+    part: Part<'a>,
+    items: Value,
+    number: u32,
+    size: Value,
+) -> Result<Now<'a>, Memory>
+    ensures means { IfOk result (λ now. (script : ScriptTree) (next : Task → Act) (here : Here) (table : ValuesView)
+        → now_act script next here (now_seen table now) ≡ turn_act script next here part.entry.at (form_of part.entry.form.now) (contents table items) number (contents table size)) }
+    ensures held { IfOk result (λ now. (table : ValuesView) → IsNamed table items → IsNamed table size → IsHeldNow table now) }
+{
+    match part.form {
+        Form::For(_, _, _) => on_three(
+            alloc,
+            part.at,
+            Code::Next,
+            items,
+            counted(number),
+            size,
+            part.to(Stage::Item(items, number, size)),
+        ),
+        Form::Do(_) => Ok(Now::Ended(End::Normal)),
+        Form::Assign(_, _) => Ok(Now::Ended(End::Normal)),
+        Form::Aug(_, _, _, _) => Ok(Now::Ended(End::Normal)),
+        Form::Del(_) => Ok(Now::Ended(End::Normal)),
+        Form::Pass => Ok(Now::Ended(End::Normal)),
+        Form::Break => Ok(Now::Ended(End::Normal)),
+        Form::Continue => Ok(Now::Ended(End::Normal)),
+        Form::Return(_) => Ok(Now::Ended(End::Normal)),
+        Form::Raise(_) => Ok(Now::Ended(End::Normal)),
+        Form::Assert(_, _) => Ok(Now::Ended(End::Normal)),
+        Form::Import(_) => Ok(Now::Ended(End::Normal)),
+        Form::If(_, _) => Ok(Now::Ended(End::Normal)),
+        Form::While(_, _) => Ok(Now::Ended(End::Normal)),
+        Form::Try(_, _) => Ok(Now::Ended(End::Normal)),
+        Form::With(_, _, _) => Ok(Now::Ended(End::Normal)),
+        Form::Def(_, _, _, _) => Ok(Now::Ended(End::Normal)),
+        Form::Class(_, _, _) => Ok(Now::Ended(End::Normal)),
+    }
+}
+
+/// Where the suite of a `with` or a class stands.
+#[tactic(auto, using(py_tree::proofs::StmtTrees::form_trees))]
+fn inside_spot(form: &Form, value: Value, spot: Spot) -> Spot
+    ensures means { (script : ScriptTree) (table : ValuesView) → here_seen script table result ≡ inside_here (form_of form.now) (contents table value) (here_seen script table spot) }
+    ensures held { (table : ValuesView) → IsNamed table value → IsHeldClass table spot.in_class → IsHeldClass table result.in_class }
+{
+    match form {
+        Form::Class(_, _, _) => Spot {
+            in_class: Some(value),
+            ..spot
+        },
+        Form::Do(_) => spot,
+        Form::Assign(_, _) => spot,
+        Form::Aug(_, _, _, _) => spot,
+        Form::Del(_) => spot,
+        Form::Pass => spot,
+        Form::Break => spot,
+        Form::Continue => spot,
+        Form::Return(_) => spot,
+        Form::Raise(_) => spot,
+        Form::Assert(_, _) => spot,
+        Form::Import(_) => spot,
+        Form::If(_, _) => spot,
+        Form::While(_, _) => spot,
+        Form::For(_, _, _) => spot,
+        Form::Try(_, _) => spot,
+        Form::With(_, _, _) => spot,
+        Form::Def(_, _, _, _) => spot,
+    }
+}
+
+/// The statements of the suite of a statement; none where it has no suite.
+fn stmts_in<'a>(form: &'a Form) -> &'a [Stmt]
+    ensures { (script : ScriptTree) (next : Task → Act) (here : Here) → suite script next here (stmts_seen result.now) ≡ suite_act script next here (suite_in (form_of form.entry.now)) }
+{
+    match suite_in(form) {
+        None => &[],
+        Some(suite) => suite.list.as_slice(),
+    }
+}
+
+/// The statements of the suite of a handler; none where there is no handler.
+fn handler_stmts<'a>(form: &'a Form, number: usize) -> &'a [Stmt]
+    ensures { (script : ScriptTree) (next : Task → Act) (here : Here) → suite script next here (stmts_seen result.now) ≡ handled_act script next here (handler_in (form_of form.entry.now) number) }
+{
+    match handler_in(form, number) {
+        None => &[],
+        Some(handler) => handler.2.list.as_slice(),
+    }
+}
+
+/// Something is done now in place of a part.
+fn becomes<'a>(now: Now<'a>) -> Opened<'a>
+    ensures { result ≡ record { now = now.entry; way = Becomes } }
+{
+    let way = Way::Becomes;
+    Opened { now, way }
+}
+
+/// Nothing is opened.
+fn unwritten<'a>() -> Opened<'a>
+    ensures { result ≡ record { now = Ended Normal; way = Unwritten } }
+{
+    Opened {
+        now: Now::Ended(End::Normal),
+        way: Way::Unwritten,
+    }
+}
+
+/// Statements run at a spot.
+fn runs<'a>(stmts: &'a [Stmt], spot: Spot) -> Opened<'a>
+    ensures { result ≡ record { now = InSuite stmts.entry; way = Runs spot } }
+{
+    Opened {
+        now: Now::InSuite(stmts),
+        way: Way::Runs(spot),
+    }
+}
+
+/// A part of a statement is opened at its spot.
+pub fn part_opened<'a>(alloc: Global, part: Part<'a>, spot: Spot) -> Result<Opened<'a>, Memory>
+    ensures means { IfOk result (λ opened. OpensBy part.entry spot opened.now opened.way) }
+    ensures held { IfOk result (λ opened. (table : ValuesView) → IsHeldStage table part.entry.stage → IsHeldClass table spot.in_class → IsHeldNow table opened.now × HoldsWay table opened.way) }
+{
+    let form = part.form;
+    match part.stage {
+        Stage::Tested(number) => {
+            let now = test_opened(alloc, part.at, form, number, spot.scope)?;
+            Ok(becomes(now))
+        }
+        Stage::Turn(items, number, size) => {
+            let now = turned(alloc, part, items, number, size)?;
+            Ok(becomes(now))
+        }
+        Stage::Handler(number, o, line) => {
+            let now = handled(alloc, part, number, o, line, spot.scope)?;
+            Ok(becomes(now))
+        }
+        Stage::Handles(number, o) => {
+            let handled = Some(o);
+            let inner = Spot { handled, ..spot };
+            Ok(runs(handler_stmts(form, number), inner))
+        }
+        Stage::Inside(value) => {
+            let inner = inside_spot(form, value, spot);
+            Ok(runs(stmts_in(form), inner))
+        }
+        Stage::Body => Ok(runs(stmts_in(form), spot)),
+        Stage::Repeats(_, _, _) => Ok(runs(stmts_in(form), spot)),
+        Stage::Whole => Ok(unwritten()),
+        Stage::Stores(_, _) => Ok(unwritten()),
+        Stage::Valued => Ok(unwritten()),
+        Stage::Answered(_) => Ok(unwritten()),
+        Stage::Done => Ok(unwritten()),
+        Stage::Failed => Ok(unwritten()),
+        Stage::Holder(_, _) => Ok(unwritten()),
+        Stage::Index(_, _, _) => Ok(unwritten()),
+        Stage::Stored(_) => Ok(unwritten()),
+        Stage::Sized(_) => Ok(unwritten()),
+        Stage::Item(_, _, _) => Ok(unwritten()),
+        Stage::Owner => Ok(unwritten()),
+        Stage::Key(_) => Ok(unwritten()),
+        Stage::Entered => Ok(unwritten()),
+        Stage::Named(_) => Ok(unwritten()),
+        Stage::Closes(_) => Ok(unwritten()),
+        Stage::Sought(_, _, _) => Ok(unwritten()),
+        Stage::Matched(_, _, _) => Ok(unwritten()),
+        Stage::Catches(_, _) => Ok(unwritten()),
+    }
+}

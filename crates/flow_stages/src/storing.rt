@@ -1,0 +1,168 @@
+// A value is stored in the target of a statement; an item is deleted.
+ghost use Rattle.std.specs.Prelude.{◌≡◌, IfOk};
+ghost use Rattle.py_tree.specs.Erasure.{form_of};
+ghost use Rattle.py_tree.specs.Tree.{ScriptTree};
+ghost use Rattle.py_value.specs.Contents.{contents};
+ghost use Rattle.py_value.specs.Values.{ValuesView, IsNamed};
+ghost use Rattle.py_model.specs.Act.{Act};
+ghost use Rattle.py_model.specs.Expressions.{Here, Task};
+ghost use Rattle.flow_parts.specs.Held.{IsHeldGoal, IsHeldNow};
+ghost use Rattle.flow_parts.specs.Machine.{goal_act, holder_act, index_act, key_act, now_act, owner_act, stored_act, target_in};
+ghost use Rattle.flow_parts.specs.Seen.{goal_seen, now_seen};
+
+use flow_parts::{Code, End, Goal, Now, Part, Stage, on_one, on_three, on_two, start, target_in};
+use interp_eval::Scope;
+use prov_base::Memory;
+use py_tree::Target;
+use py_value::Value;
+use std::alloc::Global;
+
+/// A value is stored in the target of a statement: a name is bound at once, a container is evaluated first, and several targets are left.
+#[tactic(auto, using(py_tree::proofs::TargetTrees::target_trees))]
+pub(crate) fn stored<'a>(
+    alloc: Global,
+    part: Part<'a>,
+    goal: Goal,
+    value: Value,
+    scope: Scope,
+) -> Result<Now<'a>, Memory>
+    ensures means { IfOk result (λ now. (script : ScriptTree) (next : Task → Act) (here : Here) (table : ValuesView)
+        → now_act script next here (now_seen table now) ≡ stored_act script next here part.entry.at (form_of part.entry.form.now) (goal_seen table goal) (target_in (form_of part.entry.form.now)) (contents table value)) }
+    ensures held { IfOk result (λ now. (table : ValuesView) → IsHeldGoal table goal → IsNamed table value → IsHeldNow table now) }
+{
+    let Some(target) = target_in(part.form) else {
+        return Ok(Now::Ended(End::Normal));
+    };
+    let holder = part.to(Stage::Holder(goal, value));
+    match target {
+        Target::Var(at, name) => {
+            let stored = part.to(Stage::Stored(goal));
+            on_one(alloc, *at, Code::Bind(name), value, stored)
+        }
+        Target::Part(_, e, _) => start(alloc, e, scope, holder),
+        Target::Field(_, e, _) => start(alloc, e, scope, holder),
+        Target::Many(_) => Ok(Now::Opens(part.to(Stage::Stores(goal, value)))),
+    }
+}
+
+/// The container of a target is there: its index is evaluated, or its attribute is set.
+#[tactic(auto, using(py_tree::proofs::TargetTrees::target_trees))]
+pub(crate) fn held<'a>(
+    alloc: Global,
+    part: Part<'a>,
+    goal: Goal,
+    value: Value,
+    owner: Value,
+    scope: Scope,
+) -> Result<Now<'a>, Memory>
+    ensures means { IfOk result (λ now. (script : ScriptTree) (next : Task → Act) (here : Here) (table : ValuesView)
+        → now_act script next here (now_seen table now) ≡ holder_act script next here part.entry.at (form_of part.entry.form.now) (goal_seen table goal) (target_in (form_of part.entry.form.now)) (contents table value) (contents table owner)) }
+    ensures held { IfOk result (λ now. (table : ValuesView) → IsHeldGoal table goal → IsNamed table value → IsNamed table owner → IsHeldNow table now) }
+{
+    let Some(target) = target_in(part.form) else {
+        return Ok(Now::Ended(End::Normal));
+    };
+    match target {
+        Target::Part(_, _, index) => {
+            let part = part.to(Stage::Index(goal, value, owner));
+            start(alloc, index, scope, part)
+        }
+        Target::Field(at, _, name) => {
+            let stored = part.to(Stage::Stored(goal));
+            on_two(alloc, *at, Code::SetField(name), owner, value, stored)
+        }
+        Target::Var(_, _) => Ok(Now::Ended(End::Normal)),
+        Target::Many(_) => Ok(Now::Ended(End::Normal)),
+    }
+}
+
+/// The index of a target is there: the item is set.
+#[tactic(auto, using(py_tree::proofs::TargetTrees::target_trees))]
+pub(crate) fn indexed<'a>(
+    alloc: Global,
+    part: Part<'a>,
+    goal: Goal,
+    value: Value,
+    owner: Value,
+    index: Value,
+) -> Result<Now<'a>, Memory>
+    ensures means { IfOk result (λ now. (script : ScriptTree) (next : Task → Act) (here : Here) (table : ValuesView)
+        → now_act script next here (now_seen table now) ≡ index_act script next here part.entry.at (form_of part.entry.form.now) (goal_seen table goal) (target_in (form_of part.entry.form.now)) (contents table value) (contents table owner) (contents table index)) }
+    ensures held { IfOk result (λ now. (table : ValuesView) → IsHeldGoal table goal → IsNamed table value → IsNamed table owner → IsNamed table index → IsHeldNow table now) }
+{
+    let Some(target) = target_in(part.form) else {
+        return Ok(Now::Ended(End::Normal));
+    };
+    match target {
+        Target::Part(at, _, _) => {
+            let stored = part.to(Stage::Stored(goal));
+            on_three(alloc, *at, Code::SetItem, owner, index, value, stored)
+        }
+        Target::Field(_, _, _) => Ok(Now::Ended(End::Normal)),
+        Target::Var(_, _) => Ok(Now::Ended(End::Normal)),
+        Target::Many(_) => Ok(Now::Ended(End::Normal)),
+    }
+}
+
+/// What follows a value that was stored.
+pub(crate) fn reached<'a>(part: Part<'a>, goal: Goal) -> Now<'a>
+    ensures means { (script : ScriptTree) (next : Task → Act) (here : Here) (table : ValuesView)
+        → now_act script next here (now_seen table result) ≡ goal_act script next here part.entry.at (goal_seen table goal) (form_of part.entry.form.now) }
+    ensures held { (table : ValuesView) → IsHeldGoal table goal → IsHeldNow table result }
+{
+    match goal {
+        Goal::Finishes => Now::Ended(End::Normal),
+        Goal::Turns(items, number, size) => {
+            Now::Opens(part.to(Stage::Repeats(items, number, size)))
+        }
+    }
+}
+
+/// The container of what is deleted is there: its index is evaluated.
+#[tactic(auto, using(py_tree::proofs::TargetTrees::target_trees))]
+pub(crate) fn owned<'a>(
+    alloc: Global,
+    part: Part<'a>,
+    owner: Value,
+    scope: Scope,
+) -> Result<Now<'a>, Memory>
+    ensures means { IfOk result (λ now. (script : ScriptTree) (next : Task → Act) (here : Here) (table : ValuesView)
+        → now_act script next here (now_seen table now) ≡ owner_act script next here (target_in (form_of part.entry.form.now)) (contents table owner)) }
+    ensures held { IfOk result (λ now. (table : ValuesView) → IsNamed table owner → IsHeldNow table now) }
+{
+    let Some(target) = target_in(part.form) else {
+        return Ok(Now::Ended(End::Normal));
+    };
+    match target {
+        Target::Part(_, _, index) => start(alloc, index, scope, part.to(Stage::Key(owner))),
+        Target::Field(_, _, _) => Ok(Now::Ended(End::Normal)),
+        Target::Var(_, _) => Ok(Now::Ended(End::Normal)),
+        Target::Many(_) => Ok(Now::Ended(End::Normal)),
+    }
+}
+
+/// The index of what is deleted is there: the item is deleted.
+#[tactic(auto, using(py_tree::proofs::TargetTrees::target_trees))]
+pub(crate) fn keyed<'a>(
+    alloc: Global,
+    part: Part<'a>,
+    owner: Value,
+    index: Value,
+) -> Result<Now<'a>, Memory>
+    ensures means { IfOk result (λ now. (script : ScriptTree) (next : Task → Act) (here : Here) (table : ValuesView)
+        → now_act script next here (now_seen table now) ≡ key_act script next here (target_in (form_of part.entry.form.now)) (contents table owner) (contents table index)) }
+    ensures held { IfOk result (λ now. (table : ValuesView) → IsNamed table owner → IsNamed table index → IsHeldNow table now) }
+{
+    let Some(target) = target_in(part.form) else {
+        return Ok(Now::Ended(End::Normal));
+    };
+    match target {
+        Target::Part(at, _, _) => {
+            let done = part.to(Stage::Done);
+            on_two(alloc, *at, Code::DeleteItem, owner, index, done)
+        }
+        Target::Field(_, _, _) => Ok(Now::Ended(End::Normal)),
+        Target::Var(_, _) => Ok(Now::Ended(End::Normal)),
+        Target::Many(_) => Ok(Now::Ended(End::Normal)),
+    }
+}
