@@ -1,0 +1,5 @@
+pub mod Outcomes
+pub mod Levels
+pub mod Stepping
+pub mod Fronts
+pub mod Endings

@@ -1,0 +1,48 @@
+use Rattle.std.proofs.Common.{None, Some, ap, subst, ◌∙◌}
+use Rattle.flow_parts.specs.Held.{IsHeldWaits}
+use Rattle.flow_parts.specs.Popping.{HoldsPopped, IsPopped}
+use Rattle.flow_parts.specs.Seen.{end_seen}
+use Rattle.flow_parts.specs.declared.control.Now.TheVariants.{Ended}
+use Rattle.flow_parts.specs.declared.frames.Waits.TheVariants.{Stmt as StmtWaits, Part as PartWaits}
+use Rattle.py_model.specs.Meaning.{end_of}
+use Rattle.interp_flow.specs.Step.{doing_now, handed}
+use Rattle.interp_flow.proofs.Fronts.{at_last}
+use Rattle.interp_flow.proofs.Endings.{part_on}
+use Rattle.interp_flow.proofs.Stepping.{cut_from, left_from, over_held, steps_over, steps_same}
+use Rattle.interp_flow.proofs.step.end_step.Goals as goal
+
+pub returns-in_default-clause-held : goal.returns-in_default-clause-held
+returns-in_default-clause-held g c = λ table capture fit. over_held table c.pop.new.self c.over.result (end_of (end_seen table c.args.end)) (c.over.ensures table)
+
+pub returns-in_default-clause-step : goal.returns-in_default-clause-step
+returns-in_default-clause-step g c = λ script.
+    let none = subst (IsPopped c.args.frames.now c.pop.new.self) c.in_default.is c.pop.ensures.means in
+    steps_over script (doing_now script c.args.frames.now (Ended c.args.end)) c.pop.new.self c.args.end c.args.left (g.D.Doer.fits c.args.doer.now) (g.D.Doer.stands c.args.doer.now) (g.W.Watch.history c.args.watch.now) c.over.result c.over.ensures
+    (λ table next. at_last script next table c.args.frames.now c.args.end none)
+
+pub close_step-requires-clause-held : goal.close_step-requires-clause-held
+close_step-requires-clause-held g c = λ table capture fit. (subst (HoldsPopped table c.pop.new.self) c.in-Some.is (c.pop.ensures.held table (c.requires.held table capture fit))).0
+
+pub returns-in-Stmt-clause-step : goal.returns-in-Stmt-clause-step
+returns-in-Stmt-clause-step g c = λ script.
+    let popped = subst (IsPopped c.args.frames.now c.pop.new.self) c.in-Some.is c.pop.ensures.means in
+    steps_same script (doing_now script c.args.frames.now (Ended c.args.end)) (handed script c.pop.new.self (StmtWaits c.in-Stmt.number c.in-Stmt.rest) c.args.end) c.close_step.new.frames c.args.left c.args.left
+    (g.D.Doer.fits c.close_step.new.doer) (g.D.Doer.stands c.args.doer.now) (g.D.Doer.stands c.close_step.new.doer) (g.W.Watch.history c.args.watch.now) (g.W.Watch.history c.close_step.new.watch) c.close_step.result
+    (λ table next. popped script next table (end_seen table c.args.end) ∙ ap (λ w. handed script c.pop.new.self w c.args.end table next) c.in-Stmt.is) (c.close_step.ensures.step script)
+
+pub returns-in-Ok-clause-held : goal.returns-in-Ok-clause-held
+returns-in-Ok-clause-held g c = λ table capture fit.
+    let popped = subst (HoldsPopped table c.pop.new.self) c.in-Some.is (c.pop.ensures.held table (c.requires.held table capture fit)) in
+    let waits = subst (IsHeldWaits table) (c.in-Part.is ∙ ap (λ caller. PartWaits caller c.in-Part.part) (c.calls.ensures c.if-calls.false)) popped.1 in
+    c.in-Ok.ensures.held table popped.0 waits (c.requires.end table capture fit)
+
+pub returns-in-Ok-clause-step : goal.returns-in-Ok-clause-step
+returns-in-Ok-clause-step g c = λ script.
+    let popped = subst (IsPopped c.args.frames.now c.pop.new.self) c.in-Some.is c.pop.ensures.means in
+    part_on c.meaning_unfolds.ensures script (doing_now script c.args.frames.now (Ended c.args.end)) c.pop.new.self c.end_part.new.frames c.in-Part.part c.args.end c.args.left (g.D.Doer.fits c.args.doer.now) (g.D.Doer.stands c.args.doer.now) (g.W.Watch.history c.args.watch.now)
+    (λ table next. popped script next table (end_seen table c.args.end)
+    ∙ ap (λ w. handed script c.pop.new.self w c.args.end table next) (c.in-Part.is ∙ ap (λ caller. PartWaits caller c.in-Part.part) (c.calls.ensures c.if-calls.false)))
+    c.in-Ok.ensures.means
+
+pub returns-in-Err-clause-step : goal.returns-in-Err-clause-step
+returns-in-Err-clause-step g c = λ script. cut_from script (doing_now script c.args.frames.now (Ended c.args.end)) c.end_part.new.frames c.args.left (g.D.Doer.fits c.args.doer.now) (g.D.Doer.stands c.args.doer.now) (g.W.Watch.history c.args.watch.now) _

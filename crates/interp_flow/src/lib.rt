@@ -1,0 +1,10 @@
+//! The statements of a script, performed one moment at a time, over any [`Doer`](py_model::Doer) of operations and any
+//! [`Watch`](py_model::Watch). It stands on the meaning of `py_model` and on the parts of statements of `flow_parts` and `flow_stages`.
+#![tactic(auto)]
+
+mod moving;
+mod next;
+mod step;
+
+pub use flow_parts::FlowFrames;
+pub use next::FlowNext;

@@ -1,0 +1,81 @@
+// How frames go on where no moment is performed.
+ghost use Rattle.std.specs.Prelude.{◌≡◌, map, IfOk, OnOk, true};
+ghost use Rattle.std.specs.Prelude.{None as Nothing};
+ghost use Rattle.py_tree.specs.Erasure.{form_of, stmt_of};
+ghost use Rattle.py_tree.specs.Tree.{ScriptTree, more_suite};
+ghost use Rattle.py_value.specs.Values.{ValuesView};
+ghost use Rattle.py_model.specs.Act.{Act, begin, ret, to};
+ghost use Rattle.py_model.specs.Expressions.{Task};
+ghost use Rattle.py_model.specs.Statements.{task};
+ghost use Rattle.flow_parts.specs.Held.{IsHeldEnd, IsHeldFlow, IsHeldStage};
+ghost use Rattle.flow_parts.specs.Machine.{flow, in_suite, remaining, resumes, suite_ended};
+ghost use Rattle.flow_parts.specs.Seen.{end_seen, flow_seen, frame_seen, here_seen, stage_seen, stmts_seen};
+ghost use Rattle.flow_parts.specs.declared.control.Now.TheVariants.{Opens};
+ghost use Rattle.interp_flow.specs.Step.{doing_now, meant};
+
+use flow_parts::{End, FlowFrames, Now, Part, Spot, Waits};
+use flow_stages::{Way, opened, part_ended, part_opened};
+use prov_base::Memory;
+use py_tree::Stmt;
+use std::alloc::Global;
+
+/// A statement is opened, and the rest of its suite waits for its end. What is still to be done then follows its begin.
+pub(crate) fn open_stmt<'a>(
+    alloc: Global,
+    frames: &mut FlowFrames<'a>,
+    stmt: &'a Stmt,
+    rest: &'a [Stmt],
+) -> Result<(), Memory>
+    ensures means { OnOk result ((script : ScriptTree) (next : Task → Act) (table : ValuesView)
+        → remaining script next (flow (here_seen script table frames.old.spot) (in_suite (more_suite (stmt_of stmt.entry.now) (stmts_seen rest.entry.now))) (map (frame_seen script table) frames.old.below.items))
+        ≡ begin stmt.entry.now.no (remaining script next (flow_seen script table frames.new))) }
+    ensures held { OnOk result ((table : ValuesView) → IsHeldFlow table frames.old → IsHeldFlow table frames.new) }
+{
+    let spot = Spot {
+        line: stmt.pos.line,
+        ..frames.spot
+    };
+    let now = opened(alloc, stmt.pos, &stmt.form, spot)?;
+    frames.push(Waits::Stmt(stmt.no, rest), spot, now)
+}
+
+/// A part of a statement is opened; or it is one that is not performed.
+pub(crate) fn open_part<'a>(
+    alloc: Global,
+    frames: &mut FlowFrames<'a>,
+    part: Part<'a>,
+) -> Result<bool, Memory>
+    ensures means { IfOk result (λ goes. goes ≡ true → (script : ScriptTree) (next : Task → Act) (table : ValuesView)
+        → doing_now script frames.old (Opens part.entry) table next ≡ meant script frames.new table next) }
+    ensures held { IfOk result (λ goes. goes ≡ true → (table : ValuesView) → IsHeldFlow table frames.old → IsHeldStage table part.entry.stage → IsHeldFlow table frames.new) }
+{
+    let opened = part_opened(alloc, part, frames.spot)?;
+    match opened.way {
+        Way::Becomes => {
+            frames.now = opened.now;
+            Ok(true)
+        }
+        Way::Runs(inner) => match frames.push(Waits::Part(None, part), inner, opened.now) {
+            Ok(()) => Ok(true),
+            Err(refused) => Err(refused),
+        },
+        Way::Unwritten => Ok(false),
+    }
+}
+
+/// The suite that a part waited for has ended: the frames stand where the part stands, and go on with what follows it.
+pub(crate) fn end_part<'a>(
+    alloc: Global,
+    frames: &mut FlowFrames<'a>,
+    part: Part<'a>,
+    end: End,
+) -> Result<(), Memory>
+    ensures means { OnOk result ((script : ScriptTree) (next : Task → Act) (table : ValuesView)
+        → to (suite_ended script next (task script next) (here_seen script table frames.old.spot) part.entry.at (form_of part.entry.form.now) (stage_seen table part.entry.stage) (end_seen table end))
+        (resumes script next (map (frame_seen script table) frames.old.below.items) (λ how. ret how)) ≡ meant script frames.new table next) }
+    ensures held { OnOk result ((table : ValuesView) → IsHeldFlow table frames.old → IsHeldStage table part.entry.stage → IsHeldEnd table end → IsHeldFlow table frames.new) }
+{
+    let now = part_ended(alloc, part, end)?;
+    frames.now = now;
+    Ok(())
+}

@@ -1,0 +1,137 @@
+// One step of a script.
+ghost use Rattle.std.specs.Prelude.{◌≡◌, false, None as Nothing, Some as JustOne};
+ghost use Rattle.py_value.specs.Values.{ValuesView};
+ghost use Rattle.py_model.specs.Meaning.{end_of};
+ghost use Rattle.flow_parts.specs.Seen.{end_seen};
+ghost use Rattle.py_tree.specs.Tree.{ScriptTree};
+ghost use Rattle.py_model.specs.Doing.{Knew};
+ghost use Rattle.interp_eval.specs.Performing.{HasState};
+ghost use Rattle.flow_parts.specs.declared.control.Now.TheVariants.{Ended, InSuite};
+ghost use Rattle.flow_parts.specs.declared.frames.Waits.TheVariants.{Stmt as StmtWaits};
+ghost use Rattle.interp_flow.specs.Step.{HoldsNext, IsHeldEndBy, StepsFrom, doing_now, handed, next_end};
+ghost use Rattle.flow_parts.specs.Held.{IsHeldBy};
+
+use crate::moving::{end_part, open_stmt};
+use crate::next::FlowNext;
+use flow_parts::{End, FlowFrames, Now, Waits, begin, close};
+use flow_stages::rest_after;
+use interp_eval::EvalFrames;
+use prov_base::Memory;
+use py_model::{Doer, Watch, meaning_unfolds};
+use py_tree::Stmt;
+use std::alloc::Global;
+
+/// The first statement of a suite begins; or the suite is at its end.
+pub(crate) fn suite_step<'a, D: Doer, W: Watch>(
+    alloc: Global,
+    frames: &mut FlowFrames<'a>,
+    stmts: &'a [Stmt],
+    doer: &mut D,
+    watch: &mut W,
+    left: &mut u32,
+) -> Result<FlowNext, Memory>
+    requires state { HasState (D.fits doer.old) (D.stands doer.old) }
+    requires held { IsHeldBy (D.fits doer.old) frames.old }
+    ensures knew { Knew (D.fits doer.old) (D.fits doer.new) }
+    ensures held { HoldsNext (D.fits doer.new) frames.new result }
+    ensures step { (script : ScriptTree) → StepsFrom script (doing_now script frames.old (InSuite stmts.entry)) frames.new left.old left.new (D.fits doer.new) (D.stands doer.old) (D.stands doer.new) (W.history watch.old) (W.history watch.new) result }
+{
+    let Some((stmt, rest)) = stmts.split_first() else {
+        frames.now = Now::Ended(End::Normal);
+        return Ok(FlowNext::More);
+    };
+    match begin(alloc, doer, watch, left, stmt.no) {
+        Err(refused) => Err(refused),
+        Ok(false) => Ok(FlowNext::Spent),
+        Ok(true) => match open_stmt(alloc, frames, stmt, rest) {
+            Ok(()) => Ok(FlowNext::More),
+            Err(refused) => Err(refused),
+        },
+    }
+}
+
+/// How a run ends that ended so.
+fn over(end: End) -> FlowNext
+    ensures { (table : ValuesView) → next_end result ≡ JustOne (end_of (end_seen table end)) }
+{
+    match end {
+        End::Threw(o, line) => FlowNext::Raised(o, line),
+        End::Normal => FlowNext::Finished,
+        End::Broke => FlowNext::Finished,
+        End::Continued => FlowNext::Finished,
+        End::Returned(_) => FlowNext::Finished,
+    }
+}
+
+/// A statement has ended so: the watch is told, and the rest of its suite is next.
+fn close_step<'a, D: Doer, W: Watch>(
+    alloc: Global,
+    frames: &mut FlowFrames<'a>,
+    number: u32,
+    rest: &'a [Stmt],
+    end: End,
+    doer: &mut D,
+    watch: &mut W,
+    left: u32,
+) -> Result<FlowNext, Memory>
+    requires state { HasState (D.fits doer.old) (D.stands doer.old) }
+    requires held { IsHeldBy (D.fits doer.old) frames.old }
+    requires end { IsHeldEndBy (D.fits doer.old) end }
+    ensures knew { Knew (D.fits doer.old) (D.fits doer.new) }
+    ensures held { HoldsNext (D.fits doer.new) frames.new result }
+    ensures step { (script : ScriptTree) → StepsFrom script (handed script frames.old (StmtWaits number rest.entry) end) frames.new left left (D.fits doer.new) (D.stands doer.old) (D.stands doer.new) (W.history watch.old) (W.history watch.new) result }
+{
+    match close(alloc, doer, watch, number, end) {
+        Err(refused) => Err(refused),
+        Ok(()) => {
+            frames.now = rest_after(rest, end);
+            Ok(FlowNext::More)
+        }
+    }
+}
+
+/// Whether a call waits.
+fn calls(caller: Option<Box<EvalFrames<'_>>>) -> bool
+    ensures { result ≡ false → caller.entry ≡ Nothing }
+{
+    match caller {
+        None => false,
+        Some(_) => true,
+    }
+}
+
+/// What waits innermost goes on from an end; where nothing waits the run is at its end.
+pub(crate) fn end_step<'a, D: Doer, W: Watch>(
+    alloc: Global,
+    frames: &mut FlowFrames<'a>,
+    end: End,
+    doer: &mut D,
+    watch: &mut W,
+    left: u32,
+) -> Result<FlowNext, Memory>
+    requires state { HasState (D.fits doer.old) (D.stands doer.old) }
+    requires held { IsHeldBy (D.fits doer.old) frames.old }
+    requires end { IsHeldEndBy (D.fits doer.old) end }
+    ensures knew { Knew (D.fits doer.old) (D.fits doer.new) }
+    ensures held { HoldsNext (D.fits doer.new) frames.new result }
+    ensures step { (script : ScriptTree) → StepsFrom script (doing_now script frames.old (Ended end)) frames.new left left (D.fits doer.new) (D.stands doer.old) (D.stands doer.new) (W.history watch.old) (W.history watch.new) result }
+{
+    meaning_unfolds();
+    let Some(waits) = frames.pop() else {
+        return Ok(over(end));
+    };
+    match waits {
+        Waits::Stmt(number, rest) => {
+            close_step(alloc, frames, number, rest, end, doer, watch, left)
+        }
+        Waits::Part(caller, part) => {
+            if calls(caller) {
+                return Ok(FlowNext::Unwritten);
+            }
+            match end_part(alloc, frames, part, end) {
+                Ok(()) => Ok(FlowNext::More),
+                Err(refused) => Err(refused),
+            }
+        }
+    }
+}
