@@ -3,3 +3,4 @@ pub mod Levels
 pub mod Stepping
 pub mod Fronts
 pub mod Endings
+pub mod Operating

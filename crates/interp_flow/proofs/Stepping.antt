@@ -19,16 +19,16 @@ use Rattle.flow_parts.specs.declared.frames.FlowFrames.{FlowFrames}
 use Rattle.interp_flow.specs.declared.next.FlowNext.{FlowNext}
 use Rattle.interp_flow.specs.declared.next.FlowNext.TheVariants.{More, Finished, Raised, Spent, Unanswered, Unwritten}
 
-told_same : (was : Option (List Moment)) → TellsOn was was (λ told more. more ≡ told)
+pub told_same : (was : Option (List Moment)) → TellsOn was was (λ told more. more ≡ told)
 told_same None = tt
 told_same (Some told) = refl
 
-told_weaker : (was is : Option (List Moment)) (P Q : List Moment → List Moment → Type 0) → ((told more : List Moment) → P told more → Q told more) → TellsOn was is P → TellsOn was is Q
+pub told_weaker : (was is : Option (List Moment)) (P Q : List Moment → List Moment → Type 0) → ((told more : List Moment) → P told more → Q told more) → TellsOn was is P → TellsOn was is Q
 told_weaker was None P Q weaker tells = tt
 told_weaker None (Some more) P Q weaker tells = absurd tells
 told_weaker (Some told) (Some more) P Q weaker tells = weaker told more tells
 
-unasked : (stands : Standing → Type 0) (s : State) → stands (standing s) → IsRefused stands s
+pub unasked : (stands : Standing → Type 0) (s : State) → stands (standing s) → IsRefused stands s
 unasked stands s holds = record { askings = s.askings; fetches = s.fetches; asked = inl refl; fetched = inl refl; stands = holds }
 
 module _ (capture : Capture) (before after : Act) (s : State) (left rest : ℕ) (stands : Standing → Type 0) (was is : Option (List Moment)) where

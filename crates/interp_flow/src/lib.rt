@@ -5,6 +5,7 @@
 mod moving;
 mod next;
 mod step;
+mod value;
 
 pub use flow_parts::FlowFrames;
 pub use next::FlowNext;
