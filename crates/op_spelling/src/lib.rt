@@ -1,0 +1,13 @@
+//! How values that hold no objects are spelled, as bytes of text (`specs/Printing.antt` of `py_model`). Each function answers the word of the
+//! model for what it is given.
+//!
+//! - [`literal`]: a text as a literal. [`range_text`]: a range.
+//! - [`class_word`] and [`builtin_text`]: the classes and functions of the language.
+//! - [`is_low`] and [`key_text`]: a key of a dictionary, which may be a tuple of keys.
+#![tactic(auto)]
+
+mod literals;
+mod words;
+
+pub use literals::literal;
+pub use words::{angled, builtin_text, class_word, range_text};
