@@ -6,8 +6,12 @@
 //! - [`is_low`] and [`key_text`]: a key of a dictionary, which may be a tuple of keys.
 #![tactic(auto)]
 
+mod items;
+mod keys;
 mod literals;
 mod words;
 
+pub use items::{push_item, tuple_end};
+pub use keys::{is_low, key_text};
 pub use literals::literal;
 pub use words::{angled, builtin_text, class_word, range_text};

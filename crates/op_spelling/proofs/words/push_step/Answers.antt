@@ -1,4 +1,4 @@
-use Rattle.std.proofs.Common.{rules, ◌≡◌, sym, ap, ap₂, ◌∙◌, ◌++◌, ℕ, List, [], codes, pos, w64, to_z, of_z, Bool, false, if◌then◌else◌, string_bytes}
+use Rattle.std.proofs.Common.{rules, ◌≡◌, sym, ap, ap₂, ◌∙◌, ◌++◌, ℕ, List, [], codes, pos, w64, to_z, of_z, false, if◌then◌else◌, string_bytes}
 use Rattle.std.proofs.lemmas.List.{append_assoc}
 use Rattle.std.specs.Ordering.{int_eq}
 use Rattle.py_model.specs.Numbers.{int_text}
