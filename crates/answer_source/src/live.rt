@@ -51,6 +51,8 @@ impl<'a, C: Console, F: Folder, M: Moments> Source for Live<'a, C, F, M> {
 
     ghost stands = { λ s askings. AreNumbered s.capture askings };
 
+    fn some_fits(&self) {}
+
     fn ask(&mut self, alloc: Global, what: Ask, at: Pos) -> Result<Option<Given>, Memory> {
         let given = self
             .capture

@@ -18,6 +18,10 @@ pub trait Source {
     /// What was asked so far, the latest first.
     ghost stands: { Self → List Asking → Type 0 };
 
+    /// The law that some capture fits the source.
+    fn some_fits(&self)
+        ensures { (capture : Capture) × fits self.now capture };
+
     /// What a device gives to a question that is asked at a place, for the next time there; none where nothing is kept of it. After an
     /// `Err` it was not asked.
     fn ask(&mut self, alloc: Global, what: Ask, at: Pos) -> Result<Option<Given>, Memory>
