@@ -1,0 +1,2 @@
+pub mod GetPlans
+pub mod LetterPlaces
