@@ -1,2 +1,5 @@
 pub mod GetPlans
 pub mod LetterPlaces
+pub mod SetPlans
+pub mod StartPlans
+pub mod Threes
