@@ -3,3 +3,4 @@ pub mod LetterPlaces
 pub mod SetPlans
 pub mod StartPlans
 pub mod Threes
+pub mod UnpackPlans
