@@ -1,22 +1,19 @@
 -- Items at an index or a key, as plans.
-use Rattle.std.proofs.Common.{◌≡◌, ◌∙◌, refl, sym, ap, ℕ, ℤ, zero, suc, List, [], ◌∷◌, map, length, slice_get, unwrap_or, Option, Some, None, chars, encode_utf8, IsUtf8, pos, ◌+ℤ◌, ◌*ℤ◌}
+use Rattle.std.proofs.Common.{◌≡◌, ◌∙◌, refl, sym, ap, ℕ, ℤ, zero, suc, List, [], ◌∷◌, map, length, slice_get, unwrap_or, Some, chars, encode_utf8, IsUtf8}
 use Rattle.std.specs.Option.{option_map}
 use Rattle.std.proofs.lemmas.List.{length-map}
-use Rattle.py_model.specs.Faults.{wrong_kind, wrong_number}
-use Rattle.py_model.specs.Lists.{getitem, get_of, get_item, number_at, with_place}
-use Rattle.py_model.specs.Numbers.{range_count}
+use Rattle.py_model.specs.Faults.{wrong_kind}
+use Rattle.py_model.specs.Lists.{getitem, with_place}
 use Rattle.py_model.specs.Operands.{of_two, gives}
 use Rattle.py_model.specs.Places.{with_index}
-use Rattle.py_model.specs.Plan.{Plan, looks, counts, kind_of}
+use Rattle.py_model.specs.Plan.{Plan, looks, counts}
 use Rattle.py_model.specs.Texts.{characters, size}
-use Rattle.py_model.specs.Walks.{items_of}
-use Rattle.py_value.specs.Contents.{Contents, contents, nothing, int, text, tuple, range, object, parts_by}
-use Rattle.py_value.specs.Seen.{SeenKind, a_list, a_dict}
+use Rattle.py_value.specs.Contents.{Contents, contents, nothing, text, tuple, range, object, parts_by}
 use Rattle.py_value.specs.Values.{ValuesView}
 use Rattle.py_value.specs.declared.value.Value.{Value}
 use Rattle.py_value.specs.declared.value.Value.TheVariants.{None as NoneValue, Bool, Int, Text, Tuple, Range, Fn, Class, Exc, Builtin, Object}
 use Rattle.op_walks.proofs.Tuples.{items_are}
-use Rattle.op_walks.proofs.TextParts.{characters_are, size_is}
+use Rattle.op_walks.proofs.TextParts.{characters_are}
 
 abbrev pub two_items : Contents → Contents → Plan
 two_items v w = getitem (v ∷ w ∷ [])

@@ -1,5 +1,5 @@
 -- The character at a place.
-use Rattle.std.proofs.Common.{◌≡◌, ◌∙◌, refl, sym, ap, arith, ℕ, zero, suc, ◌-◌, List, [], ◌∷◌, Some, slice_get}
+use Rattle.std.proofs.Common.{◌≡◌, ◌∙◌, refl, sym, ap, arith, ℕ, zero, suc, ◌-◌, List, ◌∷◌, Some, slice_get}
 
 pub next_at : (all rest : List ℕ) (c left : ℕ) → all ≡ c ∷ rest → (left ≡ 0 → ⊥) → slice_get rest (left - 1) ≡ slice_get all left
 next_at all rest c zero is apart = absurd (apart refl)

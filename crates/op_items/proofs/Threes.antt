@@ -1,5 +1,5 @@
 -- Three operands as plans.
-use Rattle.std.proofs.Common.{◌≡◌, refl, arith, suc, List, [], ◌∷◌, map, length, slice_index_or}
+use Rattle.std.proofs.Common.{◌≡◌, refl, arith, List, [], ◌∷◌, map, length, slice_index_or}
 use Rattle.py_model.specs.Faults.{wrong_number}
 use Rattle.py_model.specs.Plan.{Plan}
 use Rattle.py_value.specs.Contents.{Contents}

@@ -1,15 +1,14 @@
 -- A value that is taken apart, as a plan.
-use Rattle.std.proofs.Common.{◌≡◌, ◌∙◌, refl, sym, ap, arith, eqb-true, eq-eqb, ℕ, ℤ, ◌==◌, Bool, true, false, List, [], ◌∷◌, map, length, if◌then◌else◌}
+use Rattle.std.proofs.Common.{◌≡◌, ◌∙◌, refl, sym, ap, eqb-true, eq-eqb, ℕ, ◌==◌, Bool, true, false, List, [], ◌∷◌, map, length, if◌then◌else◌}
 use Rattle.std.proofs.lemmas.List.{length-map}
 use Rattle.op_work.proofs.Tuples.{parts_same}
 use Rattle.op_walks.proofs.Tuples.{items_are}
-use Rattle.py_model.specs.Effect.{parts_of}
 use Rattle.py_model.specs.Faults.{wrong_kind}
 use Rattle.py_model.specs.Lists.{unpack, wrong_count, tuple_display}
 use Rattle.py_model.specs.Operands.{of_one, gives}
 use Rattle.py_model.specs.Plan.{Plan, looks}
-use Rattle.py_model.specs.Walks.{items_of, read_items}
-use Rattle.py_value.specs.Contents.{Contents, contents, text, tuple, range, object, parts_by}
+use Rattle.py_model.specs.Walks.{read_items}
+use Rattle.py_value.specs.Contents.{Contents, contents, tuple, object, parts_by}
 use Rattle.py_value.specs.Values.{ValuesView}
 use Rattle.py_value.specs.declared.value.Value.{Value}
 use Rattle.py_value.specs.declared.value.Value.TheVariants.{None as NoneValue, Bool as TruthValue, Int, Text, Tuple, Range, Fn, Class, Exc, Builtin, Object}

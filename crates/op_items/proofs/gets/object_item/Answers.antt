@@ -1,6 +1,6 @@
-use Rattle.std.proofs.Common.{◌≡◌, ◌∙◌, refl, sym, ap, Option, Some, None, [], ◌∷◌, ℕ}
+use Rattle.std.proofs.Common.{◌∙◌, refl, sym, ap, Option, Some, None, ℕ}
 use Rattle.op_work.specs.Work.{seen_kind}
-use Rattle.py_model.specs.Lists.{getitem, get_of}
+use Rattle.py_model.specs.Lists.{get_of}
 use Rattle.py_model.specs.Plan.{Plan}
 use Rattle.py_value.specs.Contents.{contents}
 use Rattle.py_value.specs.Seen.{SeenKind}

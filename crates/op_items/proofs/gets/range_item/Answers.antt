@@ -1,12 +1,10 @@
-use Rattle.std.proofs.Common.{rules, ◌≡◌, ◌∙◌, refl, sym, ap, subst, ℕ, ℤ, w64, to_z, of_z, Ok, Err, [], ◌∷◌}
-use Rattle.py_model.specs.Lists.{getitem, number_at, with_place}
+use Rattle.std.proofs.Common.{rules, ◌≡◌, ◌∙◌, sym, ap, ℕ, ℤ, w64, to_z, of_z, [], ◌∷◌}
+use Rattle.py_model.specs.Lists.{getitem, number_at}
 use Rattle.py_model.specs.Numbers.{range_count}
 use Rattle.py_model.specs.Operands.{gives}
-use Rattle.py_model.specs.Places.{with_index}
 use Rattle.py_model.specs.Plan.{Plan, looks}
 use Rattle.py_value.specs.Contents.{contents, range}
-use Rattle.py_value.specs.Values.{ValuesView}
-use Rattle.op_work.specs.Work.{Comes, Ends, is_any, as_is}
+use Rattle.op_work.specs.Work.{Ends}
 use Rattle.op_work.proofs.Ending.{ends_then, ends_stop}
 use Rattle.op_work.proofs.Going.{passes_err}
 use Rattle.op_dicts.proofs.EndsEqual.{ends_equal}

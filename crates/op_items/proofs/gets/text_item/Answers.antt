@@ -1,4 +1,4 @@
-use Rattle.std.proofs.Common.{rules, ◌≡◌, ◌∙◌, refl, sym, ap, subst, ℕ, Ok, Err, [], ◌∷◌, map, length, chars, encode_utf8, unwrap_or, slice_get}
+use Rattle.std.proofs.Common.{◌≡◌, ◌∙◌, sym, ap, [], ◌∷◌, map, chars, encode_utf8, unwrap_or, slice_get}
 use Rattle.std.specs.Option.{option_map}
 use Rattle.py_model.specs.Lists.{getitem}
 use Rattle.py_model.specs.Operands.{gives}

@@ -1,4 +1,4 @@
-use Rattle.std.proofs.Common.{rules, ◌≡◌, ◌∙◌, refl, sym, ap, subst, ℕ, Ok, Err, [], ◌∷◌, map, length, unwrap_or, slice_get}
+use Rattle.std.proofs.Common.{◌≡◌, ◌∙◌, refl, sym, ap, [], ◌∷◌, map, unwrap_or, slice_get}
 use Rattle.py_model.specs.Lists.{getitem}
 use Rattle.py_model.specs.Operands.{gives}
 use Rattle.py_model.specs.Plan.{looks}
@@ -9,7 +9,7 @@ use Rattle.op_work.proofs.Ending.{ends_then, ends_stop}
 use Rattle.op_work.proofs.Going.{passes_err}
 use Rattle.op_dicts.proofs.EndsEqual.{ends_equal}
 use Rattle.op_walks.proofs.Tuples.{one_item}
-use Rattle.op_items.proofs.GetPlans.{tuple_is, tuple_part, part_is, placed}
+use Rattle.op_items.proofs.GetPlans.{tuple_is, tuple_part, part_is}
 use Rattle.op_items.proofs.gets.tuple_item.Goals as goal
 
 pub returns-in_err-p : goal.returns-in_err-p

@@ -1,4 +1,4 @@
-use Rattle.std.proofs.Common.{rules, ◌≡◌, ◌∙◌, sym, ap, List, [], ℕ, encode_utf8, unwrap_or}
+use Rattle.std.proofs.Common.{◌∙◌, sym, ap, [], encode_utf8, unwrap_or}
 use Rattle.std.specs.Option.{option_map}
 use Rattle.py_model.specs.Operands.{gives}
 use Rattle.py_model.specs.Plan.{counts}

@@ -1,4 +1,4 @@
-use Rattle.std.proofs.Common.{rules, ◌≡◌, ◌∙◌, sym, ap, Some, ℤ, w64, to_z, of_z}
+use Rattle.std.proofs.Common.{rules, ◌≡◌, ◌∙◌, sym, ap, ℤ, w64, to_z, of_z}
 use Rattle.py_model.specs.Lists.{number_at}
 use Rattle.py_model.specs.Operands.{gives}
 use Rattle.py_model.specs.Plan.{looks}

@@ -1,4 +1,4 @@
-use Rattle.std.proofs.Common.{rules, ◌≡◌, refl, subst, ℕ, ℤ, w64, to_z, of_z, Ok, Err}
+use Rattle.std.proofs.Common.{rules, ◌≡◌, refl, subst, ℤ, w64, to_z, of_z, Ok, Err}
 use Rattle.op_items.specs.Places.{at_index}
 use Rattle.py_model.specs.Lists.{with_place}
 use Rattle.py_value.specs.Values.{ValuesView}

@@ -1,4 +1,4 @@
-use Rattle.std.proofs.Common.{◌≡◌, ◌∙◌, refl, sym, ap, Option, Some, None, [], ◌∷◌, ℕ}
+use Rattle.std.proofs.Common.{◌∙◌, refl, sym, ap, Option, Some, None, ℕ}
 use Rattle.op_work.specs.Work.{seen_kind}
 use Rattle.py_model.specs.Lists.{set_of}
 use Rattle.py_model.specs.Plan.{Plan}

@@ -1,14 +1,12 @@
-use Rattle.std.proofs.Common.{◌≡◌, ◌∙◌, refl, sym, ap, Option, Some, None, [], ◌∷◌, ℕ}
+use Rattle.std.proofs.Common.{◌∙◌, refl, sym, ap, Option, Some, None, ℕ}
 use Rattle.op_work.specs.Work.{seen_kind}
 use Rattle.py_model.specs.Lists.{iter_of}
 use Rattle.py_model.specs.Plan.{Plan}
-use Rattle.py_value.specs.Contents.{contents}
 use Rattle.py_value.specs.Seen.{SeenKind}
 use Rattle.py_value.specs.Values.{ValuesView}
-use Rattle.py_value.specs.declared.value.Value.{Value}
 use Rattle.py_value.specs.declared.access.Kind.TheVariants.{List as ListKind, Dict as DictKind, Instance, File as FileKind}
 use Rattle.op_work.proofs.Ending.{ends_then, ends_fault}
-use Rattle.op_work.proofs.KindOf.{kind_comes, there}
+use Rattle.op_work.proofs.KindOf.{kind_comes}
 use Rattle.op_items.proofs.starts.iter_object.Goals as goal
 
 abbrev by_kind : ℕ → ValuesView → Option SeenKind → Plan

@@ -1,4 +1,4 @@
-use Rattle.std.proofs.Common.{◌∙◌, refl, ap, [], ◌∷◌}
+use Rattle.std.proofs.Common.{◌∙◌, ap, [], ◌∷◌}
 use Rattle.py_model.specs.Lists.{iter}
 use Rattle.py_value.specs.Contents.{contents}
 use Rattle.op_work.proofs.Ending.{ends_fault}

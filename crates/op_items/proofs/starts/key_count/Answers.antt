@@ -1,4 +1,4 @@
-use Rattle.std.proofs.Common.{rules, ◌≡◌, ◌∙◌, refl, sym, ap, List, map, length, ℕ, ℤ, pos, w64, to_z, of_z}
+use Rattle.std.proofs.Common.{rules, ◌≡◌, ◌∙◌, sym, ap, List, length, ℕ, ℤ, pos, w64, to_z, of_z}
 use Rattle.std.proofs.lemmas.List.{length-map}
 use Rattle.object_store.specs.Store.{keys_at}
 use Rattle.py_model.specs.Operands.{gives}

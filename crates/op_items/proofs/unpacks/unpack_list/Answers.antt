@@ -1,4 +1,4 @@
-use Rattle.std.proofs.Common.{◌≡◌, ◌∙◌, refl, sym, ap, ◌∷◌, [], map}
+use Rattle.std.proofs.Common.{refl, sym, ap, ◌∷◌, [], map}
 use Rattle.py_model.specs.Lists.{unpack, tuple_display}
 use Rattle.py_model.specs.Plan.{read_len}
 use Rattle.py_model.specs.Walks.{read_items}

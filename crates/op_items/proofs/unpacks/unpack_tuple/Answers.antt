@@ -1,4 +1,4 @@
-use Rattle.std.proofs.Common.{◌≡◌, ◌∙◌, refl, [], ◌∷◌, length}
+use Rattle.std.proofs.Common.{◌∙◌, refl, [], ◌∷◌, length}
 use Rattle.py_model.specs.Lists.{unpack}
 use Rattle.py_model.specs.Operands.{gives}
 use Rattle.py_model.specs.Plan.{looks}
