@@ -1,1 +1,3 @@
+pub mod PartSearch
 pub mod Seeking
+pub mod SoughtIn

@@ -4,5 +4,8 @@
 #![tactic(auto)]
 
 mod items;
+mod objects;
+mod parts;
+mod texts;
 
 pub use items::seek;
