@@ -1,3 +1,5 @@
+pub mod InRanges
+pub mod OtherKinds
 pub mod PartSearch
 pub mod Seeking
 pub mod SoughtIn
