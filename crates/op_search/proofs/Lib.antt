@@ -1,4 +1,6 @@
+pub mod BestPlans
 pub mod InRanges
+pub mod IndexPlans
 pub mod OtherKinds
 pub mod PartSearch
 pub mod Seeking

@@ -2,8 +2,10 @@
 //!
 //! - [`seek`]: the place of a value among the items of a list, each read and compared up to the hit.
 //! - [`contained`]: whether a value is in another, and `in` (18, [`is_in`]) and `not in` (19, [`not_in`]).
+//! - [`index`] (84) of a list. A place past 63 bits is refused as want of memory.
 #![tactic(auto)]
 
+mod finding;
 mod items;
 mod membership;
 mod numbers;
@@ -11,5 +13,6 @@ mod objects;
 mod parts;
 mod texts;
 
+pub use finding::index;
 pub use items::seek;
 pub use membership::{contained, is_in, not_in};
