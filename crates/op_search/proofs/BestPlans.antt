@@ -1,9 +1,10 @@
 -- The best of values, one after another.
-use Rattle.std.proofs.Common.{◌≡◌, refl, ap, ap₂, arith, ℕ, zero, suc, ◌+◌, ◌<◌, ◌≤◌, ◌∙◌, length, Bool, true, false, List, [], ◌∷◌, map, drop, slice_index_or}
-use Rattle.py_model.specs.Arithmetic.{in_order, best_from, best_of}
+use Rattle.std.proofs.Common.{◌≡◌, refl, sym, ap, ap₂, arith, eq-eqb, true≢false, ◌==◌, ℕ, zero, suc, ◌+◌, ◌<◌, ◌≤◌, ◌∙◌, length, Bool, true, false, List, [], ◌∷◌, map, drop, slice_index_or}
+use Rattle.py_model.specs.Arithmetic.{in_order, best_from, best_of, best_plan, empty_or_zero}
+use Rattle.py_model.specs.Faults.{wrong_number}
 use Rattle.py_model.specs.Operands.{gives}
 use Rattle.py_model.specs.Plan.{Plan}
-use Rattle.py_model.specs.Walks.{Comparison}
+use Rattle.py_model.specs.Walks.{Comparison, walk}
 use Rattle.py_value.specs.Contents.{Contents, contents}
 use Rattle.py_value.specs.Values.{ValuesView, AreNamed, IsNamed}
 use Rattle.py_value.specs.declared.value.Value.{Value}
@@ -65,10 +66,7 @@ one_taken better items item best i table go false = ap (λ k. left better items 
 pub left_more : (better : Comparison → Bool) (items : List Value) (best chosen : Value) (i : ℕ) (table : ValuesView) (how : Comparison) (go : Contents → Plan)
     → chosen ≡ better_value (better how) (slice_index_or items i NoneValue) best → decides better items best i table how go ≡ left better items chosen (i + 1) table go
 left_more better items best chosen i table how go is = one_taken better items (slice_index_or items i NoneValue) best i table go (better how)
-    ∙ ap (λ v. left better items v (i + 1) table go) (back is)
-  where
-    back : {v w : Value} → v ≡ w → w ≡ v
-    back is = cc
+    ∙ ap (λ v. left better items v (i + 1) table go) (sym is)
 
 pub left_none : (better : Comparison → Bool) (items : List Value) (best : Value) (i : ℕ) (table : ValuesView) (go : Contents → Plan) → length items ≤ i → left better items best i table go ≡ go (contents table best)
 left_none better items best i table go end = ap (λ vs. best_then better (contents table best) (map (contents table) vs) go) (drop_end items i end)
@@ -82,3 +80,31 @@ item_named values (item ∷ items) (suc i) named less = item_named values items 
 pub better_named : (values : ValuesView) (t : Bool) (v other : Value) → IsNamed values v → IsNamed values other → IsNamed values (better_value t v other)
 better_named values true v other one two = one
 better_named values false v other one two = two
+
+-- nothing to choose from, and how many operands there are
+pub none_among : (better : Comparison → Bool) (items : List Value) (table : ValuesView) (go : Contents → Plan) → length items ≡ 0 → best_among better (map (contents table) items) go ≡ empty_or_zero
+none_among better [] table go is = refl
+none_among better (item ∷ items) table go is = absurd (omega (arith, is))
+
+pub some_there : (n : ℕ) (t : Bool) → t ≡ (n == 0) → t ≡ false → n ≡ 0 → ⊥
+some_there n t is apart none = true≢false (sym (eq-eqb n 0 none) ∙ (sym is ∙ apart))
+
+pub first_named : (values : ValuesView) (items : List Value) → AreNamed values items → IsNamed values (slice_index_or items 0 NoneValue)
+first_named values [] named = tt
+first_named values (item ∷ items) named = named 0 item refl
+
+pub plan_none : (better : Comparison → Bool) (items : List Value) (table : ValuesView) → length items ≡ 0 → best_plan better (map (contents table) items) ≡ wrong_number
+plan_none better [] table is = refl
+plan_none better (item ∷ items) table is = absurd (omega (arith, is))
+
+pub plan_one : (better : Comparison → Bool) (items : List Value) (table : ValuesView) → length items ≡ 1
+    → best_plan better (map (contents table) items) ≡ walk (contents table (slice_index_or items 0 NoneValue)) (best_of better)
+plan_one better [] table is = absurd (omega (arith, is))
+plan_one better (v ∷ []) table is = refl
+plan_one better (v ∷ w ∷ more) table is = absurd (omega (arith, is))
+
+pub plan_many : (better : Comparison → Bool) (items : List Value) (table : ValuesView) → (length items ≡ 0 → ⊥) → (length items ≡ 1 → ⊥)
+    → best_plan better (map (contents table) items) ≡ best_of better (map (contents table) items)
+plan_many better [] table some more = absurd (some refl)
+plan_many better (v ∷ []) table some more = absurd (more refl)
+plan_many better (v ∷ w ∷ rest) table some more = refl
