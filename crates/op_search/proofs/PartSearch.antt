@@ -1,5 +1,5 @@
 -- A value is sought among the items of a tuple, one after another.
-use Rattle.std.proofs.Common.{◌≡◌, refl, sym, ap, subst, arith, ℕ, zero, suc, ◌+◌, ◌<◌, ◌≤◌, length, Bool, true, false, true≢false, List, [], ◌∷◌, drop, Some, slice_get, unwrap_or, ◌∙◌}
+use Rattle.std.proofs.Common.{◌≡◌, refl, sym, ap, arith, ℕ, zero, suc, ◌+◌, ◌<◌, ◌≤◌, length, Bool, true, false, true≢false, List, [], ◌∷◌, drop, Some, slice_get, unwrap_or, ◌∙◌}
 use Rattle.py_model.specs.Arithmetic.{among_parts}
 use Rattle.py_model.specs.Plan.{Plan, looks}
 use Rattle.py_model.specs.Walks.{equals}

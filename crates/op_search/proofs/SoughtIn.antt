@@ -1,5 +1,5 @@
 -- What a value is sought in, by its kind.
-use Rattle.std.proofs.Common.{◌≡◌, refl, ap, ℕ, zero, suc, Bool, true, false, Option, Some, None, is_some}
+use Rattle.std.proofs.Common.{◌≡◌, refl, ap, ℕ, zero, suc, Bool, Option, Some, None, is_some}
 use Rattle.py_model.specs.Arithmetic.{among_items}
 use Rattle.py_model.specs.Faults.{wrong_kind}
 use Rattle.py_model.specs.Keys.{with_key_of}

@@ -1,4 +1,4 @@
-use Rattle.std.proofs.Common.{◌≡◌, ◌∙◌, refl, sym, ap, eqb-true, length, map, slice_index_or}
+use Rattle.std.proofs.Common.{◌∙◌, sym, ap, eqb-true, length, map, slice_index_or}
 use Rattle.py_model.specs.Arithmetic.{best_of, best_plan}
 use Rattle.py_model.specs.Walks.{walk}
 use Rattle.py_value.specs.Contents.{contents}

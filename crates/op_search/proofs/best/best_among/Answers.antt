@@ -1,4 +1,4 @@
-use Rattle.std.proofs.Common.{◌≡◌, ◌∙◌, refl, sym, subst, arith, eqb-true, length, map}
+use Rattle.std.proofs.Common.{◌∙◌, refl, sym, subst, arith, eqb-true, length, map}
 use Rattle.op_compare.specs.Comparisons.{how}
 use Rattle.op_walks.proofs.NamedValues.{named_stays, all_named_stay}
 use Rattle.op_work.specs.Work.{Comes}
@@ -8,7 +8,7 @@ use Rattle.py_model.specs.Plan.{Plan}
 use Rattle.py_value.specs.Contents.{Contents, contents}
 use Rattle.py_value.specs.Values.{IsNamed}
 use Rattle.op_search.specs.Best.{better_of, best_among}
-use Rattle.op_search.proofs.BestPlans.{left, decides, left_first, left_is, left_more, left_none, item_named, better_named, none_among, some_there, first_named}
+use Rattle.op_search.proofs.BestPlans.{decides, left_first, left_is, left_more, left_none, item_named, better_named, none_among, some_there, first_named}
 use Rattle.op_search.proofs.best.best_among.Goals as goal
 
 pub returns-then-is_empty : goal.returns-then-is_empty

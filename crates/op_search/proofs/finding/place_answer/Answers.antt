@@ -1,4 +1,4 @@
-use Rattle.std.proofs.Common.{rules, ◌≡◌, ◌∙◌, sym, ap, subst, ℤ, pos, None, Ok, w64, to_z, of_z}
+use Rattle.std.proofs.Common.{rules, ◌≡◌, ◌∙◌, sym, ap, subst, ℤ, None, Ok, w64, to_z, of_z}
 use Rattle.py_model.specs.Lists.{answer_place}
 use Rattle.py_model.specs.declared.moment.Answer.TheVariants.{Value as ValueAnswer}
 use Rattle.py_model.specs.Operands.{gives}

@@ -1,4 +1,4 @@
-use Rattle.std.proofs.Common.{rules, ◌≡◌, refl, arith, ℕ, true, false, Option, Some, None}
+use Rattle.std.proofs.Common.{rules, refl, arith, ℕ, Option, Some, None}
 use Rattle.py_model.specs.Plan.{Plan}
 use Rattle.op_work.specs.Work.{Comes, is_any, as_is}
 use Rattle.op_work.proofs.EntryReads.{named_on}
@@ -6,7 +6,7 @@ use Rattle.op_work.proofs.Going.{comes_stop, comes_as, at_once, passes_err, exte
 use Rattle.op_work.proofs.Turning.{turns_then, turns_more, turns_same}
 use Rattle.py_model.specs.Lists.{seek}
 use Rattle.py_value.specs.Contents.{contents}
-use Rattle.op_search.proofs.Seeking.{left, decides, next, left_is, left_more, left_hit, left_none}
+use Rattle.op_search.proofs.Seeking.{decides, next, left_is, left_more, left_hit, left_none}
 use Rattle.op_search.proofs.items.seek.Goals as goal
 
 pub returns-in_err-item : goal.returns-in_err-item

@@ -1,4 +1,4 @@
-use Rattle.std.proofs.Common.{refl, map, not}
+use Rattle.std.proofs.Common.{refl, map}
 use Rattle.op_work.specs.Work.{Ends}
 use Rattle.py_model.specs.Arithmetic.{contained, in_plan}
 use Rattle.py_model.specs.Operands.{gives_truth}

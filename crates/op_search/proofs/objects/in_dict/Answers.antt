@@ -1,4 +1,4 @@
-use Rattle.std.proofs.Common.{refl, sym, ap, ◌∙◌, is_some, Bool}
+use Rattle.std.proofs.Common.{sym, ap, ◌∙◌, is_some, Bool}
 use Rattle.py_model.specs.Keys.{with_key_of}
 use Rattle.py_model.specs.Plan.{Plan, read_entry}
 use Rattle.py_value.specs.Contents.{contents}

@@ -1,4 +1,4 @@
-use Rattle.std.proofs.Common.{rules, ◌≡◌, refl, arith, true, false, Bool}
+use Rattle.std.proofs.Common.{rules, refl, arith, true, false, Bool}
 use Rattle.op_compare.specs.Pairs.{parts_in}
 use Rattle.op_compare.proofs.TupleWalks.{more_tuples}
 use Rattle.op_work.specs.Work.{Comes, is_any, as_is}
@@ -8,7 +8,7 @@ use Rattle.op_work.proofs.Turning.{turns_then, turns_more, turns_same}
 use Rattle.py_model.specs.Arithmetic.{among_parts}
 use Rattle.py_model.specs.Plan.{Plan}
 use Rattle.py_value.specs.Contents.{contents}
-use Rattle.op_search.proofs.PartSearch.{left, decides, next, left_is, left_more, left_hit, left_none, within_items}
+use Rattle.op_search.proofs.PartSearch.{decides, next, left_is, left_more, left_hit, left_none, within_items}
 use Rattle.op_search.proofs.parts.among_parts.Goals as goal
 
 pub returns-in_err-item : goal.returns-in_err-item

@@ -1,6 +1,6 @@
 use Rattle.std.proofs.Common.{sym, ap, ◌∙◌, arith, None, Some, if◌then◌else◌}
-use Rattle.py_model.specs.Texts.{begins_with, place_of}
-use Rattle.op_texts.proofs.Places.{behind_none, place_on, place_here, place_end, rest_is}
+use Rattle.py_model.specs.Texts.{begins_with}
+use Rattle.op_texts.proofs.Places.{place_on, place_end, rest_is}
 use Rattle.op_search.proofs.texts.place_of.Goals as goal
 
 pub loop-at-preserved : goal.loop-at-preserved
