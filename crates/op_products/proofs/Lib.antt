@@ -1,1 +1,3 @@
+pub mod ManyTimes
+pub mod ProductPlans
 pub mod SumPlans
