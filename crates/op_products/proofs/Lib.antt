@@ -1,3 +1,4 @@
 pub mod ManyTimes
 pub mod ProductPlans
 pub mod SumPlans
+pub mod WrittenPlans
