@@ -1,5 +1,5 @@
 -- Products as plans.
-use Rattle.std.proofs.Common.{◌≡◌, ◌∙◌, refl, sym, ap, ℕ, ◌*◌, ◌*ℤ◌, ℤ, true, false, Option, Some, None, List, [], ◌∷◌, map, length}
+use Rattle.std.proofs.Common.{◌≡◌, ◌∙◌, refl, sym, ap, ℕ, ◌*◌, ◌*ℤ◌, ℤ, true, false, Option, Some, None, List, map, length}
 use Rattle.std.proofs.lemmas.List.{length-map}
 use Rattle.py_model.specs.Arithmetic.{multiplied, repeated, repeats}
 use Rattle.py_model.specs.Effect.{parts_of}

@@ -2,7 +2,6 @@ use Rattle.std.proofs.Common.{rules, ◌≡◌, ◌∙◌, refl, sym, ap, ◌*�
 use Rattle.py_model.specs.Arithmetic.{repeated}
 use Rattle.py_model.specs.Operands.{gives, gives_text}
 use Rattle.py_model.specs.Plan.{counts}
-use Rattle.py_model.specs.Texts.{size}
 use Rattle.py_value.specs.Contents.{text}
 use Rattle.py_value.specs.Seen.{bytes_of}
 use Rattle.op_numbers.proofs.EndsAlike.{ends_as}
