@@ -1,5 +1,5 @@
 -- Sums as plans.
-use Rattle.std.proofs.Common.{◌≡◌, ◌∙◌, refl, ap, ℤ, pos, ◌+ℤ◌, ◌&&◌, Bool, true, false, Option, Some, None, List, [], ◌∷◌, map, if◌then◌else◌}
+use Rattle.std.proofs.Common.{◌≡◌, ◌∙◌, refl, sym, ap, arith, leb-true, negsuc, ℕ, ◌+◌, ◌<◌, drop, get_or, length, w64, FitsSigned, ℤ, pos, ◌+ℤ◌, ◌&&◌, Bool, true, false, Option, Some, None, List, [], ◌∷◌, map, if◌then◌else◌}
 use Rattle.py_model.specs.Arithmetic.{numbers_in, sum_from}
 use Rattle.py_model.specs.Faults.{wrong_kind, out_of_range}
 use Rattle.py_model.specs.Numbers.{is_int}
@@ -9,6 +9,8 @@ use Rattle.py_value.specs.Contents.{Contents, contents, int}
 use Rattle.py_value.specs.Values.{ValuesView}
 use Rattle.py_value.specs.declared.value.Value.{Value}
 use Rattle.py_value.specs.declared.value.Value.TheVariants.{None as NoneValue, Bool as TruthValue, Int, Text, Tuple, Range, Fn, Class, Exc, Builtin, Object}
+use Rattle.op_making.proofs.Writing.{drop_next}
+use Rattle.op_numbers.proofs.NumberPlans.{int_fits}
 use Rattle.op_work.proofs.Tuples.{some_tuple}
 use Rattle.op_products.specs.Summed.{number_value, all_numbers, number_or_zero, sum_found}
 
@@ -73,3 +75,28 @@ sum_is table items are = numbers_are table items (sum_from (pos 0)) ∙ (ap (λ 
 
 pub no_sum : (table : ValuesView) (items : List Value) → all_numbers items ≡ false → sum_items (map (contents table) items) ≡ wrong_kind
 no_sum table items are = numbers_are table items (sum_from (pos 0)) ∙ ap (λ b. when_numbers b items (sum_from (pos 0))) are
+
+-- one item more is added, or refused
+sum_step : (so_far : ℤ) (items : List Value) (i : ℕ) → i < length items → sum_found so_far (drop i items)
+    ≡ (if is_int (so_far +ℤ number_or_zero (get_or items i NoneValue)) then sum_found (so_far +ℤ number_or_zero (get_or items i NoneValue)) (drop (i + 1) items) else None)
+sum_step so_far items i less = ap (sum_found so_far) (drop_next items i less)
+
+pub sum_more : (so_far next : ℤ) (items : List Value) (i : ℕ) → i < length items → FitsSigned w64 next → next ≡ so_far +ℤ number_or_zero (get_or items i NoneValue)
+    → sum_found next (drop (i + 1) items) ≡ sum_found so_far (drop i items)
+sum_more so_far next items i less fits is = ap (λ (k : ℤ). sum_found k (drop (i + 1) items)) is
+    ∙ sym (sum_step so_far items i less ∙ ap (λ b. if b then sum_found (so_far +ℤ number_or_zero (get_or items i NoneValue)) (drop (i + 1) items) else None)
+    (ap is_int (sym is) ∙ int_fits next fits))
+
+fits_int : (i : ℤ) → is_int i ≡ true → FitsSigned w64 i
+fits_int (pos n) is = omega (arith, leb-true n 9223372036854775807 is)
+fits_int (negsuc n) is = omega (arith, leb-true n 9223372036854775807 is)
+
+by_other : (b : Bool) (one other : Option ℤ) → (b ≡ true → ⊥) → (if b then one else other) ≡ other
+by_other true one other is = absurd (is refl)
+by_other false one other is = refl
+
+pub sum_out : (so_far : ℤ) (items : List Value) (i : ℕ) → i < length items → (FitsSigned w64 (so_far +ℤ number_or_zero (get_or items i NoneValue)) → ⊥)
+    → sum_found so_far (drop i items) ≡ None
+sum_out so_far items i less out = sum_step so_far items i less
+    ∙ by_other (is_int (so_far +ℤ number_or_zero (get_or items i NoneValue))) (sum_found (so_far +ℤ number_or_zero (get_or items i NoneValue)) (drop (i + 1) items)) None
+    (λ is. out (fits_int (so_far +ℤ number_or_zero (get_or items i NoneValue)) is))

@@ -53,7 +53,10 @@ fn sum_of(items: &[Value]) -> Option<i64>
 {
     let mut so_far: i64 = 0;
     for item in items {
-        so_far = so_far.checked_add(number_or_zero(*item))?;
+        let Some(next) = so_far.checked_add(number_or_zero(*item)) else {
+            return None;
+        };
+        so_far = next;
     }
     Some(so_far)
 }
