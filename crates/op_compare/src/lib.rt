@@ -6,7 +6,7 @@
 //! - [`in_order`]: the order of two numbers, texts, tuples or lists. Two values that have none raise TypeError.
 //! - The operators `==` ([`eq`]), `!=` ([`ne`]), `<` ([`lt`]), `<=` ([`le`]), `>` ([`gt`]) and `>=` ([`ge`]).
 //!
-//! A value of an order that is no key is answered as want of memory. None stands in one: what is set was a key.
+//! A value of an order that is no key is answered as want of memory. That none stands in one is not said by a clause of the store.
 #![tactic(auto)]
 
 mod compare;

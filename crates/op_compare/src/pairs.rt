@@ -73,7 +73,7 @@ pub(crate) fn item_pair(work: &mut Work, o: u32, p: u32, i: u64) -> Result<(Valu
     Ok((v, w))
 }
 
-// The key that a value of an order is. Only values that are keys stand there; of any other this would be want of memory.
+// The key that a value of an order is; one that is no key is answered as want of memory.
 fn order_key(work: &mut Work, alloc: Global, v: Value) -> Result<Key, Stop>
     requires { IsNamed work.old.values v }
     ensures { Comes (IsKeyOf v) (value_seen v) (λ table (go : Contents → Plan). go (contents table v)) work.old work.new result }

@@ -5,7 +5,7 @@
 //! - [`reverse`] (85).
 //! - [`list_operand`]: the list that a method is called on.
 //!
-//! Not here yet: mul (9) and sum (69).
+//! Products and the sum of a sequence are those of `op_products`.
 #![tactic(auto)]
 
 mod adding;
