@@ -23,7 +23,7 @@ pub trait Source {
         ensures { (capture : Capture) × fits self.now capture };
 
     /// What a device gives to a question that is asked at a place, for the next time there; none where nothing is kept of it. After an
-    /// `Err` it was not asked.
+    /// `Err` it does not count as asked.
     fn ask(&mut self, alloc: Global, what: Ask, at: Pos) -> Result<Option<Given>, Memory>
         ensures knew { Knew (fits self.old) (fits self.new) }
         ensures asked { Asks what at (fits self.new) (stands self.old) (stands self.new) result };
@@ -31,7 +31,7 @@ pub trait Source {
     /// The paths that were fetched.
     ghost has: { Self → List ℕ → Type 0 };
 
-    /// Fetches what stands at a path, where it was not fetched before. After an `Err` it was not.
+    /// Fetches what stands at a path, where it was not fetched before. After an `Err` it does not count as fetched.
     fn fetch(&mut self, alloc: Global, path: &str) -> Result<(), Memory>
         ensures knew { Knew (fits self.old) (fits self.new) }
         ensures stays { Stays (stands self.old) (stands self.new) }

@@ -6,7 +6,7 @@ ghost use Rattle.op_done.specs.Happening.{Completes};
 use object_store::{named_stays, store_over_contents};
 use op_work::Work;
 use prov_base::Memory;
-use py_model::{Answer, Deed, map_changes_by_accesses, touches_join};
+use py_model::{Answer, Deed, map_changes_by_accesses};
 use std::alloc::Global;
 
 /// The operation ends with this answer: memory for all that it writes is taken, and it is written. After a refusal all is as before.
