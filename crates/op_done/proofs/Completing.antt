@@ -1,5 +1,8 @@
 -- How an operation that is at its end changes what is held.
-use Rattle.std.proofs.Common.{◌≡◌, refl, sym, ap, subst, ◌∙◌, arith, append-nil, inl, inr, ◌⊎◌, ℕ, zero, suc, ◌+◌, ◌/◌, ◌<◌, ◌≤◌, Bool, true, false, List, [], ◌∷◌, ◌++◌, map, length, slice_get, Option, Some, None, IsSome, if◌then◌else◌, Result, Ok, Err}
+use Rattle.std.proofs.Common.{◌≡◌, refl, sym, ap, subst, ◌∙◌, arith, append-nil, inl, inr, ◌⊎◌, ℕ, zero, suc, ◌+◌, ◌/◌, ◌<◌, ◌≤◌, Bool, true, false, ◌||◌, bytes_eq, List, [], ◌∷◌, ◌++◌, map, length, slice_get, Option, Some, None, IsSome, if◌then◌else◌, Result, Ok, Err}
+use Rattle.std.proofs.lemmas.Bool.{eqb-true, false≢true}
+use Rattle.std.proofs.lemmas.Slice.Eq.{bytes_eq-Decides}
+use Rattle.std.specs.List.{list_any}
 use Rattle.std.specs.Option.{option_map}
 use Rattle.std.specs.Result.{IfOk, OnOk}
 use Rattle.prov_base.specs.declared.refusal.Memory.{Memory}
@@ -12,13 +15,14 @@ use Rattle.object_store.specs.Store.{StoreView, bytes, file_at as held_file, kin
 use Rattle.prov_base.specs.declared.place.Pos.{Pos}
 use Rattle.prov_base.specs.contracts.place.PosPartialEq.TheImpl.{ghosts as places}
 use Rattle.py_model.specs.Effect.{Answers, Effect, Touch, effect, answered, accesses_in, looked_at, characters_in, weight, cost, after, with_made, after_accesses}
+use Rattle.py_value.specs.Changes.{after_access}
 use Rattle.py_model.specs.Plan.{Plan}
 use Rattle.py_model.specs.Running.{method_found}
 use Rattle.py_model.specs.Store.{RunStore}
 use Rattle.py_model.specs.Told.{answer_seen, IsNamedAnswer, IsNamedKind, AreNamedAccesses}
 use Rattle.py_model.specs.declared.doer.Deed.{Deed}
 use Rattle.py_model.specs.declared.moment.Answer.{Answer as OneAnswer}
-use Rattle.py_value.specs.Seen.{SeenKind, access_seen, kind_seen, bytes_of, file_at}
+use Rattle.py_value.specs.Seen.{SeenKind, SeenContent, access_seen, content_seen, kind_seen, bytes_of, file_at}
 use Rattle.std.specs.Map.{lookup}
 use Rattle.py_value.specs.Named.{IsNamedAccess}
 use Rattle.py_value.specs.Values.{ValuesView, AreInterned, Keeps as KeepsNumbers}
@@ -32,9 +36,9 @@ use Rattle.py_value.specs.declared.access.Kind.{Kind}
 use Rattle.py_value.specs.declared.access.Kind.TheVariants.{File as FileKind}
 use Rattle.py_value.specs.declared.access.Mode.{Mode}
 use Rattle.py_value.specs.declared.access.Location.TheVariants.{Var, Len, Item, Entry, Order, File, Offset, Closed, Method, Base}
-use Rattle.op_work.specs.Finish.{IsDeed, IsSound, Noted, last_method, read_at}
+use Rattle.op_work.specs.Finish.{HasItsFile, IsDeed, IsSound, Noted, last_method, read_at, sets_file}
 use Rattle.op_work.specs.Work.{WorkView, Extends, IsSeen, Goes, Ends, Leads, under, ended, said_of, names_said, Said, said_after, IsThere, AreThere, cost_of}
-use Rattle.op_done.specs.Happening.{IsBegun, IsHappened, HasItsFile, Completes, with_paths}
+use Rattle.op_done.specs.Happening.{IsBegun, IsHappened, Completes, with_paths}
 use Rattle.op_done.specs.Holding.{Found, with_found, Holds}
 use Rattle.op_done.proofs.Finding.{IsThereSeen, AreThereSeen, accesses_found, accesses_keep, suit_held, keyed_held}
 use Rattle.op_done.proofs.Sayings.{none_said, with_names, printed_after, opened_after, names_after, kinds_after}
@@ -76,6 +80,10 @@ module _ (table : ValuesView) (began old : WorkView) (before : Leads) (answer : 
       ∙ (ap (λ n. said_after (before answers).touches (record { bytes = []; names = names_said table n; paths = map (bytes_of table) began.opens })) begun.note
       ∙ ap (λ o. said_after (before answers).touches (record { bytes = []; names = []; paths = map (bytes_of table) o })) begun.opens)))
 
+set_here : (b : Bool) (content : SeenContent) (there : Option SeenContent) → b ≡ true → IsSome (if b then Some content else there)
+set_here true content there is = refl
+set_here false content there is = absurd (false≢true is)
+
 -- each file that is appended to is there, over contents as well
 there_at : OverContents → (table : ValuesView) (held : StoreView) → AreInterned table → (path : ℕ) → path < length table.texts → IsSome (held_file held path)
     → IsSome (seen_at table held (file_at (bytes_of table path)))
@@ -111,6 +119,33 @@ there_seen law table held interned (access ∷ touched) named there = (one acces
     one (Update (Base place) how) named there = tt
     one (Read l) named there = tt
     one (Set l content) named there = tt
+
+-- a file that is set is there
+set_is_there : (table : ValuesView) (path : ℕ) (held : SeenMap) (touched : List Access) → list_any (sets_file path) touched ≡ true
+    → IsSome (after_accesses (map (access_seen table) touched) held (file_at (bytes_of table path)))
+set_is_there table path held [] set = absurd (false≢true set)
+set_is_there table path held (access ∷ touched) set = by_test (sets_file path access) refl set (λ more. set_is_there table path (after_access (access_seen table access) held) touched more)
+  where
+    here : (access : Access) → sets_file path access ≡ true → IsSome (after_access (access_seen table access) held (file_at (bytes_of table path)))
+    here (Set (File other) content) is = set_here (bytes_eq (bytes_of table other) (bytes_of table path)) (content_seen table content) (held (file_at (bytes_of table path)))
+        ((bytes_eq-Decides (bytes_of table other) (bytes_of table path)).1 (ap (bytes_of table) (eqb-true other path is)))
+    here (Set (Var scope name) content) is = absurd (false≢true is)
+    here (Set (Len o) content) is = absurd (false≢true is)
+    here (Set (Item o i) content) is = absurd (false≢true is)
+    here (Set (Entry o key) content) is = absurd (false≢true is)
+    here (Set (Order o) content) is = absurd (false≢true is)
+    here (Set (Offset o) content) is = absurd (false≢true is)
+    here (Set (Closed o) content) is = absurd (false≢true is)
+    here (Set (Method place name) content) is = absurd (false≢true is)
+    here (Set (Base place) content) is = absurd (false≢true is)
+    here (Read l) is = absurd (false≢true is)
+    here (Update l how) is = absurd (false≢true is)
+
+    by_test : (b : Bool) → sets_file path access ≡ b → (b || list_any (sets_file path) touched) ≡ true
+        → (list_any (sets_file path) touched ≡ true → IsSome (after_accesses (map (access_seen table) (access ∷ touched)) held (file_at (bytes_of table path))))
+        → IsSome (after_accesses (map (access_seen table) (access ∷ touched)) held (file_at (bytes_of table path)))
+    by_test true is some later = accesses_keep (after_access (access_seen table access) held) (map (access_seen table) touched) (file_at (bytes_of table path)) (here access is)
+    by_test false is some later = later some
 
 -- the method that was read last
 method_told : (table : ValuesView) (held : StoreView) (run : RunStore) → IsSeen table held run → (touched : List Access) → AreNamedAccesses table touched → (found : Option Pos)
@@ -242,16 +277,26 @@ module _ (law : OverContents) (changes : Changes) (store_grown : StoreGrown) (pl
   named_after : IsNamedStore table new.store
   named_after = store_grown old.values table new.store extends.texts extends.tuples (subst (λ values. IsNamedStore values new.store) values_are named_new)
 
-  files_after : HasItsFile old new → (o path : ℕ) (mode : Mode) → slice_get (kinds new.store) o ≡ Some (FileKind path mode) → IsSome (held_file new.store path)
+  files_after : HasItsFile old.store old.touched old.made → (o path : ℕ) (mode : Mode) → slice_get (kinds new.store) o ≡ Some (FileKind path mode) → IsSome (held_file new.store path)
   files_after its o path mode is = by_got (got_with old.made (kinds old.store) (FileKind path mode) o (subst (λ ks. slice_get ks o ≡ Some (FileKind path mode)) kinds_are is))
     where
+      within : path < length table.texts
+      within = named_after.kinds_named o (FileKind path mode) is
+
+      back : IsSome (after_accesses (map (access_seen table) old.touched) (seen_at table old.store) (file_at (bytes_of table path))) → IsSome (held_file new.store path)
+      back there = there_back law table new.store held.interned path within (subst (λ (at : SeenMap). IsSome (at (file_at (bytes_of table path)))) (sym written) there)
+
+      stays : IsSome (held_file old.store path) → IsSome (held_file new.store path)
+      stays there = back (accesses_keep (seen_at table old.store) (map (access_seen table) old.touched) (file_at (bytes_of table path))
+          (there_at law table old.store held.interned path within there))
+
+      by_its : IsSome (held_file old.store path) ⊎ (list_any (sets_file path) old.touched ≡ true) → IsSome (held_file new.store path)
+      by_its (inl there) = stays there
+      by_its (inr set) = back (set_is_there table path (seen_at table old.store) old.touched set)
+
       by_got : (slice_get (kinds old.store) o ≡ Some (FileKind path mode)) ⊎ (old.made ≡ Some (FileKind path mode)) → IsSome (held_file new.store path)
-      by_got (inr made) = its path mode made
-      by_got (inl was) =
-          let within = named_after.kinds_named o (FileKind path mode) is in
-          there_back law table new.store held.interned path within (subst (λ (at : SeenMap). IsSome (at (file_at (bytes_of table path)))) (sym written)
-          (accesses_keep (seen_at table old.store) (map (access_seen table) old.touched) (file_at (bytes_of table path))
-          (there_at law table old.store held.interned path within (held.files o path mode was))))
+      by_got (inr made) = by_its (its path mode made)
+      by_got (inl was) = stays (held.files o path mode was)
 
   pub happened : IsHappened found table run e deed old new
   happened = record {

@@ -1,10 +1,10 @@
 -- An operation that happened: its effect on the store of a run is what is told of it, and what is held afterwards is the run's store then.
-use Rattle.std.specs.Prelude.{◌≡◌, ◌≤◌, ℕ, List, [], ◌∷◌, ◌++◌, map, Some, None, IsSome, Ok}
+use Rattle.std.specs.Prelude.{◌≡◌, ◌≤◌, ℕ, List, [], ◌∷◌, ◌++◌, map, None, Ok}
 use Rattle.std.specs.Option.{option_map}
 use Rattle.object_store.specs.Keyed.{IsKeyed}
 use Rattle.object_store.specs.Performing.{SuitInTurn}
-use Rattle.object_store.specs.Store.{file_at as held_file}
 use Rattle.op_done.specs.Holding.{Found, Holds}
+use Rattle.op_work.specs.Finish.{HasItsFile}
 use Rattle.op_work.specs.Work.{WorkView, Extends, Ends}
 use Rattle.py_model.specs.Effect.{Answers, Effect, effect, answered, accesses_in, weight, cost, after}
 use Rattle.py_model.specs.Plan.{Plan}
@@ -15,8 +15,6 @@ use Rattle.py_model.specs.declared.doer.Deed.{Deed}
 use Rattle.py_model.specs.declared.moment.Answer.{Answer as OneAnswer}
 use Rattle.py_value.specs.Seen.{access_seen, kind_seen, bytes_of}
 use Rattle.py_value.specs.Values.{ValuesView}
-use Rattle.py_value.specs.declared.access.Kind.TheVariants.{File}
-use Rattle.py_value.specs.declared.access.Mode.{Mode}
 
 -- nothing is done yet
 pub record IsBegun (w : WorkView) : Type 0 where
@@ -33,10 +31,6 @@ abbrev pub with_paths : List (List ℕ) → List (List ℕ) → List (List ℕ)
 with_paths [] paths = paths
 with_paths (path ∷ more) paths = with_paths more (with_path path paths)
 
--- the file of a file object that was made is held
-abbrev pub HasItsFile : WorkView → WorkView → Type 0
-HasItsFile old new = (path : ℕ) (mode : Mode) → old.made ≡ Some (File path mode) → IsSome (held_file new.store path)
-
 pub record IsHappened (found : Found) (table : ValuesView) (run : RunStore) (e : Effect) (deed : Deed) (old new : WorkView) : Type 0 where
   pub outcome_is : e.outcome ≡ answered (answer_seen table deed.answer)
   pub made_is : e.made ≡ option_map (kind_seen table) deed.made
@@ -47,7 +41,7 @@ pub record IsHappened (found : Found) (table : ValuesView) (run : RunStore) (e :
   pub named : IsNamedAnswer table deed.answer × (IsNamedKind table deed.made × AreNamedAccesses table deed.accesses)
   pub printed_is : (after e run).printed ≡ run.printed ++ old.printed
   pub opened_are : (after e run).opened ≡ with_paths (map (bytes_of table) old.opens) run.opened
-  pub holds : HasItsFile old new → Holds found table new.store (after e run)
+  pub holds : HasItsFile old.store old.touched old.made → Holds found table new.store (after e run)
 
 -- Whatever plan the operation has come to the end of, in whatever store it began, it happened: where the plan's writes suit that store.
 abbrev pub Completes : WorkView → WorkView → OneAnswer → Deed → Type 0

@@ -13,6 +13,7 @@ use std::alloc::Global;
 pub fn complete(work: &mut Work, alloc: Global, answer: Answer) -> Result<Deed, Memory>
     ensures happened { IfOk result (λ deed. Completes work.old work.new answer deed) }
     ensures values { work.new.values ≡ work.old.values }
+    ensures said { (work.new.printed ≡ work.old.printed) × (work.new.opens ≡ work.old.opens) }
     ensures refused { OnErr result (KeepsStore work.old.store work.new.store) }
 {
     store_over_contents();

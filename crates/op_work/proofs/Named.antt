@@ -1,5 +1,7 @@
 -- What is named, and within the objects that there are, is so behind more of it.
-use Rattle.std.proofs.Common.{◌≡◌, refl, ap, sym, ◌∙◌, subst, ℕ, zero, suc, ◌+◌, ◌≤◌, length, List, [], ◌∷◌, ◌++◌, Option, Some, None, IsSome, arith, slice_get}
+use Rattle.std.proofs.Common.{◌≡◌, refl, ap, sym, ◌∙◌, subst, ℕ, zero, suc, ◌+◌, ◌≤◌, Bool, true, false, length, List, [], ◌∷◌, ◌++◌, Option, Some, None, IsSome, Result, Ok, Err, if◌then◌else◌, arith, slice_get}
+use Rattle.std.specs.Result.{OnOk, OnErr}
+use Rattle.py_value.specs.contracts.access.LocationPartialEq.TheImpl.{ghosts as locations}
 use Rattle.object_store.specs.Room.{IsWithin, IsAccessWithin, AreWithin, IsNamedAccess as IsNamedText}
 use Rattle.object_store.specs.Named.{IsNamedStore}
 use Rattle.std.specs.Option.{option_map}
@@ -9,7 +11,7 @@ use Rattle.prov_base.specs.contracts.place.PosPartialEq.TheImpl.{ghosts as place
 use Rattle.py_value.specs.declared.access.Change.TheVariants.{Insert, Delete, Append}
 use Rattle.py_value.specs.Named.{IsNamedAccess, AreNamedAccesses}
 use Rattle.std.proofs.lemmas.List.{length_push, length-map}
-use Rattle.object_store.specs.Store.{StoreView, Keeps, bytes, file_at, held_at, kinds, count_with}
+use Rattle.object_store.specs.Store.{StoreView, Keeps, Writes, bytes, file_at, held_at, kinds, count_with}
 use Rattle.op_work.specs.Work.{cost_of, IsThere, AreThere}
 use Rattle.py_value.specs.declared.access.Kind.{Kind}
 use Rattle.py_value.specs.Values.{ValuesView}
@@ -76,6 +78,11 @@ access_more n m more (Update l change) within = location_more n m more l within
 pub within_made : (store : StoreView) (kind : Kind) (accesses : List Access) → AreWithin (count_with None store) accesses → AreWithin (count_with (Some kind) store) accesses
 within_made store kind accesses within k access is = access_more (length store.objects) (length store.objects + 1) (omega (arith)) access (within k access is)
 
+pub within_made_again : (store : StoreView) (made : Option Kind) (kind : Kind) (accesses : List Access) → AreWithin (count_with made store) accesses
+    → AreWithin (count_with (Some kind) store) accesses
+within_made_again store None kind accesses within = within_made store kind accesses within
+within_made_again store (Some other) kind accesses within = within
+
 within_more : (n m : ℕ) → n ≤ m → (accesses : List Access) → AreWithin n accesses → AreWithin m accesses
 within_more n m more accesses within k access is = access_more n m more access (within k access is)
 
@@ -139,3 +146,39 @@ there_kept old new held (access ∷ accesses) there = (one access there.0, there
     one (Update (Base place) how) there = tt
     one (Read l) there = tt
     one (Set l content) there = tt
+
+-- the files that are there stay, where one is put in its place
+there_or_put : (b : Bool) (old new : Option (List ℕ)) (bs : List ℕ) → option_map bytes new ≡ (if b then Some (bytes bs) else option_map bytes old) → IsSome old → IsSome new
+there_or_put true old (Some c) bs is there = refl
+there_or_put true old None bs is there = cc
+there_or_put false old new bs is there = there_same old new is there
+
+pub there_placed : (old new : StoreView) (path : ℕ) (bs : List ℕ) → Writes old new (File path) (bytes bs) → (accesses : List Access) → AreThere old accesses → AreThere new accesses
+there_placed old new path bs put [] there = tt
+there_placed old new path bs put (access ∷ accesses) there = (one access there.0, there_placed old new path bs put accesses there.1)
+  where
+    one : (access : Access) → IsThere old access → IsThere new access
+    one (Update (File other) how) there = there_or_put (locations.eq (File path) (File other)) (file_at old other) (file_at new other) bs (put.held (File other)) there
+    one (Update (Var scope name) how) there = tt
+    one (Update (Len o) how) there = tt
+    one (Update (Item o i) how) there = tt
+    one (Update (Entry o key) how) there = tt
+    one (Update (Order o) how) there = tt
+    one (Update (Offset o) how) there = tt
+    one (Update (Closed o) how) there = tt
+    one (Update (Method place name) how) there = tt
+    one (Update (Base place) how) there = tt
+    one (Read l) there = tt
+    one (Set l content) there = tt
+
+pub count_placed : (made : Option Kind) (old new : StoreView) → new ≡ record old { files = new.files } → count_with made new ≡ count_with made old
+count_placed None old new is = ap (λ (s : StoreView). length s.objects) is
+count_placed (Some kind) old new is = ap (λ (s : StoreView). length s.objects + 1) is
+
+pub same_path : (path other : ℕ) → Some path ≡ Some other → path ≡ other
+same_path path other is = cc
+
+-- one of the two, by the answer
+pub by_answer : {T E C A B : Type 0} (result : Result T E) → OnOk result A → OnErr result B → (A → C) → (B → C) → C
+by_answer (Ok done) good bad if_good if_bad = if_good good
+by_answer (Err want) good bad if_good if_bad = if_bad bad

@@ -1,7 +1,8 @@
 -- What an operation that is at its end leaves (this project's profile).
-use Rattle.std.specs.Prelude.{◌≡◌, ℕ, ◌+◌, ◌/◌, ◌≤◌, length, List, [], ◌∷◌, Option, Some, None}
+use Rattle.std.specs.Prelude.{◌≡◌, ◌⊎◌, ℕ, ◌+◌, ◌/◌, ◌≤◌, ◌==◌, Bool, true, false, length, List, [], ◌∷◌, Option, Some, None, IsSome}
+use Rattle.std.specs.List.{list_any}
 use Rattle.prov_base.specs.declared.place.Pos.{Pos}
-use Rattle.object_store.specs.Store.{StoreView, content_at, Notes}
+use Rattle.object_store.specs.Store.{StoreView, content_at, file_at, Notes}
 use Rattle.op_work.specs.Work.{WorkView, cost_of, method_in, AreThere, AreNamedSayings}
 use Rattle.py_model.specs.declared.doer.Deed.{Deed}
 use Rattle.py_model.specs.declared.moment.Answer.{Answer as OneAnswer}
@@ -11,7 +12,10 @@ use Rattle.py_value.specs.Values.{AreInterned}
 use Rattle.py_value.specs.declared.access.Access.{Access}
 use Rattle.py_value.specs.declared.access.Access.TheVariants.{Read, Set, Update}
 use Rattle.py_value.specs.declared.access.Location.{Location}
-use Rattle.py_value.specs.declared.access.Location.TheVariants.{Method}
+use Rattle.py_value.specs.declared.access.Location.TheVariants.{Method, File as FilePlace}
+use Rattle.py_value.specs.declared.access.Kind.{Kind}
+use Rattle.py_value.specs.declared.access.Kind.TheVariants.{File as FileKind}
+use Rattle.py_value.specs.declared.access.Mode.{Mode}
 
 -- the method that stands where a method was read last
 abbrev pub read_at : StoreView → Location → Option Pos → Option Pos
@@ -46,3 +50,17 @@ pub record IsSound (work : WorkView) : Type 0 where
   pub kind : IsNamedKind work.values work.made
   pub there : AreThere work.store work.touched
   pub said : AreNamedSayings work.values work.note work.opens
+
+-- an access sets the file at the path
+abbrev pub sets_file : ℕ → Access → Bool
+sets_file path (Set (FilePlace other) content) = other == path
+sets_file path access = false
+
+-- the path of a file object that is made
+abbrev pub path_made : Option Kind → Option ℕ
+path_made (Some (FileKind path mode)) = Some path
+path_made other = None
+
+-- Of a file object that is made, the file is there, or is set.
+abbrev pub HasItsFile : StoreView → List Access → Option Kind → Type 0
+HasItsFile store accesses made = (path : ℕ) (mode : Mode) → made ≡ Some (FileKind path mode) → IsSome (file_at store path) ⊎ (list_any (sets_file path) accesses ≡ true)

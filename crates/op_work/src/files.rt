@@ -1,7 +1,9 @@
 // Files are read, and items of lists are moved.
-ghost use Rattle.std.specs.Prelude.{◌≡◌, ◌<◌, ◌∷◌, ◌++◌, [], length, option_copied, IsSome, OnOk, OnErr, IfErr};
+ghost use Rattle.std.specs.Prelude.{◌≡◌, ◌<◌, ◌∷◌, ◌++◌, [], length, option_copied, IsSome, IsTrue, OnOk, OnErr, IfErr};
+ghost use Rattle.std.specs.List.{list_any};
 ghost use Rattle.object_store.specs.Room.{IsWithin};
-ghost use Rattle.object_store.specs.Store.{count_with, file_at, item_at};
+ghost use Rattle.object_store.specs.Store.{Writes, bytes as held_bytes, count_with, file_at, item_at};
+ghost use Rattle.op_work.specs.Finish.{HasItsFile, path_made, sets_file};
 ghost use Rattle.op_work.specs.Work.{Comes, Wrote, IsKept, IsUnpaid, IsNamedMaybe, is_any};
 ghost use Rattle.py_model.specs.Plan.{read_file as plan_file, move};
 ghost use Rattle.py_value.specs.Named.{IsNamedAccess};
@@ -12,7 +14,9 @@ ghost use Rattle.py_value.specs.declared.access.Content.TheVariants.{Item as Ite
 ghost use Rattle.py_value.specs.declared.access.Location.TheVariants.{Item, File};
 
 use crate::{Stop, Work};
-use py_value::{Content, Location, Value, tuples_are_their_parts};
+use object_store::named_stays;
+use prov_base::Memory;
+use py_value::{Access, Content, Kind, Location, Value, tuples_are_their_parts};
 use std::alloc::Global;
 
 impl Work {
@@ -35,6 +39,35 @@ impl Work {
         ensures { option_copied result ≡ file_at self.now.store path }
     {
         self.store.file(path)
+    }
+
+    /// The bytes of a file that was fetched are put at the path with this text. That is no step of an operation.
+    pub fn place_file(&mut self, alloc: Global, path: u32, bytes: &[u8]) -> Result<(), Memory>
+        requires { path < length self.old.values.texts }
+        ensures placed { OnOk result (Writes self.old.store self.new.store (File path) (held_bytes bytes.now)) }
+        ensures only { self.new.store ≡ record self.old.store { files = self.new.store.files } }
+        ensures err { OnErr result (self.new ≡ self.old) }
+        ensures same { self.new ≡ record self.old { store = self.new.store } }
+    {
+        named_stays();
+        self.store.place_file(alloc, path, bytes)
+    }
+
+    /// Whether the file of a file object that the operation makes is there, or is set by it.
+    pub fn has_its_file(&self) -> bool
+        ensures { IsTrue result → HasItsFile self.now.store self.now.touched self.now.made }
+    {
+        match path_of(self.made) {
+            Some(path) => self.store.file(path).is_some() || self.sets_file(path),
+            None => true,
+        }
+    }
+
+    // Whether the operation sets the file at a path.
+    fn sets_file(&self, path: u32) -> bool
+        ensures { result ≡ list_any (sets_file path) self.now.touched }
+    {
+        self.touched.iter().any(|access| sets(access, path))
     }
 
     /// The item at a place of a list is read and set at another place. What was never set moves as an empty tuple.
@@ -71,5 +104,25 @@ impl Work {
     {
         self.note_read(Location::Item(o, from))?;
         self.note_set(Location::Item(o, to), Content::Item(item))
+    }
+}
+
+// Whether an access sets the file at a path.
+fn sets(access: &Access, path: u32) -> bool
+    ensures { result ≡ sets_file path access.now }
+{
+    match access {
+        Access::Set(Location::File(other), _) => *other == path,
+        _ => false,
+    }
+}
+
+// The path of a file object that is made, where one is.
+fn path_of(made: Option<Kind>) -> Option<u32>
+    ensures { result ≡ path_made made }
+{
+    match made {
+        Some(Kind::File(path, _)) => Some(path),
+        _ => None,
     }
 }

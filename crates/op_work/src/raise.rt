@@ -1,5 +1,5 @@
 // The exception that an operation raises: it is made, with what it was given as its attribute `args`.
-ghost use Rattle.std.specs.Prelude.{◌≡◌, None, length, map};
+ghost use Rattle.std.specs.Prelude.{length, map};
 ghost use Rattle.object_store.specs.Store.{count_with};
 ghost use Rattle.op_work.specs.Raise.{args_set};
 ghost use Rattle.op_work.specs.Work.{Ends, WroteAll, raising};
@@ -16,8 +16,7 @@ use std::alloc::Global;
 impl Work {
     /// An exception of a class of the language, by its number, is made with one argument and raised.
     pub fn raise(&mut self, alloc: Global, class: u64, argument: Value) -> Result<Answer, Stop>
-        requires named { IsNamed self.old.values argument }
-        requires fresh { self.old.made ≡ None }
+        requires { IsNamed self.old.values argument }
         ensures { Ends (λ table. raising table class argument) self.old self.new result }
     {
         self.throw(alloc, Value::Exc(class), &[argument])
@@ -27,7 +26,6 @@ impl Work {
     pub fn throw(&mut self, alloc: Global, of: Value, given: &[Value]) -> Result<Answer, Stop>
         requires class { IsNamed self.old.values of }
         requires named { AreNamed self.old.values given.now }
-        requires fresh { self.old.made ≡ None }
         ensures { Ends (λ table. raises (contents table of) (map (contents table) given.now)) self.old self.new result }
     {
         tuples_are_their_parts();

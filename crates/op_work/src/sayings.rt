@@ -65,6 +65,21 @@ impl Work {
         self.opens.push(path)?;
         Ok(())
     }
+
+    /// The bytes that it prints.
+    pub fn printed(&self) -> &[u8]
+        ensures { result.now ≡ self.now.printed }
+    {
+        self.printed.as_slice()
+    }
+
+    /// The paths that it opened for writing, by the numbers of their texts.
+    pub fn opened(&self) -> &[u32]
+        ensures opened { result.now ≡ self.now.opens }
+        ensures named { AreNamedSayings self.now.values self.now.note result.now }
+    {
+        self.opens.as_slice()
+    }
 }
 
 /// The law that what is said stays named as texts come.

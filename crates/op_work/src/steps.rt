@@ -73,8 +73,8 @@ impl Work {
         Ok(Value::Text(number))
     }
 
-    // The number of the text with these bytes.
-    pub(crate) fn number(&mut self, alloc: Global, words: &str) -> Result<u32, Memory>
+    /// The number of the text with these bytes. Nothing but the texts changes.
+    pub fn number(&mut self, alloc: Global, words: &str) -> Result<u32, Memory>
         ensures name { IfOk result (λ id. slice_get self.new.values.texts id ≡ Some words.now) }
         ensures same { self.new ≡ record self.old { values = self.new.values } }
         ensures extends { Extends self.old.values self.new.values }

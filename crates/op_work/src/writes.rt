@@ -1,5 +1,5 @@
 // What an operation writes, behind all that it reads. It is done to the store once the operation is at its end.
-ghost use Rattle.std.specs.Prelude.{◌≡◌, ◌∷◌, ◌++◌, [], length, None, Some, OnOk, OnErr, IfErr};
+ghost use Rattle.std.specs.Prelude.{◌≡◌, ◌∷◌, ◌++◌, [], length, Some, OnOk, OnErr, IfErr};
 ghost use Rattle.object_store.specs.Room.{IsWithin};
 ghost use Rattle.object_store.specs.Store.{count_with, kinds};
 ghost use Rattle.op_work.specs.Work.{Wrote, IsUnpaid, IsThere};
@@ -15,8 +15,7 @@ use py_value::{Access, Change, Content, Kind, Location};
 impl Work {
     /// The operation makes an object of this kind. Its writes name it by the number that is answered.
     pub fn make(&mut self, kind: Kind) -> u32
-        requires first { self.old.made ≡ None }
-        requires named { IsNamedKind self.old.values (Some kind) }
+        requires { IsNamedKind self.old.values (Some kind) }
         ensures number { result ≡ length (kinds self.old.store) }
         ensures made { self.new ≡ record self.old { made = Some kind } }
     {

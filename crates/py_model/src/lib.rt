@@ -7,7 +7,7 @@
 //!
 //! The meaning of a run is `specs/Act.antt`, `Running.antt`, `Expressions.antt`, `Statements.antt` and `Meaning.antt`; what its moments
 //! come to is `History.antt` and `Occurrences.antt`. [`Doer`] is what performs operations and [`Watch`] what is told the moments.
-//! Nothing implements `Doer` yet, so that its contract can be met is not shown.
+//! The crates of operations, from `op_work` up, build such a doer over a store.
 //!
 //! `specs/Graph.antt` is the graph text of a value. [`graph_texts_tell_graphs`] says that two are equal exactly where the graphs are, in
 //! stores that are plain (`specs/PlainGraph.antt`). A run begins with such a store; that it goes on so is not shown.

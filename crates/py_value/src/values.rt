@@ -1,5 +1,5 @@
 // The texts and tuples of a run, each with one number.
-ghost use Rattle.std.specs.Prelude.{◌≡◌, ◌<◌, ◌≤◌, [], length, slice_get, Some, IfOk, IsOk, OnOk, OnErr, Contains};
+ghost use Rattle.std.specs.Prelude.{◌≡◌, ◌<◌, ◌≤◌, ◌↔◌, [], length, slice_get, Some, IfOk, IsOk, IsTrue, OnOk, OnErr, Contains};
 ghost use Rattle.std.specs.Prelude.{ℕ, List};
 ghost use Rattle.py_value.specs.Contents.{contents, parts_by, tuple as tuple_of_parts};
 ghost use Rattle.py_value.specs.declared.value.Value.TheVariants.{Tuple as TupleValue};
@@ -124,6 +124,17 @@ impl Values {
         ensures interned { AreInterned self.now }
     {
         self.tuples.as_slice()[id as usize].as_slice()
+    }
+
+    /// Whether the texts and tuples that a value names have numbers here.
+    pub fn has(&self, v: Value) -> bool
+        ensures { IsTrue result ↔ IsNamed self.now v }
+    {
+        match v {
+            Value::Text(id) => (id as usize) < self.texts.len(),
+            Value::Tuple(id) => (id as usize) < self.tuples.len(),
+            _ => true,
+        }
     }
 
     /// The number of a tuple of values, whose own texts and tuples have numbers here.
