@@ -1,0 +1,4 @@
+pub mod KeptHolds
+pub mod PathNumbers
+pub mod RaisedEnds
+pub mod ParameterWrites

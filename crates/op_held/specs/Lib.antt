@@ -1,0 +1,4 @@
+pub mod Entering
+pub mod Settling
+pub mod Paths
+pub mod Held

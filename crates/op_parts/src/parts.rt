@@ -1,0 +1,92 @@
+// What performs the operations of a run.
+ghost use Rattle.std.specs.Prelude.{◌≡◌};
+ghost use Rattle.op_parts.specs.Parts.{IsFitting, IsStanding};
+
+use crate::naming::{asks, has_names};
+use answer_source::Source;
+use keyed_plans::operations_suit;
+use object_store::{keys_have_entries, named_stays, plans_suit, store_over_contents};
+use op_done::holding_is_seen;
+use op_held::Held;
+use prov_base::{Memory, Name, Pos};
+use py_model::{Doer, Done, Entered, Op, costs_grow, few_operations_ask};
+use py_value::{Value, Values, contents_stay, same_place_same_location};
+use std::alloc::Global;
+
+/// What is held of a run, a source of answers, and how many activations were entered.
+#[derive(Drop)]
+pub struct Parts<S: Source> {
+    held: Held,
+    source: S,
+    entered: u32,
+}
+
+impl<S: Source> Doer for Parts<S> {
+    ghost fits = { λ p table capture. IsFitting (S.fits p.source) p.held.work.values table capture };
+
+    ghost stands = { λ p table capture s. IsStanding (S.stands p.source) p.held p.entered table capture s };
+
+    fn perform(
+        &mut self,
+        alloc: Global,
+        at: Pos,
+        op: Op,
+        values: &[Value],
+        left: u32,
+    ) -> Result<Done, Memory> {
+        few_operations_ask();
+        costs_grow();
+        holding_is_seen();
+        operations_suit();
+        let _ = at;
+        if !has_names(self.held.values(), op, values) || asks(op.no) {
+            return Err(Memory);
+        }
+        if left == 0 {
+            return Ok(Done::TooDear);
+        }
+        match self.held.perform(alloc, op, values, left)? {
+            Some(deed) => Ok(Done::Did(deed)),
+            None => Ok(Done::TooDear),
+        }
+    }
+
+    fn enter(
+        &mut self,
+        alloc: Global,
+        def: Pos,
+        names: &[Name],
+        values: &[Value],
+        left: u32,
+    ) -> Result<Entered, Memory> {
+        keys_have_entries();
+        plans_suit();
+        self.source.some_fits();
+        let _ = def;
+        let _ = self.held.values().has(Value::None);
+        if left as usize <= values.len() {
+            return Ok(Entered::TooDear);
+        }
+        let Some(activation) = self.entered.checked_add(1) else {
+            return Err(Memory);
+        };
+        let Some(deed) = self.held.enter(alloc, activation, names, values, left)? else {
+            return Err(Memory);
+        };
+        self.entered = activation;
+        Ok(Entered::In(activation, deed.accesses))
+    }
+
+    fn values(&self) -> &Values {
+        contents_stay();
+        named_stays();
+        same_place_same_location();
+        store_over_contents();
+        self.source.some_fits();
+        self.held.values()
+    }
+
+    fn word(&mut self, alloc: Global, text: &str) -> Result<u32, Memory> {
+        self.held.word(alloc, text)
+    }
+}

@@ -1,0 +1,16 @@
+use Rattle.std.proofs.Common.{refl}
+use Rattle.py_model.specs.Raising.{matches}
+use Rattle.op_work.specs.Work.{Ends}
+use Rattle.op_work.proofs.Ending.{ends_then, ends_stop}
+use Rattle.op_work.proofs.Going.{passes_err}
+use Rattle.op_table.specs.Table.{planned}
+use Rattle.op_table.proofs.Numbered.{at_number}
+use Rattle.op_table.proofs.wrapped.do_matches.Goals as goal
+
+pub returns-in_err-v : goal.returns-in_err-v
+returns-in_err-v c = passes_err (λ result. Ends (planned c.args.op c.args.operands.now) c.args.work.now c.two.new.work result) c.from_residual.result c.from_residual.ensures.1
+    (at_number 41 c.args.op c.args.operands.now c.requires.number (λ table. refl) (ends_stop (λ table p. matches p.0 p.1) _ c.in_err-v.ensures))
+
+pub returns : goal.returns
+returns c = at_number 41 c.args.op c.args.operands.now c.requires.number (λ table. refl)
+    (ends_then (λ table p. matches p.0 p.1) c.in_ok-v.ensures (λ table interned extends. refl) c.matches.ensures)

@@ -1,0 +1,105 @@
+// Methods by their numbers.
+ghost use Rattle.std.specs.Prelude.{◌≡◌, None};
+ghost use Rattle.op_table.specs.Table.{planned, IsFrom};
+ghost use Rattle.op_work.specs.Work.{Ends};
+ghost use Rattle.py_model.specs.Told.{IsNamedOp};
+ghost use Rattle.py_value.specs.Values.{AreNamed};
+
+use crate::wrapped::missing;
+use op_dicts::get_method;
+use op_search::index;
+use op_sums::{extend, reverse};
+use op_texts::{
+    endswith, find, isdigit, ljust, lower, lstrip, rjust, rstrip, startswith, strip, upper,
+};
+use op_views::keys;
+use op_work::{Stop, Work};
+use py_model::{Answer, Op};
+use py_value::Value;
+use std::alloc::Global;
+
+// Methods of lists and dictionaries: 80 to 90.
+pub(crate) fn list_methods(
+    work: &mut Work,
+    alloc: Global,
+    op: Op,
+    operands: &[Value],
+) -> Result<Answer, Stop>
+    requires number { IsFrom 80 90 op.no }
+    requires op { IsNamedOp work.old.values op }
+    requires named { AreNamed work.old.values operands.now }
+    requires fresh { work.old.made ≡ None }
+    requires unsaid { work.old.note ≡ None }
+    ensures { Ends (planned op operands.now) work.old work.new result }
+{
+    match op.no {
+        80 => missing(),
+        81 => extend(work, alloc, operands),
+        82 => missing(),
+        83 => missing(),
+        84 => index(work, alloc, operands),
+        85 => reverse(work, alloc, operands),
+        86 => missing(),
+        87 => get_method(work, alloc, operands),
+        88 => missing(),
+        89 => keys(work, alloc, operands),
+        90 => missing(),
+        _ => missing(),
+    }
+}
+
+// Methods of texts, the first half: 91 to 97.
+pub(crate) fn text_methods(
+    work: &mut Work,
+    alloc: Global,
+    op: Op,
+    operands: &[Value],
+) -> Result<Answer, Stop>
+    requires number { IsFrom 91 97 op.no }
+    requires op { IsNamedOp work.old.values op }
+    requires named { AreNamed work.old.values operands.now }
+    requires fresh { work.old.made ≡ None }
+    requires unsaid { work.old.note ≡ None }
+    ensures { Ends (planned op operands.now) work.old work.new result }
+{
+    match op.no {
+        91 => strip(work, alloc, operands),
+        92 => lstrip(work, alloc, operands),
+        93 => rstrip(work, alloc, operands),
+        94 => missing(),
+        95 => missing(),
+        96 => missing(),
+        97 => find(work, alloc, operands),
+        _ => missing(),
+    }
+}
+
+// Methods of texts, the second half, and of files: 98 to 108.
+pub(crate) fn word_methods(
+    work: &mut Work,
+    alloc: Global,
+    op: Op,
+    operands: &[Value],
+) -> Result<Answer, Stop>
+    requires number { IsFrom 98 108 op.no }
+    requires op { IsNamedOp work.old.values op }
+    requires named { AreNamed work.old.values operands.now }
+    requires fresh { work.old.made ≡ None }
+    requires unsaid { work.old.note ≡ None }
+    ensures { Ends (planned op operands.now) work.old work.new result }
+{
+    match op.no {
+        98 => startswith(work, alloc, operands),
+        99 => endswith(work, alloc, operands),
+        100 => upper(work, alloc, operands),
+        101 => lower(work, alloc, operands),
+        102 => isdigit(work, alloc, operands),
+        103 => ljust(work, alloc, operands),
+        104 => rjust(work, alloc, operands),
+        105 => missing(),
+        106 => missing(),
+        107 => missing(),
+        108 => missing(),
+        _ => missing(),
+    }
+}
