@@ -1,2 +1,4 @@
+pub mod EntryWalks
 pub mod Moves
 pub mod Operands
+pub mod ViewPlans
