@@ -9,10 +9,14 @@
 #![tactic(auto)]
 
 mod adding;
+mod displays;
+mod making;
 mod moving;
+mod pairs;
 mod taking;
 mod views;
 
 pub use adding::{append, insert};
+pub use displays::dict_display;
 pub use taking::{delitem, pop};
 pub use views::{items, values};

@@ -42,12 +42,7 @@ fn entry_value(work: &mut Work, alloc: Global, o: u32, v: Value) -> Result<Value
 }
 
 // The values at the keys of an order, one after the other.
-fn entry_values(
-    work: &mut Work,
-    alloc: Global,
-    o: u32,
-    keys: &[Value],
-) -> Result<Vec<Value>, Stop>
+fn entry_values(work: &mut Work, alloc: Global, o: u32, keys: &[Value]) -> Result<Vec<Value>, Stop>
     requires { AreNamed work.old.values keys.now }
     ensures { Comes (λ values vs. AreNamed values vs.items) (λ table vs. values_seen table vs.items) (λ table. read_entries o (values_seen table keys.now)) work.old work.new result }
 {
