@@ -1,5 +1,5 @@
 -- Items that move in a loop, one after the other.
-use Rattle.std.proofs.Common.{◌≡◌, ◌∙◌, refl, sym, subst, ap, arith, ℕ, zero, suc, ◌+◌, ◌-◌, ◌<◌, ◌≤◌, length, Option, None}
+use Rattle.std.proofs.Common.{◌≡◌, ◌∙◌, sym, subst, ap, arith, ℕ, suc, ◌+◌, ◌-◌, ◌<◌, ◌≤◌, length, Option, None}
 use Rattle.object_store.specs.Store.{StoreView, count_with}
 use Rattle.py_model.specs.Lists.{move_up, move_down}
 use Rattle.py_model.specs.Plan.{Writes, move}

@@ -1,8 +1,8 @@
 -- The pairs of a display, one after the other.
-use Rattle.std.proofs.Common.{◌≡◌, ◌∙◌, refl, sym, ap, subst, arith, ℕ, zero, suc, ◌+◌, ◌*◌, ◌/◌, ◌%◌, ◌<◌, ◌≤◌, length, Bool, true, false, List, [], ◌∷◌, map, drop, slice_index_or, Some, slice_get, if◌then◌else◌, ◌↔◌}
+use Rattle.std.proofs.Common.{◌≡◌, ◌∙◌, refl, sym, ap, arith, ℕ, ◌+◌, ◌*◌, ◌/◌, ◌%◌, ◌<◌, ◌≤◌, length, Bool, true, false, List, [], ◌∷◌, drop, slice_index_or, if◌then◌else◌, ◌↔◌}
 use Rattle.std.proofs.Math.Path.{fun_ext}
 use Rattle.op_changes.specs.declared.pairs.Pair.{Pair}
-use Rattle.op_changes.specs.Pairs.{ArePairs, IsPair, pair_seen, pairs_seen, has_key, with_value, pairs_behind}
+use Rattle.op_changes.specs.Pairs.{ArePairs, pair_seen, pairs_seen, has_key, with_value, pairs_behind}
 use Rattle.op_making.proofs.Writing.{drop_next, drop_all}
 use Rattle.op_walks.specs.Items.{values_seen}
 use Rattle.op_work.specs.Entries.{IsKeyOf}

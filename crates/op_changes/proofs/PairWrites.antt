@@ -7,7 +7,7 @@ use Rattle.op_dicts.proofs.FoundEnds.{key_kept}
 use Rattle.op_work.proofs.EntryReads.{ContentsStay, form_on, named_on}
 use Rattle.op_work.specs.Work.{Extends}
 use Rattle.py_model.specs.Dicts.{new_dict, set_entries}
-use Rattle.py_model.specs.Plan.{Plan, Writes, write, done, makes}
+use Rattle.py_model.specs.Plan.{Writes, write, done, makes}
 use Rattle.py_value.specs.Contents.{Contents, contents, object}
 use Rattle.py_value.specs.Seen.{a_dict, order_at, order_is, entry_at, entry_is}
 use Rattle.py_value.specs.Values.{ValuesView, AreInterned, IsNamed, AreNamed}

@@ -1,9 +1,8 @@
-use Rattle.std.proofs.Common.{rules, ◌≡◌, ◌∙◌, ◌<◌, refl, sym, ap, subst, map, length, slice_index_or, ℕ, ℤ, w64, to_z, of_z}
+use Rattle.std.proofs.Common.{rules, ◌≡◌, ◌∙◌, ◌<◌, sym, ap, subst, map, length, slice_index_or, ℤ, w64, to_z, of_z}
 use Rattle.object_store.specs.Store.{StoreView}
 use Rattle.py_model.specs.Lists.{insert, insert_item}
 use Rattle.py_model.specs.Places.{with_index}
-use Rattle.py_model.specs.Plan.{Plan}
-use Rattle.py_value.specs.Contents.{Contents, contents}
+use Rattle.py_value.specs.Contents.{contents}
 use Rattle.py_value.specs.declared.value.Value.TheVariants.{None as NoneValue}
 use Rattle.op_dicts.proofs.OperandPlans.{named_at_2}
 use Rattle.op_numbers.proofs.EndsAlike.{ends_as}

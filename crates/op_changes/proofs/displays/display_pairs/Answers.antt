@@ -1,10 +1,9 @@
-use Rattle.std.proofs.Common.{◌≡◌, ◌∙◌, refl, sym, ap, subst, arith, [], ◌+◌, ◌*◌, ◌/◌, length, slice_index_or, drop, List}
+use Rattle.std.proofs.Common.{◌∙◌, refl, sym, ap, subst, arith, [], ◌+◌, ◌*◌, length, slice_index_or, drop, List}
 use Rattle.op_work.specs.Turns.{Turns}
 use Rattle.op_changes.specs.declared.pairs.Pair.{Pair}
 use Rattle.op_changes.specs.Pairs.{ArePairs, pairs_behind, pairs_seen}
 use Rattle.op_making.proofs.Writing.{item_named}
 use Rattle.op_walks.specs.Items.{values_seen}
-use Rattle.op_walks.proofs.NamedValues.{named_stays}
 use Rattle.op_work.specs.Work.{Comes}
 use Rattle.py_value.specs.declared.value.Value.TheVariants.{None as NoneValue}
 use Rattle.op_work.proofs.Going.{extends_then, kept_then, comes_stop, passes_err, passes_memory, at_once, fault_comes}

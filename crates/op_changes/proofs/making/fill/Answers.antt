@@ -1,5 +1,5 @@
-use Rattle.std.proofs.Common.{◌≡◌, ◌∙◌, refl, subst, sym, List, map, Ok, Err}
-use Rattle.op_changes.specs.Pairs.{ArePairs, firsts, entries_set}
+use Rattle.std.proofs.Common.{◌∙◌, refl, subst, sym, List, map, Ok, Err}
+use Rattle.op_changes.specs.Pairs.{firsts, entries_set}
 use Rattle.op_work.specs.Work.{Wrote, WroteAll}
 use Rattle.py_model.specs.Plan.{write, done}
 use Rattle.py_value.specs.Contents.{contents, object}

@@ -3,9 +3,7 @@ use Rattle.object_store.specs.Store.{StoreView}
 use Rattle.op_work.specs.Work.{Ends}
 use Rattle.py_model.specs.Lists.{pop, pop_item}
 use Rattle.py_model.specs.Places.{with_index}
-use Rattle.py_model.specs.Plan.{Plan}
 use Rattle.py_value.specs.Contents.{contents, object}
-use Rattle.py_value.specs.Values.{ValuesView}
 use Rattle.op_work.proofs.Ending.{ends_then, ends_stop}
 use Rattle.op_work.proofs.Going.{passes_err}
 use Rattle.op_changes.proofs.taking.pop_at.Goals as goal

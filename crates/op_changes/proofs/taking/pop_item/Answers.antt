@@ -1,4 +1,4 @@
-use Rattle.std.proofs.Common.{rules, ◌≡◌, ◌∙◌, refl, subst, ℕ, ℤ, w64, to_z, of_z, Ok, Err, None}
+use Rattle.std.proofs.Common.{rules, ◌≡◌, ◌∙◌, refl, subst, ℕ, ℤ, w64, to_z, of_z, Ok, Err}
 use Rattle.op_work.specs.Work.{Comes, Ends, is_any, as_is}
 use Rattle.py_model.specs.Lists.{pop_item, close_gap, with_place}
 use Rattle.py_model.specs.Plan.{Plan, writes}

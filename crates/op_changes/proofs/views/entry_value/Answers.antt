@@ -1,4 +1,4 @@
-use Rattle.std.proofs.Common.{refl, subst, ℕ, Option, Some, None, Ok}
+use Rattle.std.proofs.Common.{refl, subst, ℕ, Option, Ok}
 use Rattle.op_work.specs.Entries.{IsNamedEntry, seen_entry}
 use Rattle.op_work.specs.Work.{Comes}
 use Rattle.py_model.specs.Plan.{Plan, read_entry}

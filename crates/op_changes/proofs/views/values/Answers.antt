@@ -1,8 +1,7 @@
-use Rattle.std.proofs.Common.{refl, sym, ap, subst, map}
+use Rattle.std.proofs.Common.{refl, sym, ap, map}
 use Rattle.py_model.specs.Dicts.{values_method, read_entries}
 use Rattle.py_model.specs.Making.{new_list}
 use Rattle.py_value.specs.Contents.{contents}
-use Rattle.py_value.specs.Values.{AreNamed}
 use Rattle.op_work.specs.Work.{Ends}
 use Rattle.op_work.proofs.Ending.{ends_then, ends_stop}
 use Rattle.op_work.proofs.Going.{passes_err}
