@@ -1,1 +1,4 @@
+pub mod LineEnds
+pub mod LinePlans
 pub mod SlicePlans
+pub mod TurnPlans
