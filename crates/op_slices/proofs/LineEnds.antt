@@ -1,23 +1,20 @@
 -- How the next line of a file ends.
-use Rattle.std.proofs.Common.{◌≡◌, ◌∙◌, refl, sym, ap, subst, ℕ, ◌+◌, ◌<◌, length, List, [], ◌∷◌, ◌++◌, slice_get, Some, IsSome, Result, Ok, Err, Bool, true, false, if◌then◌else◌}
+use Rattle.std.proofs.Common.{◌≡◌, ◌∙◌, refl, ap, ℕ, ◌+◌, length, List, [], ◌∷◌, ◌++◌, slice_get, Some, IsSome, Result, Ok, Err, Bool, true, false, if◌then◌else◌}
 use Rattle.std.specs.Result.{OnOk, OnErr, IfErr}
 use Rattle.std.specs.Str.{is_utf8}
 use Rattle.object_store.specs.Store.{file_at, kinds}
 use Rattle.op_slices.specs.Lines.{line_or_end}
 use Rattle.op_work.specs.declared.stop.Stop.{Stop}
 use Rattle.op_work.specs.declared.stop.Stop.TheVariants.{Raises, TooDear, Memory}
-use Rattle.op_work.specs.Work.{WorkView, Extends, IsSeen, IsUnpaid, IsNamedResult, Comes, WroteAll, seen_kind, is_any}
-use Rattle.op_work.proofs.Going.{kept_same, extends_same, stays}
+use Rattle.op_work.specs.Work.{WorkView, IsUnpaid, IsNamedResult, Comes, WroteAll, seen_kind, is_any}
+use Rattle.op_work.proofs.Going.{kept_same, stays}
 use Rattle.py_model.specs.Effect.{written}
 use Rattle.py_model.specs.Files.{taken, not_utf8}
-use Rattle.py_model.specs.Operands.{gives}
-use Rattle.py_model.specs.Plan.{Plan, Writes, read_file, counts, writes, write, done, done_at_end}
-use Rattle.py_model.specs.Store.{RunStore}
+use Rattle.py_model.specs.Plan.{Plan, read_file, counts, writes, write, done, done_at_end}
 use Rattle.py_model.specs.Texts.{size}
 use Rattle.py_model.specs.declared.moment.Answer.TheVariants.{End}
 use Rattle.py_value.specs.Contents.{text}
 use Rattle.py_value.specs.Seen.{bytes_of, offset_at, offset_is}
-use Rattle.py_value.specs.Values.{ValuesView}
 use Rattle.py_value.specs.declared.access.Access.TheVariants.{Read}
 use Rattle.py_value.specs.declared.access.Kind.TheVariants.{File as FileKind}
 use Rattle.py_value.specs.declared.access.Location.TheVariants.{File}

@@ -1,7 +1,7 @@
 -- The next line of a file, as a plan.
-use Rattle.std.proofs.Common.{◌≡◌, ◌∙◌, refl, sym, ap, ℕ, Bool, true, false, List, [], ◌∷◌, drop, nat_eq, Option, Some, None, if◌then◌else◌}
+use Rattle.std.proofs.Common.{◌≡◌, refl, ap, ℕ, Bool, true, false, List, [], ◌∷◌, drop, nat_eq, Option, Some, None, if◌then◌else◌}
 use Rattle.std.proofs.Math.Path.{fun_ext}
-use Rattle.op_slices.specs.Lines.{bytes_in, is_reading, line_or_end, line_behind, line_unless, line_of}
+use Rattle.op_slices.specs.Lines.{is_reading, line_or_end, line_behind, line_unless, line_of}
 use Rattle.py_model.specs.Faults.{wrong_kind}
 use Rattle.py_model.specs.Files.{next_line, first_line, taken, is_closed_fault, wrong_mode}
 use Rattle.py_model.specs.Plan.{Plan, kind_of, read_closed, read_offset, read_file, writes, write, done_at_end}

@@ -1,5 +1,5 @@
 -- The next turn of a `for`, as a plan of its operands.
-use Rattle.std.proofs.Common.{◌≡◌, ◌∙◌, rules, refl, sym, ap, subst, arith, eqb-true, eq-eqb, ℕ, zero, suc, ℤ, pos, negsuc, ◌<◌, ◌≤◌, ◌==◌, length, Bool, true, false, List, [], ◌∷◌, map, slice_get, Option, Some, None, if◌then◌else◌}
+use Rattle.std.proofs.Common.{◌≡◌, ◌∙◌, rules, refl, sym, ap, subst, arith, eqb-true, eq-eqb, ℕ, zero, suc, ℤ, pos, negsuc, ◌≤◌, ◌==◌, length, Bool, true, false, List, [], ◌∷◌, map, slice_get, Option, Some, None, if◌then◌else◌}
 use Rattle.std.specs.Option.{option_map}
 use Rattle.std.specs.Ordering.{int_eq}
 use Rattle.std.proofs.Math.Path.{fun_ext}
@@ -13,7 +13,7 @@ use Rattle.py_model.specs.Lists.{next, next_of, item_or_end, changed_size}
 use Rattle.py_model.specs.Operands.{gives}
 use Rattle.py_model.specs.Plan.{Plan, read_order, ends}
 use Rattle.py_value.specs.Contents.{Contents, contents, nothing, truth, int, text, tuple, range, function, class, exception_class, builtin, object}
-use Rattle.py_value.specs.Seen.{SeenKind, a_dict}
+use Rattle.py_value.specs.Seen.{a_dict}
 use Rattle.py_value.specs.Values.{ValuesView}
 use Rattle.py_value.specs.declared.value.Value.{Value}
 use Rattle.py_value.specs.declared.value.Value.TheVariants.{None as NoneValue, Bool as TruthValue, Int, Text, Tuple, Range, Fn, Class, Exc, Builtin, Object}

@@ -1,11 +1,10 @@
-use Rattle.std.proofs.Common.{rules, ◌≡◌, ◌∙◌, refl, sym, ap, subst, true, false, Bool, ℕ, List, Option, Ok}
+use Rattle.std.proofs.Common.{rules, ◌≡◌, refl, sym, ap, subst, true, false, Bool, ℕ, List, Option, Ok}
 use Rattle.object_store.specs.Store.{StoreView, file_at}
 use Rattle.op_work.specs.Work.{Comes, Ends, is_any, as_is}
-use Rattle.py_model.specs.Plan.{Plan, read_closed, read_offset, read_file}
+use Rattle.py_model.specs.Plan.{Plan, read_closed, read_file}
 use Rattle.py_value.specs.Seen.{bytes_of}
 use Rattle.py_value.specs.Values.{ValuesView}
 use Rattle.py_value.specs.declared.access.Mode.{Mode}
-use Rattle.op_dicts.proofs.EndsEqual.{ends_equal}
 use Rattle.op_work.proofs.Ending.{ends_then, ends_stop, ends_fault}
 use Rattle.op_work.proofs.Going.{passes_err}
 use Rattle.op_slices.specs.Lines.{is_reading, line_behind, line_unless}

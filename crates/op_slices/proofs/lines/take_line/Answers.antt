@@ -2,16 +2,15 @@ use Rattle.std.proofs.Common.{rules, ◌≡◌, ◌∙◌, refl, sym, ap, subst,
 use Rattle.std.specs.Str.{is_utf8}
 use Rattle.object_store.specs.Store.{StoreView, file_at}
 use Rattle.op_slices.specs.Lines.{bytes_in, line_or_end}
-use Rattle.op_work.specs.Work.{Ends, WroteAll}
+use Rattle.op_work.specs.Work.{Ends}
 use Rattle.op_dicts.proofs.EndsEqual.{ends_equal}
 use Rattle.py_model.specs.Files.{first_line}
 use Rattle.py_model.specs.Plan.{Plan, counts, writes, write, done, done_at_end}
 use Rattle.py_value.specs.Contents.{Contents, contents, text}
 use Rattle.py_value.specs.Seen.{offset_at, offset_is}
-use Rattle.py_value.specs.Values.{ValuesView}
 use Rattle.op_work.proofs.Ending.{ends_then, ends_stop, ends_fault, ends_writes}
 use Rattle.op_work.proofs.Going.{passes_err}
-use Rattle.op_slices.proofs.LineEnds.{counted, no_line, text_line, other_line}
+use Rattle.op_slices.proofs.LineEnds.{no_line, text_line, other_line}
 use Rattle.op_slices.proofs.lines.take_line.Goals as goal
 
 abbrev set_to : ℕ → ℕ → Contents → Plan

@@ -1,4 +1,4 @@
-use Rattle.std.proofs.Common.{◌≡◌, ◌∙◌, refl, sym, ap, ℕ, ℤ, Option, List, map, [], ◌∷◌}
+use Rattle.std.proofs.Common.{refl, sym, ap, ℕ, ℤ, Option, map, [], ◌∷◌}
 use Rattle.op_work.specs.Work.{Ends}
 use Rattle.op_work.proofs.Ending.{ends_then, ends_stop}
 use Rattle.op_work.proofs.Going.{passes_err}
@@ -6,7 +6,7 @@ use Rattle.py_model.specs.Lists.{slice, slice_of, with_bounds}
 use Rattle.py_model.specs.Making.{new_list}
 use Rattle.py_model.specs.Plan.{Plan, read_len}
 use Rattle.py_model.specs.Walks.{read_items}
-use Rattle.py_value.specs.Contents.{Contents, contents, object}
+use Rattle.py_value.specs.Contents.{contents, object}
 use Rattle.py_value.specs.Values.{ValuesView}
 use Rattle.py_value.specs.declared.value.Value.{Value}
 use Rattle.op_slices.specs.Bounds.{part_of}

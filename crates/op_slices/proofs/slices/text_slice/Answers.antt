@@ -1,4 +1,4 @@
-use Rattle.std.proofs.Common.{◌≡◌, ◌∙◌, refl, sym, ap, ℕ, ℤ, Option, List, map, length, [], ◌∷◌, chars, encode_utf8, encode_utf8_all}
+use Rattle.std.proofs.Common.{◌∙◌, refl, sym, ap, ℕ, ℤ, Option, List, map, [], ◌∷◌, chars, encode_utf8, encode_utf8_all}
 use Rattle.op_dicts.proofs.EndsEqual.{ends_equal}
 use Rattle.op_walks.proofs.TextParts.{same_bytes}
 use Rattle.op_work.specs.Work.{Ends}
@@ -12,7 +12,7 @@ use Rattle.py_value.specs.Contents.{contents, text}
 use Rattle.py_value.specs.Values.{ValuesView}
 use Rattle.py_value.specs.declared.value.Value.TheVariants.{Text}
 use Rattle.op_slices.specs.Bounds.{part_of}
-use Rattle.op_slices.proofs.SlicePlans.{text_is, letters_of, letters_is, letters_counted}
+use Rattle.op_slices.proofs.SlicePlans.{text_is, letters_of, letters_is}
 use Rattle.op_slices.proofs.slices.text_slice.Goals as goal
 
 abbrev second : List ℕ → ℕ → ℕ → ValuesView → Unit {0} → Plan

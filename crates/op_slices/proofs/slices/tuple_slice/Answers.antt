@@ -1,4 +1,4 @@
-use Rattle.std.proofs.Common.{◌≡◌, ◌∙◌, refl, sym, ap, subst, ◌+◌, ◌≤◌, ℕ, ℤ, Option, List, map, length, [], ◌∷◌}
+use Rattle.std.proofs.Common.{◌∙◌, refl, sym, ap, subst, ◌+◌, ◌≤◌, ℕ, ℤ, Option, List, map, length, [], ◌∷◌}
 use Rattle.op_dicts.proofs.EndsEqual.{ends_equal}
 use Rattle.op_walks.proofs.Tuples.{one_item}
 use Rattle.op_work.specs.Work.{Ends}
@@ -9,7 +9,7 @@ use Rattle.py_model.specs.Lists.{slice}
 use Rattle.py_model.specs.Operands.{gives}
 use Rattle.py_model.specs.Places.{part_from}
 use Rattle.py_model.specs.Plan.{Plan}
-use Rattle.py_value.specs.Contents.{Contents, contents, tuple}
+use Rattle.py_value.specs.Contents.{contents, tuple}
 use Rattle.py_value.specs.Values.{ValuesView}
 use Rattle.py_value.specs.declared.value.Value.{Value}
 use Rattle.py_value.specs.declared.value.Value.TheVariants.{Tuple}

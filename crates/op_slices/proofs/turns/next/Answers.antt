@@ -1,8 +1,8 @@
-use Rattle.std.proofs.Common.{rules, ◌≡◌, ◌∙◌, refl, sym, ap, map, None, pos}
+use Rattle.std.proofs.Common.{rules, ◌≡◌, ◌∙◌, refl, sym, ap, map, None}
 use Rattle.op_items.specs.Operands.{of_three}
 use Rattle.py_model.specs.Files.{next_line}
 use Rattle.py_model.specs.Lists.{next}
-use Rattle.py_value.specs.Contents.{contents, int}
+use Rattle.py_value.specs.Contents.{contents}
 use Rattle.op_work.specs.Work.{Ends}
 use Rattle.op_work.proofs.Ending.{ends_then, ends_stop, ends_fault}
 use Rattle.op_work.proofs.Going.{passes_err}

@@ -1,12 +1,10 @@
-use Rattle.std.proofs.Common.{rules, ◌≡◌, ◌∙◌, ◌<◌, ◌≤◌, refl, sym, ap, subst, map, length, true, false, None, Some, ℕ, List, slice_get}
+use Rattle.std.proofs.Common.{rules, ◌≡◌, ◌∙◌, ◌≤◌, refl, sym, subst, true, false, None, Some, ℕ, slice_get}
 use Rattle.object_store.specs.Store.{StoreView, keys_at}
 use Rattle.py_model.specs.Files.{next_line}
 use Rattle.py_model.specs.Lists.{next_of, changed_size}
-use Rattle.py_model.specs.Operands.{gives}
-use Rattle.py_model.specs.Plan.{Plan, ends}
-use Rattle.py_value.specs.Contents.{Contents, contents}
+use Rattle.py_model.specs.Plan.{ends}
+use Rattle.py_value.specs.Contents.{contents}
 use Rattle.py_value.specs.Seen.{a_dict}
-use Rattle.py_value.specs.Values.{ValuesView}
 use Rattle.op_dicts.proofs.EndsEqual.{ends_equal}
 use Rattle.op_work.specs.Work.{Ends}
 use Rattle.op_work.proofs.Ending.{ends_then, ends_stop, ends_fault, ends_at_end}

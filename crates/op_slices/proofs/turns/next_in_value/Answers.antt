@@ -1,4 +1,4 @@
-use Rattle.std.proofs.Common.{rules, ◌≡◌, ◌∙◌, refl, sym, ap, w64, to_z, of_z, pos, [], ◌∷◌}
+use Rattle.std.proofs.Common.{rules, ◌≡◌, ◌∙◌, sym, ap, w64, to_z, of_z, pos, [], ◌∷◌}
 use Rattle.py_model.specs.Files.{next_line}
 use Rattle.py_model.specs.Lists.{next}
 use Rattle.py_value.specs.Contents.{contents, int, range, nothing}
