@@ -9,8 +9,11 @@ use std::alloc::Global;
 /// A key of a dictionary, with its first form and its value.
 #[derive(Clone, Copy)]
 pub struct Pair {
+    /// The key in its normal form.
     pub key: Key,
+    /// The key as it was given first.
     pub first: Value,
+    /// The value that was given last.
     pub item: Value,
 }
 
