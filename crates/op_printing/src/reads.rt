@@ -1,0 +1,82 @@
+// What the print walk reads: parts of tuples, entries of dictionaries, and the arguments of exceptions.
+ghost use Rattle.std.specs.Prelude.{◌≡◌, ◌<◌, length};
+ghost use Rattle.op_printing.specs.Forms.{part_in};
+ghost use Rattle.op_work.specs.Entries.{IsKeyOf, IsNamedEntry, seen_entry, value_seen};
+ghost use Rattle.op_work.specs.Work.{Comes};
+ghost use Rattle.py_model.specs.Plan.{Plan, looks, read_entry as plan_entry};
+ghost use Rattle.py_model.specs.Raising.{read_args as plan_args};
+ghost use Rattle.py_model.specs.Printing.{value_in};
+ghost use Rattle.py_value.specs.Contents.{Contents, contents};
+ghost use Rattle.py_value.specs.Values.{IsNamed};
+
+use op_work::{Stop, Work};
+use py_value::{Key, Value};
+use std::alloc::Global;
+
+// The part of a tuple at a place, None behind the last.
+fn part_at(work: &Work, id: u32, i: usize) -> Value
+    requires { id < length work.now.values.tuples }
+    ensures part { result ≡ part_in work.now.values id i }
+    ensures named { IsNamed work.now.values result }
+{
+    match work.tuple_of(id).get(i) {
+        Some(v) => *v,
+        None => Value::None,
+    }
+}
+
+// The part of a tuple at a place, looked at.
+pub(crate) fn look_part(work: &mut Work, id: u32, i: usize) -> Result<Value, Stop>
+    requires { id < length work.old.values.tuples }
+    ensures { Comes IsNamed contents (λ table (go : Contents → Plan). looks 1 (go (contents table (part_in table id i)))) work.old work.new result }
+{
+    work.look(1)?;
+    Ok(part_at(work, id, i))
+}
+
+// The key that a value of an order is. Only values that are keys stand there; of any other this would be want of memory.
+fn order_key(work: &mut Work, alloc: Global, v: Value) -> Result<Key, Stop>
+    requires { IsNamed work.old.values v }
+    ensures { Comes (IsKeyOf v) (value_seen v) (λ table (go : Contents → Plan). go (contents table v)) work.old work.new result }
+{
+    match work.key_of(alloc, v) {
+        Ok(key) => Ok(key),
+        Err(_) => Err(Stop::Memory),
+    }
+}
+
+// The entry of a dictionary at a key of an order.
+pub(crate) fn entry_at(
+    work: &mut Work,
+    alloc: Global,
+    o: u32,
+    v: Value,
+) -> Result<Option<(Value, Value)>, Stop>
+    requires { IsNamed work.old.values v }
+    ensures { Comes IsNamedEntry seen_entry (λ table. plan_entry o (contents table v)) work.old work.new result }
+{
+    let key = order_key(work, alloc, v)?;
+    work.read_entry(o, v, key)
+}
+
+// The arguments of an exception, which are none where none stand there.
+pub(crate) fn read_args(work: &mut Work, alloc: Global, o: u32) -> Result<Value, Stop>
+    ensures { Comes IsNamed contents (λ table. plan_args o) work.old work.new result }
+{
+    let name = work.text(alloc, "args")?;
+    match entry_at(work, alloc, o, name)? {
+        Some(entry) => Ok(entry.1),
+        None => work.tuple(alloc, &[]),
+    }
+}
+
+// The value of the entry of a dictionary at a key of an order.
+pub(crate) fn entry_value(work: &mut Work, alloc: Global, o: u32, key: Value) -> Result<Value, Stop>
+    requires { IsNamed work.old.values key }
+    ensures { Comes IsNamed contents (λ table (go : Contents → Plan). plan_entry o (contents table key) (λ entry. go (value_in entry))) work.old work.new result }
+{
+    match entry_at(work, alloc, o, key)? {
+        Some(entry) => Ok(entry.1),
+        None => Ok(Value::None),
+    }
+}
