@@ -1,10 +1,7 @@
-pub mod Counting
 pub mod Levels
 pub mod Lines
 pub mod OrderKeys
 pub mod Putting
-pub mod KeyRows
 pub mod Rows
 pub mod Stepping
-pub mod TupleParts
 pub mod Walking

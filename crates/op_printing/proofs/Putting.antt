@@ -1,5 +1,5 @@
 -- What is put behind pieces.
-use Rattle.std.proofs.Common.{◌≡◌, refl, sym, ap, ◌∙◌, subst, append-nil, arith, ℕ, zero, suc, ◌+◌, ◌<◌, slice_index_or, List, [], ◌∷◌, ◌++◌, length, drop, Result, Ok, Err}
+use Rattle.std.proofs.Common.{◌≡◌, refl, sym, ap, ◌∙◌, subst, ℕ, List, [], ◌∷◌, ◌++◌, length, drop, Result, Ok, Err}
 use Rattle.std.proofs.Math.Path.{fun_ext}
 use Rattle.std.proofs.lemmas.List.{append_assoc}
 use Rattle.py_model.specs.Faults.{fault}
@@ -10,31 +10,13 @@ use Rattle.op_work.specs.declared.stop.Stop.TheVariants.{Memory}
 use Rattle.op_work.specs.Work.{WorkView, Extends, IsKept, Plans, Comes, Faults}
 use Rattle.op_work.proofs.Going.{at_once, comes_then, comes_as, comes_stop, comes_same, fault_comes, extends_same}
 use Rattle.op_printing.specs.Puts.{Puts}
-use Rattle.op_printing.specs.Pieces.{piece_bytes, pieces_bytes, IsPiece, ArePieces, Adds}
-use Rattle.op_printing.specs.declared.pieces.Piece.{Piece}
-
-pub bytes_join : (table : ValuesView) (ps qs : List Piece) → pieces_bytes table (ps ++ qs) ≡ pieces_bytes table ps ++ pieces_bytes table qs
-bytes_join table [] qs = refl
-bytes_join table (p ∷ ps) qs = ap (λ bytes. piece_bytes table p ++ bytes) (bytes_join table ps qs) ∙ sym (append_assoc (piece_bytes table p) (pieces_bytes table ps) (pieces_bytes table qs))
-
-pub named_join : (values : ValuesView) (ps qs : List Piece) → ArePieces values ps → ArePieces values qs → ArePieces values (ps ++ qs)
-named_join values [] qs one other = other
-named_join values (p ∷ ps) qs one other = (one.0, named_join values ps qs one.1 other)
+use Rattle.op_rendering.proofs.Joining.{bytes_push, named_join}
+use Rattle.op_rendering.specs.Pieces.{piece_bytes, pieces_bytes, IsPiece, ArePieces, Adds}
+use Rattle.op_rendering.specs.declared.pieces.Piece.{Piece}
 
 behind_it : (xs ys : List ℕ) → drop (length xs) (xs ++ ys) ≡ ys
 behind_it [] ys = refl
 behind_it (x ∷ xs) ys = behind_it xs ys
-
--- one piece more
-pub bytes_push : (table : ValuesView) (ps : List Piece) (p : Piece) → pieces_bytes table (ps ++ p ∷ []) ≡ pieces_bytes table ps ++ piece_bytes table p
-bytes_push table ps p = bytes_join table ps (p ∷ []) ∙ ap (λ bytes. pieces_bytes table ps ++ bytes) (append-nil (piece_bytes table p))
-
-pub adds_piece : (before after : List Piece) (p : Piece) (bytes : List ℕ) → after ≡ before ++ p ∷ [] → ((table : ValuesView) → piece_bytes table p ≡ bytes)
-    → ((values : ValuesView) → IsPiece values p) → Adds before after bytes
-adds_piece before after p bytes is same named = record {
-  bytes_are = λ table. ap (pieces_bytes table) is ∙ (bytes_push table before p ∙ ap (λ more. pieces_bytes table before ++ more) (same table));
-  named = λ values are. subst (ArePieces values) (sym is) (named_join values before (p ∷ []) are (named values, tt));
-}
 
 -- nothing is done but that pieces come
 pub puts_at_once : (plan : Plans (List ℕ)) (w : WorkView) (before after : List Piece) {done : Unit {0}} → ArePieces w.values after
@@ -126,23 +108,6 @@ pub puts_words : (plan : Plans (List ℕ)) (w : WorkView) {before after : List P
     → ((table : ValuesView) → AreInterned table → Extends w.values table → (go : List ℕ → Plan) → plan table go ≡ go bytes) → Puts plan before after w w (Ok done)
 puts_words plan w {before} {after} adds are same = puts_at_once plan w before after (adds.named w.values are)
     (λ table interned extends go. same table interned extends (λ bytes. go (pieces_bytes table before ++ bytes)) ∙ ap go (sym (adds.bytes_are table)))
-
--- the piece at a place
-piece_on : (ps : List Piece) (i : ℕ) (d : Piece) → i < length ps → drop i ps ≡ slice_index_or ps i d ∷ drop (suc i) ps
-piece_on [] i d less = absurd (omega (arith, less))
-piece_on (p ∷ ps) zero d less = refl
-piece_on (p ∷ ps) (suc i) d less = piece_on ps i d (omega (arith, less))
-
-pub piece_next : (ps : List Piece) (i : ℕ) (d : Piece) → i < length ps → drop i ps ≡ slice_index_or ps i d ∷ drop (i + 1) ps
-piece_next ps i d less = piece_on ps i d less ∙ ap (λ k. slice_index_or ps i d ∷ drop k ps) (place i)
-  where
-    place : (i : ℕ) → suc i ≡ i + 1
-    place i = omega (arith)
-
-pub piece_named : (values : ValuesView) (ps : List Piece) (i : ℕ) (d : Piece) → i < length ps → ArePieces values ps → IsPiece values (slice_index_or ps i d)
-piece_named values [] i d less named = absurd (omega (arith, less))
-piece_named values (p ∷ ps) zero d less named = named.0
-piece_named values (p ∷ ps) (suc i) d less named = piece_named values ps i d (omega (arith, less)) named.1
 
 -- behind no pieces
 pub puts_start : {plan : Plans (List ℕ)} {before after : List Piece} {a b : WorkView} {result : Result (Unit {0}) Stop} → before ≡ [] → Puts plan before after a b result

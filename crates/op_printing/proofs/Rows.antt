@@ -1,23 +1,18 @@
 -- The loops of the print walk: what is left from a place on, behind the text that is there.
-use Rattle.std.proofs.Common.{rules, ◌≡◌, refl, sym, ap, ap₂, ◌∙◌, append-nil, arith, ℕ, zero, suc, ◌+◌, ◌-◌, ◌<◌, ◌≤◌, ◌==◌, Bool, true, false, List, [], ◌∷◌, ◌++◌, length, drop, map, Some, slice_get, codes, nat_lt}
+use Rattle.std.proofs.Common.{◌≡◌, refl, sym, ap, ap₂, ◌∙◌, append-nil, arith, ℕ, zero, suc, ◌+◌, ◌-◌, ◌<◌, ◌≤◌, ◌==◌, true, false, List, [], ◌∷◌, ◌++◌, length, drop, map, Some, slice_get, codes, nat_lt}
 use Rattle.std.proofs.Math.Path.{fun_ext}
 use Rattle.std.proofs.lemmas.List.{append_assoc, drop_all}
 use Rattle.py_model.specs.Faults.{too_deep}
 use Rattle.py_model.specs.Plan.{Plan, looks, read_entry}
-use Rattle.py_model.specs.Printing.{print_parts, print_items, print_entries, commas, tuple_text, behind_first, height, key_text, value_in}
+use Rattle.py_model.specs.Printing.{print_parts, print_items, print_entries, commas, tuple_text, height, key_text, value_in}
 use Rattle.py_model.specs.Walks.{read_value}
 use Rattle.py_value.specs.Contents.{Contents, parts_by}
 use Rattle.py_value.specs.declared.value.Value.{Value}
 use Rattle.op_spelling.specs.Spelling.{follow, end_words}
 use Rattle.op_spelling.proofs.KeyParts.{tuple_words}
-use Rattle.op_printing.specs.Inside.{separator}
-use Rattle.op_printing.proofs.TupleParts.{drop_next, item_at}
-
-pub not_first : (i : ℕ) → (i + 1) == 0 ≡ false
-not_first i = search rules
-
-pub place : (i : ℕ) → suc i ≡ i + 1
-place i = omega (arith)
+use Rattle.op_rendering.specs.Parts.{separator}
+use Rattle.op_rendering.proofs.Following.{not_first, place, followed, follow_none}
+use Rattle.op_rendering.proofs.TupleParts.{drop_next, item_at}
 
 -- items that are left from a place on, what is left behind a text, and what is left once an item more stands there
 abbrev pub Items : Type 0
@@ -32,22 +27,9 @@ next_of items i made go = items (i + 1) (λ rest. go (made ++ follow false rest)
 pub next_is : (items : Items) (i : ℕ) (made : List ℕ) (go : List ℕ → Plan) → next_of items i made go ≡ left_of items (i + 1) made go
 next_is items i made go = ap (λ first. items (i + 1) (λ rest. go (made ++ follow first rest))) (sym (not_first i))
 
-joined : (text before key bytes behind : List ℕ) → text ++ (before ++ ((key ++ bytes) ++ behind)) ≡ (((text ++ before) ++ key) ++ bytes) ++ behind
-joined text before key bytes behind = sym (append_assoc ((text ++ before) ++ key) bytes behind
-    ∙ (append_assoc (text ++ before) key (bytes ++ behind)
-    ∙ (append_assoc text before (key ++ (bytes ++ behind)) ∙ ap (λ words. text ++ (before ++ words)) (sym (append_assoc key bytes behind)))))
-
-pub followed : (first : Bool) (text key bytes : List ℕ) (rest : List (List ℕ)) → text ++ follow first ((key ++ bytes) ∷ rest) ≡ (((text ++ separator first) ++ key) ++ bytes) ++ follow false rest
-followed true text key bytes rest = joined text [] key bytes (behind_first (codes ", ") rest)
-followed false text key bytes rest = joined text (codes ", ") key bytes (behind_first (codes ", ") rest)
-
 pub behind_is : (items : Items) (i : ℕ) (text mid key bytes : List ℕ) (go : List ℕ → Plan) → mid ≡ (text ++ separator (i == 0)) ++ key
     → items (suc i) (λ rest. go (text ++ follow (i == 0) ((key ++ bytes) ∷ rest))) ≡ next_of items i (mid ++ bytes) go
 behind_is items i text mid key bytes go is = ap₂ items (place i) (fun_ext (λ rest. ap go (followed (i == 0) text key bytes rest ∙ ap (λ words. (words ++ bytes) ++ follow false rest) (sym is))))
-
-pub follow_none : (first : Bool) (text : List ℕ) → text ++ follow first [] ≡ text
-follow_none true text = append-nil text
-follow_none false text = append-nil text
 
 -- no key before an item
 alone : (text mid before : List ℕ) → mid ≡ text ++ before → mid ≡ (text ++ before) ++ []

@@ -8,31 +8,15 @@ use Rattle.py_value.specs.Values.{ValuesView, AreInterned}
 use Rattle.py_value.specs.declared.value.Value.{Value}
 use Rattle.py_value.specs.declared.value.Value.TheVariants.{None as NoneValue, Bool, Int, Text, Tuple, Range, Fn, Class, Exc, Builtin, Object}
 use Rattle.op_classes.proofs.ClassWalks.{one_step as one_less}
-use Rattle.op_texts.proofs.Taken.{named_stays}
 use Rattle.op_work.specs.Work.{WorkView, Extends, Plans, Comes}
 use Rattle.op_work.specs.declared.stop.Stop.{Stop}
 use Rattle.op_work.proofs.Going.{comes_as, comes_stop}
-use Rattle.op_printing.specs.Forms.{whole, bare_parts, a_tuple, only_one, Next, comes_inside, comes_again, message_next, one_step, print_plain, Found, one_more, form_at, form_of, rest_by, items_at, inner_seen, next_seen, IsStep}
-use Rattle.op_printing.specs.Pieces.{pieces_bytes, IsPiece, ArePieces}
+use Rattle.op_printing.specs.Forms.{whole, bare_parts, a_tuple, only_one, Next, comes_inside, comes_again, message_next, one_step, print_plain, Found, one_more, form_at, form_of, rest_by, inner_seen, next_seen, IsStep}
+use Rattle.op_rendering.specs.Parts.{items_at}
+use Rattle.op_rendering.specs.Pieces.{pieces_bytes, ArePieces}
 use Rattle.op_printing.specs.Puts.{Puts}
 use Rattle.op_printing.specs.declared.forms.Step.{Step}
-use Rattle.op_printing.specs.declared.pieces.Piece.{Piece}
-use Rattle.op_printing.specs.declared.pieces.Piece.TheVariants.{Word, Number, Span, Plain, Quoted, Class as ClassPiece, Builtin as BuiltinPiece, Key}
-
--- pieces that are named stay so
-piece_stays : (old new : ValuesView) → Extends old new → (p : Piece) → IsPiece old p → IsPiece new p
-piece_stays old new extends (Plain id) named = omega (arith, named, extends.few.0)
-piece_stays old new extends (Quoted id) named = omega (arith, named, extends.few.0)
-piece_stays old new extends (Key v) named = named_stays old new extends v named
-piece_stays old new extends (Word words) named = tt
-piece_stays old new extends (Number i) named = tt
-piece_stays old new extends (Span a b c) named = tt
-piece_stays old new extends (ClassPiece number) named = tt
-piece_stays old new extends (BuiltinPiece number) named = tt
-
-pub pieces_stay : (old new : ValuesView) → Extends old new → (ps : List Piece) → ArePieces old ps → ArePieces new ps
-pieces_stay old new extends [] named = tt
-pieces_stay old new extends (p ∷ ps) named = (piece_stays old new extends p named.0, pieces_stay old new extends ps named.1)
+use Rattle.op_rendering.specs.declared.pieces.Piece.{Piece}
 
 -- bytes came, and what they belong to comes of them
 pub step_after : {p : Plans (List ℕ)} {before after : List Piece} {a b : WorkView} {done : Unit {0}} (inside : List ℕ) (step : Step) (make : ValuesView → List ℕ → Next) → Puts p before after a b (Ok done)

@@ -1,5 +1,5 @@
 -- What is printed of a value at its own level, and what lies inside it.
-use Rattle.std.specs.Prelude.{◌<◌, ◌==◌, ⊤, ℕ, zero, suc, Bool, true, false, List, [], ◌∷◌, ◌++◌, Option, Some, None, length, slice_get, unwrap_or, codes}
+use Rattle.std.specs.Prelude.{◌<◌, ◌==◌, ⊤, ℕ, zero, suc, Bool, true, false, List, [], ◌∷◌, ◌++◌, Option, Some, None, length, codes}
 use Rattle.py_model.specs.Classes.{longest_chain, end_of_chain}
 use Rattle.py_model.specs.Faults.{key_error, wrong_kind}
 use Rattle.py_model.specs.Names.{class_names}
@@ -7,18 +7,17 @@ use Rattle.py_model.specs.Numbers.{int_text}
 use Rattle.py_model.specs.Plan.{Plan, kind_of, runs_away}
 use Rattle.py_model.specs.Printing.{literal, quoted_or_not, truth_text, range_text, builtin_text, named_in, angled, noted_name, class_name, is_inside}
 use Rattle.py_model.specs.Raising.{read_args}
-use Rattle.py_value.specs.Contents.{Contents, Parts, contents, parts_by, nothing, truth, int, text, tuple, range, function, class, exception_class, builtin, object, no_parts, part}
+use Rattle.py_value.specs.Contents.{Contents, Parts, contents, nothing, truth, int, text, tuple, range, function, class, exception_class, builtin, object, no_parts, part}
 use Rattle.py_value.specs.Seen.{SeenKind, a_list, a_dict, an_instance, a_file}
 use Rattle.py_value.specs.Values.{ValuesView, IsNamed}
-use Rattle.py_value.specs.declared.value.Value.{Value}
-use Rattle.py_value.specs.declared.value.Value.TheVariants.{None as NoneValue}
-use Rattle.op_printing.specs.Pieces.{pieces_bytes}
+use Rattle.op_rendering.specs.Parts.{part_in, parts_in}
+use Rattle.op_rendering.specs.Pieces.{pieces_bytes}
 use Rattle.op_printing.specs.declared.forms.Rest.{Rest}
 use Rattle.op_printing.specs.declared.forms.Rest.TheVariants.{Whole, Items, Entries, Tuple, Bare, Only}
 use Rattle.op_printing.specs.declared.forms.Step.{Step}
 use Rattle.op_printing.specs.declared.forms.Step.TheVariants.{Rests, Again}
 use Rattle.op_printing.specs.declared.forms.Form.{Form}
-use Rattle.op_printing.specs.declared.pieces.Piece.{Piece}
+use Rattle.op_rendering.specs.declared.pieces.Piece.{Piece}
 
 -- What lies inside a value: nothing more; the items of a list, the entries of a dictionary, the parts of a tuple, with brackets or bare; or
 -- one argument.
@@ -115,16 +114,6 @@ form_of quoted inside before v go = form_at longest_chain 0 quoted inside before
 abbrev pub closed : ℕ → List ℕ
 closed zero = []
 closed (suc n) = 41 ∷ closed n
-
--- the values of a tuple, one of them, and the parts that they are
-abbrev pub items_at : ValuesView → ℕ → List Value
-items_at values id = unwrap_or (slice_get values.tuples id) []
-
-abbrev pub part_in : ValuesView → ℕ → ℕ → Value
-part_in values id i = unwrap_or (slice_get (items_at values id) i) NoneValue
-
-abbrev pub parts_in : ValuesView → ℕ → Parts
-parts_in table id = parts_by (contents table) (items_at table id)
 
 -- the arguments of an exception that are a tuple of so many, for its `str`
 abbrev pub rest_by : Bool → ℕ → ℕ → Rest

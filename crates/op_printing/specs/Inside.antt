@@ -11,11 +11,6 @@ abbrev pub deeper : ℕ → Option Printer
 deeper zero = None
 deeper (suc levels) = Some (print_to levels)
 
--- what stands before an item, the first or another
-abbrev pub separator : Bool → List ℕ
-separator true = []
-separator false = codes ", "
-
 -- the parts of a tuple, the items of a list, and the entries of a dictionary, with commas between
 abbrev pub print_joined : Printer → List ℕ → Parts → (List ℕ → Plan) → Plan
 print_joined print inside parts go = print_parts (print true inside) parts (λ items. go (commas items))

@@ -1,10 +1,10 @@
 // The names of functions and classes.
-ghost use Rattle.op_printing.specs.Pieces.{ArePieces};
+ghost use Rattle.op_rendering.specs.Pieces.{ArePieces};
 ghost use Rattle.op_printing.specs.Puts.{Puts};
 ghost use Rattle.py_model.specs.Printing.{noted_name as plan_noted, class_name as plan_class};
 ghost use Rattle.py_value.specs.Contents.{contents};
 
-use crate::pieces::{Piece, push, push_word};
+use op_rendering::{Piece, push, push_word};
 use op_spelling::class_word;
 use op_work::{Stop, Work};
 use prov_base::Pos;

@@ -1,6 +1,6 @@
 // What the print walk reads: parts of tuples, entries of dictionaries, and the arguments of exceptions.
 ghost use Rattle.std.specs.Prelude.{◌≡◌, ◌<◌, length};
-ghost use Rattle.op_printing.specs.Forms.{part_in};
+ghost use Rattle.op_rendering.specs.Parts.{part_in};
 ghost use Rattle.op_work.specs.Entries.{IsKeyOf, IsNamedEntry, seen_entry, value_seen};
 ghost use Rattle.op_work.specs.Work.{Comes};
 ghost use Rattle.py_model.specs.Plan.{Plan, looks, read_entry as plan_entry};

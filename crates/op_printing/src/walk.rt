@@ -1,9 +1,10 @@
 // The print walk: a value, and what lies inside it.
 ghost use Rattle.std.specs.Prelude.{◌≡◌, ◌≤◌, ◌<◌, ◌-◌, ◌++◌, length, map, codes, List, ℕ, OnOk};
 ghost use Rattle.object_store.specs.Store.{keys_at};
-ghost use Rattle.op_printing.specs.Forms.{closed, inner_seen, IsRest, parts_in};
-ghost use Rattle.op_printing.specs.Inside.{deeper, separator, inner_text, listed, print_row, keyed, print_keyed, tupled, print_joined};
-ghost use Rattle.op_printing.specs.Pieces.{Adds, ArePieces, pieces_bytes};
+ghost use Rattle.op_printing.specs.Forms.{closed, inner_seen, IsRest};
+ghost use Rattle.op_rendering.specs.Parts.{parts_in, separator};
+ghost use Rattle.op_printing.specs.Inside.{deeper, inner_text, listed, print_row, keyed, print_keyed, tupled, print_joined};
+ghost use Rattle.op_rendering.specs.Pieces.{Adds, ArePieces, pieces_bytes};
 ghost use Rattle.op_printing.specs.Puts.{Puts};
 ghost use Rattle.py_model.specs.Plan.{Plan};
 ghost use Rattle.py_model.specs.Printing.{print_to as plan_to, key_text as key_words};
@@ -12,8 +13,8 @@ ghost use Rattle.py_value.specs.Values.{ValuesView, IsNamed, AreNamed};
 
 use crate::forms::Rest;
 use crate::objects::form_of;
-use crate::pieces::{Piece, push, push_word};
 use crate::reads::{entry_value, look_part};
+use op_rendering::{Piece, push, push_word};
 use op_spelling::{is_low, tuple_end};
 use op_walks::value_at;
 use op_work::{Stop, Work};

@@ -8,13 +8,13 @@ use Rattle.py_value.specs.declared.value.Value.{Value}
 use Rattle.py_value.specs.declared.value.Value.TheVariants.{None as NoneValue, Bool, Int, Text, Tuple, Range, Fn, Class, Exc, Builtin, Object}
 use Rattle.op_spelling.specs.Spelling.{follow, end_words}
 use Rattle.op_spelling.proofs.KeyParts.{tuple_words}
-use Rattle.op_printing.specs.Counted.{leaf_bytes, word_bytes}
-use Rattle.op_printing.specs.Inside.{separator}
-use Rattle.op_printing.specs.Pieces.{piece_bytes}
-use Rattle.op_printing.specs.declared.pieces.Piece.{Piece}
-use Rattle.op_printing.specs.declared.pieces.Piece.TheVariants.{Word, Number, Span, Plain, Quoted, Class as ClassPiece, Builtin as BuiltinPiece, Key}
-use Rattle.op_printing.proofs.Rows.{followed, follow_none, not_first, place}
-use Rattle.op_printing.proofs.TupleParts.{drop_next, item_at}
+use Rattle.op_rendering.specs.Counted.{leaf_bytes, word_bytes}
+use Rattle.op_rendering.specs.Parts.{separator}
+use Rattle.op_rendering.specs.Pieces.{piece_bytes}
+use Rattle.op_rendering.specs.declared.pieces.Piece.{Piece}
+use Rattle.op_rendering.specs.declared.pieces.Piece.TheVariants.{Word, Number, Span, Plain, Quoted, Class as ClassPiece, Builtin as BuiltinPiece, Key}
+use Rattle.op_rendering.proofs.Following.{followed, follow_none, not_first, place}
+use Rattle.op_rendering.proofs.TupleParts.{drop_next, item_at}
 
 pub leaf_is : (table : ValuesView) (v : Value) → ((id : ℕ) → v ≡ Tuple id → ⊥) → leaf_bytes table v ≡ key_text (contents table v)
 leaf_is table (Tuple id) other = absurd (other id refl)

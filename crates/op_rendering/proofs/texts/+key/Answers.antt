@@ -5,12 +5,12 @@ use Rattle.py_value.specs.Contents.{contents, parts_by}
 use Rattle.py_value.specs.Values.{IsNamed}
 use Rattle.op_spelling.specs.Spelling.{follow, end_words}
 use Rattle.op_work.proofs.Going.{extends_then, passes_err}
-use Rattle.op_printing.specs.Counted.{Counted, keys_row}
-use Rattle.op_printing.specs.Forms.{items_at, part_in}
-use Rattle.op_printing.proofs.Counting.{counted_same, counted_then, counted_stop, counted_none}
-use Rattle.op_printing.proofs.KeyRows.{leaf_is, tuple_is_key, row_more, row_done}
-use Rattle.op_printing.proofs.TupleParts.{items_are, part_stays, tuple_is, more_tuples}
-use Rattle.op_printing.proofs.texts.+key.Goals as goal
+use Rattle.op_rendering.specs.Counted.{Counted, keys_row}
+use Rattle.op_rendering.specs.Parts.{items_at, part_in}
+use Rattle.op_rendering.proofs.Counting.{counted_same, counted_then, counted_stop, counted_none}
+use Rattle.op_rendering.proofs.KeyRows.{leaf_is, tuple_is_key, row_more, row_done}
+use Rattle.op_rendering.proofs.TupleParts.{items_are, part_stays, tuple_is, more_tuples}
+use Rattle.op_rendering.proofs.texts.+key.Goals as goal
 
 -- a key
 pub put_key-put_word-requires : goal.put_key-put_word-requires

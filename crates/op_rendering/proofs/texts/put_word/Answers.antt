@@ -1,9 +1,9 @@
 use Rattle.std.proofs.Common.{◌∙◌, sym, subst}
 use Rattle.op_work.specs.Work.{Extends}
 use Rattle.op_work.proofs.Going.{extends_then}
-use Rattle.op_printing.specs.Counted.{word_bytes}
-use Rattle.op_printing.proofs.Counting.{counted_same}
-use Rattle.op_printing.proofs.texts.put_word.Goals as goal
+use Rattle.op_rendering.specs.Counted.{word_bytes}
+use Rattle.op_rendering.proofs.Counting.{counted_same}
+use Rattle.op_rendering.proofs.texts.put_word.Goals as goal
 
 pub returns : goal.returns
 returns c = counted_same (λ table. word_bytes table c.args.piece) c.put_words.result c.put_words.ensures

@@ -1,9 +1,8 @@
 // The text that pieces are. It is counted as it grows, so no more is built than the steps pay for.
 ghost use Rattle.std.specs.Prelude.{◌≡◌, ◌<◌, ◌++◌, length, codes, string_bytes, IfOk};
-ghost use Rattle.op_printing.specs.Counted.{Counted, word_bytes, leaf_bytes, keys_row};
-ghost use Rattle.op_printing.specs.Forms.{items_at, part_in};
-ghost use Rattle.op_printing.specs.Inside.{separator};
-ghost use Rattle.op_printing.specs.Pieces.{IsPiece, ArePieces, piece_bytes, pieces_bytes};
+ghost use Rattle.op_rendering.specs.Counted.{Counted, word_bytes, leaf_bytes, keys_row};
+ghost use Rattle.op_rendering.specs.Parts.{items_at, part_in, separator};
+ghost use Rattle.op_rendering.specs.Pieces.{IsPiece, ArePieces, piece_bytes, pieces_bytes};
 ghost use Rattle.op_spelling.specs.Spelling.{end_words};
 ghost use Rattle.op_work.specs.Work.{Extends};
 ghost use Rattle.py_model.specs.Printing.{key_text as key_words, tuple_text, key_texts};
@@ -20,8 +19,8 @@ use std::alloc::{AllocError, Global};
 // How deep tuples may lie in one another in a key, which is one level less than containers may.
 const DEEPEST_KEY: u32 = 100;
 
-// Words behind a text, counted first.
-fn put_words(work: &mut Work, text: &mut String, words: &str) -> Result<(), Stop>
+/// Words behind a text, counted first.
+pub fn put_words(work: &mut Work, text: &mut String, words: &str) -> Result<(), Stop>
     ensures { Counted (λ table. words.now) (string_bytes text.old) (string_bytes text.new) work.old work.new result }
 {
     work.count(size(words))?;
@@ -160,7 +159,7 @@ fn put_piece(work: &mut Work, alloc: Global, text: &mut String, piece: Piece) ->
 }
 
 /// Pieces.
-pub(crate) fn put_pieces(
+pub fn put_pieces(
     work: &mut Work,
     alloc: Global,
     text: &mut String,

@@ -8,8 +8,8 @@ use Rattle.py_value.specs.Seen.{bytes_of}
 use Rattle.py_value.specs.Values.{ValuesView, IsNamed}
 use Rattle.py_value.specs.declared.value.Value.{Value}
 use Rattle.py_value.specs.declared.value.Value.TheVariants.{None as NoneValue, Bool as BoolValue, Int, Text, Range, Exc, Builtin as BuiltinValue}
-use Rattle.op_printing.specs.declared.pieces.Piece.{Piece}
-use Rattle.op_printing.specs.declared.pieces.Piece.TheVariants.{Word, Number, Span, Plain, Quoted, Class, Builtin, Key}
+use Rattle.op_rendering.specs.declared.pieces.Piece.{Piece}
+use Rattle.op_rendering.specs.declared.pieces.Piece.TheVariants.{Word, Number, Span, Plain, Quoted, Class, Builtin, Key}
 
 -- the bytes of a piece, and of pieces one after the other
 abbrev pub piece_bytes : ValuesView → Piece → List ℕ

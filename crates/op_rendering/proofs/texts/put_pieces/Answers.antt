@@ -1,12 +1,11 @@
 use Rattle.std.proofs.Common.{refl, sym, ap, ◌∙◌, [], ◌∷◌, ◌++◌, ◌+◌, append-nil, drop, string_bytes, slice_index_or}
 use Rattle.std.proofs.lemmas.List.{append_assoc, drop_all}
 use Rattle.op_work.proofs.Going.{passes_err}
-use Rattle.op_printing.specs.Counted.{Counted}
-use Rattle.op_printing.specs.Pieces.{pieces_bytes}
-use Rattle.op_printing.proofs.Counting.{counted_same, counted_then, counted_stop, counted_none}
-use Rattle.op_printing.proofs.Putting.{bytes_join, bytes_push, piece_next, piece_named}
-use Rattle.op_printing.proofs.Stepping.{pieces_stay}
-use Rattle.op_printing.proofs.texts.put_pieces.Goals as goal
+use Rattle.op_rendering.specs.Counted.{Counted}
+use Rattle.op_rendering.specs.Pieces.{pieces_bytes}
+use Rattle.op_rendering.proofs.Counting.{counted_same, counted_then, counted_stop, counted_none}
+use Rattle.op_rendering.proofs.Joining.{bytes_join, bytes_push, piece_next, piece_named, pieces_stay}
+use Rattle.op_rendering.proofs.texts.put_pieces.Goals as goal
 
 pub loop-i-init : goal.loop-i-init
 loop-i-init c = ([], (counted_none (string_bytes c.args.text.now) c.args.work.now, (refl, c.requires)))

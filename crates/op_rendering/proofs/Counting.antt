@@ -17,7 +17,7 @@ use Rattle.py_model.specs.Texts.{size, is_continuation}
 use Rattle.py_value.specs.Seen.{access_seen}
 use Rattle.py_value.specs.Values.{ValuesView, AreInterned}
 use Rattle.py_value.specs.declared.value.Value.{Value}
-use Rattle.op_printing.specs.Counted.{Counted}
+use Rattle.op_rendering.specs.Counted.{Counted}
 
 -- bytes that begin a character
 by_head : (goes_on : Bool) (whole one other : ℕ) → whole ≡ one + other → (if goes_on then whole else suc whole) ≡ (if goes_on then one else suc one) + other

@@ -1,9 +1,9 @@
 use Rattle.std.proofs.Common.{arith, string_bytes}
 use Rattle.op_texts.specs.Heads.{heads}
 use Rattle.op_work.proofs.Going.{passes_err}
-use Rattle.op_printing.specs.Counted.{Counted}
-use Rattle.op_printing.proofs.Counting.{counts_same, heads_all}
-use Rattle.op_printing.proofs.texts.put_words.Goals as goal
+use Rattle.op_rendering.specs.Counted.{Counted}
+use Rattle.op_rendering.proofs.Counting.{counts_same, heads_all}
+use Rattle.op_rendering.proofs.texts.put_words.Goals as goal
 
 pub returns-in_err-count : goal.returns-in_err-count
 returns-in_err-count c =

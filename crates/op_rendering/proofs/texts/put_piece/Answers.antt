@@ -1,8 +1,8 @@
 use Rattle.std.proofs.Common.{sym, ap}
-use Rattle.op_printing.specs.Pieces.{piece_bytes}
-use Rattle.op_printing.proofs.Counting.{counted_same}
-use Rattle.op_printing.proofs.KeyRows.{word_is}
-use Rattle.op_printing.proofs.texts.put_piece.Goals as goal
+use Rattle.op_rendering.specs.Pieces.{piece_bytes}
+use Rattle.op_rendering.proofs.Counting.{counted_same}
+use Rattle.op_rendering.proofs.KeyRows.{word_is}
+use Rattle.op_rendering.proofs.texts.put_piece.Goals as goal
 
 pub returns-in-Key : goal.returns-in-Key
 returns-in-Key c = counted_same (λ table. piece_bytes table c.args.piece) c.put_key.result c.put_key.ensures (λ table interned extends. sym (ap (piece_bytes table) c.in-Key.is))

@@ -1,12 +1,12 @@
 use Rattle.std.proofs.Common.{◌≡◌, ◌+◌, ◌*◌, ◌==◌, ◌++◌, ℕ, List, drop, string_bytes, Ok}
-use Rattle.op_printing.specs.Counted.{Counted, keys_row}
-use Rattle.op_printing.specs.Forms.{items_at}
+use Rattle.op_rendering.specs.Counted.{Counted, keys_row}
+use Rattle.op_rendering.specs.Parts.{items_at}
 use Rattle.op_spelling.specs.Spelling.{follow}
 use Rattle.op_work.specs.Work.{Extends}
 use Rattle.py_model.specs.Printing.{key_texts}
 use Rattle.py_value.specs.Contents.{contents, parts_by}
 use Rattle.py_value.specs.Values.{ValuesView}
-use Rattle.op_printing.proofs.texts.+key.Given as goal
+use Rattle.op_rendering.proofs.texts.+key.Given as goal
 
 abbrev pub decreases-put_key : goal.decreases-put_key
 decreases-put_key l = 3 * l.levels

@@ -10,10 +10,10 @@ use Rattle.py_value.specs.Seen.{bytes_of}
 use Rattle.py_value.specs.Values.{ValuesView, AreInterned}
 use Rattle.py_value.specs.declared.value.Value.{Value}
 use Rattle.py_value.specs.declared.value.Value.TheVariants.{None as NoneValue, Bool as BoolValue, Int, Text}
-use Rattle.op_printing.specs.Forms.{parts_in}
-use Rattle.op_printing.specs.Pieces.{piece_bytes}
-use Rattle.op_printing.specs.declared.pieces.Piece.{Piece}
-use Rattle.op_printing.specs.declared.pieces.Piece.TheVariants.{Key}
+use Rattle.op_rendering.specs.Parts.{parts_in}
+use Rattle.op_rendering.specs.Pieces.{piece_bytes}
+use Rattle.op_rendering.specs.declared.pieces.Piece.{Piece}
+use Rattle.op_rendering.specs.declared.pieces.Piece.TheVariants.{Key}
 
 -- The characters of bytes are counted, by the bytes that begin one, and the bytes stand behind what was there.
 pub record Counted (bytes : ValuesView → List ℕ) (before after : List ℕ) (old new : WorkView) (result : Result (Unit {0}) Stop) : Type 0 where

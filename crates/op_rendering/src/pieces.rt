@@ -1,13 +1,13 @@
 // Pieces of a text that is printed. They hold no bytes of their own, so a text can be counted before it is built.
 ghost use Rattle.std.specs.Prelude.{◌≡◌, ◌∷◌, ◌++◌, [], OnOk};
-ghost use Rattle.op_printing.specs.Pieces.{Adds};
+ghost use Rattle.op_rendering.specs.Pieces.{Adds};
 
 use py_value::Value;
 use std::alloc::AllocError;
 
 /// A piece of a text that is printed.
 #[derive(Clone, Copy)]
-pub(crate) enum Piece {
+pub enum Piece {
     /// Words of the language.
     Word(&'static str),
     /// An integer.
@@ -26,16 +26,16 @@ pub(crate) enum Piece {
     Key(Value),
 }
 
-// A piece behind the others.
-pub(crate) fn push(out: &mut Vec<Piece>, piece: Piece) -> Result<(), AllocError>
+/// A piece behind the others.
+pub fn push(out: &mut Vec<Piece>, piece: Piece) -> Result<(), AllocError>
     ensures { OnOk result (out.new.items ≡ out.old.items ++ piece ∷ []) }
 {
     out.push(piece)?;
     Ok(())
 }
 
-// Words behind the others.
-pub(crate) fn push_word(out: &mut Vec<Piece>, word: &'static str) -> Result<(), AllocError>
+/// Words behind the others.
+pub fn push_word(out: &mut Vec<Piece>, word: &'static str) -> Result<(), AllocError>
     ensures { OnOk result (Adds out.old.items out.new.items word.now) }
 {
     push(out, Piece::Word(word))?;

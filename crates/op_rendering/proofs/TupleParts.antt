@@ -5,7 +5,7 @@ use Rattle.py_value.specs.Values.{ValuesView, AreInterned}
 use Rattle.py_value.specs.declared.value.Value.{Value}
 use Rattle.py_value.specs.declared.value.Value.TheVariants.{None as NoneValue, Tuple}
 use Rattle.op_work.specs.Work.{Extends}
-use Rattle.op_printing.specs.Forms.{items_at, part_in, parts_in}
+use Rattle.op_rendering.specs.Parts.{items_at, part_in, parts_in}
 
 -- the values of a tuple that is there
 pub items_are : (values : ValuesView) (id : ℕ) (items : List Value) → slice_get values.tuples id ≡ Some items → items_at values id ≡ items

@@ -1,0 +1,5 @@
+pub mod Counting
+pub mod Following
+pub mod Joining
+pub mod KeyRows
+pub mod TupleParts
