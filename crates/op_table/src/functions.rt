@@ -9,6 +9,8 @@ ghost use Rattle.py_value.specs.Values.{AreNamed};
 use crate::wrapped::{do_isinstance, missing};
 use op_making::{enumerate, list_builtin, tuple_builtin, zip};
 use op_numbers::{abs, chr, ord, range, truth};
+use op_orders::sorted;
+use op_printing::{print, repr, str};
 use op_products::{int, sum};
 use op_search::{max, min};
 use op_views::{dict_builtin, len};
@@ -65,11 +67,11 @@ pub(crate) fn last_functions(
     match op.no {
         61 => min(work, alloc, operands),
         63 => ord(work, alloc, operands),
-        64 => missing(),
+        64 => print(work, alloc, operands),
         65 => range(work, alloc, operands),
-        66 => missing(),
-        67 => missing(),
-        68 => missing(),
+        66 => repr(work, alloc, operands),
+        67 => sorted(work, alloc, operands),
+        68 => str(work, alloc, operands),
         69 => sum(work, alloc, operands),
         70 => tuple_builtin(work, alloc, operands),
         71 => zip(work, alloc, operands),

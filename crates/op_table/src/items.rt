@@ -6,8 +6,10 @@ ghost use Rattle.py_model.specs.Told.{IsNamedOp};
 ghost use Rattle.py_value.specs.Values.{AreNamed};
 
 use crate::wrapped::missing;
+use op_changes::{delitem, dict_display};
 use op_items::{getitem, setitem};
 use op_making::{list_display, tuple_display};
+use op_slices::slice;
 use op_work::{Stop, Work};
 use py_model::{Answer, Op};
 use py_value::Value;
@@ -29,12 +31,12 @@ pub(crate) fn containers(
 {
     match op.no {
         23 => list_display(work, operands),
-        24 => missing(),
+        24 => dict_display(work, alloc, operands),
         25 => tuple_display(work, alloc, operands),
         26 => getitem(work, alloc, operands),
-        27 => missing(),
+        27 => slice(work, alloc, operands),
         28 => setitem(work, alloc, operands),
-        29 => missing(),
+        29 => delitem(work, alloc, operands),
         _ => missing(),
     }
 }

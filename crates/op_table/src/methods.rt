@@ -6,7 +6,10 @@ ghost use Rattle.py_model.specs.Told.{IsNamedOp};
 ghost use Rattle.py_value.specs.Values.{AreNamed};
 
 use crate::wrapped::missing;
+use op_changes::{append, insert, items, pop, values};
 use op_dicts::get_method;
+use op_orders::sort;
+use op_pieces::join;
 use op_search::index;
 use op_sums::{extend, reverse};
 use op_texts::{
@@ -33,17 +36,17 @@ pub(crate) fn list_methods(
     ensures { Ends (planned op operands.now) work.old work.new result }
 {
     match op.no {
-        80 => missing(),
+        80 => append(work, alloc, operands),
         81 => extend(work, alloc, operands),
-        82 => missing(),
-        83 => missing(),
+        82 => insert(work, alloc, operands),
+        83 => pop(work, alloc, operands),
         84 => index(work, alloc, operands),
         85 => reverse(work, alloc, operands),
-        86 => missing(),
+        86 => sort(work, alloc, operands),
         87 => get_method(work, alloc, operands),
-        88 => missing(),
+        88 => items(work, alloc, operands),
         89 => keys(work, alloc, operands),
-        90 => missing(),
+        90 => values(work, alloc, operands),
         _ => missing(),
     }
 }
@@ -67,7 +70,7 @@ pub(crate) fn text_methods(
         92 => lstrip(work, alloc, operands),
         93 => rstrip(work, alloc, operands),
         94 => missing(),
-        95 => missing(),
+        95 => join(work, alloc, operands),
         96 => missing(),
         97 => find(work, alloc, operands),
         _ => missing(),

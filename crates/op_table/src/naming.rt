@@ -13,6 +13,7 @@ use crate::wrapped::{
 use op_items::iter;
 use op_numbers::give;
 use op_objects::{assertion_failed, make};
+use op_slices::next;
 use op_work::{Stop, Work};
 use py_model::{Answer, Op};
 use py_value::Value;
@@ -40,7 +41,7 @@ pub(crate) fn names(
         34 => do_unbind(work, alloc, op, operands),
         35 => do_unpack(work, alloc, op, operands),
         36 => iter(work, alloc, operands),
-        37 => missing(),
+        37 => next(work, alloc, operands),
         _ => missing(),
     }
 }

@@ -7,7 +7,7 @@ pub returns-in-23 : goal.returns-in-23
 returns-in-23 c = at_number 23 c.args.op c.args.operands.now c.in-23.is (λ table. refl) c.list_display.ensures
 
 pub returns-in-24 : goal.returns-in-24
-returns-in-24 c = ends_missing (planned c.args.op c.args.operands.now) c.args.work.now c.missing.result c.missing.ensures
+returns-in-24 c = at_number 24 c.args.op c.args.operands.now c.in-24.is (λ table. refl) c.dict_display.ensures
 
 pub returns-in-25 : goal.returns-in-25
 returns-in-25 c = at_number 25 c.args.op c.args.operands.now c.in-25.is (λ table. refl) c.tuple_display.ensures
@@ -16,13 +16,13 @@ pub returns-in-26 : goal.returns-in-26
 returns-in-26 c = at_number 26 c.args.op c.args.operands.now c.in-26.is (λ table. refl) c.getitem.ensures
 
 pub returns-in-27 : goal.returns-in-27
-returns-in-27 c = ends_missing (planned c.args.op c.args.operands.now) c.args.work.now c.missing-in-27.result c.missing-in-27.ensures
+returns-in-27 c = at_number 27 c.args.op c.args.operands.now c.in-27.is (λ table. refl) c.slice.ensures
 
 pub returns-in-28 : goal.returns-in-28
 returns-in-28 c = at_number 28 c.args.op c.args.operands.now c.in-28.is (λ table. refl) c.setitem.ensures
 
 pub returns-in-29 : goal.returns-in-29
-returns-in-29 c = ends_missing (planned c.args.op c.args.operands.now) c.args.work.now c.missing-in-29.result c.missing-in-29.ensures
+returns-in-29 c = at_number 29 c.args.op c.args.operands.now c.in-29.is (λ table. refl) c.delitem.ensures
 
 pub returns-in_default : goal.returns-in_default
-returns-in_default c = ends_missing (planned c.args.op c.args.operands.now) c.args.work.now c.missing-in_default.result c.missing-in_default.ensures
+returns-in_default c = ends_missing (planned c.args.op c.args.operands.now) c.args.work.now c.missing.result c.missing.ensures

@@ -16,7 +16,7 @@ pub returns-in-94 : goal.returns-in-94
 returns-in-94 c = ends_missing (planned c.args.op c.args.operands.now) c.args.work.now c.missing.result c.missing.ensures
 
 pub returns-in-95 : goal.returns-in-95
-returns-in-95 c = ends_missing (planned c.args.op c.args.operands.now) c.args.work.now c.missing-in-95.result c.missing-in-95.ensures
+returns-in-95 c = at_number 95 c.args.op c.args.operands.now c.in-95.is (λ table. refl) c.join.ensures
 
 pub returns-in-96 : goal.returns-in-96
 returns-in-96 c = ends_missing (planned c.args.op c.args.operands.now) c.args.work.now c.missing-in-96.result c.missing-in-96.ensures
