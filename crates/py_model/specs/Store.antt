@@ -104,10 +104,15 @@ abbrev pub with_files : List (List ℕ × List ℕ) → (SeenLocation → Option
 with_files [] store = store
 with_files (file ∷ files) store = put (file_at file.0) (file_is file.1) (with_files files store)
 
+-- where nothing was set stands nothing, and an order is empty
+abbrev pub unset : SeenLocation → Option SeenContent
+unset (order_at o) = Some (order_is [])
+unset l = None
+
 abbrev pub opening : List ℕ → List (List ℕ) → List (List ℕ × List ℕ) → RunStore
 opening path arguments files = record empty {
   at = put (var_at 0 (codes "__name__")) (var_is (Some (text (codes "__main__"))))
-      (put (len_at 0) (len_is (length arguments + 1)) (with_items 0 0 (path ∷ arguments) (with_files files (λ l. None))));
+      (put (len_at 0) (len_is (length arguments + 1)) (with_items 0 0 (path ∷ arguments) (with_files files unset)));
   kinds = a_list ∷ [];
 }
 
