@@ -1,4 +1,4 @@
-use Rattle.std.proofs.Common.{◌≡◌, sym, ap, ◌∙◌, subst, append-nil, [], ◌∷◌, ◌++◌}
+use Rattle.std.proofs.Common.{sym, ap, ◌∙◌, subst, append-nil, [], ◌∷◌, ◌++◌}
 use Rattle.py_value.specs.Seen.{bytes_of}
 use Rattle.op_pieces.specs.Joins.{before_text}
 use Rattle.op_rendering.proofs.Joining.{bytes_push, named_join}

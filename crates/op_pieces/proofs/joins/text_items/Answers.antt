@@ -1,4 +1,4 @@
-use Rattle.std.proofs.Common.{refl, sym, ap, ◌++◌, ◌∙◌, arith, ◌==◌, ℕ, List, map}
+use Rattle.std.proofs.Common.{refl, sym, ap, ◌++◌, ◌∙◌, ◌==◌, ℕ, List, map}
 use Rattle.py_model.specs.Plan.{Plan}
 use Rattle.py_model.specs.TextMethods.{texts_in}
 use Rattle.py_model.specs.Texts.{joined_by}
