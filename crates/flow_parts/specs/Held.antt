@@ -1,9 +1,10 @@
 -- The texts and tuples that the values of a flow name are named in a table.
-use Rattle.std.specs.Prelude.{List, [], ◌∷◌, Option, Some, None, ⊤}
+use Rattle.std.specs.Prelude.{◌≡◌, List, [], ◌∷◌, Option, Some, None, ⊤}
 use Rattle.py_value.specs.Values.{ValuesView, IsNamed}
 use Rattle.py_value.specs.declared.value.Value.{Value}
 use Rattle.py_model.specs.Capture.{Capture}
 use Rattle.py_model.specs.Doing.{Fits}
+use Rattle.interp_eval.specs.declared.frames.Scope.{Scope}
 use Rattle.interp_eval.specs.Held.{AreHeld, AreAllNamed}
 use Rattle.flow_parts.specs.declared.control.End.{End}
 use Rattle.flow_parts.specs.declared.control.End.TheVariants.{Returned}
@@ -44,27 +45,28 @@ IsHeldStage table (Inside v) = IsNamed table v
 IsHeldStage table (Closes end) = IsHeldEnd table end
 IsHeldStage table stage = ⊤
 
-abbrev pub IsHeldWork : ValuesView → Work → Type 0
-IsHeldWork table (Evaluates frames) = AreHeld table frames
-IsHeldWork table (Operation at code values) = AreAllNamed table values.items
+-- an expression is evaluated in the scope of its statement
+abbrev pub IsHeldWork : ValuesView → Scope → Work → Type 0
+IsHeldWork table scope (Evaluates frames) = AreHeld table frames × (frames.scope ≡ scope)
+IsHeldWork table scope (Operation at code values) = AreAllNamed table values.items
 
-abbrev pub IsHeldNow : ValuesView → Now → Type 0
-IsHeldNow table (InSuite stmts) = ⊤
-IsHeldNow table (Opens p) = IsHeldStage table p.stage
-IsHeldNow table (Gives g) = IsHeldWork table g.value.work × IsHeldStage table g.value.part.stage
-IsHeldNow table (Ended end) = IsHeldEnd table end
+abbrev pub IsHeldNow : ValuesView → Scope → Now → Type 0
+IsHeldNow table scope (InSuite stmts) = ⊤
+IsHeldNow table scope (Opens p) = IsHeldStage table p.stage
+IsHeldNow table scope (Gives g) = IsHeldWork table scope g.value.work × IsHeldStage table g.value.part.stage
+IsHeldNow table scope (Ended end) = IsHeldEnd table end
 
 abbrev pub IsHeldClass : ValuesView → Option Value → Type 0
 IsHeldClass table None = ⊤
 IsHeldClass table (Some of) = IsNamed table of
 
-abbrev pub IsHeldWaits : ValuesView → Waits → Type 0
-IsHeldWaits table (StmtWaits number rest) = ⊤
-IsHeldWaits table (PartWaits None p) = IsHeldStage table p.stage
-IsHeldWaits table (PartWaits (Some frames) p) = AreHeld table frames.value × IsHeldStage table p.stage
+abbrev pub IsHeldWaits : ValuesView → Scope → Waits → Type 0
+IsHeldWaits table scope (StmtWaits number rest) = ⊤
+IsHeldWaits table scope (PartWaits None p) = IsHeldStage table p.stage
+IsHeldWaits table scope (PartWaits (Some frames) p) = AreHeld table frames.value × ((frames.value.scope ≡ scope) × IsHeldStage table p.stage)
 
 abbrev pub IsHeldFrame : ValuesView → Frame → Type 0
-IsHeldFrame table f = IsHeldClass table f.spot.in_class × IsHeldWaits table f.waits
+IsHeldFrame table f = IsHeldClass table f.spot.in_class × IsHeldWaits table f.spot.scope f.waits
 
 abbrev pub AreHeldFrames : ValuesView → List Frame → Type 0
 AreHeldFrames table [] = ⊤
@@ -73,7 +75,7 @@ AreHeldFrames table (f ∷ fs) = IsHeldFrame table f × AreHeldFrames table fs
 -- so of all of a flow
 pub record IsHeldFlow (table : ValuesView) (frames : FlowFrames) : Type 0 where
   pub spot : IsHeldClass table frames.spot.in_class
-  pub now : IsHeldNow table frames.now
+  pub now : IsHeldNow table frames.spot.scope frames.now
   pub below : AreHeldFrames table frames.below.items
 
 abbrev pub IsHeldBy : Fits → FlowFrames → Type 0

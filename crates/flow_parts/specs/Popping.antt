@@ -20,4 +20,4 @@ IsPopped before after (Some waits) = (script : ScriptTree) (next : Task → Act)
 -- what was held is held, and so is what waited
 abbrev pub HoldsPopped : ValuesView → FlowFrames → Option Waits → Type 0
 HoldsPopped table after None = IsHeldFlow table after
-HoldsPopped table after (Some waits) = IsHeldFlow table after × IsHeldWaits table waits
+HoldsPopped table after (Some waits) = IsHeldFlow table after × IsHeldWaits table after.spot.scope waits

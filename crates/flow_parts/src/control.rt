@@ -10,6 +10,7 @@ ghost use Rattle.py_model.specs.Expressions.{Here, Task, doing, eval};
 ghost use Rattle.interp_eval.specs.Held.{AreAllNamed};
 ghost use Rattle.interp_eval.specs.Machine.{is_true};
 ghost use Rattle.flow_parts.specs.Codes.{code_number, code_value, code_want};
+ghost use Rattle.interp_eval.specs.declared.frames.Scope.{Scope as OneScope};
 ghost use Rattle.flow_parts.specs.Held.{IsHeldNow, IsHeldStage};
 ghost use Rattle.flow_parts.specs.Machine.{flow_op, now_act, target_in, then_act};
 ghost use Rattle.flow_parts.specs.Seen.{now_seen, stage_seen};
@@ -166,7 +167,7 @@ pub fn start<'a>(
 ) -> Result<Now<'a>, Memory>
     ensures means { IfOk result (λ now. (script : ScriptTree) (next : Task → Act) (here : Here) (table : ValuesView)
         → now_act script next here (now_seen table now) ≡ eval script next here (expr_of expr.entry.now) (then_act script next here part.entry.at (form_of part.entry.form.now) (stage_seen table part.entry.stage))) }
-    ensures held { IfOk result (λ now. (table : ValuesView) → IsHeldStage table part.entry.stage → IsHeldNow table now) }
+    ensures held { IfOk result (λ now. (table : ValuesView) → IsHeldStage table part.entry.stage → IsHeldNow table scope now) }
 {
     let work = Work::Evaluates(EvalFrames::start(alloc, expr, scope)?);
     Ok(Now::Gives(Box::new(alloc, Giving { work, part })?))
@@ -182,7 +183,7 @@ fn operates<'a>(
 ) -> Result<Now<'a>, Memory>
     ensures means { IfOk result (λ now. (script : ScriptTree) (next : Task → Act) (here : Here) (table : ValuesView)
         → now_act script next here (now_seen table now) ≡ doing here at (flow_op here (code_number code.entry) (code_want code.entry) (code_value code.entry)) (map (contents table) values.items) (then_act script next here part.entry.at (form_of part.entry.form.now) (stage_seen table part.entry.stage))) }
-    ensures held { IfOk result (λ now. (table : ValuesView) → AreAllNamed table values.items → IsHeldStage table part.entry.stage → IsHeldNow table now) }
+    ensures held { IfOk result (λ now. (table : ValuesView) (scope : OneScope) → AreAllNamed table values.items → IsHeldStage table part.entry.stage → IsHeldNow table scope now) }
 {
     let work = Work::Operation(at, code, values);
     Ok(Now::Gives(Box::new(alloc, Giving { work, part })?))
@@ -197,7 +198,7 @@ pub fn on_none<'a>(
 ) -> Result<Now<'a>, Memory>
     ensures means { IfOk result (λ now. (script : ScriptTree) (next : Task → Act) (here : Here) (table : ValuesView)
         → now_act script next here (now_seen table now) ≡ doing here at (flow_op here (code_number code.entry) (code_want code.entry) (code_value code.entry)) [] (then_act script next here part.entry.at (form_of part.entry.form.now) (stage_seen table part.entry.stage))) }
-    ensures held { IfOk result (λ now. (table : ValuesView) → IsHeldStage table part.entry.stage → IsHeldNow table now) }
+    ensures held { IfOk result (λ now. (table : ValuesView) (scope : OneScope) → IsHeldStage table part.entry.stage → IsHeldNow table scope now) }
 {
     operates(alloc, at, code, Vec::new(alloc), part)
 }
@@ -212,7 +213,7 @@ pub fn on_one<'a>(
 ) -> Result<Now<'a>, Memory>
     ensures means { IfOk result (λ now. (script : ScriptTree) (next : Task → Act) (here : Here) (table : ValuesView)
         → now_act script next here (now_seen table now) ≡ doing here at (flow_op here (code_number code.entry) (code_want code.entry) (code_value code.entry)) (contents table value ∷ []) (then_act script next here part.entry.at (form_of part.entry.form.now) (stage_seen table part.entry.stage))) }
-    ensures held { IfOk result (λ now. (table : ValuesView) → IsNamed table value → IsHeldStage table part.entry.stage → IsHeldNow table now) }
+    ensures held { IfOk result (λ now. (table : ValuesView) (scope : OneScope) → IsNamed table value → IsHeldStage table part.entry.stage → IsHeldNow table scope now) }
 {
     let mut values = Vec::new(alloc);
     values.push(value)?;
@@ -230,7 +231,7 @@ pub fn on_two<'a>(
 ) -> Result<Now<'a>, Memory>
     ensures means { IfOk result (λ now. (script : ScriptTree) (next : Task → Act) (here : Here) (table : ValuesView)
         → now_act script next here (now_seen table now) ≡ doing here at (flow_op here (code_number code.entry) (code_want code.entry) (code_value code.entry)) (contents table first ∷ contents table second ∷ []) (then_act script next here part.entry.at (form_of part.entry.form.now) (stage_seen table part.entry.stage))) }
-    ensures held { IfOk result (λ now. (table : ValuesView) → IsNamed table first → IsNamed table second → IsHeldStage table part.entry.stage → IsHeldNow table now) }
+    ensures held { IfOk result (λ now. (table : ValuesView) (scope : OneScope) → IsNamed table first → IsNamed table second → IsHeldStage table part.entry.stage → IsHeldNow table scope now) }
 {
     let mut values = Vec::new(alloc);
     values.push(first)?;
@@ -250,7 +251,7 @@ pub fn on_three<'a>(
 ) -> Result<Now<'a>, Memory>
     ensures means { IfOk result (λ now. (script : ScriptTree) (next : Task → Act) (here : Here) (table : ValuesView)
         → now_act script next here (now_seen table now) ≡ doing here at (flow_op here (code_number code.entry) (code_want code.entry) (code_value code.entry)) (contents table first ∷ contents table second ∷ contents table third ∷ []) (then_act script next here part.entry.at (form_of part.entry.form.now) (stage_seen table part.entry.stage))) }
-    ensures held { IfOk result (λ now. (table : ValuesView) → IsNamed table first → IsNamed table second → IsNamed table third → IsHeldStage table part.entry.stage → IsHeldNow table now) }
+    ensures held { IfOk result (λ now. (table : ValuesView) (scope : OneScope) → IsNamed table first → IsNamed table second → IsNamed table third → IsHeldStage table part.entry.stage → IsHeldNow table scope now) }
 {
     let mut values = Vec::new(alloc);
     values.push(first)?;

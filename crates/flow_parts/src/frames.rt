@@ -12,7 +12,7 @@ ghost use Rattle.flow_parts.specs.Machine.{now_act, remaining, resumes, waits_ac
 ghost use Rattle.flow_parts.specs.Popping.{HoldsPopped, IsPopped};
 ghost use Rattle.flow_parts.specs.Seen.{flow_seen, frame_seen, here_seen, now_seen, waits_seen};
 
-use crate::control::{Now, Part};
+use crate::control::{End, Now, Part};
 use interp_eval::{EvalFrames, Scope};
 use prov_base::Memory;
 use py_tree::{Script, Stmt};
@@ -92,7 +92,7 @@ impl<'a> FlowFrames<'a> {
         ensures means { OnOk result ((script : ScriptTree) (next : Task → Act) (table : ValuesView) → remaining script next (flow_seen script table self.new)
             ≡ to (to (now_act script next (here_seen script table spot) (now_seen table now.entry)) (waits_act script next (here_seen script table self.old.spot) (waits_seen table waits.entry)))
             (resumes script next (map (frame_seen script table) self.old.below.items) (λ how. ret how))) }
-        ensures held { OnOk result ((table : ValuesView) → IsHeldFlow table self.old → IsHeldWaits table waits.entry → IsHeldClass table spot.in_class → IsHeldNow table now.entry → IsHeldFlow table self.new) }
+        ensures held { OnOk result ((table : ValuesView) → IsHeldFlow table self.old → IsHeldWaits table self.old.spot.scope waits.entry → IsHeldClass table spot.in_class → IsHeldNow table spot.scope now.entry → IsHeldFlow table self.new) }
     {
         self.below.push(Frame {
             spot: self.spot,
@@ -112,6 +112,7 @@ impl<'a> FlowFrames<'a> {
             return None;
         };
         self.spot = frame.spot;
+        self.now = Now::Ended(End::Normal);
         Some(frame.waits)
     }
 }

@@ -12,7 +12,7 @@ use Rattle.py_value.specs.Values.{ValuesView}
 use Rattle.py_model.specs.Act.{Act, How, ret, to, normal}
 use Rattle.py_model.specs.Expressions.{Here, Task, doing, op_scoped}
 use Rattle.py_model.specs.Statements.{then_so}
-use Rattle.flow_parts.specs.Held.{IsHeldClass}
+use Rattle.flow_parts.specs.Held.{IsHeldClass, IsHeldNow}
 use Rattle.flow_parts.specs.Machine.{Handler, now_act, open_act, suite_ended}
 use Rattle.flow_parts.specs.Seen.{here_seen, now_seen, stage_seen}
 use Rattle.flow_parts.specs.declared.control.Part.{Part}
@@ -36,6 +36,7 @@ OpensBy p spot now (Runs inner) = (script : ScriptTree) (next : Task → Act) (t
     ≡ open_act script next (here_seen script table spot) p.at (form_of p.form.now) (stage_seen table p.stage)
 OpensBy p spot now Unwritten = ⊤
 
-abbrev pub HoldsWay : ValuesView → Way → Type 0
-HoldsWay table (Runs inner) = IsHeldClass table inner.in_class
-HoldsWay table way = ⊤
+abbrev pub HoldsOpened : ValuesView → Spot → Now → Way → Type 0
+HoldsOpened table spot now Becomes = IsHeldNow table spot.scope now
+HoldsOpened table spot now (Runs inner) = IsHeldNow table inner.scope now × IsHeldClass table inner.in_class
+HoldsOpened table spot now Unwritten = ⊤

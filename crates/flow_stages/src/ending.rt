@@ -7,6 +7,7 @@ ghost use Rattle.py_value.specs.Values.{ValuesView, IsNamed};
 ghost use Rattle.py_model.specs.Act.{Act};
 ghost use Rattle.py_model.specs.Expressions.{Here, Task};
 ghost use Rattle.py_model.specs.Statements.{task, turned};
+ghost use Rattle.interp_eval.specs.declared.frames.Scope.{Scope as OneScope};
 ghost use Rattle.flow_parts.specs.Held.{IsHeldEnd, IsHeldNow, IsHeldStage};
 ghost use Rattle.flow_parts.specs.Machine.{body_ended, handled_end, handler_in, inside_ended, now_act, open_act, suite_ended, turn_ended};
 ghost use Rattle.flow_parts.specs.Seen.{end_seen, now_seen, stage_seen};
@@ -23,7 +24,7 @@ use std::alloc::Global;
 fn looped<'a>(next: Part<'a>, end: End) -> Now<'a>
     ensures means { (script : ScriptTree) (rest : Task → Act) (here : Here) (table : ValuesView)
         → now_act script rest here (now_seen table result) ≡ turned (open_act script rest here next.entry.at (form_of next.entry.form.now) (stage_seen table next.entry.stage)) (end_seen table end) }
-    ensures held { (table : ValuesView) → IsHeldStage table next.entry.stage → IsHeldEnd table end → IsHeldNow table result }
+    ensures held { (table : ValuesView) (scope : OneScope) → IsHeldStage table next.entry.stage → IsHeldEnd table end → IsHeldNow table scope result }
 {
     match end {
         End::Normal => Now::Opens(next),
@@ -39,7 +40,7 @@ fn looped<'a>(next: Part<'a>, end: End) -> Now<'a>
 fn body_ended<'a>(part: Part<'a>, end: End) -> Now<'a>
     ensures means { (script : ScriptTree) (next : Task → Act) (here : Here) (table : ValuesView)
         → now_act script next here (now_seen table result) ≡ body_ended script next (task script next) here part.entry.at (form_of part.entry.form.now) (end_seen table end) }
-    ensures held { (table : ValuesView) → IsHeldEnd table end → IsHeldNow table result }
+    ensures held { (table : ValuesView) (scope : OneScope) → IsHeldEnd table end → IsHeldNow table scope result }
 {
     match part.form {
         Form::While(_, _) => looped(part.to(Stage::Tested(0)), end),
@@ -90,7 +91,7 @@ fn turn_ended<'a>(
 ) -> Result<Now<'a>, Memory>
     ensures means { IfOk result (λ now. (script : ScriptTree) (next : Task → Act) (here : Here) (table : ValuesView)
         → now_act script next here (now_seen table now) ≡ turn_ended script next (task script next) here part.entry.at (form_of part.entry.form.now) (contents table items) number (contents table size) (end_seen table end)) }
-    ensures held { IfOk result (λ now. (table : ValuesView) → IsNamed table items → IsNamed table size → IsHeldEnd table end → IsHeldNow table now) }
+    ensures held { IfOk result (λ now. (table : ValuesView) (scope : OneScope) → IsNamed table items → IsNamed table size → IsHeldEnd table end → IsHeldNow table scope now) }
 {
     let after = next_turn(number)?;
     match part.form {
@@ -125,7 +126,7 @@ fn class_ended<'a>(
 ) -> Result<Now<'a>, Memory>
     ensures means { IfOk result (λ now. (script : ScriptTree) (next : Task → Act) (here : Here) (table : ValuesView)
         → now_act script next here (now_seen table now) ≡ class_ended here part.entry.at name.entry.now (contents table class) (end_seen table end)) }
-    ensures held { IfOk result (λ now. (table : ValuesView) → IsNamed table class → IsHeldEnd table end → IsHeldNow table now) }
+    ensures held { IfOk result (λ now. (table : ValuesView) (scope : OneScope) → IsNamed table class → IsHeldEnd table end → IsHeldNow table scope now) }
 {
     match end {
         End::Normal => on_one(
@@ -152,7 +153,7 @@ fn inside_ended<'a>(
 ) -> Result<Now<'a>, Memory>
     ensures means { IfOk result (λ now. (script : ScriptTree) (next : Task → Act) (here : Here) (table : ValuesView)
         → now_act script next here (now_seen table now) ≡ inside_ended script next here part.entry.at (form_of part.entry.form.now) (contents table value) (end_seen table end)) }
-    ensures held { IfOk result (λ now. (table : ValuesView) → IsNamed table value → IsHeldEnd table end → IsHeldNow table now) }
+    ensures held { IfOk result (λ now. (table : ValuesView) (scope : OneScope) → IsNamed table value → IsHeldEnd table end → IsHeldNow table scope now) }
 {
     match part.form {
         Form::With(_, _, _) => {
@@ -193,7 +194,7 @@ fn handled_ended<'a>(
 ) -> Result<Now<'a>, Memory>
     ensures means { IfOk result (λ now. (script : ScriptTree) (next : Task → Act) (here : Here) (table : ValuesView)
         → now_act script next here (now_seen table now) ≡ handled_end script next here (handler_in (form_of part.entry.form.now) number) (end_seen table end)) }
-    ensures held { IfOk result (λ now. (table : ValuesView) → IsHeldEnd table end → IsHeldNow table now) }
+    ensures held { IfOk result (λ now. (table : ValuesView) (scope : OneScope) → IsHeldEnd table end → IsHeldNow table scope now) }
 {
     let Some(handler) = handler_in(part.form, number) else {
         return Ok(Now::Ended(end));
@@ -211,7 +212,7 @@ fn handled_ended<'a>(
 pub fn part_ended<'a>(alloc: Global, part: Part<'a>, end: End) -> Result<Now<'a>, Memory>
     ensures means { IfOk result (λ now. (script : ScriptTree) (next : Task → Act) (here : Here) (table : ValuesView)
         → now_act script next here (now_seen table now) ≡ suite_ended script next (task script next) here part.entry.at (form_of part.entry.form.now) (stage_seen table part.entry.stage) (end_seen table end)) }
-    ensures held { IfOk result (λ now. (table : ValuesView) → IsHeldStage table part.entry.stage → IsHeldEnd table end → IsHeldNow table now) }
+    ensures held { IfOk result (λ now. (table : ValuesView) (scope : OneScope) → IsHeldStage table part.entry.stage → IsHeldEnd table end → IsHeldNow table scope now) }
 {
     match part.stage {
         Stage::Body => Ok(body_ended(part, end)),

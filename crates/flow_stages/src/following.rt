@@ -8,6 +8,7 @@ ghost use Rattle.py_value.specs.Values.{ValuesView, IsNamed};
 ghost use Rattle.py_model.specs.Act.{Act};
 ghost use Rattle.py_model.specs.Expressions.{Here, Task, by_truth};
 ghost use Rattle.py_model.specs.Statements.{failed_assert};
+ghost use Rattle.interp_eval.specs.declared.frames.Scope.{Scope as OneScope};
 ghost use Rattle.flow_parts.specs.Held.{IsHeldNow, IsHeldStage};
 ghost use Rattle.flow_parts.specs.Machine.{now_act, test_act, test_of, then_act, valued_act, when_false, when_true};
 ghost use Rattle.flow_parts.specs.Seen.{now_seen, stage_seen};
@@ -28,7 +29,7 @@ use std::alloc::Global;
 fn valued<'a>(alloc: Global, part: Part<'a>, value: Value, scope: Scope) -> Result<Now<'a>, Memory>
     ensures means { IfOk result (λ now. (script : ScriptTree) (next : Task → Act) (here : Here) (table : ValuesView)
         → now_act script next here (now_seen table now) ≡ valued_act script next here part.entry.at (form_of part.entry.form.now) (contents table value)) }
-    ensures held { IfOk result (λ now. (table : ValuesView) → IsNamed table value → IsHeldNow table now) }
+    ensures held { IfOk result (λ now. (table : ValuesView) → IsNamed table value → IsHeldNow table scope now) }
 {
     let at = part.at;
     match part.form {
@@ -61,7 +62,7 @@ fn valued<'a>(alloc: Global, part: Part<'a>, value: Value, scope: Scope) -> Resu
 fn tested<'a>(alloc: Global, part: Part<'a>, number: usize, value: Value) -> Result<Now<'a>, Memory>
     ensures means { IfOk result (λ now. (script : ScriptTree) (next : Task → Act) (here : Here) (table : ValuesView)
         → now_act script next here (now_seen table now) ≡ test_act script next here part.entry.at (form_of part.entry.form.now) number (test_of (form_of part.entry.form.now) number) (contents table value)) }
-    ensures held { IfOk result (λ now. (table : ValuesView) → IsNamed table value → IsHeldNow table now) }
+    ensures held { IfOk result (λ now. (table : ValuesView) (scope : OneScope) → IsNamed table value → IsHeldNow table scope now) }
 {
     let next = part.to(Stage::Answered(number));
     match part.form {
@@ -93,7 +94,7 @@ fn tested<'a>(alloc: Global, part: Part<'a>, number: usize, value: Value) -> Res
 #[tactic(auto, using(py_tree::proofs::StmtTrees::form_trees))]
 fn where_true<'a>(part: Part<'a>, number: usize) -> Now<'a>
     ensures means { (script : ScriptTree) (next : Task → Act) (here : Here) (table : ValuesView) → now_act script next here (now_seen table result) ≡ when_true script next here (form_of part.entry.form.now) number }
-    ensures held { (table : ValuesView) → IsHeldNow table result }
+    ensures held { (table : ValuesView) (scope : OneScope) → IsHeldNow table scope result }
 {
     match part.form {
         Form::If(branches, _) => match branch_at(branches.list.as_slice(), number) {
@@ -129,7 +130,7 @@ fn fails<'a>(
 ) -> Result<Now<'a>, Memory>
     ensures means { IfOk result (λ now. (script : ScriptTree) (next : Task → Act) (here : Here) (table : ValuesView)
         → now_act script next here (now_seen table now) ≡ failed_assert script next here part.entry.at (option_map expr_of message.entry.now)) }
-    ensures held { IfOk result (λ now. (table : ValuesView) → IsHeldNow table now) }
+    ensures held { IfOk result (λ now. (table : ValuesView) → IsHeldNow table scope now) }
 {
     match message {
         None => { on_none(alloc, part.at, Code::Fail, part.to(Stage::Done)) }
@@ -147,7 +148,7 @@ fn where_false<'a>(
 ) -> Result<Now<'a>, Memory>
     ensures means { IfOk result (λ now. (script : ScriptTree) (next : Task → Act) (here : Here) (table : ValuesView)
         → now_act script next here (now_seen table now) ≡ when_false script next here part.entry.at (form_of part.entry.form.now) number) }
-    ensures held { IfOk result (λ now. (table : ValuesView) → IsHeldNow table now) }
+    ensures held { IfOk result (λ now. (table : ValuesView) → IsHeldNow table scope now) }
 {
     match part.form {
         Form::If(branches, _) => match branch_at(branches.list.as_slice(), number) {
@@ -184,7 +185,7 @@ fn answered<'a>(
 ) -> Result<Now<'a>, Memory>
     ensures means { IfOk result (λ now. (script : ScriptTree) (next : Task → Act) (here : Here) (table : ValuesView)
         → now_act script next here (now_seen table now) ≡ by_truth (when_true script next here (form_of part.entry.form.now) number) (when_false script next here part.entry.at (form_of part.entry.form.now) number) (contents table value)) }
-    ensures held { IfOk result (λ now. (table : ValuesView) → IsHeldNow table now) }
+    ensures held { IfOk result (λ now. (table : ValuesView) → IsHeldNow table scope now) }
 {
     if is_true(value) {
         Ok(where_true(part, number))
@@ -202,7 +203,7 @@ pub fn after<'a>(
 ) -> Result<Now<'a>, Memory>
     ensures means { IfOk result (λ now. (script : ScriptTree) (next : Task → Act) (here : Here) (table : ValuesView)
         → now_act script next here (now_seen table now) ≡ then_act script next here part.entry.at (form_of part.entry.form.now) (stage_seen table part.entry.stage) (contents table value)) }
-    ensures held { IfOk result (λ now. (table : ValuesView) → IsHeldStage table part.entry.stage → IsNamed table value → IsHeldNow table now) }
+    ensures held { IfOk result (λ now. (table : ValuesView) → IsHeldStage table part.entry.stage → IsNamed table value → IsHeldNow table scope now) }
 {
     match part.stage {
         Stage::Valued => valued(alloc, part, value, scope),

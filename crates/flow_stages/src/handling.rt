@@ -8,6 +8,7 @@ ghost use Rattle.py_model.specs.Act.{Act};
 ghost use Rattle.py_model.specs.Expressions.{Here, Task};
 ghost use Rattle.py_model.specs.Statements.{handle};
 ghost use Rattle.interp_eval.specs.Machine.{is_true};
+ghost use Rattle.interp_eval.specs.declared.frames.Scope.{Scope as OneScope};
 ghost use Rattle.flow_parts.specs.Held.{IsHeldNow};
 ghost use Rattle.flow_parts.specs.Machine.{clause_act, entered_act, handler_in, handlers_from, handlers_in, match_act, now_act};
 ghost use Rattle.flow_parts.specs.Seen.{now_seen};
@@ -23,7 +24,7 @@ use std::alloc::Global;
 pub(crate) fn entered<'a>(alloc: Global, part: Part<'a>, value: Value) -> Result<Now<'a>, Memory>
     ensures means { IfOk result (λ now. (script : ScriptTree) (next : Task → Act) (here : Here) (table : ValuesView)
         → now_act script next here (now_seen table now) ≡ entered_act script next here part.entry.at (form_of part.entry.form.now) (contents table value)) }
-    ensures held { IfOk result (λ now. (table : ValuesView) → IsNamed table value → IsHeldNow table now) }
+    ensures held { IfOk result (λ now. (table : ValuesView) (scope : OneScope) → IsNamed table value → IsHeldNow table scope now) }
 {
     match bound_in(part.form) {
         None => Ok(Now::Opens(part.to(Stage::Inside(value)))),
@@ -38,7 +39,7 @@ pub(crate) fn entered<'a>(alloc: Global, part: Part<'a>, value: Value) -> Result
 fn claused<'a>(alloc: Global, part: Part<'a>, number: usize, o: u32) -> Result<Now<'a>, Memory>
     ensures means { IfOk result (λ now. (script : ScriptTree) (next : Task → Act) (here : Here) (table : ValuesView)
         → now_act script next here (now_seen table now) ≡ clause_act script next here part.entry.at (form_of part.entry.form.now) number o (handler_in (form_of part.entry.form.now) number)) }
-    ensures held { IfOk result (λ now. (table : ValuesView) → IsHeldNow table now) }
+    ensures held { IfOk result (λ now. (table : ValuesView) (scope : OneScope) → IsHeldNow table scope now) }
 {
     let Some(handler) = handler_in(part.form, number) else {
         return Ok(Now::Ended(End::Normal));
@@ -64,7 +65,7 @@ pub(crate) fn handled<'a>(
 ) -> Result<Now<'a>, Memory>
     ensures means { IfOk result (λ now. (script : ScriptTree) (next : Task → Act) (here : Here) (table : ValuesView)
         → now_act script next here (now_seen table now) ≡ handle script next here part.entry.at (handlers_from number (handlers_in (form_of part.entry.form.now))) o line) }
-    ensures held { IfOk result (λ now. (table : ValuesView) → IsHeldNow table now) }
+    ensures held { IfOk result (λ now. (table : ValuesView) → IsHeldNow table scope now) }
 {
     let Some(handler) = handler_in(part.form, number) else {
         return Ok(Now::Ended(End::Threw(o, line)));
@@ -86,7 +87,7 @@ pub(crate) fn matched<'a>(
 ) -> Result<Now<'a>, Memory>
     ensures means { IfOk result (λ now. (script : ScriptTree) (next : Task → Act) (here : Here) (table : ValuesView)
         → now_act script next here (now_seen table now) ≡ match_act script next here part.entry.at (form_of part.entry.form.now) number o line (contents table value)) }
-    ensures held { IfOk result (λ now. (table : ValuesView) → IsHeldNow table now) }
+    ensures held { IfOk result (λ now. (table : ValuesView) (scope : OneScope) → IsHeldNow table scope now) }
 {
     if is_true(value) {
         return claused(alloc, part, number, o);

@@ -9,6 +9,7 @@ ghost use Rattle.py_model.specs.Act.{Act};
 ghost use Rattle.py_model.specs.Expressions.{Here, Task};
 ghost use Rattle.py_model.specs.Functions.{expr_place};
 ghost use Rattle.py_model.specs.Statements.{defining, otherwise, raised_value, rule, unset};
+ghost use Rattle.interp_eval.specs.declared.frames.Scope.{Scope as OneScope};
 ghost use Rattle.flow_parts.specs.Held.{IsHeldClass, IsHeldNow};
 ghost use Rattle.flow_parts.specs.Machine.{from_test, now_act};
 ghost use Rattle.flow_parts.specs.Seen.{now_seen};
@@ -32,7 +33,7 @@ fn deleted<'a>(
 ) -> Result<Now<'a>, Memory>
     ensures means { IfOk result (λ now. (script : ScriptTree) (next : Task → Act) (here : Here) (table : ValuesView)
         → now_act script next here (now_seen table now) ≡ deleting script next here part.entry.at (form_of part.entry.form.now) (target_of target.entry.now)) }
-    ensures held { IfOk result (λ now. (table : ValuesView) → IsHeldNow table now) }
+    ensures held { IfOk result (λ now. (table : ValuesView) → IsHeldNow table scope now) }
 {
     match target {
         Target::Var(at, name) => { on_none(alloc, *at, Code::Unbind(name), part.to(Stage::Done)) }
@@ -46,7 +47,7 @@ fn deleted<'a>(
 fn raised<'a>(alloc: Global, handled: Option<u32>, part: Part<'a>) -> Result<Now<'a>, Memory>
     ensures means { IfOk result (λ now. (script : ScriptTree) (next : Task → Act) (here : Here) (table : ValuesView)
         → now_act script next here (now_seen table now) ≡ raising here part.entry.at (raised_value handled)) }
-    ensures held { IfOk result (λ now. (table : ValuesView) → IsHeldNow table now) }
+    ensures held { IfOk result (λ now. (table : ValuesView) (scope : OneScope) → IsHeldNow table scope now) }
 {
     match handled {
         None => on_none(alloc, part.at, Code::Raise, part.to(Stage::Done)),
@@ -69,7 +70,7 @@ fn defined<'a>(
 ) -> Result<Now<'a>, Memory>
     ensures means { IfOk result (λ now. (script : ScriptTree) (next : Task → Act) (here : Here) (table : ValuesView)
         → now_act script next here (now_seen table now) ≡ defining script next here part.entry.at name.entry.now (option_map (contents table) class)) }
-    ensures held { IfOk result (λ now. (table : ValuesView) → IsHeldClass table class → IsHeldNow table now) }
+    ensures held { IfOk result (λ now. (table : ValuesView) (scope : OneScope) → IsHeldClass table class → IsHeldNow table scope now) }
 {
     let code = Code::Function(name, part.at);
     match class {
@@ -83,7 +84,7 @@ fn defined<'a>(
 fn plainly<'a>(alloc: Global, at: Pos, form: &'a Form, spot: Spot) -> Result<Now<'a>, Memory>
     ensures means { IfOk result (λ now. (script : ScriptTree) (next : Task → Act) (here : Here) (table : ValuesView) → StandsIn table spot here
         → now_act script next here (now_seen table now) ≡ plain_rule script next here at (form_of form.entry.now)) }
-    ensures held { IfOk result (λ now. (table : ValuesView) → IsHeldClass table spot.in_class → IsHeldNow table now) }
+    ensures held { IfOk result (λ now. (table : ValuesView) → IsHeldClass table spot.in_class → IsHeldNow table spot.scope now) }
 {
     let part = Part {
         at,
@@ -125,7 +126,7 @@ fn plainly<'a>(alloc: Global, at: Pos, form: &'a Form, spot: Spot) -> Result<Now
 pub fn opened<'a>(alloc: Global, at: Pos, form: &'a Form, spot: Spot) -> Result<Now<'a>, Memory>
     ensures means { IfOk result (λ now. (script : ScriptTree) (next : Task → Act) (here : Here) (table : ValuesView) → StandsIn table spot here
         → now_act script next here (now_seen table now) ≡ rule script next here at (form_of form.entry.now)) }
-    ensures held { IfOk result (λ now. (table : ValuesView) → IsHeldClass table spot.in_class → IsHeldNow table now) }
+    ensures held { IfOk result (λ now. (table : ValuesView) → IsHeldClass table spot.in_class → IsHeldNow table spot.scope now) }
 {
     match first_in(form) {
         None => plainly(alloc, at, form, spot),
@@ -143,7 +144,7 @@ pub fn opened<'a>(alloc: Global, at: Pos, form: &'a Form, spot: Spot) -> Result<
 /// What follows the tests of an `if`.
 fn otherwise<'a>(orelse: &'a Option<Suite>) -> Now<'a>
     ensures means { (script : ScriptTree) (next : Task → Act) (here : Here) (table : ValuesView) → now_act script next here (now_seen table result) ≡ otherwise script next here (else_tree (option_map suite_of orelse.entry.now)) }
-    ensures held { (table : ValuesView) → IsHeldNow table result }
+    ensures held { (table : ValuesView) (scope : OneScope) → IsHeldNow table scope result }
 {
     match orelse {
         None => Now::Ended(End::Normal),
@@ -162,7 +163,7 @@ pub(crate) fn test_opened<'a>(
 ) -> Result<Now<'a>, Memory>
     ensures means { IfOk result (λ now. (script : ScriptTree) (next : Task → Act) (here : Here) (table : ValuesView)
         → now_act script next here (now_seen table now) ≡ from_test script next here (form_of form.entry.now) number) }
-    ensures held { IfOk result (λ now. (table : ValuesView) → IsHeldNow table now) }
+    ensures held { IfOk result (λ now. (table : ValuesView) → IsHeldNow table scope now) }
 {
     let part = Part {
         at,

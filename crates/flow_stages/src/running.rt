@@ -7,10 +7,11 @@ ghost use Rattle.py_value.specs.Values.{ValuesView, IsNamed};
 ghost use Rattle.py_model.specs.Act.{Act};
 ghost use Rattle.py_model.specs.Expressions.{Here, Task};
 ghost use Rattle.py_model.specs.Statements.{suite};
+ghost use Rattle.interp_eval.specs.declared.frames.Scope.{Scope as OneScope};
 ghost use Rattle.flow_parts.specs.Held.{IsHeldClass, IsHeldNow, IsHeldStage};
 ghost use Rattle.flow_parts.specs.Machine.{handled_act, handler_in, inside_here, now_act, suite_act, suite_in, turn_act};
 ghost use Rattle.flow_parts.specs.Seen.{here_seen, now_seen, stmts_seen};
-ghost use Rattle.flow_stages.specs.Running.{HoldsWay, OpensBy};
+ghost use Rattle.flow_stages.specs.Running.{HoldsOpened, OpensBy};
 ghost use Rattle.flow_parts.specs.declared.control.End.TheVariants.{Normal};
 ghost use Rattle.flow_parts.specs.declared.control.Now.TheVariants.{Ended, InSuite};
 ghost use Rattle.flow_stages.specs.declared.running.Way.TheVariants.{Becomes, Runs, Unwritten};
@@ -63,7 +64,7 @@ fn turned<'a>(
 ) -> Result<Now<'a>, Memory>
     ensures means { IfOk result (λ now. (script : ScriptTree) (next : Task → Act) (here : Here) (table : ValuesView)
         → now_act script next here (now_seen table now) ≡ turn_act script next here part.entry.at (form_of part.entry.form.now) (contents table items) number (contents table size)) }
-    ensures held { IfOk result (λ now. (table : ValuesView) → IsNamed table items → IsNamed table size → IsHeldNow table now) }
+    ensures held { IfOk result (λ now. (table : ValuesView) (scope : OneScope) → IsNamed table items → IsNamed table size → IsHeldNow table scope now) }
 {
     match part.form {
         Form::For(_, _, _) => on_three(
@@ -177,7 +178,7 @@ fn runs<'a>(stmts: &'a [Stmt], spot: Spot) -> Opened<'a>
 /// A part of a statement is opened at its spot.
 pub fn part_opened<'a>(alloc: Global, part: Part<'a>, spot: Spot) -> Result<Opened<'a>, Memory>
     ensures means { IfOk result (λ opened. OpensBy part.entry spot opened.now opened.way) }
-    ensures held { IfOk result (λ opened. (table : ValuesView) → IsHeldStage table part.entry.stage → IsHeldClass table spot.in_class → IsHeldNow table opened.now × HoldsWay table opened.way) }
+    ensures held { IfOk result (λ opened. (table : ValuesView) → IsHeldStage table part.entry.stage → IsHeldClass table spot.in_class → HoldsOpened table spot opened.now opened.way) }
 {
     let form = part.form;
     match part.stage {

@@ -6,6 +6,7 @@ ghost use Rattle.py_value.specs.Contents.{contents};
 ghost use Rattle.py_value.specs.Values.{ValuesView, IsNamed};
 ghost use Rattle.py_model.specs.Act.{Act};
 ghost use Rattle.py_model.specs.Expressions.{Here, Task};
+ghost use Rattle.interp_eval.specs.declared.frames.Scope.{Scope as OneScope};
 ghost use Rattle.flow_parts.specs.Held.{IsHeldGoal, IsHeldNow};
 ghost use Rattle.flow_parts.specs.Machine.{goal_act, holder_act, index_act, key_act, now_act, owner_act, stored_act, target_in};
 ghost use Rattle.flow_parts.specs.Seen.{goal_seen, now_seen};
@@ -28,7 +29,7 @@ pub(crate) fn stored<'a>(
 ) -> Result<Now<'a>, Memory>
     ensures means { IfOk result (λ now. (script : ScriptTree) (next : Task → Act) (here : Here) (table : ValuesView)
         → now_act script next here (now_seen table now) ≡ stored_act script next here part.entry.at (form_of part.entry.form.now) (goal_seen table goal) (target_in (form_of part.entry.form.now)) (contents table value)) }
-    ensures held { IfOk result (λ now. (table : ValuesView) → IsHeldGoal table goal → IsNamed table value → IsHeldNow table now) }
+    ensures held { IfOk result (λ now. (table : ValuesView) → IsHeldGoal table goal → IsNamed table value → IsHeldNow table scope now) }
 {
     let Some(target) = target_in(part.form) else {
         return Ok(Now::Ended(End::Normal));
@@ -57,7 +58,7 @@ pub(crate) fn held<'a>(
 ) -> Result<Now<'a>, Memory>
     ensures means { IfOk result (λ now. (script : ScriptTree) (next : Task → Act) (here : Here) (table : ValuesView)
         → now_act script next here (now_seen table now) ≡ holder_act script next here part.entry.at (form_of part.entry.form.now) (goal_seen table goal) (target_in (form_of part.entry.form.now)) (contents table value) (contents table owner)) }
-    ensures held { IfOk result (λ now. (table : ValuesView) → IsHeldGoal table goal → IsNamed table value → IsNamed table owner → IsHeldNow table now) }
+    ensures held { IfOk result (λ now. (table : ValuesView) → IsHeldGoal table goal → IsNamed table value → IsNamed table owner → IsHeldNow table scope now) }
 {
     let Some(target) = target_in(part.form) else {
         return Ok(Now::Ended(End::Normal));
@@ -88,7 +89,7 @@ pub(crate) fn indexed<'a>(
 ) -> Result<Now<'a>, Memory>
     ensures means { IfOk result (λ now. (script : ScriptTree) (next : Task → Act) (here : Here) (table : ValuesView)
         → now_act script next here (now_seen table now) ≡ index_act script next here part.entry.at (form_of part.entry.form.now) (goal_seen table goal) (target_in (form_of part.entry.form.now)) (contents table value) (contents table owner) (contents table index)) }
-    ensures held { IfOk result (λ now. (table : ValuesView) → IsHeldGoal table goal → IsNamed table value → IsNamed table owner → IsNamed table index → IsHeldNow table now) }
+    ensures held { IfOk result (λ now. (table : ValuesView) (scope : OneScope) → IsHeldGoal table goal → IsNamed table value → IsNamed table owner → IsNamed table index → IsHeldNow table scope now) }
 {
     let Some(target) = target_in(part.form) else {
         return Ok(Now::Ended(End::Normal));
@@ -108,7 +109,7 @@ pub(crate) fn indexed<'a>(
 pub(crate) fn reached<'a>(part: Part<'a>, goal: Goal) -> Now<'a>
     ensures means { (script : ScriptTree) (next : Task → Act) (here : Here) (table : ValuesView)
         → now_act script next here (now_seen table result) ≡ goal_act script next here part.entry.at (goal_seen table goal) (form_of part.entry.form.now) }
-    ensures held { (table : ValuesView) → IsHeldGoal table goal → IsHeldNow table result }
+    ensures held { (table : ValuesView) (scope : OneScope) → IsHeldGoal table goal → IsHeldNow table scope result }
 {
     match goal {
         Goal::Finishes => Now::Ended(End::Normal),
@@ -128,7 +129,7 @@ pub(crate) fn owned<'a>(
 ) -> Result<Now<'a>, Memory>
     ensures means { IfOk result (λ now. (script : ScriptTree) (next : Task → Act) (here : Here) (table : ValuesView)
         → now_act script next here (now_seen table now) ≡ owner_act script next here (target_in (form_of part.entry.form.now)) (contents table owner)) }
-    ensures held { IfOk result (λ now. (table : ValuesView) → IsNamed table owner → IsHeldNow table now) }
+    ensures held { IfOk result (λ now. (table : ValuesView) → IsNamed table owner → IsHeldNow table scope now) }
 {
     let Some(target) = target_in(part.form) else {
         return Ok(Now::Ended(End::Normal));
@@ -151,7 +152,7 @@ pub(crate) fn keyed<'a>(
 ) -> Result<Now<'a>, Memory>
     ensures means { IfOk result (λ now. (script : ScriptTree) (next : Task → Act) (here : Here) (table : ValuesView)
         → now_act script next here (now_seen table now) ≡ key_act script next here (target_in (form_of part.entry.form.now)) (contents table owner) (contents table index)) }
-    ensures held { IfOk result (λ now. (table : ValuesView) → IsNamed table owner → IsNamed table index → IsHeldNow table now) }
+    ensures held { IfOk result (λ now. (table : ValuesView) (scope : OneScope) → IsNamed table owner → IsNamed table index → IsHeldNow table scope now) }
 {
     let Some(target) = target_in(part.form) else {
         return Ok(Now::Ended(End::Normal));

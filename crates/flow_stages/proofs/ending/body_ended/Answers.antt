@@ -4,4 +4,4 @@ use Rattle.flow_parts.specs.declared.control.Part.{Part}
 use Rattle.flow_stages.proofs.ending.body_ended.Goals as goal
 
 pub returns-in-While-clause-held : goal.returns-in-While-clause-held
-returns-in-While-clause-held c = λ table held. c.looped.ensures.held table (subst (λ (p : Part). IsHeldStage table p.stage) (sym c.to.ensures) tt) held
+returns-in-While-clause-held c = λ table scope held. c.looped.ensures.held table scope (subst (λ (p : Part). IsHeldStage table p.stage) (sym c.to.ensures) tt) held

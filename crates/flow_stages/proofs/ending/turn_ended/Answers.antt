@@ -19,4 +19,4 @@ returns-in-For-clause-means c = λ script next here table.
     (ap form_of c.in-For.is ∙ for_tree c.in-For.field-0 c.in-For.field-1 c.in-For.field-2)
 
 pub returns-in-For-clause-held : goal.returns-in-For-clause-held
-returns-in-For-clause-held c = λ table items size end. c.looped.ensures.held table (subst (λ (p : Part). IsHeldStage table p.stage) (sym c.to.ensures) (items, size)) end
+returns-in-For-clause-held c = λ table scope items size end. c.looped.ensures.held table scope (subst (λ (p : Part). IsHeldStage table p.stage) (sym c.to.ensures) (items, size)) end

@@ -8,7 +8,7 @@ use Rattle.flow_stages.proofs.Openings.{if_more}
 use Rattle.flow_stages.proofs.following.after.Goals as goal
 
 pub returns-in-Stored-clause-held : goal.returns-in-Stored-clause-held
-returns-in-Stored-clause-held c = λ table stage v. c.reached.ensures.held table (subst (IsHeldStage table) c.in-Stored.is stage)
+returns-in-Stored-clause-held c = λ table stage v. c.reached.ensures.held table c.args.scope (subst (IsHeldStage table) c.in-Stored.is stage)
 
 pub returns-in-Item-clause-means : goal.returns-in-Item-clause-means
 returns-in-Item-clause-means c = if_more c.stored.result _ _ (λ now means. λ script next here table.

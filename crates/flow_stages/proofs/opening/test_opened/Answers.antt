@@ -23,3 +23,6 @@ returns-in-Some-clause-means c = if_more c.start.result _ _ (λ now means. λ sc
     if_some script next here (now_act script next here (now_seen table now)) c.args.at (form_of c.args.form.now) c.args.number (branches_of c.in-If.branches) (else_tree (option_map suite_of c.in-If.orelse)) c.as_slice.result.now
     (ap form_of c.in-If.is ∙ if_tree c.in-If.branches c.in-If.orelse) (branches_tree c.in-If.branches ∙ ap branches_seen (sym c.as_slice.ensures.value))
     c.in-Some.branch.now _ (sym c.branch_at.ensures ∙ ap (option_map (λ b. b.now)) c.in-Some.is) refl (means script next here table)) c.start.ensures.means
+
+pub returns-in-None-clause-held : goal.returns-in-None-clause-held
+returns-in-None-clause-held c = λ table. c.otherwise.ensures.held table c.args.scope

@@ -25,5 +25,5 @@ returns-in-For-clause-means c = if_more c.on_three.result _ _ (λ now means. λ 
     (means script next here table)) c.on_three.ensures.means
 
 pub returns-in-For-clause-held : goal.returns-in-For-clause-held
-returns-in-For-clause-held c = if_more c.on_three.result _ _ (λ now held. λ table items size.
-    held table items (c.counted.ensures.named table) size (subst (λ (p : Part). IsHeldStage table p.stage) (sym c.to.ensures) (items, size))) c.on_three.ensures.held
+returns-in-For-clause-held c = if_more c.on_three.result _ _ (λ now held. λ table scope items size.
+    held table scope items (c.counted.ensures.named table) size (subst (λ (p : Part). IsHeldStage table p.stage) (sym c.to.ensures) (items, size))) c.on_three.ensures.held

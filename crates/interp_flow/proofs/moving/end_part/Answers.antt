@@ -8,4 +8,4 @@ returns-clause-means c = λ script next table.
     goes_on script next table c.args.frames.now (record c.args.frames.now { now = c.in_ok-now.now }) _ (c.in_ok-now.ensures.means script next (here_seen script table c.args.frames.now.spot) table) refl
 
 pub returns-clause-held : goal.returns-clause-held
-returns-clause-held c = λ table old stage end. record { spot = old.spot; now = c.in_ok-now.ensures.held table stage end; below = old.below }
+returns-clause-held c = λ table old stage end. record { spot = old.spot; now = c.in_ok-now.ensures.held table c.args.frames.now.spot.scope stage end; below = old.below }

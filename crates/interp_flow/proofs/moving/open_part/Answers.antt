@@ -4,7 +4,7 @@ use Rattle.py_model.specs.Act.{ret, to}
 use Rattle.flow_parts.specs.Machine.{open_act, resumes}
 use Rattle.flow_parts.specs.Seen.{frame_seen, here_seen, stage_seen}
 use Rattle.flow_parts.specs.declared.control.Now.TheVariants.{Opens}
-use Rattle.flow_stages.specs.Running.{HoldsWay, OpensBy}
+use Rattle.flow_stages.specs.Running.{HoldsOpened, OpensBy}
 use Rattle.interp_flow.proofs.Fronts.{goes_on, now_does}
 use Rattle.interp_flow.proofs.moving.open_part.Goals as goal
 
@@ -15,7 +15,8 @@ returns-in-Becomes-clause-means c = λ yes script next table.
     ∙ goes_on script next table c.args.frames.now (record c.args.frames.now { now = c.in_ok-opened.opened.now }) _ (known script next (here_seen script table c.args.frames.now.spot) table) refl
 
 pub returns-in-Becomes-clause-held : goal.returns-in-Becomes-clause-held
-returns-in-Becomes-clause-held c = λ yes table old stage. record { spot = old.spot; now = (c.in_ok-opened.ensures.held table stage old.spot).0; below = old.below }
+returns-in-Becomes-clause-held c = λ yes table old stage.
+    record { spot = old.spot; now = subst (HoldsOpened table c.args.frames.now.spot c.in_ok-opened.opened.now) c.in-Becomes.is (c.in_ok-opened.ensures.held table stage old.spot); below = old.below }
 
 pub returns-in-Ok-clause-means : goal.returns-in-Ok-clause-means
 returns-in-Ok-clause-means c = λ yes script next table.
@@ -26,5 +27,5 @@ returns-in-Ok-clause-means c = λ yes script next table.
 
 pub returns-in-Ok-clause-held : goal.returns-in-Ok-clause-held
 returns-in-Ok-clause-held c = λ yes table old stage.
-    let held = c.in_ok-opened.ensures.held table stage old.spot in
-    c.in-Ok.ensures.held table old stage (subst (HoldsWay table) c.in-Runs.is held.1) held.0
+    let held = subst (HoldsOpened table c.args.frames.now.spot c.in_ok-opened.opened.now) c.in-Runs.is (c.in_ok-opened.ensures.held table stage old.spot) in
+    c.in-Ok.ensures.held table old stage held.1 held.0

@@ -26,4 +26,4 @@ pub returns-in-Ok-clause-held : goal.returns-in-Ok-clause-held
 returns-in-Ok-clause-held g c = λ table capture fit.
     let before = c.in-Ok.ensures.knew table capture fit in
     let old = c.requires.held table capture before in
-    record { spot = old.spot; now = c.rest_after.ensures.held table (c.requires.end table capture before); below = old.below }
+    record { spot = old.spot; now = c.rest_after.ensures.held table c.args.frames.now.spot.scope (c.requires.end table capture before); below = old.below }

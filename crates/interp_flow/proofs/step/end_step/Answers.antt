@@ -33,7 +33,7 @@ returns-in-Stmt-clause-step g c = λ script.
 pub returns-in-Ok-clause-held : goal.returns-in-Ok-clause-held
 returns-in-Ok-clause-held g c = λ table capture fit.
     let popped = subst (HoldsPopped table c.pop.new.self) c.in-Some.is (c.pop.ensures.held table (c.requires.held table capture fit)) in
-    let waits = subst (IsHeldWaits table) (c.in-Part.is ∙ ap (λ caller. PartWaits caller c.in-Part.part) (c.calls.ensures c.if-calls.false)) popped.1 in
+    let waits = subst (IsHeldWaits table c.pop.new.self.spot.scope) (c.in-Part.is ∙ ap (λ caller. PartWaits caller c.in-Part.part) (c.calls.ensures c.if-calls.false)) popped.1 in
     c.in-Ok.ensures.held table popped.0 waits (c.requires.end table capture fit)
 
 pub returns-in-Ok-clause-step : goal.returns-in-Ok-clause-step

@@ -13,5 +13,5 @@ returns c = record {
       (ap (map (frame_seen script table)) c.in-Some.ensures.items ∙ map-append (frame_seen script table) c.pop.new.self.items (c.in-Some.frame ∷ []));
   held = λ table old.
       let off = frames_off table c.pop.new.self.items c.args.self.now.below.items c.in-Some.frame c.in-Some.ensures.items old.below in
-      (record { spot = off.1.0; now = old.now; below = off.0 }, off.1.1);
+      (record { spot = off.1.0; now = tt; below = off.0 }, off.1.1);
 }
