@@ -4,3 +4,5 @@ pub mod Stepping
 pub mod Fronts
 pub mod Endings
 pub mod Operating
+pub mod Evaluating
+pub mod Flowing

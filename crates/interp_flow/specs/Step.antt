@@ -10,7 +10,7 @@ use Rattle.py_model.specs.Meaning.{RunEnd, finished, uncaught, end_of, level}
 use Rattle.py_model.specs.Moment.{Moment}
 use Rattle.py_model.specs.Running.{State, Asking, outcome, over, spent, lacking}
 use Rattle.py_model.specs.Told.{TellsOn}
-use Rattle.flow_parts.specs.Held.{IsHeldEnd, IsHeldFlow}
+use Rattle.flow_parts.specs.Held.{IsHeldEnd, IsHeldFlow, IsHeldNow}
 use Rattle.flow_parts.specs.Machine.{flow, remaining, resumes, waits_act}
 use Rattle.flow_parts.specs.Seen.{end_seen, flow_seen, frame_seen, here_seen, now_seen, waits_seen}
 use Rattle.flow_parts.specs.declared.control.End.{End}
@@ -127,3 +127,7 @@ handed script frames waits end table next =
 
 abbrev pub IsHeldEndBy : Fits → End → Type 0
 IsHeldEndBy fits end = (table : ValuesView) (capture : Capture) → fits table capture → IsHeldEnd table end
+
+-- what is done now holds values that are named
+abbrev pub IsHeldNowBy : Fits → FlowFrames → Now → Type 0
+IsHeldNowBy fits frames now = (table : ValuesView) (capture : Capture) → fits table capture → IsHeldNow table frames.spot.scope now

@@ -1,30 +1,39 @@
 -- An operation of a statement that is done now, with the part that follows its answer.
-use Rattle.std.specs.Prelude.{◌≡◌, List, map, true, Result, Ok, Err}
+use Rattle.std.specs.Prelude.{◌≡◌, List, map, true, Result, Ok, Err, ⊤}
 use Rattle.prov_base.specs.declared.place.Pos.{Pos}
 use Rattle.py_tree.specs.Erasure.{form_of}
 use Rattle.py_tree.specs.Tree.{ScriptTree}
 use Rattle.py_value.specs.Contents.{contents}
 use Rattle.py_value.specs.Values.{ValuesView}
 use Rattle.py_value.specs.declared.value.Value.{Value}
-use Rattle.py_model.specs.Act.{ret, to}
+use Rattle.py_model.specs.Act.{Act, normal, ret, to}
 use Rattle.py_model.specs.Capture.{Capture}
 use Rattle.py_model.specs.Doing.{Standing, standing, Fits, Stands, ForEach}
-use Rattle.py_model.specs.Expressions.{Here, doing}
+use Rattle.py_model.specs.Expressions.{Here, Task, by_answer, doing}
 use Rattle.py_model.specs.Running.{State}
-use Rattle.py_model.specs.Told.{op_seen, is_operation}
+use Rattle.py_model.specs.Told.{answer_seen, op_seen, is_operation}
+use Rattle.py_model.specs.declared.moment.Answer.{Answer}
+use Rattle.py_model.specs.declared.moment.Answer.TheVariants.{Value as ValueAnswer, Raised as RaisedAnswer, End as EndAnswer}
 use Rattle.py_model.specs.declared.moment.Op.{Op}
 use Rattle.interp_eval.specs.Held.{AreAllNamed}
 use Rattle.interp_eval.specs.Scopes.{IsAt}
+use Rattle.interp_eval.specs.Step.{remaining as eval_remaining}
+use Rattle.interp_eval.specs.declared.frames.EvalFrames.{EvalFrames}
+use Rattle.interp_eval.specs.declared.frames.EvalNext.{EvalNext}
+use Rattle.interp_eval.specs.declared.frames.EvalNext.TheVariants.{More, Value as TheValue, Call, Raised, Ended, Spent, Unanswered}
 use Rattle.interp_eval.specs.declared.frames.Scope.{Scope}
 use Rattle.flow_parts.specs.Codes.{code_number, code_value, code_want}
-use Rattle.flow_parts.specs.Held.{IsHeldStage}
-use Rattle.flow_parts.specs.Machine.{flow_op, resumes, then_act}
-use Rattle.flow_parts.specs.Seen.{frame_seen, here_seen, stage_seen}
+use Rattle.flow_parts.specs.Held.{IsHeldStage, IsHeldWork}
+use Rattle.flow_parts.specs.Machine.{flow_op, resumes, then_act, work_act}
+use Rattle.flow_parts.specs.Seen.{frame_seen, here_seen, stage_seen, work_seen}
 use Rattle.flow_parts.specs.declared.codes.Code.{Code}
 use Rattle.flow_parts.specs.declared.control.Part.{Part}
 use Rattle.flow_parts.specs.declared.control.Stage.{Stage}
+use Rattle.flow_parts.specs.declared.control.Work.{Work}
 use Rattle.flow_parts.specs.declared.frames.FlowFrames.{FlowFrames}
-use Rattle.interp_flow.specs.Step.{Before}
+use Rattle.interp_flow.specs.Step.{Before, meant}
+use Rattle.interp_flow.specs.declared.next.FlowNext.{FlowNext}
+use Rattle.interp_flow.specs.declared.next.FlowNext.TheVariants.{More as FlowMore, Spent as FlowSpent, Unanswered as FlowUnanswered, Unwritten}
 
 -- the operation is as the statement names it, at each place that the scope says
 pub record IsCodeOp (script : ScriptTree) (scope : Scope) (code : Code) (op : Op) (after : Standing → Type 0) (table : ValuesView) (s : State) : Type 0 where
@@ -47,3 +56,45 @@ AreHeldValues fits values = (table : ValuesView) (capture : Capture) → fits ta
 
 abbrev pub AreHeldStages : Fits → Stage → Type 0
 AreHeldStages fits stage = (table : ValuesView) (capture : Capture) → fits table capture → IsHeldStage table stage
+
+-- what is still to be done where an expression is evaluated, at the spot of frames
+abbrev pub evaluating : ScriptTree → FlowFrames → EvalFrames → Part → Before
+evaluating script frames eval p table next =
+    to (eval_remaining script next (here_seen script table frames.spot) (then_act script next (here_seen script table frames.spot) p.at (form_of p.form.now) (stage_seen table p.stage)) table eval)
+    (resumes script next (map (frame_seen script table) frames.below.items) (λ how. ret how))
+
+-- what is still to be done where a part has got an answer
+abbrev pub answering : ScriptTree → FlowFrames → Part → Answer → Before
+answering script frames p answer table next =
+    to (by_answer (here_seen script table frames.spot) (ret normal) (then_act script next (here_seen script table frames.spot) p.at (form_of p.form.now) (stage_seen table p.stage)) (answer_seen table answer))
+    (resumes script next (map (frame_seen script table) frames.below.items) (λ how. ret how))
+
+-- the run goes on, and as much remains
+abbrev pub GoesOnFrom : {E : Type 0} → (ScriptTree → Before) → FlowFrames → Result FlowNext E → Type 0
+GoesOnFrom b after (Ok FlowMore) = (script : ScriptTree) (table : ValuesView) (next : Task → Act) → b script table next ≡ meant script after table next
+GoesOnFrom b after (Err want) = ⊤
+GoesOnFrom b after result = ⊥
+
+-- What a step of an expression came to is taken: the expression goes on, or the part that waits for its value gets an answer. What is not
+-- performed is passed on.
+abbrev pub IsTaken : {E : Type 0} → EvalNext → EvalFrames → Part → FlowFrames → FlowFrames → Result FlowNext E → Type 0
+IsTaken More eval p before after result = GoesOnFrom (λ script. evaluating script before eval p) after result
+IsTaken (TheValue v) eval p before after result = GoesOnFrom (λ script. answering script before p (ValueAnswer v)) after result
+IsTaken (Raised o) eval p before after result = GoesOnFrom (λ script. answering script before p (RaisedAnswer o)) after result
+IsTaken Ended eval p before after result = GoesOnFrom (λ script. answering script before p EndAnswer) after result
+IsTaken Spent eval p before after result = result ≡ Ok FlowSpent
+IsTaken Unanswered eval p before after result = result ≡ Ok FlowUnanswered
+IsTaken (Call f args at) eval p before after result = result ≡ Ok Unwritten
+
+-- the expression stands in the scope of its statement
+abbrev pub IsInScope : Fits → EvalFrames → FlowFrames → Type 0
+IsInScope fits eval frames = (table : ValuesView) (capture : Capture) → fits table capture → eval.scope ≡ frames.spot.scope
+
+-- what is still to be done where this gives a value
+abbrev pub working : ScriptTree → FlowFrames → Work → Part → Before
+working script frames work p table next =
+    to (work_act script next (here_seen script table frames.spot) (work_seen table work) (then_act script next (here_seen script table frames.spot) p.at (form_of p.form.now) (stage_seen table p.stage)))
+    (resumes script next (map (frame_seen script table) frames.below.items) (λ how. ret how))
+
+abbrev pub IsHeldWorkBy : Fits → FlowFrames → Work → Type 0
+IsHeldWorkBy fits frames work = (table : ValuesView) (capture : Capture) → fits table capture → IsHeldWork table frames.spot.scope work

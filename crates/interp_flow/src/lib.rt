@@ -2,6 +2,7 @@
 //! [`Watch`](py_model::Watch). It stands on the meaning of `py_model` and on the parts of statements of `flow_parts` and `flow_stages`.
 #![tactic(auto)]
 
+mod expression;
 mod moving;
 mod next;
 mod step;
@@ -9,3 +10,4 @@ mod value;
 
 pub use flow_parts::FlowFrames;
 pub use next::FlowNext;
+pub use step::flow_step;

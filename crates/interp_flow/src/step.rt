@@ -6,20 +6,25 @@ ghost use Rattle.flow_parts.specs.Seen.{end_seen};
 ghost use Rattle.py_tree.specs.Tree.{ScriptTree};
 ghost use Rattle.py_model.specs.Doing.{Knew};
 ghost use Rattle.interp_eval.specs.Performing.{HasState};
-ghost use Rattle.flow_parts.specs.declared.control.Now.TheVariants.{Ended, InSuite};
+ghost use Rattle.py_tree.specs.Erasure.{script_of};
+ghost use Rattle.flow_parts.specs.declared.control.Now.TheVariants.{Ended, Gives, InSuite};
 ghost use Rattle.flow_parts.specs.declared.frames.Waits.TheVariants.{Stmt as StmtWaits};
-ghost use Rattle.interp_flow.specs.Step.{HoldsNext, IsHeldEndBy, StepsFrom, doing_now, handed, next_end};
+ghost use Rattle.interp_flow.specs.Step.{HoldsNext, IsHeldEndBy, IsHeldNowBy, Steps, StepsFrom, doing_now, handed, next_end};
 ghost use Rattle.flow_parts.specs.Held.{IsHeldBy};
+ghost use Rattle.interp_flow.specs.Value.{AreHeldStages, IsHeldWorkBy, working};
 
-use crate::moving::{end_part, open_stmt};
+use crate::expression::expression_step;
+use crate::moving::{end_part, open_part, open_stmt};
 use crate::next::FlowNext;
-use flow_parts::{End, FlowFrames, Now, Waits, begin, close};
+use crate::value::operation_step;
+use flow_parts::{End, FlowFrames, Giving, Now, Part, Waits, Work, begin, close};
 use flow_stages::rest_after;
 use interp_eval::EvalFrames;
 use prov_base::Memory;
 use py_model::{Doer, Watch, meaning_unfolds};
-use py_tree::Stmt;
+use py_tree::{Script, Stmt};
 use std::alloc::Global;
+use std::mem;
 
 /// The first statement of a suite begins; or the suite is at its end.
 pub(crate) fn suite_step<'a, D: Doer, W: Watch>(
@@ -134,4 +139,105 @@ pub(crate) fn end_step<'a, D: Doer, W: Watch>(
             }
         }
     }
+}
+
+/// What gives a value goes on by one step: an expression, or an operation.
+fn work_step<'a, D: Doer, W: Watch>(
+    alloc: Global,
+    frames: &mut FlowFrames<'a>,
+    work: Work<'a>,
+    part: Part<'a>,
+    script: &'a Script,
+    doer: &mut D,
+    watch: &mut W,
+    left: &mut u32,
+) -> Result<FlowNext, Memory>
+    requires state { HasState (D.fits doer.old) (D.stands doer.old) }
+    requires held { IsHeldBy (D.fits doer.old) frames.old }
+    requires work { IsHeldWorkBy (D.fits doer.old) frames.old work }
+    requires stage { AreHeldStages (D.fits doer.old) part.stage }
+    ensures knew { Knew (D.fits doer.old) (D.fits doer.new) }
+    ensures held { HoldsNext (D.fits doer.new) frames.new result }
+    ensures step { StepsFrom (script_of script.entry.now) (working (script_of script.entry.now) frames.old work.entry part.entry) frames.new left.old left.new (D.fits doer.new) (D.stands doer.old) (D.stands doer.new) (W.history watch.old) (W.history watch.new) result }
+{
+    match work {
+        Work::Operation(at, code, values) => operation_step(
+            alloc, frames, at, code, values, part, script, doer, watch, left,
+        ),
+        Work::Evaluates(eval) => {
+            expression_step(alloc, frames, eval, part, script, doer, watch, left)
+        }
+    }
+}
+
+/// What gives a value goes on by one step.
+fn gives_step<'a, D: Doer, W: Watch>(
+    alloc: Global,
+    frames: &mut FlowFrames<'a>,
+    giving: Box<Giving<'a>>,
+    script: &'a Script,
+    doer: &mut D,
+    watch: &mut W,
+    left: &mut u32,
+) -> Result<FlowNext, Memory>
+    requires state { HasState (D.fits doer.old) (D.stands doer.old) }
+    requires held { IsHeldBy (D.fits doer.old) frames.old }
+    requires now { IsHeldNowBy (D.fits doer.old) frames.old (Gives giving) }
+    ensures knew { Knew (D.fits doer.old) (D.fits doer.new) }
+    ensures held { HoldsNext (D.fits doer.new) frames.new result }
+    ensures step { StepsFrom (script_of script.entry.now) (doing_now (script_of script.entry.now) frames.old (Gives giving.entry)) frames.new left.old left.new (D.fits doer.new) (D.stands doer.old) (D.stands doer.new) (W.history watch.old) (W.history watch.new) result }
+{
+    let giving = Box::into_inner(giving);
+    let part = giving.part;
+    work_step(alloc, frames, giving.work, part, script, doer, watch, left)
+}
+
+/// What is done now goes on by one step, where the frames stand.
+fn now_step<'a, D: Doer, W: Watch>(
+    alloc: Global,
+    frames: &mut FlowFrames<'a>,
+    now: Now<'a>,
+    script: &'a Script,
+    doer: &mut D,
+    watch: &mut W,
+    left: &mut u32,
+) -> Result<FlowNext, Memory>
+    requires state { HasState (D.fits doer.old) (D.stands doer.old) }
+    requires held { IsHeldBy (D.fits doer.old) frames.old }
+    requires now { IsHeldNowBy (D.fits doer.old) frames.old now }
+    ensures knew { Knew (D.fits doer.old) (D.fits doer.new) }
+    ensures held { HoldsNext (D.fits doer.new) frames.new result }
+    ensures step { StepsFrom (script_of script.entry.now) (doing_now (script_of script.entry.now) frames.old now.entry) frames.new left.old left.new (D.fits doer.new) (D.stands doer.old) (D.stands doer.new) (W.history watch.old) (W.history watch.new) result }
+{
+    match now {
+        Now::InSuite(stmts) => suite_step(alloc, frames, stmts, doer, watch, left),
+        Now::Gives(giving) => gives_step(alloc, frames, giving, script, doer, watch, left),
+        Now::Ended(end) => end_step(alloc, frames, end, doer, watch, *left),
+        Now::Opens(part) => match open_part(alloc, frames, part) {
+            Ok(true) => Ok(FlowNext::More),
+            Ok(false) => Ok(FlowNext::Unwritten),
+            Err(refused) => Err(refused),
+        },
+    }
+}
+
+/// One step of a script: one moment is performed and told, or the frames go on without one; or the run comes to its end, or to what ends it.
+/// After an answer other than [`FlowNext::More`] the frames are not gone on with.
+pub fn flow_step<'a, D: Doer, W: Watch>(
+    alloc: Global,
+    frames: &mut FlowFrames<'a>,
+    script: &'a Script,
+    doer: &mut D,
+    watch: &mut W,
+    left: &mut u32,
+) -> Result<FlowNext, Memory>
+    requires state { HasState (D.fits doer.old) (D.stands doer.old) }
+    requires held { IsHeldBy (D.fits doer.old) frames.old }
+    ensures knew { Knew (D.fits doer.old) (D.fits doer.new) }
+    ensures state { HasState (D.fits doer.new) (D.stands doer.new) }
+    ensures held { HoldsNext (D.fits doer.new) frames.new result }
+    ensures step { Steps (script_of script.entry.now) frames.old frames.new left.old left.new (D.fits doer.new) (D.stands doer.old) (D.stands doer.new) (W.history watch.old) (W.history watch.new) result }
+{
+    let now = mem::replace(&mut frames.now, Now::Ended(End::Normal));
+    now_step(alloc, frames, now, script, doer, watch, left)
 }

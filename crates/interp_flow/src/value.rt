@@ -44,7 +44,7 @@ fn code_op<D: Doer>(
 }
 
 /// The answer of an operation is there: its value is taken by the part that waits for it, and an exception or an end ends the statement.
-fn take<'a>(
+pub(crate) fn take<'a>(
     alloc: Global,
     frames: &mut FlowFrames<'a>,
     part: Part<'a>,

@@ -1,0 +1,52 @@
+use Rattle.std.proofs.Common.{Some, ap, subst, sym, ◌∙◌}
+use Rattle.py_tree.specs.Erasure.{script_of}
+use Rattle.py_model.specs.Running.{outcome}
+use Rattle.py_model.specs.Meaning.{level}
+use Rattle.flow_parts.specs.Held.{IsHeldNow}
+use Rattle.flow_parts.specs.declared.control.Now.TheVariants.{Ended, Gives, InSuite, Opens}
+use Rattle.interp_flow.specs.Step.{doing_now}
+use Rattle.interp_flow.proofs.Stepping.{cut_from, left_from, steps_on, steps_same}
+use Rattle.interp_flow.proofs.step.now_step.Goals as goal
+
+pub returns-in-InSuite-clause-step : goal.returns-in-InSuite-clause-step
+returns-in-InSuite-clause-step g c =
+    steps_same (script_of c.args.script.now) (doing_now (script_of c.args.script.now) c.args.frames.now c.args.now) (doing_now (script_of c.args.script.now) c.args.frames.now (InSuite c.in-InSuite.stmts)) c.suite_step.new.frames c.args.left.now c.suite_step.new.left
+    (g.D.Doer.fits c.suite_step.new.doer) (g.D.Doer.stands c.args.doer.now) (g.D.Doer.stands c.suite_step.new.doer) (g.W.Watch.history c.args.watch.now) (g.W.Watch.history c.suite_step.new.watch) c.suite_step.result
+    (λ table next. ap (λ now. doing_now (script_of c.args.script.now) c.args.frames.now now table next) c.in-InSuite.is) (c.suite_step.ensures.step (script_of c.args.script.now))
+
+pub gives_step-requires-clause-now : goal.gives_step-requires-clause-now
+gives_step-requires-clause-now g c = λ table capture fit. subst (IsHeldNow table c.args.frames.now.spot.scope) c.in-Gives.is (c.requires.now table capture fit)
+
+pub returns-in-Gives-clause-step : goal.returns-in-Gives-clause-step
+returns-in-Gives-clause-step g c =
+    steps_same (script_of c.args.script.now) (doing_now (script_of c.args.script.now) c.args.frames.now c.args.now) (doing_now (script_of c.args.script.now) c.args.frames.now (Gives c.in-Gives.giving)) c.gives_step.new.frames c.args.left.now c.gives_step.new.left
+    (g.D.Doer.fits c.gives_step.new.doer) (g.D.Doer.stands c.args.doer.now) (g.D.Doer.stands c.gives_step.new.doer) (g.W.Watch.history c.args.watch.now) (g.W.Watch.history c.gives_step.new.watch) c.gives_step.result
+    (λ table next. ap (λ now. doing_now (script_of c.args.script.now) c.args.frames.now now table next) c.in-Gives.is) c.gives_step.ensures.step
+
+pub end_step-requires-clause-end : goal.end_step-requires-clause-end
+end_step-requires-clause-end g c = λ table capture fit. subst (IsHeldNow table c.args.frames.now.spot.scope) c.in-Ended.is (c.requires.now table capture fit)
+
+pub returns-in-Ended-clause-step : goal.returns-in-Ended-clause-step
+returns-in-Ended-clause-step g c =
+    steps_same (script_of c.args.script.now) (doing_now (script_of c.args.script.now) c.args.frames.now c.args.now) (doing_now (script_of c.args.script.now) c.args.frames.now (Ended c.in-Ended.end)) c.end_step.new.frames c.args.left.now c.args.left.now
+    (g.D.Doer.fits c.end_step.new.doer) (g.D.Doer.stands c.args.doer.now) (g.D.Doer.stands c.end_step.new.doer) (g.W.Watch.history c.args.watch.now) (g.W.Watch.history c.end_step.new.watch) c.end_step.result
+    (λ table next. ap (λ now. doing_now (script_of c.args.script.now) c.args.frames.now now table next) c.in-Ended.is) (c.end_step.ensures.step (script_of c.args.script.now))
+
+pub returns-in-Ok-true-clause-step : goal.returns-in-Ok-true-clause-step
+returns-in-Ok-true-clause-step g c =
+    steps_on (script_of c.args.script.now) (doing_now (script_of c.args.script.now) c.args.frames.now c.args.now) c.open_part.new.frames c.args.left.now (g.D.Doer.fits c.args.doer.now) (g.D.Doer.stands c.args.doer.now) (g.W.Watch.history c.args.watch.now)
+    (λ table capture s n enough. ap (λ a. outcome capture a s)
+    (ap (λ now. doing_now (script_of c.args.script.now) c.args.frames.now now table (level (script_of c.args.script.now) n)) c.in-Opens.is
+    ∙ c.in-Ok-true.ensures.means c.in-Ok-true.field-0-test (script_of c.args.script.now) (level (script_of c.args.script.now) n) table))
+
+pub returns-in-Ok-true-clause-held : goal.returns-in-Ok-true-clause-held
+returns-in-Ok-true-clause-held g c = λ table capture fit.
+    c.in-Ok-true.ensures.held c.in-Ok-true.field-0-test table (c.requires.held table capture fit) (subst (IsHeldNow table c.args.frames.now.spot.scope) c.in-Opens.is (c.requires.now table capture fit))
+
+pub returns-in-Ok-false-clause-step : goal.returns-in-Ok-false-clause-step
+returns-in-Ok-false-clause-step g c =
+    left_from (script_of c.args.script.now) (doing_now (script_of c.args.script.now) c.args.frames.now c.args.now) c.open_part.new.frames c.args.left.now (g.D.Doer.fits c.args.doer.now) (g.D.Doer.stands c.args.doer.now) (g.W.Watch.history c.args.watch.now)
+
+pub returns-in-Err-clause-step : goal.returns-in-Err-clause-step
+returns-in-Err-clause-step g c =
+    cut_from (script_of c.args.script.now) (doing_now (script_of c.args.script.now) c.args.frames.now c.args.now) c.open_part.new.frames c.args.left.now (g.D.Doer.fits c.args.doer.now) (g.D.Doer.stands c.args.doer.now) (g.W.Watch.history c.args.watch.now) _

@@ -1,0 +1,29 @@
+use Rattle.std.proofs.Common.{ap, subst}
+use Rattle.py_tree.specs.Erasure.{script_of}
+use Rattle.flow_parts.specs.Held.{IsHeldWork}
+use Rattle.interp_flow.specs.Value.{evaluating, operating, working}
+use Rattle.interp_flow.proofs.Stepping.{steps_same}
+use Rattle.interp_flow.proofs.step.work_step.Goals as goal
+
+pub operation_step-requires-clause-values : goal.operation_step-requires-clause-values
+operation_step-requires-clause-values g c = λ table capture fit. subst (IsHeldWork table c.args.frames.now.spot.scope) c.in-Operation.is (c.requires.work table capture fit)
+
+pub returns-in-Operation-clause-step : goal.returns-in-Operation-clause-step
+returns-in-Operation-clause-step g c =
+    steps_same (script_of c.args.script.now) (working (script_of c.args.script.now) c.args.frames.now c.args.work c.args.part)
+    (operating (script_of c.args.script.now) c.args.frames.now c.in-Operation.at c.in-Operation.code c.in-Operation.values.items c.args.part) c.operation_step.new.frames c.args.left.now c.operation_step.new.left
+    (g.D.Doer.fits c.operation_step.new.doer) (g.D.Doer.stands c.args.doer.now) (g.D.Doer.stands c.operation_step.new.doer) (g.W.Watch.history c.args.watch.now) (g.W.Watch.history c.operation_step.new.watch) c.operation_step.result
+    (λ table next. ap (λ w. working (script_of c.args.script.now) c.args.frames.now w c.args.part table next) c.in-Operation.is) c.operation_step.ensures.step
+
+pub expression_step-requires-clause-eval : goal.expression_step-requires-clause-eval
+expression_step-requires-clause-eval g c = λ table capture fit. (subst (IsHeldWork table c.args.frames.now.spot.scope) c.in-Evaluates.is (c.requires.work table capture fit)).0
+
+pub expression_step-requires-clause-scope : goal.expression_step-requires-clause-scope
+expression_step-requires-clause-scope g c = λ table capture fit. (subst (IsHeldWork table c.args.frames.now.spot.scope) c.in-Evaluates.is (c.requires.work table capture fit)).1
+
+pub returns-in-Evaluates-clause-step : goal.returns-in-Evaluates-clause-step
+returns-in-Evaluates-clause-step g c =
+    steps_same (script_of c.args.script.now) (working (script_of c.args.script.now) c.args.frames.now c.args.work c.args.part)
+    (evaluating (script_of c.args.script.now) c.args.frames.now c.in-Evaluates.eval c.args.part) c.expression_step.new.frames c.args.left.now c.expression_step.new.left
+    (g.D.Doer.fits c.expression_step.new.doer) (g.D.Doer.stands c.args.doer.now) (g.D.Doer.stands c.expression_step.new.doer) (g.W.Watch.history c.args.watch.now) (g.W.Watch.history c.expression_step.new.watch) c.expression_step.result
+    (λ table next. ap (λ w. working (script_of c.args.script.now) c.args.frames.now w c.args.part table next) c.in-Evaluates.is) c.expression_step.ensures.step
