@@ -11,7 +11,7 @@ use Rattle.flow_parts.specs.declared.control.End.TheVariants.{Returned}
 use Rattle.flow_parts.specs.declared.control.Goal.{Goal}
 use Rattle.flow_parts.specs.declared.control.Goal.TheVariants.{Finishes, Turns}
 use Rattle.flow_parts.specs.declared.control.Stage.{Stage}
-use Rattle.flow_parts.specs.declared.control.Stage.TheVariants.{Stores, Holder, Index, Stored, Sized, Turn, Item, Repeats, Key, Named, Inside, Closes}
+use Rattle.flow_parts.specs.declared.control.Stage.TheVariants.{Stores, Holder, Index, Stored, Sized, Turn, Item, Repeats, Key, Slotted, Loaded, Sided, Changed, Named, Inside, Closes}
 use Rattle.flow_parts.specs.declared.control.Work.{Work}
 use Rattle.flow_parts.specs.declared.control.Work.TheVariants.{Evaluates, Operation}
 use Rattle.flow_parts.specs.declared.control.Now.{Now}
@@ -40,6 +40,10 @@ IsHeldStage table (Turn items n size) = IsNamed table items × IsNamed table siz
 IsHeldStage table (Item items n size) = IsNamed table items × IsNamed table size
 IsHeldStage table (Repeats items n size) = IsNamed table items × IsNamed table size
 IsHeldStage table (Key o) = IsNamed table o
+IsHeldStage table (Slotted o) = IsNamed table o
+IsHeldStage table (Loaded o i) = IsNamed table o × IsNamed table i
+IsHeldStage table (Sided o i w) = IsNamed table o × (IsNamed table i × IsNamed table w)
+IsHeldStage table (Changed o i) = IsNamed table o × IsNamed table i
 IsHeldStage table (Named v) = IsNamed table v
 IsHeldStage table (Inside v) = IsNamed table v
 IsHeldStage table (Closes end) = IsHeldEnd table end

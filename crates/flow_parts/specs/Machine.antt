@@ -2,14 +2,15 @@
 -- this project's profile): what is done now, and what waits for its end. A part of a statement is named by its form and a stage.
 use Rattle.std.specs.Prelude.{ℕ, zero, suc, List, [], ◌∷◌, Option, Some, None}
 use Rattle.prov_base.specs.declared.place.Pos.{Pos}
+use Rattle.py_tree.specs.declared.expr.BinOp.{BinOp}
 use Rattle.py_tree.specs.declared.stmt.Bound.{Bound}
-use Rattle.py_tree.specs.Tree.{ExprTree, FormTree, SuiteTree, BranchesTree, HandlersTree, TargetTree, ScriptTree, part_target, field_target, assign_form, aug_form, del_form, return_form, raise_form, assert_form, if_form, while_form, for_form, try_form, with_form, class_form, end_branches, more_branches, end_handlers, more_handlers}
-use Rattle.py_value.specs.Contents.{Contents, object}
+use Rattle.py_tree.specs.Tree.{ExprTree, FormTree, SuiteTree, BranchesTree, HandlersTree, TargetTree, ScriptTree, var_target, part_target, field_target, many_target, assign_form, aug_form, del_form, return_form, raise_form, assert_form, if_form, while_form, for_form, try_form, with_form, class_form, end_branches, more_branches, end_handlers, more_handlers}
+use Rattle.py_value.specs.Contents.{Contents, nothing, object}
 use Rattle.py_model.specs.Act.{Act, How, ret, close, to, ending, normal, returned, threw}
 use Rattle.py_model.specs.Expressions.{Here, Task, while_again, for_again, by_truth, doing, op, op_named, op_scoped, left_with, eval}
 use Rattle.py_model.specs.Functions.{expr_place}
 use Rattle.py_model.specs.Operations.{Op}
-use Rattle.py_model.specs.Statements.{suite, rule, store, choose, otherwise, handle, caught, turned, then_so, binding, unbinding, handling, in_class_of, failed_assert, while_turn, for_turn, class_body}
+use Rattle.py_model.specs.Statements.{suite, augmented_number, store, choose, otherwise, handle, caught, turned, then_so, binding, unbinding, handling, in_class_of, failed_assert, while_turn, for_turn, class_body}
 use Rattle.interp_eval.specs.Machine.{Machine, Want, wanted_op, machine, node, gives_one, node_for, remains}
 
 -- What follows a value that is stored in a target: the end of the statement; or the suite of a turn of a `for`, with its items, the number of the turns
@@ -21,8 +22,7 @@ pub data Goal : Type 0 where
 -- How far a statement is. A stage has the values that are held until its end: of a target its container and its index, of a `for` its
 -- items, turns and size, of a handler its number and the exception.
 pub data Stage : Type 0 where
-  -- nothing is done; the value of its expression is awaited; that of a test by its number; the answer whether that is true
-  whole : Stage
+  -- the value of its expression is awaited; that of a test by its number; the answer whether that is true
   valued : Stage
   tested : ℕ → Stage
   answered : ℕ → Stage
@@ -43,6 +43,13 @@ pub data Stage : Type 0 where
   -- the container of a target is awaited, with no value yet to be stored; its index
   owner : Stage
   key : Contents → Stage
+  -- of an augmented assignment the container of its target is awaited; its index; what stands there, the container and the index held, None
+  -- where there is none; the value of its right side, for what stood there; the new value
+  based : Stage
+  slotted : Contents → Stage
+  loaded : Contents → Contents → Stage
+  sided : Contents → Contents → Contents → Stage
+  changed : Contents → Contents → Stage
   -- the file of a `with` is awaited, or a class; what the name of a `with` was bound to; the suite of one is next
   entered : Stage
   named : Contents → Stage
@@ -134,6 +141,20 @@ target_in (aug_form target sign place e) = Some target
 target_in (del_form target) = Some target
 target_in (for_form target e run) = Some target
 target_in form = None
+
+-- an augmented assignment: its target, its operator with the place, and its right side
+pub record Change : Type 0 where
+  pub target : TargetTree
+  pub sign : BinOp
+  pub place : Pos
+  pub right : ExprTree
+
+abbrev pub change : TargetTree → BinOp → Pos → ExprTree → Change
+change target sign place right = record { target = target; sign = sign; place = place; right = right }
+
+abbrev pub change_in : FormTree → Option Change
+change_in (aug_form target sign place e) = Some (change target sign place e)
+change_in form = None
 
 -- the name after the `as` of a `with`
 abbrev pub bound_in : FormTree → Option Bound
@@ -278,6 +299,48 @@ module _ (script : ScriptTree) (next : Task → Act) where
   key_act here (Some (part_target place e index)) o i = doing here place (op 29) (o ∷ i ∷ []) (λ done. ret normal)
   key_act here target o i = ret normal
 
+  -- The new value of an augmented assignment is stored. A container and an index that the target has not are None.
+  abbrev pub set_act : Here → TargetTree → Contents → Contents → Contents → Act
+  set_act here (var_target place name) o i v = doing here place (op_scoped 33 here name) (v ∷ []) (λ done. ret normal)
+  set_act here (part_target place e index) o i v = doing here place (op 28) (o ∷ i ∷ v ∷ []) (λ done. ret normal)
+  set_act here (field_target place e name) o i v = doing here place (op_named 31 name) (o ∷ v ∷ []) (λ done. ret normal)
+  set_act here (many_target targets) o i v = ret normal
+
+  abbrev pub changed_act : Here → Option Change → Contents → Contents → Contents → Act
+  changed_act here None o i v = ret normal
+  changed_act here (Some c) o i v = set_act here c.target o i v
+
+  -- the value of the right side is there, for what stood there
+  abbrev pub sided_act : Here → Option Change → Contents → Contents → Contents → Contents → Act
+  sided_act here None o i w v = ret normal
+  sided_act here (Some c) o i w v = doing here c.place (op (augmented_number c.sign)) (w ∷ v ∷ []) (set_act here c.target o i)
+
+  -- what stands there is loaded
+  abbrev pub loaded_act : Here → Option Change → Contents → Contents → Contents → Act
+  loaded_act here None o i w = ret normal
+  loaded_act here (Some c) o i w = eval script next here c.right (λ v. doing here c.place (op (augmented_number c.sign)) (w ∷ v ∷ []) (set_act here c.target o i))
+
+  -- the container and the index are there, and what stands there is loaded
+  abbrev pub load_of : Here → TargetTree → Contents → Contents → (Contents → Act) → Act
+  load_of here (var_target place name) o i go = doing here place (op_scoped 1 here name) [] go
+  load_of here (part_target place e index) o i go = doing here place (op 26) (o ∷ i ∷ []) go
+  load_of here (field_target place e name) o i go = doing here place (op_named 30 name) (o ∷ []) go
+  load_of here (many_target targets) o i go = ret normal
+
+  abbrev pub slotted_act : Here → Option Change → Contents → Contents → Act
+  slotted_act here None o i = ret normal
+  slotted_act here (Some c) o i = load_of here c.target o i (loaded_act here (Some c) o i)
+
+  -- the container is there
+  abbrev pub based_of : Here → Change → TargetTree → Contents → Act
+  based_of here c (part_target place e index) o = eval script next here index (λ i. slotted_act here (Some c) o i)
+  based_of here c (field_target place e name) o = slotted_act here (Some c) o nothing
+  based_of here c target o = ret normal
+
+  abbrev pub based_act : Here → Option Change → Contents → Act
+  based_act here None o = ret normal
+  based_act here (Some c) o = based_of here c c.target o
+
   -- the file of a `with` is bound; and its suite or that of a class
   abbrev pub entered_act : Here → Pos → FormTree → Contents → Act
   entered_act here at form v = binding here (bound_in form) v (runs_act here at form (inside v))
@@ -320,6 +383,11 @@ module _ (script : ScriptTree) (next : Task → Act) where
   then_act here at form (item items n size) v = stored_act here at form (turns items n size) (target_in form) v
   then_act here at form owner v = owner_act here (target_in form) v
   then_act here at form (key o) v = key_act here (target_in form) o v
+  then_act here at form based v = based_act here (change_in form) v
+  then_act here at form (slotted o) v = slotted_act here (change_in form) o v
+  then_act here at form (loaded o i) v = loaded_act here (change_in form) o i v
+  then_act here at form (sided o i w) v = sided_act here (change_in form) o i w v
+  then_act here at form (changed o i) v = changed_act here (change_in form) o i v
   then_act here at form entered v = entered_act here at form v
   then_act here at form (named file) v = runs_act here at form (inside file)
   then_act here at form (closes how) v = ret how
@@ -334,13 +402,17 @@ module _ (script : ScriptTree) (next : Task → Act) where
   from_test here (while_form test run) n = while_turn script next here test (suite script next here run) (next (while_again here test run))
   from_test here form n = ret normal
 
+  -- a part of a statement is opened: a test, a store, a turn, a handler, or a suite; nothing else is opened
   abbrev pub open_act : Here → Pos → FormTree → Stage → Act
-  open_act here at form whole = rule script next here at form
   open_act here at form (tested n) = from_test here form n
   open_act here at form (stores goal v) = stored_act here at form goal (target_in form) v
   open_act here at form (turn items n size) = turn_act here at form items n size
   open_act here at form (handler n o line) = handle script next here at (handlers_from n (handlers_in form)) o line
-  open_act here at form stage = runs_act here at form stage
+  open_act here at form body = runs_act here at form body
+  open_act here at form (repeats items n size) = runs_act here at form (repeats items n size)
+  open_act here at form (inside v) = runs_act here at form (inside v)
+  open_act here at form (handles n o) = runs_act here at form (handles n o)
+  open_act here at form stage = ret normal
 
   abbrev pub work_act : Here → Work → (Contents → Act) → Act
   work_act here (evaluates m) go = remains script next here m go

@@ -8,7 +8,7 @@ use Rattle.py_value.specs.Values.{ValuesView}
 use Rattle.py_model.specs.Act.{How, normal, broke, continued, returned, threw}
 use Rattle.interp_eval.specs.Seen.{machine_seen}
 use Rattle.flow_parts.specs.Codes.{code_number, code_value, code_want}
-use Rattle.flow_parts.specs.Machine.{Goal, finishes, turns, Stage, whole, valued, tested, answered, done, body, failed, stores, holder, at_index, stored, sized, turn, item, repeats, owner, key, entered, named, inside, closes, handler, sought, matched, catches, handles, Part, part, Work, evaluates, operation, Now, in_suite, opens, gives, ended, Waits, a_stmt, a_part, a_call, Frame, frame, Flow, flow}
+use Rattle.flow_parts.specs.Machine.{Goal, finishes, turns, Stage, valued, tested, answered, done, body, failed, stores, holder, at_index, stored, sized, turn, item, repeats, owner, key, based, slotted, loaded, sided, changed, entered, named, inside, closes, handler, sought, matched, catches, handles, Part, part, Work, evaluates, operation, Now, in_suite, opens, gives, ended, Waits, a_stmt, a_part, a_call, Frame, frame, Flow, flow}
 use Rattle.std.specs.Option.{option_map}
 use Rattle.py_tree.specs.Tree.{ScriptTree}
 use Rattle.py_model.specs.Expressions.{Here}
@@ -23,7 +23,7 @@ use Rattle.flow_parts.specs.declared.control.End.TheVariants.{Normal, Broke, Con
 use Rattle.flow_parts.specs.declared.control.Goal.{Goal as GoalCode}
 use Rattle.flow_parts.specs.declared.control.Goal.TheVariants.{Finishes, Turns}
 use Rattle.flow_parts.specs.declared.control.Stage.{Stage as StageCode}
-use Rattle.flow_parts.specs.declared.control.Stage.TheVariants.{Whole, Valued, Tested, Answered, Done, Body, Failed, Stores, Holder, Index, Stored, Sized, Turn, Item, Repeats, Owner, Key, Entered, Named, Inside, Closes, Handler, Sought, Matched, Catches, Handles}
+use Rattle.flow_parts.specs.declared.control.Stage.TheVariants.{Valued, Tested, Answered, Done, Body, Failed, Stores, Holder, Index, Stored, Sized, Turn, Item, Repeats, Owner, Key, Based, Slotted, Loaded, Sided, Changed, Entered, Named, Inside, Closes, Handler, Sought, Matched, Catches, Handles}
 use Rattle.flow_parts.specs.declared.control.Part.{Part as PartRefs}
 use Rattle.flow_parts.specs.declared.control.Work.{Work as WorkRefs}
 use Rattle.flow_parts.specs.declared.control.Work.TheVariants.{Evaluates, Operation}
@@ -45,7 +45,6 @@ goal_seen table Finishes = finishes
 goal_seen table (Turns items n size) = turns (contents table items) n (contents table size)
 
 abbrev pub stage_seen : ValuesView → StageCode → Stage
-stage_seen table Whole = whole
 stage_seen table Valued = valued
 stage_seen table (Tested n) = tested n
 stage_seen table (Answered n) = answered n
@@ -62,6 +61,11 @@ stage_seen table (Item items n size) = item (contents table items) n (contents t
 stage_seen table (Repeats items n size) = repeats (contents table items) n (contents table size)
 stage_seen table Owner = owner
 stage_seen table (Key o) = key (contents table o)
+stage_seen table Based = based
+stage_seen table (Slotted o) = slotted (contents table o)
+stage_seen table (Loaded o i) = loaded (contents table o) (contents table i)
+stage_seen table (Sided o i w) = sided (contents table o) (contents table i) (contents table w)
+stage_seen table (Changed o i) = changed (contents table o) (contents table i)
 stage_seen table Entered = entered
 stage_seen table (Named v) = named (contents table v)
 stage_seen table (Inside v) = inside (contents table v)

@@ -49,8 +49,6 @@ pub enum Goal {
 /// How far a statement is.
 #[derive(Clone, Copy)]
 pub enum Stage {
-    /// Nothing is done.
-    Whole,
     /// The value of its expression is awaited.
     Valued,
     /// The value of the test with this number.
@@ -83,6 +81,16 @@ pub enum Stage {
     Owner,
     /// The index in this container is awaited.
     Key(Value),
+    /// The container of the target of an augmented assignment is awaited.
+    Based,
+    /// The index in this container is awaited.
+    Slotted(Value),
+    /// What stands there is awaited, for this container and index; None where the target has none.
+    Loaded(Value, Value),
+    /// The value of the right side is awaited, for this container, index, and what stood there.
+    Sided(Value, Value, Value),
+    /// The new value is awaited, for this container and index.
+    Changed(Value, Value),
     /// The file of a `with`, or a class, is awaited.
     Entered,
     /// The binding of this file is awaited.

@@ -1,6 +1,6 @@
 -- A statement that begins with an expression.
 use Rattle.std.proofs.Common.{◌≡◌, ℕ, Bool, true, false, zero, suc, List, [], ◌∷◌, map, slice_get, Some, None, Result, Ok, Err, refl, ap, sym, ◌∙◌}
-use Rattle.std.specs.Prelude.{IfOk, OnOk}
+use Rattle.std.specs.Prelude.{OnOk}
 use Rattle.prov_base.specs.declared.place.Pos.{Pos}
 use Rattle.py_tree.specs.Tree.{ExprTree, FormTree, TargetTree, BranchesTree, ElseTree, ScriptTree, do_form, assign_form, if_form, while_form, end_branches, more_branches}
 use Rattle.py_tree.specs.Erasure.{expr_of, suite_of, branches_list}
@@ -14,10 +14,6 @@ use Rattle.py_model.specs.Functions.{expr_place}
 use Rattle.py_model.specs.Statements.{rule, choose, otherwise, suite}
 use Rattle.interp_eval.specs.Machine.{is_true}
 use Rattle.flow_parts.specs.Machine.{Stage, Part, part, valued, tested, then_act, from_test, branches_from, first_test, first_suite, others, test_act, answered, test_of, when_true, when_false}
-
-pub if_more : {T E : Type 0} (r : Result T E) (P Q : T → Type 0) → ((x : T) → P x → Q x) → IfOk r P → IfOk r Q
-if_more (Ok x) P Q more holds = more x holds
-if_more (Err e) P Q more holds = holds
 
 pub on_more : {T E : Type 0} (r : Result T E) (P Q : Type 0) → (P → Q) → OnOk r P → OnOk r Q
 on_more (Ok x) P Q more holds = more holds

@@ -14,9 +14,11 @@ ghost use Rattle.flow_parts.specs.Machine.{now_act, test_act, test_of, then_act,
 ghost use Rattle.flow_parts.specs.Seen.{now_seen, stage_seen};
 
 use crate::handling::{entered, matched};
-use crate::storing::{held, indexed, keyed, owned, reached, stored};
 use flow_parts::{
     Code, End, Goal, Now, Part, Stage, branch_at, is_true, on_none, on_one, on_two, start,
+};
+use flow_stores::{
+    based, changed, held, indexed, keyed, loaded, owned, reached, sided, slotted, stored,
 };
 use interp_eval::{Scope, place_of};
 use prov_base::Memory;
@@ -219,6 +221,13 @@ pub fn after<'a>(
         }
         Stage::Owner => owned(alloc, part, value, scope),
         Stage::Key(owner) => keyed(alloc, part, owner, value),
+        Stage::Based => based(alloc, part, value, scope),
+        Stage::Slotted(owner) => slotted(alloc, part, owner, value),
+        Stage::Loaded(owner, index) => loaded(alloc, part, owner, index, value, scope),
+        Stage::Sided(owner, index, standing) => {
+            sided(alloc, part, owner, index, standing, value)
+        }
+        Stage::Changed(owner, index) => changed(alloc, part, owner, index, value),
         Stage::Entered => entered(alloc, part, value),
         Stage::Named(file) => Ok(Now::Opens(part.to(Stage::Inside(file)))),
         Stage::Closes(end) => Ok(Now::Ended(end)),
@@ -235,7 +244,6 @@ pub fn after<'a>(
         }
         Stage::Matched(number, o, line) => matched(alloc, part, number, o, line, value),
         Stage::Catches(number, o) => Ok(Now::Opens(part.to(Stage::Handles(number, o)))),
-        Stage::Whole => Ok(Now::Ended(End::Normal)),
         Stage::Done => Ok(Now::Ended(End::Normal)),
         Stage::Body => Ok(Now::Ended(End::Normal)),
         Stage::Stores(_, _) => Ok(Now::Ended(End::Normal)),

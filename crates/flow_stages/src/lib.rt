@@ -11,7 +11,6 @@ mod handling;
 mod moving;
 mod opening;
 mod running;
-mod storing;
 
 pub use ending::part_ended;
 pub use following::after;

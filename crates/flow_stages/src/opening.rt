@@ -17,6 +17,7 @@ ghost use Rattle.flow_stages.specs.Opening.{StandsIn, deleting, plain_rule, rais
 
 use crate::forms::first_in;
 use flow_parts::{Code, End, Now, Part, Spot, Stage, branch_at, on_none, on_one, start};
+use flow_stores::augmented;
 use interp_eval::Scope;
 use prov_base::{Memory, Name, Pos};
 use py_tree::{Form, Suite, Target};
@@ -92,7 +93,7 @@ fn plainly<'a>(alloc: Global, at: Pos, form: &'a Form, spot: Spot) -> Result<Now
         stage: Stage::Done,
     };
     match form {
-        Form::Aug(_, _, _, _) => Ok(Now::Opens(part.to(Stage::Whole))),
+        Form::Aug(_, _, _, _) => augmented(alloc, part, spot.scope),
         Form::Del(target) => deleted(alloc, target, part, spot.scope),
         Form::Pass => Ok(Now::Ended(End::Normal)),
         Form::Break => Ok(Now::Ended(End::Broke)),

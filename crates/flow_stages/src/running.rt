@@ -1,5 +1,5 @@
 // How a part of a statement is opened.
-ghost use Rattle.std.specs.Prelude.{◌≡◌, IfOk, pos};
+ghost use Rattle.std.specs.Prelude.{◌≡◌, IfOk, pos, true};
 ghost use Rattle.py_tree.specs.Erasure.{form_of};
 ghost use Rattle.py_tree.specs.Tree.{ScriptTree};
 ghost use Rattle.py_value.specs.Contents.{contents, int};
@@ -9,9 +9,9 @@ ghost use Rattle.py_model.specs.Expressions.{Here, Task};
 ghost use Rattle.py_model.specs.Statements.{suite};
 ghost use Rattle.interp_eval.specs.declared.frames.Scope.{Scope as OneScope};
 ghost use Rattle.flow_parts.specs.Held.{IsHeldClass, IsHeldNow, IsHeldStage};
-ghost use Rattle.flow_parts.specs.Machine.{handled_act, handler_in, inside_here, now_act, suite_act, suite_in, turn_act};
+ghost use Rattle.flow_parts.specs.Machine.{handled_act, handler_in, inside_here, now_act, suite_act, suite_in, target_in, turn_act};
 ghost use Rattle.flow_parts.specs.Seen.{here_seen, now_seen, stmts_seen};
-ghost use Rattle.flow_stages.specs.Running.{HoldsOpened, OpensBy};
+ghost use Rattle.flow_stages.specs.Running.{HoldsOpened, IsMany, OpensBy};
 ghost use Rattle.flow_parts.specs.declared.control.End.TheVariants.{Normal};
 ghost use Rattle.flow_parts.specs.declared.control.Now.TheVariants.{Ended, InSuite};
 ghost use Rattle.flow_stages.specs.declared.running.Way.TheVariants.{Becomes, Runs, Unwritten};
@@ -19,9 +19,10 @@ ghost use Rattle.flow_stages.specs.declared.running.Way.TheVariants.{Becomes, Ru
 use crate::forms::{handler_in, suite_in};
 use crate::handling::handled;
 use crate::opening::test_opened;
-use flow_parts::{Code, End, Now, Part, Spot, Stage, on_three};
+use flow_parts::{Code, End, Now, Part, Spot, Stage, on_three, target_in};
+use flow_stores::stored;
 use prov_base::Memory;
-use py_tree::{Form, Stmt};
+use py_tree::{Form, Stmt, Target};
 use py_value::Value;
 use std::alloc::Global;
 
@@ -32,7 +33,7 @@ pub enum Way {
     Becomes,
     /// It stands at this spot, and the part waits for its end.
     Runs(Spot),
-    /// Nothing is opened: augmented assignments, and a value that is taken apart by several targets.
+    /// Nothing is opened: a value is taken apart by several targets.
     Unwritten,
 }
 
@@ -155,6 +156,32 @@ fn becomes<'a>(now: Now<'a>) -> Opened<'a>
     Opened { now, way }
 }
 
+/// A part that is no test, no turn, no handler, no suite and no store is not opened: it is at its end.
+fn ended<'a>() -> Opened<'a>
+    ensures { result ≡ record { now = Ended Normal; way = Becomes } }
+{
+    Opened {
+        now: Now::Ended(End::Normal),
+        way: Way::Becomes,
+    }
+}
+
+/// Whether the target of a statement is several targets.
+#[tactic(auto, using(py_tree::proofs::TargetTrees::target_trees))]
+fn is_many(form: &Form) -> bool
+    ensures { result ≡ true → IsMany (target_in (form_of form.now)) }
+{
+    let Some(target) = target_in(form) else {
+        return false;
+    };
+    match target {
+        Target::Many(_) => true,
+        Target::Var(_, _) => false,
+        Target::Part(_, _, _) => false,
+        Target::Field(_, _, _) => false,
+    }
+}
+
 /// Nothing is opened.
 fn unwritten<'a>() -> Opened<'a>
     ensures { result ≡ record { now = Ended Normal; way = Unwritten } }
@@ -203,26 +230,36 @@ pub fn part_opened<'a>(alloc: Global, part: Part<'a>, spot: Spot) -> Result<Open
             let inner = inside_spot(form, value, spot);
             Ok(runs(stmts_in(form), inner))
         }
+        Stage::Stores(goal, value) => {
+            if is_many(form) {
+                return Ok(unwritten());
+            }
+            let now = stored(alloc, part, goal, value, spot.scope)?;
+            Ok(becomes(now))
+        }
         Stage::Body => Ok(runs(stmts_in(form), spot)),
         Stage::Repeats(_, _, _) => Ok(runs(stmts_in(form), spot)),
-        Stage::Whole => Ok(unwritten()),
-        Stage::Stores(_, _) => Ok(unwritten()),
-        Stage::Valued => Ok(unwritten()),
-        Stage::Answered(_) => Ok(unwritten()),
-        Stage::Done => Ok(unwritten()),
-        Stage::Failed => Ok(unwritten()),
-        Stage::Holder(_, _) => Ok(unwritten()),
-        Stage::Index(_, _, _) => Ok(unwritten()),
-        Stage::Stored(_) => Ok(unwritten()),
-        Stage::Sized(_) => Ok(unwritten()),
-        Stage::Item(_, _, _) => Ok(unwritten()),
-        Stage::Owner => Ok(unwritten()),
-        Stage::Key(_) => Ok(unwritten()),
-        Stage::Entered => Ok(unwritten()),
-        Stage::Named(_) => Ok(unwritten()),
-        Stage::Closes(_) => Ok(unwritten()),
-        Stage::Sought(_, _, _) => Ok(unwritten()),
-        Stage::Matched(_, _, _) => Ok(unwritten()),
-        Stage::Catches(_, _) => Ok(unwritten()),
+        Stage::Valued => Ok(ended()),
+        Stage::Answered(_) => Ok(ended()),
+        Stage::Done => Ok(ended()),
+        Stage::Failed => Ok(ended()),
+        Stage::Holder(_, _) => Ok(ended()),
+        Stage::Index(_, _, _) => Ok(ended()),
+        Stage::Stored(_) => Ok(ended()),
+        Stage::Sized(_) => Ok(ended()),
+        Stage::Item(_, _, _) => Ok(ended()),
+        Stage::Owner => Ok(ended()),
+        Stage::Key(_) => Ok(ended()),
+        Stage::Based => Ok(ended()),
+        Stage::Slotted(_) => Ok(ended()),
+        Stage::Loaded(_, _) => Ok(ended()),
+        Stage::Sided(_, _, _) => Ok(ended()),
+        Stage::Changed(_, _) => Ok(ended()),
+        Stage::Entered => Ok(ended()),
+        Stage::Named(_) => Ok(ended()),
+        Stage::Closes(_) => Ok(ended()),
+        Stage::Sought(_, _, _) => Ok(ended()),
+        Stage::Matched(_, _, _) => Ok(ended()),
+        Stage::Catches(_, _) => Ok(ended()),
     }
 }

@@ -29,7 +29,7 @@ use Rattle.flow_parts.specs.declared.control.Part.{Part}
 use Rattle.flow_parts.specs.declared.frames.FlowFrames.{FlowFrames}
 use Rattle.interp_flow.specs.declared.next.FlowNext.{FlowNext}
 use Rattle.interp_flow.specs.declared.next.FlowNext.TheVariants.{More as FlowMore, Finished, Raised as FlowRaised, Spent as FlowSpent, Unanswered as FlowUnanswered, Unwritten}
-use Rattle.interp_flow.specs.Step.{Before, IsStep, StepsFrom, meant}
+use Rattle.interp_flow.specs.Step.{Before, a_call_first, IsStep, StepsFrom, meant}
 use Rattle.interp_flow.specs.Value.{GoesOnFrom, IsInScope, IsTaken, answering, evaluating}
 use Rattle.interp_flow.proofs.Outcomes.{and_then, outcome_to, same_behind}
 use Rattle.interp_flow.proofs.Stepping.{step_same, told_weaker, unasked}
@@ -116,7 +116,12 @@ module _ (script : ScriptTree) (frames : FlowFrames) (eval gone : EvalFrames) (p
         tells = known.tells;
       })
   step_taken (Call f args at) result known taken =
-      subst (IsStep script (level script n) {E = Memory} (to first beyond) after rest stands was is table capture s) (sym taken) (record { stands_so = known.stands_so; left_is = known.left_is; tells = known.tells })
+      subst (IsStep script (level script n) {E = Memory} (to first beyond) after rest stands was is table capture s) (sym taken) (record {
+        what = a_call_first (here_seen script table frames.spot) at table f (map (contents table) args) known.follows beyond known.callable (ap (λ a. outcome capture (to a beyond) s) known.act_is);
+        stands_so = known.stands_so;
+        left_is = known.left_is;
+        tells = known.tells;
+      })
 
   -- want of memory in the step
   pub step_cut : (want : Memory) → IsEvalCut capture first s stands was is → IsStep script (level script n) (to first beyond) after rest stands was is table capture s (Err want)

@@ -1,15 +1,20 @@
 -- What one step of a script does: the run comes out from what is still to be done afterwards as from what was still to be done before.
 use Rattle.std.specs.Prelude.{◌≡◌, ◌⊎◌, ◌<◌, ◌++◌, ℕ, List, map, Option, Some, None, Result, Ok, Err, ⊤}
-use Rattle.py_tree.specs.Tree.{ScriptTree}
+use Rattle.prov_base.specs.declared.place.Pos.{Pos}
+use Rattle.py_tree.specs.Tree.{TargetsTree, ScriptTree, many_target}
+use Rattle.py_value.specs.Contents.{Contents, contents}
+use Rattle.py_value.specs.declared.value.Value.{Value}
 use Rattle.py_value.specs.Values.{ValuesView}
 use Rattle.py_model.specs.Act.{Act, How, ret, to}
 use Rattle.py_model.specs.Capture.{Capture}
 use Rattle.py_model.specs.Doing.{Standing, standing, Fits, Stands, ForEach, IsRefused}
-use Rattle.py_model.specs.Expressions.{Task}
+use Rattle.py_model.specs.Expressions.{Here, Task, calling, left_with}
 use Rattle.py_model.specs.Meaning.{RunEnd, finished, uncaught, end_of, level}
 use Rattle.py_model.specs.Moment.{Moment}
 use Rattle.py_model.specs.Running.{State, Asking, outcome, over, spent, lacking}
+use Rattle.py_model.specs.Statements.{store}
 use Rattle.py_model.specs.Told.{TellsOn}
+use Rattle.interp_eval.specs.Turns.{IsCallable}
 use Rattle.flow_parts.specs.Held.{IsHeldEnd, IsHeldFlow, IsHeldNow}
 use Rattle.flow_parts.specs.Machine.{flow, remaining, resumes, waits_act}
 use Rattle.flow_parts.specs.Seen.{end_seen, flow_seen, frame_seen, here_seen, now_seen, waits_seen}
@@ -69,8 +74,18 @@ pub record IsOver (capture : Capture) (before : Act) (s : State) (end : RunEnd) 
   pub left_is : s.left ≡ left
   pub tells : is ≡ was
 
--- Nothing is done of a form that is not performed.
-pub record IsLeft (s : State) (left : ℕ) (stands : Standing → Type 0) (was is : Option (List Moment)) : Type 0 where
+-- What is first is not performed yet: a function or a class of the script is called, or has ended; or a value is stored in several targets.
+pub data IsUnwritten (script : ScriptTree) (next : Task → Act) (capture : Capture) (before : Act) (s : State) : Type 0 where
+  a_call_first : (here : Here) (at : Pos) (table : ValuesView) (f : Value) (arguments : List Contents) (follows : Contents → Act) (k : How → Act) → IsCallable f
+      → outcome capture before s ≡ outcome capture (to (calling script next here at (contents table f) arguments follows) k) s → IsUnwritten script next capture before s
+  a_return_first : (follows : Contents → Act) (how : How) (k : How → Act)
+      → outcome capture before s ≡ outcome capture (to (left_with script next follows how) k) s → IsUnwritten script next capture before s
+  several_first : (here : Here) (at : Pos) (targets : TargetsTree) (v : Contents) (go : Act) (k : How → Act)
+      → outcome capture before s ≡ outcome capture (to (store script next here at (many_target targets) v go) k) s → IsUnwritten script next capture before s
+
+-- Nothing is done of it.
+pub record IsLeft (script : ScriptTree) (next : Task → Act) (capture : Capture) (before : Act) (s : State) (left : ℕ) (stands : Standing → Type 0) (was is : Option (List Moment)) : Type 0 where
+  pub what : IsUnwritten script next capture before s
   pub stands_so : stands (standing s)
   pub left_is : s.left ≡ left
   pub tells : is ≡ was
@@ -82,7 +97,7 @@ module _ (script : ScriptTree) (next : Task → Act) where
   IsStep before after left stands was is table capture s (Ok (Raised o line)) = IsOver capture before s (uncaught o line) left stands was is
   IsStep before after left stands was is table capture s (Ok Spent) = IsSpent capture before s left stands was is
   IsStep before after left stands was is table capture s (Ok Unanswered) = IsUnanswered capture before s left stands was is
-  IsStep before after left stands was is table capture s (Ok Unwritten) = IsLeft s left stands was is
+  IsStep before after left stands was is table capture s (Ok Unwritten) = IsLeft script next capture before s left stands was is
   IsStep before after left stands was is table capture s (Err want) = IsCut capture before s stands was is
 
 -- what was still to be done, by a table and what turns and calls go on with
@@ -131,3 +146,8 @@ IsHeldEndBy fits end = (table : ValuesView) (capture : Capture) → fits table c
 -- what is done now holds values that are named
 abbrev pub IsHeldNowBy : Fits → FlowFrames → Now → Type 0
 IsHeldNowBy fits frames now = (table : ValuesView) (capture : Capture) → fits table capture → IsHeldNow table frames.spot.scope now
+
+-- a call waits
+abbrev pub IsCaller : {A : Type 0} → Option A → Type 0
+IsCaller None = ⊥
+IsCaller (Some caller) = ⊤

@@ -1,5 +1,5 @@
 // How frames go on where no moment is performed.
-ghost use Rattle.std.specs.Prelude.{◌≡◌, map, IfOk, OnOk, true};
+ghost use Rattle.std.specs.Prelude.{◌≡◌, map, IfOk, OnOk, true, false};
 ghost use Rattle.std.specs.Prelude.{None as Nothing};
 ghost use Rattle.py_tree.specs.Erasure.{form_of, stmt_of};
 ghost use Rattle.py_tree.specs.Tree.{ScriptTree, more_suite};
@@ -11,6 +11,7 @@ ghost use Rattle.flow_parts.specs.Held.{IsHeldEnd, IsHeldFlow, IsHeldStage};
 ghost use Rattle.flow_parts.specs.Machine.{flow, in_suite, remaining, resumes, suite_ended};
 ghost use Rattle.flow_parts.specs.Seen.{end_seen, flow_seen, frame_seen, here_seen, stage_seen, stmts_seen};
 ghost use Rattle.flow_parts.specs.declared.control.Now.TheVariants.{Opens};
+ghost use Rattle.flow_stages.specs.Running.{IsSeveral};
 ghost use Rattle.interp_flow.specs.Step.{doing_now, meant};
 
 use flow_parts::{End, FlowFrames, Now, Part, Spot, Waits};
@@ -47,6 +48,7 @@ pub(crate) fn open_part<'a>(
 ) -> Result<bool, Memory>
     ensures means { IfOk result (λ goes. goes ≡ true → (script : ScriptTree) (next : Task → Act) (table : ValuesView)
         → doing_now script frames.old (Opens part.entry) table next ≡ meant script frames.new table next) }
+    ensures left { IfOk result (λ goes. goes ≡ false → IsSeveral (form_of part.entry.form.now) part.entry.stage) }
     ensures held { IfOk result (λ goes. goes ≡ true → (table : ValuesView) → IsHeldFlow table frames.old → IsHeldStage table part.entry.stage → IsHeldFlow table frames.new) }
 {
     let opened = part_opened(alloc, part, frames.spot)?;

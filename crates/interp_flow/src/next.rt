@@ -13,6 +13,6 @@ pub enum FlowNext {
     Spent,
     /// An operation asked for what is not there.
     Unanswered,
-    /// Nothing was done: an augmented assignment, several targets, or a call of a function or a class is next, which is not performed yet.
+    /// Nothing was done: a value is stored in several targets, or a function or a class of the script is called; neither is performed yet.
     Unwritten,
 }

@@ -1,5 +1,5 @@
 // One step of a script.
-ghost use Rattle.std.specs.Prelude.{◌≡◌, false, None as Nothing, Some as JustOne};
+ghost use Rattle.std.specs.Prelude.{◌≡◌, false, true, None as Nothing, Some as JustOne};
 ghost use Rattle.py_value.specs.Values.{ValuesView};
 ghost use Rattle.py_model.specs.Meaning.{end_of};
 ghost use Rattle.flow_parts.specs.Seen.{end_seen};
@@ -9,7 +9,7 @@ ghost use Rattle.interp_eval.specs.Performing.{HasState};
 ghost use Rattle.py_tree.specs.Erasure.{script_of};
 ghost use Rattle.flow_parts.specs.declared.control.Now.TheVariants.{Ended, Gives, InSuite};
 ghost use Rattle.flow_parts.specs.declared.frames.Waits.TheVariants.{Stmt as StmtWaits};
-ghost use Rattle.interp_flow.specs.Step.{HoldsNext, IsHeldEndBy, IsHeldNowBy, Steps, StepsFrom, doing_now, handed, next_end};
+ghost use Rattle.interp_flow.specs.Step.{HoldsNext, IsHeldEndBy, IsCaller, IsHeldNowBy, Steps, StepsFrom, doing_now, handed, next_end};
 ghost use Rattle.flow_parts.specs.Held.{IsHeldBy};
 ghost use Rattle.interp_flow.specs.Value.{AreHeldStages, IsHeldWorkBy, working};
 
@@ -97,7 +97,8 @@ fn close_step<'a, D: Doer, W: Watch>(
 
 /// Whether a call waits.
 fn calls(caller: Option<Box<EvalFrames<'_>>>) -> bool
-    ensures { result ≡ false → caller.entry ≡ Nothing }
+    ensures none { result ≡ false → caller.entry ≡ Nothing }
+    ensures some { result ≡ true → IsCaller caller.entry }
 {
     match caller {
         None => false,

@@ -6,7 +6,8 @@ use Rattle.py_value.specs.Contents.{contents}
 use Rattle.py_model.specs.Act.{ret, normal}
 use Rattle.flow_parts.specs.Machine.{now_act}
 use Rattle.flow_parts.specs.Seen.{now_seen, part_seen}
-use Rattle.flow_stages.proofs.Openings.{branches_seen, if_more, no_test, a_test}
+use Rattle.flow_stores.proofs.Starting.{if_more}
+use Rattle.flow_stages.proofs.Openings.{branches_seen, no_test, a_test}
 use Rattle.flow_stages.proofs.following.tested.Goals as goal
 
 pub returns-in-None-clause-means : goal.returns-in-None-clause-means

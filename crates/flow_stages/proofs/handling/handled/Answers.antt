@@ -4,9 +4,8 @@ use Rattle.py_tree.specs.Erasure.{expr_of, form_of}
 use Rattle.py_model.specs.Expressions.{eval}
 use Rattle.flow_parts.specs.Machine.{now_act, sought}
 use Rattle.flow_parts.specs.Seen.{now_seen, part_seen}
+use Rattle.flow_stores.proofs.Starting.{if_more, starts_as}
 use Rattle.flow_stages.specs.Running.{handler_seen}
-use Rattle.flow_stages.proofs.Openings.{if_more}
-use Rattle.flow_stages.proofs.Followings.{starts_as}
 use Rattle.flow_stages.proofs.Handlers.{by_kind, handled_some}
 use Rattle.flow_stages.proofs.handling.handled.Goals as goal
 

@@ -4,7 +4,8 @@ use Rattle.py_tree.specs.Erasure.{branches_of, else_tree, expr_of, form_of, suit
 use Rattle.py_tree.proofs.StmtTrees.{branches_tree, if_tree, while_tree}
 use Rattle.flow_parts.specs.Machine.{now_act}
 use Rattle.flow_parts.specs.Seen.{now_seen}
-use Rattle.flow_stages.proofs.Openings.{branches_seen, if_more, if_none, if_some, while_tested}
+use Rattle.flow_stores.proofs.Starting.{if_more}
+use Rattle.flow_stages.proofs.Openings.{branches_seen, if_none, if_some, while_tested}
 use Rattle.flow_stages.proofs.opening.test_opened.Goals as goal
 
 pub returns-in-While-clause-means : goal.returns-in-While-clause-means

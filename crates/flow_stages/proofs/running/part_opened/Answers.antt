@@ -21,3 +21,8 @@ pub returns-in-Inside-clause-held : goal.returns-in-Inside-clause-held
 returns-in-Inside-clause-held c = λ table stage spot.
     subst (λ (o : Opened). HoldsOpened table c.args.spot o.now o.way) (sym c.runs-in-Inside.ensures)
     (tt, c.inside_spot-inner.ensures.held table (subst (IsHeldStage table) c.in-Inside.is stage) spot)
+
+pub returns-in_ok-now-in-Stores-clause-held : goal.returns-in_ok-now-in-Stores-clause-held
+returns-in_ok-now-in-Stores-clause-held c = λ table stage spot.
+    let held = subst (IsHeldStage table) c.in-Stores.is stage in
+    subst (λ (o : Opened). HoldsOpened table c.args.spot o.now o.way) (sym c.becomes-in-Stores.ensures) (c.in_ok-now-in-Stores.ensures.held table held.0 held.1)

@@ -12,7 +12,7 @@ pub returns-in-Becomes-clause-means : goal.returns-in-Becomes-clause-means
 returns-in-Becomes-clause-means c = λ yes script next table.
     let known = subst (OpensBy c.args.part c.args.frames.now.spot c.in_ok-opened.opened.now) c.in-Becomes.is c.in_ok-opened.ensures.means in
     now_does script next table c.args.frames.now (Opens c.args.part)
-    ∙ goes_on script next table c.args.frames.now (record c.args.frames.now { now = c.in_ok-opened.opened.now }) _ (known script next (here_seen script table c.args.frames.now.spot) table) refl
+    ∙ goes_on script next table c.args.frames.now (record c.args.frames.now { now = c.in_ok-opened.opened.now }) _ (known script next table) refl
 
 pub returns-in-Becomes-clause-held : goal.returns-in-Becomes-clause-held
 returns-in-Becomes-clause-held c = λ yes table old stage.

@@ -9,6 +9,7 @@ use Rattle.interp_flow.specs.Step.{doing_now, handed}
 use Rattle.interp_flow.proofs.Fronts.{at_last}
 use Rattle.interp_flow.proofs.Endings.{part_on}
 use Rattle.interp_flow.proofs.Stepping.{cut_from, left_from, over_held, steps_over, steps_same}
+use Rattle.interp_flow.proofs.Flowing.{return_left}
 use Rattle.interp_flow.proofs.step.end_step.Goals as goal
 
 pub returns-in_default-clause-held : goal.returns-in_default-clause-held
@@ -33,7 +34,7 @@ returns-in-Stmt-clause-step g c = λ script.
 pub returns-in-Ok-clause-held : goal.returns-in-Ok-clause-held
 returns-in-Ok-clause-held g c = λ table capture fit.
     let popped = subst (HoldsPopped table c.pop.new.self) c.in-Some.is (c.pop.ensures.held table (c.requires.held table capture fit)) in
-    let waits = subst (IsHeldWaits table c.pop.new.self.spot.scope) (c.in-Part.is ∙ ap (λ caller. PartWaits caller c.in-Part.part) (c.calls.ensures c.if-calls.false)) popped.1 in
+    let waits = subst (IsHeldWaits table c.pop.new.self.spot.scope) (c.in-Part.is ∙ ap (λ caller. PartWaits caller c.in-Part.part) (c.calls.ensures.none c.if-calls.false)) popped.1 in
     c.in-Ok.ensures.held table popped.0 waits (c.requires.end table capture fit)
 
 pub returns-in-Ok-clause-step : goal.returns-in-Ok-clause-step
@@ -41,8 +42,15 @@ returns-in-Ok-clause-step g c = λ script.
     let popped = subst (IsPopped c.args.frames.now c.pop.new.self) c.in-Some.is c.pop.ensures.means in
     part_on c.meaning_unfolds.ensures script (doing_now script c.args.frames.now (Ended c.args.end)) c.pop.new.self c.end_part.new.frames c.in-Part.part c.args.end c.args.left (g.D.Doer.fits c.args.doer.now) (g.D.Doer.stands c.args.doer.now) (g.W.Watch.history c.args.watch.now)
     (λ table next. popped script next table (end_seen table c.args.end)
-    ∙ ap (λ w. handed script c.pop.new.self w c.args.end table next) (c.in-Part.is ∙ ap (λ caller. PartWaits caller c.in-Part.part) (c.calls.ensures c.if-calls.false)))
+    ∙ ap (λ w. handed script c.pop.new.self w c.args.end table next) (c.in-Part.is ∙ ap (λ caller. PartWaits caller c.in-Part.part) (c.calls.ensures.none c.if-calls.false)))
     c.in-Ok.ensures.means
 
 pub returns-in-Err-clause-step : goal.returns-in-Err-clause-step
 returns-in-Err-clause-step g c = λ script. cut_from script (doing_now script c.args.frames.now (Ended c.args.end)) c.end_part.new.frames c.args.left (g.D.Doer.fits c.args.doer.now) (g.D.Doer.stands c.args.doer.now) (g.W.Watch.history c.args.watch.now) _
+
+pub returns-then-calls-clause-step : goal.returns-then-calls-clause-step
+returns-then-calls-clause-step g c = λ script.
+    let popped = subst (IsPopped c.args.frames.now c.pop.new.self) c.in-Some.is c.pop.ensures.means in
+    left_from script (doing_now script c.args.frames.now (Ended c.args.end)) c.pop.new.self c.args.left (g.D.Doer.fits c.args.doer.now) (g.D.Doer.stands c.args.doer.now) (g.W.Watch.history c.args.watch.now)
+    (return_left script c.args.frames.now c.pop.new.self c.args.end c.in-Part.caller c.in-Part.part (c.calls.ensures.some c.if-calls.true)
+    (λ table next. popped script next table (end_seen table c.args.end) ∙ ap (λ w. handed script c.pop.new.self w c.args.end table next) c.in-Part.is))

@@ -6,6 +6,7 @@ use Rattle.flow_parts.specs.Held.{IsHeldNow}
 use Rattle.flow_parts.specs.declared.control.Now.TheVariants.{Ended, Gives, InSuite, Opens}
 use Rattle.interp_flow.specs.Step.{doing_now}
 use Rattle.interp_flow.proofs.Stepping.{cut_from, left_from, steps_on, steps_same}
+use Rattle.interp_flow.proofs.Flowing.{several_left, unwritten_now}
 use Rattle.interp_flow.proofs.step.now_step.Goals as goal
 
 pub returns-in-InSuite-clause-step : goal.returns-in-InSuite-clause-step
@@ -46,6 +47,8 @@ returns-in-Ok-true-clause-held g c = λ table capture fit.
 pub returns-in-Ok-false-clause-step : goal.returns-in-Ok-false-clause-step
 returns-in-Ok-false-clause-step g c =
     left_from (script_of c.args.script.now) (doing_now (script_of c.args.script.now) c.args.frames.now c.args.now) c.open_part.new.frames c.args.left.now (g.D.Doer.fits c.args.doer.now) (g.D.Doer.stands c.args.doer.now) (g.W.Watch.history c.args.watch.now)
+    (λ table capture s n. unwritten_now (script_of c.args.script.now) c.args.frames.now c.args.now (Opens c.in-Opens.part) c.in-Opens.is table capture s n
+    (several_left (script_of c.args.script.now) c.args.frames.now c.in-Opens.part (c.in-Ok-false.ensures.left c.in-Ok-false.field-0-test) table capture s n))
 
 pub returns-in-Err-clause-step : goal.returns-in-Err-clause-step
 returns-in-Err-clause-step g c =

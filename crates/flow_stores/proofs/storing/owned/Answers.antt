@@ -6,9 +6,8 @@ use Rattle.py_value.specs.Contents.{contents}
 use Rattle.py_model.specs.Expressions.{eval}
 use Rattle.flow_parts.specs.Machine.{key, now_act, owner_act, target_in}
 use Rattle.flow_parts.specs.Seen.{now_seen, part_seen}
-use Rattle.flow_stages.proofs.Openings.{if_more}
-use Rattle.flow_stages.proofs.Followings.{starts_as, part_owned}
-use Rattle.flow_stages.proofs.storing.owned.Goals as goal
+use Rattle.flow_stores.proofs.Starting.{if_more, part_owned, starts_as}
+use Rattle.flow_stores.proofs.storing.owned.Goals as goal
 
 pub returns-in-Part-clause-means : goal.returns-in-Part-clause-means
 returns-in-Part-clause-means c = if_more c.start.result _ _ (λ now means. λ script next here table.

@@ -20,7 +20,7 @@ use std::alloc::Global;
 
 /// A value is stored in the target of a statement: a name is bound at once, a container is evaluated first, and several targets are left.
 #[tactic(auto, using(py_tree::proofs::TargetTrees::target_trees))]
-pub(crate) fn stored<'a>(
+pub fn stored<'a>(
     alloc: Global,
     part: Part<'a>,
     goal: Goal,
@@ -48,7 +48,7 @@ pub(crate) fn stored<'a>(
 
 /// The container of a target is there: its index is evaluated, or its attribute is set.
 #[tactic(auto, using(py_tree::proofs::TargetTrees::target_trees))]
-pub(crate) fn held<'a>(
+pub fn held<'a>(
     alloc: Global,
     part: Part<'a>,
     goal: Goal,
@@ -79,7 +79,7 @@ pub(crate) fn held<'a>(
 
 /// The index of a target is there: the item is set.
 #[tactic(auto, using(py_tree::proofs::TargetTrees::target_trees))]
-pub(crate) fn indexed<'a>(
+pub fn indexed<'a>(
     alloc: Global,
     part: Part<'a>,
     goal: Goal,
@@ -106,7 +106,7 @@ pub(crate) fn indexed<'a>(
 }
 
 /// What follows a value that was stored.
-pub(crate) fn reached<'a>(part: Part<'a>, goal: Goal) -> Now<'a>
+pub fn reached<'a>(part: Part<'a>, goal: Goal) -> Now<'a>
     ensures means { (script : ScriptTree) (next : Task → Act) (here : Here) (table : ValuesView)
         → now_act script next here (now_seen table result) ≡ goal_act script next here part.entry.at (goal_seen table goal) (form_of part.entry.form.now) }
     ensures held { (table : ValuesView) (scope : OneScope) → IsHeldGoal table goal → IsHeldNow table scope result }
@@ -121,7 +121,7 @@ pub(crate) fn reached<'a>(part: Part<'a>, goal: Goal) -> Now<'a>
 
 /// The container of what is deleted is there: its index is evaluated.
 #[tactic(auto, using(py_tree::proofs::TargetTrees::target_trees))]
-pub(crate) fn owned<'a>(
+pub fn owned<'a>(
     alloc: Global,
     part: Part<'a>,
     owner: Value,
@@ -144,7 +144,7 @@ pub(crate) fn owned<'a>(
 
 /// The index of what is deleted is there: the item is deleted.
 #[tactic(auto, using(py_tree::proofs::TargetTrees::target_trees))]
-pub(crate) fn keyed<'a>(
+pub fn keyed<'a>(
     alloc: Global,
     part: Part<'a>,
     owner: Value,

@@ -1,0 +1,37 @@
+-- What begins with an expression or an operation, and goes on with what follows a part of a statement.
+use Rattle.std.proofs.Common.{◌≡◌, ℕ, List, Some, Result, Ok, Err, refl, ap, sym, ◌∙◌}
+use Rattle.std.specs.Prelude.{IfOk}
+use Rattle.prov_base.specs.declared.place.Pos.{Pos}
+use Rattle.py_tree.specs.Tree.{ExprTree, FormTree, ScriptTree, part_target, field_target}
+use Rattle.py_value.specs.Contents.{Contents}
+use Rattle.py_model.specs.Act.{Act}
+use Rattle.py_model.specs.Expressions.{Here, Task, eval}
+use Rattle.flow_parts.specs.Machine.{Stage, Part, part, Goal, holder, at_index, key, then_act, target_in, stored_act, holder_act, index_act, owner_act, key_act}
+
+pub if_more : {T E : Type 0} (r : Result T E) (P Q : T → Type 0) → ((x : T) → P x → Q x) → IfOk r P → IfOk r Q
+if_more (Ok x) P Q more holds = more x holds
+if_more (Err e) P Q more holds = holds
+
+pub starts_as : (script : ScriptTree) (next : Task → Act) (here : Here) (a : Act) (K : (Contents → Act) → Act) (g : Act) (p : Part) (at : Pos) (form : FormTree) (stage : Stage)
+    → p ≡ part at form stage → K (then_act script next here at form stage) ≡ g → a ≡ K (then_act script next here p.at p.form p.stage) → a ≡ g
+starts_as script next here a K g p at form stage same opens means = means ∙ ap (λ p. K (then_act script next here p.at p.form p.stage)) same ∙ opens
+
+module _ (script : ScriptTree) (next : Task → Act) (here : Here) (at : Pos) (form : FormTree) where
+  pub part_stored : (goal : Goal) (place : Pos) (e i : ExprTree) (v : Contents) → target_in form ≡ Some (part_target place e i)
+      → eval script next here e (then_act script next here at form (holder goal v)) ≡ stored_act script next here at form goal (target_in form) v
+  part_stored goal place e i v is =
+      ap (λ x. eval script next here e (holder_act script next here at form goal x v)) is ∙ sym (ap (λ x. stored_act script next here at form goal x v) is)
+
+  pub field_stored : (goal : Goal) (place : Pos) (e : ExprTree) (name : List ℕ) (v : Contents) → target_in form ≡ Some (field_target place e name)
+      → eval script next here e (then_act script next here at form (holder goal v)) ≡ stored_act script next here at form goal (target_in form) v
+  field_stored goal place e name v is =
+      ap (λ x. eval script next here e (holder_act script next here at form goal x v)) is ∙ sym (ap (λ x. stored_act script next here at form goal x v) is)
+
+  pub part_held : (goal : Goal) (place : Pos) (e i : ExprTree) (v o : Contents) → target_in form ≡ Some (part_target place e i)
+      → eval script next here i (then_act script next here at form (at_index goal v o)) ≡ holder_act script next here at form goal (target_in form) v o
+  part_held goal place e i v o is =
+      ap (λ x. eval script next here i (index_act script next here at form goal x v o)) is ∙ sym (ap (λ x. holder_act script next here at form goal x v o) is)
+
+  pub part_owned : (place : Pos) (e i : ExprTree) (o : Contents) → target_in form ≡ Some (part_target place e i)
+      → eval script next here i (then_act script next here at form (key o)) ≡ owner_act script next here (target_in form) o
+  part_owned place e i o is = ap (λ x. eval script next here i (key_act script next here x o)) is ∙ sym (ap (λ x. owner_act script next here x o) is)

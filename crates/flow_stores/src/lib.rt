@@ -1,0 +1,11 @@
+//! How values are stored in the targets of statements: by an assignment or a turn of a `for`, by an augmented assignment; and how an item is
+//! deleted. It stands on the parts of statements of `flow_parts`.
+//!
+//! Each function says that what is done afterwards means what the stage means. `specs/Changing.antt` says how augmented assignments begin.
+#![tactic(auto)]
+
+mod changing;
+mod storing;
+
+pub use changing::{augmented, based, changed, loaded, sided, slotted};
+pub use storing::{held, indexed, keyed, owned, reached, stored};
