@@ -1,10 +1,10 @@
 -- The operations of statements (this project's profile): the number of each, the text that it names and the value that it names.
-use Rattle.std.specs.Prelude.{ℕ, true}
-use Rattle.py_value.specs.Contents.{Contents, nothing, truth, function, class}
+use Rattle.std.specs.Prelude.{ℕ, pos, true}
+use Rattle.py_value.specs.Contents.{Contents, nothing, truth, int, function, class}
 use Rattle.py_model.specs.Statements.{augmented_number, module_of}
 use Rattle.interp_eval.specs.Machine.{Want, plain, a_name, a_variable}
 use Rattle.flow_parts.specs.declared.codes.Code.{Code}
-use Rattle.flow_parts.specs.declared.codes.Code.TheVariants.{Truth, Load, Sign, Item, SetItem, DeleteItem, Field, SetField, Bind, Unbind, Clear, Size, Next, Raise, Match, Function, Class, Import, Close, Enter, Fail}
+use Rattle.flow_parts.specs.declared.codes.Code.TheVariants.{Truth, Load, Sign, Item, SetItem, DeleteItem, Field, SetField, Bind, Unbind, Clear, Size, Next, Unpack, Raise, Match, Function, Class, Import, Close, Enter, Fail}
 
 abbrev pub code_number : Code → ℕ
 code_number Truth = 3
@@ -18,6 +18,7 @@ code_number (SetField name) = 31
 code_number (Bind name) = 33
 code_number (Unbind name) = 34
 code_number (Clear name) = 34
+code_number (Unpack count) = 35
 code_number Size = 36
 code_number Next = 37
 code_number Raise = 40
@@ -43,6 +44,7 @@ code_want code = plain
 
 abbrev pub code_value : Code → Contents
 code_value (Clear name) = truth true
+code_value (Unpack count) = int (pos count)
 code_value (Function name at) = function at
 code_value (Class name at) = class at
 code_value (Import name) = module_of name.now

@@ -9,9 +9,9 @@ use Rattle.interp_eval.specs.Held.{AreHeld, AreAllNamed}
 use Rattle.flow_parts.specs.declared.control.End.{End}
 use Rattle.flow_parts.specs.declared.control.End.TheVariants.{Returned}
 use Rattle.flow_parts.specs.declared.control.Goal.{Goal}
-use Rattle.flow_parts.specs.declared.control.Goal.TheVariants.{Finishes, Turns}
+use Rattle.flow_parts.specs.declared.control.Goal.TheVariants.{Finishes, Turns, Breaks}
 use Rattle.flow_parts.specs.declared.control.Stage.{Stage}
-use Rattle.flow_parts.specs.declared.control.Stage.TheVariants.{Stores, Holder, Index, Stored, Sized, Turn, Item, Repeats, Key, Slotted, Loaded, Sided, Changed, Named, Inside, Closes}
+use Rattle.flow_parts.specs.declared.control.Stage.TheVariants.{Stores, Holder, Index, Stored, Unpacked, Spreads, Sized, Turn, Item, Repeats, Key, Slotted, Loaded, Sided, Changed, Named, Inside, Closes}
 use Rattle.flow_parts.specs.declared.control.Work.{Work}
 use Rattle.flow_parts.specs.declared.control.Work.TheVariants.{Evaluates, Operation}
 use Rattle.flow_parts.specs.declared.control.Now.{Now}
@@ -29,12 +29,15 @@ IsHeldEnd table end = ⊤
 abbrev pub IsHeldGoal : ValuesView → Goal → Type 0
 IsHeldGoal table Finishes = ⊤
 IsHeldGoal table (Turns items n size) = IsNamed table items × IsNamed table size
+IsHeldGoal table (Breaks n) = ⊤
 
 abbrev pub IsHeldStage : ValuesView → Stage → Type 0
 IsHeldStage table (Stores goal v) = IsHeldGoal table goal × IsNamed table v
 IsHeldStage table (Holder goal v) = IsHeldGoal table goal × IsNamed table v
 IsHeldStage table (Index goal v o) = IsHeldGoal table goal × (IsNamed table v × IsNamed table o)
 IsHeldStage table (Stored goal) = IsHeldGoal table goal
+IsHeldStage table (Unpacked goal) = IsHeldGoal table goal
+IsHeldStage table (Spreads goal n v) = IsHeldGoal table goal × IsNamed table v
 IsHeldStage table (Sized items) = IsNamed table items
 IsHeldStage table (Turn items n size) = IsNamed table items × IsNamed table size
 IsHeldStage table (Item items n size) = IsNamed table items × IsNamed table size

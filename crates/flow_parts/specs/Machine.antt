@@ -4,20 +4,21 @@ use Rattle.std.specs.Prelude.{ℕ, zero, suc, List, [], ◌∷◌, Option, Some,
 use Rattle.prov_base.specs.declared.place.Pos.{Pos}
 use Rattle.py_tree.specs.declared.expr.BinOp.{BinOp}
 use Rattle.py_tree.specs.declared.stmt.Bound.{Bound}
-use Rattle.py_tree.specs.Tree.{ExprTree, FormTree, SuiteTree, BranchesTree, HandlersTree, TargetTree, ScriptTree, var_target, part_target, field_target, many_target, assign_form, aug_form, del_form, return_form, raise_form, assert_form, if_form, while_form, for_form, try_form, with_form, class_form, end_branches, more_branches, end_handlers, more_handlers}
-use Rattle.py_value.specs.Contents.{Contents, nothing, object}
-use Rattle.py_model.specs.Act.{Act, How, ret, close, to, ending, normal, returned, threw}
+use Rattle.py_tree.specs.Tree.{ExprTree, FormTree, SuiteTree, BranchesTree, HandlersTree, TargetTree, TargetsTree, ScriptTree, end_targets, more_targets, var_target, part_target, field_target, many_target, assign_form, aug_form, del_form, return_form, raise_form, assert_form, if_form, while_form, for_form, try_form, with_form, class_form, end_branches, more_branches, end_handlers, more_handlers}
+use Rattle.py_value.specs.Contents.{Contents, Parts, nothing, object}
+use Rattle.py_model.specs.Act.{Act, How, ret, close, to, ending, normal, broke, returned, threw}
 use Rattle.py_model.specs.Expressions.{Here, Task, while_again, for_again, by_truth, doing, op, op_named, op_scoped, left_with, eval}
 use Rattle.py_model.specs.Functions.{expr_place}
 use Rattle.py_model.specs.Operations.{Op}
-use Rattle.py_model.specs.Statements.{suite, augmented_number, store, choose, otherwise, handle, caught, turned, then_so, binding, unbinding, handling, in_class_of, failed_assert, while_turn, for_turn, class_body}
+use Rattle.py_model.specs.Statements.{suite, augmented_number, parts_in, rest_of, store, store_all, choose, otherwise, handle, caught, turned, then_so, binding, unbinding, handling, in_class_of, failed_assert, while_turn, for_turn, class_body}
 use Rattle.interp_eval.specs.Machine.{Machine, Want, wanted_op, machine, node, gives_one, node_for, remains}
 
--- What follows a value that is stored in a target: the end of the statement; or the suite of a turn of a `for`, with its items, the number of the turns
--- before it, and their size.
+-- What follows a value that is stored in a target: the end of the statement; the suite of a turn of a `for`, with its items, the number of the turns
+-- before it, and their size; or, where the target is the one of several with a number, a jump to the next of these.
 pub data Goal : Type 0 where
   finishes : Goal
   turns : Contents → ℕ → Contents → Goal
+  breaks : ℕ → Goal
 
 -- How far a statement is. A stage has the values that are held until its end: of a target its container and its index, of a `for` its
 -- items, turns and size, of a handler its number and the exception.
@@ -35,6 +36,9 @@ pub data Stage : Type 0 where
   holder : Goal → Contents → Stage
   at_index : Goal → Contents → Contents → Stage
   stored : Goal → Stage
+  -- a value is taken apart for several targets; what it is taken apart into is stored from the target with a number on
+  unpacked : Goal → Stage
+  spreads : Goal → ℕ → Contents → Stage
   -- of a `for` the size is awaited; a turn is next; its item is awaited; its suite is next
   sized : Contents → Stage
   turn : Contents → ℕ → Contents → Stage
@@ -141,6 +145,41 @@ target_in (aug_form target sign place e) = Some target
 target_in (del_form target) = Some target
 target_in (for_form target e run) = Some target
 target_in form = None
+
+-- several targets from a number on, and items so
+abbrev pub targets_from : ℕ → TargetsTree → TargetsTree
+targets_from zero targets = targets
+targets_from (suc n) end_targets = end_targets
+targets_from (suc n) (more_targets target rest) = targets_from n rest
+
+abbrev pub parts_from : ℕ → Parts → Parts
+parts_from zero items = items
+parts_from (suc n) items = parts_from n (rest_of items)
+
+abbrev pub first_target : TargetsTree → Option TargetTree
+first_target end_targets = None
+first_target (more_targets target rest) = Some target
+
+-- the targets of a statement, where it has several; the one with a number
+abbrev pub many_of : Option TargetTree → Option TargetsTree
+many_of (Some (many_target targets)) = Some targets
+many_of target = None
+
+abbrev pub nth_target : ℕ → Option TargetsTree → Option TargetTree
+nth_target n None = None
+nth_target n (Some targets) = first_target (targets_from n targets)
+
+-- the target of a value that is stored: that of the statement, or one of several
+abbrev pub goal_target : Goal → FormTree → Option TargetTree
+goal_target finishes form = target_in form
+goal_target (turns items n size) form = target_in form
+goal_target (breaks n) form = nth_target n (many_of (target_in form))
+
+-- the several targets that what a value is taken apart into is stored in: those of the statement alone
+abbrev pub several_in : Goal → FormTree → Option TargetsTree
+several_in finishes form = many_of (target_in form)
+several_in (turns items n size) form = many_of (target_in form)
+several_in (breaks n) form = None
 
 -- an augmented assignment: its target, its operator with the place, and its right side
 pub record Change : Type 0 where
@@ -254,26 +293,38 @@ module _ (script : ScriptTree) (next : Task → Act) where
   handled_end here None how = ret how
   handled_end here (Some h) how = unbinding here h.bound (ret how)
 
+  -- what follows a value that was stored
+  abbrev pub goal_act : Here → Pos → Goal → FormTree → Act
+  goal_act here at finishes form = ret normal
+  goal_act here at (turns items n size) form = to (suite_act here (suite_in form)) (turn_ended next here at form items n size)
+  goal_act here at (breaks n) form = ret broke
+
+  -- what a value was taken apart into is stored in several targets from a number on; one of these has its item
+  abbrev pub spread_act : Here → Pos → FormTree → Goal → Option TargetsTree → ℕ → Contents → Act
+  spread_act here at form goal (Some targets) n v = store_all script next here at (targets_from n targets) (parts_from n (parts_in v)) (goal_act here at goal form)
+  spread_act here at form goal None n v = ret normal
+
+  abbrev pub spread_ended : Here → Pos → FormTree → Goal → ℕ → Contents → How → Act
+  spread_ended here at form goal n v broke = spread_act here at form goal (several_in goal form) (suc n) v
+  spread_ended here at form goal n v how = ret how
+
   abbrev pub suite_ended : (Task → Act) → Here → Pos → FormTree → Stage → How → Act
   suite_ended again here at form body how = body_ended again here at form how
   suite_ended again here at form (repeats items n size) how = turn_ended again here at form items n size how
   suite_ended again here at form (inside v) how = inside_ended here at form v how
   suite_ended again here at form (handles n o) how = handled_end here (handler_in form n) how
+  suite_ended again here at form (spreads goal n v) how = spread_ended here at form goal n v how
   suite_ended again here at form stage how = ret how
 
   -- the suite of a stage, and what follows it
   abbrev pub runs_act : Here → Pos → FormTree → Stage → Act
   runs_act here at form stage = to (stage_act (inner_here form stage here) form stage) (suite_ended next here at form stage)
 
-  -- a turn of a `for`; what follows a value that was stored
+  -- a turn of a `for`
   abbrev pub turn_act : Here → Pos → FormTree → Contents → ℕ → Contents → Act
   turn_act here at (for_form target e run) items n size =
       for_turn script next here at target (suite script next here run) items n size (next (for_again here at target run items (suc n) size))
   turn_act here at form items n size = ret normal
-
-  abbrev pub goal_act : Here → Pos → Goal → FormTree → Act
-  goal_act here at finishes form = ret normal
-  goal_act here at (turns items n size) form = runs_act here at form (repeats items n size)
 
   -- a value is stored in the target of a statement; its container is there; its index is there
   abbrev pub stored_act : Here → Pos → FormTree → Goal → Option TargetTree → Contents → Act
@@ -376,9 +427,10 @@ module _ (script : ScriptTree) (next : Task → Act) where
   then_act here at form (tested n) v = test_act here at form n (test_of form n) v
   then_act here at form (answered n) v = by_truth (when_true here form n) (when_false here at form n) v
   then_act here at form failed v = doing here at (op 47) (v ∷ []) (λ end. ret normal)
-  then_act here at form (holder goal u) v = holder_act here at form goal (target_in form) u v
-  then_act here at form (at_index goal u o) v = index_act here at form goal (target_in form) u o v
+  then_act here at form (holder goal u) v = holder_act here at form goal (goal_target goal form) u v
+  then_act here at form (at_index goal u o) v = index_act here at form goal (goal_target goal form) u o v
   then_act here at form (stored goal) v = goal_act here at goal form
+  then_act here at form (unpacked goal) v = spread_act here at form goal (several_in goal form) 0 v
   then_act here at form (sized items) v = turn_act here at form items 0 v
   then_act here at form (item items n size) v = stored_act here at form (turns items n size) (target_in form) v
   then_act here at form owner v = owner_act here (target_in form) v
@@ -405,7 +457,8 @@ module _ (script : ScriptTree) (next : Task → Act) where
   -- a part of a statement is opened: a test, a store, a turn, a handler, or a suite; nothing else is opened
   abbrev pub open_act : Here → Pos → FormTree → Stage → Act
   open_act here at form (tested n) = from_test here form n
-  open_act here at form (stores goal v) = stored_act here at form goal (target_in form) v
+  open_act here at form (stores goal v) = stored_act here at form goal (goal_target goal form) v
+  open_act here at form (spreads goal n v) = spread_act here at form goal (several_in goal form) n v
   open_act here at form (turn items n size) = turn_act here at form items n size
   open_act here at form (handler n o line) = handle script next here at (handlers_from n (handlers_in form)) o line
   open_act here at form body = runs_act here at form body

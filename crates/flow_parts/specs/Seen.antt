@@ -8,7 +8,7 @@ use Rattle.py_value.specs.Values.{ValuesView}
 use Rattle.py_model.specs.Act.{How, normal, broke, continued, returned, threw}
 use Rattle.interp_eval.specs.Seen.{machine_seen}
 use Rattle.flow_parts.specs.Codes.{code_number, code_value, code_want}
-use Rattle.flow_parts.specs.Machine.{Goal, finishes, turns, Stage, valued, tested, answered, done, body, failed, stores, holder, at_index, stored, sized, turn, item, repeats, owner, key, based, slotted, loaded, sided, changed, entered, named, inside, closes, handler, sought, matched, catches, handles, Part, part, Work, evaluates, operation, Now, in_suite, opens, gives, ended, Waits, a_stmt, a_part, a_call, Frame, frame, Flow, flow}
+use Rattle.flow_parts.specs.Machine.{Goal, finishes, turns, breaks, Stage, valued, tested, answered, done, body, failed, stores, holder, at_index, stored, unpacked, spreads, sized, turn, item, repeats, owner, key, based, slotted, loaded, sided, changed, entered, named, inside, closes, handler, sought, matched, catches, handles, Part, part, Work, evaluates, operation, Now, in_suite, opens, gives, ended, Waits, a_stmt, a_part, a_call, Frame, frame, Flow, flow}
 use Rattle.std.specs.Option.{option_map}
 use Rattle.py_tree.specs.Tree.{ScriptTree}
 use Rattle.py_model.specs.Expressions.{Here}
@@ -21,9 +21,9 @@ use Rattle.flow_parts.specs.declared.frames.FlowFrames.{FlowFrames}
 use Rattle.flow_parts.specs.declared.control.End.{End}
 use Rattle.flow_parts.specs.declared.control.End.TheVariants.{Normal, Broke, Continued, Returned, Threw}
 use Rattle.flow_parts.specs.declared.control.Goal.{Goal as GoalCode}
-use Rattle.flow_parts.specs.declared.control.Goal.TheVariants.{Finishes, Turns}
+use Rattle.flow_parts.specs.declared.control.Goal.TheVariants.{Finishes, Turns, Breaks}
 use Rattle.flow_parts.specs.declared.control.Stage.{Stage as StageCode}
-use Rattle.flow_parts.specs.declared.control.Stage.TheVariants.{Valued, Tested, Answered, Done, Body, Failed, Stores, Holder, Index, Stored, Sized, Turn, Item, Repeats, Owner, Key, Based, Slotted, Loaded, Sided, Changed, Entered, Named, Inside, Closes, Handler, Sought, Matched, Catches, Handles}
+use Rattle.flow_parts.specs.declared.control.Stage.TheVariants.{Valued, Tested, Answered, Done, Body, Failed, Stores, Holder, Index, Stored, Unpacked, Spreads, Sized, Turn, Item, Repeats, Owner, Key, Based, Slotted, Loaded, Sided, Changed, Entered, Named, Inside, Closes, Handler, Sought, Matched, Catches, Handles}
 use Rattle.flow_parts.specs.declared.control.Part.{Part as PartRefs}
 use Rattle.flow_parts.specs.declared.control.Work.{Work as WorkRefs}
 use Rattle.flow_parts.specs.declared.control.Work.TheVariants.{Evaluates, Operation}
@@ -43,6 +43,7 @@ end_seen table (Threw o line) = threw o line
 abbrev pub goal_seen : ValuesView → GoalCode → Goal
 goal_seen table Finishes = finishes
 goal_seen table (Turns items n size) = turns (contents table items) n (contents table size)
+goal_seen table (Breaks n) = breaks n
 
 abbrev pub stage_seen : ValuesView → StageCode → Stage
 stage_seen table Valued = valued
@@ -55,6 +56,8 @@ stage_seen table (Stores goal v) = stores (goal_seen table goal) (contents table
 stage_seen table (Holder goal v) = holder (goal_seen table goal) (contents table v)
 stage_seen table (Index goal v o) = at_index (goal_seen table goal) (contents table v) (contents table o)
 stage_seen table (Stored goal) = stored (goal_seen table goal)
+stage_seen table (Unpacked goal) = unpacked (goal_seen table goal)
+stage_seen table (Spreads goal n v) = spreads (goal_seen table goal) n (contents table v)
 stage_seen table (Sized items) = sized (contents table items)
 stage_seen table (Turn items n size) = turn (contents table items) n (contents table size)
 stage_seen table (Item items n size) = item (contents table items) n (contents table size)

@@ -37,6 +37,8 @@ pub enum Code<'a> {
     Unbind(&'a Name),
     /// A name is unbound at the end of its clause.
     Clear(&'a Name),
+    /// A value is taken apart into so many.
+    Unpack(u32),
     /// The size of what a `for` goes over.
     Size,
     /// The next item of it.
@@ -109,6 +111,7 @@ impl<'a> Code<'a> {
             Code::Bind(_) => 33,
             Code::Unbind(_) => 34,
             Code::Clear(_) => 34,
+            Code::Unpack(_) => 35,
             Code::Size => 36,
             Code::Next => 37,
             Code::Raise => 40,
@@ -143,6 +146,7 @@ impl<'a> Code<'a> {
             Code::Item => Want::Plain,
             Code::SetItem => Want::Plain,
             Code::DeleteItem => Want::Plain,
+            Code::Unpack(_) => Want::Plain,
             Code::Size => Want::Plain,
             Code::Next => Want::Plain,
             Code::Raise => Want::Plain,
@@ -160,6 +164,7 @@ impl<'a> Code<'a> {
     {
         match self {
             Code::Clear(_) => Value::Bool(true),
+            Code::Unpack(count) => Value::Int(i64::from(count)),
             Code::Function(_, at) => Value::Fn(at),
             Code::Class(_, at) => Value::Class(at),
             Code::Import(name) => module_at(name),

@@ -44,6 +44,8 @@ pub enum Goal {
     Finishes,
     /// The suite of a turn of a `for`: its items, the number of turns before it, and their size.
     Turns(Value, u32, Value),
+    /// The next of several targets, of which this is the one with a number.
+    Breaks(usize),
 }
 
 /// How far a statement is.
@@ -69,6 +71,10 @@ pub enum Stage {
     Index(Goal, Value, Value),
     /// The answer of the operation that stores a value is awaited.
     Stored(Goal),
+    /// A value is taken apart for several targets.
+    Unpacked(Goal),
+    /// The items of this are stored, from the target with a number on.
+    Spreads(Goal, usize, Value),
     /// The size of what a `for` goes over is awaited.
     Sized(Value),
     /// A turn of a `for` is next: its items, the number of turns before it, and their size.

@@ -2,3 +2,4 @@ pub mod Openings
 pub mod Handlers
 pub mod Beginnings
 pub mod Followings
+pub mod Spreads

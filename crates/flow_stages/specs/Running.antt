@@ -8,14 +8,15 @@ use Rattle.py_tree.specs.declared.stmt.Suite.{Suite}
 use Rattle.py_tree.specs.Erasure.{expr_of, form_of, suite_of}
 use Rattle.py_tree.specs.Tree.{FormTree, TargetTree, ScriptTree, many_target}
 use Rattle.py_value.specs.Contents.{Contents}
-use Rattle.py_value.specs.Values.{ValuesView}
+use Rattle.py_value.specs.Values.{ValuesView, Keeps}
 use Rattle.py_model.specs.Act.{Act, How, ret, to, normal}
 use Rattle.py_model.specs.Expressions.{Here, Task, doing, op_scoped}
 use Rattle.py_model.specs.Statements.{then_so}
 use Rattle.flow_parts.specs.Held.{IsHeldClass, IsHeldNow}
-use Rattle.flow_parts.specs.Machine.{Handler, now_act, open_act, suite_ended, target_in}
+use Rattle.flow_parts.specs.Machine.{Handler, now_act, open_act, suite_ended, breaks, goal_target}
 use Rattle.flow_parts.specs.Seen.{here_seen, now_seen, stage_seen}
 use Rattle.flow_parts.specs.declared.control.Part.{Part}
+use Rattle.flow_parts.specs.declared.control.Goal.TheVariants.{Breaks}
 use Rattle.flow_parts.specs.declared.control.Stage.{Stage}
 use Rattle.flow_parts.specs.declared.control.Stage.TheVariants.{Stores}
 use Rattle.flow_parts.specs.declared.frames.Spot.{Spot}
@@ -34,19 +35,20 @@ abbrev pub IsMany : Option TargetTree → Type 0
 IsMany (Some (many_target targets)) = ⊤
 IsMany target = ⊥
 
--- what is not performed yet: a value is to be stored in several targets
-abbrev pub IsSeveral : FormTree → Stage → Type 0
-IsSeveral form (Stores goal v) = IsMany (target_in form)
-IsSeveral form stage = ⊥
+-- what is not performed yet: a value is to be stored in several targets that are one of several
+abbrev pub IsNested : FormTree → Stage → Type 0
+IsNested form (Stores (Breaks n) v) = IsMany (goal_target (breaks n) form)
+IsNested form stage = ⊥
 
--- it is done now and means the same; or it is done at another spot, and the part waits for its end
-abbrev pub OpensBy : Part → Spot → Now → Way → Type 0
-OpensBy p spot now Becomes = (script : ScriptTree) (next : Task → Act) (table : ValuesView)
+-- it is done now and means the same; or it is done at another spot, and the part waits for its end: so by all texts and tuples that have these
+-- with their numbers
+abbrev pub OpensBy : ValuesView → Part → Spot → Now → Way → Type 0
+OpensBy own p spot now Becomes = (script : ScriptTree) (next : Task → Act) (table : ValuesView) → Keeps own.texts table.texts → Keeps own.tuples table.tuples
     → now_act script next (here_seen script table spot) (now_seen table now) ≡ open_act script next (here_seen script table spot) p.at (form_of p.form.now) (stage_seen table p.stage)
-OpensBy p spot now (Runs inner) = (script : ScriptTree) (next : Task → Act) (table : ValuesView)
+OpensBy own p spot now (Runs inner) = (script : ScriptTree) (next : Task → Act) (table : ValuesView) → Keeps own.texts table.texts → Keeps own.tuples table.tuples
     → to (now_act script next (here_seen script table inner) (now_seen table now)) (suite_ended script next next (here_seen script table spot) p.at (form_of p.form.now) (stage_seen table p.stage))
     ≡ open_act script next (here_seen script table spot) p.at (form_of p.form.now) (stage_seen table p.stage)
-OpensBy p spot now Unwritten = IsSeveral (form_of p.form.now) p.stage
+OpensBy own p spot now Unwritten = IsNested (form_of p.form.now) p.stage
 
 abbrev pub HoldsOpened : ValuesView → Spot → Now → Way → Type 0
 HoldsOpened table spot now Becomes = IsHeldNow table spot.scope now

@@ -8,13 +8,13 @@ ghost use Rattle.py_model.specs.Act.{Act};
 ghost use Rattle.py_model.specs.Expressions.{Here, Task};
 ghost use Rattle.py_model.specs.Statements.{task, turned};
 ghost use Rattle.interp_eval.specs.declared.frames.Scope.{Scope as OneScope};
-ghost use Rattle.flow_parts.specs.Held.{IsHeldEnd, IsHeldNow, IsHeldStage};
-ghost use Rattle.flow_parts.specs.Machine.{body_ended, handled_end, handler_in, inside_ended, now_act, open_act, suite_ended, turn_ended};
-ghost use Rattle.flow_parts.specs.Seen.{end_seen, now_seen, stage_seen};
+ghost use Rattle.flow_parts.specs.Held.{IsHeldEnd, IsHeldGoal, IsHeldNow, IsHeldStage};
+ghost use Rattle.flow_parts.specs.Machine.{body_ended, handled_end, handler_in, inside_ended, now_act, open_act, spread_ended, suite_ended, turn_ended};
+ghost use Rattle.flow_parts.specs.Seen.{end_seen, goal_seen, now_seen, stage_seen};
 ghost use Rattle.flow_stages.specs.Running.{class_ended};
 
 use crate::forms::handler_in;
-use flow_parts::{Code, End, Now, Part, Stage, on_none, on_one};
+use flow_parts::{Code, End, Goal, Now, Part, Stage, on_none, on_one};
 use prov_base::{Memory, Name};
 use py_tree::Form;
 use py_value::Value;
@@ -208,6 +208,40 @@ fn handled_ended<'a>(
     }
 }
 
+/// The number of the target behind one. The targets of a statement have numbers; past these memory is wanted.
+fn next_target(number: usize) -> Result<usize, Memory>
+    ensures { IfOk result (λ after. after ≡ number + 1) }
+{
+    if number == usize::MAX {
+        return Err(Memory);
+    }
+    Ok(number + 1)
+}
+
+/// One of several targets has its item, which is told by a jump: the next one is next.
+fn spread_ended<'a>(
+    part: Part<'a>,
+    goal: Goal,
+    number: usize,
+    value: Value,
+    end: End,
+) -> Result<Now<'a>, Memory>
+    ensures means { IfOk result (λ now. (script : ScriptTree) (next : Task → Act) (here : Here) (table : ValuesView)
+        → now_act script next here (now_seen table now) ≡ spread_ended script next here part.entry.at (form_of part.entry.form.now) (goal_seen table goal) number (contents table value) (end_seen table end)) }
+    ensures held { IfOk result (λ now. (table : ValuesView) (scope : OneScope) → IsHeldGoal table goal → IsNamed table value → IsHeldEnd table end → IsHeldNow table scope now) }
+{
+    match end {
+        End::Broke => {
+            let after = next_target(number)?;
+            Ok(Now::Opens(part.to(Stage::Spreads(goal, after, value))))
+        }
+        End::Normal => Ok(Now::Ended(End::Normal)),
+        End::Continued => Ok(Now::Ended(End::Continued)),
+        End::Returned(value) => Ok(Now::Ended(End::Returned(value))),
+        End::Threw(o, line) => Ok(Now::Ended(End::Threw(o, line))),
+    }
+}
+
 /// The suite that a part of a statement waits for has ended. A further turn is what such a task is.
 pub fn part_ended<'a>(alloc: Global, part: Part<'a>, end: End) -> Result<Now<'a>, Memory>
     ensures means { IfOk result (λ now. (script : ScriptTree) (next : Task → Act) (here : Here) (table : ValuesView)
@@ -218,6 +252,7 @@ pub fn part_ended<'a>(alloc: Global, part: Part<'a>, end: End) -> Result<Now<'a>
         Stage::Body => Ok(body_ended(part, end)),
         Stage::Repeats(items, number, size) => turn_ended(part, items, number, size, end),
         Stage::Inside(value) => inside_ended(alloc, part, value, end),
+        Stage::Spreads(goal, number, value) => spread_ended(part, goal, number, value, end),
         Stage::Handles(number, _) => handled_ended(alloc, part, number, end),
         Stage::Valued => Ok(Now::Ended(end)),
         Stage::Tested(_) => Ok(Now::Ended(end)),
@@ -228,6 +263,7 @@ pub fn part_ended<'a>(alloc: Global, part: Part<'a>, end: End) -> Result<Now<'a>
         Stage::Holder(_, _) => Ok(Now::Ended(end)),
         Stage::Index(_, _, _) => Ok(Now::Ended(end)),
         Stage::Stored(_) => Ok(Now::Ended(end)),
+        Stage::Unpacked(_) => Ok(Now::Ended(end)),
         Stage::Sized(_) => Ok(Now::Ended(end)),
         Stage::Turn(_, _, _) => Ok(Now::Ended(end)),
         Stage::Item(_, _, _) => Ok(Now::Ended(end)),

@@ -215,6 +215,7 @@ pub fn after<'a>(
         Stage::Holder(goal, v) => held(alloc, part, goal, v, value, scope),
         Stage::Index(goal, v, owner) => indexed(alloc, part, goal, v, owner, value),
         Stage::Stored(goal) => Ok(reached(part, goal)),
+        Stage::Unpacked(goal) => Ok(Now::Opens(part.to(Stage::Spreads(goal, 0, value)))),
         Stage::Sized(items) => Ok(Now::Opens(part.to(Stage::Turn(items, 0, value)))),
         Stage::Item(items, number, size) => {
             stored(alloc, part, Goal::Turns(items, number, size), value, scope)
@@ -247,6 +248,7 @@ pub fn after<'a>(
         Stage::Done => Ok(Now::Ended(End::Normal)),
         Stage::Body => Ok(Now::Ended(End::Normal)),
         Stage::Stores(_, _) => Ok(Now::Ended(End::Normal)),
+        Stage::Spreads(_, _, _) => Ok(Now::Ended(End::Normal)),
         Stage::Turn(_, _, _) => Ok(Now::Ended(End::Normal)),
         Stage::Repeats(_, _, _) => Ok(Now::Ended(End::Normal)),
         Stage::Inside(_) => Ok(Now::Ended(End::Normal)),

@@ -3,27 +3,29 @@ ghost use Rattle.std.specs.Prelude.{◌≡◌, IfOk, pos, true};
 ghost use Rattle.py_tree.specs.Erasure.{form_of};
 ghost use Rattle.py_tree.specs.Tree.{ScriptTree};
 ghost use Rattle.py_value.specs.Contents.{contents, int};
-ghost use Rattle.py_value.specs.Values.{ValuesView, IsNamed};
+ghost use Rattle.py_value.specs.Values.{ValuesView, IsNamed, Keeps};
 ghost use Rattle.py_model.specs.Act.{Act};
 ghost use Rattle.py_model.specs.Expressions.{Here, Task};
 ghost use Rattle.py_model.specs.Statements.{suite};
 ghost use Rattle.interp_eval.specs.declared.frames.Scope.{Scope as OneScope};
-ghost use Rattle.flow_parts.specs.Held.{IsHeldClass, IsHeldNow, IsHeldStage};
-ghost use Rattle.flow_parts.specs.Machine.{handled_act, handler_in, inside_here, now_act, suite_act, suite_in, target_in, turn_act};
+ghost use Rattle.flow_parts.specs.Held.{IsHeldClass, IsHeldGoal, IsHeldNow, IsHeldStage};
+ghost use Rattle.flow_parts.specs.Machine.{handled_act, handler_in, inside_here, now_act, suite_act, suite_in, turn_act};
 ghost use Rattle.flow_parts.specs.Seen.{here_seen, now_seen, stmts_seen};
-ghost use Rattle.flow_stages.specs.Running.{HoldsOpened, IsMany, OpensBy};
+ghost use Rattle.flow_stages.specs.Running.{HoldsOpened, IsNested, OpensBy};
 ghost use Rattle.flow_parts.specs.declared.control.End.TheVariants.{Normal};
 ghost use Rattle.flow_parts.specs.declared.control.Now.TheVariants.{Ended, InSuite};
 ghost use Rattle.flow_stages.specs.declared.running.Way.TheVariants.{Becomes, Runs, Unwritten};
+ghost use Rattle.flow_parts.specs.declared.control.Stage.TheVariants.{Spreads, Stores};
+ghost use Rattle.py_value.specs.declared.value.Value.{Value as OneValue};
 
 use crate::forms::{handler_in, suite_in};
 use crate::handling::handled;
 use crate::opening::test_opened;
-use flow_parts::{Code, End, Now, Part, Spot, Stage, on_three, target_in};
-use flow_stores::stored;
+use flow_parts::{Code, End, Goal, Now, Part, Spot, Stage, on_three};
+use flow_stores::{goal_target, item_at, reached, several_in, stored, target_at};
 use prov_base::Memory;
 use py_tree::{Form, Stmt, Target};
-use py_value::Value;
+use py_value::{Value, Values};
 use std::alloc::Global;
 
 /// How a part of a statement is opened.
@@ -33,7 +35,7 @@ pub enum Way {
     Becomes,
     /// It stands at this spot, and the part waits for its end.
     Runs(Spot),
-    /// Nothing is opened: a value is taken apart by several targets.
+    /// Nothing is opened: a value is to be stored in several targets that are one of several.
     Unwritten,
 }
 
@@ -166,12 +168,25 @@ fn ended<'a>() -> Opened<'a>
     }
 }
 
-/// Whether the target of a statement is several targets.
-#[tactic(auto, using(py_tree::proofs::TargetTrees::target_trees))]
-fn is_many(form: &Form) -> bool
-    ensures { result ≡ true → IsMany (target_in (form_of form.now)) }
+/// Statements run at a spot.
+fn runs<'a>(stmts: &'a [Stmt], spot: Spot) -> Opened<'a>
+    ensures { result ≡ record { now = InSuite stmts.entry; way = Runs spot } }
 {
-    let Some(target) = target_in(form) else {
+    Opened {
+        now: Now::InSuite(stmts),
+        way: Way::Runs(spot),
+    }
+}
+
+/// Whether a value is to be stored in several targets that are one of several.
+#[tactic(auto, using(py_tree::proofs::TargetTrees::target_trees))]
+fn is_nested(goal: Goal, form: &Form) -> bool
+    ensures { result ≡ true → (value : OneValue) → IsNested (form_of form.now) (Stores goal value) }
+{
+    let Goal::Breaks(_) = goal else {
+        return false;
+    };
+    let Some(target) = goal_target(goal, form) else {
         return false;
     };
     match target {
@@ -192,20 +207,46 @@ fn unwritten<'a>() -> Opened<'a>
     }
 }
 
-/// Statements run at a spot.
-fn runs<'a>(stmts: &'a [Stmt], spot: Spot) -> Opened<'a>
-    ensures { result ≡ record { now = InSuite stmts.entry; way = Runs spot } }
+/// The item of one of several targets is stored, and what is left of them waits for that; behind the last what follows them all is next.
+fn spread_opened<'a>(
+    part: Part<'a>,
+    goal: Goal,
+    number: usize,
+    value: Value,
+    spot: Spot,
+    values: &Values,
+) -> Opened<'a>
+    requires { IsNamed values.now value }
+    ensures means { part.entry.stage ≡ Spreads goal number value → OpensBy values.now part.entry spot result.now result.way }
+    ensures held { (table : ValuesView) → Keeps values.now.texts table.texts → Keeps values.now.tuples table.tuples → IsHeldGoal table goal → IsHeldClass table spot.in_class → HoldsOpened table spot result.now result.way }
 {
-    Opened {
-        now: Now::InSuite(stmts),
-        way: Way::Runs(spot),
+    let Some(targets) = several_in(goal, part.form) else {
+        return ended();
+    };
+    let targets = targets.list.as_slice();
+    match target_at(targets, number) {
+        None => becomes(reached(part, goal)),
+        Some(_) => {
+            let item = item_at(values, value, number);
+            let stores = part.to(Stage::Stores(Goal::Breaks(number), item));
+            Opened {
+                now: Now::Opens(stores),
+                way: Way::Runs(spot),
+            }
+        }
     }
 }
 
-/// A part of a statement is opened at its spot.
-pub fn part_opened<'a>(alloc: Global, part: Part<'a>, spot: Spot) -> Result<Opened<'a>, Memory>
-    ensures means { IfOk result (λ opened. OpensBy part.entry spot opened.now opened.way) }
-    ensures held { IfOk result (λ opened. (table : ValuesView) → IsHeldStage table part.entry.stage → IsHeldClass table spot.in_class → HoldsOpened table spot opened.now opened.way) }
+/// A part of a statement is opened at its spot. The texts and tuples are those of the values that it holds.
+pub fn part_opened<'a>(
+    alloc: Global,
+    part: Part<'a>,
+    spot: Spot,
+    values: &Values,
+) -> Result<Opened<'a>, Memory>
+    requires { IsHeldStage values.now part.stage }
+    ensures means { IfOk result (λ opened. OpensBy values.now part.entry spot opened.now opened.way) }
+    ensures held { IfOk result (λ opened. (table : ValuesView) → Keeps values.now.texts table.texts → Keeps values.now.tuples table.tuples → IsHeldStage table part.entry.stage → IsHeldClass table spot.in_class → HoldsOpened table spot opened.now opened.way) }
 {
     let form = part.form;
     match part.stage {
@@ -231,11 +272,14 @@ pub fn part_opened<'a>(alloc: Global, part: Part<'a>, spot: Spot) -> Result<Open
             Ok(runs(stmts_in(form), inner))
         }
         Stage::Stores(goal, value) => {
-            if is_many(form) {
+            if is_nested(goal, form) {
                 return Ok(unwritten());
             }
             let now = stored(alloc, part, goal, value, spot.scope)?;
             Ok(becomes(now))
+        }
+        Stage::Spreads(goal, number, value) => {
+            Ok(spread_opened(part, goal, number, value, spot, values))
         }
         Stage::Body => Ok(runs(stmts_in(form), spot)),
         Stage::Repeats(_, _, _) => Ok(runs(stmts_in(form), spot)),
@@ -246,6 +290,7 @@ pub fn part_opened<'a>(alloc: Global, part: Part<'a>, spot: Spot) -> Result<Open
         Stage::Holder(_, _) => Ok(ended()),
         Stage::Index(_, _, _) => Ok(ended()),
         Stage::Stored(_) => Ok(ended()),
+        Stage::Unpacked(_) => Ok(ended()),
         Stage::Sized(_) => Ok(ended()),
         Stage::Item(_, _, _) => Ok(ended()),
         Stage::Owner => Ok(ended()),

@@ -1,2 +1,4 @@
 pub mod Starting
 pub mod Changes
+pub mod Breaking
+pub mod ItemsOf

@@ -5,7 +5,9 @@
 #![tactic(auto)]
 
 mod changing;
+mod spreading;
 mod storing;
 
 pub use changing::{augmented, based, changed, loaded, sided, slotted};
-pub use storing::{held, indexed, keyed, owned, reached, stored};
+pub use spreading::{item_at, several_in};
+pub use storing::{goal_target, held, indexed, keyed, owned, reached, stored, target_at};

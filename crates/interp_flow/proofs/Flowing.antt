@@ -18,15 +18,16 @@ use Rattle.interp_eval.proofs.Performed.{state_of}
 use Rattle.interp_eval.specs.declared.frames.EvalFrames.{EvalFrames}
 use Rattle.interp_eval.specs.Machine.{remains}
 use Rattle.interp_eval.specs.Seen.{machine_seen}
-use Rattle.flow_parts.specs.Machine.{Goal, goal_act, open_act, resumes, stored_act, target_in, given_to, then_act}
-use Rattle.flow_parts.specs.Seen.{end_seen, frame_seen, goal_seen, here_seen, stage_seen}
+use Rattle.flow_parts.specs.Machine.{Goal, goal_act, open_act, resumes, stored_act, breaks, goal_target, given_to, then_act}
+use Rattle.flow_parts.specs.Seen.{end_seen, frame_seen, here_seen, stage_seen}
 use Rattle.flow_parts.specs.declared.control.End.{End}
 use Rattle.flow_parts.specs.declared.control.Giving.{Giving}
+use Rattle.flow_parts.specs.declared.control.Goal.TheVariants.{Breaks}
 use Rattle.flow_parts.specs.declared.control.Part.{Part}
 use Rattle.flow_parts.specs.declared.control.Stage.{Stage}
 use Rattle.flow_parts.specs.declared.control.Stage.TheVariants.{Stores}
 use Rattle.flow_parts.specs.declared.frames.Waits.TheVariants.{Part as PartWaits}
-use Rattle.flow_stages.specs.Running.{IsMany, IsSeveral}
+use Rattle.flow_stages.specs.Running.{IsMany, IsNested}
 use Rattle.flow_parts.specs.declared.control.Now.{Now}
 use Rattle.flow_parts.specs.declared.control.Now.TheVariants.{Ended, Gives, Opens}
 use Rattle.flow_parts.specs.declared.frames.FlowFrames.{FlowFrames}
@@ -67,11 +68,11 @@ module _ (script : ScriptTree) (next : Task → Act) (here : Here) (at : Pos) (f
   several_target goal v (Some (field_target place e name)) many is = absurd many
   several_target goal v None many is = absurd many
 
-  several_stage : (stage : Stage) → IsSeveral form stage → a ≡ to (open_act script next here at form (stage_seen table stage)) k → IsUnwritten script next capture a s
-  several_stage (Stores goal v) several is = several_target (goal_seen table goal) (contents table v) (target_in form) several is
+  several_stage : (stage : Stage) → IsNested form stage → a ≡ to (open_act script next here at form (stage_seen table stage)) k → IsUnwritten script next capture a s
+  several_stage (Stores (Breaks n) v) several is = several_target (breaks n) (contents table v) (goal_target (breaks n) form) several is
   several_stage stage several is = absurd several
 
-pub several_left : (script : ScriptTree) (frames : FlowFrames) (p : Part) → IsSeveral (form_of p.form.now) p.stage → (table : ValuesView) (capture : Capture) (s : State) (n : ℕ)
+pub several_left : (script : ScriptTree) (frames : FlowFrames) (p : Part) → IsNested (form_of p.form.now) p.stage → (table : ValuesView) (capture : Capture) (s : State) (n : ℕ)
     → IsUnwritten script (level script n) capture (doing_now script frames (Opens p) table (level script n)) s
 several_left script frames p several table capture s n =
     several_stage script (level script n) (here_seen script table frames.spot) p.at (form_of p.form.now) table capture s (resumes script (level script n) (map (frame_seen script table) frames.below.items) (λ how. ret how))

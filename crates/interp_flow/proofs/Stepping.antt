@@ -130,6 +130,13 @@ steps_on script b frames left fits stood was same =
     steps_by script b (meant script frames) frames left left fits stood stood was was (Ok More) same
     (λ table capture fit s stood_so steps n enough. stood_on capture (meant script frames table (level script n)) (meant script frames table (level script n)) s left left (stood table capture) was was refl stood_so steps)
 
+-- so by each table that fits
+pub steps_fitting : (script : ScriptTree) (b : Before) (frames : FlowFrames) (left : ℕ) (fits : Fits) (stood : Stands) (was : Option (List Moment))
+    → ((table : ValuesView) (capture : Capture) → fits table capture → (next : Task → Act) → b table next ≡ meant script frames table next)
+    → StepsFrom {E = Memory} script b frames left left fits stood stood was was (Ok More)
+steps_fitting script b frames left fits stood was same = λ table capture fit s stood_so steps n enough.
+    stood_on capture (b table (level script n)) (meant script frames table (level script n)) s left left (stood table capture) was was (same table capture fit (level script n)) stood_so steps
+
 pub cut_from : (script : ScriptTree) (b : Before) (frames : FlowFrames) (left : ℕ) (fits : Fits) (stood : Stands) (was : Option (List Moment)) → (want : Memory) → StepsFrom script b frames left left fits stood stood was was (Err want)
 cut_from script b frames left fits stood was want = λ table capture fit s stood_so steps n enough.
     record { rest = b table (level script n); next = s; news = []; comes_out = refl; told_is = refl; refused = unasked (stood table capture) s stood_so; tells = told_weaker was was _ _ (λ told more same. inl same) (told_same was) }

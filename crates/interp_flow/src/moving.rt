@@ -3,7 +3,7 @@ ghost use Rattle.std.specs.Prelude.{◌≡◌, map, IfOk, OnOk, true, false};
 ghost use Rattle.std.specs.Prelude.{None as Nothing};
 ghost use Rattle.py_tree.specs.Erasure.{form_of, stmt_of};
 ghost use Rattle.py_tree.specs.Tree.{ScriptTree, more_suite};
-ghost use Rattle.py_value.specs.Values.{ValuesView};
+ghost use Rattle.py_value.specs.Values.{ValuesView, Keeps};
 ghost use Rattle.py_model.specs.Act.{Act, begin, ret, to};
 ghost use Rattle.py_model.specs.Expressions.{Task};
 ghost use Rattle.py_model.specs.Statements.{task};
@@ -11,13 +11,14 @@ ghost use Rattle.flow_parts.specs.Held.{IsHeldEnd, IsHeldFlow, IsHeldStage};
 ghost use Rattle.flow_parts.specs.Machine.{flow, in_suite, remaining, resumes, suite_ended};
 ghost use Rattle.flow_parts.specs.Seen.{end_seen, flow_seen, frame_seen, here_seen, stage_seen, stmts_seen};
 ghost use Rattle.flow_parts.specs.declared.control.Now.TheVariants.{Opens};
-ghost use Rattle.flow_stages.specs.Running.{IsSeveral};
+ghost use Rattle.flow_stages.specs.Running.{IsNested};
 ghost use Rattle.interp_flow.specs.Step.{doing_now, meant};
 
 use flow_parts::{End, FlowFrames, Now, Part, Spot, Waits};
 use flow_stages::{Way, opened, part_ended, part_opened};
 use prov_base::Memory;
 use py_tree::Stmt;
+use py_value::Values;
 use std::alloc::Global;
 
 /// A statement is opened, and the rest of its suite waits for its end. What is still to be done then follows its begin.
@@ -40,18 +41,20 @@ pub(crate) fn open_stmt<'a>(
     frames.push(Waits::Stmt(stmt.no, rest), spot, now)
 }
 
-/// A part of a statement is opened; or it is one that is not performed.
+/// A part of a statement is opened; or it is one that is not performed. The texts and tuples are those of the values that it holds.
 pub(crate) fn open_part<'a>(
     alloc: Global,
     frames: &mut FlowFrames<'a>,
     part: Part<'a>,
+    values: &Values,
 ) -> Result<bool, Memory>
-    ensures means { IfOk result (λ goes. goes ≡ true → (script : ScriptTree) (next : Task → Act) (table : ValuesView)
+    requires { IsHeldStage values.now part.stage }
+    ensures means { IfOk result (λ goes. goes ≡ true → (script : ScriptTree) (next : Task → Act) (table : ValuesView) → Keeps values.now.texts table.texts → Keeps values.now.tuples table.tuples
         → doing_now script frames.old (Opens part.entry) table next ≡ meant script frames.new table next) }
-    ensures left { IfOk result (λ goes. goes ≡ false → IsSeveral (form_of part.entry.form.now) part.entry.stage) }
-    ensures held { IfOk result (λ goes. goes ≡ true → (table : ValuesView) → IsHeldFlow table frames.old → IsHeldStage table part.entry.stage → IsHeldFlow table frames.new) }
+    ensures left { IfOk result (λ goes. goes ≡ false → IsNested (form_of part.entry.form.now) part.entry.stage) }
+    ensures held { IfOk result (λ goes. goes ≡ true → (table : ValuesView) → Keeps values.now.texts table.texts → Keeps values.now.tuples table.tuples → IsHeldFlow table frames.old → IsHeldStage table part.entry.stage → IsHeldFlow table frames.new) }
 {
-    let opened = part_opened(alloc, part, frames.spot)?;
+    let opened = part_opened(alloc, part, frames.spot, values)?;
     match opened.way {
         Way::Becomes => {
             frames.now = opened.now;

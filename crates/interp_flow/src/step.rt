@@ -214,7 +214,7 @@ fn now_step<'a, D: Doer, W: Watch>(
         Now::InSuite(stmts) => suite_step(alloc, frames, stmts, doer, watch, left),
         Now::Gives(giving) => gives_step(alloc, frames, giving, script, doer, watch, left),
         Now::Ended(end) => end_step(alloc, frames, end, doer, watch, *left),
-        Now::Opens(part) => match open_part(alloc, frames, part) {
+        Now::Opens(part) => match open_part(alloc, frames, part, doer.values()) {
             Ok(true) => Ok(FlowNext::More),
             Ok(false) => Ok(FlowNext::Unwritten),
             Err(refused) => Err(refused),

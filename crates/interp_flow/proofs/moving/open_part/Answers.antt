@@ -9,23 +9,23 @@ use Rattle.interp_flow.proofs.Fronts.{goes_on, now_does}
 use Rattle.interp_flow.proofs.moving.open_part.Goals as goal
 
 pub returns-in-Becomes-clause-means : goal.returns-in-Becomes-clause-means
-returns-in-Becomes-clause-means c = λ yes script next table.
-    let known = subst (OpensBy c.args.part c.args.frames.now.spot c.in_ok-opened.opened.now) c.in-Becomes.is c.in_ok-opened.ensures.means in
+returns-in-Becomes-clause-means c = λ yes script next table texts tuples.
+    let known = subst (OpensBy c.args.values.now c.args.part c.args.frames.now.spot c.in_ok-opened.opened.now) c.in-Becomes.is c.in_ok-opened.ensures.means in
     now_does script next table c.args.frames.now (Opens c.args.part)
-    ∙ goes_on script next table c.args.frames.now (record c.args.frames.now { now = c.in_ok-opened.opened.now }) _ (known script next table) refl
+    ∙ goes_on script next table c.args.frames.now (record c.args.frames.now { now = c.in_ok-opened.opened.now }) _ (known script next table texts tuples) refl
 
 pub returns-in-Becomes-clause-held : goal.returns-in-Becomes-clause-held
-returns-in-Becomes-clause-held c = λ yes table old stage.
-    record { spot = old.spot; now = subst (HoldsOpened table c.args.frames.now.spot c.in_ok-opened.opened.now) c.in-Becomes.is (c.in_ok-opened.ensures.held table stage old.spot); below = old.below }
+returns-in-Becomes-clause-held c = λ yes table texts tuples old stage.
+    record { spot = old.spot; now = subst (HoldsOpened table c.args.frames.now.spot c.in_ok-opened.opened.now) c.in-Becomes.is (c.in_ok-opened.ensures.held table texts tuples stage old.spot); below = old.below }
 
 pub returns-in-Ok-clause-means : goal.returns-in-Ok-clause-means
-returns-in-Ok-clause-means c = λ yes script next table.
-    let known = subst (OpensBy c.args.part c.args.frames.now.spot c.in_ok-opened.opened.now) c.in-Runs.is c.in_ok-opened.ensures.means in
+returns-in-Ok-clause-means c = λ yes script next table texts tuples.
+    let known = subst (OpensBy c.args.values.now c.args.part c.args.frames.now.spot c.in_ok-opened.opened.now) c.in-Runs.is c.in_ok-opened.ensures.means in
     now_does script next table c.args.frames.now (Opens c.args.part)
-    ∙ ap (λ a. to a (resumes script next (map (frame_seen script table) c.args.frames.now.below.items) (λ how. ret how))) (sym (known script next table))
+    ∙ ap (λ a. to a (resumes script next (map (frame_seen script table) c.args.frames.now.below.items) (λ how. ret how))) (sym (known script next table texts tuples))
     ∙ sym (c.in-Ok.ensures.means script next table)
 
 pub returns-in-Ok-clause-held : goal.returns-in-Ok-clause-held
-returns-in-Ok-clause-held c = λ yes table old stage.
-    let held = subst (HoldsOpened table c.args.frames.now.spot c.in_ok-opened.opened.now) c.in-Runs.is (c.in_ok-opened.ensures.held table stage old.spot) in
+returns-in-Ok-clause-held c = λ yes table texts tuples old stage.
+    let held = subst (HoldsOpened table c.args.frames.now.spot c.in_ok-opened.opened.now) c.in-Runs.is (c.in_ok-opened.ensures.held table texts tuples stage old.spot) in
     c.in-Ok.ensures.held table old stage held.1 held.0
