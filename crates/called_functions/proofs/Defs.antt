@@ -1,6 +1,5 @@
 -- The first function that is the one, among those of a suite.
-use Rattle.std.proofs.Common.{◌≡◌, ℕ, ◌+◌, ◌<◌, ◌≤◌, Bool, true, false, ◌==◌, eq-eqb, if◌then◌else◌, List, [], ◌∷◌, ◌++◌, length, drop, get_or, map, Option, Some, None, refl, ap, sym, ◌∙◌}
-use Rattle.std.proofs.lemmas.List.{drop_all}
+use Rattle.std.proofs.Common.{◌≡◌, ℕ, Bool, true, false, ◌==◌, eq-eqb, if◌then◌else◌, List, [], ◌∷◌, ◌++◌, map, Option, Some, None, refl, ap, sym, ◌∙◌}
 use Rattle.std.specs.Option.{option_map, option_or}
 use Rattle.prov_base.specs.declared.place.Pos.{Pos}
 use Rattle.prov_base.specs.contracts.place.PosPartialEq.TheImpl.{ghosts as places}
@@ -17,8 +16,7 @@ use Rattle.py_tree.specs.declared.stmt.Form.TheVariants.{Def as DefForm, Class a
 use Rattle.py_tree.specs.declared.stmt.Form.TheViews.{out-Form, roll-Form, roll-out-Form}
 use Rattle.py_tree.specs.declared.stmt.Form.TheFolds.{fold-roll-Form}
 use Rattle.py_tree.specs.Erasure.{form_of, form_step, branches_step, handlers_step, stmt_step, suite_step, stmt_of, suite_of, suite_list}
-use Rattle.py_tree.specs.Tree.{StmtTree, FormTree, SuiteTree, BranchesTree, HandlersTree, one_stmt, def_form, class_form, end_suite, more_suite, do_form, assign_form, aug_form, del_form, pass_form, break_form, continue_form, return_form, raise_form, assert_form, import_form, if_form, while_form, for_form, try_form, with_form}
-use Rattle.py_tree.proofs.OwnersWays.{next_left}
+use Rattle.py_tree.specs.Tree.{StmtTree, FormTree, SuiteTree, BranchesTree, HandlersTree, one_stmt, def_form, class_form, end_suite, more_suite}
 use Rattle.py_tree.proofs.StmtTrees.{def_tree}
 use Rattle.py_model.specs.Functions.{Function, functions_in, functions_of, functions_at, first_placed}
 use Rattle.local_names.specs.Scopes.{numbered_in, numbered_by, numbered_at}

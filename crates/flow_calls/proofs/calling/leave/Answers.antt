@@ -1,0 +1,8 @@
+use Rattle.std.proofs.Common.{[]}
+use Rattle.flow_parts.proofs.Tellings.{word_named}
+use Rattle.flow_calls.proofs.calling.leave.Goals as goal
+
+pub tell-requires-clause-number : goal.tell-requires-clause-number
+tell-requires-clause-number g c =
+    word_named (g.D.Doer.fits c.args.doer.now) (g.D.Doer.fits c.word.new.self) (g.D.Doer.stands c.args.doer.now) (g.D.Doer.stands c.word.new.self)
+    c.in_ok-word.word [] c.in_ok-word.ensures.knew c.requires.state c.in_ok-word.ensures.named
