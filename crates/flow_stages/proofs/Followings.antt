@@ -1,11 +1,11 @@
 -- What follows a value means what its stage means.
-use Rattle.std.proofs.Common.{◌≡◌, ℕ, suc, ◌+◌, List, Some, refl, ap, sym, arith, ◌∙◌}
+use Rattle.std.proofs.Common.{◌≡◌, ℕ, suc, ◌+◌, refl, ap, sym, arith, ◌∙◌}
 use Rattle.prov_base.specs.declared.place.Pos.{Pos}
 use Rattle.py_tree.specs.declared.expr.BinOp.{BinOp}
 use Rattle.py_tree.specs.Tree.{ExprTree, FormTree, TargetTree, SuiteTree, ScriptTree, var_target, part_target, field_target, many_target, aug_form, del_form, for_form}
 use Rattle.py_value.specs.Contents.{Contents}
 use Rattle.py_model.specs.Act.{Act, How}
-use Rattle.py_model.specs.Expressions.{Here, Task, eval}
+use Rattle.py_model.specs.Expressions.{Here, Task}
 use Rattle.py_model.specs.Statements.{task, turned}
 use Rattle.flow_parts.specs.Machine.{Stage, Part, part, change_in, then_act, turn_act, turn_ended}
 use Rattle.flow_stores.specs.Changing.{augmenting}

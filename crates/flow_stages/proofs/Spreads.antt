@@ -1,5 +1,5 @@
 -- Several targets are stored one after the other.
-use Rattle.std.proofs.Common.{◌≡◌, ℕ, suc, ◌+◌, ◌≤◌, List, slice_get, length, Option, Some, None, refl, ap, sym, ◌∙◌, arith}
+use Rattle.std.proofs.Common.{◌≡◌, ℕ, suc, ◌+◌, List, slice_get, length, Some, None, refl, ap, sym, ◌∙◌, arith}
 use Rattle.prov_base.specs.declared.place.Pos.{Pos}
 use Rattle.py_tree.specs.Erasure.{target_of}
 use Rattle.py_tree.specs.Tree.{FormTree, TargetsTree, ScriptTree}

@@ -1,13 +1,13 @@
 -- What stores a value goes on by a jump as it goes on otherwise: where what follows leaves an end and an exception as they are, it may follow
 -- the store or the jump.
-use Rattle.std.proofs.Common.{◌≡◌, ℕ, ◌+◌, ◌-◌, Bool, true, false, List, [], ◌∷◌, length, nat_eq, nat_lt, slice_get, if◌then◌else◌, Option, Some, None, refl, ap, sym, ◌∙◌}
+use Rattle.std.proofs.Common.{◌≡◌, ℕ, ◌+◌, ◌-◌, Bool, true, false, List, [], ◌∷◌, length, nat_eq, nat_lt, slice_get, if◌then◌else◌, Option, Some, None, ap, ◌∙◌}
 use Rattle.std.proofs.Math.Path.{fun_ext}
 use Rattle.prov_base.specs.declared.place.Pos.{Pos}
 use Rattle.py_tree.specs.Tree.{ExprTree, MaybeTree, ExprsTree, PairsTree, TargetTree, TargetsTree, ScriptTree, const_expr, var_expr, unary_expr, binary_expr, compare_expr, logic_expr, choose_expr, call_expr, attr_expr, part_expr, range_expr, list_expr, dict_expr, tuple_expr, no_expr, some_expr, end_exprs, more_exprs, end_pairs, more_pairs, var_target, part_target, field_target, many_target, end_targets, more_targets}
 use Rattle.py_tree.specs.declared.expr.LogicOp.TheVariants.{And as Both, Or as Either}
 use Rattle.py_value.specs.Contents.{Contents, Parts, nothing, truth, int, text, tuple, range, function, class, exception_class, builtin, object}
 use Rattle.py_model.specs.Act.{Act, How, Walked, ret, perform, enter, leave, to, normal, broke, continued, returned, threw}
-use Rattle.py_model.specs.Expressions.{Here, Task, body_of, by_answer, by_truth, doing, walking, failing, asking_truth, op, op_named, takes_so_many, function_arities, method_arities, not_callable, wrong_arguments, too_many_open, value_of_how, left_with, inside, running, calling_function, giving, without_init, initialising, calling_class, calling_builtin, calling_method, calling, with_receiver, calling_attribute, eval, eval_maybe, eval_all, eval_pairs}
+use Rattle.py_model.specs.Expressions.{Here, Task, body_of, by_answer, by_truth, doing, walking, failing, asking_truth, op, op_named, takes_so_many, function_arities, method_arities, not_callable, wrong_arguments, too_many_open, left_with, inside, running, calling_function, giving, without_init, initialising, calling_class, calling_builtin, calling_method, calling, with_receiver, calling_attribute, eval, eval_maybe, eval_all, eval_pairs}
 use Rattle.py_model.specs.Functions.{Function, expr_place, function_at}
 use Rattle.py_model.specs.Operations.{Op}
 use Rattle.py_model.specs.Plan.{Answer, value, raised, at_end}

@@ -1,5 +1,5 @@
 -- What follows a stage of an augmented assignment means what the stage means.
-use Rattle.std.proofs.Common.{◌≡◌, List, [], ◌∷◌, ℕ, Some, refl, ap, sym, ◌∙◌}
+use Rattle.std.proofs.Common.{◌≡◌, List, [], ◌∷◌, ℕ, Some, ap, sym, ◌∙◌}
 use Rattle.prov_base.specs.declared.place.Pos.{Pos}
 use Rattle.py_tree.specs.declared.expr.BinOp.{BinOp}
 use Rattle.py_tree.specs.Tree.{ExprTree, FormTree, TargetTree, TargetsTree, ScriptTree, var_target, part_target, field_target, many_target}
@@ -7,7 +7,7 @@ use Rattle.py_value.specs.Contents.{Contents, nothing}
 use Rattle.py_model.specs.Act.{Act, ret, normal}
 use Rattle.py_model.specs.Expressions.{Here, Task, doing, op, eval}
 use Rattle.py_model.specs.Statements.{augmented_number}
-use Rattle.flow_parts.specs.Machine.{Stage, based, slotted, loaded, sided, changed, Change, change, change_in, then_act, set_act, changed_act, sided_act, loaded_act, load_of, slotted_act, based_of, based_act}
+use Rattle.flow_parts.specs.Machine.{based, slotted, loaded, sided, changed, change, change_in, then_act, set_act, changed_act, sided_act, loaded_act, load_of, slotted_act, based_of, based_act}
 use Rattle.flow_stores.specs.Changing.{augmenting}
 
 module _ (script : ScriptTree) (next : Task → Act) (here : Here) (at : Pos) (form : FormTree) (sign : BinOp) (place : Pos) (right : ExprTree) where

@@ -1,10 +1,10 @@
 -- Items of what a value was taken apart into, by number, and targets so.
-use Rattle.std.proofs.Common.{◌≡◌, Bor, ℕ, zero, suc, ◌+◌, ◌<◌, ◌≤◌, List, [], ◌∷◌, map, length, slice_get, Option, Some, None, refl, ap, sym, ◌∙◌, arith, subst}
+use Rattle.std.proofs.Common.{◌≡◌, Bor, ℕ, zero, suc, List, [], ◌∷◌, map, length, slice_get, Option, Some, None, refl, ap, sym, ◌∙◌}
 use Rattle.std.specs.Option.{option_map}
 use Rattle.py_tree.specs.Erasure.{target_of, targets_list}
 use Rattle.py_tree.specs.Tree.{TargetsTree, end_targets, more_targets}
 use Rattle.py_tree.specs.declared.expr.Target.{Target}
-use Rattle.py_value.specs.Contents.{Contents, Parts, no_parts, part, nothing, contents, parts_by}
+use Rattle.py_value.specs.Contents.{Contents, Parts, no_parts, nothing, parts_by}
 use Rattle.py_value.specs.declared.value.Value.{Value}
 use Rattle.py_model.specs.Statements.{count_targets, first_of, rest_of}
 use Rattle.flow_parts.specs.Machine.{nth_target, parts_from, targets_from}

@@ -1,6 +1,6 @@
 use Rattle.std.proofs.Common.{Some, ap, sym, subst, ◌∙◌}
 use Rattle.std.specs.Option.{option_map}
-use Rattle.py_tree.specs.Erasure.{form_of, target_of, targets_of}
+use Rattle.py_tree.specs.Erasure.{form_of, targets_of}
 use Rattle.py_tree.proofs.TargetTrees.{targets_tree}
 use Rattle.py_value.specs.Contents.{contents}
 use Rattle.py_model.specs.Act.{to}

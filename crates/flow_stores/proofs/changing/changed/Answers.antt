@@ -1,4 +1,4 @@
-use Rattle.std.proofs.Common.{[], ◌∷◌, Some, refl, ap, sym, ◌∙◌}
+use Rattle.std.proofs.Common.{[], ◌∷◌, Some, ap, sym, ◌∙◌}
 use Rattle.std.specs.Option.{option_map}
 use Rattle.py_tree.specs.Erasure.{expr_of, form_of, target_of, targets_of}
 use Rattle.py_tree.proofs.TargetTrees.{field_target_tree, many_target_tree, part_target_tree, var_target_tree}

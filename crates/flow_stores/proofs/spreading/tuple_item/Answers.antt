@@ -1,4 +1,4 @@
-use Rattle.std.proofs.Common.{arith, ◌<◌, ap, sym, ◌∙◌}
+use Rattle.std.proofs.Common.{arith, ap, sym, ◌∙◌}
 use Rattle.std.specs.Option.{option_map}
 use Rattle.py_value.specs.Contents.{Contents, contents}
 use Rattle.py_value.specs.declared.value.Value.TheVariants.{Tuple}

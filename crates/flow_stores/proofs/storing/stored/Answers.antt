@@ -1,13 +1,12 @@
-use Rattle.std.proofs.Common.{pos, [], ◌∷◌, sym, ap, Some, ◌∙◌}
+use Rattle.std.proofs.Common.{sym, ap, Some, ◌∙◌}
 use Rattle.std.specs.Option.{option_map}
-use Rattle.py_tree.specs.Erasure.{expr_of, form_of, target_of, targets_of}
-use Rattle.py_tree.proofs.TargetTrees.{part_target_tree, field_target_tree, many_target_tree}
-use Rattle.py_value.specs.Contents.{contents, int}
-use Rattle.py_model.specs.Expressions.{doing, eval}
-use Rattle.interp_eval.specs.Machine.{plain}
-use Rattle.flow_parts.specs.Machine.{flow_op, holder, now_act, stored_act, goal_target, unpacked}
+use Rattle.py_tree.specs.Erasure.{expr_of, form_of, target_of}
+use Rattle.py_tree.proofs.TargetTrees.{part_target_tree, field_target_tree}
+use Rattle.py_value.specs.Contents.{contents}
+use Rattle.py_model.specs.Expressions.{eval}
+use Rattle.flow_parts.specs.Machine.{holder, now_act, stored_act, goal_target}
 use Rattle.flow_parts.specs.Seen.{goal_seen, now_seen, part_seen}
-use Rattle.flow_stores.proofs.Starting.{field_stored, if_more, many_stored, part_stored, starts_as}
+use Rattle.flow_stores.proofs.Starting.{field_stored, if_more, part_stored, starts_as}
 use Rattle.flow_stores.proofs.storing.stored.Goals as goal
 
 pub returns-in-Part-clause-means : goal.returns-in-Part-clause-means
