@@ -33,7 +33,7 @@ use Rattle.flow_parts.specs.declared.control.Now.TheVariants.{Ended, Gives, Open
 use Rattle.flow_parts.specs.declared.frames.FlowFrames.{FlowFrames}
 use Rattle.interp_flow.specs.declared.next.FlowNext.{FlowNext}
 use Rattle.interp_flow.specs.declared.next.FlowNext.TheVariants.{More, Finished, Raised, Spent, Unanswered, Unwritten}
-use Rattle.interp_flow.specs.Step.{Before, IsCaller, IsStep, IsUnwritten, StepsFrom, a_return_first, doing_now, handed, several_first}
+use Rattle.interp_flow.specs.Step.{Before, IsStep, IsUnwritten, StepsFrom, doing_now, several_first}
 use Rattle.interp_flow.specs.Value.{working}
 use Rattle.interp_flow.proofs.Fronts.{now_does}
 
@@ -77,16 +77,6 @@ pub several_left : (script : ScriptTree) (frames : FlowFrames) (p : Part) → Is
 several_left script frames p several table capture s n =
     several_stage script (level script n) (here_seen script table frames.spot) p.at (form_of p.form.now) table capture s (resumes script (level script n) (map (frame_seen script table) frames.below.items) (λ how. ret how))
     (doing_now script frames (Opens p) table (level script n)) p.stage several (now_does script (level script n) table frames (Opens p))
-
--- a call has ended
-pub return_left : (script : ScriptTree) (frames popped : FlowFrames) (end : End) (caller : Option (Box EvalFrames Global)) (p : Part) → IsCaller caller
-    → ((table : ValuesView) (next : Task → Act) → doing_now script frames (Ended end) table next ≡ handed script popped (PartWaits caller p) end table next)
-    → (table : ValuesView) (capture : Capture) (s : State) (n : ℕ) → IsUnwritten script (level script n) capture (doing_now script frames (Ended end) table (level script n)) s
-return_left script frames popped end (Some caller) p is_caller is table capture s n =
-    a_return_first
-    (λ v. remains script (level script n) (here_seen script table popped.spot) (given_to (machine_seen table caller.value) v) (then_act script (level script n) (here_seen script table popped.spot) p.at (form_of p.form.now) (stage_seen table p.stage)))
-    (end_seen table end) (resumes script (level script n) (map (frame_seen script table) popped.below.items) (λ how. ret how)) (ap (λ a. outcome capture a s) (is table (level script n)))
-return_left script frames popped end None p is_caller is table capture s n = absurd is_caller
 
 -- what is first is first of what it was found to be
 pub unwritten_now : (script : ScriptTree) (frames : FlowFrames) (now found : Now) → now ≡ found → (table : ValuesView) (capture : Capture) (s : State) (n : ℕ)

@@ -6,3 +6,4 @@ pub mod Endings
 pub mod Operating
 pub mod Evaluating
 pub mod Flowing
+pub mod Returns

@@ -8,7 +8,7 @@ use Rattle.py_value.specs.Values.{ValuesView}
 use Rattle.py_model.specs.Act.{Act, How, ret, to}
 use Rattle.py_model.specs.Capture.{Capture}
 use Rattle.py_model.specs.Doing.{Standing, standing, Fits, Stands, ForEach, IsRefused}
-use Rattle.py_model.specs.Expressions.{Here, Task, calling, left_with}
+use Rattle.py_model.specs.Expressions.{Here, Task, calling}
 use Rattle.py_model.specs.Meaning.{RunEnd, finished, uncaught, end_of, level}
 use Rattle.py_model.specs.Moment.{Moment}
 use Rattle.py_model.specs.Running.{State, Asking, outcome, over, spent, lacking}
@@ -74,12 +74,10 @@ pub record IsOver (capture : Capture) (before : Act) (s : State) (end : RunEnd) 
   pub left_is : s.left ≡ left
   pub tells : is ≡ was
 
--- What is first is not performed yet: a function or a class of the script is called, or has ended; or a value is stored in several targets.
+-- What is first is not performed yet: a function or a class of the script is called, or a value is stored in several targets that are one of several.
 pub data IsUnwritten (script : ScriptTree) (next : Task → Act) (capture : Capture) (before : Act) (s : State) : Type 0 where
   a_call_first : (here : Here) (at : Pos) (table : ValuesView) (f : Value) (arguments : List Contents) (follows : Contents → Act) (k : How → Act) → IsCallable f
       → outcome capture before s ≡ outcome capture (to (calling script next here at (contents table f) arguments follows) k) s → IsUnwritten script next capture before s
-  a_return_first : (follows : Contents → Act) (how : How) (k : How → Act)
-      → outcome capture before s ≡ outcome capture (to (left_with script next follows how) k) s → IsUnwritten script next capture before s
   several_first : (here : Here) (at : Pos) (targets : TargetsTree) (v : Contents) (go : Act) (k : How → Act)
       → outcome capture before s ≡ outcome capture (to (store script next here at (many_target targets) v go) k) s → IsUnwritten script next capture before s
 
@@ -146,8 +144,3 @@ IsHeldEndBy fits end = (table : ValuesView) (capture : Capture) → fits table c
 -- what is done now holds values that are named
 abbrev pub IsHeldNowBy : Fits → FlowFrames → Now → Type 0
 IsHeldNowBy fits frames now = (table : ValuesView) (capture : Capture) → fits table capture → IsHeldNow table frames.spot.scope now
-
--- a call waits
-abbrev pub IsCaller : {A : Type 0} → Option A → Type 0
-IsCaller None = ⊥
-IsCaller (Some caller) = ⊤

@@ -1,15 +1,15 @@
 -- An operation of a statement that is done now, with the part that follows its answer.
-use Rattle.std.specs.Prelude.{◌≡◌, List, map, true, Result, Ok, Err, ⊤}
+use Rattle.std.specs.Prelude.{◌≡◌, ℕ, List, map, true, Result, Ok, Err, ⊤}
 use Rattle.prov_base.specs.declared.place.Pos.{Pos}
 use Rattle.py_tree.specs.Erasure.{form_of}
 use Rattle.py_tree.specs.Tree.{ScriptTree}
-use Rattle.py_value.specs.Contents.{contents}
-use Rattle.py_value.specs.Values.{ValuesView}
+use Rattle.py_value.specs.Contents.{contents, nothing}
+use Rattle.py_value.specs.Values.{ValuesView, IsNamed}
 use Rattle.py_value.specs.declared.value.Value.{Value}
-use Rattle.py_model.specs.Act.{Act, normal, ret, to}
+use Rattle.py_model.specs.Act.{Act, leave, normal, ret, threw, to}
 use Rattle.py_model.specs.Capture.{Capture}
 use Rattle.py_model.specs.Doing.{Standing, standing, Fits, Stands, ForEach}
-use Rattle.py_model.specs.Expressions.{Here, Task, by_answer, doing}
+use Rattle.py_model.specs.Expressions.{Here, Task, by_answer, doing, left_with}
 use Rattle.py_model.specs.Running.{State}
 use Rattle.py_model.specs.Told.{answer_seen, op_seen, is_operation}
 use Rattle.py_model.specs.declared.moment.Answer.{Answer}
@@ -17,16 +17,19 @@ use Rattle.py_model.specs.declared.moment.Answer.TheVariants.{Value as ValueAnsw
 use Rattle.py_model.specs.declared.moment.Op.{Op}
 use Rattle.interp_eval.specs.Held.{AreAllNamed}
 use Rattle.interp_eval.specs.Scopes.{IsAt}
-use Rattle.interp_eval.specs.Step.{remaining as eval_remaining}
+use Rattle.interp_eval.specs.Step.{given, remaining as eval_remaining}
+use Rattle.interp_eval.specs.Machine.{remains}
+use Rattle.interp_eval.specs.Seen.{machine_seen}
 use Rattle.interp_eval.specs.declared.frames.EvalFrames.{EvalFrames}
 use Rattle.interp_eval.specs.declared.frames.EvalNext.{EvalNext}
 use Rattle.interp_eval.specs.declared.frames.EvalNext.TheVariants.{More, Value as TheValue, Call, Raised, Ended, Spent, Unanswered}
 use Rattle.interp_eval.specs.declared.frames.Scope.{Scope}
 use Rattle.flow_parts.specs.Codes.{code_number, code_value, code_want}
 use Rattle.flow_parts.specs.Held.{IsHeldStage, IsHeldWork}
-use Rattle.flow_parts.specs.Machine.{flow_op, resumes, then_act, work_act}
-use Rattle.flow_parts.specs.Seen.{frame_seen, here_seen, stage_seen, work_seen}
+use Rattle.flow_parts.specs.Machine.{flow_op, given_to, resumes, then_act, work_act}
+use Rattle.flow_parts.specs.Seen.{end_seen, frame_seen, here_seen, stage_seen, work_seen}
 use Rattle.flow_parts.specs.declared.codes.Code.{Code}
+use Rattle.flow_parts.specs.declared.control.End.{End}
 use Rattle.flow_parts.specs.declared.control.Part.{Part}
 use Rattle.flow_parts.specs.declared.control.Stage.{Stage}
 use Rattle.flow_parts.specs.declared.control.Work.{Work}
@@ -98,3 +101,19 @@ working script frames work p table next =
 
 abbrev pub IsHeldWorkBy : Fits → FlowFrames → Work → Type 0
 IsHeldWorkBy fits frames work = (table : ValuesView) (capture : Capture) → fits table capture → IsHeldWork table frames.spot.scope work
+
+-- what is still to be done where an activation is left by an exception; where it is left with a value, which the expression that called it gets;
+-- where it has ended so
+abbrev pub throwing : ScriptTree → FlowFrames → ℕ → ℕ → Before
+throwing script frames o line table next = leave nothing (resumes script next (map (frame_seen script table) frames.below.items) (λ how. ret how) (threw o line))
+
+abbrev pub resuming : ScriptTree → FlowFrames → EvalFrames → Part → Value → Before
+resuming script frames eval p v table next = leave (contents table v) (evaluating script frames (given v eval) p table next)
+
+abbrev pub returning : ScriptTree → FlowFrames → EvalFrames → Part → End → Before
+returning script frames eval p end table next =
+    to (left_with script next (λ v. remains script next (here_seen script table frames.spot) (given_to (machine_seen table eval) v) (then_act script next (here_seen script table frames.spot) p.at (form_of p.form.now) (stage_seen table p.stage)))
+    (end_seen table end)) (resumes script next (map (frame_seen script table) frames.below.items) (λ how. ret how))
+
+abbrev pub IsNamedBy : Fits → Value → Type 0
+IsNamedBy fits v = (table : ValuesView) (capture : Capture) → fits table capture → IsNamed table v

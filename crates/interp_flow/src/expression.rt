@@ -21,7 +21,7 @@ use py_tree::Script;
 use std::alloc::Global;
 
 /// An expression goes on, and the part that waits for its value waits on.
-fn keep<'a>(
+pub(crate) fn keep<'a>(
     alloc: Global,
     frames: &mut FlowFrames<'a>,
     eval: EvalFrames<'a>,
@@ -53,7 +53,7 @@ fn finish<'a>(
 }
 
 /// An expression is let go.
-fn let_go(_eval: EvalFrames<'_>) {}
+pub(crate) fn let_go(_eval: EvalFrames<'_>) {}
 
 /// The arguments of a call are let go.
 fn let_arguments_go(_arguments: Args) {}

@@ -5,6 +5,7 @@
 mod expression;
 mod moving;
 mod next;
+mod returning;
 mod step;
 mod value;
 

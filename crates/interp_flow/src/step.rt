@@ -1,5 +1,5 @@
 // One step of a script.
-ghost use Rattle.std.specs.Prelude.{◌≡◌, false, true, None as Nothing, Some as JustOne};
+ghost use Rattle.std.specs.Prelude.{◌≡◌, Some as JustOne};
 ghost use Rattle.py_value.specs.Values.{ValuesView};
 ghost use Rattle.py_model.specs.Meaning.{end_of};
 ghost use Rattle.flow_parts.specs.Seen.{end_seen};
@@ -9,17 +9,17 @@ ghost use Rattle.interp_eval.specs.Performing.{HasState};
 ghost use Rattle.py_tree.specs.Erasure.{script_of};
 ghost use Rattle.flow_parts.specs.declared.control.Now.TheVariants.{Ended, Gives, InSuite};
 ghost use Rattle.flow_parts.specs.declared.frames.Waits.TheVariants.{Stmt as StmtWaits};
-ghost use Rattle.interp_flow.specs.Step.{HoldsNext, IsHeldEndBy, IsCaller, IsHeldNowBy, Steps, StepsFrom, doing_now, handed, next_end};
+ghost use Rattle.interp_flow.specs.Step.{HoldsNext, IsHeldEndBy, IsHeldNowBy, Steps, StepsFrom, doing_now, handed, next_end};
 ghost use Rattle.flow_parts.specs.Held.{IsHeldBy};
 ghost use Rattle.interp_flow.specs.Value.{AreHeldStages, IsHeldWorkBy, working};
 
 use crate::expression::expression_step;
 use crate::moving::{end_part, open_part, open_stmt};
 use crate::next::FlowNext;
+use crate::returning::return_step;
 use crate::value::operation_step;
 use flow_parts::{End, FlowFrames, Giving, Now, Part, Waits, Work, begin, close};
 use flow_stages::rest_after;
-use interp_eval::EvalFrames;
 use prov_base::Memory;
 use py_model::{Doer, Watch, meaning_unfolds};
 use py_tree::{Script, Stmt};
@@ -95,17 +95,6 @@ fn close_step<'a, D: Doer, W: Watch>(
     }
 }
 
-/// Whether a call waits.
-fn calls(caller: Option<Box<EvalFrames<'_>>>) -> bool
-    ensures none { result ≡ false → caller.entry ≡ Nothing }
-    ensures some { result ≡ true → IsCaller caller.entry }
-{
-    match caller {
-        None => false,
-        Some(_) => true,
-    }
-}
-
 /// What waits innermost goes on from an end; where nothing waits the run is at its end.
 pub(crate) fn end_step<'a, D: Doer, W: Watch>(
     alloc: Global,
@@ -130,15 +119,16 @@ pub(crate) fn end_step<'a, D: Doer, W: Watch>(
         Waits::Stmt(number, rest) => {
             close_step(alloc, frames, number, rest, end, doer, watch, left)
         }
-        Waits::Part(caller, part) => {
-            if calls(caller) {
-                return Ok(FlowNext::Unwritten);
+        Waits::Part(caller, part) => match caller {
+            Some(eval) => {
+                let eval = Box::into_inner(eval);
+                return_step(alloc, frames, eval, part, end, doer, watch, left)
             }
-            match end_part(alloc, frames, part, end) {
+            None => match end_part(alloc, frames, part, end) {
                 Ok(()) => Ok(FlowNext::More),
                 Err(refused) => Err(refused),
-            }
-        }
+            },
+        },
     }
 }
 

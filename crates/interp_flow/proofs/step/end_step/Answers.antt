@@ -1,15 +1,17 @@
-use Rattle.std.proofs.Common.{None, Some, ap, subst, ◌∙◌}
+use Rattle.std.proofs.Common.{None, Some, ap, sym, subst, ◌∙◌}
 use Rattle.flow_parts.specs.Held.{IsHeldWaits}
 use Rattle.flow_parts.specs.Popping.{HoldsPopped, IsPopped}
 use Rattle.flow_parts.specs.Seen.{end_seen}
 use Rattle.flow_parts.specs.declared.control.Now.TheVariants.{Ended}
 use Rattle.flow_parts.specs.declared.frames.Waits.TheVariants.{Stmt as StmtWaits, Part as PartWaits}
 use Rattle.py_model.specs.Meaning.{end_of}
+use Rattle.interp_eval.specs.Held.{AreHeld}
+use Rattle.interp_eval.specs.declared.frames.EvalFrames.{EvalFrames}
 use Rattle.interp_flow.specs.Step.{doing_now, handed}
+use Rattle.interp_flow.specs.Value.{returning}
 use Rattle.interp_flow.proofs.Fronts.{at_last}
 use Rattle.interp_flow.proofs.Endings.{part_on}
-use Rattle.interp_flow.proofs.Stepping.{cut_from, left_from, over_held, steps_over, steps_same}
-use Rattle.interp_flow.proofs.Flowing.{return_left}
+use Rattle.interp_flow.proofs.Stepping.{cut_from, over_held, steps_over, steps_same}
 use Rattle.interp_flow.proofs.step.end_step.Goals as goal
 
 pub returns-in_default-clause-held : goal.returns-in_default-clause-held
@@ -34,7 +36,7 @@ returns-in-Stmt-clause-step g c = λ script.
 pub returns-in-Ok-clause-held : goal.returns-in-Ok-clause-held
 returns-in-Ok-clause-held g c = λ table capture fit.
     let popped = subst (HoldsPopped table c.pop.new.self) c.in-Some.is (c.pop.ensures.held table (c.requires.held table capture fit)) in
-    let waits = subst (IsHeldWaits table c.pop.new.self.spot.scope) (c.in-Part.is ∙ ap (λ caller. PartWaits caller c.in-Part.part) (c.calls.ensures.none c.if-calls.false)) popped.1 in
+    let waits = subst (IsHeldWaits table c.pop.new.self.spot.scope) (c.in-Part.is ∙ ap (λ caller. PartWaits caller c.in-Part.part) c.in-None.is) popped.1 in
     c.in-Ok.ensures.held table popped.0 waits (c.requires.end table capture fit)
 
 pub returns-in-Ok-clause-step : goal.returns-in-Ok-clause-step
@@ -42,15 +44,38 @@ returns-in-Ok-clause-step g c = λ script.
     let popped = subst (IsPopped c.args.frames.now c.pop.new.self) c.in-Some.is c.pop.ensures.means in
     part_on c.meaning_unfolds.ensures script (doing_now script c.args.frames.now (Ended c.args.end)) c.pop.new.self c.end_part.new.frames c.in-Part.part c.args.end c.args.left (g.D.Doer.fits c.args.doer.now) (g.D.Doer.stands c.args.doer.now) (g.W.Watch.history c.args.watch.now)
     (λ table next. popped script next table (end_seen table c.args.end)
-    ∙ ap (λ w. handed script c.pop.new.self w c.args.end table next) (c.in-Part.is ∙ ap (λ caller. PartWaits caller c.in-Part.part) (c.calls.ensures.none c.if-calls.false)))
+    ∙ ap (λ w. handed script c.pop.new.self w c.args.end table next) (c.in-Part.is ∙ ap (λ caller. PartWaits caller c.in-Part.part) c.in-None.is))
     c.in-Ok.ensures.means
 
 pub returns-in-Err-clause-step : goal.returns-in-Err-clause-step
 returns-in-Err-clause-step g c = λ script. cut_from script (doing_now script c.args.frames.now (Ended c.args.end)) c.end_part.new.frames c.args.left (g.D.Doer.fits c.args.doer.now) (g.D.Doer.stands c.args.doer.now) (g.W.Watch.history c.args.watch.now) _
 
-pub returns-then-calls-clause-step : goal.returns-then-calls-clause-step
-returns-then-calls-clause-step g c = λ script.
+pub return_step-requires-clause-held : goal.return_step-requires-clause-held
+return_step-requires-clause-held g c = λ table capture fit. (subst (HoldsPopped table c.pop.new.self) c.in-Some.is (c.pop.ensures.held table (c.requires.held table capture fit))).0
+
+pub return_step-requires-clause-eval : goal.return_step-requires-clause-eval
+return_step-requires-clause-eval g c = λ table capture fit.
+    let popped = subst (HoldsPopped table c.pop.new.self) c.in-Some.is (c.pop.ensures.held table (c.requires.held table capture fit)) in
+    let waits = subst (IsHeldWaits table c.pop.new.self.spot.scope) (c.in-Part.is ∙ ap (λ caller. PartWaits caller c.in-Part.part) c.in-Some-caller.is) popped.1 in
+    subst (AreHeld table) (sym c.into_inner-eval.ensures) waits.0
+
+pub return_step-requires-clause-scope : goal.return_step-requires-clause-scope
+return_step-requires-clause-scope g c = λ table capture fit.
+    let popped = subst (HoldsPopped table c.pop.new.self) c.in-Some.is (c.pop.ensures.held table (c.requires.held table capture fit)) in
+    let waits = subst (IsHeldWaits table c.pop.new.self.spot.scope) (c.in-Part.is ∙ ap (λ caller. PartWaits caller c.in-Part.part) c.in-Some-caller.is) popped.1 in
+    ap (λ (e : EvalFrames). e.scope) c.into_inner-eval.ensures ∙ waits.1.0
+
+pub return_step-requires-clause-stage : goal.return_step-requires-clause-stage
+return_step-requires-clause-stage g c = λ table capture fit.
+    let popped = subst (HoldsPopped table c.pop.new.self) c.in-Some.is (c.pop.ensures.held table (c.requires.held table capture fit)) in
+    let waits = subst (IsHeldWaits table c.pop.new.self.spot.scope) (c.in-Part.is ∙ ap (λ caller. PartWaits caller c.in-Part.part) c.in-Some-caller.is) popped.1 in
+    waits.1.1
+
+pub returns-in-Some-caller-clause-step : goal.returns-in-Some-caller-clause-step
+returns-in-Some-caller-clause-step g c = λ script.
     let popped = subst (IsPopped c.args.frames.now c.pop.new.self) c.in-Some.is c.pop.ensures.means in
-    left_from script (doing_now script c.args.frames.now (Ended c.args.end)) c.pop.new.self c.args.left (g.D.Doer.fits c.args.doer.now) (g.D.Doer.stands c.args.doer.now) (g.W.Watch.history c.args.watch.now)
-    (return_left script c.args.frames.now c.pop.new.self c.args.end c.in-Part.caller c.in-Part.part (c.calls.ensures.some c.if-calls.true)
-    (λ table next. popped script next table (end_seen table c.args.end) ∙ ap (λ w. handed script c.pop.new.self w c.args.end table next) c.in-Part.is))
+    steps_same script (doing_now script c.args.frames.now (Ended c.args.end)) (returning script c.pop.new.self c.into_inner-eval.result c.in-Part.part c.args.end) c.return_step.new.frames c.args.left c.args.left
+    (g.D.Doer.fits c.return_step.new.doer) (g.D.Doer.stands c.args.doer.now) (g.D.Doer.stands c.return_step.new.doer) (g.W.Watch.history c.args.watch.now) (g.W.Watch.history c.return_step.new.watch) c.return_step.result
+    (λ table next. popped script next table (end_seen table c.args.end)
+    ∙ ap (λ w. handed script c.pop.new.self w c.args.end table next) (c.in-Part.is ∙ ap (λ caller. PartWaits caller c.in-Part.part) c.in-Some-caller.is)
+    ∙ ap (λ (e : EvalFrames). returning script c.pop.new.self e c.in-Part.part c.args.end table next) (sym c.into_inner-eval.ensures)) (c.return_step.ensures.step script)
