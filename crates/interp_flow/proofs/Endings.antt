@@ -1,5 +1,5 @@
 -- The end of a suite that a part of a statement waits for.
-use Rattle.std.proofs.Common.{◌≡◌, ℕ, ◌<◌, List, map, Option, None, Ok, ap, ◌∙◌}
+use Rattle.std.proofs.Common.{◌≡◌, ℕ, List, map, Option, None, Ok, ap, ◌∙◌}
 use Rattle.prov_base.specs.declared.refusal.Memory.{Memory}
 use Rattle.py_tree.specs.Erasure.{form_of}
 use Rattle.py_tree.specs.Tree.{ScriptTree}

@@ -1,5 +1,5 @@
 -- A step of an expression, for the run of a script.
-use Rattle.std.proofs.Common.{◌≡◌, ◌⊎◌, inl, inr, ℕ, List, [], ◌∷◌, ◌++◌, map, Option, Result, Ok, Err, ◌<◌, refl, ap, sym, ◌∙◌, subst}
+use Rattle.std.proofs.Common.{◌≡◌, inr, ℕ, List, ◌++◌, map, Option, Result, Ok, Err, refl, ap, sym, ◌∙◌, subst}
 use Rattle.prov_base.specs.declared.refusal.Memory.{Memory}
 use Rattle.py_tree.specs.Erasure.{form_of}
 use Rattle.py_tree.specs.Tree.{ScriptTree}
@@ -7,8 +7,7 @@ use Rattle.py_value.specs.Contents.{Contents, contents}
 use Rattle.py_value.specs.Values.{ValuesView}
 use Rattle.py_model.specs.Act.{Act, How, Walked, ret, to, perform, normal, threw}
 use Rattle.py_model.specs.Capture.{Capture}
-use Rattle.py_model.specs.Doing.{Standing, standing, Fits, Stands, Knew}
-use Rattle.py_model.specs.Expressions.{Here, Task}
+use Rattle.py_model.specs.Doing.{Standing, Fits, Stands, Knew}
 use Rattle.py_model.specs.Meaning.{level}
 use Rattle.py_model.specs.Moment.{Moment}
 use Rattle.py_model.specs.Operations.{Op}
@@ -29,10 +28,10 @@ use Rattle.flow_parts.specs.declared.control.Part.{Part}
 use Rattle.flow_parts.specs.declared.frames.FlowFrames.{FlowFrames}
 use Rattle.interp_flow.specs.declared.next.FlowNext.{FlowNext}
 use Rattle.interp_flow.specs.declared.next.FlowNext.TheVariants.{More as FlowMore, Finished, Raised as FlowRaised, Spent as FlowSpent, Unanswered as FlowUnanswered, Unwritten}
-use Rattle.interp_flow.specs.Step.{Before, a_call_first, IsStep, StepsFrom, meant}
+use Rattle.interp_flow.specs.Step.{Before, a_call_first, IsStep, StepsFrom}
 use Rattle.interp_flow.specs.Value.{GoesOnFrom, IsInScope, IsTaken, answering, evaluating}
 use Rattle.interp_flow.proofs.Outcomes.{and_then, outcome_to, same_behind}
-use Rattle.interp_flow.proofs.Stepping.{step_same, told_weaker, unasked}
+use Rattle.interp_flow.proofs.Stepping.{told_weaker, unasked}
 
 came_out : (capture : Capture) (at : Pos) (what : Op) (values : List Contents) (go : Answer → Walked → Act) (s : State) (h : Happened) → operation capture at what values s ≡ h
     → outcome capture (perform at what values go) s ≡ elim h [ did answer came t ↦ outcome capture (go answer came) t | too_dear t ↦ spent t | lacked t ↦ lacking t ]

@@ -1,5 +1,5 @@
 -- What is done now, as the step that it takes has it; and that a doer stands for a state after a step.
-use Rattle.std.proofs.Common.{◌≡◌, ℕ, suc, ◌<◌, Box, Global, List, map, Option, Some, None, Result, Ok, Err, refl, ap, sym, subst, ◌∙◌, arith}
+use Rattle.std.proofs.Common.{◌≡◌, ℕ, suc, Box, Global, List, map, Option, Some, None, Result, Ok, Err, refl, ap, sym, subst, ◌∙◌, arith}
 use Rattle.prov_base.specs.declared.refusal.Memory.{Memory}
 use Rattle.prov_base.specs.declared.place.Pos.{Pos}
 use Rattle.py_tree.specs.Erasure.{form_of}
@@ -15,21 +15,16 @@ use Rattle.py_model.specs.Moment.{Moment}
 use Rattle.py_model.specs.Running.{State, outcome}
 use Rattle.interp_eval.specs.Performing.{HasState}
 use Rattle.interp_eval.proofs.Performed.{state_of}
-use Rattle.interp_eval.specs.declared.frames.EvalFrames.{EvalFrames}
-use Rattle.interp_eval.specs.Machine.{remains}
-use Rattle.interp_eval.specs.Seen.{machine_seen}
-use Rattle.flow_parts.specs.Machine.{Goal, goal_act, open_act, resumes, stored_act, breaks, goal_target, given_to, then_act}
-use Rattle.flow_parts.specs.Seen.{end_seen, frame_seen, here_seen, stage_seen}
-use Rattle.flow_parts.specs.declared.control.End.{End}
+use Rattle.flow_parts.specs.Machine.{Goal, goal_act, open_act, resumes, stored_act, breaks, goal_target}
+use Rattle.flow_parts.specs.Seen.{frame_seen, here_seen, stage_seen}
 use Rattle.flow_parts.specs.declared.control.Giving.{Giving}
 use Rattle.flow_parts.specs.declared.control.Goal.TheVariants.{Breaks}
 use Rattle.flow_parts.specs.declared.control.Part.{Part}
 use Rattle.flow_parts.specs.declared.control.Stage.{Stage}
 use Rattle.flow_parts.specs.declared.control.Stage.TheVariants.{Stores}
-use Rattle.flow_parts.specs.declared.frames.Waits.TheVariants.{Part as PartWaits}
 use Rattle.flow_stages.specs.Running.{IsMany, IsNested}
 use Rattle.flow_parts.specs.declared.control.Now.{Now}
-use Rattle.flow_parts.specs.declared.control.Now.TheVariants.{Ended, Gives, Opens}
+use Rattle.flow_parts.specs.declared.control.Now.TheVariants.{Gives, Opens}
 use Rattle.flow_parts.specs.declared.frames.FlowFrames.{FlowFrames}
 use Rattle.interp_flow.specs.declared.next.FlowNext.{FlowNext}
 use Rattle.interp_flow.specs.declared.next.FlowNext.TheVariants.{More, Finished, Raised, Spent, Unanswered, Unwritten}

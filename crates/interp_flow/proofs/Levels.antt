@@ -1,9 +1,9 @@
 -- A further turn of a loop comes out as what such a task is, where there are more levels than steps.
 use Rattle.std.proofs.Common.{◌≡◌, ℕ, suc, ◌<◌, refl}
 use Rattle.prov_base.specs.declared.place.Pos.{Pos}
-use Rattle.py_tree.specs.Tree.{ExprTree, FormTree, SuiteTree, TargetTree, ScriptTree, while_form, for_form}
+use Rattle.py_tree.specs.Tree.{FormTree, ScriptTree, while_form, for_form}
 use Rattle.py_value.specs.Contents.{Contents}
-use Rattle.py_model.specs.Act.{Act, How, normal, broke, continued, returned, threw}
+use Rattle.py_model.specs.Act.{How, normal, broke, continued, returned, threw}
 use Rattle.py_model.specs.Capture.{Capture}
 use Rattle.py_model.specs.Expressions.{Here, Task, while_again, for_again}
 use Rattle.py_model.specs.Meaning.{level}

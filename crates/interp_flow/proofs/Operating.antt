@@ -22,14 +22,13 @@ use Rattle.py_model.specs.declared.moment.Op.{Op as OneOp}
 use Rattle.interp_eval.specs.declared.frames.Scope.{Scope}
 use Rattle.interp_eval.specs.Performing.{HasState, HasPerformed, WasCut, nothing_happened, not_told}
 use Rattle.interp_eval.specs.declared.performing.Came.TheVariants.{Did, TooDear, Unanswered as UnansweredCame}
-use Rattle.flow_parts.specs.Codes.{code_number, code_value, code_want}
-use Rattle.flow_parts.specs.Machine.{flow_op, resumes, then_act}
+use Rattle.flow_parts.specs.Machine.{resumes, then_act}
 use Rattle.flow_parts.specs.Seen.{frame_seen, here_seen, stage_seen}
 use Rattle.flow_parts.specs.declared.codes.Code.{Code}
 use Rattle.flow_parts.specs.declared.control.Part.{Part}
 use Rattle.flow_parts.specs.declared.frames.FlowFrames.{FlowFrames}
 use Rattle.interp_flow.specs.declared.next.FlowNext.TheVariants.{More, Spent, Unanswered}
-use Rattle.interp_flow.specs.Step.{IsOn, IsCut, StepsFrom, meant}
+use Rattle.interp_flow.specs.Step.{IsCut, StepsFrom, meant}
 use Rattle.interp_flow.specs.Value.{IsCodeOp, operating}
 use Rattle.interp_flow.proofs.Stepping.{unasked, told_weaker, told_same}
 

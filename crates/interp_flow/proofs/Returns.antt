@@ -7,7 +7,7 @@ use Rattle.py_value.specs.Contents.{Contents, contents, nothing}
 use Rattle.py_value.specs.Values.{ValuesView}
 use Rattle.py_value.specs.declared.value.Value.{Value}
 use Rattle.py_value.specs.declared.value.Value.TheVariants.{None as NoneValue}
-use Rattle.py_model.specs.Act.{Act, How, leave, ret, threw, to}
+use Rattle.py_model.specs.Act.{Act, leave, ret, threw, to}
 use Rattle.py_model.specs.Capture.{Capture}
 use Rattle.py_model.specs.Doing.{Standing, Fits, Stands, ForEach}
 use Rattle.py_model.specs.Expressions.{Task, value_of_how}
@@ -22,7 +22,7 @@ use Rattle.interp_eval.specs.declared.frames.EvalFrames.{EvalFrames}
 use Rattle.flow_parts.specs.Machine.{given_to, resumes, then_act}
 use Rattle.flow_parts.specs.Seen.{end_seen, frame_seen, here_seen, stage_seen}
 use Rattle.flow_parts.specs.declared.control.End.{End}
-use Rattle.flow_parts.specs.Telling.{WasTold, WasNotTold}
+use Rattle.flow_parts.specs.Telling.{WasTold}
 use Rattle.flow_parts.specs.declared.control.End.TheVariants.{Normal, Broke, Continued, Returned, Threw}
 use Rattle.flow_parts.specs.declared.control.Now.TheVariants.{Ended}
 use Rattle.flow_parts.specs.declared.control.Part.{Part}
@@ -30,7 +30,7 @@ use Rattle.flow_parts.specs.declared.frames.FlowFrames.{FlowFrames}
 use Rattle.flow_calls.specs.Calling.{HasLeft}
 use Rattle.interp_flow.specs.declared.next.FlowNext.{FlowNext}
 use Rattle.interp_flow.specs.declared.next.FlowNext.TheVariants.{More, Finished, Raised, Spent, Unanswered, Unwritten}
-use Rattle.interp_flow.specs.Step.{IsOn, IsCut, IsStep, Before, StepsFrom, meant}
+use Rattle.interp_flow.specs.Step.{IsOn, IsCut, Before, StepsFrom, meant}
 use Rattle.interp_flow.specs.Value.{GoesOnFrom, evaluating, resuming, returning, throwing}
 use Rattle.interp_flow.proofs.Fronts.{goes_on}
 use Rattle.interp_flow.proofs.Stepping.{not_told, told_weaker, unasked}

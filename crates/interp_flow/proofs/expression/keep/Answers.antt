@@ -1,4 +1,4 @@
-use Rattle.std.proofs.Common.{map, refl, ap}
+use Rattle.std.proofs.Common.{refl, ap}
 use Rattle.flow_parts.specs.Machine.{gives, now_act}
 use Rattle.flow_parts.specs.Seen.{here_seen, part_seen, work_seen}
 use Rattle.flow_parts.specs.declared.control.Giving.{Giving}

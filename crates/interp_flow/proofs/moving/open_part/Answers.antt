@@ -1,8 +1,7 @@
 use Rattle.std.proofs.Common.{map, refl, ap, sym, subst, ◌∙◌}
-use Rattle.py_tree.specs.Erasure.{form_of}
 use Rattle.py_model.specs.Act.{ret, to}
-use Rattle.flow_parts.specs.Machine.{open_act, resumes}
-use Rattle.flow_parts.specs.Seen.{frame_seen, here_seen, stage_seen}
+use Rattle.flow_parts.specs.Machine.{resumes}
+use Rattle.flow_parts.specs.Seen.{frame_seen}
 use Rattle.flow_parts.specs.declared.control.Now.TheVariants.{Opens}
 use Rattle.flow_stages.specs.Running.{HoldsOpened, OpensBy}
 use Rattle.interp_flow.proofs.Fronts.{goes_on, now_does}

@@ -1,9 +1,9 @@
-use Rattle.std.proofs.Common.{ap, refl, ◌∙◌}
+use Rattle.std.proofs.Common.{ap, refl}
 use Rattle.py_model.specs.Act.{close, ending}
 use Rattle.py_model.specs.Meaning.{level}
 use Rattle.flow_parts.specs.Seen.{end_seen, here_seen}
 use Rattle.flow_parts.specs.declared.frames.Waits.TheVariants.{Stmt as StmtWaits}
-use Rattle.interp_flow.specs.Step.{handed, meant}
+use Rattle.interp_flow.specs.Step.{handed}
 use Rattle.interp_flow.proofs.Fronts.{goes_on}
 use Rattle.interp_flow.proofs.Stepping.{closed_on, not_told}
 use Rattle.interp_flow.proofs.step.close_step.Goals as goal

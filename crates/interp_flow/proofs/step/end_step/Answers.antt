@@ -1,4 +1,4 @@
-use Rattle.std.proofs.Common.{None, Some, ap, sym, subst, ◌∙◌}
+use Rattle.std.proofs.Common.{ap, sym, subst, ◌∙◌}
 use Rattle.flow_parts.specs.Held.{IsHeldWaits}
 use Rattle.flow_parts.specs.Popping.{HoldsPopped, IsPopped}
 use Rattle.flow_parts.specs.Seen.{end_seen}

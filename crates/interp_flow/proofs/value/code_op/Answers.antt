@@ -1,5 +1,4 @@
 use Rattle.std.proofs.Common.{ap, sym, subst, ◌∙◌}
-use Rattle.py_value.specs.Contents.{contents, Contents}
 use Rattle.py_model.specs.Operations.{Op}
 use Rattle.py_model.specs.Told.{is_operation, op_seen}
 use Rattle.interp_eval.specs.Machine.{wanted_op}
