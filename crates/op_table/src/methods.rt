@@ -9,7 +9,7 @@ use crate::wrapped::missing;
 use op_changes::{append, insert, items, pop, values};
 use op_dicts::get_method;
 use op_orders::sort;
-use op_pieces::join;
+use op_pieces::{join, replace};
 use op_search::index;
 use op_sums::{extend, reverse};
 use op_texts::{
@@ -71,7 +71,7 @@ pub(crate) fn text_methods(
         93 => rstrip(work, alloc, operands),
         94 => missing(),
         95 => join(work, alloc, operands),
-        96 => missing(),
+        96 => replace(work, alloc, operands),
         97 => find(work, alloc, operands),
         _ => missing(),
     }

@@ -19,7 +19,7 @@ pub returns-in-95 : goal.returns-in-95
 returns-in-95 c = at_number 95 c.args.op c.args.operands.now c.in-95.is (λ table. refl) c.join.ensures
 
 pub returns-in-96 : goal.returns-in-96
-returns-in-96 c = ends_missing (planned c.args.op c.args.operands.now) c.args.work.now c.missing-in-96.result c.missing-in-96.ensures
+returns-in-96 c = at_number 96 c.args.op c.args.operands.now c.in-96.is (λ table. refl) c.replace.ensures
 
 pub returns-in-97 : goal.returns-in-97
 returns-in-97 c = at_number 97 c.args.op c.args.operands.now c.in-97.is (λ table. refl) c.find.ensures
