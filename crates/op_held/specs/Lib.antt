@@ -1,4 +1,5 @@
 pub mod Entering
+pub mod Opening
 pub mod Settling
 pub mod Paths
 pub mod Held

@@ -2,6 +2,7 @@
 //!
 //! - [`Held`]: the work of operations, the paths that were opened for writing, and all that was printed. `StandsHeld` (`specs/Held.antt`) says for
 //!   which stores of a run it stands.
+//! - [`Held::new`]: what is held as a run begins stands for the store with which it begins.
 //! - [`Held::end`]: whatever plan an operation followed, it happened as it is told, or it costs more than is left, or memory ran out. An exception
 //!   that it comes to is made and raised here. Memory for all is taken before the first change.
 //! - [`Held::perform`]: so an operation that asks nothing, by its number, with its plan.
@@ -13,6 +14,7 @@
 mod ending;
 mod entering;
 mod held;
+mod opening;
 mod paths;
 mod performing;
 mod settling;

@@ -1,24 +1,17 @@
 -- What parts fit and stand for (this project's profile): a store over numbers, and a source of answers.
-use Rattle.std.specs.Prelude.{◌≡◌, ℕ, List, Option, Some, None}
+use Rattle.std.specs.Prelude.{◌≡◌, ℕ}
 use Rattle.answer_source.specs.Sources.{Fits as FitsSource, Stands as StandsSource}
 use Rattle.op_done.specs.Holding.{Found}
 use Rattle.op_held.specs.Held.{HeldView, StandsHeld}
+use Rattle.op_held.specs.Opening.{first_of}
 use Rattle.op_work.specs.Work.{Extends}
-use Rattle.py_model.specs.Capture.{Capture, found_in}
+use Rattle.py_model.specs.Capture.{Capture, with_bytes}
 use Rattle.py_model.specs.Doing.{Standing}
-use Rattle.py_model.specs.Plan.{Found as FoundThere, found_bytes, absent, too_large, found_failed}
 use Rattle.py_value.specs.Values.{ValuesView, AreInterned}
 
 -- the bytes that a capture has at a path, where it has some
-abbrev pub bytes_found : Option FoundThere → Option (List ℕ)
-bytes_found (Some (found_bytes bytes)) = Some bytes
-bytes_found (Some absent) = None
-bytes_found (Some too_large) = None
-bytes_found (Some found_failed) = None
-bytes_found None = None
-
 abbrev pub found_by : Capture → Found
-found_by capture path = bytes_found (found_in capture.files path)
+found_by capture = first_of (with_bytes capture.files)
 
 -- A table has the texts and tuples that are held, and the capture fits the source.
 pub record IsFitting (source : FitsSource) (values : ValuesView) (table : ValuesView) (capture : Capture) : Type 0 where

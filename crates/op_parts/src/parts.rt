@@ -1,6 +1,10 @@
 // What performs the operations of a run.
-ghost use Rattle.std.specs.Prelude.{◌≡◌};
+ghost use Rattle.std.specs.Prelude.{ℕ, [], IfOk};
 ghost use Rattle.op_parts.specs.Parts.{IsFitting, IsStanding};
+ghost use Rattle.py_model.specs.Capture.{Capture};
+ghost use Rattle.py_model.specs.Doing.{standing};
+ghost use Rattle.py_model.specs.Meaning.{starting};
+ghost use Rattle.py_value.specs.Values.{ValuesView};
 
 use crate::naming::{asks, has_names};
 use answer_source::Source;
@@ -19,6 +23,24 @@ pub struct Parts<S: Source> {
     held: Held,
     source: S,
     entered: u32,
+}
+
+impl<S: Source + Drop> Parts<S> {
+    /// What performs the operations of a run of the script at a path, with these arguments. It stands for the state in which the run begins,
+    /// with any number of steps.
+    pub fn new(alloc: Global, path: &str, arguments: &[Name], source: S) -> Result<Parts<S>, Memory>
+        requires { S.stands source [] }
+        ensures fits { IfOk result (λ parts. (table : ValuesView) (capture : Capture) → IsFitting (S.fits parts.source) parts.held.work.values table capture → S.fits source capture) }
+        ensures starts { IfOk result (λ parts. (table : ValuesView) (capture : Capture) (steps : ℕ) → IsFitting (S.fits parts.source) parts.held.work.values table capture
+            → IsStanding (S.stands parts.source) parts.held parts.entered table capture (standing (starting capture path.now arguments.now steps))) }
+    {
+        let held = Held::new(alloc, path, arguments)?;
+        Ok(Parts {
+            held,
+            source,
+            entered: 0,
+        })
+    }
 }
 
 impl<S: Source> Doer for Parts<S> {
