@@ -1,0 +1,2 @@
+pub mod ObjectOperands
+pub mod FilePlans
