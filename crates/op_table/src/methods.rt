@@ -8,8 +8,9 @@ ghost use Rattle.py_value.specs.Values.{AreNamed};
 use crate::wrapped::missing;
 use op_changes::{append, insert, items, pop, values};
 use op_dicts::get_method;
+use op_files::{close, read, readline, write};
 use op_orders::sort;
-use op_pieces::{join, replace};
+use op_pieces::{join, replace, split};
 use op_search::index;
 use op_sums::{extend, reverse};
 use op_texts::{
@@ -69,7 +70,7 @@ pub(crate) fn text_methods(
         91 => strip(work, alloc, operands),
         92 => lstrip(work, alloc, operands),
         93 => rstrip(work, alloc, operands),
-        94 => missing(),
+        94 => split(work, alloc, operands),
         95 => join(work, alloc, operands),
         96 => replace(work, alloc, operands),
         97 => find(work, alloc, operands),
@@ -99,10 +100,10 @@ pub(crate) fn word_methods(
         102 => isdigit(work, alloc, operands),
         103 => ljust(work, alloc, operands),
         104 => rjust(work, alloc, operands),
-        105 => missing(),
-        106 => missing(),
-        107 => missing(),
-        108 => missing(),
+        105 => read(work, alloc, operands),
+        106 => readline(work, alloc, operands),
+        107 => write(work, alloc, operands),
+        108 => close(work, alloc, operands),
         _ => missing(),
     }
 }

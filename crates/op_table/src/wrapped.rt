@@ -50,7 +50,7 @@ fn targets(v: Value) -> u64
     }
 }
 
-// An operation that is not performed yet.
+// A number that is another function's.
 pub(crate) fn missing() -> Result<Answer, Stop>
     ensures { result ≡ Err NoMemory }
 {

@@ -13,7 +13,7 @@ pub returns-in-93 : goal.returns-in-93
 returns-in-93 c = at_number 93 c.args.op c.args.operands.now c.in-93.is (λ table. refl) c.rstrip.ensures
 
 pub returns-in-94 : goal.returns-in-94
-returns-in-94 c = ends_missing (planned c.args.op c.args.operands.now) c.args.work.now c.missing.result c.missing.ensures
+returns-in-94 c = at_number 94 c.args.op c.args.operands.now c.in-94.is (λ table. refl) c.split.ensures
 
 pub returns-in-95 : goal.returns-in-95
 returns-in-95 c = at_number 95 c.args.op c.args.operands.now c.in-95.is (λ table. refl) c.join.ensures
@@ -25,4 +25,4 @@ pub returns-in-97 : goal.returns-in-97
 returns-in-97 c = at_number 97 c.args.op c.args.operands.now c.in-97.is (λ table. refl) c.find.ensures
 
 pub returns-in_default : goal.returns-in_default
-returns-in_default c = ends_missing (planned c.args.op c.args.operands.now) c.args.work.now c.missing-in_default.result c.missing-in_default.ensures
+returns-in_default c = ends_missing (planned c.args.op c.args.operands.now) c.args.work.now c.missing.result c.missing.ensures

@@ -25,16 +25,16 @@ pub returns-in-104 : goal.returns-in-104
 returns-in-104 c = at_number 104 c.args.op c.args.operands.now c.in-104.is (λ table. refl) c.rjust.ensures
 
 pub returns-in-105 : goal.returns-in-105
-returns-in-105 c = ends_missing (planned c.args.op c.args.operands.now) c.args.work.now c.missing.result c.missing.ensures
+returns-in-105 c = at_number 105 c.args.op c.args.operands.now c.in-105.is (λ table. refl) c.read.ensures
 
 pub returns-in-106 : goal.returns-in-106
-returns-in-106 c = ends_missing (planned c.args.op c.args.operands.now) c.args.work.now c.missing-in-106.result c.missing-in-106.ensures
+returns-in-106 c = at_number 106 c.args.op c.args.operands.now c.in-106.is (λ table. refl) c.readline.ensures
 
 pub returns-in-107 : goal.returns-in-107
-returns-in-107 c = ends_missing (planned c.args.op c.args.operands.now) c.args.work.now c.missing-in-107.result c.missing-in-107.ensures
+returns-in-107 c = at_number 107 c.args.op c.args.operands.now c.in-107.is (λ table. refl) c.write.ensures
 
 pub returns-in-108 : goal.returns-in-108
-returns-in-108 c = ends_missing (planned c.args.op c.args.operands.now) c.args.work.now c.missing-in-108.result c.missing-in-108.ensures
+returns-in-108 c = at_number 108 c.args.op c.args.operands.now c.in-108.is (λ table. refl) c.close.ensures
 
 pub returns-in_default : goal.returns-in_default
-returns-in_default c = ends_missing (planned c.args.op c.args.operands.now) c.args.work.now c.missing-in_default.result c.missing-in_default.ensures
+returns-in_default c = ends_missing (planned c.args.op c.args.operands.now) c.args.work.now c.missing.result c.missing.ensures
