@@ -1,0 +1,4 @@
+pub mod Asking
+pub mod Draws
+pub mod Given
+pub mod Opening
