@@ -1,5 +1,5 @@
 // Random numbers.
-ghost use Rattle.std.specs.Prelude.{◌≡◌, ◌<◌, None, Some, map, option_copied};
+ghost use Rattle.std.specs.Prelude.{◌≡◌, ◌<◌, ◌^◌, ◌+ℤ◌, ◌≤ℤ◌, pos, None, Some, map, option_copied};
 ghost use Rattle.answer_source.specs.Sources.{given_seen};
 ghost use Rattle.capture.specs.declared.answer.Ask.TheVariants.{Word};
 ghost use Rattle.op_devices.specs.Asking.{Known, answered_by};
@@ -17,7 +17,7 @@ use py_model::Answer;
 use py_value::Value;
 use std::alloc::Global;
 
-// The number that the given word draws. One that has no 64 bits is refused as want of memory.
+// The number that the given word draws.
 fn word_answer(
     work: &mut Work,
     alloc: Global,
@@ -26,14 +26,12 @@ fn word_answer(
     given: &Given,
 ) -> Result<Answer, Stop>
     requires some { 0 < many }
+    requires within { (start +ℤ pos many) ≤ℤ pos (2 ^ 63) }
     requires fresh { work.old.made ≡ None }
     ensures { Ends (λ table. word_given start many (given_seen given.now)) work.old work.new result }
 {
     match given {
-        Given::Word(word) => match number_drawn(start, many, *word) {
-            Some(i) => Ok(Answer::Value(Value::Int(i))),
-            None => Err(Stop::Memory),
-        },
+        Given::Word(word) => Ok(Answer::Value(Value::Int(number_drawn(start, many, *word)))),
         Given::Number(_) => Err(work.fault(alloc, 15, "device failed")),
         Given::Line(_) => Err(work.fault(alloc, 15, "device failed")),
         Given::End => Err(work.fault(alloc, 15, "device failed")),
@@ -50,6 +48,7 @@ fn drawn(
     given: Option<&Given>,
 ) -> Result<Answer, Stop>
     requires some { 0 < many }
+    requires within { (start +ℤ pos many) ≤ℤ pos (2 ^ 63) }
     requires fresh { work.old.made ≡ None }
     ensures { (k : Known) → IsGiven k (Some Word) (option_copied given.entry) → Ends (λ table. answered_by k (drawn_plan start many)) work.old work.new result }
 {

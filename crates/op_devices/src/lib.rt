@@ -5,8 +5,6 @@
 //!   given (`answered_by` of `specs/Asking.antt`).
 //! - [`open`] (62), and [`path_asked`]: the path of which it asks. Its clause (`EndsAt` of `specs/Opening.antt`) speaks of stores of a run that have
 //!   the file at that path exactly where it is held.
-//!
-//! A number that is drawn lies between two of 64 bits. That it has 64 bits itself is not proved: another would be refused as want of memory.
 #![tactic(auto)]
 
 mod asked;

@@ -30,7 +30,7 @@ pub returns-in_default-between : goal.returns-in_default-between
 returns-in_default-between c = λ k given_is.
     let back_low : to_z w64 (of_z w64 c.in-Some.low) ≡ c.in-Some.low = search rules in
     let back_high : to_z w64 (of_z w64 c.in-Some-number_of.high) ≡ c.in-Some-number_of.high = search rules in
-    let many_is = ap (λ (i : ℤ). many_between i c.in-Some-number_of.high) (sym back_low) ∙ (ap (λ (i : ℤ). many_between (to_z w64 (of_z w64 c.in-Some.low)) i) (sym back_high) ∙ (sym c.between.ensures ∙ c.in_default-between.is)) in
+    let many_is = ap (λ (i : ℤ). many_between i c.in-Some-number_of.high) (sym back_low) ∙ (ap (λ (i : ℤ). many_between (to_z w64 (of_z w64 c.in-Some.low)) i) (sym back_high) ∙ (sym c.between.ensures.many ∙ c.in_default-between.is)) in
     ends_fault (λ table. answered_by k (randint_plan (map (contents table) c.args.operands.now))) 10 _ c.fault-in_default-between.result c.fault-in_default-between.ensures
     (λ table interned extends. ap (answered_by k) (randint_none table c.args.operands.now c.if-operands-ne3.false c.in-Some.low c.in-Some-number_of.high
     (sym c.number_of.ensures ∙ c.in-Some.is) (sym c.number_of-2.ensures ∙ c.in-Some-number_of.is) many_is))
@@ -39,7 +39,7 @@ pub returns : goal.returns
 returns c = λ k given_is.
     let back_low : to_z w64 (of_z w64 c.in-Some.low) ≡ c.in-Some.low = search rules in
     let back_high : to_z w64 (of_z w64 c.in-Some-number_of.high) ≡ c.in-Some-number_of.high = search rules in
-    let many_is = ap (λ (i : ℤ). many_between i c.in-Some-number_of.high) (sym back_low) ∙ (ap (λ (i : ℤ). many_between (to_z w64 (of_z w64 c.in-Some.low)) i) (sym back_high) ∙ (sym c.between.ensures ∙ c.in-Some-between.is)) in
+    let many_is = ap (λ (i : ℤ). many_between i c.in-Some-number_of.high) (sym back_low) ∙ (ap (λ (i : ℤ). many_between (to_z w64 (of_z w64 c.in-Some.low)) i) (sym back_high) ∙ (sym c.between.ensures.many ∙ c.in-Some-between.is)) in
     let low_is = sym c.number_of.ensures ∙ c.in-Some.is in
     let high_is = sym c.number_of-2.ensures ∙ c.in-Some-number_of.is in
     let word_is = randint_word c.args.operands.now c.in-Some.low c.in-Some-number_of.high c.in-Some-between.many c.if-operands-ne3.false low_is high_is many_is in

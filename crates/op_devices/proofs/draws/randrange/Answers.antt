@@ -26,12 +26,12 @@ returns-in_default-below c = λ k given_is.
     let none : c.below.result ≡ None = search rules in
     let back : to_z w64 (of_z w64 c.in-Some.bound) ≡ c.in-Some.bound = search rules in
     ends_fault (λ table. answered_by k (randrange_plan (map (contents table) c.args.operands.now))) 10 _ c.fault-in_default-below.result c.fault-in_default-below.ensures
-    (λ table interned extends. ap (answered_by k) (randrange_none table c.args.operands.now c.if-operands-ne2.false c.in-Some.bound (sym c.number_of.ensures ∙ c.in-Some.is) (ap (λ (i : ℤ). many_below i) (sym back) ∙ (sym c.below.ensures ∙ none))))
+    (λ table interned extends. ap (answered_by k) (randrange_none table c.args.operands.now c.if-operands-ne2.false c.in-Some.bound (sym c.number_of.ensures ∙ c.in-Some.is) (ap (λ (i : ℤ). many_below i) (sym back) ∙ (sym c.below.ensures.many ∙ none))))
 
 pub returns : goal.returns
 returns c = λ k given_is.
     let back : to_z w64 (of_z w64 c.in-Some.bound) ≡ c.in-Some.bound = search rules in
-    let many_is = ap (λ (i : ℤ). many_below i) (sym back) ∙ (sym c.below.ensures ∙ c.in-Some-below.is) in
+    let many_is = ap (λ (i : ℤ). many_below i) (sym back) ∙ (sym c.below.ensures.many ∙ c.in-Some-below.is) in
     let bound_is = sym c.number_of.ensures ∙ c.in-Some.is in
     let word_is = randrange_word c.args.operands.now c.in-Some.bound c.in-Some-below.many c.if-operands-ne2.false bound_is many_is in
     ends_equal (λ table. answered_by k (randrange_plan (map (contents table) c.args.operands.now)))
