@@ -6,3 +6,4 @@ pub mod Noting
 pub mod PieceLemmas
 pub mod EndsAt
 pub mod OpenPlans
+pub mod Fetching

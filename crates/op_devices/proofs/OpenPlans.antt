@@ -23,15 +23,15 @@ use Rattle.py_value.specs.declared.value.Value.{Value}
 use Rattle.py_value.specs.declared.value.Value.TheVariants.{None as NoneValue, Bool as TruthValue, Int, Text, Tuple, Range, Fn, Class, Exc, Builtin, Object}
 
 -- what a plan goes on with
-abbrev opened_go : Plan → Bool → Plan
+abbrev pub opened_go : Plan → Bool → Plan
 opened_go (was_opened path go) = go
 opened_go other = λ opened. bad_file
 
-abbrev fetch_go : Plan → Found → Plan
+abbrev pub fetch_go : Plan → Found → Plan
 fetch_go (fetch path go) = go
 fetch_go other = λ found. bad_file
 
-abbrev content_go : Plan → Option (List ℕ) → Plan
+abbrev pub content_go : Plan → Option (List ℕ) → Plan
 content_go (read_file path go) = go
 content_go other = λ content. bad_file
 

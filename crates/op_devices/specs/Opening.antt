@@ -12,7 +12,8 @@ use Rattle.prov_outside.specs.declared.folder.Found.TheVariants.{Bytes, Absent, 
 use Rattle.py_model.specs.Faults.{fault, value_error, os_error, wrong_kind, wrong_number}
 use Rattle.py_model.specs.Files.{bad_file, no_file, begun, open_to_write}
 use Rattle.py_model.specs.Plan.{Plan, Writes, write, opens, read_file, makes}
-use Rattle.py_model.specs.Store.{RunStore, file_of}
+use Rattle.py_model.specs.Running.{State}
+use Rattle.py_model.specs.Store.{RunStore, file_of, has_path}
 use Rattle.py_model.specs.Told.{IsNamedAnswer}
 use Rattle.py_model.specs.declared.moment.Answer.{Answer as OneAnswer}
 use Rattle.py_value.specs.Contents.{Contents, text}
@@ -121,3 +122,8 @@ abbrev pub opening_in : Bool → List ℕ × Mode → Plan
 opening_in readable (path, Read) = read_file path (rest_of readable Read path)
 opening_in readable (path, Write) = open_to_write path
 opening_in readable (path, Append) = read_file path (rest_of readable Append path)
+
+-- what a run notes of an opening that asks of a path, by the paths that it opened for writing
+abbrev pub noted_fetch : List (List ℕ) → ValuesView → Option ℕ → State → State
+noted_fetch opened table (Some path) s = if has_path (bytes_of table path) opened then s else record s { fetches = bytes_of table path ∷ s.fetches }
+noted_fetch opened table None s = s
