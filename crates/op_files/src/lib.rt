@@ -4,6 +4,7 @@
 //! - [`write`] (107): a text goes behind the file's bytes. [`close`] (108).
 //!
 //! The file of an open file object is there in every run. Where it is not, a text that would be written is answered as want of memory.
+//! So is a text of 2^63 characters.
 #![tactic(auto)]
 
 mod closing;
