@@ -418,7 +418,7 @@ use Rattle.py_model.specs.Capture.{Capture, opening_in}
 use Rattle.py_model.specs.Meaning.{Run, run, level, finished, uncaught, out_of_steps}
 use Rattle.py_model.specs.Moment.{Moment, begins, does, enters, leaves, ends, normal_end, break_end, continue_end, return_end, raise_end}
 use Rattle.py_model.specs.Plan.{value, raised, at_end, time, word, line, number, random_word, a_line, no_line, failed, found_bytes, absent, too_large, found_failed}
-use Rattle.py_vectors.specs.Words.{place, no_span, summary, endings, evaluated, kept, depends, replayed}
+use Rattle.py_vectors.specs.Words.{place, no_span, silent, summary, endings, evaluated, kept, depends, replayed}
 use Rattle.slice_law.specs.Edges.{edge, by_data, by_name, by_control, by_jump}
 '''
 
@@ -459,7 +459,7 @@ def theorem(v, name, with_moments):
     tree = Tree(v['script'])
     rows = Rows(v.get('pages1', []))
     answers, files = captured(v)
-    capture = 'record { answers = %s; files = %s }' % (
+    capture = 'record { answers = %s; files = %s; ends = silent }' % (
         row(['record { at = %s; k = %d; what = %s; given = %s }' % a for a in answers]), row(['(%s, %s)' % f for f in files]))
     closing = v.get('closing') or ''
     if 'out of steps' in closing:

@@ -1,6 +1,6 @@
 -- The captured answers of a run (this project's profile): what a device gave, by the place of the call and the number of the asking at
 -- that place, from 1; and what was found at each path that was fetched.
-use Rattle.std.specs.Prelude.{ℕ, Bool, true, false, ◌&&◌, ◌==◌, List, [], ◌∷◌, Option, Some, None, if◌then◌else◌}
+use Rattle.std.specs.Prelude.{ℕ, ℤ, Bool, true, false, ◌&&◌, ◌==◌, List, [], ◌∷◌, Option, Some, None, if◌then◌else◌}
 use Rattle.std.specs.Str.{bytes_eq}
 use Rattle.prov_base.specs.declared.place.Pos.{Pos}
 use Rattle.prov_base.specs.contracts.place.PosPartialEq.TheImpl.{ghosts as places}
@@ -15,9 +15,23 @@ pub record Kept : Type 0 where
   pub what : Ask
   pub given : Given
 
+-- What the devices tell at one moment, each where it tells: the lines that are left to read, what stands at each path, and the times and
+-- the words that were given so far. With it how often each was refused so far: a line, a file, a time, a word.
+pub record Telling : Type 0 where
+  pub lines : Option (List (List ℕ))
+  pub files : Option (List ℕ → Option (List ℕ))
+  pub times : Option (List ℤ)
+  pub words : Option (List ℕ)
+  pub line_faults : ℕ
+  pub file_faults : ℕ
+  pub time_faults : ℕ
+  pub word_faults : ℕ
+
+-- The last field is what the devices tell at the end of the run. No rule of the meaning reads it: it ties the answers to their devices.
 pub record Capture : Type 0 where
   pub answers : List Kept
   pub files : List (List ℕ × Found)
+  pub ends : Telling
 
 abbrev pub same_ask : Ask → Ask → Bool
 same_ask time time = true

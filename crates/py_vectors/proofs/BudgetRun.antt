@@ -12,14 +12,14 @@ use Rattle.py_model.specs.Capture.{Capture, opening_in}
 use Rattle.py_model.specs.Meaning.{Run, run, level, out_of_steps}
 use Rattle.py_model.specs.Moment.{begins, does, ends, normal_end}
 use Rattle.py_model.specs.Plan.{value}
-use Rattle.py_vectors.specs.Words.{place, no_span, summary, evaluated, kept, depends, replayed}
+use Rattle.py_vectors.specs.Words.{place, no_span, silent, summary, evaluated, kept, depends, replayed}
 use Rattle.slice_law.specs.Edges.{edge, by_data}
 
 abbrev pub r_budget_tree : ScriptTree
 r_budget_tree = record { body = (more_suite (one_stmt 0 (place 1 1) no_span (assign_form (var_target (place 1 1) (codes "x")) (const_expr (place 1 5) (int_atom (pos 1))))) (more_suite (one_stmt 1 (place 2 1) no_span (do_form (call_expr (place 2 6) (var_expr (place 2 1) (codes "print")) (more_exprs (var_expr (place 2 7) (codes "x")) end_exprs)))) end_suite)); count = 2 }
 
 abbrev pub r_budget_capture : Capture
-r_budget_capture = record { answers = ([]); files = ([]) }
+r_budget_capture = record { answers = ([]); files = ([]); ends = silent }
 
 abbrev pub r_budget_run : Run
 r_budget_run = run r_budget_tree (codes "s.py") ([]) r_budget_capture 10

@@ -13,13 +13,13 @@ use Rattle.py_model.specs.Capture.{Capture, opening_in}
 use Rattle.py_model.specs.Meaning.{Run, run, level, finished}
 use Rattle.py_model.specs.Moment.{begins, does, enters, leaves, ends, normal_end, return_end, raise_end}
 use Rattle.py_model.specs.Plan.{value, raised}
-use Rattle.py_vectors.specs.Words.{place, no_span, summary, evaluated}
+use Rattle.py_vectors.specs.Words.{place, no_span, silent, summary, evaluated}
 
 abbrev pub r_classes_tree : ScriptTree
 r_classes_tree = record { body = (more_suite (one_stmt 0 (place 1 1) no_span (class_form (codes "Base") None (more_suite (one_stmt 1 (place 2 5) no_span (do_form (const_expr (place 2 5) (text_atom (codes "a base"))))) (more_suite (one_stmt 2 (place 3 5) no_span (def_form (codes "__init__") ((codes "self") ∷ (codes "x") ∷ []) ([]) (more_suite (one_stmt 3 (place 4 9) no_span (assign_form (field_target (place 4 13) (var_expr (place 4 9) (codes "self")) (codes "x")) (var_expr (place 4 18) (codes "x")))) end_suite))) (more_suite (one_stmt 4 (place 5 5) no_span (def_form (codes "get") ((codes "self") ∷ []) ([]) (more_suite (one_stmt 5 (place 6 9) no_span (return_form (Some (attr_expr (place 6 20) (var_expr (place 6 16) (codes "self")) (codes "x"))))) end_suite))) (more_suite (one_stmt 6 (place 7 5) no_span (def_form (codes "twice") ((codes "self") ∷ []) ([]) (more_suite (one_stmt 7 (place 8 9) no_span (return_form (Some (binary_expr (place 8 27) Mul (call_expr (place 8 24) (attr_expr (place 8 20) (var_expr (place 8 16) (codes "self")) (codes "get")) end_exprs) (const_expr (place 8 29) (int_atom (pos 2))))))) end_suite))) end_suite)))))) (more_suite (one_stmt 8 (place 10 1) no_span (class_form (codes "Sub") (Some (var_expr (place 10 11) (codes "Base"))) (more_suite (one_stmt 9 (place 11 5) no_span (def_form (codes "get") ((codes "self") ∷ []) ([]) (more_suite (one_stmt 10 (place 12 9) no_span (return_form (Some (binary_expr (place 12 23) Add (attr_expr (place 12 20) (var_expr (place 12 16) (codes "self")) (codes "x")) (const_expr (place 12 25) (int_atom (pos 1))))))) end_suite))) end_suite))) (more_suite (one_stmt 11 (place 14 1) no_span (class_form (codes "Bare") None (more_suite (one_stmt 12 (place 15 5) no_span pass_form) end_suite))) (more_suite (one_stmt 13 (place 17 1) no_span (assign_form (var_target (place 17 1) (codes "a")) (call_expr (place 17 9) (var_expr (place 17 5) (codes "Base")) (more_exprs (const_expr (place 17 10) (int_atom (pos 5))) end_exprs)))) (more_suite (one_stmt 14 (place 18 1) no_span (assign_form (var_target (place 18 1) (codes "b")) (call_expr (place 18 8) (var_expr (place 18 5) (codes "Sub")) (more_exprs (const_expr (place 18 9) (int_atom (pos 5))) end_exprs)))) (more_suite (one_stmt 15 (place 19 1) no_span (assign_form (field_target (place 19 2) (var_expr (place 19 1) (codes "b")) (codes "y")) (list_expr (place 19 7) (more_exprs (var_expr (place 19 8) (codes "a")) end_exprs)))) (more_suite (one_stmt 16 (place 20 1) no_span (aug_form (field_target (place 20 2) (var_expr (place 20 1) (codes "b")) (codes "x")) Add (place 20 5) (const_expr (place 20 8) (int_atom (pos 10))))) (more_suite (one_stmt 17 (place 21 1) no_span (do_form (call_expr (place 21 6) (var_expr (place 21 1) (codes "print")) (more_exprs (call_expr (place 21 12) (attr_expr (place 21 8) (var_expr (place 21 7) (codes "a")) (codes "get")) end_exprs) (more_exprs (call_expr (place 21 21) (attr_expr (place 21 17) (var_expr (place 21 16) (codes "b")) (codes "get")) end_exprs) (more_exprs (call_expr (place 21 32) (attr_expr (place 21 26) (var_expr (place 21 25) (codes "b")) (codes "twice")) end_exprs) (more_exprs (call_expr (place 21 44) (attr_expr (place 21 40) (var_expr (place 21 36) (codes "Base")) (codes "get")) (more_exprs (var_expr (place 21 45) (codes "b")) end_exprs)) (more_exprs (call_expr (place 21 59) (var_expr (place 21 49) (codes "isinstance")) (more_exprs (var_expr (place 21 60) (codes "b")) (more_exprs (var_expr (place 21 63) (codes "Base")) end_exprs))) (more_exprs (call_expr (place 21 80) (var_expr (place 21 70) (codes "isinstance")) (more_exprs (var_expr (place 21 81) (codes "a")) (more_exprs (tuple_expr (place 21 88) (more_exprs (var_expr (place 21 85) (codes "int")) (more_exprs (var_expr (place 21 90) (codes "Sub")) end_exprs))) end_exprs))) (more_exprs (call_expr (place 21 107) (var_expr (place 21 97) (codes "isinstance")) (more_exprs (list_expr (place 21 108) end_exprs) (more_exprs (var_expr (place 21 112) (codes "list")) end_exprs))) end_exprs)))))))))) (more_suite (one_stmt 18 (place 22 1) no_span (do_form (call_expr (place 22 6) (var_expr (place 22 1) (codes "print")) (more_exprs (var_expr (place 22 7) (codes "b")) (more_exprs (var_expr (place 22 10) (codes "Sub")) (more_exprs (attr_expr (place 22 16) (var_expr (place 22 15) (codes "a")) (codes "x")) (more_exprs (attr_expr (place 22 26) (part_expr (place 22 23) (attr_expr (place 22 21) (var_expr (place 22 20) (codes "b")) (codes "y")) (const_expr (place 22 24) (int_atom (pos 0)))) (codes "x")) end_exprs))))))) (more_suite (one_stmt 19 (place 23 1) no_span (assign_form (var_target (place 23 1) (codes "c")) (call_expr (place 23 9) (var_expr (place 23 5) (codes "Bare")) end_exprs))) (more_suite (one_stmt 20 (place 24 1) no_span (assign_form (field_target (place 24 2) (var_expr (place 24 1) (codes "c")) (codes "f")) (var_expr (place 24 7) (codes "len")))) (more_suite (one_stmt 21 (place 25 1) no_span (do_form (call_expr (place 25 6) (var_expr (place 25 1) (codes "print")) (more_exprs (call_expr (place 25 10) (attr_expr (place 25 8) (var_expr (place 25 7) (codes "c")) (codes "f")) (more_exprs (list_expr (place 25 11) (more_exprs (const_expr (place 25 12) (int_atom (pos 1))) (more_exprs (const_expr (place 25 15) (int_atom (pos 2))) end_exprs))) end_exprs)) (more_exprs (call_expr (place 25 30) (var_expr (place 25 20) (codes "isinstance")) (more_exprs (const_expr (place 25 31) (truth_atom true)) (more_exprs (var_expr (place 25 37) (codes "int")) end_exprs))) (more_exprs (call_expr (place 25 53) (var_expr (place 25 43) (codes "isinstance")) (more_exprs (const_expr (place 25 54) (text_atom (codes "s"))) (more_exprs (var_expr (place 25 59) (codes "str")) end_exprs))) (more_exprs (call_expr (place 25 75) (var_expr (place 25 65) (codes "isinstance")) (more_exprs (dict_expr (place 25 76) end_pairs) (more_exprs (var_expr (place 25 80) (codes "dict")) end_exprs))) (more_exprs (call_expr (place 25 97) (var_expr (place 25 87) (codes "isinstance")) (more_exprs (tuple_expr (place 25 98) end_exprs) (more_exprs (var_expr (place 25 102) (codes "tuple")) end_exprs))) (more_exprs (call_expr (place 25 120) (var_expr (place 25 110) (codes "isinstance")) (more_exprs (const_expr (place 25 121) (int_atom (pos 1))) (more_exprs (var_expr (place 25 124) (codes "bool")) end_exprs))) end_exprs))))))))) (more_suite (one_stmt 22 (place 26 1) no_span (try_form (more_suite (one_stmt 23 (place 27 5) no_span (do_form (attr_expr (place 27 6) (var_expr (place 27 5) (codes "c")) (codes "nothing")))) end_suite) (more_handlers (Some (var_expr (place 28 8) (codes "AttributeError"))) (Some (record { at = (place 28 26); name = (codes "e") })) (more_suite (one_stmt 24 (place 29 5) no_span (do_form (call_expr (place 29 10) (var_expr (place 29 5) (codes "print")) (more_exprs (var_expr (place 29 11) (codes "e")) end_exprs)))) end_suite) end_handlers))) (more_suite (one_stmt 25 (place 30 1) no_span (try_form (more_suite (one_stmt 26 (place 31 5) no_span (do_form (call_expr (place 31 9) (var_expr (place 31 5) (codes "Base")) end_exprs))) end_suite) (more_handlers (Some (var_expr (place 32 8) (codes "TypeError"))) (Some (record { at = (place 32 21); name = (codes "e") })) (more_suite (one_stmt 27 (place 33 5) no_span (do_form (call_expr (place 33 10) (var_expr (place 33 5) (codes "print")) (more_exprs (var_expr (place 33 11) (codes "e")) end_exprs)))) end_suite) end_handlers))) (more_suite (one_stmt 28 (place 34 1) no_span (try_form (more_suite (one_stmt 29 (place 35 5) no_span (do_form (call_expr (place 35 9) (var_expr (place 35 5) (codes "Bare")) (more_exprs (const_expr (place 35 10) (int_atom (pos 1))) end_exprs)))) end_suite) (more_handlers (Some (var_expr (place 36 8) (codes "TypeError"))) (Some (record { at = (place 36 21); name = (codes "e") })) (more_suite (one_stmt 30 (place 37 5) no_span (do_form (call_expr (place 37 10) (var_expr (place 37 5) (codes "print")) (more_exprs (var_expr (place 37 11) (codes "e")) end_exprs)))) end_suite) end_handlers))) (more_suite (one_stmt 31 (place 38 1) no_span (try_form (more_suite (one_stmt 32 (place 39 5) no_span (do_form (attr_expr (place 39 6) (var_expr (place 39 5) (codes "a")) (codes "get")))) end_suite) (more_handlers (Some (var_expr (place 40 8) (codes "NotImplementedError"))) (Some (record { at = (place 40 31); name = (codes "e") })) (more_suite (one_stmt 33 (place 41 5) no_span (do_form (call_expr (place 41 10) (var_expr (place 41 5) (codes "print")) (more_exprs (var_expr (place 41 11) (codes "e")) end_exprs)))) end_suite) end_handlers))) end_suite)))))))))))))))); count = 34 }
 
 abbrev pub r_classes_capture : Capture
-r_classes_capture = record { answers = ([]); files = ([]) }
+r_classes_capture = record { answers = ([]); files = ([]); ends = silent }
 
 abbrev pub r_classes_run : Run
 r_classes_run = run r_classes_tree (codes "s.py") ([]) r_classes_capture 1000000

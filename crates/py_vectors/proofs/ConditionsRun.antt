@@ -16,14 +16,14 @@ use Rattle.py_model.specs.Capture.{Capture, opening_in}
 use Rattle.py_model.specs.Meaning.{Run, run, level, finished}
 use Rattle.py_model.specs.Moment.{begins, does, enters, leaves, ends, normal_end, return_end}
 use Rattle.py_model.specs.Plan.{value, at_end}
-use Rattle.py_vectors.specs.Words.{place, no_span, summary, evaluated, depends, replayed}
+use Rattle.py_vectors.specs.Words.{place, no_span, silent, summary, evaluated, depends, replayed}
 use Rattle.slice_law.specs.Edges.{edge, by_data, by_control, by_jump}
 
 abbrev pub r_conditions_tree : ScriptTree
 r_conditions_tree = record { body = (more_suite (one_stmt 0 (place 1 1) no_span (def_form (codes "sign") ((codes "n") ∷ []) ([]) (more_suite (one_stmt 1 (place 1 14) no_span (return_form (Some (choose_expr (place 1 23) (compare_expr (place 1 28) Gt (var_expr (place 1 26) (codes "n")) (const_expr (place 1 30) (int_atom (pos 0)))) (const_expr (place 1 21) (int_atom (pos 1))) (choose_expr (place 1 39) (compare_expr (place 1 44) Eq (var_expr (place 1 42) (codes "n")) (const_expr (place 1 47) (int_atom (pos 0)))) (const_expr (place 1 37) (int_atom (pos 0))) (unary_expr (place 1 54) Minus (const_expr (place 1 55) (int_atom (pos 1))))))))) end_suite))) (more_suite (one_stmt 2 (place 2 1) no_span (assign_form (var_target (place 2 1) (codes "words")) (list_expr (place 2 9) (more_exprs (const_expr (place 2 10) (text_atom [])) (more_exprs (const_expr (place 2 14) (text_atom (codes "a"))) (more_exprs (const_expr (place 2 19) (text_atom (codes "bb"))) end_exprs)))))) (more_suite (one_stmt 3 (place 3 1) no_span (for_form (var_target (place 3 5) (codes "w")) (var_expr (place 3 10) (codes "words")) (more_suite (one_stmt 4 (place 4 5) no_span (if_form (more_branches (unary_expr (place 4 8) Negation (var_expr (place 4 12) (codes "w"))) (more_suite (one_stmt 5 (place 4 15) no_span (do_form (call_expr (place 4 20) (var_expr (place 4 15) (codes "print")) (more_exprs (const_expr (place 4 21) (text_atom (codes "empty"))) end_exprs)))) end_suite) (more_branches (compare_expr (place 5 17) Eq (call_expr (place 5 13) (var_expr (place 5 10) (codes "len")) (more_exprs (var_expr (place 5 14) (codes "w")) end_exprs)) (const_expr (place 5 20) (int_atom (pos 1)))) (more_suite (one_stmt 6 (place 5 23) no_span (do_form (call_expr (place 5 28) (var_expr (place 5 23) (codes "print")) (more_exprs (const_expr (place 5 29) (text_atom (codes "one"))) end_exprs)))) end_suite) end_branches)) (else_suite (more_suite (one_stmt 7 (place 6 11) no_span (do_form (call_expr (place 6 16) (var_expr (place 6 11) (codes "print")) (more_exprs (const_expr (place 6 17) (text_atom (codes "more"))) (more_exprs (var_expr (place 6 25) (codes "w")) end_exprs))))) end_suite)))) end_suite))) (more_suite (one_stmt 8 (place 7 1) no_span (do_form (call_expr (place 7 6) (var_expr (place 7 1) (codes "print")) (more_exprs (list_expr (place 7 7) (more_exprs (call_expr (place 7 12) (var_expr (place 7 8) (codes "sign")) (more_exprs (const_expr (place 7 13) (int_atom (pos 5))) end_exprs)) (more_exprs (call_expr (place 7 21) (var_expr (place 7 17) (codes "sign")) (more_exprs (const_expr (place 7 22) (int_atom (pos 0))) end_exprs)) (more_exprs (call_expr (place 7 30) (var_expr (place 7 26) (codes "sign")) (more_exprs (unary_expr (place 7 31) Minus (const_expr (place 7 32) (int_atom (pos 5)))) end_exprs)) end_exprs)))) (more_exprs (logic_expr (place 7 46) Either (part_expr (place 7 42) (var_expr (place 7 37) (codes "words")) (const_expr (place 7 43) (int_atom (pos 0)))) (logic_expr (place 7 58) Both (part_expr (place 7 54) (var_expr (place 7 49) (codes "words")) (const_expr (place 7 55) (int_atom (pos 1)))) (part_expr (place 7 67) (var_expr (place 7 62) (codes "words")) (const_expr (place 7 68) (int_atom (pos 2)))))) (more_exprs (unary_expr (place 7 72) Negation (var_expr (place 7 76) (codes "words"))) (more_exprs (compare_expr (place 7 88) IsNot (const_expr (place 7 83) none_atom) (var_expr (place 7 95) (codes "words"))) end_exprs))))))) (more_suite (one_stmt 9 (place 8 1) no_span (assign_form (var_target (place 8 1) (codes "x")) (const_expr (place 8 5) (int_atom (pos 5))))) (more_suite (one_stmt 10 (place 9 1) no_span (assign_form (var_target (place 9 1) (codes "y")) (choose_expr (place 9 7) (logic_expr (place 9 31) Either (logic_expr (place 9 16) Both (compare_expr (place 9 12) Gt (var_expr (place 9 10) (codes "x")) (const_expr (place 9 14) (int_atom (pos 3)))) (unary_expr (place 9 20) Negation (compare_expr (place 9 26) Eq (var_expr (place 9 24) (codes "x")) (const_expr (place 9 29) (int_atom (pos 4)))))) (compare_expr (place 9 36) Lt (var_expr (place 9 34) (codes "x")) (const_expr (place 9 38) (int_atom (pos 0))))) (var_expr (place 9 5) (codes "x")) (const_expr (place 9 45) none_atom)))) (more_suite (one_stmt 11 (place 10 1) no_span (if_form (more_branches (compare_expr (place 10 6) Eq (var_expr (place 10 4) (codes "x")) (const_expr (place 10 9) (int_atom (pos 5)))) (more_suite (one_stmt 12 (place 10 12) no_span pass_form) end_suite) end_branches) no_else)) (more_suite (one_stmt 13 (place 11 1) no_span (assert_form (var_expr (place 11 8) (codes "x")) (Some (const_expr (place 11 11) (text_atom (codes "never")))))) (more_suite (one_stmt 14 (place 12 1) no_span (assert_form (unary_expr (place 12 8) Negation (const_expr (place 12 12) none_atom)) None)) (more_suite (one_stmt 15 (place 13 1) no_span (do_form (call_expr (place 13 6) (var_expr (place 13 1) (codes "print")) (more_exprs (var_expr (place 13 7) (codes "y")) (more_exprs (compare_expr (place 13 12) Ne (var_expr (place 13 10) (codes "x")) (const_expr (place 13 15) (int_atom (pos 5)))) (more_exprs (compare_expr (place 13 20) Is (var_expr (place 13 18) (codes "x")) (const_expr (place 13 23) none_atom)) (more_exprs (binary_expr (place 13 33) Add (var_expr (place 13 30) (codes "x")) (const_expr (place 13 36) (int_atom (pos 1)))) (more_exprs (part_expr (place 13 48) (dict_expr (place 13 40) (more_pairs (const_expr (place 13 41) (text_atom (codes "k"))) (var_expr (place 13 46) (codes "x")) end_pairs)) (const_expr (place 13 49) (text_atom (codes "k")))) end_exprs)))))))) end_suite)))))))))); count = 16 }
 
 abbrev pub r_conditions_capture : Capture
-r_conditions_capture = record { answers = ([]); files = ([]) }
+r_conditions_capture = record { answers = ([]); files = ([]); ends = silent }
 
 abbrev pub r_conditions_run : Run
 r_conditions_run = run r_conditions_tree (codes "s.py") ([]) r_conditions_capture 1000000

@@ -12,14 +12,14 @@ use Rattle.py_model.specs.Capture.{Capture, opening_in}
 use Rattle.py_model.specs.Meaning.{Run, run, level, finished}
 use Rattle.py_model.specs.Moment.{begins, does, ends, normal_end}
 use Rattle.py_model.specs.Plan.{value}
-use Rattle.py_vectors.specs.Words.{place, no_span, summary, evaluated, kept, depends, replayed}
+use Rattle.py_vectors.specs.Words.{place, no_span, silent, summary, evaluated, kept, depends, replayed}
 use Rattle.slice_law.specs.Edges.{edge, by_data}
 
 abbrev pub r_dict_tree : ScriptTree
 r_dict_tree = record { body = (more_suite (one_stmt 0 (place 1 1) no_span (assign_form (var_target (place 1 1) (codes "d")) (dict_expr (place 1 5) end_pairs))) (more_suite (one_stmt 1 (place 2 1) no_span (assign_form (part_target (place 2 2) (var_expr (place 2 1) (codes "d")) (const_expr (place 2 3) (text_atom (codes "x")))) (const_expr (place 2 10) (int_atom (pos 1))))) (more_suite (one_stmt 2 (place 3 1) no_span (assign_form (part_target (place 3 2) (var_expr (place 3 1) (codes "d")) (const_expr (place 3 3) (text_atom (codes "y")))) (const_expr (place 3 10) (int_atom (pos 2))))) (more_suite (one_stmt 3 (place 4 1) no_span (assign_form (var_target (place 4 1) (codes "z")) (part_expr (place 4 6) (var_expr (place 4 5) (codes "d")) (const_expr (place 4 7) (text_atom (codes "x")))))) end_suite)))); count = 4 }
 
 abbrev pub r_dict_capture : Capture
-r_dict_capture = record { answers = ([]); files = ([]) }
+r_dict_capture = record { answers = ([]); files = ([]); ends = silent }
 
 abbrev pub r_dict_run : Run
 r_dict_run = run r_dict_tree (codes "s.py") ([]) r_dict_capture 1000000

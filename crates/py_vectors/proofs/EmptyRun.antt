@@ -6,13 +6,13 @@ use Rattle.std.specs.Char.{encode_utf8}
 use Rattle.py_tree.specs.Tree.{end_suite, ScriptTree}
 use Rattle.py_model.specs.Capture.{Capture}
 use Rattle.py_model.specs.Meaning.{Run, run, level, finished}
-use Rattle.py_vectors.specs.Words.{summary}
+use Rattle.py_vectors.specs.Words.{silent, summary}
 
 abbrev pub r_empty_tree : ScriptTree
 r_empty_tree = record { body = end_suite; count = 0 }
 
 abbrev pub r_empty_capture : Capture
-r_empty_capture = record { answers = ([]); files = ([]) }
+r_empty_capture = record { answers = ([]); files = ([]); ends = silent }
 
 abbrev pub r_empty_run : Run
 r_empty_run = run r_empty_tree (codes "s.py") ([]) r_empty_capture 1000000

@@ -11,14 +11,14 @@ use Rattle.py_model.specs.Capture.{Capture, opening_in}
 use Rattle.py_model.specs.Meaning.{Run, run, level, uncaught}
 use Rattle.py_model.specs.Moment.{begins, does, ends, normal_end, raise_end}
 use Rattle.py_model.specs.Plan.{value, raised, time, failed}
-use Rattle.py_vectors.specs.Words.{place, no_span, summary, evaluated, kept, depends, replayed}
+use Rattle.py_vectors.specs.Words.{place, no_span, silent, summary, evaluated, kept, depends, replayed}
 use Rattle.slice_law.specs.Edges.{edge, by_data}
 
 abbrev pub r_failing_clock_tree : ScriptTree
 r_failing_clock_tree = record { body = (more_suite (one_stmt 0 (place 1 1) no_span (import_form (codes "time"))) (more_suite (one_stmt 1 (place 2 1) no_span (do_form (call_expr (place 2 6) (var_expr (place 2 1) (codes "print")) (more_exprs (call_expr (place 2 19) (attr_expr (place 2 11) (var_expr (place 2 7) (codes "time")) (codes "time_ns")) end_exprs) end_exprs)))) end_suite)); count = 2 }
 
 abbrev pub r_failing_clock_capture : Capture
-r_failing_clock_capture = record { answers = (record { at = (place 2 19); k = 1; what = time; given = failed } ∷ []); files = ([]) }
+r_failing_clock_capture = record { answers = (record { at = (place 2 19); k = 1; what = time; given = failed } ∷ []); files = ([]); ends = silent }
 
 abbrev pub r_failing_clock_run : Run
 r_failing_clock_run = run r_failing_clock_tree (codes "s.py") ([]) r_failing_clock_capture 1000000

@@ -13,13 +13,13 @@ use Rattle.py_model.specs.Capture.{Capture, opening_in}
 use Rattle.py_model.specs.Meaning.{Run, run, level, finished}
 use Rattle.py_model.specs.Moment.{begins, does, ends, normal_end, raise_end}
 use Rattle.py_model.specs.Plan.{value, raised, at_end, found_bytes, absent, too_large, found_failed}
-use Rattle.py_vectors.specs.Words.{place, no_span, summary, evaluated}
+use Rattle.py_vectors.specs.Words.{place, no_span, silent, summary, evaluated}
 
 abbrev pub r_files_at_length_tree : ScriptTree
 r_files_at_length_tree = record { body = (more_suite (one_stmt 0 (place 1 1) no_span (assign_form (var_target (place 1 1) (codes "w")) (call_expr (place 1 9) (var_expr (place 1 5) (codes "open")) (more_exprs (const_expr (place 1 10) (text_atom (codes "new.txt"))) (more_exprs (const_expr (place 1 21) (text_atom (codes "w"))) end_exprs))))) (more_suite (one_stmt 1 (place 2 1) no_span (do_form (call_expr (place 2 6) (var_expr (place 2 1) (codes "print")) (more_exprs (call_expr (place 2 14) (attr_expr (place 2 8) (var_expr (place 2 7) (codes "w")) (codes "write")) (more_exprs (const_expr (place 2 15) (text_atom (codes "one" ++ (10 ∷ []) ++ codes "two" ++ (10 ∷ [])))) end_exprs)) (more_exprs (var_expr (place 2 30) (codes "w")) end_exprs))))) (more_suite (one_stmt 2 (place 3 1) no_span (do_form (call_expr (place 3 8) (attr_expr (place 3 2) (var_expr (place 3 1) (codes "w")) (codes "close")) end_exprs))) (more_suite (one_stmt 3 (place 4 1) no_span (with_form (call_expr (place 4 10) (var_expr (place 4 6) (codes "open")) (more_exprs (const_expr (place 4 11) (text_atom (codes "new.txt"))) (more_exprs (const_expr (place 4 22) (text_atom (codes "a"))) end_exprs))) (Some (record { at = (place 4 30); name = (codes "h") })) (more_suite (one_stmt 4 (place 5 5) no_span (do_form (call_expr (place 5 12) (attr_expr (place 5 6) (var_expr (place 5 5) (codes "h")) (codes "write")) (more_exprs (const_expr (place 5 13) (text_atom ((195 ∷ []) ++ (169 ∷ [])))) end_exprs)))) end_suite))) (more_suite (one_stmt 5 (place 6 1) no_span (with_form (call_expr (place 6 10) (var_expr (place 6 6) (codes "open")) (more_exprs (const_expr (place 6 11) (text_atom (codes "in.txt"))) end_exprs)) (Some (record { at = (place 6 24); name = (codes "h") })) (more_suite (one_stmt 6 (place 7 5) no_span (for_form (var_target (place 7 9) (codes "line")) (var_expr (place 7 17) (codes "h")) (more_suite (one_stmt 7 (place 8 9) no_span (do_form (call_expr (place 8 14) (var_expr (place 8 9) (codes "print")) (more_exprs (call_expr (place 8 19) (var_expr (place 8 15) (codes "repr")) (more_exprs (var_expr (place 8 20) (codes "line")) end_exprs)) end_exprs)))) end_suite))) (more_suite (one_stmt 8 (place 9 5) no_span (do_form (call_expr (place 9 10) (var_expr (place 9 5) (codes "print")) (more_exprs (call_expr (place 9 15) (var_expr (place 9 11) (codes "repr")) (more_exprs (call_expr (place 9 26) (attr_expr (place 9 17) (var_expr (place 9 16) (codes "h")) (codes "readline")) end_exprs) end_exprs)) end_exprs)))) end_suite)))) (more_suite (one_stmt 9 (place 10 1) no_span (assign_form (var_target (place 10 1) (codes "r")) (call_expr (place 10 9) (var_expr (place 10 5) (codes "open")) (more_exprs (const_expr (place 10 10) (text_atom (codes "new.txt"))) end_exprs)))) (more_suite (one_stmt 10 (place 11 1) no_span (do_form (call_expr (place 11 6) (var_expr (place 11 1) (codes "print")) (more_exprs (call_expr (place 11 11) (var_expr (place 11 7) (codes "repr")) (more_exprs (call_expr (place 11 22) (attr_expr (place 11 13) (var_expr (place 11 12) (codes "r")) (codes "readline")) end_exprs) end_exprs)) (more_exprs (call_expr (place 11 31) (var_expr (place 11 27) (codes "repr")) (more_exprs (call_expr (place 11 38) (attr_expr (place 11 33) (var_expr (place 11 32) (codes "r")) (codes "read")) end_exprs) end_exprs)) (more_exprs (call_expr (place 11 47) (var_expr (place 11 43) (codes "repr")) (more_exprs (call_expr (place 11 54) (attr_expr (place 11 49) (var_expr (place 11 48) (codes "r")) (codes "read")) end_exprs) end_exprs)) end_exprs)))))) (more_suite (one_stmt 11 (place 12 1) no_span (do_form (call_expr (place 12 8) (attr_expr (place 12 2) (var_expr (place 12 1) (codes "r")) (codes "close")) end_exprs))) (more_suite (one_stmt 12 (place 13 1) no_span (try_form (more_suite (one_stmt 13 (place 14 5) no_span (do_form (call_expr (place 14 11) (attr_expr (place 14 6) (var_expr (place 14 5) (codes "r")) (codes "read")) end_exprs))) end_suite) (more_handlers (Some (var_expr (place 15 8) (codes "ValueError"))) (Some (record { at = (place 15 22); name = (codes "e") })) (more_suite (one_stmt 14 (place 16 5) no_span (do_form (call_expr (place 16 10) (var_expr (place 16 5) (codes "print")) (more_exprs (var_expr (place 16 11) (codes "e")) end_exprs)))) end_suite) end_handlers))) (more_suite (one_stmt 15 (place 17 1) no_span (try_form (more_suite (one_stmt 16 (place 18 5) no_span (with_form (var_expr (place 18 10) (codes "r")) None (more_suite (one_stmt 17 (place 18 13) no_span pass_form) end_suite))) end_suite) (more_handlers (Some (var_expr (place 19 8) (codes "ValueError"))) (Some (record { at = (place 19 22); name = (codes "e") })) (more_suite (one_stmt 18 (place 20 5) no_span (do_form (call_expr (place 20 10) (var_expr (place 20 5) (codes "print")) (more_exprs (var_expr (place 20 11) (codes "e")) end_exprs)))) end_suite) end_handlers))) (more_suite (one_stmt 19 (place 21 1) no_span (for_form (var_target (place 21 5) (codes "p")) (list_expr (place 21 10) (more_exprs (const_expr (place 21 11) (text_atom (codes "none.txt"))) (more_exprs (const_expr (place 21 23) (text_atom (codes "../x"))) (more_exprs (const_expr (place 21 31) (text_atom (codes "big.txt"))) (more_exprs (const_expr (place 21 42) (text_atom (codes "bad.txt"))) (more_exprs (const_expr (place 21 53) (text_atom (codes "broken.txt"))) end_exprs)))))) (more_suite (one_stmt 20 (place 22 5) no_span (try_form (more_suite (one_stmt 21 (place 23 9) no_span (assign_form (var_target (place 23 9) (codes "f")) (call_expr (place 23 17) (var_expr (place 23 13) (codes "open")) (more_exprs (var_expr (place 23 18) (codes "p")) end_exprs)))) (more_suite (one_stmt 22 (place 24 9) no_span (do_form (call_expr (place 24 14) (var_expr (place 24 9) (codes "print")) (more_exprs (call_expr (place 24 25) (attr_expr (place 24 16) (var_expr (place 24 15) (codes "f")) (codes "readline")) end_exprs) end_exprs)))) end_suite)) (more_handlers (Some (var_expr (place 25 12) (codes "OSError"))) (Some (record { at = (place 25 23); name = (codes "e") })) (more_suite (one_stmt 23 (place 26 9) no_span (do_form (call_expr (place 26 14) (var_expr (place 26 9) (codes "print")) (more_exprs (var_expr (place 26 15) (codes "p")) (more_exprs (call_expr (place 26 22) (var_expr (place 26 18) (codes "repr")) (more_exprs (var_expr (place 26 23) (codes "e")) end_exprs)) end_exprs))))) end_suite) (more_handlers (Some (var_expr (place 27 12) (codes "ValueError"))) (Some (record { at = (place 27 26); name = (codes "e") })) (more_suite (one_stmt 24 (place 28 9) no_span (do_form (call_expr (place 28 14) (var_expr (place 28 9) (codes "print")) (more_exprs (var_expr (place 28 15) (codes "p")) (more_exprs (var_expr (place 28 18) (codes "e")) end_exprs))))) end_suite) end_handlers)))) end_suite))) (more_suite (one_stmt 25 (place 29 1) no_span (try_form (more_suite (one_stmt 26 (place 30 5) no_span (do_form (call_expr (place 30 26) (attr_expr (place 30 20) (call_expr (place 30 9) (var_expr (place 30 5) (codes "open")) (more_exprs (const_expr (place 30 10) (text_atom (codes "new.txt"))) end_exprs)) (codes "write")) (more_exprs (const_expr (place 30 27) (text_atom (codes "x"))) end_exprs)))) end_suite) (more_handlers (Some (var_expr (place 31 8) (codes "OSError"))) (Some (record { at = (place 31 19); name = (codes "e") })) (more_suite (one_stmt 27 (place 32 5) no_span (do_form (call_expr (place 32 10) (var_expr (place 32 5) (codes "print")) (more_exprs (var_expr (place 32 11) (codes "e")) end_exprs)))) end_suite) end_handlers))) (more_suite (one_stmt 28 (place 33 1) no_span (assign_form (var_target (place 33 1) (codes "a")) (call_expr (place 33 9) (var_expr (place 33 5) (codes "open")) (more_exprs (const_expr (place 33 10) (text_atom (codes "big.txt"))) (more_exprs (const_expr (place 33 21) (text_atom (codes "w"))) end_exprs))))) (more_suite (one_stmt 29 (place 34 1) no_span (do_form (call_expr (place 34 8) (attr_expr (place 34 2) (var_expr (place 34 1) (codes "a")) (codes "write")) (more_exprs (const_expr (place 34 9) (text_atom (codes "small now"))) end_exprs)))) (more_suite (one_stmt 30 (place 35 1) no_span (do_form (call_expr (place 35 6) (var_expr (place 35 1) (codes "print")) (more_exprs (call_expr (place 35 32) (attr_expr (place 35 27) (call_expr (place 35 11) (var_expr (place 35 7) (codes "open")) (more_exprs (const_expr (place 35 12) (text_atom (codes "big.txt"))) (more_exprs (const_expr (place 35 23) (text_atom (codes "r"))) end_exprs))) (codes "read")) end_exprs) end_exprs)))) end_suite))))))))))))))); count = 31 }
 
 abbrev pub r_files_at_length_capture : Capture
-r_files_at_length_capture = record { answers = ([]); files = (((codes "bad.txt"), (found_bytes ((255 ∷ []) ++ (254 ∷ [])))) ∷ ((codes "big.txt"), too_large) ∷ ((codes "broken.txt"), found_failed) ∷ ((codes "in.txt"), (found_bytes (codes "alpha" ++ (10 ∷ []) ++ codes "beta" ++ (13 ∷ []) ++ (10 ∷ []) ++ codes "gamma"))) ∷ ((codes "none.txt"), absent) ∷ []) }
+r_files_at_length_capture = record { answers = ([]); files = (((codes "bad.txt"), (found_bytes ((255 ∷ []) ++ (254 ∷ [])))) ∷ ((codes "big.txt"), too_large) ∷ ((codes "broken.txt"), found_failed) ∷ ((codes "in.txt"), (found_bytes (codes "alpha" ++ (10 ∷ []) ++ codes "beta" ++ (13 ∷ []) ++ (10 ∷ []) ++ codes "gamma"))) ∷ ((codes "none.txt"), absent) ∷ []); ends = silent }
 
 abbrev pub r_files_at_length_run : Run
 r_files_at_length_run = run r_files_at_length_tree (codes "s.py") ([]) r_files_at_length_capture 1000000

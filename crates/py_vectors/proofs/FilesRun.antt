@@ -13,14 +13,14 @@ use Rattle.py_model.specs.Capture.{Capture, opening_in}
 use Rattle.py_model.specs.Meaning.{Run, run, level, finished}
 use Rattle.py_model.specs.Moment.{begins, does, ends, normal_end}
 use Rattle.py_model.specs.Plan.{value}
-use Rattle.py_vectors.specs.Words.{place, no_span, summary, evaluated, kept, depends, replayed}
+use Rattle.py_vectors.specs.Words.{place, no_span, silent, summary, evaluated, kept, depends, replayed}
 use Rattle.slice_law.specs.Edges.{edge, by_data}
 
 abbrev pub r_files_tree : ScriptTree
 r_files_tree = record { body = (more_suite (one_stmt 0 (place 1 1) no_span (assign_form (var_target (place 1 1) (codes "f")) (call_expr (place 1 9) (var_expr (place 1 5) (codes "open")) (more_exprs (const_expr (place 1 10) (text_atom (codes "out.txt"))) (more_exprs (const_expr (place 1 21) (text_atom (codes "w"))) end_exprs))))) (more_suite (one_stmt 1 (place 2 1) no_span (do_form (call_expr (place 2 8) (attr_expr (place 2 2) (var_expr (place 2 1) (codes "f")) (codes "write")) (more_exprs (const_expr (place 2 9) (text_atom (codes "one" ++ (10 ∷ [])))) end_exprs)))) (more_suite (one_stmt 2 (place 3 1) no_span (do_form (call_expr (place 3 8) (attr_expr (place 3 2) (var_expr (place 3 1) (codes "f")) (codes "close")) end_exprs))) (more_suite (one_stmt 3 (place 4 1) no_span (assign_form (var_target (place 4 1) (codes "g")) (call_expr (place 4 9) (var_expr (place 4 5) (codes "open")) (more_exprs (const_expr (place 4 10) (text_atom (codes "log.txt"))) (more_exprs (const_expr (place 4 21) (text_atom (codes "w"))) end_exprs))))) (more_suite (one_stmt 4 (place 5 1) no_span (do_form (call_expr (place 5 8) (attr_expr (place 5 2) (var_expr (place 5 1) (codes "g")) (codes "write")) (more_exprs (const_expr (place 5 9) (text_atom (codes "x" ++ (10 ∷ [])))) end_exprs)))) (more_suite (one_stmt 5 (place 6 1) no_span (do_form (call_expr (place 6 8) (attr_expr (place 6 2) (var_expr (place 6 1) (codes "g")) (codes "close")) end_exprs))) (more_suite (one_stmt 6 (place 7 1) no_span (assign_form (var_target (place 7 1) (codes "f")) (call_expr (place 7 9) (var_expr (place 7 5) (codes "open")) (more_exprs (const_expr (place 7 10) (text_atom (codes "out.txt"))) (more_exprs (const_expr (place 7 21) (text_atom (codes "a"))) end_exprs))))) (more_suite (one_stmt 7 (place 8 1) no_span (do_form (call_expr (place 8 8) (attr_expr (place 8 2) (var_expr (place 8 1) (codes "f")) (codes "write")) (more_exprs (const_expr (place 8 9) (text_atom (codes "two" ++ (10 ∷ [])))) end_exprs)))) (more_suite (one_stmt 8 (place 9 1) no_span (do_form (call_expr (place 9 8) (attr_expr (place 9 2) (var_expr (place 9 1) (codes "f")) (codes "close")) end_exprs))) (more_suite (one_stmt 9 (place 10 1) no_span (assign_form (var_target (place 10 1) (codes "h")) (call_expr (place 10 9) (var_expr (place 10 5) (codes "open")) (more_exprs (const_expr (place 10 10) (text_atom (codes "out.txt"))) end_exprs)))) (more_suite (one_stmt 10 (place 11 1) no_span (assign_form (var_target (place 11 1) (codes "t")) (call_expr (place 11 11) (attr_expr (place 11 6) (var_expr (place 11 5) (codes "h")) (codes "read")) end_exprs))) (more_suite (one_stmt 11 (place 12 1) no_span (do_form (call_expr (place 12 6) (var_expr (place 12 1) (codes "print")) (more_exprs (var_expr (place 12 7) (codes "t")) end_exprs)))) end_suite)))))))))))); count = 12 }
 
 abbrev pub r_files_capture : Capture
-r_files_capture = record { answers = ([]); files = ([]) }
+r_files_capture = record { answers = ([]); files = ([]); ends = silent }
 
 abbrev pub r_files_run : Run
 r_files_run = run r_files_tree (codes "s.py") ([]) r_files_capture 1000000

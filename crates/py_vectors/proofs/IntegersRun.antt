@@ -13,13 +13,13 @@ use Rattle.py_model.specs.Capture.{Capture, opening_in}
 use Rattle.py_model.specs.Meaning.{Run, run, level, uncaught}
 use Rattle.py_model.specs.Moment.{begins, does, ends, raise_end}
 use Rattle.py_model.specs.Plan.{value, raised}
-use Rattle.py_vectors.specs.Words.{place, no_span, summary, evaluated, kept, replayed}
+use Rattle.py_vectors.specs.Words.{place, no_span, silent, summary, evaluated, kept, replayed}
 
 abbrev pub r_integers_tree : ScriptTree
 r_integers_tree = record { body = (more_suite (one_stmt 0 (place 1 1) no_span (assign_form (var_target (place 1 1) (codes "x")) (binary_expr (place 1 25) Add (const_expr (place 1 5) (int_atom (pos 9223372036854775807))) (const_expr (place 1 27) (int_atom (pos 1)))))) end_suite); count = 1 }
 
 abbrev pub r_integers_capture : Capture
-r_integers_capture = record { answers = ([]); files = ([]) }
+r_integers_capture = record { answers = ([]); files = ([]); ends = silent }
 
 abbrev pub r_integers_run : Run
 r_integers_run = run r_integers_tree (codes "s.py") ([]) r_integers_capture 1000000

@@ -14,14 +14,14 @@ use Rattle.py_model.specs.Capture.{Capture, opening_in}
 use Rattle.py_model.specs.Meaning.{Run, run, level, finished}
 use Rattle.py_model.specs.Moment.{begins, does, ends, normal_end, break_end}
 use Rattle.py_model.specs.Plan.{value}
-use Rattle.py_vectors.specs.Words.{place, no_span, summary, evaluated, kept, depends, replayed}
+use Rattle.py_vectors.specs.Words.{place, no_span, silent, summary, evaluated, kept, depends, replayed}
 use Rattle.slice_law.specs.Edges.{edge, by_data, by_control, by_jump}
 
 abbrev pub r_jump_tree : ScriptTree
 r_jump_tree = record { body = (more_suite (one_stmt 0 (place 1 1) no_span (assign_form (var_target (place 1 1) (codes "i")) (const_expr (place 1 5) (int_atom (pos 0))))) (more_suite (one_stmt 1 (place 2 1) no_span (assign_form (var_target (place 2 1) (codes "t")) (const_expr (place 2 5) (int_atom (pos 0))))) (more_suite (one_stmt 2 (place 3 1) no_span (while_form (const_expr (place 3 7) (truth_atom true)) (more_suite (one_stmt 3 (place 4 5) no_span (aug_form (var_target (place 4 5) (codes "i")) Add (place 4 7) (const_expr (place 4 10) (int_atom (pos 1))))) (more_suite (one_stmt 4 (place 5 5) no_span (if_form (more_branches (compare_expr (place 5 10) Eq (var_expr (place 5 8) (codes "i")) (const_expr (place 5 13) (int_atom (pos 3)))) (more_suite (one_stmt 5 (place 6 9) no_span break_form) end_suite) end_branches) no_else)) (more_suite (one_stmt 6 (place 7 5) no_span (assign_form (var_target (place 7 5) (codes "t")) (var_expr (place 7 9) (codes "i")))) end_suite))))) (more_suite (one_stmt 7 (place 8 1) no_span (do_form (call_expr (place 8 6) (var_expr (place 8 1) (codes "print")) (more_exprs (var_expr (place 8 7) (codes "i")) end_exprs)))) end_suite)))); count = 8 }
 
 abbrev pub r_jump_capture : Capture
-r_jump_capture = record { answers = ([]); files = ([]) }
+r_jump_capture = record { answers = ([]); files = ([]); ends = silent }
 
 abbrev pub r_jump_run : Run
 r_jump_run = run r_jump_tree (codes "s.py") ([]) r_jump_capture 1000000

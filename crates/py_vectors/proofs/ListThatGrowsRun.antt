@@ -10,13 +10,13 @@ use Rattle.py_tree.specs.Tree.{const_expr, var_expr, compare_expr, call_expr, at
 use Rattle.py_model.specs.Capture.{Capture}
 use Rattle.py_model.specs.Meaning.{Run, run, level, finished}
 use Rattle.py_model.specs.Moment.{normal_end}
-use Rattle.py_vectors.specs.Words.{place, no_span, summary, endings}
+use Rattle.py_vectors.specs.Words.{place, no_span, silent, summary, endings}
 
 abbrev pub r_list_that_grows_tree : ScriptTree
 r_list_that_grows_tree = record { body = (more_suite (one_stmt 0 (place 1 1) no_span (assign_form (var_target (place 1 1) (codes "xs")) (list_expr (place 1 6) (more_exprs (const_expr (place 1 7) (int_atom (pos 1))) (more_exprs (const_expr (place 1 10) (int_atom (pos 2))) end_exprs))))) (more_suite (one_stmt 1 (place 2 1) no_span (for_form (var_target (place 2 5) (codes "x")) (var_expr (place 2 10) (codes "xs")) (more_suite (one_stmt 2 (place 3 5) no_span (if_form (more_branches (compare_expr (place 3 10) Eq (var_expr (place 3 8) (codes "x")) (const_expr (place 3 13) (int_atom (pos 1)))) (more_suite (one_stmt 3 (place 4 9) no_span (do_form (call_expr (place 4 18) (attr_expr (place 4 11) (var_expr (place 4 9) (codes "xs")) (codes "append")) (more_exprs (const_expr (place 4 19) (int_atom (pos 3))) end_exprs)))) end_suite) end_branches) no_else)) (more_suite (one_stmt 4 (place 5 5) no_span (do_form (call_expr (place 5 10) (var_expr (place 5 5) (codes "print")) (more_exprs (var_expr (place 5 11) (codes "x")) end_exprs)))) end_suite)))) end_suite)); count = 5 }
 
 abbrev pub r_list_that_grows_capture : Capture
-r_list_that_grows_capture = record { answers = ([]); files = ([]) }
+r_list_that_grows_capture = record { answers = ([]); files = ([]); ends = silent }
 
 abbrev pub r_list_that_grows_run : Run
 r_list_that_grows_run = run r_list_that_grows_tree (codes "s.py") ([]) r_list_that_grows_capture 1000

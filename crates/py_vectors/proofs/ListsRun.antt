@@ -15,13 +15,13 @@ use Rattle.py_model.specs.Capture.{Capture, opening_in}
 use Rattle.py_model.specs.Meaning.{Run, run, level, finished}
 use Rattle.py_model.specs.Moment.{begins, does, ends, normal_end, continue_end, raise_end}
 use Rattle.py_model.specs.Plan.{value, raised, at_end}
-use Rattle.py_vectors.specs.Words.{place, no_span, summary, evaluated}
+use Rattle.py_vectors.specs.Words.{place, no_span, silent, summary, evaluated}
 
 abbrev pub r_lists_tree : ScriptTree
 r_lists_tree = record { body = (more_suite (one_stmt 0 (place 1 1) no_span (assign_form (var_target (place 1 1) (codes "a")) (list_expr (place 1 5) (more_exprs (const_expr (place 1 6) (int_atom (pos 3))) (more_exprs (const_expr (place 1 9) (int_atom (pos 1))) (more_exprs (const_expr (place 1 12) (int_atom (pos 2))) end_exprs)))))) (more_suite (one_stmt 1 (place 2 1) no_span (assign_form (var_target (place 2 1) (codes "b")) (var_expr (place 2 5) (codes "a")))) (more_suite (one_stmt 2 (place 3 1) no_span (aug_form (var_target (place 3 1) (codes "a")) Add (place 3 3) (list_expr (place 3 6) (more_exprs (const_expr (place 3 7) (int_atom (pos 5))) end_exprs)))) (more_suite (one_stmt 3 (place 4 1) no_span (do_form (call_expr (place 4 9) (attr_expr (place 4 2) (var_expr (place 4 1) (codes "a")) (codes "append")) (more_exprs (const_expr (place 4 10) (int_atom (pos 4))) end_exprs)))) (more_suite (one_stmt 4 (place 5 1) no_span (do_form (call_expr (place 5 9) (attr_expr (place 5 2) (var_expr (place 5 1) (codes "a")) (codes "extend")) (more_exprs (tuple_expr (place 5 12) (more_exprs (const_expr (place 5 11) (int_atom (pos 7))) (more_exprs (const_expr (place 5 14) (int_atom (pos 8))) end_exprs))) end_exprs)))) (more_suite (one_stmt 5 (place 6 1) no_span (do_form (call_expr (place 6 9) (attr_expr (place 6 2) (var_expr (place 6 1) (codes "a")) (codes "insert")) (more_exprs (const_expr (place 6 10) (int_atom (pos 1))) (more_exprs (const_expr (place 6 13) (int_atom (pos 9))) end_exprs))))) (more_suite (one_stmt 6 (place 7 1) no_span (do_form (call_expr (place 7 9) (attr_expr (place 7 2) (var_expr (place 7 1) (codes "a")) (codes "insert")) (more_exprs (unary_expr (place 7 10) Minus (const_expr (place 7 11) (int_atom (pos 100)))) (more_exprs (const_expr (place 7 16) (int_atom (pos 0))) end_exprs))))) (more_suite (one_stmt 7 (place 8 1) no_span (do_form (call_expr (place 8 6) (var_expr (place 8 1) (codes "print")) (more_exprs (call_expr (place 8 12) (attr_expr (place 8 8) (var_expr (place 8 7) (codes "a")) (codes "pop")) end_exprs) (more_exprs (call_expr (place 8 21) (attr_expr (place 8 17) (var_expr (place 8 16) (codes "a")) (codes "pop")) (more_exprs (const_expr (place 8 22) (int_atom (pos 0))) end_exprs)) (more_exprs (call_expr (place 8 33) (attr_expr (place 8 27) (var_expr (place 8 26) (codes "a")) (codes "index")) (more_exprs (const_expr (place 8 34) (int_atom (pos 9))) end_exprs)) (more_exprs (var_expr (place 8 38) (codes "a")) end_exprs))))))) (more_suite (one_stmt 8 (place 9 1) no_span (do_form (call_expr (place 9 10) (attr_expr (place 9 2) (var_expr (place 9 1) (codes "a")) (codes "reverse")) end_exprs))) (more_suite (one_stmt 9 (place 10 1) no_span (do_form (call_expr (place 10 6) (var_expr (place 10 1) (codes "print")) (more_exprs (var_expr (place 10 7) (codes "a")) (more_exprs (compare_expr (place 10 12) Is (var_expr (place 10 10) (codes "b")) (var_expr (place 10 15) (codes "a"))) (more_exprs (call_expr (place 10 21) (var_expr (place 10 18) (codes "len")) (more_exprs (var_expr (place 10 22) (codes "b")) end_exprs)) end_exprs)))))) (more_suite (one_stmt 10 (place 11 1) no_span (do_form (call_expr (place 11 7) (attr_expr (place 11 2) (var_expr (place 11 1) (codes "a")) (codes "sort")) end_exprs))) (more_suite (one_stmt 11 (place 12 1) no_span (do_form (call_expr (place 12 6) (var_expr (place 12 1) (codes "print")) (more_exprs (var_expr (place 12 7) (codes "a")) (more_exprs (call_expr (place 12 16) (var_expr (place 12 10) (codes "sorted")) (more_exprs (list_expr (place 12 17) (more_exprs (tuple_expr (place 12 20) (more_exprs (const_expr (place 12 19) (int_atom (pos 2))) (more_exprs (const_expr (place 12 22) (text_atom (codes "b"))) end_exprs))) (more_exprs (tuple_expr (place 12 30) (more_exprs (const_expr (place 12 29) (int_atom (pos 1))) (more_exprs (const_expr (place 12 32) (text_atom (codes "z"))) end_exprs))) (more_exprs (tuple_expr (place 12 40) (more_exprs (const_expr (place 12 39) (int_atom (pos 2))) (more_exprs (const_expr (place 12 42) (text_atom (codes "a"))) end_exprs))) end_exprs)))) end_exprs)) (more_exprs (range_expr (place 12 51) (var_expr (place 12 50) (codes "a")) (some_expr (const_expr (place 12 52) (int_atom (pos 1)))) (some_expr (const_expr (place 12 54) (int_atom (pos 3))))) (more_exprs (range_expr (place 12 59) (var_expr (place 12 58) (codes "a")) (some_expr (unary_expr (place 12 60) Minus (const_expr (place 12 61) (int_atom (pos 2))))) no_expr) (more_exprs (range_expr (place 12 67) (var_expr (place 12 66) (codes "a")) no_expr no_expr) end_exprs)))))))) (more_suite (one_stmt 12 (place 13 1) no_span (del_form (part_target (place 13 6) (var_expr (place 13 5) (codes "a")) (const_expr (place 13 7) (int_atom (pos 0)))))) (more_suite (one_stmt 13 (place 14 1) no_span (assign_form (part_target (place 14 2) (var_expr (place 14 1) (codes "a")) (const_expr (place 14 3) (int_atom (pos 0)))) (const_expr (place 14 8) (text_atom (codes "first"))))) (more_suite (one_stmt 14 (place 15 1) no_span (aug_form (part_target (place 15 2) (var_expr (place 15 1) (codes "a")) (unary_expr (place 15 3) Minus (const_expr (place 15 4) (int_atom (pos 1))))) Add (place 15 7) (const_expr (place 15 10) (int_atom (pos 1))))) (more_suite (one_stmt 15 (place 16 1) no_span (do_form (call_expr (place 16 6) (var_expr (place 16 1) (codes "print")) (more_exprs (binary_expr (place 16 9) Add (var_expr (place 16 7) (codes "a")) (list_expr (place 16 11) (more_exprs (const_expr (place 16 12) (int_atom (pos 1))) end_exprs))) (more_exprs (binary_expr (place 16 20) Mul (list_expr (place 16 16) (more_exprs (const_expr (place 16 17) (int_atom (pos 0))) end_exprs)) (const_expr (place 16 22) (int_atom (pos 3)))) (more_exprs (binary_expr (place 16 27) Mul (const_expr (place 16 25) (int_atom (pos 2))) (list_expr (place 16 29) (more_exprs (const_expr (place 16 30) (int_atom (pos 1))) (more_exprs (const_expr (place 16 33) (int_atom (pos 2))) end_exprs)))) (more_exprs (compare_expr (place 16 39) Eq (var_expr (place 16 37) (codes "a")) (var_expr (place 16 42) (codes "b"))) (more_exprs (compare_expr (place 16 54) Eq (list_expr (place 16 45) (more_exprs (const_expr (place 16 46) (int_atom (pos 1))) (more_exprs (list_expr (place 16 49) (more_exprs (const_expr (place 16 50) (int_atom (pos 2))) end_exprs)) end_exprs))) (list_expr (place 16 57) (more_exprs (const_expr (place 16 58) (int_atom (pos 1))) (more_exprs (list_expr (place 16 61) (more_exprs (const_expr (place 16 62) (int_atom (pos 2))) end_exprs)) end_exprs)))) (more_exprs (compare_expr (place 16 74) Lt (list_expr (place 16 67) (more_exprs (const_expr (place 16 68) (int_atom (pos 1))) (more_exprs (const_expr (place 16 71) (int_atom (pos 2))) end_exprs))) (list_expr (place 16 76) (more_exprs (const_expr (place 16 77) (int_atom (pos 1))) (more_exprs (const_expr (place 16 80) (int_atom (pos 3))) end_exprs)))) end_exprs))))))))) (more_suite (one_stmt 16 (place 17 1) no_span (do_form (call_expr (place 17 6) (var_expr (place 17 1) (codes "print")) (more_exprs (call_expr (place 17 11) (var_expr (place 17 7) (codes "list")) (more_exprs (const_expr (place 17 12) (text_atom (codes "ab"))) end_exprs)) (more_exprs (call_expr (place 17 23) (var_expr (place 17 19) (codes "list")) (more_exprs (dict_expr (place 17 24) (more_pairs (const_expr (place 17 25) (text_atom (codes "k"))) (const_expr (place 17 30) (int_atom (pos 1))) end_pairs)) end_exprs)) (more_exprs (call_expr (place 17 39) (var_expr (place 17 35) (codes "list")) (more_exprs (call_expr (place 17 45) (var_expr (place 17 40) (codes "range")) (more_exprs (const_expr (place 17 46) (int_atom (pos 3))) end_exprs)) end_exprs)) (more_exprs (call_expr (place 17 56) (var_expr (place 17 51) (codes "tuple")) (more_exprs (list_expr (place 17 57) (more_exprs (const_expr (place 17 58) (int_atom (pos 1))) (more_exprs (const_expr (place 17 61) (int_atom (pos 2))) end_exprs))) end_exprs)) (more_exprs (call_expr (place 17 75) (var_expr (place 17 66) (codes "enumerate")) (more_exprs (const_expr (place 17 76) (text_atom (codes "ab"))) end_exprs)) (more_exprs (call_expr (place 17 86) (var_expr (place 17 83) (codes "zip")) (more_exprs (list_expr (place 17 87) (more_exprs (const_expr (place 17 88) (int_atom (pos 1))) (more_exprs (const_expr (place 17 91) (int_atom (pos 2))) end_exprs))) (more_exprs (const_expr (place 17 95) (text_atom (codes "ab"))) end_exprs))) end_exprs))))))))) (more_suite (one_stmt 17 (place 18 1) no_span (for_form (var_target (place 18 5) (codes "i")) (var_expr (place 18 10) (codes "a")) (more_suite (one_stmt 18 (place 19 5) no_span (if_form (more_branches (compare_expr (place 19 10) Eq (var_expr (place 19 8) (codes "i")) (const_expr (place 19 13) (int_atom (pos 5)))) (more_suite (one_stmt 19 (place 20 9) no_span continue_form) end_suite) end_branches) no_else)) (more_suite (one_stmt 20 (place 21 5) no_span (if_form (more_branches (compare_expr (place 21 15) Lt (call_expr (place 21 11) (var_expr (place 21 8) (codes "len")) (more_exprs (var_expr (place 21 12) (codes "a")) end_exprs)) (const_expr (place 21 17) (int_atom (pos 8)))) (more_suite (one_stmt 21 (place 22 9) no_span (do_form (call_expr (place 22 17) (attr_expr (place 22 10) (var_expr (place 22 9) (codes "a")) (codes "append")) (more_exprs (const_expr (place 22 18) (int_atom (pos 0))) end_exprs)))) end_suite) end_branches) no_else)) end_suite)))) (more_suite (one_stmt 22 (place 23 1) no_span (do_form (call_expr (place 23 6) (var_expr (place 23 1) (codes "print")) (more_exprs (var_expr (place 23 7) (codes "a")) (more_exprs (compare_expr (place 23 12) In (const_expr (place 23 10) (int_atom (pos 2))) (var_expr (place 23 15) (codes "a"))) (more_exprs (compare_expr (place 23 21) NotIn (const_expr (place 23 18) (int_atom (pos 99))) (var_expr (place 23 28) (codes "a"))) (more_exprs (call_expr (place 23 34) (var_expr (place 23 31) (codes "max")) (more_exprs (list_expr (place 23 35) (more_exprs (const_expr (place 23 36) (text_atom (codes "a"))) (more_exprs (const_expr (place 23 41) (text_atom (codes "b"))) end_exprs))) end_exprs)) (more_exprs (call_expr (place 23 51) (var_expr (place 23 48) (codes "min")) (more_exprs (tuple_expr (place 23 54) (more_exprs (const_expr (place 23 53) (int_atom (pos 4))) (more_exprs (const_expr (place 23 56) (int_atom (pos 3))) end_exprs))) end_exprs)) end_exprs)))))))) (more_suite (one_stmt 23 (place 24 1) no_span (try_form (more_suite (one_stmt 24 (place 25 5) no_span (do_form (call_expr (place 25 10) (var_expr (place 25 5) (codes "print")) (more_exprs (part_expr (place 25 12) (var_expr (place 25 11) (codes "a")) (const_expr (place 25 13) (int_atom (pos 100)))) end_exprs)))) end_suite) (more_handlers (Some (var_expr (place 26 8) (codes "IndexError"))) (Some (record { at = (place 26 22); name = (codes "e") })) (more_suite (one_stmt 25 (place 27 5) no_span (do_form (call_expr (place 27 10) (var_expr (place 27 5) (codes "print")) (more_exprs (var_expr (place 27 11) (codes "e")) end_exprs)))) end_suite) end_handlers))) (more_suite (one_stmt 26 (place 28 1) no_span (try_form (more_suite (one_stmt 27 (place 29 5) no_span (do_form (call_expr (place 29 12) (attr_expr (place 29 6) (var_expr (place 29 5) (codes "a")) (codes "index")) (more_exprs (const_expr (place 29 13) (text_atom (codes "none"))) end_exprs)))) end_suite) (more_handlers (Some (var_expr (place 30 8) (codes "ValueError"))) (Some (record { at = (place 30 22); name = (codes "e") })) (more_suite (one_stmt 28 (place 31 5) no_span (do_form (call_expr (place 31 10) (var_expr (place 31 5) (codes "print")) (more_exprs (var_expr (place 31 11) (codes "e")) end_exprs)))) end_suite) end_handlers))) end_suite))))))))))))))))))))); count = 29 }
 
 abbrev pub r_lists_capture : Capture
-r_lists_capture = record { answers = ([]); files = ([]) }
+r_lists_capture = record { answers = ([]); files = ([]); ends = silent }
 
 abbrev pub r_lists_run : Run
 r_lists_run = run r_lists_tree (codes "s.py") ([]) r_lists_capture 1000000

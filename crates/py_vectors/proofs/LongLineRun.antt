@@ -11,13 +11,13 @@ use Rattle.py_model.specs.Capture.{Capture, opening_in}
 use Rattle.py_model.specs.Meaning.{Run, run, level, out_of_steps}
 use Rattle.py_model.specs.Moment.{begins, does}
 use Rattle.py_model.specs.Plan.{value, line, a_line}
-use Rattle.py_vectors.specs.Words.{place, no_span, summary, evaluated, kept, replayed}
+use Rattle.py_vectors.specs.Words.{place, no_span, silent, summary, evaluated, kept, replayed}
 
 abbrev pub r_long_line_tree : ScriptTree
 r_long_line_tree = record { body = (more_suite (one_stmt 0 (place 1 1) no_span (assign_form (var_target (place 1 1) (codes "x")) (call_expr (place 1 10) (var_expr (place 1 5) (codes "input")) end_exprs))) end_suite); count = 1 }
 
 abbrev pub r_long_line_capture : Capture
-r_long_line_capture = record { answers = (record { at = (place 1 10); k = 1; what = line; given = (a_line (codes "xxxxxxxxxxxxxxxxxxxxxxxxxxxxxxxxxxxxxxxxxxxxxxxxxxxxxxxxxxxxxxxxxxxxxxxxxxxxxxxxxxxxxxxxxxxxxxxxxxxx")) } ∷ []); files = ([]) }
+r_long_line_capture = record { answers = (record { at = (place 1 10); k = 1; what = line; given = (a_line (codes "xxxxxxxxxxxxxxxxxxxxxxxxxxxxxxxxxxxxxxxxxxxxxxxxxxxxxxxxxxxxxxxxxxxxxxxxxxxxxxxxxxxxxxxxxxxxxxxxxxxx")) } ∷ []); files = ([]); ends = silent }
 
 abbrev pub r_long_line_run : Run
 r_long_line_run = run r_long_line_tree (codes "s.py") ([]) r_long_line_capture 5

@@ -12,14 +12,14 @@ use Rattle.py_model.specs.Capture.{Capture, opening_in}
 use Rattle.py_model.specs.Meaning.{Run, run, level, finished}
 use Rattle.py_model.specs.Moment.{begins, does, enters, leaves, ends, normal_end, return_end, raise_end}
 use Rattle.py_model.specs.Plan.{value, raised}
-use Rattle.py_vectors.specs.Words.{place, no_span, summary, evaluated, kept, depends, replayed}
+use Rattle.py_vectors.specs.Words.{place, no_span, silent, summary, evaluated, kept, depends, replayed}
 use Rattle.slice_law.specs.Edges.{edge, by_data, by_name, by_control, by_jump}
 
 abbrev pub r_name_tree : ScriptTree
 r_name_tree = record { body = (more_suite (one_stmt 0 (place 1 1) no_span (assign_form (var_target (place 1 1) (codes "x")) (const_expr (place 1 5) (text_atom (codes "global"))))) (more_suite (one_stmt 1 (place 2 1) no_span (def_form (codes "f") ([]) ([]) (more_suite (one_stmt 2 (place 3 5) no_span (try_form (more_suite (one_stmt 3 (place 4 9) no_span (assign_form (var_target (place 4 9) (codes "y")) (var_expr (place 4 13) (codes "x")))) end_suite) (more_handlers (Some (var_expr (place 5 12) (codes "UnboundLocalError"))) None (more_suite (one_stmt 4 (place 6 9) no_span (assign_form (var_target (place 6 9) (codes "y")) (const_expr (place 6 13) (text_atom (codes "unset"))))) end_suite) end_handlers))) (more_suite (one_stmt 5 (place 7 5) no_span (assign_form (var_target (place 7 5) (codes "x")) (const_expr (place 7 9) (int_atom (pos 1))))) (more_suite (one_stmt 6 (place 8 5) no_span (return_form (Some (var_expr (place 8 12) (codes "y"))))) end_suite))))) (more_suite (one_stmt 7 (place 9 1) no_span (assign_form (var_target (place 9 1) (codes "r")) (call_expr (place 9 6) (var_expr (place 9 5) (codes "f")) end_exprs))) (more_suite (one_stmt 8 (place 10 1) no_span (do_form (call_expr (place 10 6) (var_expr (place 10 1) (codes "print")) (more_exprs (var_expr (place 10 7) (codes "r")) end_exprs)))) end_suite)))); count = 9 }
 
 abbrev pub r_name_capture : Capture
-r_name_capture = record { answers = ([]); files = ([]) }
+r_name_capture = record { answers = ([]); files = ([]); ends = silent }
 
 abbrev pub r_name_run : Run
 r_name_run = run r_name_tree (codes "s.py") ([]) r_name_capture 1000000

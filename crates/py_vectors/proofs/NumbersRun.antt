@@ -16,14 +16,14 @@ use Rattle.py_model.specs.Capture.{Capture, opening_in}
 use Rattle.py_model.specs.Meaning.{Run, run, level, finished}
 use Rattle.py_model.specs.Moment.{begins, does, ends, normal_end, raise_end}
 use Rattle.py_model.specs.Plan.{value, raised}
-use Rattle.py_vectors.specs.Words.{place, no_span, summary, evaluated, kept, depends, replayed}
+use Rattle.py_vectors.specs.Words.{place, no_span, silent, summary, evaluated, kept, depends, replayed}
 use Rattle.slice_law.specs.Edges.{edge, by_data, by_control, by_jump}
 
 abbrev pub r_numbers_tree : ScriptTree
 r_numbers_tree = record { body = (more_suite (one_stmt 0 (place 1 1) no_span (assign_form (var_target (place 1 1) (codes "a")) (const_expr (place 1 5) (int_atom (pos 7))))) (more_suite (one_stmt 1 (place 2 1) no_span (assign_form (var_target (place 2 1) (codes "b")) (unary_expr (place 2 5) Minus (const_expr (place 2 6) (int_atom (pos 2)))))) (more_suite (one_stmt 2 (place 3 1) no_span (do_form (call_expr (place 3 6) (var_expr (place 3 1) (codes "print")) (more_exprs (binary_expr (place 3 9) FloorDiv (var_expr (place 3 7) (codes "a")) (var_expr (place 3 12) (codes "b"))) (more_exprs (binary_expr (place 3 17) Mod (var_expr (place 3 15) (codes "a")) (var_expr (place 3 19) (codes "b"))) (more_exprs (binary_expr (place 3 24) Mul (var_expr (place 3 22) (codes "a")) (var_expr (place 3 26) (codes "b"))) (more_exprs (binary_expr (place 3 31) Sub (var_expr (place 3 29) (codes "a")) (var_expr (place 3 33) (codes "b"))) (more_exprs (binary_expr (place 3 38) Add (var_expr (place 3 36) (codes "a")) (var_expr (place 3 40) (codes "b"))) (more_exprs (unary_expr (place 3 43) Minus (var_expr (place 3 44) (codes "a"))) (more_exprs (unary_expr (place 3 47) Plus (const_expr (place 3 48) (truth_atom true))) end_exprs)))))))))) (more_suite (one_stmt 3 (place 4 1) no_span (do_form (call_expr (place 4 6) (var_expr (place 4 1) (codes "print")) (more_exprs (call_expr (place 4 10) (var_expr (place 4 7) (codes "abs")) (more_exprs (var_expr (place 4 11) (codes "b")) end_exprs)) (more_exprs (call_expr (place 4 18) (var_expr (place 4 15) (codes "int")) (more_exprs (const_expr (place 4 19) (text_atom (codes "  -12" ++ (10 ∷ [])))) end_exprs)) (more_exprs (call_expr (place 4 34) (var_expr (place 4 31) (codes "int")) (more_exprs (const_expr (place 4 35) (truth_atom true)) end_exprs)) (more_exprs (call_expr (place 4 46) (var_expr (place 4 42) (codes "bool")) (more_exprs (var_expr (place 4 47) (codes "a")) end_exprs)) (more_exprs (call_expr (place 4 55) (var_expr (place 4 51) (codes "bool")) (more_exprs (const_expr (place 4 56) (int_atom (pos 0))) end_exprs)) end_exprs)))))))) (more_suite (one_stmt 4 (place 5 1) no_span (do_form (call_expr (place 5 6) (var_expr (place 5 1) (codes "print")) (more_exprs (compare_expr (place 5 9) Eq (var_expr (place 5 7) (codes "a")) (const_expr (place 5 12) (int_atom (pos 7)))) (more_exprs (compare_expr (place 5 17) Ne (var_expr (place 5 15) (codes "a")) (var_expr (place 5 20) (codes "b"))) (more_exprs (compare_expr (place 5 25) Lt (var_expr (place 5 23) (codes "a")) (var_expr (place 5 27) (codes "b"))) (more_exprs (compare_expr (place 5 32) Le (var_expr (place 5 30) (codes "a")) (var_expr (place 5 35) (codes "b"))) (more_exprs (compare_expr (place 5 40) Gt (var_expr (place 5 38) (codes "a")) (var_expr (place 5 42) (codes "b"))) (more_exprs (compare_expr (place 5 47) Ge (var_expr (place 5 45) (codes "a")) (var_expr (place 5 50) (codes "b"))) end_exprs))))))))) (more_suite (one_stmt 5 (place 6 1) no_span (do_form (call_expr (place 6 6) (var_expr (place 6 1) (codes "print")) (more_exprs (unary_expr (place 6 7) Negation (var_expr (place 6 11) (codes "a"))) (more_exprs (logic_expr (place 6 16) Both (var_expr (place 6 14) (codes "a")) (var_expr (place 6 20) (codes "b"))) (more_exprs (logic_expr (place 6 25) Either (var_expr (place 6 23) (codes "b")) (var_expr (place 6 28) (codes "a"))) (more_exprs (logic_expr (place 6 33) Either (const_expr (place 6 31) (int_atom (pos 0))) (const_expr (place 6 36) (text_atom []))) (more_exprs (logic_expr (place 6 45) Both (const_expr (place 6 40) none_atom) (const_expr (place 6 49) (int_atom (pos 1)))) end_exprs)))))))) (more_suite (one_stmt 6 (place 7 1) no_span (assign_form (var_target (place 7 1) (codes "x")) (const_expr (place 7 5) (int_atom (pos 9223372036854775807))))) (more_suite (one_stmt 7 (place 8 1) no_span (try_form (more_suite (one_stmt 8 (place 9 5) no_span (do_form (call_expr (place 9 10) (var_expr (place 9 5) (codes "print")) (more_exprs (binary_expr (place 9 13) Mul (var_expr (place 9 11) (codes "x")) (const_expr (place 9 15) (int_atom (pos 2)))) end_exprs)))) end_suite) (more_handlers (Some (var_expr (place 10 8) (codes "ArithmeticError"))) (Some (record { at = (place 10 27); name = (codes "e") })) (more_suite (one_stmt 9 (place 11 5) no_span (do_form (call_expr (place 11 10) (var_expr (place 11 5) (codes "print")) (more_exprs (call_expr (place 11 15) (var_expr (place 11 11) (codes "repr")) (more_exprs (var_expr (place 11 16) (codes "e")) end_exprs)) end_exprs)))) end_suite) end_handlers))) (more_suite (one_stmt 10 (place 12 1) no_span (try_form (more_suite (one_stmt 11 (place 13 5) no_span (do_form (call_expr (place 13 10) (var_expr (place 13 5) (codes "print")) (more_exprs (binary_expr (place 13 13) Mod (var_expr (place 13 11) (codes "a")) (const_expr (place 13 15) (int_atom (pos 0)))) end_exprs)))) end_suite) (more_handlers (Some (var_expr (place 14 8) (codes "ZeroDivisionError"))) (Some (record { at = (place 14 29); name = (codes "e") })) (more_suite (one_stmt 12 (place 15 5) no_span (do_form (call_expr (place 15 10) (var_expr (place 15 5) (codes "print")) (more_exprs (var_expr (place 15 11) (codes "e")) end_exprs)))) end_suite) end_handlers))) (more_suite (one_stmt 13 (place 16 1) no_span (aug_form (var_target (place 16 1) (codes "x")) Sub (place 16 3) (const_expr (place 16 6) (int_atom (pos 1))))) (more_suite (one_stmt 14 (place 17 1) no_span (aug_form (var_target (place 17 1) (codes "x")) FloorDiv (place 17 3) (const_expr (place 17 7) (int_atom (pos 3))))) (more_suite (one_stmt 15 (place 18 1) no_span (aug_form (var_target (place 18 1) (codes "x")) Mod (place 18 3) (const_expr (place 18 6) (int_atom (pos 1000))))) (more_suite (one_stmt 16 (place 19 1) no_span (aug_form (var_target (place 19 1) (codes "x")) Mul (place 19 3) (const_expr (place 19 6) (int_atom (pos 2))))) (more_suite (one_stmt 17 (place 20 1) no_span (do_form (call_expr (place 20 6) (var_expr (place 20 1) (codes "print")) (more_exprs (var_expr (place 20 7) (codes "x")) (more_exprs (call_expr (place 20 13) (var_expr (place 20 10) (codes "max")) (more_exprs (const_expr (place 20 14) (int_atom (pos 3))) (more_exprs (var_expr (place 20 17) (codes "a")) (more_exprs (var_expr (place 20 20) (codes "b")) end_exprs)))) (more_exprs (call_expr (place 20 27) (var_expr (place 20 24) (codes "min")) (more_exprs (var_expr (place 20 28) (codes "a")) (more_exprs (var_expr (place 20 31) (codes "b")) (more_exprs (const_expr (place 20 34) (truth_atom true)) end_exprs)))) (more_exprs (call_expr (place 20 44) (var_expr (place 20 41) (codes "sum")) (more_exprs (list_expr (place 20 45) (more_exprs (const_expr (place 20 46) (int_atom (pos 1))) (more_exprs (const_expr (place 20 49) (truth_atom true)) (more_exprs (unary_expr (place 20 55) Minus (const_expr (place 20 56) (int_atom (pos 3)))) end_exprs)))) end_exprs)) end_exprs))))))) end_suite)))))))))))))); count = 18 }
 
 abbrev pub r_numbers_capture : Capture
-r_numbers_capture = record { answers = ([]); files = ([]) }
+r_numbers_capture = record { answers = ([]); files = ([]); ends = silent }
 
 abbrev pub r_numbers_run : Run
 r_numbers_run = run r_numbers_tree (codes "s.py") ([]) r_numbers_capture 1000000

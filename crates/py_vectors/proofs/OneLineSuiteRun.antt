@@ -12,14 +12,14 @@ use Rattle.py_model.specs.Capture.{Capture, opening_in}
 use Rattle.py_model.specs.Meaning.{Run, run, level, finished}
 use Rattle.py_model.specs.Moment.{begins, does, ends, normal_end}
 use Rattle.py_model.specs.Plan.{value}
-use Rattle.py_vectors.specs.Words.{place, no_span, summary, evaluated, kept, depends, replayed}
+use Rattle.py_vectors.specs.Words.{place, no_span, silent, summary, evaluated, kept, depends, replayed}
 use Rattle.slice_law.specs.Edges.{edge, by_data, by_control}
 
 abbrev pub r_one_line_suite_tree : ScriptTree
 r_one_line_suite_tree = record { body = (more_suite (one_stmt 0 (place 1 1) no_span (assign_form (var_target (place 1 1) (codes "x")) (const_expr (place 1 5) (int_atom (pos 0))))) (more_suite (one_stmt 1 (place 2 1) no_span (assign_form (var_target (place 2 1) (codes "y")) (const_expr (place 2 5) (int_atom (pos 5))))) (more_suite (one_stmt 2 (place 3 1) no_span (if_form (more_branches (var_expr (place 3 4) (codes "x")) (more_suite (one_stmt 3 (place 3 7) no_span (assign_form (var_target (place 3 7) (codes "y")) (const_expr (place 3 11) (int_atom (pos 1))))) end_suite) end_branches) (else_suite (more_suite (one_stmt 4 (place 4 7) no_span (assign_form (var_target (place 4 7) (codes "z")) (const_expr (place 4 11) (int_atom (pos 2))))) end_suite)))) (more_suite (one_stmt 5 (place 5 1) no_span (do_form (call_expr (place 5 6) (var_expr (place 5 1) (codes "print")) (more_exprs (var_expr (place 5 7) (codes "z")) end_exprs)))) end_suite)))); count = 6 }
 
 abbrev pub r_one_line_suite_capture : Capture
-r_one_line_suite_capture = record { answers = ([]); files = ([]) }
+r_one_line_suite_capture = record { answers = ([]); files = ([]); ends = silent }
 
 abbrev pub r_one_line_suite_run : Run
 r_one_line_suite_run = run r_one_line_suite_tree (codes "s.py") ([]) r_one_line_suite_capture 1000000

@@ -10,13 +10,13 @@ use Rattle.py_tree.specs.Tree.{const_expr, var_expr, call_expr, tuple_expr, end_
 use Rattle.py_model.specs.Capture.{Capture}
 use Rattle.py_model.specs.Meaning.{Run, run, level, finished}
 use Rattle.py_model.specs.Moment.{normal_end, raise_end}
-use Rattle.py_vectors.specs.Words.{place, no_span, summary, endings}
+use Rattle.py_vectors.specs.Words.{place, no_span, silent, summary, endings}
 
 abbrev pub r_raised_again_tree : ScriptTree
 r_raised_again_tree = record { body = (more_suite (one_stmt 0 (place 1 1) no_span (assign_form (var_target (place 1 1) (codes "n")) (const_expr (place 1 5) (int_atom (pos 0))))) (more_suite (one_stmt 1 (place 2 1) no_span (def_form (codes "f") ([]) ((codes "n") ∷ []) (more_suite (one_stmt 2 (place 4 5) no_span (aug_form (var_target (place 4 5) (codes "n")) Add (place 4 7) (const_expr (place 4 10) (int_atom (pos 1))))) (more_suite (one_stmt 3 (place 5 5) no_span (try_form (more_suite (one_stmt 4 (place 6 9) no_span (raise_form (Some (call_expr (place 6 25) (var_expr (place 6 15) (codes "ValueError")) (more_exprs (const_expr (place 6 26) (text_atom (codes "a"))) end_exprs))))) end_suite) (more_handlers None None (more_suite (one_stmt 5 (place 8 9) no_span (aug_form (var_target (place 8 9) (codes "n")) Add (place 8 11) (const_expr (place 8 14) (int_atom (pos 1))))) (more_suite (one_stmt 6 (place 9 9) no_span (raise_form None)) end_suite)) end_handlers))) end_suite)))) (more_suite (one_stmt 7 (place 10 1) no_span (try_form (more_suite (one_stmt 8 (place 11 5) no_span (do_form (call_expr (place 11 6) (var_expr (place 11 5) (codes "f")) end_exprs))) end_suite) (more_handlers (Some (tuple_expr (place 12 18) (more_exprs (var_expr (place 12 9) (codes "TypeError")) (more_exprs (var_expr (place 12 20) (codes "ValueError")) end_exprs)))) (Some (record { at = (place 12 35); name = (codes "e") })) (more_suite (one_stmt 9 (place 13 5) no_span (do_form (call_expr (place 13 10) (var_expr (place 13 5) (codes "print")) (more_exprs (var_expr (place 13 11) (codes "n")) (more_exprs (var_expr (place 13 14) (codes "e")) end_exprs))))) end_suite) end_handlers))) end_suite))); count = 10 }
 
 abbrev pub r_raised_again_capture : Capture
-r_raised_again_capture = record { answers = ([]); files = ([]) }
+r_raised_again_capture = record { answers = ([]); files = ([]); ends = silent }
 
 abbrev pub r_raised_again_run : Run
 r_raised_again_run = run r_raised_again_tree (codes "s.py") ([]) r_raised_again_capture 1000

@@ -12,14 +12,14 @@ use Rattle.py_model.specs.Capture.{Capture, opening_in}
 use Rattle.py_model.specs.Meaning.{Run, run, level, finished}
 use Rattle.py_model.specs.Moment.{begins, does, ends, normal_end}
 use Rattle.py_model.specs.Plan.{value, word, random_word}
-use Rattle.py_vectors.specs.Words.{place, no_span, summary, evaluated, kept, depends, replayed}
+use Rattle.py_vectors.specs.Words.{place, no_span, silent, summary, evaluated, kept, depends, replayed}
 use Rattle.slice_law.specs.Edges.{edge, by_data}
 
 abbrev pub r_random_tree : ScriptTree
 r_random_tree = record { body = (more_suite (one_stmt 0 (place 1 1) no_span (import_form (codes "random"))) (more_suite (one_stmt 1 (place 2 1) no_span (assign_form (var_target (place 2 1) (codes "a")) (call_expr (place 2 19) (attr_expr (place 2 11) (var_expr (place 2 5) (codes "random")) (codes "randint")) (more_exprs (const_expr (place 2 20) (int_atom (pos 1))) (more_exprs (const_expr (place 2 23) (int_atom (pos 6))) end_exprs))))) (more_suite (one_stmt 2 (place 3 1) no_span (assign_form (var_target (place 3 1) (codes "b")) (call_expr (place 3 19) (attr_expr (place 3 11) (var_expr (place 3 5) (codes "random")) (codes "randint")) (more_exprs (const_expr (place 3 20) (int_atom (pos 1))) (more_exprs (const_expr (place 3 23) (int_atom (pos 6))) end_exprs))))) (more_suite (one_stmt 3 (place 4 1) no_span (do_form (call_expr (place 4 6) (var_expr (place 4 1) (codes "print")) (more_exprs (var_expr (place 4 7) (codes "b")) end_exprs)))) end_suite)))); count = 4 }
 
 abbrev pub r_random_capture : Capture
-r_random_capture = record { answers = (record { at = (place 2 19); k = 1; what = word; given = (random_word 7) } ∷ record { at = (place 3 19); k = 1; what = word; given = (random_word 10) } ∷ []); files = ([]) }
+r_random_capture = record { answers = (record { at = (place 2 19); k = 1; what = word; given = (random_word 7) } ∷ record { at = (place 3 19); k = 1; what = word; given = (random_word 10) } ∷ []); files = ([]); ends = silent }
 
 abbrev pub r_random_run : Run
 r_random_run = run r_random_tree (codes "s.py") ([]) r_random_capture 1000000

@@ -13,14 +13,14 @@ use Rattle.py_model.specs.Capture.{Capture, opening_in}
 use Rattle.py_model.specs.Meaning.{Run, run, level, finished}
 use Rattle.py_model.specs.Moment.{begins, does, enters, leaves, ends, normal_end, return_end}
 use Rattle.py_model.specs.Plan.{value}
-use Rattle.py_vectors.specs.Words.{place, no_span, summary, evaluated, kept, depends, replayed}
+use Rattle.py_vectors.specs.Words.{place, no_span, silent, summary, evaluated, kept, depends, replayed}
 use Rattle.slice_law.specs.Edges.{edge, by_data, by_control, by_jump}
 
 abbrev pub r_repeat_tree : ScriptTree
 r_repeat_tree = record { body = (more_suite (one_stmt 0 (place 1 1) no_span (def_form (codes "twice") ((codes "n") ∷ []) ([]) (more_suite (one_stmt 1 (place 2 5) no_span (return_form (Some (binary_expr (place 2 14) Add (var_expr (place 2 12) (codes "n")) (var_expr (place 2 16) (codes "n")))))) end_suite))) (more_suite (one_stmt 2 (place 3 1) no_span (assign_form (var_target (place 3 1) (codes "a")) (call_expr (place 3 10) (var_expr (place 3 5) (codes "twice")) (more_exprs (const_expr (place 3 11) (int_atom (pos 2))) end_exprs)))) (more_suite (one_stmt 3 (place 4 1) no_span (assign_form (var_target (place 4 1) (codes "b")) (call_expr (place 4 10) (var_expr (place 4 5) (codes "twice")) (more_exprs (const_expr (place 4 11) (int_atom (pos 3))) end_exprs)))) (more_suite (one_stmt 4 (place 5 1) no_span (do_form (call_expr (place 5 6) (var_expr (place 5 1) (codes "print")) (more_exprs (var_expr (place 5 7) (codes "b")) end_exprs)))) end_suite)))); count = 5 }
 
 abbrev pub r_repeat_capture : Capture
-r_repeat_capture = record { answers = ([]); files = ([]) }
+r_repeat_capture = record { answers = ([]); files = ([]); ends = silent }
 
 abbrev pub r_repeat_run : Run
 r_repeat_run = run r_repeat_tree (codes "s.py") ([]) r_repeat_capture 1000000

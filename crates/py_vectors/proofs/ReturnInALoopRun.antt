@@ -9,13 +9,13 @@ use Rattle.py_tree.specs.Tree.{const_expr, var_expr, call_expr, list_expr, end_e
 use Rattle.py_model.specs.Capture.{Capture}
 use Rattle.py_model.specs.Meaning.{Run, run, level, finished}
 use Rattle.py_model.specs.Moment.{normal_end, return_end}
-use Rattle.py_vectors.specs.Words.{place, no_span, summary, endings}
+use Rattle.py_vectors.specs.Words.{place, no_span, silent, summary, endings}
 
 abbrev pub r_return_in_a_loop_tree : ScriptTree
 r_return_in_a_loop_tree = record { body = (more_suite (one_stmt 0 (place 1 1) no_span (def_form (codes "f") ((codes "xs") ∷ []) ([]) (more_suite (one_stmt 1 (place 2 5) no_span (for_form (var_target (place 2 9) (codes "x")) (var_expr (place 2 14) (codes "xs")) (more_suite (one_stmt 2 (place 3 9) no_span (if_form (more_branches (var_expr (place 3 12) (codes "x")) (more_suite (one_stmt 3 (place 4 13) no_span (return_form (Some (var_expr (place 4 20) (codes "x"))))) end_suite) end_branches) no_else)) end_suite))) (more_suite (one_stmt 4 (place 5 5) no_span (return_form (Some (const_expr (place 5 12) (int_atom (pos 0)))))) end_suite)))) (more_suite (one_stmt 5 (place 6 1) no_span (do_form (call_expr (place 6 6) (var_expr (place 6 1) (codes "print")) (more_exprs (call_expr (place 6 8) (var_expr (place 6 7) (codes "f")) (more_exprs (list_expr (place 6 9) (more_exprs (const_expr (place 6 10) (int_atom (pos 0))) (more_exprs (const_expr (place 6 13) (int_atom (pos 7))) end_exprs))) end_exprs)) end_exprs)))) end_suite)); count = 6 }
 
 abbrev pub r_return_in_a_loop_capture : Capture
-r_return_in_a_loop_capture = record { answers = ([]); files = ([]) }
+r_return_in_a_loop_capture = record { answers = ([]); files = ([]); ends = silent }
 
 abbrev pub r_return_in_a_loop_run : Run
 r_return_in_a_loop_run = run r_return_in_a_loop_tree (codes "s.py") ([]) r_return_in_a_loop_capture 1000

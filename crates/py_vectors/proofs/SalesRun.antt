@@ -15,13 +15,13 @@ use Rattle.py_model.specs.Capture.{Capture, opening_in}
 use Rattle.py_model.specs.Meaning.{Run, run, level, finished}
 use Rattle.py_model.specs.Moment.{begins, does, enters, leaves, ends, normal_end, return_end, raise_end}
 use Rattle.py_model.specs.Plan.{value, raised, at_end, found_bytes}
-use Rattle.py_vectors.specs.Words.{place, no_span, summary, evaluated}
+use Rattle.py_vectors.specs.Words.{place, no_span, silent, summary, evaluated}
 
 abbrev pub r_sales_tree : ScriptTree
 r_sales_tree = record { body = (more_suite (one_stmt 0 (place 1 1) no_span (do_form (const_expr (place 1 1) (text_atom (codes "Totals of sales per region."))))) (more_suite (one_stmt 1 (place 2 1) no_span (import_form (codes "sys"))) (more_suite (one_stmt 2 (place 4 1) no_span (class_form (codes "Sale") None (more_suite (one_stmt 3 (place 5 5) no_span (def_form (codes "__init__") ((codes "self") ∷ (codes "region") ∷ (codes "amount") ∷ []) ([]) (more_suite (one_stmt 4 (place 6 9) no_span (assign_form (field_target (place 6 13) (var_expr (place 6 9) (codes "self")) (codes "region")) (var_expr (place 6 23) (codes "region")))) (more_suite (one_stmt 5 (place 7 9) no_span (assign_form (field_target (place 7 13) (var_expr (place 7 9) (codes "self")) (codes "amount")) (var_expr (place 7 23) (codes "amount")))) end_suite)))) end_suite))) (more_suite (one_stmt 6 (place 9 1) no_span (class_form (codes "Report") None (more_suite (one_stmt 7 (place 10 5) no_span (def_form (codes "__init__") ((codes "self") ∷ (codes "title") ∷ []) ([]) (more_suite (one_stmt 8 (place 11 9) no_span (assign_form (field_target (place 11 13) (var_expr (place 11 9) (codes "self")) (codes "title")) (var_expr (place 11 22) (codes "title")))) (more_suite (one_stmt 9 (place 12 9) no_span (assign_form (field_target (place 12 13) (var_expr (place 12 9) (codes "self")) (codes "groups")) (dict_expr (place 12 23) end_pairs))) (more_suite (one_stmt 10 (place 13 9) no_span (assign_form (field_target (place 13 13) (var_expr (place 13 9) (codes "self")) (codes "bad")) (const_expr (place 13 20) (int_atom (pos 0))))) end_suite))))) (more_suite (one_stmt 11 (place 15 5) no_span (def_form (codes "add") ((codes "self") ∷ (codes "sale") ∷ []) ([]) (more_suite (one_stmt 12 (place 16 9) no_span (if_form (more_branches (compare_expr (place 16 24) NotIn (attr_expr (place 16 16) (var_expr (place 16 12) (codes "sale")) (codes "region")) (attr_expr (place 16 35) (var_expr (place 16 31) (codes "self")) (codes "groups"))) (more_suite (one_stmt 13 (place 17 13) no_span (assign_form (part_target (place 17 24) (attr_expr (place 17 17) (var_expr (place 17 13) (codes "self")) (codes "groups")) (attr_expr (place 17 29) (var_expr (place 17 25) (codes "sale")) (codes "region"))) (list_expr (place 17 40) end_exprs))) end_suite) end_branches) no_else)) (more_suite (one_stmt 14 (place 18 9) no_span (do_form (call_expr (place 18 40) (attr_expr (place 18 33) (part_expr (place 18 20) (attr_expr (place 18 13) (var_expr (place 18 9) (codes "self")) (codes "groups")) (attr_expr (place 18 25) (var_expr (place 18 21) (codes "sale")) (codes "region"))) (codes "append")) (more_exprs (var_expr (place 18 41) (codes "sale")) end_exprs)))) end_suite)))) (more_suite (one_stmt 15 (place 20 5) no_span (def_form (codes "total") ((codes "self") ∷ (codes "region") ∷ []) ([]) (more_suite (one_stmt 16 (place 21 9) no_span (assign_form (var_target (place 21 9) (codes "sum_")) (const_expr (place 21 16) (int_atom (pos 0))))) (more_suite (one_stmt 17 (place 22 9) no_span (for_form (var_target (place 22 13) (codes "sale")) (part_expr (place 22 32) (attr_expr (place 22 25) (var_expr (place 22 21) (codes "self")) (codes "groups")) (var_expr (place 22 33) (codes "region"))) (more_suite (one_stmt 18 (place 23 13) no_span (aug_form (var_target (place 23 13) (codes "sum_")) Add (place 23 18) (attr_expr (place 23 25) (var_expr (place 23 21) (codes "sale")) (codes "amount")))) end_suite))) (more_suite (one_stmt 19 (place 24 9) no_span (return_form (Some (var_expr (place 24 16) (codes "sum_"))))) end_suite))))) end_suite))))) (more_suite (one_stmt 20 (place 26 1) no_span (def_form (codes "read_sale") ((codes "line") ∷ []) ([]) (more_suite (one_stmt 21 (place 27 5) no_span (assign_form (var_target (place 27 5) (codes "parts")) (call_expr (place 27 31) (attr_expr (place 27 25) (call_expr (place 27 23) (attr_expr (place 27 17) (var_expr (place 27 13) (codes "line")) (codes "strip")) end_exprs) (codes "split")) (more_exprs (const_expr (place 27 32) (text_atom (codes ","))) end_exprs)))) (more_suite (one_stmt 22 (place 28 5) no_span (assign_form (var_target (place 28 5) (codes "count")) (call_expr (place 28 16) (var_expr (place 28 13) (codes "int")) (more_exprs (part_expr (place 28 22) (var_expr (place 28 17) (codes "parts")) (const_expr (place 28 23) (int_atom (pos 1)))) end_exprs)))) (more_suite (one_stmt 23 (place 29 5) no_span (assign_form (var_target (place 29 5) (codes "price")) (call_expr (place 29 16) (var_expr (place 29 13) (codes "int")) (more_exprs (part_expr (place 29 22) (var_expr (place 29 17) (codes "parts")) (const_expr (place 29 23) (int_atom (pos 2)))) end_exprs)))) (more_suite (one_stmt 24 (place 30 5) no_span (return_form (Some (call_expr (place 30 16) (var_expr (place 30 12) (codes "Sale")) (more_exprs (part_expr (place 30 22) (var_expr (place 30 17) (codes "parts")) (const_expr (place 30 23) (int_atom (pos 0)))) (more_exprs (binary_expr (place 30 33) Mul (var_expr (place 30 27) (codes "count")) (var_expr (place 30 35) (codes "price"))) end_exprs)))))) end_suite)))))) (more_suite (one_stmt 25 (place 32 1) no_span (def_form (codes "load") ((codes "path") ∷ (codes "report") ∷ []) ([]) (more_suite (one_stmt 26 (place 33 5) no_span (with_form (call_expr (place 33 14) (var_expr (place 33 10) (codes "open")) (more_exprs (var_expr (place 33 15) (codes "path")) end_exprs)) (Some (record { at = (place 33 24); name = (codes "source") })) (more_suite (one_stmt 27 (place 34 9) no_span (for_form (var_target (place 34 13) (codes "line")) (var_expr (place 34 21) (codes "source")) (more_suite (one_stmt 28 (place 35 13) no_span (try_form (more_suite (one_stmt 29 (place 36 17) no_span (assign_form (var_target (place 36 17) (codes "sale")) (call_expr (place 36 33) (var_expr (place 36 24) (codes "read_sale")) (more_exprs (var_expr (place 36 34) (codes "line")) end_exprs)))) (more_suite (one_stmt 30 (place 37 17) no_span (do_form (call_expr (place 37 27) (attr_expr (place 37 23) (var_expr (place 37 17) (codes "report")) (codes "add")) (more_exprs (var_expr (place 37 28) (codes "sale")) end_exprs)))) end_suite)) (more_handlers (Some (var_expr (place 38 20) (codes "ValueError"))) None (more_suite (one_stmt 31 (place 39 17) no_span (aug_form (field_target (place 39 23) (var_expr (place 39 17) (codes "report")) (codes "bad")) Add (place 39 28) (const_expr (place 39 31) (int_atom (pos 1))))) end_suite) end_handlers))) end_suite))) end_suite))) end_suite))) (more_suite (one_stmt 32 (place 41 1) no_span (def_form (codes "main") ([]) ([]) (more_suite (one_stmt 33 (place 42 5) no_span (assign_form (var_target (place 42 5) (codes "path")) (const_expr (place 42 12) (text_atom (codes "sales.csv"))))) (more_suite (one_stmt 34 (place 43 5) no_span (if_form (more_branches (compare_expr (place 43 22) Gt (call_expr (place 43 11) (var_expr (place 43 8) (codes "len")) (more_exprs (attr_expr (place 43 15) (var_expr (place 43 12) (codes "sys")) (codes "argv")) end_exprs)) (const_expr (place 43 24) (int_atom (pos 1)))) (more_suite (one_stmt 35 (place 44 9) no_span (assign_form (var_target (place 44 9) (codes "path")) (part_expr (place 44 24) (attr_expr (place 44 19) (var_expr (place 44 16) (codes "sys")) (codes "argv")) (const_expr (place 44 25) (int_atom (pos 1)))))) end_suite) end_branches) no_else)) (more_suite (one_stmt 36 (place 45 5) no_span (assign_form (var_target (place 45 5) (codes "report")) (call_expr (place 45 20) (var_expr (place 45 14) (codes "Report")) (more_exprs (const_expr (place 45 21) (text_atom (codes "Sales"))) end_exprs)))) (more_suite (one_stmt 37 (place 46 5) no_span (do_form (call_expr (place 46 9) (var_expr (place 46 5) (codes "load")) (more_exprs (var_expr (place 46 10) (codes "path")) (more_exprs (var_expr (place 46 16) (codes "report")) end_exprs))))) (more_suite (one_stmt 38 (place 47 5) no_span (do_form (call_expr (place 47 10) (var_expr (place 47 5) (codes "print")) (more_exprs (attr_expr (place 47 17) (var_expr (place 47 11) (codes "report")) (codes "title")) end_exprs)))) (more_suite (one_stmt 39 (place 48 5) no_span (assign_form (var_target (place 48 5) (codes "grand")) (const_expr (place 48 13) (int_atom (pos 0))))) (more_suite (one_stmt 40 (place 49 5) no_span (for_form (var_target (place 49 9) (codes "region")) (attr_expr (place 49 25) (var_expr (place 49 19) (codes "report")) (codes "groups")) (more_suite (one_stmt 41 (place 50 9) no_span (assign_form (var_target (place 50 9) (codes "total")) (call_expr (place 50 29) (attr_expr (place 50 23) (var_expr (place 50 17) (codes "report")) (codes "total")) (more_exprs (var_expr (place 50 30) (codes "region")) end_exprs)))) (more_suite (one_stmt 42 (place 51 9) no_span (do_form (call_expr (place 51 14) (var_expr (place 51 9) (codes "print")) (more_exprs (binary_expr (place 51 31) Add (call_expr (place 51 27) (attr_expr (place 51 21) (var_expr (place 51 15) (codes "region")) (codes "ljust")) (more_exprs (const_expr (place 51 28) (int_atom (pos 8))) end_exprs)) (call_expr (place 51 49) (attr_expr (place 51 43) (call_expr (place 51 36) (var_expr (place 51 33) (codes "str")) (more_exprs (var_expr (place 51 37) (codes "total")) end_exprs)) (codes "rjust")) (more_exprs (const_expr (place 51 50) (int_atom (pos 6))) end_exprs))) end_exprs)))) (more_suite (one_stmt 43 (place 52 9) no_span (aug_form (var_target (place 52 9) (codes "grand")) Add (place 52 15) (var_expr (place 52 18) (codes "total")))) end_suite))))) (more_suite (one_stmt 44 (place 53 5) no_span (do_form (call_expr (place 53 10) (var_expr (place 53 5) (codes "print")) (more_exprs (binary_expr (place 53 26) Add (call_expr (place 53 22) (attr_expr (place 53 16) (const_expr (place 53 11) (text_atom (codes "all"))) (codes "ljust")) (more_exprs (const_expr (place 53 23) (int_atom (pos 8))) end_exprs)) (call_expr (place 53 44) (attr_expr (place 53 38) (call_expr (place 53 31) (var_expr (place 53 28) (codes "str")) (more_exprs (var_expr (place 53 32) (codes "grand")) end_exprs)) (codes "rjust")) (more_exprs (const_expr (place 53 45) (int_atom (pos 6))) end_exprs))) end_exprs)))) (more_suite (one_stmt 45 (place 54 5) no_span (do_form (call_expr (place 54 10) (var_expr (place 54 5) (codes "print")) (more_exprs (const_expr (place 54 11) (text_atom (codes "bad lines:"))) (more_exprs (attr_expr (place 54 31) (var_expr (place 54 25) (codes "report")) (codes "bad")) end_exprs))))) end_suite))))))))))) (more_suite (one_stmt 46 (place 56 1) no_span (if_form (more_branches (compare_expr (place 56 13) Eq (var_expr (place 56 4) (codes "__name__")) (const_expr (place 56 16) (text_atom (codes "__main__")))) (more_suite (one_stmt 47 (place 57 5) no_span (do_form (call_expr (place 57 9) (var_expr (place 57 5) (codes "main")) end_exprs))) end_suite) end_branches) no_else)) end_suite)))))))); count = 48 }
 
 abbrev pub r_sales_capture : Capture
-r_sales_capture = record { answers = ([]); files = (((codes "sales.csv"), (found_bytes (codes "north,3,20" ++ (10 ∷ []) ++ codes "south,1,50" ++ (10 ∷ []) ++ codes "north,2,10" ++ (10 ∷ []) ++ codes "east,x,7" ++ (10 ∷ [])))) ∷ []) }
+r_sales_capture = record { answers = ([]); files = (((codes "sales.csv"), (found_bytes (codes "north,3,20" ++ (10 ∷ []) ++ codes "south,1,50" ++ (10 ∷ []) ++ codes "north,2,10" ++ (10 ∷ []) ++ codes "east,x,7" ++ (10 ∷ [])))) ∷ []); ends = silent }
 
 abbrev pub r_sales_run : Run
 r_sales_run = run r_sales_tree (codes "s.py") ([]) r_sales_capture 1000000

@@ -13,14 +13,14 @@ use Rattle.py_model.specs.Capture.{Capture, opening_in}
 use Rattle.py_model.specs.Meaning.{Run, run, level, finished}
 use Rattle.py_model.specs.Moment.{begins, does, ends, normal_end}
 use Rattle.py_model.specs.Plan.{value}
-use Rattle.py_vectors.specs.Words.{place, no_span, summary, evaluated, kept, depends, replayed}
+use Rattle.py_vectors.specs.Words.{place, no_span, silent, summary, evaluated, kept, depends, replayed}
 use Rattle.slice_law.specs.Edges.{edge, by_data}
 
 abbrev pub r_sharing_tree : ScriptTree
 r_sharing_tree = record { body = (more_suite (one_stmt 0 (place 1 1) no_span (assign_form (var_target (place 1 1) (codes "a")) (list_expr (place 1 5) (more_exprs (const_expr (place 1 6) (int_atom (pos 0))) end_exprs)))) (more_suite (one_stmt 1 (place 2 1) no_span (assign_form (part_target (place 2 2) (var_expr (place 2 1) (codes "a")) (const_expr (place 2 3) (int_atom (pos 0)))) (var_expr (place 2 8) (codes "a")))) (more_suite (one_stmt 2 (place 3 1) no_span (assign_form (var_target (place 3 1) (codes "b")) (list_expr (place 3 5) (more_exprs (list_expr (place 3 6) (more_exprs (const_expr (place 3 7) (int_atom (pos 1))) end_exprs)) (more_exprs (list_expr (place 3 11) (more_exprs (const_expr (place 3 12) (int_atom (pos 1))) end_exprs)) end_exprs))))) (more_suite (one_stmt 3 (place 4 1) no_span (assign_form (var_target (place 4 1) (codes "c")) (list_expr (place 4 5) (more_exprs (const_expr (place 4 6) (int_atom (pos 1))) end_exprs)))) (more_suite (one_stmt 4 (place 5 1) no_span (assign_form (var_target (place 5 1) (codes "d")) (list_expr (place 5 5) (more_exprs (var_expr (place 5 6) (codes "c")) (more_exprs (var_expr (place 5 9) (codes "c")) end_exprs))))) (more_suite (one_stmt 5 (place 6 1) no_span (do_form (call_expr (place 6 6) (var_expr (place 6 1) (codes "print")) (more_exprs (var_expr (place 6 7) (codes "a")) (more_exprs (compare_expr (place 6 12) Eq (var_expr (place 6 10) (codes "b")) (var_expr (place 6 15) (codes "d"))) end_exprs))))) end_suite)))))); count = 6 }
 
 abbrev pub r_sharing_capture : Capture
-r_sharing_capture = record { answers = ([]); files = ([]) }
+r_sharing_capture = record { answers = ([]); files = ([]); ends = silent }
 
 abbrev pub r_sharing_run : Run
 r_sharing_run = run r_sharing_tree (codes "s.py") ([]) r_sharing_capture 1000000

@@ -12,14 +12,14 @@ use Rattle.py_model.specs.Capture.{Capture, opening_in}
 use Rattle.py_model.specs.Meaning.{Run, run, level, finished}
 use Rattle.py_model.specs.Moment.{begins, does, ends, normal_end, raise_end}
 use Rattle.py_model.specs.Plan.{value, raised}
-use Rattle.py_vectors.specs.Words.{place, no_span, summary, evaluated, kept, depends, replayed}
+use Rattle.py_vectors.specs.Words.{place, no_span, silent, summary, evaluated, kept, depends, replayed}
 use Rattle.slice_law.specs.Edges.{edge, by_data, by_control, by_jump}
 
 abbrev pub r_try_tree : ScriptTree
 r_try_tree = record { body = (more_suite (one_stmt 0 (place 1 1) no_span (assign_form (var_target (place 1 1) (codes "a")) (const_expr (place 1 5) (int_atom (pos 5))))) (more_suite (one_stmt 1 (place 2 1) no_span (try_form (more_suite (one_stmt 2 (place 3 5) no_span (assign_form (var_target (place 3 5) (codes "b")) (call_expr (place 3 12) (var_expr (place 3 9) (codes "int")) (more_exprs (const_expr (place 3 13) (text_atom (codes "x"))) end_exprs)))) end_suite) (more_handlers (Some (var_expr (place 4 8) (codes "ValueError"))) None (more_suite (one_stmt 3 (place 5 5) no_span (assign_form (var_target (place 5 5) (codes "b")) (const_expr (place 5 9) (int_atom (pos 0))))) end_suite) end_handlers))) (more_suite (one_stmt 4 (place 6 1) no_span (do_form (call_expr (place 6 6) (var_expr (place 6 1) (codes "print")) (more_exprs (var_expr (place 6 7) (codes "a")) end_exprs)))) end_suite))); count = 5 }
 
 abbrev pub r_try_capture : Capture
-r_try_capture = record { answers = ([]); files = ([]) }
+r_try_capture = record { answers = ([]); files = ([]); ends = silent }
 
 abbrev pub r_try_run : Run
 r_try_run = run r_try_tree (codes "s.py") ([]) r_try_capture 1000000

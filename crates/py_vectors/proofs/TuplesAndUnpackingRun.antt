@@ -15,14 +15,14 @@ use Rattle.py_model.specs.Capture.{Capture, opening_in}
 use Rattle.py_model.specs.Meaning.{Run, run, level, finished}
 use Rattle.py_model.specs.Moment.{begins, does, ends, normal_end, raise_end}
 use Rattle.py_model.specs.Plan.{value, raised, at_end}
-use Rattle.py_vectors.specs.Words.{place, no_span, summary, evaluated, depends, replayed}
+use Rattle.py_vectors.specs.Words.{place, no_span, silent, summary, evaluated, depends, replayed}
 use Rattle.slice_law.specs.Edges.{edge, by_data, by_control, by_jump}
 
 abbrev pub r_tuples_and_unpacking_tree : ScriptTree
 r_tuples_and_unpacking_tree = record { body = (more_suite (one_stmt 0 (place 1 1) no_span (assign_form (var_target (place 1 1) (codes "t")) (tuple_expr (place 1 7) (more_exprs (const_expr (place 1 6) (int_atom (pos 1))) (more_exprs (const_expr (place 1 9) (text_atom (codes "b"))) (more_exprs (tuple_expr (place 1 16) (more_exprs (const_expr (place 1 15) (int_atom (pos 2))) (more_exprs (const_expr (place 1 18) (int_atom (pos 3))) end_exprs))) end_exprs)))))) (more_suite (one_stmt 1 (place 2 1) no_span (assign_form (many_target (more_targets (var_target (place 2 1) (codes "a")) (more_targets (var_target (place 2 4) (codes "b")) (more_targets (var_target (place 2 7) (codes "c")) end_targets)))) (var_expr (place 2 11) (codes "t")))) (more_suite (one_stmt 2 (place 3 1) no_span (assign_form (many_target (more_targets (var_target (place 3 1) (codes "x")) end_targets)) (list_expr (place 3 6) (more_exprs (const_expr (place 3 7) (int_atom (pos 9))) end_exprs)))) (more_suite (one_stmt 3 (place 4 1) no_span (assign_form (many_target (more_targets (var_target (place 4 1) (codes "p")) (more_targets (var_target (place 4 4) (codes "q")) end_targets))) (tuple_expr (place 4 9) (more_exprs (const_expr (place 4 8) (int_atom (pos 1))) (more_exprs (const_expr (place 4 11) (int_atom (pos 2))) end_exprs))))) (more_suite (one_stmt 4 (place 5 1) no_span (assign_form (many_target (more_targets (var_target (place 5 1) (codes "p")) (more_targets (var_target (place 5 4) (codes "q")) end_targets))) (tuple_expr (place 5 9) (more_exprs (var_expr (place 5 8) (codes "q")) (more_exprs (var_expr (place 5 11) (codes "p")) end_exprs))))) (more_suite (one_stmt 5 (place 6 1) no_span (assign_form (var_target (place 6 1) (codes "l")) (list_expr (place 6 5) (more_exprs (const_expr (place 6 6) (int_atom (pos 0))) (more_exprs (const_expr (place 6 9) (int_atom (pos 0))) end_exprs))))) (more_suite (one_stmt 6 (place 7 1) no_span (assign_form (many_target (more_targets (part_target (place 7 2) (var_expr (place 7 1) (codes "l")) (const_expr (place 7 3) (int_atom (pos 0)))) (more_targets (part_target (place 7 8) (var_expr (place 7 7) (codes "l")) (const_expr (place 7 9) (int_atom (pos 1)))) end_targets))) (tuple_expr (place 7 15) (more_exprs (var_expr (place 7 14) (codes "p")) (more_exprs (var_expr (place 7 17) (codes "q")) end_exprs))))) (more_suite (one_stmt 7 (place 8 1) no_span (do_form (call_expr (place 8 6) (var_expr (place 8 1) (codes "print")) (more_exprs (var_expr (place 8 7) (codes "a")) (more_exprs (var_expr (place 8 10) (codes "b")) (more_exprs (var_expr (place 8 13) (codes "c")) (more_exprs (var_expr (place 8 16) (codes "x")) (more_exprs (var_expr (place 8 19) (codes "l")) (more_exprs (binary_expr (place 8 24) Add (var_expr (place 8 22) (codes "t")) (tuple_expr (place 8 28) (more_exprs (const_expr (place 8 27) (int_atom (pos 4))) end_exprs))) (more_exprs (range_expr (place 8 33) (var_expr (place 8 32) (codes "t")) (some_expr (const_expr (place 8 34) (int_atom (pos 1)))) no_expr) (more_exprs (binary_expr (place 8 41) Mul (var_expr (place 8 39) (codes "t")) (const_expr (place 8 43) (int_atom (pos 2)))) (more_exprs (tuple_expr (place 8 48) (more_exprs (const_expr (place 8 47) (int_atom (pos 5))) end_exprs)) (more_exprs (tuple_expr (place 8 52) end_exprs) (more_exprs (part_expr (place 8 61) (part_expr (place 8 57) (var_expr (place 8 56) (codes "t")) (unary_expr (place 8 58) Minus (const_expr (place 8 59) (int_atom (pos 1))))) (const_expr (place 8 62) (int_atom (pos 0)))) end_exprs)))))))))))))) (more_suite (one_stmt 8 (place 9 1) no_span (for_form (many_target (more_targets (var_target (place 9 5) (codes "i")) (more_targets (var_target (place 9 8) (codes "j")) end_targets))) (list_expr (place 9 13) (more_exprs (tuple_expr (place 9 16) (more_exprs (const_expr (place 9 15) (int_atom (pos 1))) (more_exprs (const_expr (place 9 18) (int_atom (pos 2))) end_exprs))) end_exprs)) (more_suite (one_stmt 9 (place 10 5) no_span pass_form) end_suite))) (more_suite (one_stmt 10 (place 11 1) no_span (do_form (call_expr (place 11 6) (var_expr (place 11 1) (codes "print")) (more_exprs (var_expr (place 11 7) (codes "i")) (more_exprs (var_expr (place 11 10) (codes "j")) (more_exprs (compare_expr (place 11 20) Eq (tuple_expr (place 11 15) (more_exprs (const_expr (place 11 14) (int_atom (pos 1))) (more_exprs (const_expr (place 11 17) (int_atom (pos 2))) end_exprs))) (tuple_expr (place 11 25) (more_exprs (const_expr (place 11 24) (int_atom (pos 1))) (more_exprs (const_expr (place 11 27) (int_atom (pos 2))) (more_exprs (const_expr (place 11 30) (int_atom (pos 3))) end_exprs))))) (more_exprs (compare_expr (place 11 41) Lt (tuple_expr (place 11 36) (more_exprs (const_expr (place 11 35) (int_atom (pos 1))) (more_exprs (const_expr (place 11 38) (int_atom (pos 2))) end_exprs))) (tuple_expr (place 11 45) (more_exprs (const_expr (place 11 44) (int_atom (pos 1))) (more_exprs (const_expr (place 11 47) (int_atom (pos 2))) (more_exprs (const_expr (place 11 50) (int_atom (pos 3))) end_exprs))))) (more_exprs (compare_expr (place 11 63) Le (tuple_expr (place 11 56) (more_exprs (const_expr (place 11 55) (int_atom (pos 1))) (more_exprs (const_expr (place 11 58) (text_atom (codes "a"))) end_exprs))) (tuple_expr (place 11 68) (more_exprs (const_expr (place 11 67) (int_atom (pos 1))) (more_exprs (const_expr (place 11 70) (text_atom (codes "b"))) end_exprs)))) (more_exprs (compare_expr (place 11 78) In (const_expr (place 11 76) (int_atom (pos 2))) (tuple_expr (place 11 83) (more_exprs (const_expr (place 11 82) (int_atom (pos 1))) (more_exprs (const_expr (place 11 85) (int_atom (pos 2))) end_exprs)))) end_exprs))))))))) (more_suite (one_stmt 11 (place 12 1) no_span (try_form (more_suite (one_stmt 12 (place 13 5) no_span (assign_form (many_target (more_targets (var_target (place 13 5) (codes "a")) (more_targets (var_target (place 13 8) (codes "b")) end_targets))) (var_expr (place 13 12) (codes "t")))) end_suite) (more_handlers (Some (var_expr (place 14 8) (codes "ValueError"))) (Some (record { at = (place 14 22); name = (codes "e") })) (more_suite (one_stmt 13 (place 15 5) no_span (do_form (call_expr (place 15 10) (var_expr (place 15 5) (codes "print")) (more_exprs (var_expr (place 15 11) (codes "e")) end_exprs)))) end_suite) end_handlers))) (more_suite (one_stmt 14 (place 16 1) no_span (try_form (more_suite (one_stmt 15 (place 17 5) no_span (assign_form (many_target (more_targets (var_target (place 17 5) (codes "a")) (more_targets (var_target (place 17 8) (codes "b")) end_targets))) (const_expr (place 17 12) (int_atom (pos 5))))) end_suite) (more_handlers (Some (var_expr (place 18 8) (codes "TypeError"))) (Some (record { at = (place 18 21); name = (codes "e") })) (more_suite (one_stmt 16 (place 19 5) no_span (do_form (call_expr (place 19 10) (var_expr (place 19 5) (codes "print")) (more_exprs (var_expr (place 19 11) (codes "e")) end_exprs)))) end_suite) end_handlers))) (more_suite (one_stmt 17 (place 20 1) no_span (do_form (call_expr (place 20 6) (var_expr (place 20 1) (codes "print")) (more_exprs (call_expr (place 20 13) (var_expr (place 20 7) (codes "sorted")) (more_exprs (part_expr (place 20 15) (var_expr (place 20 14) (codes "t")) (const_expr (place 20 16) (int_atom (pos 2)))) end_exprs)) (more_exprs (call_expr (place 20 26) (var_expr (place 20 21) (codes "tuple")) (more_exprs (const_expr (place 20 27) (text_atom (codes "ab"))) end_exprs)) (more_exprs (call_expr (place 20 37) (var_expr (place 20 34) (codes "len")) (more_exprs (var_expr (place 20 38) (codes "t")) end_exprs)) (more_exprs (call_expr (place 20 46) (var_expr (place 20 42) (codes "bool")) (more_exprs (tuple_expr (place 20 47) end_exprs) end_exprs)) end_exprs))))))) end_suite))))))))))))); count = 18 }
 
 abbrev pub r_tuples_and_unpacking_capture : Capture
-r_tuples_and_unpacking_capture = record { answers = ([]); files = ([]) }
+r_tuples_and_unpacking_capture = record { answers = ([]); files = ([]); ends = silent }
 
 abbrev pub r_tuples_and_unpacking_run : Run
 r_tuples_and_unpacking_run = run r_tuples_and_unpacking_tree (codes "s.py") ([]) r_tuples_and_unpacking_capture 1000000

@@ -12,14 +12,14 @@ use Rattle.py_model.specs.Capture.{Capture, opening_in}
 use Rattle.py_model.specs.Meaning.{Run, run, level, finished}
 use Rattle.py_model.specs.Moment.{begins, does, enters, leaves, ends, normal_end, return_end, raise_end}
 use Rattle.py_model.specs.Plan.{value, raised}
-use Rattle.py_vectors.specs.Words.{place, no_span, summary, evaluated, depends, replayed}
+use Rattle.py_vectors.specs.Words.{place, no_span, silent, summary, evaluated, depends, replayed}
 use Rattle.slice_law.specs.Edges.{edge, by_data, by_control, by_jump}
 
 abbrev pub r_unbound_by_except_tree : ScriptTree
 r_unbound_by_except_tree = record { body = (more_suite (one_stmt 0 (place 1 1) no_span (def_form (codes "f") ([]) ([]) (more_suite (one_stmt 1 (place 2 5) no_span (assign_form (var_target (place 2 5) (codes "e")) (const_expr (place 2 9) (int_atom (pos 1))))) (more_suite (one_stmt 2 (place 3 5) no_span (try_form (more_suite (one_stmt 3 (place 4 9) no_span (raise_form (Some (call_expr (place 4 25) (var_expr (place 4 15) (codes "ValueError")) (more_exprs (const_expr (place 4 26) (text_atom (codes "v"))) end_exprs))))) end_suite) (more_handlers (Some (var_expr (place 5 12) (codes "ValueError"))) (Some (record { at = (place 5 26); name = (codes "e") })) (more_suite (one_stmt 4 (place 6 9) no_span pass_form) end_suite) end_handlers))) (more_suite (one_stmt 5 (place 7 5) no_span (try_form (more_suite (one_stmt 6 (place 8 9) no_span (return_form (Some (var_expr (place 8 16) (codes "e"))))) end_suite) (more_handlers (Some (var_expr (place 9 12) (codes "UnboundLocalError"))) (Some (record { at = (place 9 33); name = (codes "x") })) (more_suite (one_stmt 7 (place 10 9) no_span (return_form (Some (call_expr (place 10 19) (var_expr (place 10 16) (codes "str")) (more_exprs (var_expr (place 10 20) (codes "x")) end_exprs))))) end_suite) end_handlers))) end_suite))))) (more_suite (one_stmt 8 (place 11 1) no_span (do_form (call_expr (place 11 6) (var_expr (place 11 1) (codes "print")) (more_exprs (call_expr (place 11 8) (var_expr (place 11 7) (codes "f")) end_exprs) end_exprs)))) (more_suite (one_stmt 9 (place 12 1) no_span (try_form (more_suite (one_stmt 10 (place 13 5) no_span (do_form (part_expr (place 13 8) (list_expr (place 13 5) (more_exprs (const_expr (place 13 6) (int_atom (pos 1))) end_exprs)) (const_expr (place 13 9) (int_atom (pos 2)))))) end_suite) (more_handlers (Some (var_expr (place 14 8) (codes "IndexError"))) (Some (record { at = (place 14 22); name = (codes "e") })) (more_suite (one_stmt 11 (place 15 5) no_span (del_form (var_target (place 15 9) (codes "e")))) end_suite) end_handlers))) (more_suite (one_stmt 12 (place 16 1) no_span (try_form (more_suite (one_stmt 13 (place 17 5) no_span (do_form (call_expr (place 17 10) (var_expr (place 17 5) (codes "print")) (more_exprs (var_expr (place 17 11) (codes "e")) end_exprs)))) end_suite) (more_handlers (Some (var_expr (place 18 8) (codes "NameError"))) (Some (record { at = (place 18 21); name = (codes "x") })) (more_suite (one_stmt 14 (place 19 5) no_span (do_form (call_expr (place 19 10) (var_expr (place 19 5) (codes "print")) (more_exprs (var_expr (place 19 11) (codes "x")) end_exprs)))) end_suite) end_handlers))) end_suite)))); count = 15 }
 
 abbrev pub r_unbound_by_except_capture : Capture
-r_unbound_by_except_capture = record { answers = ([]); files = ([]) }
+r_unbound_by_except_capture = record { answers = ([]); files = ([]); ends = silent }
 
 abbrev pub r_unbound_by_except_run : Run
 r_unbound_by_except_run = run r_unbound_by_except_tree (codes "s.py") ([]) r_unbound_by_except_capture 1000000

@@ -13,7 +13,7 @@ use Rattle.py_model.specs.Store.{RunStore}
 use Rattle.py_tree.specs.Tree.{ScriptTree}
 use Rattle.py_tree.specs.Deletion.{deleted}
 use Rattle.slice_law.specs.Slices.{told_by}
-use Rattle.py_model.specs.Capture.{Capture, opening_in}
+use Rattle.py_model.specs.Capture.{Capture, Telling, opening_in}
 use Rattle.slice_law.specs.Closed.{needed, has, is_settled}
 use Rattle.slice_law.specs.Edges.{Edge, Reason, by_data, by_name, by_control, by_jump, edges}
 
@@ -23,6 +23,10 @@ place line col = record { line = line; col = col }
 -- the bytes of a statement, at which no run looks
 abbrev pub no_span : Span
 no_span = record { from = 0; to = 0 }
+
+-- devices that tell nothing and never failed: no run looks at what they tell
+abbrev pub silent : Telling
+silent = record { lines = None; files = None; times = None; words = None; line_faults = 0; file_faults = 0; time_faults = 0; word_faults = 0 }
 
 -- what a run comes to, apart from its moments
 pub record Summary : Type 0 where
