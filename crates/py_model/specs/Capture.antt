@@ -15,15 +15,20 @@ pub record Kept : Type 0 where
   pub what : Ask
   pub given : Given
 
--- What the devices tell at one moment, each where it tells: the lines that are left to read, what stands at each path, and the times and
--- the words that were given so far. With it how often each was refused so far: a line, a file, a time, a word.
+-- What the devices tell at one moment, each where it tells: the lines that are left to read and the bytes written, what stands at each path,
+-- and the times and the words that were given so far. With it how often each of their calls has failed so far: to read a line, to write, to get
+-- a file, to get a script's own text, to put a file, to tell the time, to give a word.
 pub record Telling : Type 0 where
   pub lines : Option (List (List ℕ))
+  pub written : Option (List ℕ)
   pub files : Option (List ℕ → Option (List ℕ))
   pub times : Option (List ℤ)
   pub words : Option (List ℕ)
   pub line_faults : ℕ
+  pub write_faults : ℕ
   pub file_faults : ℕ
+  pub source_faults : ℕ
+  pub put_faults : ℕ
   pub time_faults : ℕ
   pub word_faults : ℕ
 

@@ -26,7 +26,20 @@ no_span = record { from = 0; to = 0 }
 
 -- devices that tell nothing and never failed: no run looks at what they tell
 abbrev pub silent : Telling
-silent = record { lines = None; files = None; times = None; words = None; line_faults = 0; file_faults = 0; time_faults = 0; word_faults = 0 }
+silent = record {
+  lines = None;
+  written = None;
+  files = None;
+  times = None;
+  words = None;
+  line_faults = 0;
+  write_faults = 0;
+  file_faults = 0;
+  source_faults = 0;
+  put_faults = 0;
+  time_faults = 0;
+  word_faults = 0;
+}
 
 -- what a run comes to, apart from its moments
 pub record Summary : Type 0 where
