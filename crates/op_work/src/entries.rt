@@ -73,11 +73,11 @@ impl Work {
         contents_stay();
         let _ = v;
         self.note_read(Location::Entry(o, key))?;
-        Ok(self.entry(o, key))
+        Ok(self.entry_there(o, key))
     }
 
-    // What stands at a key as it stands.
-    fn entry(&self, o: u32, key: Key) -> Option<(Value, Value)>
+    /// What stands at a key, as the store has it.
+    pub fn entry_there(&self, o: u32, key: Key) -> Option<(Value, Value)>
         ensures entry { result ≡ entry_in (content_at self.now.store (Entry o key)) }
         ensures interned { AreInterned self.now.values }
     {

@@ -56,8 +56,8 @@ impl Work {
         self.name_there(place)
     }
 
-    // The noted name of a place, and that all that stands there is named.
-    fn name_there(&self, place: Pos) -> Option<u32>
+    /// The noted name of a place, as the store has it, and that all that stands there is named.
+    pub fn name_there(&self, place: Pos) -> Option<u32>
         ensures name { result ≡ name_at self.now.store place }
         ensures named { IsNamedStore self.now.values self.now.store }
     {
