@@ -21,10 +21,10 @@ pub returns : goal.returns
 returns c =
     let is_key = subst (λ (w : WorkView). IsKeyOf c.args.v w.values c.args.key) (sym c.in_ok-note_read.ensures.done) c.requires in
     place_comes (λ table. plan_entry c.args.o (contents table c.args.v)) (λ table. entry_at c.args.o (normal (contents table c.args.v))) (λ table store. entry_of store c.args.o (contents table c.args.v)) (λ table store go answers. refl)
-    (Entry c.args.o c.args.key) c.in_ok-note_read.ensures.done c.entry.result
-    (subst (λ entry. IsNamedEntry c.note_read.new.self.values entry) (sym c.entry.ensures.entry) (entry_named c.note_read.new.self.values c.note_read.new.self.store c.note_read.ensures.named c.args.o c.args.key))
-    (λ table store extends is_seen. ap (entry_at c.args.o) (form_on c.contents_stay.ensures c.entry.ensures.interned extends c.args.v c.args.key is_key))
+    (Entry c.args.o c.args.key) c.in_ok-note_read.ensures.done c.entry_there.result
+    (subst (λ entry. IsNamedEntry c.note_read.new.self.values entry) (sym c.entry_there.ensures.entry) (entry_named c.note_read.new.self.values c.note_read.new.self.store c.note_read.ensures.named c.args.o c.args.key))
+    (λ table store extends is_seen. ap (entry_at c.args.o) (form_on c.contents_stay.ensures c.entry_there.ensures.interned extends c.args.v c.args.key is_key))
     (λ table store extends is_seen. entry_read table c.args.self.now.store store is_seen c.args.o (contents table c.args.v) c.args.key (named_on extends c.args.key.value is_key.1.named)
-    (form_on c.contents_stay.ensures c.entry.ensures.interned extends c.args.v c.args.key is_key)
+    (form_on c.contents_stay.ensures c.entry_there.ensures.interned extends c.args.v c.args.key is_key)
     ∙ ap (λ (held : StoreView). seen_entry table (entry_in (content_at held (Entry c.args.o c.args.key)))) (sym (ap (λ (w : WorkView). w.store) c.in_ok-note_read.ensures.done))
-    ∙ ap (seen_entry table) (sym c.entry.ensures.entry))
+    ∙ ap (seen_entry table) (sym c.entry_there.ensures.entry))
