@@ -1,5 +1,4 @@
 pub mod AnswerOrder
-pub mod Devices
 pub mod FileOrder
 pub mod Lasts
 pub mod PathSets

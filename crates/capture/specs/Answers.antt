@@ -48,6 +48,10 @@ pub record IsLast (answers : List Asked) (at : Pos) (last : ℕ) : Type 0 where
   pub none_later : (k : ℕ) → last < k → is_kept answers at k ≡ false
   pub reached : (last ≡ 0) ⊎ (is_kept answers at last ≡ true)
 
+-- the number of the next answer at the place: one more than the last
+abbrev pub IsNext : List Asked → Pos → ℕ → Type 0
+IsNext answers at k = (last : ℕ) × IsLast answers at last × (k ≡ last + 1)
+
 -- the answer stands before the other: by line, on one line by column, and at one place by number
 abbrev pub IsEarlier : Asked → Asked → Type 0
 IsEarlier a b = (a.at.line < b.at.line) ⊎ ((a.at.line ≡ b.at.line) × ((a.at.col < b.at.col) ⊎ ((a.at.col ≡ b.at.col) × (a.k < b.k))))

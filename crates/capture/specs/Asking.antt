@@ -1,5 +1,5 @@
 -- What the devices did, by what is kept of it (this project's profile).
-use Rattle.std.specs.Prelude.{◌≡◌, ℕ, List, [], ◌∷◌, ◌++◌, ◌⊎◌, Result, Ok, Err}
+use Rattle.std.specs.Prelude.{◌≡◌, ℕ, List, [], ◌∷◌, ◌++◌, Result, Ok, Err}
 use Rattle.prov_base.specs.declared.refusal.Memory.{Memory as Want}
 use Rattle.prov_outside.specs.declared.trouble.Trouble.{Trouble}
 use Rattle.prov_outside.specs.declared.trouble.Trouble.TheVariants.{Failed as Fault, Memory as NoMemory}
@@ -45,19 +45,15 @@ AsksWord (Ok (LineGiven line)) before after = ⊥
 AsksWord (Ok End) before after = ⊥
 AsksWord (Err want) before after = after ≡ before
 
--- no line was taken, or the first one
-abbrev pub IsLineFewer : ConsoleView → ConsoleView → Type 0
-IsLineFewer before after = (after.written ≡ before.written) × ((after.lines ≡ before.lines) ⊎ ((line : List ℕ) × (before.lines ≡ line ∷ after.lines)))
-
--- The line that is kept was the first of those left, and End is kept where none was left. A fault leaves the lines. Where
--- memory runs out a line may have been taken.
+-- The line that is kept was the first of those left, and End is kept where none was left. Where none was given, nothing has
+-- changed.
 abbrev pub AsksLine : Result Given Want → ConsoleView → ConsoleView → Type 0
 AsksLine (Ok (LineGiven line)) before after = (before.lines ≡ line ∷ after.lines) × (after.written ≡ before.written)
 AsksLine (Ok End) before after = (before.lines ≡ []) × (after ≡ before)
 AsksLine (Ok Failed) before after = after ≡ before
 AsksLine (Ok (Number time)) before after = ⊥
 AsksLine (Ok (WordGiven word)) before after = ⊥
-AsksLine (Err want) before after = IsLineFewer before after
+AsksLine (Err want) before after = after ≡ before
 
 -- what the folder answered, by what is kept: Failed is a fault
 abbrev pub as_fetch : Result Found Want → Result Found Trouble

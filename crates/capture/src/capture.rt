@@ -7,8 +7,9 @@ ghost use Rattle.prov_outside.specs.declared.folder.Found.{Found as FoundThere};
 ghost use Rattle.prov_outside.specs.Count.{faults_after};
 ghost use Rattle.prov_outside.specs.Folder.{Gets, IsAnswer};
 ghost use Rattle.prov_outside.specs.Tells.{Tells};
-ghost use Rattle.capture.specs.Answers.{given_at, is_kept, IsLast, Fits, answer_at, AreInOrder, AreOnce};
+ghost use Rattle.capture.specs.Answers.{given_at, is_kept, IsLast, IsNext, Fits, answer_at, AreInOrder, AreOnce};
 ghost use Rattle.capture.specs.Asking.{ForAsk, AsksTime, AsksWord, AsksLine, as_answer, as_fetch, IsOneLine};
+ghost use Rattle.capture.specs.declared.answer.Given.{Given as GivenThere};
 ghost use Rattle.capture.specs.Capture.{is_known, is_among, with_path};
 ghost use Rattle.capture.specs.Files.{file_at, with_file, IsAscending};
 
@@ -52,9 +53,9 @@ impl Capture {
         })
     }
 
-    /// Asks a device and keeps what it gave, under the place and the number behind the last one there; a fault of the device
-    /// is kept as `Failed`. After an `Err` the capture is as before, and no device has failed. It fails where memory runs
-    /// out, or numbers do.
+    /// Asks a device and keeps what it gave, under the place and the number behind the last one there, which it answers; a fault
+    /// of the device is kept as `Failed`. After an `Err` nothing was asked: the capture is as before, so is what the devices
+    /// tell, and no device has failed. It fails where memory runs out, or numbers do.
     pub fn ask_live<C: Console, M: Moments>(
         &mut self,
         alloc: Global,
@@ -62,23 +63,25 @@ impl Capture {
         at: Pos,
         console: &mut C,
         moments: &mut M,
-    ) -> Result<Given, Memory>
-        ensures kept { IfOk result (λ given. (last : ℕ) × IsLast self.old.answers at last
-            × (self.new.answers ≡ self.old.answers ++ record { at = at; k = last + 1; what = what; given = given } ∷ [])) }
-        ensures fits { IfOk result (Fits what) }
-        ensures no_lf { IfOk result IsOneLine }
+    ) -> Result<u32, Memory>
+        // What is kept is what the device gave. A count rises by one where Failed is kept, and stays in every other call.
+        ensures kept { IfOk result (λ k. (given : GivenThere) × IsNext self.old.answers at k
+            × (self.new.answers ≡ self.old.answers ++ record { at = at; k = k; what = what; given = given } ∷ [])
+            × Fits what given × IsOneLine given
+            × ForAsk what (Tells (M.told moments.old) (M.told moments.new) (AsksTime (Ok given)))
+            (Tells (M.told moments.old) (M.told moments.new) (AsksWord (Ok given)))
+            (Tells (C.told console.old) (C.told console.new) (AsksLine (Ok given)))
+            × ForAsk what (M.time_faults moments.new ≡ faults_after (as_answer (Ok given)) (M.time_faults moments.old))
+            (M.word_faults moments.new ≡ faults_after (as_answer (Ok given)) (M.word_faults moments.old))
+            (C.in_faults console.new ≡ faults_after (as_answer (Ok given)) (C.in_faults console.old))) }
         ensures same { self.new ≡ record self.old { answers = self.new.answers } }
         ensures err { OnErr result (self.new ≡ self.old) }
+        ensures err_told { OnErr result (Tells (M.told moments.old) (M.told moments.new) (λ before after. after ≡ before)
+            × Tells (C.told console.old) (C.told console.new) (λ before after. after ≡ before)) }
+        ensures err_cause { OnErr result ((M.time_faults moments.new ≡ M.time_faults moments.old)
+            × (M.word_faults moments.new ≡ M.word_faults moments.old) × (C.in_faults console.new ≡ C.in_faults console.old)) }
 
-        // What is kept is what the device gave. Where memory runs out it gave nothing but perhaps a line.
-        ensures told { ForAsk what (Tells (M.told moments.old) (M.told moments.new) (AsksTime result))
-            (Tells (M.told moments.old) (M.told moments.new) (AsksWord result))
-            (Tells (C.told console.old) (C.told console.new) (AsksLine result)) }
-
-        // A count rises by one where Failed is kept, and stays in every other call; the device that is not asked stays.
-        ensures cause { ForAsk what (M.time_faults moments.new ≡ faults_after (as_answer result) (M.time_faults moments.old))
-            (M.word_faults moments.new ≡ faults_after (as_answer result) (M.word_faults moments.old))
-            (C.in_faults console.new ≡ faults_after (as_answer result) (C.in_faults console.old)) }
+        // Whatever it answers, the other counts stay, and so does the device that is not asked.
         ensures other_count { ForAsk what (M.word_faults moments.new ≡ M.word_faults moments.old)
             (M.time_faults moments.new ≡ M.time_faults moments.old) (C.out_faults console.new ≡ C.out_faults console.old) }
         ensures other_device { ForAsk what (console.new ≡ console.old) (console.new ≡ console.old) (moments.new ≡ moments.old) }
@@ -88,10 +91,10 @@ impl Capture {
         };
         self.answers.reserve()?;
         let given = ask(alloc, what, console, moments)?;
-        let copy = copy_of_given(alloc, &given)?;
         self.answers.push(Asked { at, k, what, given });
-        Ok(copy)
+        Ok(k)
     }
+
     /// What was given to the question that was asked at a place for the k-th time. `NoAnswer` exactly where nothing of that
     /// kind is kept there.
     pub fn ask_kept(&self, what: Ask, at: Pos, k: u32) -> Result<&Given, NoAnswer>
@@ -100,6 +103,23 @@ impl Capture {
         match self.answers.find(at, k) {
             Some(asked) if asked.what == what => Ok(&asked.given),
             _ => Err(NoAnswer),
+        }
+    }
+
+    /// A copy of what was given to the question that was asked at a place for the k-th time; none exactly where nothing of that
+    /// kind is kept there. It takes memory for a line alone.
+    pub fn copy_kept(
+        &self,
+        alloc: Global,
+        what: Ask,
+        at: Pos,
+        k: u32,
+    ) -> Result<Option<Given>, Memory>
+        ensures { IfOk result (λ given. given ≡ given_at self.now.answers what at k) }
+    {
+        match self.ask_kept(what, at, k) {
+            Ok(given) => Ok(Some(copy_of_given(alloc, given)?)),
+            Err(_) => Ok(None),
         }
     }
 

@@ -7,12 +7,11 @@
 //! - [`Capture::touch_live`] keeps what the folder has at a path, `Failed` only where its count rose. It asks once: a path of
 //!   which something is kept, or that was noted as written, is left as it is.
 //! - [`Capture::ask_kept`] and [`Capture::touch_kept`] answer `NoAnswer` exactly where nothing of that kind is kept there.
-//!   They and the readers of whole lists take no memory.
+//!   They and the readers of whole lists take no memory. [`Capture::copy_kept`] answers a copy.
 //! - [`Capture::put_in_order`] puts the answers in ascending order of place and number; what is kept stays. No two answers have
 //!   one place and number, and files ascend by path at any time.
-//! - After want of memory the capture is as before, no device has failed, and nothing was given but perhaps one line, which the
-//!   console then tells as taken (`IsLineFewer` in `specs/Asking.antt`). The room for an answer is made before a device is
-//!   asked, so that only the copy of a line that was read can be refused.
+//! - After want of memory the capture and what the devices tell are as before, and no device has failed. The room for an answer
+//!   is made before a device is asked, and what it gives is kept without a copy, so that no line is lost.
 //!
 //! Contracts see three lists (`specs/Capture.antt`): the answers in the order in which they were kept, the files by path, and
 //! the paths in order of first opening. What stands under a key is `answer_at` and `file_at` of these. That a look-up takes

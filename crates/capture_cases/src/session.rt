@@ -184,7 +184,22 @@ impl Session {
             .capture
             .ask_live(alloc, what, at, &mut *self.console, &mut *self.moments)
         {
-            Ok(given) => write_given(alloc, out, &given),
+            Ok(k) => self.given(alloc, what, at, k, out),
+            Err(Memory) => out.extend_from_slice(b"memory"),
+        }
+    }
+
+    fn given(
+        &self,
+        alloc: Global,
+        what: Ask,
+        at: Pos,
+        k: u32,
+        out: &mut Vec<u8>,
+    ) -> Result<(), AllocError> {
+        match self.capture.copy_kept(alloc, what, at, k) {
+            Ok(Some(given)) => write_given(alloc, out, &given),
+            Ok(None) => out.extend_from_slice(b"no answer"),
             Err(Memory) => out.extend_from_slice(b"memory"),
         }
     }
@@ -271,15 +286,10 @@ impl Session {
 
     // Whether a word is found where it was kept.
     fn ask_again(&mut self, alloc: Global, at: Pos) -> bool {
-        let given = self.capture.ask_live(
-            alloc,
-            Ask::Word,
-            at,
-            &mut *self.console,
-            &mut *self.moments,
-        );
-        let last = self.capture.last_number(at);
-        given.is_ok() && self.capture.ask_kept(Ask::Word, at, last).is_ok()
+        match self.capture.ask_live(alloc, Ask::Word, at, &mut *self.console, &mut *self.moments) {
+            Ok(k) => self.capture.ask_kept(Ask::Word, at, k).is_ok(),
+            Err(Memory) => false,
+        }
     }
 }
 
