@@ -1,29 +1,37 @@
--- What a capture keeps with one answer more, and how askings are numbered then.
-use Rattle.std.proofs.Common.{◌≡◌, refl, sym, ap, subst, ◌∙◌, arith, inl, inr, ◌⊎◌, ℕ, suc, ◌+◌, ◌<◌, max, Bool, true, false, ◌&&◌, ◌||◌, nat_eq, List, [], ◌∷◌, ◌++◌, Option, Some, None, IsSome, is_some, IsTrue, Result, Ok, Err, if◌then◌else◌}
-use Rattle.std.specs.Result.{OnOk, OnErr}
+-- What a capture keeps with one answer or one file more, and how askings are numbered then.
+use Rattle.std.proofs.Common.{◌≡◌, refl, sym, ap, subst, ◌∙◌, arith, inl, inr, ◌⊎◌, ℕ, suc, ◌+◌, ◌<◌, max, Bool, true, false, ◌&&◌, ◌||◌, nat_eq, List, [], ◌∷◌, ◌++◌, map, Option, Some, None, is_some, Result, Ok, Err, IfOk, IsErr, if◌then◌else◌}
 use Rattle.prov_base.specs.declared.refusal.Memory.{Memory}
 use Rattle.std.specs.Option.{option_or}
 use Rattle.std.specs.Prelude.{find}
 use Rattle.std.specs.Str.{bytes_eq}
-use Rattle.std.proofs.lemmas.Bool.{eq-eqb}
+use Rattle.std.proofs.lemmas.Bool.{eq-eqb, false≢true}
 use Rattle.std.proofs.lemmas.Slice.Eq.{bytes_eq-Decides}
 use Rattle.std.proofs.lemmas.List.Folds.{find-append}
 use Rattle.prov_base.specs.declared.place.Pos.{Pos}
 use Rattle.prov_base.specs.contracts.place.PosPartialEq.TheImpl.{ghosts as places}
 use Rattle.prov_outside.specs.declared.folder.Found.{Found as FoundThere}
-use Rattle.capture.specs.Answers.{given_at, given_if, answer_at, is_kept, is_under, is_same, IsLast}
-use Rattle.capture.specs.Capture.{CaptureView, is_known, is_among}
+use Rattle.capture.specs.Answers.{given_at, given_if, answer_at, is_kept, is_under, is_same, IsLast, IsNext, Fits as CanGive}
+use Rattle.capture.specs.Capture.{CaptureView}
 use Rattle.capture.specs.Files.{file_at, with_file, is_before}
 use Rattle.capture.specs.declared.answer.Ask.{Ask as Question}
 use Rattle.capture.specs.declared.answer.Ask.TheVariants.{Time, Word, Line}
 use Rattle.capture.specs.declared.answer.Asked.{Asked}
 use Rattle.capture.specs.declared.answer.Given.{Given as GivenThere}
 use Rattle.capture.proofs.Lasts.{place_itself, same_place, last_more}
-use Rattle.py_model.specs.Capture.{Capture, given_in}
+use Rattle.prov_outside.specs.Console.{ConsoleView}
+use Rattle.prov_outside.specs.Count.{faults_after}
+use Rattle.prov_outside.specs.Folder.{Files}
+use Rattle.prov_outside.specs.Moments.{MomentsView}
+use Rattle.prov_outside.specs.Tells.{Tells}
+use Rattle.capture.specs.Asking.{ForAsk, AsksTime, AsksWord, AsksLine, as_answer, IsOneLine}
+use Rattle.py_model.specs.Capture.{Capture, Kept, Telling, given_in}
 use Rattle.py_model.specs.Plan.{Ask}
 use Rattle.py_model.specs.Running.{Asking, askings_at}
-use Rattle.answer_source.specs.Live.{HasKept, AreNumbered}
-use Rattle.answer_source.specs.Sources.{ask_seen, given_seen, next_asking}
+use Rattle.answer_source.specs.Going.{Same, Gives, GivesNothing, fetches_failed}
+use Rattle.answer_source.specs.Live.{IsCaptureOf, AreNumbered, AreFetched, has_file, kept_seen}
+use Rattle.answer_source.specs.Sources.{ask_seen, given_seen, next_asking, Asks}
+use Rattle.answer_source.proofs.Fitting.{given_of, not_both}
+use Rattle.answer_source.proofs.Going.{goes_from, told_by, refused, answered_so}
 
 -- what was found first is found in a longer list
 still_given : (what : Question) (first more : Option Asked) (given : GivenThere) → given_if what first ≡ Some given → given_if what (option_or first more) ≡ Some given
@@ -82,28 +90,98 @@ numbered_more view x answers what askings numbered is number at = subst (λ all.
     by_place true same = let here = ap (λ p. askings_at p askings) (same_place x.at at same) in omega (arith, here, number)
     by_place false same = refl
 
-pub kept_before : (old new : CaptureView) (x : Asked) (capture : Capture) → new.answers ≡ old.answers ++ x ∷ [] → new.files ≡ old.files → HasKept new capture → HasKept old capture
-kept_before old new x capture answers files has = record {
-  answers = λ what at k given is. has.answers what at k given (subst (λ all. given_at all what at k ≡ Some given) (sym answers) (given_more old.answers x what at k given is));
-  files = λ path found is. has.files path found (subst (λ all. file_at all path ≡ Some found) (sym files) is);
+pushed : (xs : List Asked) (x : Asked) (rest : List Kept) → map kept_seen (xs ++ x ∷ []) ++ rest ≡ map kept_seen xs ++ kept_seen x ∷ rest
+pushed [] x rest = refl
+pushed (y ∷ xs) x rest = ap (λ all. kept_seen y ∷ all) (pushed xs x rest)
+
+-- a capture that fits afterwards fitted before an answer was given
+fit_asked : (old new : CaptureView) (now next : Telling) (x : Asked) (capture : Capture) → new.answers ≡ old.answers ++ x ∷ [] → new.files ≡ old.files
+    → Gives (kept_seen x) now next → next.files ≡ now.files → next.file_faults ≡ now.file_faults → IsCaptureOf new next capture → IsCaptureOf old now capture
+fit_asked old new now next x capture answers files gives folder faults fit = record {
+  rest = kept_seen x ∷ fit.rest;
+  answers = fit.answers ∙ (ap (λ all. map kept_seen all ++ fit.rest) answers ∙ pushed old.answers x fit.rest);
+  onward = (next, gives, fit.onward);
+  once = fit.once;
+  kept = λ path found is. fit.kept path found (ap (λ all. file_at all path) files ∙ is);
+  others = λ path found none is. fit.others path found (ap (λ all. file_at all path) files ∙ none) is;
+  folder = subst (λ told. Tells told capture.ends.files Same) folder fit.folder;
+  file_faults = fit.file_faults ∙ (ap (λ all. fetches_failed (λ path. is_some (file_at all path)) capture.files next.file_faults) files ∙ ap (fetches_failed (has_file old) capture.files) faults);
 }
 
--- the answer that came is what every capture has that has all that is kept now
-pub answer_came : (old new : CaptureView) (what : Question) (at : Pos) (last : ℕ) (given : GivenThere) (capture : Capture) (askings : List Asking) → IsLast old.answers at last
-    → new.answers ≡ old.answers ++ record { at = at; k = last + 1; what = what; given = given } ∷ [] → HasKept new capture → AreNumbered old askings
-    → (given_in capture.answers (ask_seen what) at (suc (askings_at at askings)) ≡ Some (given_seen given)) × AreNumbered new (next_asking at (ask_seen what) askings)
-answer_came old new what at last given capture askings is_last answers has numbered = (
-  has.answers what at (suc (askings_at at askings)) given (subst (λ k. given_at new.answers what at k ≡ Some given) number
-      (subst (λ all. given_at all what at (last + 1) ≡ Some given) (sym answers)
-      (given_new old.answers (record { at = at; k = last + 1; what = what; given = given }) (is_last.none_later (last + 1) (omega (arith)))))),
-  numbered_more old (record { at = at; k = last + 1; what = what; given = given }) new.answers (ask_seen what) askings numbered answers (ap (λ n. n + 1) same),
-)
-  where
-    same : last ≡ askings_at at askings
-    same = last_unique old.answers at last (askings_at at askings) is_last (numbered at)
+-- nothing was given
+fit_refused : (view : CaptureView) (now next : Telling) (capture : Capture) → GivesNothing now next → next.files ≡ now.files → next.file_faults ≡ now.file_faults
+    → IsCaptureOf view next capture → IsCaptureOf view now capture
+fit_refused view now next capture nothing folder faults fit = record {
+  rest = fit.rest;
+  answers = fit.answers;
+  onward = goes_from fit.rest now next capture.ends nothing fit.onward;
+  once = fit.once;
+  kept = fit.kept;
+  others = fit.others;
+  folder = subst (λ told. Tells told capture.ends.files Same) folder fit.folder;
+  file_faults = fit.file_faults ∙ ap (fetches_failed (has_file view) capture.files) faults;
+}
 
-    number : last + 1 ≡ suc (askings_at at askings)
-    number = omega (arith, same)
+module _ {C M : Type 0} (console_told : C → Option ConsoleView) (in_faults out_faults : C → ℕ) (moments_told : M → Option MomentsView) (time_faults word_faults : M → ℕ)
+    (folder : Option Files) (file_faults source_faults put_faults : ℕ) where
+  abbrev told : C → M → Telling
+  told c m = told_by console_told in_faults out_faults moments_told time_faults word_faults folder file_faults source_faults put_faults c m
+
+  pub knew_refused : (old new : CaptureView) (c d : C) (m n : M) → new ≡ old
+      → Tells (moments_told m) (moments_told n) (λ x y. y ≡ x) × Tells (console_told c) (console_told d) (λ x y. y ≡ x)
+      → (time_faults n ≡ time_faults m) × (word_faults n ≡ word_faults m) × (in_faults d ≡ in_faults c)
+      → (capture : Capture) → IsCaptureOf new (told d n) capture → IsCaptureOf old (told c m) capture
+  knew_refused old new c d m n same tells counts capture fit = fit_refused old (told c m) (told d n) capture
+      (refused console_told in_faults out_faults moments_told time_faults word_faults folder file_faults source_faults put_faults c d m n tells counts) refl refl
+      (subst (λ view. IsCaptureOf view (told d n) capture) same fit)
+
+  pub knew_asked : (old new : CaptureView) (what : Question) (given : GivenThere) (at : Pos) (k : ℕ) (c d : C) (m n : M)
+      → new.answers ≡ old.answers ++ record { at = at; k = k; what = what; given = given } ∷ [] → new.files ≡ old.files → CanGive what given → IsOneLine given
+      → ForAsk what (Tells (moments_told m) (moments_told n) (AsksTime (Ok given))) (Tells (moments_told m) (moments_told n) (AsksWord (Ok given))) (Tells (console_told c) (console_told d) (AsksLine (Ok given)))
+      → ForAsk what (time_faults n ≡ faults_after (as_answer (Ok given)) (time_faults m)) (word_faults n ≡ faults_after (as_answer (Ok given)) (word_faults m))
+      (in_faults d ≡ faults_after (as_answer (Ok given)) (in_faults c))
+      → ForAsk what (word_faults n ≡ word_faults m) (time_faults n ≡ time_faults m) (out_faults d ≡ out_faults c) → ForAsk what (d ≡ c) (d ≡ c) (n ≡ m)
+      → (capture : Capture) → IsCaptureOf new (told d n) capture → IsCaptureOf old (told c m) capture
+  knew_asked old new what given at k c d m n answers files fits one tells cause other same capture =
+      fit_asked old new (told c m) (told d n) (record { at = at; k = k; what = what; given = given }) capture answers files
+      (answered_so console_told in_faults out_faults moments_told time_faults word_faults folder file_faults source_faults put_faults what given at k c d m n fits one tells cause other same) refl refl
+
+-- what was asked before, and what stands of it with one answer more
+module _ (old new : CaptureView) (next : Telling) (what : Question) (at : Pos) (k : ℕ) (given : GivenThere) (is_next : IsNext old.answers at k)
+    (answers : new.answers ≡ old.answers ++ record { at = at; k = k; what = what; given = given } ∷ []) (files : new.files ≡ old.files) where
+  abbrev x : Asked
+  x = record { at = at; k = k; what = what; given = given }
+
+  number : (askings : List Asking) → AreNumbered old askings → k ≡ suc (askings_at at askings)
+  number askings numbered = omega (arith, is_next.2, last_unique old.answers at is_next.0 (askings_at at askings) is_next.1 (numbered at))
+
+  more : (askings : List Asking) (fetches : List (List ℕ)) → AreNumbered old askings × AreFetched old fetches
+      → AreNumbered new (next_asking at (ask_seen what) askings) × AreFetched new fetches
+  more askings fetches stood = (
+    numbered_more old x new.answers (ask_seen what) askings stood.0 answers (let is = number askings stood.0 in omega (arith, is)),
+    λ path. ap (λ all. is_some (file_at all path)) files ∙ stood.1 path,
+  )
+
+  there : given_at new.answers what at k ≡ Some given
+  there = ap (λ all. given_at all what at k) answers ∙ given_new old.answers x (is_next.1.none_later k (omega (arith, is_next.2)))
+
+  pub answered : (result : Result (Option GivenThere) Memory) → IfOk result (λ found. found ≡ given_at new.answers what at k)
+      → Asks what at (λ capture. IsCaptureOf new next capture) (λ askings fetches. AreNumbered old askings × AreFetched old fetches)
+      (λ askings fetches. AreNumbered new askings × AreFetched new fetches) result
+  answered (Ok (Some found)) is = λ capture askings fetches fit stood. (
+    subst (λ n. given_in capture.answers (ask_seen what) at n ≡ Some (given_seen found)) (number askings stood.0)
+        (ap (λ all. given_in all (ask_seen what) at k) fit.answers ∙ given_of new.answers fit.rest what at k found (sym is)),
+    more askings fetches stood,
+  )
+  answered (Ok None) is = absurd (not_both given (is ∙ there))
+  answered (Err want) is = λ askings fetches stood. inr (more askings fetches stood)
+
+-- where memory ran out before anything was asked, it does not count
+pub unasked : (old new : CaptureView) (next : Telling) (what : Question) (at : Pos) (result : Result (Option GivenThere) Memory) → IsErr result → new ≡ old
+    → Asks what at (λ capture. IsCaptureOf new next capture) (λ askings fetches. AreNumbered old askings × AreFetched old fetches)
+    (λ askings fetches. AreNumbered new askings × AreFetched new fetches) result
+unasked old new next what at (Ok given) err same = absurd (false≢true err)
+unasked old new next what at (Err want) err same = λ askings fetches stood. inl (subst (λ view. AreNumbered view askings × AreFetched view fetches) (sym same) stood)
 
 -- a file more
 none_here : (b : Bool) (file : FoundThere) (rest : Option FoundThere) → (if b then Some file else rest) ≡ None → (b ≡ false) × (rest ≡ None)
@@ -150,49 +228,36 @@ file_stays (file ∷ files) path found p f none some =
     by_place false false is later = ap (λ b. if b then Some file.1 else file_at (with_file path found files) p) is
         ∙ later (sym (ap (λ b. if b then Some file.1 else file_at files p) is) ∙ some)
 
--- a path that was fetched
-pub record Touched (old new : CaptureView) (path : List ℕ) : Type 0 where
-  pub known : IsTrue (is_known old path) → new ≡ old
-  pub kept : is_known old path ≡ false → (found : FoundThere) × (new.files ≡ with_file path found old.files)
-
-known_is : (old : CaptureView) (path : List ℕ) → old.written ≡ [] → is_known old path ≡ is_some (file_at old.files path)
-known_is old path unwritten = ap (λ written. is_some (file_at old.files path) || is_among path written) unwritten ∙ no_more (is_some (file_at old.files path))
+-- a file elsewhere is found as before
+pub file_elsewhere : (files : List (List ℕ × FoundThere)) (path : List ℕ) (found : FoundThere) (p : List ℕ) → bytes_eq path p ≡ false → file_at (with_file path found files) p ≡ file_at files p
+file_elsewhere [] path found p apart = ap (λ b. if b then Some found else None) apart
+file_elsewhere (file ∷ files) path found p apart = by_place (is_before path file.0) (file_elsewhere files path found p apart)
   where
-    no_more : (b : Bool) → (b || false) ≡ b
-    no_more true = refl
-    no_more false = refl
+    by_place : (b : Bool) → file_at (with_file path found files) p ≡ file_at files p
+        → file_at (if b then (path, found) ∷ file ∷ files else file ∷ with_file path found files) p ≡ file_at (file ∷ files) p
+    by_place true later = ap (λ b. if b then Some found else file_at (file ∷ files) p) apart
+    by_place false later = ap (λ rest. if bytes_eq file.0 p then Some file.1 else rest) later
 
-none_is : (file : Option FoundThere) → is_some file ≡ false → file ≡ None
-none_is (Some found) is = cc
-none_is None is = refl
-
-pub fetch_has : (old new : CaptureView) (path : List ℕ) → old.written ≡ [] → Touched old new path → IsSome (file_at new.files path)
-fetch_has old new path unwritten touched = by_known (is_known old path) refl
+pub turned_apart : (p q : List ℕ) → bytes_eq p q ≡ false → bytes_eq q p ≡ false
+turned_apart p q apart = by_test (bytes_eq q p) refl
   where
-    by_known : (b : Bool) → is_known old path ≡ b → IsSome (file_at new.files path)
-    by_known true is = subst (λ (view : CaptureView). IsSome (file_at view.files path)) (sym (touched.known is)) (sym (known_is old path unwritten) ∙ is)
-    by_known false is = let kept = touched.kept is in
-        subst (λ files. IsSome (file_at files path)) (sym kept.1)
-        (ap is_some (file_came old.files path kept.0 (none_is (file_at old.files path) (sym (known_is old path unwritten) ∙ is))))
+    by_test : (b : Bool) → bytes_eq q p ≡ b → b ≡ false
+    by_test false is = refl
+    by_test true is = absurd (differ (sym ((bytes_eq-Decides p q).1 (sym ((bytes_eq-Decides q p).0 is))) ∙ apart))
 
-pub fetch_knew : (old new : CaptureView) (path : List ℕ) → old.written ≡ [] → new.answers ≡ old.answers → Touched old new path → (capture : Capture) → HasKept new capture → HasKept old capture
-fetch_knew old new path unwritten answers touched capture has = record {
-  answers = λ what at k given is. has.answers what at k given (subst (λ all. given_at all what at k ≡ Some given) (sym answers) is);
-  files = λ p found is. has.files p found (by_known p found is (is_known old path) refl);
-}
+-- what is kept of a path with one file more
+pub has_more : (old new : CaptureView) (path : List ℕ) (found : FoundThere) → file_at old.files path ≡ None → new.files ≡ with_file path found old.files
+    → (p : List ℕ) → has_file new p ≡ (bytes_eq p path || has_file old p)
+has_more old new path found absent files p = ap (λ all. is_some (file_at all p)) files ∙ by_test (bytes_eq p path) refl
   where
-    by_known : (p : List ℕ) (found : FoundThere) → file_at old.files p ≡ Some found → (b : Bool) → is_known old path ≡ b → file_at new.files p ≡ Some found
-    by_known p found is true known = ap (λ (view : CaptureView). file_at view.files p) (touched.known known) ∙ is
-    by_known p found is false known = let kept = touched.kept known in
-        ap (λ files. file_at files p) kept.1 ∙ file_stays old.files path kept.0 p found (none_is (file_at old.files path) (sym (known_is old path unwritten) ∙ known)) is
+    by_test : (b : Bool) → bytes_eq p path ≡ b → is_some (file_at (with_file path found old.files) p) ≡ (b || has_file old p)
+    by_test true is = ap (λ q. is_some (file_at (with_file path found old.files) q)) ((bytes_eq-Decides p path).0 is) ∙ ap is_some (file_came old.files path found absent)
+    by_test false is = ap is_some (file_elsewhere old.files path found p (turned_apart p path is))
 
-module _ {R : Type 0} (old new : CaptureView) (path : List ℕ) (unwritten : old.written ≡ []) (known : IsTrue (is_known old path) → new ≡ old) where
-  pub ok_has : (result : Result (Unit {0}) Memory) → (is_known old path ≡ false → OnOk result R) → (R → (found : FoundThere) × (new.files ≡ with_file path found old.files))
-      → OnOk result (IsSome (file_at new.files path))
-  ok_has (Ok done) kept to = fetch_has old new path unwritten (record { known = known; kept = λ is. to (kept is) })
-  ok_has (Err want) kept to = tt
-
-  pub either_knew : (result : Result (Unit {0}) Memory) → new ≡ record old { files = new.files } → OnErr result (new ≡ old) → (is_known old path ≡ false → OnOk result R)
-      → (R → (found : FoundThere) × (new.files ≡ with_file path found old.files)) → (capture : Capture) → HasKept new capture → HasKept old capture
-  either_knew (Ok done) same err kept to = fetch_knew old new path unwritten (ap (λ (view : CaptureView). view.answers) same) (record { known = known; kept = λ is. to (kept is) })
-  either_knew (Err want) same err kept to = λ capture has. subst (λ view. HasKept view capture) err has
+-- the same where the file is kept already
+pub has_still : (view : CaptureView) (path : List ℕ) → has_file view path ≡ true → (p : List ℕ) → has_file view p ≡ (bytes_eq p path || has_file view p)
+has_still view path there p = by_test (bytes_eq p path) refl
+  where
+    by_test : (b : Bool) → bytes_eq p path ≡ b → has_file view p ≡ (b || has_file view p)
+    by_test true is = ap (has_file view) ((bytes_eq-Decides p path).0 is) ∙ there
+    by_test false is = refl

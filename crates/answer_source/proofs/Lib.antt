@@ -1,2 +1,4 @@
+pub mod Going
 pub mod Fitting
 pub mod Keeping
+pub mod Fetching

@@ -1,6 +1,5 @@
 -- What a source of answers gives (this project's profile): what every capture has that fits it afterwards.
-use Rattle.std.specs.Prelude.{◌≡◌, suc, List, ◌∷◌, Option, Result, Ok, Err}
-use Rattle.std.specs.Option.{option_map}
+use Rattle.std.specs.Prelude.{◌≡◌, ◌⊎◌, ℕ, suc, List, [], ◌∷◌, Option, Some, None, Result, Ok, Err}
 use Rattle.prov_base.specs.declared.place.Pos.{Pos}
 use Rattle.prov_outside.specs.declared.folder.Found.{Found as FoundThere}
 use Rattle.prov_outside.specs.declared.folder.Found.TheVariants.{Bytes, Absent, TooLarge, Failed as Unfound}
@@ -8,7 +7,7 @@ use Rattle.capture.specs.declared.answer.Ask.{Ask as Question}
 use Rattle.capture.specs.declared.answer.Ask.TheVariants.{Time, Word, Line}
 use Rattle.capture.specs.declared.answer.Given.{Given as GivenThere}
 use Rattle.capture.specs.declared.answer.Given.TheVariants.{Number, Word as WordGiven, Line as LineGiven, End, Failed}
-use Rattle.py_model.specs.Capture.{Capture, given_in}
+use Rattle.py_model.specs.Capture.{Capture, given_in, found_in}
 use Rattle.py_model.specs.Plan.{Ask, time, word, line, Given, number, random_word, a_line, no_line, failed, Found, found_bytes, absent, too_large, found_failed}
 use Rattle.py_model.specs.Running.{Asking, askings_at}
 
@@ -35,20 +34,35 @@ abbrev pub Fits : Type 1
 Fits = Capture → Type 0
 
 abbrev pub Stands : Type 1
-Stands = List Asking → Type 0
+Stands = List Asking → List (List ℕ) → Type 0
 
 -- what fits afterwards fitted before
 abbrev pub Knew : Fits → Fits → Type 0
 Knew before after = (capture : Capture) → after capture → before capture
 
 abbrev pub Stays : Stands → Stands → Type 0
-Stays before after = (askings : List Asking) → before askings → after askings
+Stays before after = (askings : List Asking) (fetches : List (List ℕ)) → before askings fetches → after askings fetches
 
 -- one asking more at a place
 abbrev pub next_asking : Pos → Ask → List Asking → List Asking
 next_asking at what askings = record { at = at; k = suc (askings_at at askings); what = what } ∷ askings
 
+-- What was answered is what the capture has for the next time at the place, and it counts as asked. Where the capture has nothing, nothing
+-- counts. After want of memory it may count as asked, or not.
 abbrev pub Asks : {E : Type 0} → Question → Pos → Fits → Stands → Stands → Result (Option GivenThere) E → Type 0
-Asks what at fits before after (Ok given) = (capture : Capture) (askings : List Asking) → fits capture → before askings
-    → (given_in capture.answers (ask_seen what) at (suc (askings_at at askings)) ≡ option_map given_seen given) × after (next_asking at (ask_seen what) askings)
-Asks what at fits before after (Err want) = Stays before after
+Asks what at fits before after (Ok (Some given)) = (capture : Capture) (askings : List Asking) (fetches : List (List ℕ)) → fits capture → before askings fetches
+    → (given_in capture.answers (ask_seen what) at (suc (askings_at at askings)) ≡ Some (given_seen given)) × after (next_asking at (ask_seen what) askings) fetches
+Asks what at fits before after (Ok None) = (capture : Capture) (askings : List Asking) (fetches : List (List ℕ)) → fits capture → before askings fetches
+    → (given_in capture.answers (ask_seen what) at (suc (askings_at at askings)) ≡ None) × after askings fetches
+Asks what at fits before after (Err want) = (askings : List Asking) (fetches : List (List ℕ)) → before askings fetches
+    → after askings fetches ⊎ after (next_asking at (ask_seen what) askings) fetches
+
+-- the path counts as fetched; after want of memory it does not
+abbrev pub Fetches : {T E : Type 0} → List ℕ → Stands → Stands → Result T E → Type 0
+Fetches path before after (Ok done) = (askings : List Asking) (fetches : List (List ℕ)) → before askings fetches → after askings (path ∷ fetches)
+Fetches path before after (Err want) = Stays before after
+
+-- no path stands twice
+abbrev pub PathsOnce : List (List ℕ × Found) → Type 0
+PathsOnce [] = Unit {0}
+PathsOnce (file ∷ files) = (found_in files file.0 ≡ None) × PathsOnce files

@@ -1,7 +1,6 @@
 // A source over devices.
-ghost use Rattle.std.specs.Prelude.{◌≡◌, [], IsSome};
-ghost use Rattle.capture.specs.Files.{file_at};
-ghost use Rattle.answer_source.specs.Live.{HasKept, AreNumbered};
+ghost use Rattle.std.specs.Prelude.{◌≡◌, [], IsTrue};
+ghost use Rattle.answer_source.specs.Live.{IsCaptureOf, AreNumbered, AreFetched, has_file, telling, capture_of};
 
 use crate::Source;
 use capture::{Ask, Capture, Given};
@@ -20,7 +19,7 @@ pub struct Live<'a, C: Console, F: Folder, M: Moments> {
 }
 
 impl<'a, C: Console, F: Folder, M: Moments> Live<'a, C, F, M> {
-    /// A source over devices, whose capture notes no path as written.
+    /// A source over devices, whose capture notes no path as written. It has these devices as they are.
     pub fn new(
         capture: Capture,
         console: &'a mut C,
@@ -28,7 +27,10 @@ impl<'a, C: Console, F: Folder, M: Moments> Live<'a, C, F, M> {
         moments: &'a mut M,
     ) -> Live<'a, C, F, M>
         requires { capture.written ≡ [] }
-        ensures { result.capture ≡ capture }
+        ensures kept { result.capture ≡ capture }
+        ensures console { result.console ≡ console.entry }
+        ensures folder { result.folder ≡ folder.entry }
+        ensures moments { result.moments ≡ moments.entry }
     {
         Live {
             capture,
@@ -38,29 +40,51 @@ impl<'a, C: Console, F: Folder, M: Moments> Live<'a, C, F, M> {
         }
     }
 
-    /// The capture of what was given.
+    /// The capture of what was given. It fits at the end of the run, and what its devices tell then is what they tell at its end.
     pub fn finish(self) -> Capture
-        ensures { result ≡ self.entry.capture }
+        ensures kept { result ≡ self.entry.capture }
+        ensures fits { let now = telling (C.told self.entry.console.now) (F.told self.entry.folder.now) (M.told self.entry.moments.now) (record {
+          line = C.in_faults self.entry.console.now;
+          write = C.out_faults self.entry.console.now;
+          file = F.get_faults self.entry.folder.now;
+          source = F.source_faults self.entry.folder.now;
+          put = F.put_faults self.entry.folder.now;
+          time = M.time_faults self.entry.moments.now;
+          word = M.word_faults self.entry.moments.now;
+        }) in IsCaptureOf self.entry.capture now (capture_of result now) }
     {
+        let _ = self.capture.files();
         self.capture
     }
 }
 
 impl<'a, C: Console, F: Folder, M: Moments> Source for Live<'a, C, F, M> {
-    ghost fits = { λ s held. HasKept s.capture held };
+    ghost fits = { λ s held. IsCaptureOf s.capture (telling (C.told s.console.now) (F.told s.folder.now) (M.told s.moments.now) (record {
+      line = C.in_faults s.console.now;
+      write = C.out_faults s.console.now;
+      file = F.get_faults s.folder.now;
+      source = F.source_faults s.folder.now;
+      put = F.put_faults s.folder.now;
+      time = M.time_faults s.moments.now;
+      word = M.word_faults s.moments.now;
+    })) held };
 
-    ghost stands = { λ s askings. AreNumbered s.capture askings };
+    ghost stands = { λ s askings fetches. AreNumbered s.capture askings × AreFetched s.capture fetches };
 
-    fn some_fits(&self) {}
-
-    fn ask(&mut self, alloc: Global, what: Ask, at: Pos) -> Result<Option<Given>, Memory> {
-        let given = self
-            .capture
-            .ask_live(alloc, what, at, self.console, self.moments)?;
-        Ok(Some(given))
+    fn some_fits(&self) {
+        let _ = self.capture.files();
     }
 
-    ghost has = { λ s path. IsSome (file_at s.capture.files path) };
+    fn paths_once(&self) {}
+
+    fn ask(&mut self, alloc: Global, what: Ask, at: Pos) -> Result<Option<Given>, Memory> {
+        let k = self
+            .capture
+            .ask_live(alloc, what, at, self.console, self.moments)?;
+        self.capture.copy_kept(alloc, what, at, k)
+    }
+
+    ghost has = { λ s path. IsTrue (has_file s.capture path) };
 
     fn fetch(&mut self, alloc: Global, path: &str) -> Result<(), Memory> {
         self.capture.touch_live(alloc, path, self.folder)

@@ -1,7 +1,7 @@
 // What a source of answers promises.
 ghost use Rattle.std.specs.Prelude.{◌≡◌, ℕ, List, OnOk, option_copied};
 ghost use Rattle.std.specs.Option.{option_map};
-ghost use Rattle.answer_source.specs.Sources.{Knew, Asks, Stays, found_seen};
+ghost use Rattle.answer_source.specs.Sources.{Knew, Asks, Fetches, PathsOnce, found_seen};
 ghost use Rattle.py_model.specs.Capture.{Capture, found_in};
 ghost use Rattle.py_model.specs.Running.{Asking};
 
@@ -15,15 +15,19 @@ pub trait Source {
     /// A capture that fits the source: it has all that the source has given so far, and may have more.
     ghost fits: { Self → Capture → Type 0 };
 
-    /// What was asked so far, the latest first.
-    ghost stands: { Self → List Asking → Type 0 };
+    /// What was asked and which paths were fetched so far, the latest first.
+    ghost stands: { Self → List Asking → List (List ℕ) → Type 0 };
 
     /// The law that some capture fits the source.
     fn some_fits(&self)
         ensures { (capture : Capture) × fits self.now capture };
 
-    /// What a device gives to a question that is asked at a place, for the next time there; none where nothing is kept of it. After an
-    /// `Err` it does not count as asked.
+    /// The law that no path stands twice in a capture that fits.
+    fn paths_once(&self)
+        ensures { (capture : Capture) → fits self.now capture → PathsOnce capture.files };
+
+    /// What a device gives to a question that is asked at a place, for the next time there; none where nothing is kept of it, and then it
+    /// does not count as asked. After an `Err` it may count as asked: what was given is kept, and memory may lack for a copy of it.
     fn ask(&mut self, alloc: Global, what: Ask, at: Pos) -> Result<Option<Given>, Memory>
         ensures knew { Knew (fits self.old) (fits self.new) }
         ensures asked { Asks what at (fits self.new) (stands self.old) (stands self.new) result };
@@ -34,7 +38,7 @@ pub trait Source {
     /// Fetches what stands at a path, where it was not fetched before. After an `Err` it does not count as fetched.
     fn fetch(&mut self, alloc: Global, path: &str) -> Result<(), Memory>
         ensures knew { Knew (fits self.old) (fits self.new) }
-        ensures stays { Stays (stands self.old) (stands self.new) }
+        ensures fetched { Fetches path.now (stands self.old) (stands self.new) result }
         ensures has { OnOk result (has self.new path.now) };
 
     /// What stands at a path that was fetched; none where nothing is kept of it.

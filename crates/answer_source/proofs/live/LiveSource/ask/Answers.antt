@@ -1,13 +1,22 @@
-use Rattle.std.proofs.Common.{◌+◌, ap}
+use Rattle.std.proofs.Common.{ap}
 use Rattle.capture.specs.Capture.{CaptureView}
-use Rattle.answer_source.proofs.Keeping.{kept_before, answer_came}
+use Rattle.answer_source.proofs.Keeping.{knew_refused, knew_asked, answered}
 use Rattle.answer_source.proofs.live.LiveSource.ask.Goals as goal
 
-pub returns-clause-knew : goal.returns-clause-knew
-returns-clause-knew g c = λ capture. kept_before c.args.self.now.capture c.ask_live.new.self
-    (record { at = c.args.at; k = c.in_ok-given.ensures.kept.0 + 1; what = c.args.what; given = c.in_ok-given.given }) capture (c.in_ok-given.ensures.kept.2)
-    (ap (λ (view : CaptureView). view.files) c.ask_live.ensures.same)
-
 pub returns-clause-asked : goal.returns-clause-asked
-returns-clause-asked g c = λ capture askings has numbered. answer_came c.args.self.now.capture c.ask_live.new.self c.args.what c.args.at c.in_ok-given.ensures.kept.0 c.in_ok-given.given capture askings
-    (c.in_ok-given.ensures.kept.1) (c.in_ok-given.ensures.kept.2) has numbered
+returns-clause-asked g c = let kept = c.in_ok-k.ensures.kept in
+    answered c.args.self.now.capture c.ask_live.new.self _ c.args.what c.args.at c.in_ok-k.k kept.0 kept.1 kept.2 (ap (λ (view : CaptureView). view.files) c.ask_live.ensures.same) c.copy_kept.result c.copy_kept.ensures
+
+pub returns-clause-knew : goal.returns-clause-knew
+returns-clause-knew g c = let kept = c.in_ok-k.ensures.kept in
+    knew_asked g.C.Console.told g.C.Console.in_faults g.C.Console.out_faults g.M.Moments.told g.M.Moments.time_faults g.M.Moments.word_faults
+    (g.F.Folder.told c.args.self.now.folder.now) (g.F.Folder.get_faults c.args.self.now.folder.now) (g.F.Folder.source_faults c.args.self.now.folder.now) (g.F.Folder.put_faults c.args.self.now.folder.now)
+    c.args.self.now.capture c.ask_live.new.self c.args.what kept.0 c.args.at c.in_ok-k.k c.args.self.now.console.now c.ask_live.new.console c.args.self.now.moments.now c.ask_live.new.moments
+    kept.2 (ap (λ (view : CaptureView). view.files) c.ask_live.ensures.same) kept.3 kept.4 kept.5 kept.6 c.ask_live.ensures.other_count c.ask_live.ensures.other_device
+
+pub returns-in_err-k-clause-knew : goal.returns-in_err-k-clause-knew
+returns-in_err-k-clause-knew g c =
+    knew_refused g.C.Console.told g.C.Console.in_faults g.C.Console.out_faults g.M.Moments.told g.M.Moments.time_faults g.M.Moments.word_faults
+    (g.F.Folder.told c.args.self.now.folder.now) (g.F.Folder.get_faults c.args.self.now.folder.now) (g.F.Folder.source_faults c.args.self.now.folder.now) (g.F.Folder.put_faults c.args.self.now.folder.now)
+    c.args.self.now.capture c.ask_live.new.self c.args.self.now.console.now c.ask_live.new.console c.args.self.now.moments.now c.ask_live.new.moments
+    c.in_err-k.ensures.err c.in_err-k.ensures.err_told c.in_err-k.ensures.err_cause
