@@ -27,7 +27,7 @@ use Rattle.answer_source.specs.Sources.{ask_seen, given_seen, found_seen, PathsO
 use Rattle.answer_source.proofs.Going.{nothing_itself, tells_itself}
 
 -- both parts of a test
-both_true : (a b : Bool) → (a && b) ≡ true → (a ≡ true) × (b ≡ true)
+pub both_true : (a b : Bool) → (a && b) ≡ true → (a ≡ true) × (b ≡ true)
 both_true true b is = (refl, is)
 both_true false b is = cc
 
@@ -35,10 +35,10 @@ and_true : (a b : Bool) → a ≡ true → b ≡ true → (a && b) ≡ true
 and_true a b one other = ap (λ x. x && b) one ∙ other
 
 -- the same place the other way round
-turned_place : (p q : Pos) → places.eq p q ≡ true → places.eq q p ≡ true
+pub turned_place : (p q : Pos) → places.eq p q ≡ true → places.eq q p ≡ true
 turned_place p q is = subst (λ at. places.eq at p ≡ true) (same_place p q is) (place_itself p)
 
-turned_number : (m n : ℕ) → nat_eq m n ≡ true → nat_eq n m ≡ true
+pub turned_number : (m n : ℕ) → nat_eq m n ≡ true → nat_eq n m ≡ true
 turned_number m n is = eq-eqb n m (sym (eqb-true m n is))
 
 asks_so : (what other : Question) → is_same what other ≡ true → same_ask (ask_seen other) (ask_seen what) ≡ true
@@ -59,7 +59,7 @@ given_so false here there is = cc
 differ : true ≡ false → ⊥
 differ is = cc
 
-not_kept : (asked : Asked) (what : Question) (at : Pos) (k : ℕ) → is_under at k asked ≡ false → is_kept_as (ask_seen what) at k (kept_seen asked) ≡ false
+pub not_kept : (asked : Asked) (what : Question) (at : Pos) (k : ℕ) → is_under at k asked ≡ false → is_kept_as (ask_seen what) at k (kept_seen asked) ≡ false
 not_kept asked what at k none = by_kept (is_kept_as (ask_seen what) at k (kept_seen asked)) refl
   where
     by_kept : (b : Bool) → is_kept_as (ask_seen what) at k (kept_seen asked) ≡ b → b ≡ false

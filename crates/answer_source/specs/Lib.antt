@@ -1,3 +1,4 @@
 pub mod Sources
 pub mod Going
 pub mod Live
+pub mod Kept

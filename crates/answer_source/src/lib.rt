@@ -6,12 +6,16 @@
 //! - [`Live`]: the devices, and the capture of what they gave so far. It always has an answer. A capture that fits has what is kept, and then
 //!   only what the devices give from now to its end, by what they tell and by their counts of faults (`IsCaptureOf` of `specs/Live.antt`). What
 //!   fits afterwards fitted before, so a capture that fits at the end of a run is tied to its devices from the start.
+//! - [`Kept`]: a capture that was kept, for a run that is given the same. It counts the askings of this run, and answers nothing where nothing
+//!   is kept.
 //!
 //! Of a device that does not tell, the counts alone speak. What is written is not part of it.
 #![tactic(auto)]
 
+mod kept;
 mod live;
 mod source;
 
+pub use kept::Kept;
 pub use live::Live;
 pub use source::Source;
