@@ -16,11 +16,11 @@ use Rattle.capture.specs.Capture.{CaptureView, is_known, is_among}
 use Rattle.capture.specs.Files.{file_at, with_file}
 use Rattle.py_model.specs.Capture.{Capture, Telling, found_in}
 use Rattle.py_model.specs.Plan.{Found, found_bytes, absent, too_large, found_failed}
-use Rattle.answer_source.specs.Going.{Same, GivesNothing, IsFoundSo, StandsSo, unfound_after, fetches_failed}
+use Rattle.answer_source.specs.Going.{Same, GivesNothing, IsFoundSo, IsUntouched, StandsSo, unfound_after, fetches_failed}
 use Rattle.answer_source.specs.Live.{IsCaptureOf, AreNumbered, AreFetched, has_file, kept_seen, telling}
 use Rattle.answer_source.specs.Sources.{found_seen, PathsOnce, Fetches}
 use Rattle.answer_source.proofs.Fitting.{not_both}
-use Rattle.answer_source.proofs.Going.{tells_itself, tells_after, goes_from}
+use Rattle.answer_source.proofs.Going.{tells_itself, tells_after, goes_from, untouched_then}
 use Rattle.answer_source.proofs.Keeping.{file_came, file_stays, file_elsewhere, has_more, has_still}
 
 -- one count more, in either order
@@ -115,7 +115,7 @@ stands_so path found (Some m) (Some n) (Some e) answer told onward =
 -- a file was fetched
 module _ (old new : CaptureView) (now next : Telling) (path : List ℕ) (found : FoundThere) (nothing : GivesNothing now next) (gone : file_at old.files path ≡ None)
     (answers : new.answers ≡ old.answers) (files : new.files ≡ with_file path found old.files) (told : Tells now.files next.files (Gets path (as_fetch (Ok found))))
-    (counts : next.file_faults ≡ faults_after (as_fetch (Ok found)) now.file_faults) (answer : IfOk (as_fetch (Ok found)) IsAnswer) where
+    (counts : next.file_faults ≡ faults_after (as_fetch (Ok found)) now.file_faults) (answer : IfOk (as_fetch (Ok found)) IsAnswer) (same : IsUntouched now next) where
   pub knew_fetched : (capture : Capture) → IsCaptureOf new next capture → IsCaptureOf old now capture
   knew_fetched capture fit = record {
     rest = fit.rest;
@@ -128,6 +128,7 @@ module _ (old new : CaptureView) (now next : Telling) (path : List ℕ) (found :
     file_faults = fit.file_faults
         ∙ (ap (fetches_failed (has_file new) capture.files) (counts ∙ counted_so found now.file_faults)
         ∙ sym (fails_moved (has_file old) (has_file new) path (has_more old new path found gone files) capture.files (found_seen found) now.file_faults (ap is_some gone) fit.once there));
+    untouched = untouched_then now next capture.ends same fit.untouched;
   }
     where
       there : found_in capture.files path ≡ Some (found_seen found)
@@ -144,9 +145,9 @@ module _ (old new : CaptureView) (now next : Telling) (path : List ℕ) (found :
       by_path p f none is false apart = fit.others p f (ap (λ all. file_at all p) files ∙ (file_elsewhere old.files path found p apart ∙ none)) is
 
 -- nothing was fetched
-pub knew_unfetched : (old new : CaptureView) (now next : Telling) → GivesNothing now next → new ≡ old → Tells now.files next.files Same → next.file_faults ≡ now.file_faults
+pub knew_unfetched : (old new : CaptureView) (now next : Telling) → GivesNothing now next → IsUntouched now next → new ≡ old → Tells now.files next.files Same → next.file_faults ≡ now.file_faults
     → (capture : Capture) → IsCaptureOf new next capture → IsCaptureOf old now capture
-knew_unfetched old new now next nothing same told counts capture other =
+knew_unfetched old new now next nothing apart same told counts capture other =
     let fit = subst (λ view. IsCaptureOf view next capture) same other in
     record {
       rest = fit.rest;
@@ -157,6 +158,7 @@ knew_unfetched old new now next nothing same told counts capture other =
       others = fit.others;
       folder = tells_after Same now.files next.files capture.ends.files told fit.folder;
       file_faults = fit.file_faults ∙ ap (fetches_failed (has_file old) capture.files) counts;
+      untouched = untouched_then now next capture.ends apart fit.untouched;
     }
 
 -- what is known of a path, where nothing was noted as written
@@ -223,15 +225,18 @@ module _ {F : Type 0} (folder_told : F → Option Files) (get_faults : F → ℕ
       word_faults = refl;
     }
 
-    pub knew_fetch : (result : Result (Unit {0}) Memory) → (is_known old path ≡ false → OnOk result (FileKept folder_told get_faults path old new f g)) → OnErr result (new ≡ old)
+    apart : (source_faults g ≡ source_faults f) → (put_faults g ≡ put_faults f) → IsUntouched (told_at f) (told_at g)
+    apart source put = record { written = tells_itself (told_at f).written; write_faults = refl; source_faults = source; put_faults = put }
+
+    pub knew_fetch : (source_faults g ≡ source_faults f) → (put_faults g ≡ put_faults f) → (result : Result (Unit {0}) Memory) → (is_known old path ≡ false → OnOk result (FileKept folder_told get_faults path old new f g)) → OnErr result (new ≡ old)
         → OnErr result (Tells (folder_told f) (folder_told g) (λ x y. y ≡ x)) → OnErr result (get_faults g ≡ get_faults f)
         → (capture : Capture) → IsCaptureOf new (told_at g) capture → IsCaptureOf old (told_at f) capture
-    knew_fetch (Ok done) kept err told counts = by_known (is_known old path) refl
+    knew_fetch source put (Ok done) kept err told counts = by_known (is_known old path) refl
       where
         by_known : (b : Bool) → is_known old path ≡ b → (capture : Capture) → IsCaptureOf new (told_at g) capture → IsCaptureOf old (told_at f) capture
         by_known true is = let k = known is in
-            knew_unfetched old new (told_at f) (told_at g) nothing k.1
+            knew_unfetched old new (told_at f) (told_at g) nothing (apart source put) k.1
             (subst (λ h. Tells (folder_told f) (folder_told h) Same) (sym k.2) (tells_itself (folder_told f))) (ap get_faults k.2)
         by_known false is = let k = kept is in
-            knew_fetched old new (told_at f) (told_at g) path k.0 nothing (gone is) (ap (λ (view : CaptureView). view.answers) same) k.1 k.2 k.3 k.4
-    knew_fetch (Err want) kept err told counts = knew_unfetched old new (told_at f) (told_at g) nothing err told counts
+            knew_fetched old new (told_at f) (told_at g) path k.0 nothing (gone is) (ap (λ (view : CaptureView). view.answers) same) k.1 k.2 k.3 k.4 (apart source put)
+    knew_fetch source put (Err want) kept err told counts = knew_unfetched old new (told_at f) (told_at g) nothing (apart source put) err told counts

@@ -24,7 +24,7 @@ use Rattle.py_model.specs.Plan.{Ask, Given, Found}
 use Rattle.answer_source.specs.Going.{unfound_after, fetches_failed}
 use Rattle.answer_source.specs.Live.{IsCaptureOf, kept_seen, file_seen, has_file, capture_of}
 use Rattle.answer_source.specs.Sources.{ask_seen, given_seen, found_seen, PathsOnce}
-use Rattle.answer_source.proofs.Going.{nothing_itself, tells_itself}
+use Rattle.answer_source.proofs.Going.{nothing_itself, tells_itself, untouched_itself}
 
 -- both parts of a test
 pub both_true : (a b : Bool) → (a && b) ≡ true → (a ≡ true) × (b ≡ true)
@@ -179,4 +179,5 @@ own_fits view now ascending = record {
   others = λ path found none is. absurd (not_both found (sym (none_kept view.files path none) ∙ is));
   folder = tells_itself now.files;
   file_faults = all_kept (has_file view) view.files now.file_faults (λ path there. there);
+  untouched = untouched_itself now;
 }

@@ -15,7 +15,7 @@ use Rattle.capture.specs.declared.answer.Given.{Given as GivenThere}
 use Rattle.capture.specs.declared.answer.Given.TheVariants.{Number, Word as WordGiven, Line as LineGiven, End, Failed}
 use Rattle.py_model.specs.Capture.{Kept, Telling}
 use Rattle.py_model.specs.Plan.{time, word, line, number, random_word, a_line, no_line}
-use Rattle.answer_source.specs.Going.{Same, LinesBy, TimesBy, WordsBy, faults_by, Gives, GivesNothing, Goes}
+use Rattle.answer_source.specs.Going.{Same, LinesBy, TimesBy, WordsBy, faults_by, Gives, GivesNothing, Goes, IsUntouched}
 use Rattle.answer_source.specs.Live.{kept_seen, telling}
 
 pub tells_itself : {T : Type 0} → (told : Option T) → Tells told told Same
@@ -47,6 +47,17 @@ nothing_itself now = record {
   line_faults = refl;
   time_faults = refl;
   word_faults = refl;
+}
+
+pub untouched_itself : (now : Telling) → IsUntouched now now
+untouched_itself now = record { written = tells_itself now.written; write_faults = refl; source_faults = refl; put_faults = refl }
+
+pub untouched_then : (a b c : Telling) → IsUntouched a b → IsUntouched b c → IsUntouched a c
+untouched_then a b c first later = record {
+  written = tells_after Same a.written b.written c.written first.written later.written;
+  write_faults = later.write_faults ∙ first.write_faults;
+  source_faults = later.source_faults ∙ first.source_faults;
+  put_faults = later.put_faults ∙ first.put_faults;
 }
 
 -- what goes on from a moment goes on from an earlier one, where nothing was given in between

@@ -17,6 +17,7 @@ use Rattle.capture.specs.declared.answer.Ask.{Ask as Question}
 use Rattle.capture.specs.declared.answer.Ask.TheVariants.{Time, Word, Line}
 use Rattle.capture.specs.declared.answer.Asked.{Asked}
 use Rattle.capture.specs.declared.answer.Given.{Given as GivenThere}
+use Rattle.capture.specs.declared.answer.Given.TheVariants.{Number, Word as WordGiven, Line as LineGiven, End, Failed}
 use Rattle.capture.proofs.Lasts.{place_itself, same_place, last_more}
 use Rattle.prov_outside.specs.Console.{ConsoleView}
 use Rattle.prov_outside.specs.Count.{faults_after}
@@ -27,11 +28,11 @@ use Rattle.capture.specs.Asking.{ForAsk, AsksTime, AsksWord, AsksLine, as_answer
 use Rattle.py_model.specs.Capture.{Capture, Kept, Telling, given_in}
 use Rattle.py_model.specs.Plan.{Ask}
 use Rattle.py_model.specs.Running.{Asking, askings_at}
-use Rattle.answer_source.specs.Going.{Same, Gives, GivesNothing, fetches_failed}
+use Rattle.answer_source.specs.Going.{Same, Gives, GivesNothing, IsUntouched, fetches_failed}
 use Rattle.answer_source.specs.Live.{IsCaptureOf, AreNumbered, AreFetched, has_file, kept_seen}
 use Rattle.answer_source.specs.Sources.{ask_seen, given_seen, next_asking, Asks}
 use Rattle.answer_source.proofs.Fitting.{given_of, not_both}
-use Rattle.answer_source.proofs.Going.{goes_from, told_by, refused, answered_so}
+use Rattle.answer_source.proofs.Going.{device_same, goes_from, tells_part, told_by, refused, answered_so, untouched_then}
 
 -- what was found first is found in a longer list
 still_given : (what : Question) (first more : Option Asked) (given : GivenThere) → given_if what first ≡ Some given → given_if what (option_or first more) ≡ Some given
@@ -96,8 +97,8 @@ pushed (y ∷ xs) x rest = ap (λ all. kept_seen y ∷ all) (pushed xs x rest)
 
 -- a capture that fits afterwards fitted before an answer was given
 fit_asked : (old new : CaptureView) (now next : Telling) (x : Asked) (capture : Capture) → new.answers ≡ old.answers ++ x ∷ [] → new.files ≡ old.files
-    → Gives (kept_seen x) now next → next.files ≡ now.files → next.file_faults ≡ now.file_faults → IsCaptureOf new next capture → IsCaptureOf old now capture
-fit_asked old new now next x capture answers files gives folder faults fit = record {
+    → Gives (kept_seen x) now next → next.files ≡ now.files → next.file_faults ≡ now.file_faults → IsUntouched now next → IsCaptureOf new next capture → IsCaptureOf old now capture
+fit_asked old new now next x capture answers files gives folder faults same fit = record {
   rest = kept_seen x ∷ fit.rest;
   answers = fit.answers ∙ (ap (λ all. map kept_seen all ++ fit.rest) answers ∙ pushed old.answers x fit.rest);
   onward = (next, gives, fit.onward);
@@ -106,12 +107,13 @@ fit_asked old new now next x capture answers files gives folder faults fit = rec
   others = λ path found none is. fit.others path found (ap (λ all. file_at all path) files ∙ none) is;
   folder = subst (λ told. Tells told capture.ends.files Same) folder fit.folder;
   file_faults = fit.file_faults ∙ (ap (λ all. fetches_failed (λ path. is_some (file_at all path)) capture.files next.file_faults) files ∙ ap (fetches_failed (has_file old) capture.files) faults);
+  untouched = untouched_then now next capture.ends same fit.untouched;
 }
 
 -- nothing was given
 fit_refused : (view : CaptureView) (now next : Telling) (capture : Capture) → GivesNothing now next → next.files ≡ now.files → next.file_faults ≡ now.file_faults
-    → IsCaptureOf view next capture → IsCaptureOf view now capture
-fit_refused view now next capture nothing folder faults fit = record {
+    → IsUntouched now next → IsCaptureOf view next capture → IsCaptureOf view now capture
+fit_refused view now next capture nothing folder faults same fit = record {
   rest = fit.rest;
   answers = fit.answers;
   onward = goes_from fit.rest now next capture.ends nothing fit.onward;
@@ -120,6 +122,7 @@ fit_refused view now next capture nothing folder faults fit = record {
   others = fit.others;
   folder = subst (λ told. Tells told capture.ends.files Same) folder fit.folder;
   file_faults = fit.file_faults ∙ ap (fetches_failed (has_file view) capture.files) faults;
+  untouched = untouched_then now next capture.ends same fit.untouched;
 }
 
 module _ {C M : Type 0} (console_told : C → Option ConsoleView) (in_faults out_faults : C → ℕ) (moments_told : M → Option MomentsView) (time_faults word_faults : M → ℕ)
@@ -127,12 +130,38 @@ module _ {C M : Type 0} (console_told : C → Option ConsoleView) (in_faults out
   abbrev told : C → M → Telling
   told c m = told_by console_told in_faults out_faults moments_told time_faults word_faults folder file_faults source_faults put_faults c m
 
-  pub knew_refused : (old new : CaptureView) (c d : C) (m n : M) → new ≡ old
+  -- a count that no answer raises
+  out_same : (what : Question) (c d : C) (m n : M) (X Y : Type 0) → ForAsk what X Y (out_faults d ≡ out_faults c) → ForAsk what (d ≡ c) (d ≡ c) (n ≡ m) → out_faults d ≡ out_faults c
+  out_same Time c d m n X Y counts same = ap out_faults same
+  out_same Word c d m n X Y counts same = ap out_faults same
+  out_same Line c d m n X Y counts same = counts
+
+  line_written : (given : GivenThere) (x y : ConsoleView) → AsksLine (Ok given) x y → y.written ≡ x.written
+  line_written (LineGiven bytes) x y asks = asks.1
+  line_written End x y asks = ap (λ (view : ConsoleView). view.written) asks.1
+  line_written Failed x y asks = ap (λ (view : ConsoleView). view.written) asks
+  line_written (Number i) x y asks = absurd asks
+  line_written (WordGiven w) x y asks = absurd asks
+
+  written_same : (what : Question) (given : GivenThere) (c d : C) (m n : M) (X Y : Type 0) → ForAsk what X Y (Tells (console_told c) (console_told d) (AsksLine (Ok given))) → ForAsk what (d ≡ c) (d ≡ c) (n ≡ m)
+      → Tells (told c m).written (told d n).written Same
+  written_same Time given c d m n X Y asks same = device_same console_told (λ (view : ConsoleView). view.written) c d same
+  written_same Word given c d m n X Y asks same = device_same console_told (λ (view : ConsoleView). view.written) c d same
+  written_same Line given c d m n X Y asks same = tells_part (λ (view : ConsoleView). view.written) (AsksLine (Ok given)) Same (line_written given) (console_told c) (console_told d) asks
+
+  pub knew_refused : (what : Question) (old new : CaptureView) (c d : C) (m n : M) → new ≡ old
       → Tells (moments_told m) (moments_told n) (λ x y. y ≡ x) × Tells (console_told c) (console_told d) (λ x y. y ≡ x)
       → (time_faults n ≡ time_faults m) × (word_faults n ≡ word_faults m) × (in_faults d ≡ in_faults c)
+      → ForAsk what (word_faults n ≡ word_faults m) (time_faults n ≡ time_faults m) (out_faults d ≡ out_faults c) → ForAsk what (d ≡ c) (d ≡ c) (n ≡ m)
       → (capture : Capture) → IsCaptureOf new (told d n) capture → IsCaptureOf old (told c m) capture
-  knew_refused old new c d m n same tells counts capture fit = fit_refused old (told c m) (told d n) capture
+  knew_refused what old new c d m n same tells counts other device capture fit = fit_refused old (told c m) (told d n) capture
       (refused console_told in_faults out_faults moments_told time_faults word_faults folder file_faults source_faults put_faults c d m n tells counts) refl refl
+      (record {
+        written = tells_part (λ (view : ConsoleView). view.written) Same Same (λ x y is. ap (λ (view : ConsoleView). view.written) is) (console_told c) (console_told d) tells.1;
+        write_faults = out_same what c d m n _ _ other device;
+        source_faults = refl;
+        put_faults = refl;
+      })
       (subst (λ view. IsCaptureOf view (told d n) capture) same fit)
 
   pub knew_asked : (old new : CaptureView) (what : Question) (given : GivenThere) (at : Pos) (k : ℕ) (c d : C) (m n : M)
@@ -145,6 +174,7 @@ module _ {C M : Type 0} (console_told : C → Option ConsoleView) (in_faults out
   knew_asked old new what given at k c d m n answers files fits one tells cause other same capture =
       fit_asked old new (told c m) (told d n) (record { at = at; k = k; what = what; given = given }) capture answers files
       (answered_so console_told in_faults out_faults moments_told time_faults word_faults folder file_faults source_faults put_faults what given at k c d m n fits one tells cause other same) refl refl
+      (record { written = written_same what given c d m n _ _ tells same; write_faults = out_same what c d m n _ _ other same; source_faults = refl; put_faults = refl })
 
 -- what was asked before, and what stands of it with one answer more
 module _ (old new : CaptureView) (next : Telling) (what : Question) (at : Pos) (k : ℕ) (given : GivenThere) (is_next : IsNext old.answers at k)

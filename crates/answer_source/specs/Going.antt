@@ -62,6 +62,13 @@ pub record GivesNothing (before after : Telling) : Type 0 where
   pub time_faults : after.time_faults ≡ before.time_faults
   pub word_faults : after.word_faults ≡ before.word_faults
 
+-- nothing is written and no file is put, and no such call fails, nor one for a script's own text
+pub record IsUntouched (before after : Telling) : Type 0 where
+  pub written : Tells before.written after.written Same
+  pub write_faults : after.write_faults ≡ before.write_faults
+  pub source_faults : after.source_faults ≡ before.source_faults
+  pub put_faults : after.put_faults ≡ before.put_faults
+
 -- they give these answers, one after the other, and nothing else
 abbrev pub Goes : List Kept → Telling → Telling → Type 0
 Goes [] before after = GivesNothing before after

@@ -11,7 +11,7 @@ use Rattle.capture.specs.Answers.{IsLast}
 use Rattle.capture.specs.Capture.{CaptureView, is_among}
 use Rattle.capture.specs.Files.{file_at}
 use Rattle.capture.specs.declared.answer.Asked.{Asked}
-use Rattle.answer_source.specs.Going.{Same, Goes, StandsSo, fetches_failed}
+use Rattle.answer_source.specs.Going.{Same, Goes, IsUntouched, StandsSo, fetches_failed}
 use Rattle.answer_source.specs.Sources.{ask_seen, given_seen, found_seen, PathsOnce}
 use Rattle.py_model.specs.Capture.{Capture, Kept, Telling, found_in}
 use Rattle.py_model.specs.Plan.{Found}
@@ -30,7 +30,8 @@ has_file view path = is_some (file_at view.files path)
 
 -- A capture of a run that began with what is kept and goes on from what the devices tell now. Its answers are those kept, in the order of
 -- asking, and then those that the devices give up to the end of the run. Its files are those kept, and others that stand so in the folder,
--- which stays as it is. Of these each that was found as failed has raised the count of failing fetches by one, and nothing else has.
+-- which stays as it is. Of these each that was found as failed has raised the count of failing fetches by one, and nothing else has. Nothing is
+-- written, and no file is put.
 pub record IsCaptureOf (view : CaptureView) (now : Telling) (capture : Capture) : Type 0 where
   pub rest : List Kept
   pub answers : capture.answers ≡ map kept_seen view.answers ++ rest
@@ -40,6 +41,7 @@ pub record IsCaptureOf (view : CaptureView) (now : Telling) (capture : Capture) 
   pub others : (path : List ℕ) (found : Found) → file_at view.files path ≡ None → found_in capture.files path ≡ Some found → StandsSo capture.ends.files path found
   pub folder : Tells now.files capture.ends.files Same
   pub file_faults : capture.ends.file_faults ≡ fetches_failed (has_file view) capture.files now.file_faults
+  pub untouched : IsUntouched now capture.ends
 
 -- what was asked at each place is numbered so
 abbrev pub AreNumbered : CaptureView → List Asking → Type 0

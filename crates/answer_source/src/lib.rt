@@ -9,7 +9,7 @@
 //! - [`Kept`]: a capture that was kept, for a run that is given the same. It counts the askings of this run, and answers nothing where nothing
 //!   is kept.
 //!
-//! Of a device that does not tell, the counts alone speak. What is written is not part of it.
+//! Of a device that does not tell, the counts alone speak. Nothing is written and no file is put by a source (`IsUntouched` of `specs/Going.antt`).
 #![tactic(auto)]
 
 mod kept;
@@ -17,5 +17,5 @@ mod live;
 mod source;
 
 pub use kept::Kept;
-pub use live::Live;
+pub use live::{Devices, Live};
 pub use source::Source;

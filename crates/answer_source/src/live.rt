@@ -8,65 +8,63 @@ use prov_base::{Memory, Pos};
 use prov_outside::{Console, Folder, Found, Moments};
 use std::alloc::Global;
 
-/// The devices of a run, and the capture of what they gave so far.
+/// The devices of a run: its console, its folder, and its clock with random words.
 #[derive(Drop)]
-pub struct Live<'a, C: Console, F: Folder, M: Moments> {
+pub struct Devices<C: Console, F: Folder, M: Moments> {
+    /// Lines that come in, and bytes that go out.
+    pub console: C,
+    /// Files by path.
+    pub folder: F,
+    /// A clock, and random words.
+    pub moments: M,
+}
+
+/// The devices of a run, and the capture of what they gave so far. It owns its devices, and [`Live::finish`] gives them back.
+#[derive(Drop)]
+pub struct Live<C: Console, F: Folder, M: Moments> {
     capture: Capture,
-    console: &'a mut C,
-    folder: &'a mut F,
-    moments: &'a mut M,
+    devices: Devices<C, F, M>,
     ghost unwritten: { capture.written ≡ [] },
 }
 
-impl<'a, C: Console, F: Folder, M: Moments> Live<'a, C, F, M> {
-    /// A source over devices, whose capture notes no path as written. It has these devices as they are.
-    pub fn new(
-        capture: Capture,
-        console: &'a mut C,
-        folder: &'a mut F,
-        moments: &'a mut M,
-    ) -> Live<'a, C, F, M>
+impl<C: Console + Drop, F: Folder + Drop, M: Moments + Drop> Live<C, F, M> {
+    /// A source over devices, whose capture notes no path as written.
+    pub fn new(capture: Capture, devices: Devices<C, F, M>) -> Live<C, F, M>
         requires { capture.written ≡ [] }
         ensures kept { result.capture ≡ capture }
-        ensures console { result.console ≡ console.entry }
-        ensures folder { result.folder ≡ folder.entry }
-        ensures moments { result.moments ≡ moments.entry }
+        ensures devices { result.devices ≡ devices }
     {
-        Live {
-            capture,
-            console,
-            folder,
-            moments,
-        }
+        Live { capture, devices }
     }
 
-    /// The capture of what was given. It fits at the end of the run, and what its devices tell then is what they tell at its end.
-    pub fn finish(self) -> Capture
-        ensures kept { result ≡ self.entry.capture }
-        ensures fits { let now = telling (C.told self.entry.console.now) (F.told self.entry.folder.now) (M.told self.entry.moments.now) (record {
-          line = C.in_faults self.entry.console.now;
-          write = C.out_faults self.entry.console.now;
-          file = F.get_faults self.entry.folder.now;
-          source = F.source_faults self.entry.folder.now;
-          put = F.put_faults self.entry.folder.now;
-          time = M.time_faults self.entry.moments.now;
-          word = M.word_faults self.entry.moments.now;
-        }) in IsCaptureOf self.entry.capture now (capture_of result now) }
+    /// The capture of what was given, and the devices. It fits at the end of the run, and what its devices tell then is what they tell at its end.
+    pub fn finish(self) -> (Capture, Devices<C, F, M>)
+        ensures kept { result.0 ≡ self.capture }
+        ensures devices { result.1 ≡ self.devices }
+        ensures fits { let now = telling (C.told result.1.console) (F.told result.1.folder) (M.told result.1.moments) (record {
+          line = C.in_faults result.1.console;
+          write = C.out_faults result.1.console;
+          file = F.get_faults result.1.folder;
+          source = F.source_faults result.1.folder;
+          put = F.put_faults result.1.folder;
+          time = M.time_faults result.1.moments;
+          word = M.word_faults result.1.moments;
+        }) in IsCaptureOf self.capture now (capture_of result.0 now) }
     {
         let _ = self.capture.files();
-        self.capture
+        (self.capture, self.devices)
     }
 }
 
-impl<'a, C: Console, F: Folder, M: Moments> Source for Live<'a, C, F, M> {
-    ghost fits = { λ s held. IsCaptureOf s.capture (telling (C.told s.console.now) (F.told s.folder.now) (M.told s.moments.now) (record {
-      line = C.in_faults s.console.now;
-      write = C.out_faults s.console.now;
-      file = F.get_faults s.folder.now;
-      source = F.source_faults s.folder.now;
-      put = F.put_faults s.folder.now;
-      time = M.time_faults s.moments.now;
-      word = M.word_faults s.moments.now;
+impl<C: Console + Drop, F: Folder + Drop, M: Moments + Drop> Source for Live<C, F, M> {
+    ghost fits = { λ s held. IsCaptureOf s.capture (telling (C.told s.devices.console) (F.told s.devices.folder) (M.told s.devices.moments) (record {
+      line = C.in_faults s.devices.console;
+      write = C.out_faults s.devices.console;
+      file = F.get_faults s.devices.folder;
+      source = F.source_faults s.devices.folder;
+      put = F.put_faults s.devices.folder;
+      time = M.time_faults s.devices.moments;
+      word = M.word_faults s.devices.moments;
     })) held };
 
     ghost stands = { λ s askings fetches. AreNumbered s.capture askings × AreFetched s.capture fetches };
@@ -78,16 +76,21 @@ impl<'a, C: Console, F: Folder, M: Moments> Source for Live<'a, C, F, M> {
     fn paths_once(&self) {}
 
     fn ask(&mut self, alloc: Global, what: Ask, at: Pos) -> Result<Option<Given>, Memory> {
-        let k = self
-            .capture
-            .ask_live(alloc, what, at, self.console, self.moments)?;
+        let k = self.capture.ask_live(
+            alloc,
+            what,
+            at,
+            &mut self.devices.console,
+            &mut self.devices.moments,
+        )?;
         self.capture.copy_kept(alloc, what, at, k)
     }
 
     ghost has = { λ s path. IsTrue (has_file s.capture path) };
 
     fn fetch(&mut self, alloc: Global, path: &str) -> Result<(), Memory> {
-        self.capture.touch_live(alloc, path, self.folder)
+        let folder = &mut self.devices.folder;
+        self.capture.touch_live(alloc, path, folder)
     }
 
     fn found(&self, path: &str) -> Option<&Found> {
