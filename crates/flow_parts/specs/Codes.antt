@@ -4,7 +4,7 @@ use Rattle.py_value.specs.Contents.{Contents, nothing, truth, int, function, cla
 use Rattle.py_model.specs.Statements.{augmented_number, module_of}
 use Rattle.interp_eval.specs.Machine.{Want, plain, a_name, a_variable}
 use Rattle.flow_parts.specs.declared.codes.Code.{Code}
-use Rattle.flow_parts.specs.declared.codes.Code.TheVariants.{Truth, Load, Sign, Item, SetItem, DeleteItem, Field, SetField, Bind, Unbind, Clear, Size, Next, Unpack, Raise, Match, Function, Class, Import, Close, Enter, Fail}
+use Rattle.flow_parts.specs.declared.codes.Code.TheVariants.{Truth, Load, Sign, Item, SetItem, DeleteItem, Field, SetField, Bind, Unbind, Clear, Size, Next, Unpack, Raise, Match, Function, Class, Import, Close, Enter, Fail, NoCall}
 
 abbrev pub code_number : Code → ℕ
 code_number Truth = 3
@@ -29,6 +29,7 @@ code_number (Import name) = 44
 code_number Close = 45
 code_number Enter = 46
 code_number Fail = 47
+code_number (NoCall reason) = 38
 
 abbrev pub code_want : Code → Want
 code_want (Load name) = a_variable name.now
@@ -45,6 +46,7 @@ code_want code = plain
 abbrev pub code_value : Code → Contents
 code_value (Clear name) = truth true
 code_value (Unpack count) = int (pos count)
+code_value (NoCall reason) = int (pos reason)
 code_value (Function name at) = function at
 code_value (Class name at) = class at
 code_value (Import name) = module_of name.now

@@ -12,8 +12,11 @@ use Rattle.flow_parts.specs.declared.control.Goal.{Goal}
 use Rattle.flow_parts.specs.declared.control.Goal.TheVariants.{Finishes, Turns, Breaks}
 use Rattle.flow_parts.specs.declared.control.Stage.{Stage}
 use Rattle.flow_parts.specs.declared.control.Stage.TheVariants.{Stores, Holder, Index, Stored, Unpacked, Spreads, Sized, Turn, Item, Repeats, Key, Slotted, Loaded, Sided, Changed, Named, Inside, Closes}
+use Rattle.flow_parts.specs.declared.control.Callee.{Callee}
+use Rattle.flow_parts.specs.declared.control.Callee.TheVariants.{Function, Class}
+use Rattle.flow_parts.specs.declared.control.Caller.{Caller}
 use Rattle.flow_parts.specs.declared.control.Work.{Work}
-use Rattle.flow_parts.specs.declared.control.Work.TheVariants.{Evaluates, Operation}
+use Rattle.flow_parts.specs.declared.control.Work.TheVariants.{Evaluates, Operation, Calls}
 use Rattle.flow_parts.specs.declared.control.Now.{Now}
 use Rattle.flow_parts.specs.declared.control.Now.TheVariants.{InSuite, Opens, Gives, Ended}
 use Rattle.flow_parts.specs.declared.frames.Spot.{Spot}
@@ -52,10 +55,22 @@ IsHeldStage table (Inside v) = IsNamed table v
 IsHeldStage table (Closes end) = IsHeldEnd table end
 IsHeldStage table stage = ⊤
 
+abbrev pub IsHeldCallee : ValuesView → Callee → Type 0
+IsHeldCallee table (Function place) = ⊤
+IsHeldCallee table (Class of) = IsNamed table of
+
+abbrev pub IsHeldMade : ValuesView → Option Value → Type 0
+IsHeldMade table None = ⊤
+IsHeldMade table (Some o) = IsNamed table o
+
+abbrev pub IsHeldCaller : ValuesView → Scope → Caller → Type 0
+IsHeldCaller table scope caller = AreHeld table caller.eval × ((caller.eval.scope ≡ scope) × IsHeldMade table caller.made)
+
 -- an expression is evaluated in the scope of its statement
 abbrev pub IsHeldWork : ValuesView → Scope → Work → Type 0
 IsHeldWork table scope (Evaluates frames) = AreHeld table frames × (frames.scope ≡ scope)
 IsHeldWork table scope (Operation at code values) = AreAllNamed table values.items
+IsHeldWork table scope (Calls caller at callee values) = IsHeldCaller table scope caller.value × (IsHeldCallee table callee × AreAllNamed table values)
 
 abbrev pub IsHeldNow : ValuesView → Scope → Now → Type 0
 IsHeldNow table scope (InSuite stmts) = ⊤
@@ -70,7 +85,7 @@ IsHeldClass table (Some of) = IsNamed table of
 abbrev pub IsHeldWaits : ValuesView → Scope → Waits → Type 0
 IsHeldWaits table scope (StmtWaits number rest) = ⊤
 IsHeldWaits table scope (PartWaits None p) = IsHeldStage table p.stage
-IsHeldWaits table scope (PartWaits (Some frames) p) = AreHeld table frames.value × ((frames.value.scope ≡ scope) × IsHeldStage table p.stage)
+IsHeldWaits table scope (PartWaits (Some caller) p) = IsHeldCaller table scope caller.value × IsHeldStage table p.stage
 
 abbrev pub IsHeldFrame : ValuesView → Frame → Type 0
 IsHeldFrame table f = IsHeldClass table f.spot.in_class × IsHeldWaits table f.spot.scope f.waits

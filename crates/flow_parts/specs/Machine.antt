@@ -1,14 +1,14 @@
 -- What is still to be done of a script that is being run, in the words of its meaning (The Python Language Reference 3, sections 7 and 8, in
 -- this project's profile): what is done now, and what waits for its end. A part of a statement is named by its form and a stage.
-use Rattle.std.specs.Prelude.{ℕ, zero, suc, List, [], ◌∷◌, Option, Some, None}
+use Rattle.std.specs.Prelude.{ℕ, zero, suc, Bool, true, false, List, [], ◌∷◌, Option, Some, None}
 use Rattle.prov_base.specs.declared.place.Pos.{Pos}
 use Rattle.py_tree.specs.declared.expr.BinOp.{BinOp}
 use Rattle.py_tree.specs.declared.stmt.Bound.{Bound}
 use Rattle.py_tree.specs.Tree.{ExprTree, FormTree, SuiteTree, BranchesTree, HandlersTree, TargetTree, TargetsTree, ScriptTree, end_targets, more_targets, var_target, part_target, field_target, many_target, assign_form, aug_form, del_form, return_form, raise_form, assert_form, if_form, while_form, for_form, try_form, with_form, class_form, end_branches, more_branches, end_handlers, more_handlers}
-use Rattle.py_value.specs.Contents.{Contents, Parts, nothing, object}
+use Rattle.py_value.specs.Contents.{Contents, Parts, nothing, function, object}
 use Rattle.py_model.specs.Act.{Act, How, ret, close, to, ending, normal, broke, returned, threw}
-use Rattle.py_model.specs.Expressions.{Here, Task, while_again, for_again, by_truth, doing, op, op_named, op_scoped, left_with, eval}
-use Rattle.py_model.specs.Functions.{expr_place}
+use Rattle.py_model.specs.Expressions.{Here, Task, while_again, for_again, by_truth, doing, walking, failing, wrong_arguments, op, op_named, op_scoped, left_with, calling_function, eval}
+use Rattle.py_model.specs.Functions.{expr_place, function_at}
 use Rattle.py_model.specs.Operations.{Op}
 use Rattle.py_model.specs.Statements.{suite, augmented_number, parts_in, rest_of, store, store_all, choose, otherwise, handle, caught, turned, then_so, binding, unbinding, handling, in_class_of, failed_assert, while_turn, for_turn, class_body}
 use Rattle.interp_eval.specs.Machine.{Machine, Want, wanted_op, machine, node, gives_one, node_for, remains}
@@ -81,10 +81,17 @@ part at form stage = record { at = at; form = form; stage = stage }
 abbrev pub flow_op : Here → ℕ → Want → Contents → Op
 flow_op here number want v = record (wanted_op here number want) { value = v }
 
--- what gives a value: an expression that is being evaluated, or an operation on values
+-- what is called: a function by its place; or a class or an exception class, of which an object is made
+pub data Callee : Type 0 where
+  a_function : Pos → Callee
+  a_class : Contents → Callee
+
+-- What gives a value: an expression that is being evaluated, an operation on values, or a call at a place that an expression waits for, with
+-- the object that was made for it, which is then its value.
 pub data Work : Type 0 where
   evaluates : Machine → Work
   operation : Pos → ℕ → Want → Contents → List Contents → Work
+  calls : Machine → Option Contents → Pos → Callee → List Contents → Work
 
 -- What is done now: the statements of a suite, a part of a statement, what gives a value with the part that follows it; or the end.
 pub data Now : Type 0 where
@@ -94,11 +101,11 @@ pub data Now : Type 0 where
   ended : How → Now
 
 -- What waits for an end: a statement by its number with the rest of its suite, a part of a statement, and the caller of a function with
--- the part that follows the value of its expression.
+-- the object that was made for it and the part that follows the value of its expression.
 pub data Waits : Type 0 where
   a_stmt : ℕ → SuiteTree → Waits
   a_part : Part → Waits
-  a_call : Machine → Part → Waits
+  a_call : Machine → Option Contents → Part → Waits
 
 -- an expression whose call has this value: the operation `give` is next
 abbrev pub given_to : Machine → Contents → Machine
@@ -467,9 +474,32 @@ module _ (script : ScriptTree) (next : Task → Act) where
   open_act here at form (handles n o) = runs_act here at form (handles n o)
   open_act here at form stage = ret normal
 
+  -- what follows a call: its value is what was made for it, and else what the function returns
+  abbrev pub gives_back : Here → Machine → (Contents → Act) → Option Contents → Contents → Act
+  gives_back here m go None = λ v. remains script next here (given_to m v) go
+  gives_back here m go (Some o) = λ v. remains script next here (given_to m o) go
+
+  -- What follows an object that was made for arguments, with the method that was found. Without one, no argument is taken, but any by an
+  -- exception class.
+  abbrev pub without_method : Here → Pos → Contents → List Contents → Bool → Act → Act
+  without_method here at of values true instance = instance
+  without_method here at of [] false instance = instance
+  without_method here at of (v ∷ values) false instance = failing here at wrong_arguments (of ∷ v ∷ values)
+
+  abbrev pub made_act : Here → Pos → Contents → List Contents → Contents → Bool → Option Pos → Act → Act
+  made_act here at of values o is_exception None instance = without_method here at of values is_exception instance
+  made_act here at of values o is_exception (Some init) instance = calling_function script next here at (function init) (function_at script init) (o ∷ values) (λ v. instance)
+
+  -- a call that an expression waits for
+  abbrev pub call_act : Here → Machine → Option Contents → Pos → Callee → List Contents → (Contents → Act) → Act
+  call_act here m made at (a_function place) values go = calling_function script next here at (function place) (function_at script place) values (gives_back here m go made)
+  call_act here m made at (a_class of) values go =
+      walking here at (op 39) (of ∷ values) (λ o walked. made_act here at of values o walked.is_exception walked.method (remains script next here (given_to m o) go))
+
   abbrev pub work_act : Here → Work → (Contents → Act) → Act
   work_act here (evaluates m) go = remains script next here m go
   work_act here (operation at number want v values) go = doing here at (flow_op here number want v) values go
+  work_act here (calls m made at callee values) go = call_act here m made at callee values go
 
   -- what is done now
   abbrev pub now_act : Here → Now → Act
@@ -481,7 +511,7 @@ module _ (script : ScriptTree) (next : Task → Act) where
   abbrev pub waits_act : Here → Waits → How → Act
   waits_act here (a_stmt number rest) how = close number (ending how) (then_so (suite script next here rest) how)
   waits_act here (a_part p) how = suite_ended next here p.at p.form p.stage how
-  waits_act here (a_call m p) how = left_with script next (λ v. remains script next here (given_to m v) (then_act here p.at p.form p.stage)) how
+  waits_act here (a_call m made p) how = left_with script next (gives_back here m (then_act here p.at p.form p.stage) made) how
 
   -- what waits goes on from an end, the innermost first
   abbrev pub resumes : List Frame → (How → Act) → How → Act

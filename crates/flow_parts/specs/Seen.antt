@@ -8,7 +8,7 @@ use Rattle.py_value.specs.Values.{ValuesView}
 use Rattle.py_model.specs.Act.{How, normal, broke, continued, returned, threw}
 use Rattle.interp_eval.specs.Seen.{machine_seen}
 use Rattle.flow_parts.specs.Codes.{code_number, code_value, code_want}
-use Rattle.flow_parts.specs.Machine.{Goal, finishes, turns, breaks, Stage, valued, tested, answered, done, body, failed, stores, holder, at_index, stored, unpacked, spreads, sized, turn, item, repeats, owner, key, based, slotted, loaded, sided, changed, entered, named, inside, closes, handler, sought, matched, catches, handles, Part, part, Work, evaluates, operation, Now, in_suite, opens, gives, ended, Waits, a_stmt, a_part, a_call, Frame, frame, Flow, flow}
+use Rattle.flow_parts.specs.Machine.{Goal, finishes, turns, breaks, Stage, valued, tested, answered, done, body, failed, stores, holder, at_index, stored, unpacked, spreads, sized, turn, item, repeats, owner, key, based, slotted, loaded, sided, changed, entered, named, inside, closes, handler, sought, matched, catches, handles, Part, part, Callee, a_function, a_class, Work, evaluates, operation, calls, Now, in_suite, opens, gives, ended, Waits, a_stmt, a_part, a_call, Frame, frame, Flow, flow}
 use Rattle.std.specs.Option.{option_map}
 use Rattle.py_tree.specs.Tree.{ScriptTree}
 use Rattle.py_model.specs.Expressions.{Here}
@@ -25,8 +25,10 @@ use Rattle.flow_parts.specs.declared.control.Goal.TheVariants.{Finishes, Turns, 
 use Rattle.flow_parts.specs.declared.control.Stage.{Stage as StageCode}
 use Rattle.flow_parts.specs.declared.control.Stage.TheVariants.{Valued, Tested, Answered, Done, Body, Failed, Stores, Holder, Index, Stored, Unpacked, Spreads, Sized, Turn, Item, Repeats, Owner, Key, Based, Slotted, Loaded, Sided, Changed, Entered, Named, Inside, Closes, Handler, Sought, Matched, Catches, Handles}
 use Rattle.flow_parts.specs.declared.control.Part.{Part as PartRefs}
+use Rattle.flow_parts.specs.declared.control.Callee.{Callee as CalleeCode}
+use Rattle.flow_parts.specs.declared.control.Callee.TheVariants.{Function, Class}
 use Rattle.flow_parts.specs.declared.control.Work.{Work as WorkRefs}
-use Rattle.flow_parts.specs.declared.control.Work.TheVariants.{Evaluates, Operation}
+use Rattle.flow_parts.specs.declared.control.Work.TheVariants.{Evaluates, Operation, Calls}
 use Rattle.flow_parts.specs.declared.control.Now.{Now as NowRefs}
 use Rattle.flow_parts.specs.declared.control.Now.TheVariants.{InSuite, Opens, Gives, Ended}
 
@@ -82,9 +84,14 @@ stage_seen table (Handles n o) = handles n o
 abbrev pub part_seen : ValuesView → PartRefs → Part
 part_seen table p = part p.at (form_of p.form.now) (stage_seen table p.stage)
 
+abbrev pub callee_seen : ValuesView → CalleeCode → Callee
+callee_seen table (Function place) = a_function place
+callee_seen table (Class of) = a_class (contents table of)
+
 abbrev pub work_seen : ValuesView → WorkRefs → Work
 work_seen table (Evaluates frames) = evaluates (machine_seen table frames)
 work_seen table (Operation at code values) = operation at (code_number code) (code_want code) (code_value code) (map (contents table) values.items)
+work_seen table (Calls caller at callee values) = calls (machine_seen table caller.value.eval) (option_map (contents table) caller.value.made) at (callee_seen table callee) (map (contents table) values)
 
 abbrev pub now_seen : ValuesView → NowRefs → Now
 now_seen table (InSuite ss) = in_suite (stmts_seen ss.now)
@@ -105,7 +112,7 @@ here_seen script table spot = record {
 abbrev pub waits_seen : ValuesView → WaitsRefs → Waits
 waits_seen table (StmtWaits number rest) = a_stmt number (stmts_seen rest.now)
 waits_seen table (PartWaits None p) = a_part (part_seen table p)
-waits_seen table (PartWaits (Some frames) p) = a_call (machine_seen table frames.value) (part_seen table p)
+waits_seen table (PartWaits (Some caller) p) = a_call (machine_seen table caller.value.eval) (option_map (contents table) caller.value.made) (part_seen table p)
 
 abbrev pub frame_seen : ScriptTree → ValuesView → FrameRefs → Frame
 frame_seen script table f = frame (here_seen script table f.spot) (waits_seen table f.waits)

@@ -59,6 +59,8 @@ pub enum Code<'a> {
     Enter,
     /// An assertion fails.
     Fail,
+    /// A call fails: what is called is not callable (0), the number of arguments is wrong (1), or one activation too many would be open (2).
+    NoCall(u32),
 }
 
 /// The number of the operator of an augmented assignment.
@@ -122,6 +124,7 @@ impl<'a> Code<'a> {
             Code::Close => 45,
             Code::Enter => 46,
             Code::Fail => 47,
+            Code::NoCall(_) => 38,
         }
     }
 
@@ -154,6 +157,7 @@ impl<'a> Code<'a> {
             Code::Close => Want::Plain,
             Code::Enter => Want::Plain,
             Code::Fail => Want::Plain,
+            Code::NoCall(_) => Want::Plain,
         }
     }
 
@@ -165,6 +169,7 @@ impl<'a> Code<'a> {
         match self {
             Code::Clear(_) => Value::Bool(true),
             Code::Unpack(count) => Value::Int(i64::from(count)),
+            Code::NoCall(reason) => Value::Int(i64::from(reason)),
             Code::Function(_, at) => Value::Fn(at),
             Code::Class(_, at) => Value::Class(at),
             Code::Import(name) => module_at(name),

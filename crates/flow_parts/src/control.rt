@@ -18,6 +18,7 @@ ghost use Rattle.flow_parts.specs.Seen.{now_seen, stage_seen};
 use crate::codes::Code;
 use interp_eval::{EvalFrames, Scope};
 use prov_base::{Memory, Pos};
+use py_model::Args;
 use py_tree::{Expr, Form, Stmt, Suite, Target};
 use py_value::Value;
 use std::alloc::Global;
@@ -128,13 +129,33 @@ pub struct Part<'a> {
     pub stage: Stage,
 }
 
-/// What gives a value: an expression that is being evaluated, or an operation on values.
+/// What is called.
+#[derive(Clone, Copy)]
+pub enum Callee {
+    /// A function, by its place.
+    Function(Pos),
+    /// A class or an exception class, of which an object is made.
+    Class(Value),
+}
+
+/// An expression that waits for a call.
+#[derive(Drop)]
+pub struct Caller<'a> {
+    /// The expression.
+    pub eval: EvalFrames<'a>,
+    /// The object that was made for the call, which is its value; None where that is what the function returns.
+    pub made: Option<Value>,
+}
+
+/// What gives a value: an expression that is being evaluated, an operation on values, or a call.
 #[derive(Drop)]
 pub enum Work<'a> {
     /// An expression.
     Evaluates(EvalFrames<'a>),
     /// An operation at a place.
     Operation(Pos, Code<'a>, Vec<Value>),
+    /// A call at a place with these values, that an expression waits for.
+    Calls(Box<Caller<'a>>, Pos, Callee, Args),
 }
 
 /// What gives a value, and the part of a statement that follows it.

@@ -12,8 +12,8 @@ ghost use Rattle.flow_parts.specs.Machine.{now_act, remaining, resumes, waits_ac
 ghost use Rattle.flow_parts.specs.Popping.{HoldsPopped, IsPopped};
 ghost use Rattle.flow_parts.specs.Seen.{flow_seen, frame_seen, here_seen, now_seen, waits_seen};
 
-use crate::control::{End, Now, Part};
-use interp_eval::{EvalFrames, Scope};
+use crate::control::{Caller, End, Now, Part};
+use interp_eval::Scope;
 use prov_base::Memory;
 use py_tree::{Script, Stmt};
 use py_value::Value;
@@ -40,7 +40,7 @@ pub enum Waits<'a> {
     /// A statement, by its number, with the rest of its suite.
     Stmt(u32, &'a [Stmt]),
     /// A part of a statement; or an expression with a call, and the part that follows its value.
-    Part(Option<Box<EvalFrames<'a>>>, Part<'a>),
+    Part(Option<Box<Caller<'a>>>, Part<'a>),
 }
 
 /// What waits, and where it stands.

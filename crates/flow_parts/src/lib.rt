@@ -12,8 +12,8 @@ mod telling;
 
 pub use codes::Code;
 pub use control::{
-    End, Giving, Goal, Now, Part, Stage, Work, branch_at, is_true, on_none, on_one, on_three,
-    on_two, start, target_in,
+    Callee, Caller, End, Giving, Goal, Now, Part, Stage, Work, branch_at, is_true, on_none, on_one,
+    on_three, on_two, start, target_in,
 };
 pub use frames::{FlowFrames, Frame, Spot, Waits};
 pub use telling::{begin, close};

@@ -1,10 +1,13 @@
 -- A step of an expression, for the run of a script.
-use Rattle.std.proofs.Common.{◌≡◌, inr, ℕ, List, ◌++◌, map, Option, Result, Ok, Err, refl, ap, sym, ◌∙◌, subst}
+use Rattle.std.proofs.Common.{◌≡◌, inl, inr, ℕ, List, [], ◌++◌, map, Option, None, Result, Ok, Err, refl, ap, sym, ◌∙◌, subst}
 use Rattle.prov_base.specs.declared.refusal.Memory.{Memory}
 use Rattle.py_tree.specs.Erasure.{form_of}
 use Rattle.py_tree.specs.Tree.{ScriptTree}
 use Rattle.py_value.specs.Contents.{Contents, contents}
 use Rattle.py_value.specs.Values.{ValuesView}
+use Rattle.py_value.specs.declared.value.Value.{Value}
+use Rattle.py_model.specs.Told.{TellsOn}
+use Rattle.interp_eval.specs.Seen.{machine_seen}
 use Rattle.py_model.specs.Act.{Act, How, Walked, ret, to, perform, normal, threw}
 use Rattle.py_model.specs.Capture.{Capture}
 use Rattle.py_model.specs.Doing.{Standing, Fits, Stands, Knew}
@@ -22,16 +25,19 @@ use Rattle.interp_eval.specs.Step.{Went, stayed, went_on, IsOn as IsEvalOn, IsCu
 use Rattle.interp_eval.specs.declared.frames.EvalFrames.{EvalFrames}
 use Rattle.interp_eval.specs.declared.frames.EvalNext.{EvalNext}
 use Rattle.interp_eval.specs.declared.frames.EvalNext.TheVariants.{More, Value as TheValue, Call, Raised, Ended, Spent, Unanswered}
-use Rattle.flow_parts.specs.Machine.{resumes, then_act}
-use Rattle.flow_parts.specs.Seen.{frame_seen, here_seen, stage_seen}
+use Rattle.flow_parts.specs.Machine.{call_act, resumes, then_act}
+use Rattle.flow_parts.specs.Seen.{callee_seen, frame_seen, here_seen, stage_seen}
+use Rattle.flow_parts.specs.declared.control.Callee.{Callee}
 use Rattle.flow_parts.specs.declared.control.Part.{Part}
 use Rattle.flow_parts.specs.declared.frames.FlowFrames.{FlowFrames}
 use Rattle.interp_flow.specs.declared.next.FlowNext.{FlowNext}
 use Rattle.interp_flow.specs.declared.next.FlowNext.TheVariants.{More as FlowMore, Finished, Raised as FlowRaised, Spent as FlowSpent, Unanswered as FlowUnanswered, Unwritten}
-use Rattle.interp_flow.specs.Step.{Before, a_call_first, IsStep, StepsFrom}
+use Rattle.interp_flow.specs.Calls.{calling_so}
+use Rattle.interp_flow.specs.Step.{Before, IsStep, StepsFrom}
 use Rattle.interp_flow.specs.Value.{GoesOnFrom, IsInScope, IsTaken, answering, evaluating}
 use Rattle.interp_flow.proofs.Outcomes.{and_then, outcome_to, same_behind}
-use Rattle.interp_flow.proofs.Stepping.{told_weaker, unasked}
+use Rattle.interp_flow.proofs.Handing.{calls_so, gives_all}
+use Rattle.interp_flow.proofs.Stepping.{told_same, told_weaker, unasked}
 
 came_out : (capture : Capture) (at : Pos) (what : Op) (values : List Contents) (go : Answer → Walked → Act) (s : State) (h : Happened) → operation capture at what values s ≡ h
     → outcome capture (perform at what values go) s ≡ elim h [ did answer came t ↦ outcome capture (go answer came) t | too_dear t ↦ spent t | lacked t ↦ lacking t ]
@@ -57,6 +63,10 @@ module _ (script : ScriptTree) (frames : FlowFrames) (eval gone : EvalFrames) (p
 
   abbrev pub first : Act
   first = eval_remaining script (level script n) (here_seen script table frames.spot) follows table eval
+
+  -- what remains where a call waits
+  abbrev pub waiting_call : Pos → Callee → List Value → Act
+  waiting_call at callee args = call_act script (level script n) (here_seen script table frames.spot) (machine_seen table gone) None at (callee_seen table callee) (map (contents table) args) follows
 
   on_from : (b : ScriptTree → Before) (later : Act) → to later beyond ≡ b script table (level script n) → IsEvalOn capture first s later rest stands was is
       → (result : Result FlowNext Memory) → GoesOnFrom b after result
@@ -114,13 +124,35 @@ module _ (script : ScriptTree) (frames : FlowFrames) (eval gone : EvalFrames) (p
         told_is = known.told_is;
         tells = known.tells;
       })
-  step_taken (Call f args at) result known taken =
-      subst (IsStep script (level script n) {E = Memory} (to first beyond) after rest stands was is table capture s) (sym taken) (record {
-        what = a_call_first (here_seen script table frames.spot) at table f (map (contents table) args) known.follows beyond known.callable (ap (λ a. outcome capture (to a beyond) s) known.act_is);
+  step_taken (Call f args at) (Ok FlowMore) known taken =
+      let same : first ≡ waiting_call at taken.callee args =
+      known.act_is
+      ∙ calls_so script (level script n) (here_seen script table frames.spot) (machine_seen table gone) follows at known.follows
+      (gives_all script (level script n) (here_seen script table frames.spot) table gone follows at known.follows known.resumes) table f taken.callee (map (contents table) args) taken.callee_is in
+      on_from (λ script. calling_so script frames (record { eval = gone; made = None }) at taken.callee args p) (waiting_call at taken.callee args) refl
+      (record {
+        next = s;
+        news = [];
+        went = stayed (sym same) refl refl;
+        comes_out = ap (λ a. outcome capture a s) same;
         stands_so = known.stands_so;
         left_is = known.left_is;
-        tells = known.tells;
-      })
+        tells = subst (λ is. TellsOn was is (λ told more. more ≡ told)) (sym known.tells) (told_same was);
+      }) (Ok FlowMore) taken.means
+  step_taken (Call f args at) (Err want) known taken = record {
+    rest = to first beyond;
+    next = s;
+    news = [];
+    comes_out = refl;
+    told_is = refl;
+    refused = unasked stands s known.stands_so;
+    tells = told_weaker was is _ _ (λ told more same. inl same) (subst (λ is. TellsOn was is (λ told more. more ≡ told)) (sym known.tells) (told_same was));
+  }
+  step_taken (Call f args at) (Ok Finished) known taken = absurd taken
+  step_taken (Call f args at) (Ok (FlowRaised o line)) known taken = absurd taken
+  step_taken (Call f args at) (Ok FlowSpent) known taken = absurd taken
+  step_taken (Call f args at) (Ok FlowUnanswered) known taken = absurd taken
+  step_taken (Call f args at) (Ok Unwritten) known taken = absurd taken
 
   -- want of memory in the step
   pub step_cut : (want : Memory) → IsEvalCut capture first s stands was is → IsStep script (level script n) (to first beyond) after rest stands was is table capture s (Err want)

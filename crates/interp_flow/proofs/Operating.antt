@@ -32,11 +32,11 @@ use Rattle.interp_flow.specs.Step.{IsCut, StepsFrom, meant}
 use Rattle.interp_flow.specs.Value.{IsCodeOp, operating}
 use Rattle.interp_flow.proofs.Stepping.{unasked, told_weaker, told_same}
 
-came_out : (capture : Capture) (at : Pos) (what : Op) (values : List Contents) (go : Answer → Walked → Act) (s : State) (h : Happened) → operation capture at what values s ≡ h
+pub came_out : (capture : Capture) (at : Pos) (what : Op) (values : List Contents) (go : Answer → Walked → Act) (s : State) (h : Happened) → operation capture at what values s ≡ h
     → outcome capture (perform at what values go) s ≡ elim h [ did answer came t ↦ outcome capture (go answer came) t | too_dear t ↦ spent t | lacked t ↦ lacking t ]
 came_out capture at what values go s h is = ap (λ h. elim h [ did answer came t ↦ outcome capture (go answer came) t | too_dear t ↦ spent t | lacked t ↦ lacking t ]) is
 
-told_still : (was is : Option (List Moment)) → is ≡ was → TellsOn was is (λ told more. (more ≡ told) ⊎ (more ≡ [] ++ told))
+pub told_still : (was is : Option (List Moment)) → is ≡ was → TellsOn was is (λ told more. (more ≡ told) ⊎ (more ≡ [] ++ told))
 told_still was is same = subst (λ is. TellsOn was is (λ told more. (more ≡ told) ⊎ (more ≡ [] ++ told))) (sym same) (told_weaker was was _ _ (λ told more same. inl same) (told_same was))
 
 module _ (script : ScriptTree) (frames : FlowFrames) (at : Pos) (code : Code) (values : List Value) (p : Part) (op : OneOp) (after : FlowFrames) (first last : Fits) (stood between stands : Stands) (left rest : ℕ)

@@ -1,10 +1,11 @@
 -- An activation is left: what comes of it, for a run.
-use Rattle.std.proofs.Common.{◌≡◌, ℕ, List, [], ◌∷◌, map, Option, Result, Ok, Err, refl, ap, sym, ◌∙◌, inr}
-use Rattle.std.specs.Prelude.{⊤}
+use Rattle.std.proofs.Common.{◌≡◌, ℕ, List, [], ◌∷◌, map, Option, Some, None, Result, Ok, Err, refl, ap, sym, ◌∙◌, inr}
+use Rattle.std.specs.Prelude.{⊤, unwrap_or}
+use Rattle.std.specs.Option.{option_map}
 use Rattle.prov_base.specs.declared.refusal.Memory.{Memory}
 use Rattle.py_tree.specs.Tree.{ScriptTree}
 use Rattle.py_value.specs.Contents.{Contents, contents, nothing}
-use Rattle.py_value.specs.Values.{ValuesView}
+use Rattle.py_value.specs.Values.{ValuesView, IsNamed}
 use Rattle.py_value.specs.declared.value.Value.{Value}
 use Rattle.py_value.specs.declared.value.Value.TheVariants.{None as NoneValue}
 use Rattle.py_model.specs.Act.{Act, leave, ret, threw, to}
@@ -15,11 +16,11 @@ use Rattle.py_model.specs.Meaning.{level}
 use Rattle.py_model.specs.Moment.{Moment, leaves}
 use Rattle.py_model.specs.Running.{State, outcome, tell}
 use Rattle.py_tree.specs.Erasure.{form_of}
-use Rattle.interp_eval.specs.Machine.{remains}
 use Rattle.interp_eval.specs.Seen.{machine_seen}
 use Rattle.interp_eval.specs.Step.{given}
 use Rattle.interp_eval.specs.declared.frames.EvalFrames.{EvalFrames}
-use Rattle.flow_parts.specs.Machine.{given_to, resumes, then_act}
+use Rattle.flow_parts.specs.Held.{IsHeldMade}
+use Rattle.flow_parts.specs.Machine.{gives_back, resumes, then_act}
 use Rattle.flow_parts.specs.Seen.{end_seen, frame_seen, here_seen, stage_seen}
 use Rattle.flow_parts.specs.declared.control.End.{End}
 use Rattle.flow_parts.specs.Telling.{WasTold}
@@ -77,15 +78,16 @@ pub throws_on : (script : ScriptTree) (frames : FlowFrames) (o line : ℕ) (tabl
     → throwing script frames o line table next ≡ leave nothing (meant script (record frames { now = Ended (Threw o line) }) table next)
 throws_on script frames o line table next = ap (leave nothing) (goes_on script next table frames (record frames { now = Ended (Threw o line) }) (ret (threw o line)) refl refl)
 
-module _ (script : ScriptTree) (frames : FlowFrames) (eval gone : EvalFrames) (p : Part) (v : Value) (after : FlowFrames) (left : ℕ) (fits : Fits) (stood stands : Stands) (was is : Option (List Moment)) (gives : gone ≡ given v eval)
+module _ (script : ScriptTree) (frames : FlowFrames) (eval gone : EvalFrames) (made : Option Value) (p : Part) (v : Value) (after : FlowFrames) (left : ℕ) (fits : Fits) (stood stands : Stands) (was is : Option (List Moment))
+    (gives : gone ≡ given (unwrap_or made v) eval)
     (told : ForEach fits stood (λ table capture s. WasTold (leaves (contents table v)) (stands table capture) was is s)) where
   -- the expression goes on with the value
-  pub resumed_from : (result : Result FlowNext Memory) → GoesOnFrom (λ script. evaluating script frames gone p) after result → StepsFrom script (resuming script frames eval p v) after left left fits stood stands was is result
+  pub resumed_from : (result : Result FlowNext Memory) → GoesOnFrom (λ script. evaluating script frames gone p) after result → StepsFrom script (resuming script frames eval made p v) after left left fits stood stands was is result
   resumed_from (Ok More) means = λ table capture fit s stood_so steps n enough.
-      left_on capture (resuming script frames eval p v table (level script n)) (evaluating script frames (given v eval) p table (level script n)) s left (stands table capture) was is (contents table v) refl (told table capture fit s stood_so) steps
+      left_on capture (resuming script frames eval made p v table (level script n)) (evaluating script frames (given (unwrap_or made v) eval) p table (level script n)) s left (stands table capture) was is (contents table v) refl (told table capture fit s stood_so) steps
       (meant script after table (level script n)) (ap (λ g. evaluating script frames g p table (level script n)) (sym gives) ∙ means script table (level script n))
   resumed_from (Err want) means = λ table capture fit s stood_so steps n enough.
-      left_cut capture (resuming script frames eval p v table (level script n)) (evaluating script frames (given v eval) p table (level script n)) s left (stands table capture) was is (contents table v) refl (told table capture fit s stood_so)
+      left_cut capture (resuming script frames eval made p v table (level script n)) (evaluating script frames (given (unwrap_or made v) eval) p table (level script n)) s left (stands table capture) was is (contents table v) refl (told table capture fit s stood_so)
   resumed_from (Ok Finished) means = absurd means
   resumed_from (Ok (Raised o line)) means = absurd means
   resumed_from (Ok Spent) means = absurd means
@@ -97,22 +99,35 @@ abbrev pub GivesValue : End → Type 0
 GivesValue (Threw o line) = ⊥
 GivesValue end = ⊤
 
-module _ (script : ScriptTree) (frames : FlowFrames) (eval : EvalFrames) (p : Part) (v : Value) (table : ValuesView) (next : Task → Act) where
+-- the value of the call is what was made for it, and else what the function returns
+gives_value : (script : ScriptTree) (frames : FlowFrames) (eval : EvalFrames) (made : Option Value) (p : Part) (v : Value) (table : ValuesView) (next : Task → Act)
+    → leave (contents table v) (to (gives_back script next (here_seen script table frames.spot) (machine_seen table eval) (then_act script next (here_seen script table frames.spot) p.at (form_of p.form.now) (stage_seen table p.stage))
+    (option_map (contents table) made) (contents table v)) (resumes script next (map (frame_seen script table) frames.below.items) (λ how. ret how)))
+    ≡ resuming script frames eval made p v table next
+gives_value script frames eval None p v table next = refl
+gives_value script frames eval (Some o) p v table next = refl
+
+-- what is made for a call and what a function returns are named
+pub call_named : (table : ValuesView) (made : Option Value) (v : Value) → IsHeldMade table made → IsNamed table v → IsNamed table (unwrap_or made v)
+call_named table None v held named = named
+call_named table (Some o) v held named = held
+
+module _ (script : ScriptTree) (frames : FlowFrames) (eval : EvalFrames) (made : Option Value) (p : Part) (v : Value) (table : ValuesView) (next : Task → Act) where
   abbrev pub with_value : Contents → Act
   with_value w =
-      leave w (to (remains script next (here_seen script table frames.spot) (given_to (machine_seen table eval) w) (then_act script next (here_seen script table frames.spot) p.at (form_of p.form.now) (stage_seen table p.stage)))
+      leave w (to (gives_back script next (here_seen script table frames.spot) (machine_seen table eval) (then_act script next (here_seen script table frames.spot) p.at (form_of p.form.now) (stage_seen table p.stage)) (option_map (contents table) made) w)
       (resumes script next (map (frame_seen script table) frames.below.items) (λ how. ret how)))
 
-  value_so : (w : Contents) → contents table v ≡ w → with_value w ≡ resuming script frames eval p v table next
-  value_so w is = ap with_value (sym is)
+  value_so : (w : Contents) → contents table v ≡ w → with_value w ≡ resuming script frames eval made p v table next
+  value_so w is = ap with_value (sym is) ∙ gives_value script frames eval made p v table next
 
-  by_end : (end : End) → GivesValue end → contents table v ≡ value_of_how (end_seen table end) → returning script frames eval p end table next ≡ resuming script frames eval p v table next
+  by_end : (end : End) → GivesValue end → contents table v ≡ value_of_how (end_seen table end) → returning script frames eval made p end table next ≡ resuming script frames eval made p v table next
   by_end Normal gives is = value_so nothing is
   by_end Broke gives is = value_so nothing is
   by_end Continued gives is = value_so nothing is
   by_end (Returned u) gives is = value_so (contents table u) is
   by_end (Threw o line) gives is = absurd gives
 
-  pub resumes_so : (end found : End) → end ≡ found → GivesValue found → contents table v ≡ value_of_how (end_seen table end) → returning script frames eval p end table next ≡ resuming script frames eval p v table next
+  pub resumes_so : (end found : End) → end ≡ found → GivesValue found → contents table v ≡ value_of_how (end_seen table end) → returning script frames eval made p end table next ≡ resuming script frames eval made p v table next
   resumes_so end found is gives value_is =
-      ap (λ e. returning script frames eval p e table next) is ∙ by_end found gives (value_is ∙ ap (λ e. value_of_how (end_seen table e)) is)
+      ap (λ e. returning script frames eval made p e table next) is ∙ by_end found gives (value_is ∙ ap (λ e. value_of_how (end_seen table e)) is)

@@ -11,7 +11,7 @@ use Rattle.py_model.specs.Doing.{Standing, standing, Fits, Stands, IsRefused}
 use Rattle.py_model.specs.Moment.{Moment, begins, Ending, ends}
 use Rattle.py_model.specs.Running.{State, spent, outcome, beginning, tell}
 use Rattle.py_model.specs.Told.{TellsOn}
-use Rattle.interp_flow.specs.Step.{IsOn, IsSpent, IsCut, IsUnwritten, a_call_first, several_first, IsStep, Before, StepsFrom, IsHeldNext, meant, next_end}
+use Rattle.interp_flow.specs.Step.{IsOn, IsSpent, IsCut, IsUnwritten, several_first, IsStep, Before, StepsFrom, IsHeldNext, meant, next_end}
 use Rattle.flow_parts.specs.Seen.{end_seen}
 use Rattle.flow_parts.specs.Telling.{WasTold, WasNotTold, HasBegun}
 use Rattle.flow_parts.specs.declared.control.End.{End}
@@ -98,7 +98,6 @@ begun_so number left rest fits before after was is b found same known = subst (�
 module _ (script : ScriptTree) (next : Task → Act) (a b : Act) (frames : FlowFrames) (left : ℕ) (stands : Standing → Type 0) (was is : Option (List Moment)) (table : ValuesView) (capture : Capture) (s : State)
     (same : outcome capture a s ≡ outcome capture b s) where
   unwritten_same : IsUnwritten script next capture b s → IsUnwritten script next capture a s
-  unwritten_same (a_call_first here at others f arguments follows k called is) = a_call_first here at others f arguments follows k called (same ∙ is)
   unwritten_same (several_first here at targets v go k is) = several_first here at targets v go k (same ∙ is)
 
   pub step_same : (r : Result FlowNext Memory) → IsStep script next b frames left stands was is table capture s r → IsStep script next a frames left stands was is table capture s r

@@ -2,19 +2,17 @@
 use Rattle.std.specs.Prelude.{◌≡◌, ◌⊎◌, ◌<◌, ◌++◌, ℕ, List, map, Option, Some, None, Result, Ok, Err, ⊤}
 use Rattle.prov_base.specs.declared.place.Pos.{Pos}
 use Rattle.py_tree.specs.Tree.{TargetsTree, ScriptTree, many_target}
-use Rattle.py_value.specs.Contents.{Contents, contents}
-use Rattle.py_value.specs.declared.value.Value.{Value}
+use Rattle.py_value.specs.Contents.{Contents}
 use Rattle.py_value.specs.Values.{ValuesView}
 use Rattle.py_model.specs.Act.{Act, How, ret, to}
 use Rattle.py_model.specs.Capture.{Capture}
 use Rattle.py_model.specs.Doing.{Standing, standing, Fits, Stands, ForEach, IsRefused}
-use Rattle.py_model.specs.Expressions.{Here, Task, calling}
+use Rattle.py_model.specs.Expressions.{Here, Task}
 use Rattle.py_model.specs.Meaning.{RunEnd, finished, uncaught, end_of, level}
 use Rattle.py_model.specs.Moment.{Moment}
 use Rattle.py_model.specs.Running.{State, Asking, outcome, over, spent, lacking}
 use Rattle.py_model.specs.Statements.{store}
 use Rattle.py_model.specs.Told.{TellsOn}
-use Rattle.interp_eval.specs.Turns.{IsCallable}
 use Rattle.flow_parts.specs.Held.{IsHeldEnd, IsHeldFlow, IsHeldNow}
 use Rattle.flow_parts.specs.Machine.{flow, remaining, resumes, waits_act}
 use Rattle.flow_parts.specs.Seen.{end_seen, flow_seen, frame_seen, here_seen, now_seen, waits_seen}
@@ -74,10 +72,8 @@ pub record IsOver (capture : Capture) (before : Act) (s : State) (end : RunEnd) 
   pub left_is : s.left ≡ left
   pub tells : is ≡ was
 
--- What is first is not performed yet: a function or a class of the script is called, or a value is stored in several targets that are one of several.
+-- What is first is not performed yet: a value is stored in several targets that are one of several.
 pub data IsUnwritten (script : ScriptTree) (next : Task → Act) (capture : Capture) (before : Act) (s : State) : Type 0 where
-  a_call_first : (here : Here) (at : Pos) (table : ValuesView) (f : Value) (arguments : List Contents) (follows : Contents → Act) (k : How → Act) → IsCallable f
-      → outcome capture before s ≡ outcome capture (to (calling script next here at (contents table f) arguments follows) k) s → IsUnwritten script next capture before s
   several_first : (here : Here) (at : Pos) (targets : TargetsTree) (v : Contents) (go : Act) (k : How → Act)
       → outcome capture before s ≡ outcome capture (to (store script next here at (many_target targets) v go) k) s → IsUnwritten script next capture before s
 

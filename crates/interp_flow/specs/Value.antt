@@ -1,5 +1,6 @@
 -- An operation of a statement that is done now, with the part that follows its answer.
-use Rattle.std.specs.Prelude.{◌≡◌, ℕ, List, map, true, Result, Ok, Err, ⊤}
+use Rattle.std.specs.Prelude.{◌≡◌, ℕ, List, map, true, Option, Result, Ok, Err, ⊤, unwrap_or}
+use Rattle.std.specs.Option.{option_map}
 use Rattle.prov_base.specs.declared.place.Pos.{Pos}
 use Rattle.py_tree.specs.Erasure.{form_of}
 use Rattle.py_tree.specs.Tree.{ScriptTree}
@@ -18,15 +19,14 @@ use Rattle.py_model.specs.declared.moment.Op.{Op}
 use Rattle.interp_eval.specs.Held.{AreAllNamed}
 use Rattle.interp_eval.specs.Scopes.{IsAt}
 use Rattle.interp_eval.specs.Step.{given, remaining as eval_remaining}
-use Rattle.interp_eval.specs.Machine.{remains}
 use Rattle.interp_eval.specs.Seen.{machine_seen}
 use Rattle.interp_eval.specs.declared.frames.EvalFrames.{EvalFrames}
 use Rattle.interp_eval.specs.declared.frames.EvalNext.{EvalNext}
 use Rattle.interp_eval.specs.declared.frames.EvalNext.TheVariants.{More, Value as TheValue, Call, Raised, Ended, Spent, Unanswered}
 use Rattle.interp_eval.specs.declared.frames.Scope.{Scope}
 use Rattle.flow_parts.specs.Codes.{code_number, code_value, code_want}
-use Rattle.flow_parts.specs.Held.{IsHeldStage, IsHeldWork}
-use Rattle.flow_parts.specs.Machine.{flow_op, given_to, resumes, then_act, work_act}
+use Rattle.flow_parts.specs.Held.{IsHeldMade, IsHeldStage, IsHeldWork}
+use Rattle.flow_parts.specs.Machine.{flow_op, gives_back, resumes, then_act, work_act}
 use Rattle.flow_parts.specs.Seen.{end_seen, frame_seen, here_seen, stage_seen, work_seen}
 use Rattle.flow_parts.specs.declared.codes.Code.{Code}
 use Rattle.flow_parts.specs.declared.control.End.{End}
@@ -35,8 +35,9 @@ use Rattle.flow_parts.specs.declared.control.Stage.{Stage}
 use Rattle.flow_parts.specs.declared.control.Work.{Work}
 use Rattle.flow_parts.specs.declared.frames.FlowFrames.{FlowFrames}
 use Rattle.interp_flow.specs.Step.{Before, meant}
+use Rattle.interp_flow.specs.Calls.{IsHandedOver}
 use Rattle.interp_flow.specs.declared.next.FlowNext.{FlowNext}
-use Rattle.interp_flow.specs.declared.next.FlowNext.TheVariants.{More as FlowMore, Spent as FlowSpent, Unanswered as FlowUnanswered, Unwritten}
+use Rattle.interp_flow.specs.declared.next.FlowNext.TheVariants.{More as FlowMore, Spent as FlowSpent, Unanswered as FlowUnanswered}
 
 -- the operation is as the statement names it, at each place that the scope says
 pub record IsCodeOp (script : ScriptTree) (scope : Scope) (code : Code) (op : Op) (after : Standing → Type 0) (table : ValuesView) (s : State) : Type 0 where
@@ -78,8 +79,8 @@ GoesOnFrom b after (Ok FlowMore) = (script : ScriptTree) (table : ValuesView) (n
 GoesOnFrom b after (Err want) = ⊤
 GoesOnFrom b after result = ⊥
 
--- What a step of an expression came to is taken: the expression goes on, or the part that waits for its value gets an answer. What is not
--- performed is passed on.
+-- What a step of an expression came to is taken: the expression goes on, or the part that waits for its value gets an answer, or a call is
+-- next. What ends the run is passed on.
 abbrev pub IsTaken : {E : Type 0} → EvalNext → EvalFrames → Part → FlowFrames → FlowFrames → Result FlowNext E → Type 0
 IsTaken More eval p before after result = GoesOnFrom (λ script. evaluating script before eval p) after result
 IsTaken (TheValue v) eval p before after result = GoesOnFrom (λ script. answering script before p (ValueAnswer v)) after result
@@ -87,7 +88,7 @@ IsTaken (Raised o) eval p before after result = GoesOnFrom (λ script. answering
 IsTaken Ended eval p before after result = GoesOnFrom (λ script. answering script before p EndAnswer) after result
 IsTaken Spent eval p before after result = result ≡ Ok FlowSpent
 IsTaken Unanswered eval p before after result = result ≡ Ok FlowUnanswered
-IsTaken (Call f args at) eval p before after result = result ≡ Ok Unwritten
+IsTaken (Call f args at) eval p before after result = IsHandedOver f args at eval p before after result
 
 -- the expression stands in the scope of its statement
 abbrev pub IsInScope : Fits → EvalFrames → FlowFrames → Type 0
@@ -107,13 +108,16 @@ IsHeldWorkBy fits frames work = (table : ValuesView) (capture : Capture) → fit
 abbrev pub throwing : ScriptTree → FlowFrames → ℕ → ℕ → Before
 throwing script frames o line table next = leave nothing (resumes script next (map (frame_seen script table) frames.below.items) (λ how. ret how) (threw o line))
 
-abbrev pub resuming : ScriptTree → FlowFrames → EvalFrames → Part → Value → Before
-resuming script frames eval p v table next = leave (contents table v) (evaluating script frames (given v eval) p table next)
+abbrev pub resuming : ScriptTree → FlowFrames → EvalFrames → Option Value → Part → Value → Before
+resuming script frames eval made p v table next = leave (contents table v) (evaluating script frames (given (unwrap_or made v) eval) p table next)
 
-abbrev pub returning : ScriptTree → FlowFrames → EvalFrames → Part → End → Before
-returning script frames eval p end table next =
-    to (left_with script next (λ v. remains script next (here_seen script table frames.spot) (given_to (machine_seen table eval) v) (then_act script next (here_seen script table frames.spot) p.at (form_of p.form.now) (stage_seen table p.stage)))
-    (end_seen table end)) (resumes script next (map (frame_seen script table) frames.below.items) (λ how. ret how))
+abbrev pub returning : ScriptTree → FlowFrames → EvalFrames → Option Value → Part → End → Before
+returning script frames eval made p end table next =
+    to (left_with script next (gives_back script next (here_seen script table frames.spot) (machine_seen table eval) (then_act script next (here_seen script table frames.spot) p.at (form_of p.form.now) (stage_seen table p.stage))
+    (option_map (contents table) made)) (end_seen table end)) (resumes script next (map (frame_seen script table) frames.below.items) (λ how. ret how))
 
 abbrev pub IsNamedBy : Fits → Value → Type 0
 IsNamedBy fits v = (table : ValuesView) (capture : Capture) → fits table capture → IsNamed table v
+
+abbrev pub IsHeldMadeBy : Fits → Option Value → Type 0
+IsHeldMadeBy fits made = (table : ValuesView) (capture : Capture) → fits table capture → IsHeldMade table made

@@ -11,6 +11,7 @@ ghost use Rattle.flow_parts.specs.Held.{IsHeldBy, IsHeldFlow, IsHeldStage};
 ghost use Rattle.interp_flow.specs.Step.{HoldsNext, IsHeldNext, StepsFrom};
 ghost use Rattle.interp_flow.specs.Value.{AreHeldStages, GoesOnFrom, IsInScope, IsTaken, answering, evaluating};
 
+use crate::entering::hand_over;
 use crate::next::FlowNext;
 use crate::value::take;
 use flow_parts::{FlowFrames, Giving, Now, Part, Work};
@@ -37,7 +38,7 @@ pub(crate) fn keep<'a>(
 }
 
 /// The part that waits for the value of an expression gets its answer.
-fn finish<'a>(
+pub(crate) fn finish<'a>(
     alloc: Global,
     frames: &mut FlowFrames<'a>,
     part: Part<'a>,
@@ -56,7 +57,7 @@ fn finish<'a>(
 pub(crate) fn let_go(_eval: EvalFrames<'_>) {}
 
 /// The arguments of a call are let go.
-fn let_arguments_go(_arguments: Args) {}
+pub(crate) fn let_arguments_go(_arguments: Args) {}
 
 /// What a step of an expression came to is taken.
 fn taken<'a>(
@@ -84,10 +85,8 @@ fn taken<'a>(
             let_go(eval);
             finish(alloc, frames, part, Answer::End)
         }
-        EvalNext::Call(_, arguments, _) => {
-            let_go(eval);
-            let_arguments_go(arguments);
-            Ok(FlowNext::Unwritten)
+        EvalNext::Call(f, arguments, at) => {
+            hand_over(alloc, frames, eval, f, arguments, at, part)
         }
         EvalNext::Spent => {
             let_go(eval);

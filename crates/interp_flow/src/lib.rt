@@ -2,6 +2,8 @@
 //! [`Watch`](py_model::Watch). It stands on the meaning of `py_model` and on the parts of statements of `flow_parts` and `flow_stages`.
 #![tactic(auto)]
 
+mod calling;
+mod entering;
 mod expression;
 mod moving;
 mod next;

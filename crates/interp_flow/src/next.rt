@@ -13,7 +13,6 @@ pub enum FlowNext {
     Spent,
     /// An operation asked for what is not there.
     Unanswered,
-    /// Nothing was done: a function or a class of the script is called, or a value is stored in several targets that are one of several; neither
-    /// is performed yet.
+    /// Nothing was done: a value is stored in several targets that are one of several, which is not performed yet.
     Unwritten,
 }

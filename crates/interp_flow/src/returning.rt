@@ -1,5 +1,5 @@
 // The end of an activation is handed to its caller.
-ghost use Rattle.std.specs.Prelude.{◌≡◌};
+ghost use Rattle.std.specs.Prelude.{◌≡◌, unwrap_or};
 ghost use Rattle.py_value.specs.Contents.{contents};
 ghost use Rattle.py_value.specs.Values.{ValuesView, IsNamed};
 ghost use Rattle.py_tree.specs.Tree.{ScriptTree};
@@ -10,7 +10,7 @@ ghost use Rattle.interp_eval.specs.Step.{AreHeldBy};
 ghost use Rattle.flow_parts.specs.Held.{IsHeldBy, IsHeldEnd};
 ghost use Rattle.flow_parts.specs.Seen.{end_seen};
 ghost use Rattle.interp_flow.specs.Step.{HoldsNext, IsHeldEndBy, StepsFrom};
-ghost use Rattle.interp_flow.specs.Value.{AreHeldStages, IsInScope, IsNamedBy, resuming, returning, throwing};
+ghost use Rattle.interp_flow.specs.Value.{AreHeldStages, IsHeldMadeBy, IsInScope, IsNamedBy, resuming, returning, throwing};
 
 use crate::expression::{keep, let_go};
 use crate::next::FlowNext;
@@ -61,11 +61,22 @@ fn throw_step<'a, D: Doer, W: Watch>(
     }
 }
 
-/// An activation is left with its value, and the expression that called it goes on with that.
+/// The value of a call: what was made for it, and else what the function returns.
+fn call_value(made: Option<Value>, value: Value) -> Value
+    ensures { result ≡ unwrap_or made value }
+{
+    match made {
+        Some(o) => o,
+        None => value,
+    }
+}
+
+/// An activation is left with its value, and the expression that called it goes on with the value of the call.
 fn resume_step<'a, D: Doer, W: Watch>(
     alloc: Global,
     frames: &mut FlowFrames<'a>,
     mut eval: EvalFrames<'a>,
+    made: Option<Value>,
     part: Part<'a>,
     value: Value,
     doer: &mut D,
@@ -76,13 +87,14 @@ fn resume_step<'a, D: Doer, W: Watch>(
     requires held { IsHeldBy (D.fits doer.old) frames.old }
     requires eval { AreHeldBy (D.fits doer.old) eval }
     requires scope { IsInScope (D.fits doer.old) eval frames.old }
+    requires made { IsHeldMadeBy (D.fits doer.old) made }
     requires stage { AreHeldStages (D.fits doer.old) part.stage }
     requires value { IsNamedBy (D.fits doer.old) value }
     ensures knew { Knew (D.fits doer.old) (D.fits doer.new) }
     ensures held { HoldsNext (D.fits doer.new) frames.new result }
-    ensures step { (script : ScriptTree) → StepsFrom script (resuming script frames.old eval.entry part.entry value) frames.new left left (D.fits doer.new) (D.stands doer.old) (D.stands doer.new) (W.history watch.old) (W.history watch.new) result }
+    ensures step { (script : ScriptTree) → StepsFrom script (resuming script frames.old eval.entry made part.entry value) frames.new left left (D.fits doer.new) (D.stands doer.old) (D.stands doer.new) (W.history watch.old) (W.history watch.new) result }
 {
-    eval.give(value);
+    eval.give(call_value(made, value));
     match leave(alloc, doer, watch, value) {
         Err(refused) => {
             let_go(eval);
@@ -97,6 +109,7 @@ pub(crate) fn return_step<'a, D: Doer, W: Watch>(
     alloc: Global,
     frames: &mut FlowFrames<'a>,
     eval: EvalFrames<'a>,
+    made: Option<Value>,
     part: Part<'a>,
     end: End,
     doer: &mut D,
@@ -107,11 +120,12 @@ pub(crate) fn return_step<'a, D: Doer, W: Watch>(
     requires held { IsHeldBy (D.fits doer.old) frames.old }
     requires eval { AreHeldBy (D.fits doer.old) eval }
     requires scope { IsInScope (D.fits doer.old) eval frames.old }
+    requires made { IsHeldMadeBy (D.fits doer.old) made }
     requires stage { AreHeldStages (D.fits doer.old) part.stage }
     requires end { IsHeldEndBy (D.fits doer.old) end }
     ensures knew { Knew (D.fits doer.old) (D.fits doer.new) }
     ensures held { HoldsNext (D.fits doer.new) frames.new result }
-    ensures step { (script : ScriptTree) → StepsFrom script (returning script frames.old eval.entry part.entry end) frames.new left left (D.fits doer.new) (D.stands doer.old) (D.stands doer.new) (W.history watch.old) (W.history watch.new) result }
+    ensures step { (script : ScriptTree) → StepsFrom script (returning script frames.old eval.entry made part.entry end) frames.new left left (D.fits doer.new) (D.stands doer.old) (D.stands doer.new) (W.history watch.old) (W.history watch.new) result }
 {
     let value = value_of(end);
     match end {
@@ -119,9 +133,9 @@ pub(crate) fn return_step<'a, D: Doer, W: Watch>(
             let_go(eval);
             throw_step(alloc, frames, o, line, doer, watch, left)
         }
-        End::Normal => resume_step(alloc, frames, eval, part, value, doer, watch, left),
-        End::Broke => resume_step(alloc, frames, eval, part, value, doer, watch, left),
-        End::Continued => resume_step(alloc, frames, eval, part, value, doer, watch, left),
-        End::Returned(_) => resume_step(alloc, frames, eval, part, value, doer, watch, left),
+        End::Normal => resume_step(alloc, frames, eval, made, part, value, doer, watch, left),
+        End::Broke => resume_step(alloc, frames, eval, made, part, value, doer, watch, left),
+        End::Continued => resume_step(alloc, frames, eval, made, part, value, doer, watch, left),
+        End::Returned(_) => resume_step(alloc, frames, eval, made, part, value, doer, watch, left),
     }
 }

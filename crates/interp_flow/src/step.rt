@@ -13,6 +13,7 @@ ghost use Rattle.interp_flow.specs.Step.{HoldsNext, IsHeldEndBy, IsHeldNowBy, St
 ghost use Rattle.flow_parts.specs.Held.{IsHeldBy};
 ghost use Rattle.interp_flow.specs.Value.{AreHeldStages, IsHeldWorkBy, working};
 
+use crate::calling::call_step;
 use crate::expression::expression_step;
 use crate::moving::{end_part, open_part, open_stmt};
 use crate::next::FlowNext;
@@ -120,9 +121,20 @@ pub(crate) fn end_step<'a, D: Doer, W: Watch>(
             close_step(alloc, frames, number, rest, end, doer, watch, left)
         }
         Waits::Part(caller, part) => match caller {
-            Some(eval) => {
-                let eval = Box::into_inner(eval);
-                return_step(alloc, frames, eval, part, end, doer, watch, left)
+            Some(caller) => {
+                let caller = Box::into_inner(caller);
+                let made = caller.made;
+                return_step(
+                    alloc,
+                    frames,
+                    caller.eval,
+                    made,
+                    part,
+                    end,
+                    doer,
+                    watch,
+                    left,
+                )
             }
             None => match end_part(alloc, frames, part, end) {
                 Ok(()) => Ok(FlowNext::More),
@@ -132,7 +144,7 @@ pub(crate) fn end_step<'a, D: Doer, W: Watch>(
     }
 }
 
-/// What gives a value goes on by one step: an expression, or an operation.
+/// What gives a value goes on by one step: an expression, an operation, or a call.
 fn work_step<'a, D: Doer, W: Watch>(
     alloc: Global,
     frames: &mut FlowFrames<'a>,
@@ -158,6 +170,9 @@ fn work_step<'a, D: Doer, W: Watch>(
         Work::Evaluates(eval) => {
             expression_step(alloc, frames, eval, part, script, doer, watch, left)
         }
+        Work::Calls(caller, at, callee, values) => call_step(
+            alloc, frames, caller, at, callee, values, part, script, doer, watch, left,
+        ),
     }
 }
 

@@ -15,3 +15,8 @@ returns-in-Raised-clause-held c = λ table old next scope stage. c.finish-in-Rai
 
 pub returns-in-Ended-clause-held : goal.returns-in-Ended-clause-held
 returns-in-Ended-clause-held c = λ table old next scope stage. c.finish-in-Ended.ensures.held table old stage tt
+
+pub returns-in-Call-clause-held : goal.returns-in-Call-clause-held
+returns-in-Call-clause-held c = λ table old next scope stage.
+    let known = subst (λ (n : EvalNext). IsHeldEvalNext {E = Memory} table c.args.eval (Ok n)) c.in-Call.is next in
+    c.hand_over.ensures.held table old known.0 known.1.0 known.1.1 scope stage

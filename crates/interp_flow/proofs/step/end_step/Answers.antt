@@ -1,12 +1,11 @@
 use Rattle.std.proofs.Common.{ap, sym, subst, ◌∙◌}
-use Rattle.flow_parts.specs.Held.{IsHeldWaits}
+use Rattle.flow_parts.specs.Held.{IsHeldCaller, IsHeldWaits}
 use Rattle.flow_parts.specs.Popping.{HoldsPopped, IsPopped}
 use Rattle.flow_parts.specs.Seen.{end_seen}
 use Rattle.flow_parts.specs.declared.control.Now.TheVariants.{Ended}
 use Rattle.flow_parts.specs.declared.frames.Waits.TheVariants.{Stmt as StmtWaits, Part as PartWaits}
 use Rattle.py_model.specs.Meaning.{end_of}
-use Rattle.interp_eval.specs.Held.{AreHeld}
-use Rattle.interp_eval.specs.declared.frames.EvalFrames.{EvalFrames}
+use Rattle.flow_parts.specs.declared.control.Caller.{Caller}
 use Rattle.interp_flow.specs.Step.{doing_now, handed}
 use Rattle.interp_flow.specs.Value.{returning}
 use Rattle.interp_flow.proofs.Fronts.{at_last}
@@ -57,25 +56,31 @@ pub return_step-requires-clause-eval : goal.return_step-requires-clause-eval
 return_step-requires-clause-eval g c = λ table capture fit.
     let popped = subst (HoldsPopped table c.pop.new.self) c.in-Some.is (c.pop.ensures.held table (c.requires.held table capture fit)) in
     let waits = subst (IsHeldWaits table c.pop.new.self.spot.scope) (c.in-Part.is ∙ ap (λ caller. PartWaits caller c.in-Part.part) c.in-Some-caller.is) popped.1 in
-    subst (AreHeld table) (sym c.into_inner-eval.ensures) waits.0
+    (subst (IsHeldCaller table c.pop.new.self.spot.scope) (sym c.into_inner-caller.ensures) waits.0).0
 
 pub return_step-requires-clause-scope : goal.return_step-requires-clause-scope
 return_step-requires-clause-scope g c = λ table capture fit.
     let popped = subst (HoldsPopped table c.pop.new.self) c.in-Some.is (c.pop.ensures.held table (c.requires.held table capture fit)) in
     let waits = subst (IsHeldWaits table c.pop.new.self.spot.scope) (c.in-Part.is ∙ ap (λ caller. PartWaits caller c.in-Part.part) c.in-Some-caller.is) popped.1 in
-    ap (λ (e : EvalFrames). e.scope) c.into_inner-eval.ensures ∙ waits.1.0
+    (subst (IsHeldCaller table c.pop.new.self.spot.scope) (sym c.into_inner-caller.ensures) waits.0).1.0
+
+pub return_step-requires-clause-made : goal.return_step-requires-clause-made
+return_step-requires-clause-made g c = λ table capture fit.
+    let popped = subst (HoldsPopped table c.pop.new.self) c.in-Some.is (c.pop.ensures.held table (c.requires.held table capture fit)) in
+    let waits = subst (IsHeldWaits table c.pop.new.self.spot.scope) (c.in-Part.is ∙ ap (λ caller. PartWaits caller c.in-Part.part) c.in-Some-caller.is) popped.1 in
+    (subst (IsHeldCaller table c.pop.new.self.spot.scope) (sym c.into_inner-caller.ensures) waits.0).1.1
 
 pub return_step-requires-clause-stage : goal.return_step-requires-clause-stage
 return_step-requires-clause-stage g c = λ table capture fit.
     let popped = subst (HoldsPopped table c.pop.new.self) c.in-Some.is (c.pop.ensures.held table (c.requires.held table capture fit)) in
     let waits = subst (IsHeldWaits table c.pop.new.self.spot.scope) (c.in-Part.is ∙ ap (λ caller. PartWaits caller c.in-Part.part) c.in-Some-caller.is) popped.1 in
-    waits.1.1
+    waits.1
 
 pub returns-in-Some-caller-clause-step : goal.returns-in-Some-caller-clause-step
 returns-in-Some-caller-clause-step g c = λ script.
     let popped = subst (IsPopped c.args.frames.now c.pop.new.self) c.in-Some.is c.pop.ensures.means in
-    steps_same script (doing_now script c.args.frames.now (Ended c.args.end)) (returning script c.pop.new.self c.into_inner-eval.result c.in-Part.part c.args.end) c.return_step.new.frames c.args.left c.args.left
+    steps_same script (doing_now script c.args.frames.now (Ended c.args.end)) (returning script c.pop.new.self c.into_inner-caller.result.eval c.into_inner-caller.result.made c.in-Part.part c.args.end) c.return_step.new.frames c.args.left c.args.left
     (g.D.Doer.fits c.return_step.new.doer) (g.D.Doer.stands c.args.doer.now) (g.D.Doer.stands c.return_step.new.doer) (g.W.Watch.history c.args.watch.now) (g.W.Watch.history c.return_step.new.watch) c.return_step.result
     (λ table next. popped script next table (end_seen table c.args.end)
     ∙ ap (λ w. handed script c.pop.new.self w c.args.end table next) (c.in-Part.is ∙ ap (λ caller. PartWaits caller c.in-Part.part) c.in-Some-caller.is)
-    ∙ ap (λ (e : EvalFrames). returning script c.pop.new.self e c.in-Part.part c.args.end table next) (sym c.into_inner-eval.ensures)) (c.return_step.ensures.step script)
+    ∙ ap (λ (o : Caller). returning script c.pop.new.self o.eval o.made c.in-Part.part c.args.end table next) (sym c.into_inner-caller.ensures)) (c.return_step.ensures.step script)

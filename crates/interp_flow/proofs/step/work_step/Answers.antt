@@ -1,6 +1,7 @@
 use Rattle.std.proofs.Common.{ap, subst}
 use Rattle.py_tree.specs.Erasure.{script_of}
 use Rattle.flow_parts.specs.Held.{IsHeldWork}
+use Rattle.interp_flow.specs.Calls.{calling_so}
 use Rattle.interp_flow.specs.Value.{evaluating, operating, working}
 use Rattle.interp_flow.proofs.Stepping.{steps_same}
 use Rattle.interp_flow.proofs.step.work_step.Goals as goal
@@ -27,3 +28,19 @@ returns-in-Evaluates-clause-step g c =
     (evaluating (script_of c.args.script.now) c.args.frames.now c.in-Evaluates.eval c.args.part) c.expression_step.new.frames c.args.left.now c.expression_step.new.left
     (g.D.Doer.fits c.expression_step.new.doer) (g.D.Doer.stands c.args.doer.now) (g.D.Doer.stands c.expression_step.new.doer) (g.W.Watch.history c.args.watch.now) (g.W.Watch.history c.expression_step.new.watch) c.expression_step.result
     (λ table next. ap (λ w. working (script_of c.args.script.now) c.args.frames.now w c.args.part table next) c.in-Evaluates.is) c.expression_step.ensures.step
+
+pub call_step-requires-clause-caller : goal.call_step-requires-clause-caller
+call_step-requires-clause-caller g c = λ table capture fit. (subst (IsHeldWork table c.args.frames.now.spot.scope) c.in-Calls.is (c.requires.work table capture fit)).0
+
+pub call_step-requires-clause-callee : goal.call_step-requires-clause-callee
+call_step-requires-clause-callee g c = λ table capture fit. (subst (IsHeldWork table c.args.frames.now.spot.scope) c.in-Calls.is (c.requires.work table capture fit)).1.0
+
+pub call_step-requires-clause-values : goal.call_step-requires-clause-values
+call_step-requires-clause-values g c = λ table capture fit. (subst (IsHeldWork table c.args.frames.now.spot.scope) c.in-Calls.is (c.requires.work table capture fit)).1.1
+
+pub returns-in-Calls-clause-step : goal.returns-in-Calls-clause-step
+returns-in-Calls-clause-step g c =
+    steps_same (script_of c.args.script.now) (working (script_of c.args.script.now) c.args.frames.now c.args.work c.args.part)
+    (calling_so (script_of c.args.script.now) c.args.frames.now c.in-Calls.caller.value c.in-Calls.at c.in-Calls.callee c.in-Calls.values c.args.part) c.call_step.new.frames c.args.left.now c.call_step.new.left
+    (g.D.Doer.fits c.call_step.new.doer) (g.D.Doer.stands c.args.doer.now) (g.D.Doer.stands c.call_step.new.doer) (g.W.Watch.history c.args.watch.now) (g.W.Watch.history c.call_step.new.watch) c.call_step.result
+    (λ table next. ap (λ w. working (script_of c.args.script.now) c.args.frames.now w c.args.part table next) c.in-Calls.is) c.call_step.ensures.step
