@@ -1,5 +1,5 @@
 -- What the walks of an operation that happened came to, read off the moment that was told of it.
-use Rattle.std.proofs.Common.{◌≡◌, ℕ, suc, ◌+◌, ◌-◌, ◌≤◌, Bool, true, false, if◌then◌else◌, List, [], ◌∷◌, map, length, Option, Ok, refl, ap, sym, ◌∙◌, subst, nat_le}
+use Rattle.std.proofs.Common.{◌≡◌, ℕ, suc, ◌+◌, ◌-◌, Bool, true, false, if◌then◌else◌, List, [], ◌∷◌, map, length, Option, Ok, refl, ap, sym, ◌∙◌, subst, nat_le}
 use Rattle.std.proofs.lemmas.List.{length-map}
 use Rattle.std.specs.List.{list_any}
 use Rattle.std.specs.Option.{option_map}
@@ -7,12 +7,11 @@ use Rattle.prov_base.specs.declared.place.Pos.{Pos}
 use Rattle.prov_base.specs.declared.refusal.Memory.{Memory}
 use Rattle.py_value.specs.Contents.{Contents, contents}
 use Rattle.py_value.specs.Seen.{SeenAccess, SeenKind, access_seen, kind_seen}
-use Rattle.py_value.specs.Values.{ValuesView, AreNamed}
+use Rattle.py_value.specs.Values.{ValuesView}
 use Rattle.py_value.specs.declared.access.Access.{Access}
 use Rattle.py_value.specs.declared.access.Access.TheVariants.{Read, Set, Update}
 use Rattle.py_value.specs.declared.access.Location.TheVariants.{Var, Len, Item, Entry, Order, File, Offset, Closed, Method, Base}
 use Rattle.py_value.specs.declared.value.Value.{Value}
-use Rattle.py_model.proofs.Histories.{note_keeps}
 use Rattle.py_model.specs.Act.{Walked}
 use Rattle.py_model.specs.Capture.{Capture}
 use Rattle.py_model.specs.Doing.{Fits, Stands, Knew, ForEach, IsDone}

@@ -1,7 +1,7 @@
-use Rattle.std.proofs.Common.{Some, sym, subst}
+use Rattle.std.proofs.Common.{subst}
 use Rattle.py_tree.specs.Erasure.{script_of}
-use Rattle.called_functions.specs.Finding.{IsFunctionAt, found_function}
-use Rattle.flow_entries.proofs.Calls.{none_fails, wrong_fails, many_fails}
+use Rattle.called_functions.specs.Finding.{IsFunctionAt}
+use Rattle.flow_entries.proofs.Calls.{none_fails}
 use Rattle.flow_entries.proofs.choosing.called_by.Goals as goal
 
 pub returns-in_default : goal.returns-in_default
