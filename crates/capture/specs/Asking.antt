@@ -1,5 +1,5 @@
 -- What the devices did, by what is kept of it (this project's profile).
-use Rattle.std.specs.Prelude.{◌≡◌, ℕ, List, [], ◌∷◌, ◌++◌, Result, Ok, Err}
+use Rattle.std.specs.Prelude.{◌≡◌, [], ◌∷◌, ◌++◌, Result, Ok, Err}
 use Rattle.prov_base.specs.declared.refusal.Memory.{Memory as Want}
 use Rattle.prov_outside.specs.declared.trouble.Trouble.{Trouble}
 use Rattle.prov_outside.specs.declared.trouble.Trouble.TheVariants.{Failed as Fault, Memory as NoMemory}

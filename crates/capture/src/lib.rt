@@ -22,8 +22,10 @@ mod answer;
 mod answers;
 mod asking;
 mod capture;
+mod ended;
 mod files;
 mod paths;
 
 pub use answer::{Ask, Asked, Given, NoAnswer};
 pub use capture::Capture;
+pub use ended::{Ended, FileOut, RunEnd};
