@@ -1,5 +1,5 @@
 -- The suite of a function in an activation: how a run comes out from its entry.
-use Rattle.std.proofs.Common.{◌≡◌, ◌<◌, ◌≤◌, ◌⊎◌, ◌∷◌, [], inl, inr, ℕ, suc, pos, ◌+◌, ◌-◌, Bool, true, false, nat_eq, nat_le, nat_lt, List, length, map, Option, Some, None, Result, Ok, Err, if◌then◌else◌, refl, ap, sym, ◌∙◌, subst, arith, le-leb, eq-eqb}
+use Rattle.std.proofs.Common.{◌≡◌, ◌<◌, ◌≤◌, ◌∷◌, [], inl, inr, ℕ, suc, true, false, nat_le, nat_lt, List, length, map, Option, Some, None, Result, Ok, Err, if◌then◌else◌, refl, ap, sym, ◌∙◌, subst, arith, le-leb, eq-eqb}
 use Rattle.std.proofs.lemmas.Bool.{lt-ltb, lt-leb}
 use Rattle.std.proofs.lemmas.List.{length-map}
 use Rattle.prov_base.specs.declared.place.Pos.{Pos}
@@ -13,7 +13,7 @@ use Rattle.std.specs.Option.{option_map}
 use Rattle.py_tree.specs.Erasure.{form_of}
 use Rattle.py_model.specs.Act.{Act, How, ret, to}
 use Rattle.py_model.specs.Capture.{Capture}
-use Rattle.py_model.specs.Doing.{Standing, standing, Fits, Stands}
+use Rattle.py_model.specs.Doing.{standing, Fits, Stands}
 use Rattle.py_model.specs.Expressions.{Here, Task, body_of, calling_function, failing, inside, left_with, running, too_many_open, wrong_arguments}
 use Rattle.py_model.specs.Functions.{Function as OneFunction, function_at}
 use Rattle.py_model.specs.Meaning.{level}

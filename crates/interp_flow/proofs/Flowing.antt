@@ -15,7 +15,7 @@ use Rattle.py_model.specs.Moment.{Moment}
 use Rattle.py_model.specs.Running.{State, outcome}
 use Rattle.interp_eval.specs.Performing.{HasState}
 use Rattle.interp_eval.proofs.Performed.{state_of}
-use Rattle.flow_parts.specs.Machine.{Goal, goal_act, open_act, resumes, stored_act, breaks, goal_target}
+use Rattle.flow_parts.specs.Machine.{open_act, resumes, stored_act, breaks, goal_target}
 use Rattle.flow_parts.specs.Seen.{frame_seen, here_seen, stage_seen}
 use Rattle.flow_parts.specs.declared.control.Giving.{Giving}
 use Rattle.flow_parts.specs.declared.control.Goal.TheVariants.{Breaks}
@@ -56,15 +56,15 @@ gives_so script frames giving inner same table next = now_does script next table
 
 -- a value is to be stored in several targets
 module _ (script : ScriptTree) (next : Task → Act) (here : Here) (at : Pos) (form : FormTree) (table : ValuesView) (capture : Capture) (s : State) (k : How → Act) (a : Act) where
-  several_target : (goal : Goal) (v : Contents) (o : Option TargetTree) → IsMany o → a ≡ to (stored_act script next here at form goal o v) k → IsUnwritten script next capture a s
-  several_target goal v (Some (many_target targets)) many is = several_first here at targets v (goal_act script next here at goal form) k (ap (λ a. outcome capture a s) is)
-  several_target goal v (Some (var_target place name)) many is = absurd many
-  several_target goal v (Some (part_target place e index)) many is = absurd many
-  several_target goal v (Some (field_target place e name)) many is = absurd many
-  several_target goal v None many is = absurd many
+  several_target : (n : ℕ) (v : Contents) (o : Option TargetTree) → IsMany o → a ≡ to (stored_act script next here at form (breaks n) o v) k → IsUnwritten script next capture a s
+  several_target n v (Some (many_target targets)) many is = several_first here at targets v k (ap (λ a. outcome capture a s) is)
+  several_target n v (Some (var_target place name)) many is = absurd many
+  several_target n v (Some (part_target place e index)) many is = absurd many
+  several_target n v (Some (field_target place e name)) many is = absurd many
+  several_target n v None many is = absurd many
 
   several_stage : (stage : Stage) → IsNested form stage → a ≡ to (open_act script next here at form (stage_seen table stage)) k → IsUnwritten script next capture a s
-  several_stage (Stores (Breaks n) v) several is = several_target (breaks n) (contents table v) (goal_target (breaks n) form) several is
+  several_stage (Stores (Breaks n) v) several is = several_target n (contents table v) (goal_target (breaks n) form) several is
   several_stage stage several is = absurd several
 
 pub several_left : (script : ScriptTree) (frames : FlowFrames) (p : Part) → IsNested (form_of p.form.now) p.stage → (table : ValuesView) (capture : Capture) (s : State) (n : ℕ)

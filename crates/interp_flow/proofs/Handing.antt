@@ -1,5 +1,5 @@
 -- A call that a step of an expression came to is the call that waits.
-use Rattle.std.proofs.Common.{◌≡◌, ◌∷◌, [], ℕ, Bool, true, false, List, map, Option, Some, None, Result, Ok, Err, refl, ap, sym, ◌∙◌, subst}
+use Rattle.std.proofs.Common.{◌≡◌, ◌∷◌, [], Bool, true, false, List, Option, Some, None, Result, Ok, Err, refl, ap, sym, ◌∙◌, subst}
 use Rattle.std.specs.Prelude.{⊤}
 use Rattle.prov_base.specs.declared.refusal.Memory.{Memory}
 use Rattle.std.proofs.Math.Path.{fun_ext}
@@ -10,14 +10,14 @@ use Rattle.py_value.specs.Values.{ValuesView, IsNamed}
 use Rattle.py_value.specs.declared.value.Value.{Value}
 use Rattle.py_value.specs.declared.value.Value.TheVariants.{None as NoneValue, Bool as TruthValue, Int as IntValue, Text as TextValue, Tuple as TupleValue, Range as RangeValue, Fn as FnValue, Class as ClassValue, Exc as ExcValue, Builtin as BuiltinValue, Object as ObjectValue}
 use Rattle.py_model.specs.Act.{Act, Walked, perform}
-use Rattle.py_model.specs.Expressions.{Here, Task, calling, calling_class, calling_function, doing, giving, initialising, op, walking, without_init}
+use Rattle.py_model.specs.Expressions.{Here, Task, calling, calling_class, calling_function, giving, initialising, op, walking, without_init}
 use Rattle.py_model.specs.Functions.{function_at}
 use Rattle.py_model.specs.Plan.{value}
-use Rattle.interp_eval.specs.Machine.{Machine, remains, goes}
+use Rattle.interp_eval.specs.Machine.{Machine, remains}
 use Rattle.interp_eval.specs.Seen.{machine_seen}
 use Rattle.interp_eval.specs.Step.{given, remaining}
 use Rattle.interp_eval.specs.declared.frames.EvalFrames.{EvalFrames}
-use Rattle.flow_parts.specs.Machine.{call_act, given_to, gives_back, made_act, without_method}
+use Rattle.flow_parts.specs.Machine.{call_act, given_to, made_act, without_method}
 use Rattle.flow_parts.specs.Seen.{callee_seen}
 use Rattle.flow_parts.specs.declared.control.Callee.{Callee}
 use Rattle.flow_parts.specs.declared.control.Callee.TheVariants.{Function, Class}

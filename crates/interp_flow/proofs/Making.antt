@@ -3,13 +3,13 @@ use Rattle.std.proofs.Common.{◌≡◌, ◌∷◌, [], inl, inr, ℕ, Bool, tru
 use Rattle.prov_base.specs.declared.place.Pos.{Pos}
 use Rattle.prov_base.specs.declared.refusal.Memory.{Memory}
 use Rattle.py_tree.specs.Tree.{ScriptTree}
-use Rattle.py_value.specs.Contents.{Contents, contents}
+use Rattle.py_value.specs.Contents.{contents}
 use Rattle.py_value.specs.Values.{ValuesView}
 use Rattle.py_value.specs.declared.value.Value.{Value}
 use Rattle.py_value.specs.declared.value.Value.TheVariants.{None as NoneValue}
-use Rattle.py_model.specs.Act.{Act, How, ret, to, perform, normal}
+use Rattle.py_model.specs.Act.{Act, ret, to, perform, normal}
 use Rattle.py_model.specs.Capture.{Capture}
-use Rattle.py_model.specs.Doing.{Standing, standing, Fits, Stands, Knew}
+use Rattle.py_model.specs.Doing.{Standing, Fits, Stands, Knew}
 use Rattle.py_model.specs.Expressions.{Task, by_answer, op}
 use Rattle.py_model.specs.Meaning.{level}
 use Rattle.py_model.specs.Moment.{Moment}

@@ -98,7 +98,7 @@ begun_so number left rest fits before after was is b found same known = subst (�
 module _ (script : ScriptTree) (next : Task → Act) (a b : Act) (frames : FlowFrames) (left : ℕ) (stands : Standing → Type 0) (was is : Option (List Moment)) (table : ValuesView) (capture : Capture) (s : State)
     (same : outcome capture a s ≡ outcome capture b s) where
   unwritten_same : IsUnwritten script next capture b s → IsUnwritten script next capture a s
-  unwritten_same (several_first here at targets v go k is) = several_first here at targets v go k (same ∙ is)
+  unwritten_same (several_first here at targets v k is) = several_first here at targets v k (same ∙ is)
 
   pub step_same : (r : Result FlowNext Memory) → IsStep script next b frames left stands was is table capture s r → IsStep script next a frames left stands was is table capture s r
   step_same (Ok More) h = record { next = h.next; news = h.news; comes_out = same ∙ h.comes_out; told_is = h.told_is; stands_so = h.stands_so; left_is = h.left_is; tells = h.tells }

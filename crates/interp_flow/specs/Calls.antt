@@ -11,7 +11,7 @@ use Rattle.py_value.specs.declared.value.Value.TheVariants.{Fn as FnValue, Class
 use Rattle.py_model.specs.Act.{Act, ret, to, normal}
 use Rattle.py_model.specs.Capture.{Capture}
 use Rattle.py_model.specs.Doing.{Fits}
-use Rattle.py_model.specs.Expressions.{Here, Task, by_answer, failing}
+use Rattle.py_model.specs.Expressions.{Task, by_answer, failing}
 use Rattle.py_model.specs.Told.{answer_seen}
 use Rattle.py_model.specs.declared.moment.Answer.{Answer}
 use Rattle.interp_eval.specs.Machine.{remains}

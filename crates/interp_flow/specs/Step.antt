@@ -4,7 +4,7 @@ use Rattle.prov_base.specs.declared.place.Pos.{Pos}
 use Rattle.py_tree.specs.Tree.{TargetsTree, ScriptTree, many_target}
 use Rattle.py_value.specs.Contents.{Contents}
 use Rattle.py_value.specs.Values.{ValuesView}
-use Rattle.py_model.specs.Act.{Act, How, ret, to}
+use Rattle.py_model.specs.Act.{Act, How, broke, ret, to}
 use Rattle.py_model.specs.Capture.{Capture}
 use Rattle.py_model.specs.Doing.{Standing, standing, Fits, Stands, ForEach, IsRefused}
 use Rattle.py_model.specs.Expressions.{Here, Task}
@@ -72,10 +72,10 @@ pub record IsOver (capture : Capture) (before : Act) (s : State) (end : RunEnd) 
   pub left_is : s.left ≡ left
   pub tells : is ≡ was
 
--- What is first is not performed yet: a value is stored in several targets that are one of several.
+-- What is first is not performed yet: a value is stored in several targets that are one of several, so that a jump to the next of these follows.
 pub data IsUnwritten (script : ScriptTree) (next : Task → Act) (capture : Capture) (before : Act) (s : State) : Type 0 where
-  several_first : (here : Here) (at : Pos) (targets : TargetsTree) (v : Contents) (go : Act) (k : How → Act)
-      → outcome capture before s ≡ outcome capture (to (store script next here at (many_target targets) v go) k) s → IsUnwritten script next capture before s
+  several_first : (here : Here) (at : Pos) (targets : TargetsTree) (v : Contents) (k : How → Act)
+      → outcome capture before s ≡ outcome capture (to (store script next here at (many_target targets) v (ret broke)) k) s → IsUnwritten script next capture before s
 
 -- Nothing is done of it.
 pub record IsLeft (script : ScriptTree) (next : Task → Act) (capture : Capture) (before : Act) (s : State) (left : ℕ) (stands : Standing → Type 0) (was is : Option (List Moment)) : Type 0 where

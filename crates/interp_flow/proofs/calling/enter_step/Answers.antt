@@ -1,4 +1,4 @@
-use Rattle.std.proofs.Common.{length, Option, Ok, ap, sym, subst, ◌∙◌}
+use Rattle.std.proofs.Common.{length, Ok, ap, sym, subst, ◌∙◌}
 use Rattle.prov_base.specs.declared.refusal.Memory.{Memory}
 use Rattle.interp_eval.proofs.Steps.{all_named}
 use Rattle.flow_calls.specs.Calling.{HasEntered}

@@ -1,7 +1,6 @@
 use Rattle.std.proofs.Common.{length, ap, sym, subst, ◌∙◌}
 use Rattle.py_tree.specs.Erasure.{script_of}
 use Rattle.flow_entries.specs.Choosing.{IsCalledBy, MayRun}
-use Rattle.flow_entries.specs.declared.choosing.Called.TheVariants.{Fails, Runs}
 use Rattle.flow_parts.specs.declared.control.Callee.TheVariants.{Function}
 use Rattle.interp_flow.specs.Calls.{calling_so}
 use Rattle.interp_flow.proofs.Bodies.{fails_on}

@@ -1,5 +1,4 @@
 use Rattle.std.proofs.Common.{◌∷◌, List, Some, ap, sym, subst, ◌∙◌}
-use Rattle.prov_base.specs.declared.refusal.Memory.{Memory}
 use Rattle.py_value.specs.declared.value.Value.{Value}
 use Rattle.interp_eval.specs.Held.{AreAllNamed}
 use Rattle.flow_parts.specs.Held.{IsHeldCaller}

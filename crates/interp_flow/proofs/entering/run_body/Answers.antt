@@ -1,4 +1,4 @@
-use Rattle.std.proofs.Common.{◌+◌, map, Some, ap, sym, arith, ◌∙◌}
+use Rattle.std.proofs.Common.{◌+◌, map, ap, sym, arith, ◌∙◌}
 use Rattle.std.specs.Option.{option_map}
 use Rattle.py_tree.proofs.StmtTrees.{suite_tree}
 use Rattle.py_tree.specs.Erasure.{form_of}
