@@ -1,6 +1,5 @@
 -- What came to its end as the plan of a number did so as that of the operation, with its askings answered.
-use Rattle.std.proofs.Common.{◌≡◌, true, false, refl, sym, ap, subst, ◌∙◌, ℕ, List, Option, Some, None, Result, Ok, Err}
-use Rattle.std.specs.Result.{IsErr}
+use Rattle.std.proofs.Common.{◌≡◌, true, false, refl, ap, subst, ◌∙◌, ℕ, List, Option, Some, None, Result, Err}
 use Rattle.std.proofs.lemmas.Bool.{false≢true}
 use Rattle.answer_source.specs.Sources.{given_seen}
 use Rattle.capture.specs.declared.answer.Ask.{Ask as Question}

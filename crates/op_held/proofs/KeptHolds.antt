@@ -1,17 +1,16 @@
 -- How what is held changes as an operation comes to its end.
-use Rattle.std.proofs.Common.{◌≡◌, refl, sym, ap, subst, ◌∙◌, ℕ, ◌≤◌, ◌<◌, arith, List, [], ◌∷◌, ◌++◌, map, length, slice_get, Option, Some, None, IsSome, Result, Ok, Err}
+use Rattle.std.proofs.Common.{◌≡◌, refl, sym, ap, subst, ◌∙◌, ℕ, ◌≤◌, ◌<◌, arith, List, [], ◌∷◌, ◌++◌, map, slice_get, Option, Some, None, IsSome, Result, Ok, Err}
 use Rattle.std.specs.Result.{IsErr, OnOk, OnErr}
 use Rattle.std.proofs.lemmas.Bool.{false≢true}
 use Rattle.prov_base.specs.declared.refusal.Memory.{Memory as Want}
 use Rattle.std.specs.Option.{option_map, option_and_then}
 use Rattle.std.proofs.Math.Path.{fun_ext}
-use Rattle.object_store.specs.Keyed.{SeenMap, IsKeyed}
+use Rattle.object_store.specs.Keyed.{IsKeyed}
 use Rattle.object_store.specs.Seen.{held_seen, seen_at}
-use Rattle.object_store.specs.Store.{StoreView, Keeps as KeepsStore, held_at, file_at as held_file, kinds, name_at, bytes}
-use Rattle.object_store.specs.Named.{IsNamedStore}
+use Rattle.object_store.specs.Store.{StoreView, Keeps as KeepsStore, file_at as held_file, name_at, bytes}
 use Rattle.op_done.specs.Holding.{Found, with_found, Holds}
 use Rattle.op_done.specs.Happening.{IsBegun, Completes, with_paths}
-use Rattle.op_held.specs.Held.{HeldView, StandsHeld, GoesOn, Finishes, begun}
+use Rattle.op_held.specs.Held.{HeldView, GoesOn, Finishes, begun}
 use Rattle.op_held.specs.Paths.{with_numbers}
 use Rattle.op_held.proofs.PathNumbers.{paths_same}
 use Rattle.op_work.specs.Finish.{HasItsFile}
@@ -24,12 +23,11 @@ use Rattle.py_model.specs.declared.moment.Answer.{Answer as OneAnswer}
 use Rattle.op_work.proofs.Named.{named_kept}
 use Rattle.prov_base.specs.declared.place.Pos.{Pos}
 use Rattle.py_model.specs.Store.{RunStore}
-use Rattle.py_value.specs.Seen.{SeenLocation, kind_seen, bytes_of, location_at}
+use Rattle.py_value.specs.Seen.{kind_seen, bytes_of, location_at}
 use Rattle.py_value.specs.Values.{ValuesView}
 use Rattle.py_value.specs.declared.access.Kind.TheVariants.{File as FileKind}
 use Rattle.py_value.specs.declared.access.Location.{Location}
 use Rattle.py_value.specs.declared.access.Location.TheVariants.{File}
-use Rattle.py_value.specs.declared.access.Mode.{Mode}
 
 -- a store that holds the same is seen the same
 seen_kept : (table : ValuesView) (old new : StoreView) → KeepsStore old new → seen_at table new ≡ seen_at table old

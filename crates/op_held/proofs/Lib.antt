@@ -7,3 +7,5 @@ pub mod GivenEnds
 pub mod WithFile
 pub mod Placing
 pub mod Opens
+pub mod FinalsHeld
+pub mod UncaughtHeld

@@ -1,5 +1,5 @@
 -- What is held as a run begins is the store with which it begins.
-use Rattle.std.proofs.Common.{◌≡◌, refl, sym, ap, subst, ◌∙◌, arith, ℕ, zero, suc, ◌+◌, ◌≤◌, ◌==◌, nat_eq, Bool, true, false, ◌&&◌, bytes_eq, codes, List, [], ◌∷◌, map, length, slice_get, unwrap_or, Option, Some, None, IsSome, if◌then◌else◌}
+use Rattle.std.proofs.Common.{◌≡◌, refl, sym, ap, subst, ◌∙◌, arith, ℕ, zero, suc, ◌+◌, ◌≤◌, ◌==◌, nat_eq, Bool, true, false, ◌&&◌, bytes_eq, codes, List, [], ◌∷◌, map, length, slice_get, unwrap_or, Option, Some, None, if◌then◌else◌}
 use Rattle.std.specs.Option.{option_map, option_and_then}
 use Rattle.std.proofs.Math.Path.{fun_ext}
 use Rattle.std.proofs.lemmas.Bool.{eqb-true, eq-eqb, false≢true}
@@ -10,19 +10,17 @@ use Rattle.object_store.specs.Named.{IsNamedStore}
 use Rattle.object_store.specs.Object.{item_in}
 use Rattle.object_store.specs.Opening.{IsOpening, IsWord, AreWords, opening_at}
 use Rattle.object_store.specs.Seen.{held_seen, seen_at, store_seen}
-use Rattle.object_store.specs.Store.{StoreView, Held, whole, keys, held_at, file_at as held_file, kinds, name_at}
-use Rattle.op_done.specs.Holding.{Found, or_found, with_found, Holds}
-use Rattle.op_held.specs.Held.{HeldView, StandsHeld}
+use Rattle.object_store.specs.Store.{StoreView, whole, held_at, name_at}
+use Rattle.op_done.specs.Holding.{or_found, with_found, Holds}
 use Rattle.op_held.specs.Opening.{first_of}
-use Rattle.op_work.specs.Work.{WorkView, Extends}
+use Rattle.op_work.specs.Work.{Extends}
 use Rattle.prov_base.specs.declared.place.Pos.{Pos}
 use Rattle.py_model.specs.Store.{RunStore, opening, with_items, with_files, unset}
 use Rattle.py_value.specs.Contents.{contents, text}
-use Rattle.py_value.specs.Same.{same_location, put}
-use Rattle.py_value.specs.Seen.{SeenLocation, SeenContent, var_at, len_at, item_at, entry_at, order_at, file_at, offset_at, closed_at, method_at, base_at, var_is, len_is, item_is, order_is, file_is, IsNamedLocation, location_seen, location_at, kind_seen, bytes_of, a_list}
-use Rattle.py_value.specs.Values.{ValuesView, AreInterned, Keeps}
+use Rattle.py_value.specs.Same.{same_location}
+use Rattle.py_value.specs.Seen.{SeenLocation, var_at, len_at, item_at, entry_at, order_at, file_at, offset_at, closed_at, method_at, base_at, var_is, len_is, item_is, file_is, IsNamedLocation, location_seen, location_at, kind_seen, bytes_of}
+use Rattle.py_value.specs.Values.{ValuesView, AreInterned}
 use Rattle.py_value.specs.declared.access.Content.TheVariants.{Var as VarContent, Len as LenContent, Item as ItemContent}
-use Rattle.py_value.specs.declared.access.Kind.{Kind}
 use Rattle.py_value.specs.declared.access.Kind.TheVariants.{List as ListKind, File as FileKind}
 use Rattle.py_value.specs.declared.access.Location.{Location}
 use Rattle.py_value.specs.declared.access.Location.TheVariants.{Var, Len, Item, Entry, Order, File, Offset, Closed, Method, Base}

@@ -1,6 +1,5 @@
 -- What an opening knows of its path.
 use Rattle.std.proofs.Common.{◌≡◌, true, false, refl, subst, Result, ℕ, ◌<◌, Bool, List, [], ◌∷◌, length, Option, Some, None, IfSome, if◌then◌else◌}
-use Rattle.std.specs.Option.{is_some}
 use Rattle.std.proofs.lemmas.Bool.{false≢true}
 use Rattle.answer_source.specs.Sources.{found_seen}
 use Rattle.op_devices.specs.Asking.{Known}

@@ -1,7 +1,7 @@
 -- Parameters that are set, one after the other.
-use Rattle.std.proofs.Common.{◌≡◌, refl, sym, ap, subst, ◌∙◌, arith, append-nil, ℕ, zero, suc, ◌+◌, ◌<◌, ◌≤◌, List, [], ◌∷◌, map, drop, length, get_or, slice_get, Some, Result, Ok, Err}
+use Rattle.std.proofs.Common.{◌≡◌, refl, sym, ap, subst, ◌∙◌, arith, append-nil, ℕ, zero, suc, ◌+◌, ◌<◌, ◌≤◌, List, [], ◌∷◌, map, drop, length, get_or, Some, Result, Ok, Err}
 use Rattle.py_model.specs.Effect.{Answers, written}
-use Rattle.py_model.specs.Plan.{Writes, write, done}
+use Rattle.py_model.specs.Plan.{Writes, write}
 use Rattle.py_model.specs.Store.{RunStore}
 use Rattle.py_value.specs.Contents.{contents}
 use Rattle.py_value.specs.Seen.{access_seen, var_at, var_is}
@@ -9,7 +9,7 @@ use Rattle.py_value.specs.Values.{ValuesView}
 use Rattle.py_value.specs.declared.value.Value.{Value}
 use Rattle.py_value.specs.declared.value.Value.TheVariants.{None as NoneValue}
 use Rattle.op_held.specs.Entering.{set_parameters}
-use Rattle.op_making.proofs.Writing.{drop_next, drop_all}
+use Rattle.op_making.proofs.Writing.{drop_next}
 use Rattle.op_work.specs.declared.stop.Stop.{Stop}
 use Rattle.op_work.specs.declared.stop.Stop.TheVariants.{Raises, TooDear, Memory}
 use Rattle.op_work.specs.Work.{WorkView, Extends, IsSeen, Leads, Goes, Wrote, WroteTo, said_of, seen_kind}

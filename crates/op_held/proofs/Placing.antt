@@ -1,6 +1,6 @@
 -- A file that a device has is put into what is held, and it goes on to stand for the same stores.
-use Rattle.std.proofs.Common.{◌≡◌, refl, sym, ap, subst, ◌∙◌, arith, ◌↔◌, ℕ, ◌<◌, ◌≤◌, Bool, true, false, List, [], ◌∷◌, map, length, slice_get, Option, Some, None, IsSome, Result, Ok, Err, if◌then◌else◌}
-use Rattle.std.specs.Option.{option_map, option_and_then, is_some}
+use Rattle.std.proofs.Common.{◌≡◌, refl, sym, ap, subst, ◌∙◌, arith, ◌↔◌, ℕ, ◌<◌, Bool, true, false, List, [], ◌∷◌, map, length, slice_get, Option, Some, None, IsSome, Result, Ok, Err, if◌then◌else◌}
+use Rattle.std.specs.Option.{option_map, option_and_then}
 use Rattle.std.specs.Result.{OnOk, OnErr}
 use Rattle.std.proofs.Math.Path.{fun_ext}
 use Rattle.std.proofs.lemmas.Bool.{false≢true}
@@ -8,7 +8,7 @@ use Rattle.object_store.specs.Keyed.{SeenMap, IsKeyed, AreUnder}
 use Rattle.object_store.specs.Named.{IsNamedStore, IsNamedHeld}
 use Rattle.object_store.specs.Performing.{keys_among}
 use Rattle.object_store.specs.Seen.{held_seen, seen_at}
-use Rattle.object_store.specs.Store.{StoreView, Held, bytes, held_at, kinds, name_at, file_at as held_file, Writes}
+use Rattle.object_store.specs.Store.{StoreView, Held, bytes, held_at, name_at, file_at as held_file, Writes}
 use Rattle.op_done.specs.Holding.{Found, or_found, with_found, Holds}
 use Rattle.op_held.specs.Held.{HeldView, StandsHeld}
 use Rattle.op_held.proofs.WithFile.{Files, mixed}
@@ -17,13 +17,12 @@ use Rattle.prov_base.specs.declared.place.Pos.{Pos}
 use Rattle.prov_base.specs.declared.refusal.Memory.{Memory as Want}
 use Rattle.py_model.specs.Store.{RunStore}
 use Rattle.py_value.specs.Contents.{Contents}
-use Rattle.py_value.specs.Seen.{SeenLocation, SeenContent, var_at, len_at, item_at, entry_at, order_at, file_at, offset_at, closed_at, method_at, base_at, file_is, IsNamedLocation, location_seen, location_at, kind_seen, bytes_of}
+use Rattle.py_value.specs.Seen.{SeenLocation, SeenContent, var_at, len_at, item_at, entry_at, order_at, file_at, offset_at, closed_at, method_at, base_at, IsNamedLocation, location_seen, location_at, kind_seen, bytes_of}
 use Rattle.py_value.specs.Values.{ValuesView, AreInterned}
 use Rattle.py_value.specs.contracts.access.LocationPartialEq.TheImpl.{ghosts as locations}
 use Rattle.py_value.specs.declared.access.Kind.TheVariants.{File as FileKind}
 use Rattle.py_value.specs.declared.access.Location.{Location}
 use Rattle.py_value.specs.declared.access.Location.TheVariants.{File}
-use Rattle.py_value.specs.declared.access.Mode.{Mode}
 
 -- the laws that are used
 abbrev pub SeenBack : Type 0

@@ -1,5 +1,5 @@
 -- An exception that is raised, behind what the operation did up to it.
-use Rattle.std.proofs.Common.{◌≡◌, sym, subst, ◌∙◌, Option, Some, None, Result, Ok, Err}
+use Rattle.std.proofs.Common.{sym, subst, ◌∙◌, Option, Some, None, Result, Ok, Err}
 use Rattle.prov_base.specs.declared.refusal.Memory.{Memory as Want}
 use Rattle.py_model.specs.Plan.{Plan}
 use Rattle.py_model.specs.Store.{RunStore}

@@ -1,5 +1,5 @@
 -- A plan that goes on with the bytes that are held of a file, in place of those that it reads.
-use Rattle.std.proofs.Common.{◌≡◌, refl, sym, ap, subst, ◌∙◌, ℕ, ◌<◌, Bool, true, false, List, map, length, Option, Some, None, IfSome, Result, Ok, Err, ◌+◌, ◌≤◌, arith, unwrap_or, if◌then◌else◌}
+use Rattle.std.proofs.Common.{◌≡◌, refl, sym, ap, subst, ◌∙◌, ℕ, ◌<◌, Bool, true, false, List, length, Option, Some, None, IfSome, Result, Ok, Err, arith, unwrap_or, if◌then◌else◌}
 use Rattle.std.specs.Option.{option_map}
 use Rattle.std.specs.Str.{bytes_eq}
 use Rattle.std.proofs.Math.Path.{fun_ext}
@@ -7,7 +7,7 @@ use Rattle.std.proofs.lemmas.Slice.Eq.{bytes_eq-Decides}
 use Rattle.object_store.specs.Keyed.{SeenMap, IsKeyed}
 use Rattle.object_store.specs.Performing.{SuitInTurn}
 use Rattle.object_store.specs.Store.{IsReadWhole, file_at as held_file}
-use Rattle.op_devices.specs.Opening.{HasFile, EndsAt}
+use Rattle.op_devices.specs.Opening.{EndsAt}
 use Rattle.op_done.specs.Happening.{IsBegun}
 use Rattle.op_held.specs.Files.{FinishesAt}
 use Rattle.op_held.specs.Held.{HeldView, Finishes, FinishesAll, IsFinished}

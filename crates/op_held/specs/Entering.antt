@@ -1,5 +1,5 @@
 -- The parameters of an activation are set (this project's profile).
-use Rattle.std.specs.Prelude.{ℕ, List, [], ◌∷◌, map, Some}
+use Rattle.std.specs.Prelude.{ℕ, List, ◌∷◌, map, Some}
 use Rattle.py_model.specs.Plan.{Plan, Writes, write, done, writes}
 use Rattle.py_value.specs.Contents.{Contents, contents, nothing}
 use Rattle.py_value.specs.Seen.{var_at, var_is}

@@ -1,5 +1,5 @@
 -- Files that are opened over what is held of a run (this project's profile).
-use Rattle.std.specs.Prelude.{ℕ, Bool, true, false, List, Option, Some, None, Result, Ok, Err}
+use Rattle.std.specs.Prelude.{ℕ, Bool, true, false, Option, Some, None, Result, Ok, Err}
 use Rattle.std.specs.Option.{is_some}
 use Rattle.object_store.specs.Keyed.{IsKeyed}
 use Rattle.object_store.specs.Performing.{SuitInTurn}

@@ -1,5 +1,5 @@
 -- Operations that ask, with their askings answered (this project's profile).
-use Rattle.std.specs.Prelude.{◌≡◌, ℕ, Bool, true, false, List, Option, Some, None, Result, Ok, Err}
+use Rattle.std.specs.Prelude.{ℕ, Bool, true, false, List, Option, Some, None, Result}
 use Rattle.capture.specs.declared.answer.Ask.{Ask as Question}
 use Rattle.capture.specs.declared.answer.Given.{Given as GivenThere}
 use Rattle.op_devices.specs.Asking.{Known, answered_by}

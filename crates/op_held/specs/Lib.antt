@@ -5,3 +5,5 @@ pub mod Paths
 pub mod Held
 pub mod Given
 pub mod Files
+pub mod Finals
+pub mod Uncaught

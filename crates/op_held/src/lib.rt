@@ -10,6 +10,7 @@
 //! - [`Held::open_found`]: and an opening, by what is known of its path (`FinishesAt` of `specs/Files.antt`). [`Held::place`]: what a device has at
 //!   a path is put into what is held, which goes on to stand for the same stores.
 //! - [`Held::enter`]: the parameters of an activation are set, each in order. [`Held::word`]: the number of a text.
+//! - [`Held::finals`]: the files that the run opened for writing. [`Held::uncaught`]: what is said of an exception that nothing caught.
 //!
 //! An operation that made a file object whose file is not there would be refused as want of memory. No plan makes one.
 #![tactic(auto)]
@@ -18,10 +19,12 @@ mod devices;
 mod ending;
 mod entering;
 mod files;
+mod finals;
 mod held;
 mod opening;
 mod paths;
 mod performing;
 mod settling;
+mod uncaught;
 
 pub use held::Held;

@@ -1,4 +1,4 @@
-use Rattle.std.proofs.Common.{◌≡◌, refl, sym, ap, [], unwrap_or, Some}
+use Rattle.std.proofs.Common.{refl, sym, ap, [], unwrap_or, Some}
 use Rattle.std.proofs.lemmas.Option.{slice_get_within}
 use Rattle.py_model.specs.Plan.{write}
 use Rattle.py_value.specs.Contents.{contents}

@@ -1,4 +1,4 @@
-use Rattle.std.proofs.Common.{◌≡◌, ◌+◌, map}
+use Rattle.std.proofs.Common.{◌≡◌, map}
 use Rattle.op_held.specs.Entering.{set_parameters}
 use Rattle.py_value.specs.Contents.{contents}
 use Rattle.op_making.proofs.Writing.{Writing}

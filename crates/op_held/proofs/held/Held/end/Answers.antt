@@ -1,8 +1,8 @@
-use Rattle.std.proofs.Common.{rules, ◌≡◌, true, sym, ap, subst, ◌∙◌, ◌++◌, List, ℕ, Some, None, Ok, Err}
-use Rattle.op_held.specs.Held.{HeldView, Finishes}
+use Rattle.std.proofs.Common.{rules, ◌≡◌, true, sym, ap, subst, ◌∙◌, ◌++◌, Ok}
+use Rattle.op_held.specs.Held.{HeldView}
 use Rattle.op_held.specs.Settling.{Settled}
 use Rattle.op_held.specs.Paths.{with_numbers}
-use Rattle.op_work.specs.Work.{WorkView, Ends, AreNamedPaths, AreNamedSayings}
+use Rattle.op_work.specs.Work.{Ends, AreNamedPaths, AreNamedSayings}
 use Rattle.op_held.proofs.KeptHolds.{finished, finishes_err, goes_on_kept, goes_on_same, paths_on, said_paths}
 use Rattle.op_held.proofs.PathNumbers.{numbers_named}
 use Rattle.op_held.proofs.held.Held.end.Goals as goal

@@ -1,12 +1,10 @@
 use Rattle.std.proofs.Common.{rules, ◌≡◌, sym, ap, subst, [], ◌∷◌, map}
-use Rattle.op_held.specs.Held.{HeldView}
 use Rattle.op_done.specs.Holding.{Holds}
 use Rattle.op_held.specs.Opening.{first_of}
 use Rattle.op_work.specs.Work.{WorkView, Extends}
 use Rattle.py_model.specs.Store.{opening}
 use Rattle.op_held.proofs.OpeningHolds.{opening_holds}
 use Rattle.py_value.specs.Seen.{bytes_of}
-use Rattle.py_value.specs.Values.{ValuesView}
 use Rattle.op_held.proofs.held.Held.new.Goals as goal
 
 pub returns : goal.returns

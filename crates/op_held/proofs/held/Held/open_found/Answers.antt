@@ -1,4 +1,4 @@
-use Rattle.std.proofs.Common.{◌≡◌, true, sym, ap, subst, ◌∙◌, map}
+use Rattle.std.proofs.Common.{sym, subst, ◌∙◌, map}
 use Rattle.std.specs.Option.{option_copied}
 use Rattle.op_devices.specs.Asking.{Known, answered_by}
 use Rattle.op_devices.specs.Opening.{path_in, IsOpened, EndsAt}

@@ -1,4 +1,4 @@
-use Rattle.std.proofs.Common.{sym, ap, subst}
+use Rattle.std.proofs.Common.{ap, subst}
 use Rattle.op_held.specs.Held.{HeldView, Finishes, begun}
 use Rattle.op_table.specs.Table.{planned}
 use Rattle.op_work.specs.Work.{WorkView, Ends, Extends}

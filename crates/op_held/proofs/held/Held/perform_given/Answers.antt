@@ -1,4 +1,4 @@
-use Rattle.std.proofs.Common.{◌≡◌, true, sym, ap, subst, ◌∙◌}
+use Rattle.std.proofs.Common.{sym, subst, ◌∙◌}
 use Rattle.std.specs.Option.{option_copied}
 use Rattle.op_devices.specs.Asking.{answered_by}
 use Rattle.op_held.specs.Given.{EndsGiven}
