@@ -71,7 +71,7 @@ module _ (capture : Capture) (at : Pos) (op : Op) (values : List Value) (table :
     module _ (f : Effect) (like : IsLikewise e f) where
       -- it happened
       pub told : (found : Found) (deed : Deed) (left : ℕ) (new : HeldView) (after_stands : Standing → Type 0) → s.left ≡ left → IsFinished found table s.store f deed left new
-          → (StandsHeld found table new (after f s.store) → (t : Standing) → t.store ≡ after f s.store → t.entered ≡ s.entered → t.askings ≡ askings → after_stands t)
+          → (StandsHeld found table new (after f s.store) → (t : Standing) → t.store ≡ after f s.store → t.entered ≡ s.entered → t.askings ≡ askings → t.fetches ≡ fetches → after_stands t)
           → IsDone at op values deed after_stands table capture s
       told found deed left new after_stands left_is finished stands =
           let answer = answer_seen table deed.answer in
@@ -85,7 +85,7 @@ module _ (capture : Capture) (at : Pos) (op : Op) (values : List Value) (table :
                 ∙ ap (λ w. does at op.no vs answer (option_map (kind_seen table) deed.made) (map (access_seen table) deed.accesses) w ∷ s.told) (weight_same e f like ∙ finished.weight_is));
             method_is = ap (λ accesses. method_found s.store accesses None) like.accesses_are ∙ finished.method_is;
             named = finished.named;
-            stands = stands finished.stands (standing (performed at seen vs answer e then_state)) (after_same e f like s.store) refl refl;
+            stands = stands finished.stands (standing (performed at seen vs answer e then_state)) (after_same e f like s.store) refl refl refl;
           }
 
       -- it costs more than is left

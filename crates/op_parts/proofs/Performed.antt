@@ -15,7 +15,8 @@ use Rattle.op_parts.specs.Parts.{found_by, IsFitting, IsStanding}
 use Rattle.op_parts.proofs.Likewise.{alike_same}
 use Rattle.op_parts.proofs.Outcomes.{Grows, told, dear_told}
 use Rattle.op_table.specs.Table.{planned}
-use Rattle.op_work.specs.Work.{IsSeen}
+use Rattle.op_work.specs.Work.{Extends, IsSeen}
+use Rattle.op_work.proofs.Going.{extends_then}
 use Rattle.prov_base.specs.declared.place.Pos.{Pos}
 use Rattle.prov_base.specs.declared.refusal.Memory.{Memory as Want}
 use Rattle.py_model.specs.Capture.{Capture, answers_at}
@@ -24,7 +25,7 @@ use Rattle.py_model.specs.Effect.{Answers, Effect, unanswered, effect, accesses_
 use Rattle.py_model.specs.Operations.{Op as SeenOp, plan}
 use Rattle.py_model.specs.Plan.{Plan}
 use Rattle.py_model.specs.Quiet.{may_ask, IsQuiet}
-use Rattle.py_model.specs.Running.{State, effect_of, note, askings_at}
+use Rattle.py_model.specs.Running.{Asking, State, effect_of, note, askings_at}
 use Rattle.py_model.specs.Store.{RunStore}
 use Rattle.py_model.specs.Told.{op_seen}
 use Rattle.py_model.specs.declared.doer.Deed.{Deed}
@@ -52,6 +53,15 @@ Unnoted = (store : RunStore) (answers : Answers) (p : Plan) (at : Pos) (k : ℕ)
 
 abbrev pub AnswersAll : Type 0
 AnswersAll = (store : RunStore) (answers : Answers) (p : Plan) → IsQuiet p → (effect store answers p).outcome ≡ unanswered → ⊥
+
+-- the source stands for the same
+pub source_same : (source : StandsSource) (a b : List Asking) (c d : List (List ℕ)) → a ≡ b → c ≡ d → source b d → source a c
+source_same source a b c d one other stands = subst (λ askings. source askings c) (sym one) (subst (source b) (sym other) stands)
+
+-- what fits afterwards fitted before
+pub knew_more : (before now : FitsSource) (a b : ValuesView) → ((capture : Capture) → now capture → before capture) → Extends a b → (table : ValuesView) (capture : Capture) → IsFitting now b table capture
+    → IsFitting before a table capture
+knew_more before now a b knew extends table capture fit = record { interned = fit.interned; extends = extends_then extends fit.extends; fits = knew capture fit.fits }
 
 -- what begins stands for what was held before
 pub began_stands : (found : Found) (table : ValuesView) (old : HeldView) (left : ℕ) (run : RunStore) → StandsHeld found table old run → StandsHeld found table (record old { work = begun left old.work }) run
@@ -94,10 +104,10 @@ module _ (fits : FitsSource) (source : StandsSource) (old new : HeldView) (enter
       let finished = finishes (found_by capture) table s.store answers fit.extends (began_stands (found_by capture) table old left s.store stands.stands) (suits s.store answers seen vs keyed)
       (keeps s.store answers seen vs keyed) in
       told capture at op values table s s.askings s.fetches some_left (unnoted s.store answers (plan seen vs) at k s (quiet seen vs none_asked)) e (alike_same e) (found_by capture) deed left new
-      later left_is finished (λ held_then t store_is entered_is asked_is. record {
+      later left_is finished (λ held_then t store_is entered_is asked_is fetched_is. record {
         stands = subst (λ store. StandsHeld (found_by capture) table new store) (sym store_is) held_then;
         entered_is = entered_is ∙ stands.entered_is;
-        asked = subst source (sym asked_is) stands.asked;
+        asked = source_same source t.askings s.askings t.fetches s.fetches asked_is fetched_is stands.asked;
       })
 
   pub quiet_dear : QuietOps → Unnoted → AnswersAll → Grows → Seen → may_ask op.no ≡ false

@@ -19,8 +19,8 @@ pub record IsFitting (source : FitsSource) (values : ValuesView) (table : Values
   pub extends : Extends values table
   pub fits : source capture
 
--- What is held stands for the store of the run, as many activations were entered, and the source stands for what was asked.
+-- What is held stands for the store of the run, as many activations were entered, and the source stands for what was asked and fetched.
 pub record IsStanding (source : StandsSource) (held : HeldView) (entered : ℕ) (table : ValuesView) (capture : Capture) (s : Standing) : Type 0 where
   pub stands : StandsHeld (found_by capture) table held s.store
   pub entered_is : s.entered ≡ entered
-  pub asked : source s.askings
+  pub asked : source s.askings s.fetches

@@ -20,16 +20,16 @@ use std::alloc::Global;
 /// What is held of a run, a source of answers, and how many activations were entered.
 #[derive(Drop)]
 pub struct Parts<S: Source> {
-    held: Held,
-    source: S,
-    entered: u32,
+    pub(crate) held: Held,
+    pub(crate) source: S,
+    pub(crate) entered: u32,
 }
 
 impl<S: Source + Drop> Parts<S> {
     /// What performs the operations of a run of the script at a path, with these arguments. It stands for the state in which the run begins,
     /// with any number of steps.
     pub fn new(alloc: Global, path: &str, arguments: &[Name], source: S) -> Result<Parts<S>, Memory>
-        requires { S.stands source [] }
+        requires { S.stands source [] [] }
         ensures fits { IfOk result (λ parts. (table : ValuesView) (capture : Capture) → IsFitting (S.fits parts.source) parts.held.work.values table capture → S.fits source capture) }
         ensures starts { IfOk result (λ parts. (table : ValuesView) (capture : Capture) (steps : ℕ) → IsFitting (S.fits parts.source) parts.held.work.values table capture
             → IsStanding (S.stands parts.source) parts.held parts.entered table capture (standing (starting capture path.now arguments.now steps))) }
@@ -60,12 +60,17 @@ impl<S: Source> Doer for Parts<S> {
         costs_grow();
         holding_is_seen();
         operations_suit();
-        let _ = at;
-        if !has_names(self.held.values(), op, values) || asks(op.no) {
+        if !has_names(self.held.values(), op, values) {
             return Err(Memory);
         }
         if left == 0 {
             return Ok(Done::TooDear);
+        }
+        if op.no == 62 {
+            return self.perform_open(alloc, at, op, values, left);
+        }
+        if asks(op.no) {
+            return self.perform_asking(alloc, at, op, values, left);
         }
         match self.held.perform(alloc, op, values, left)? {
             Some(deed) => Ok(Done::Did(deed)),
