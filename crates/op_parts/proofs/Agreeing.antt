@@ -8,14 +8,13 @@ use Rattle.object_store.specs.Named.{IsNamedStore, IsNamedHeld}
 use Rattle.object_store.specs.Seen.{held_seen, seen_at, store_seen}
 use Rattle.object_store.specs.Store.{StoreView, Held, whole, keys, bytes, held_at, kinds, name_at}
 use Rattle.op_done.specs.Holding.{Found, with_found, Holds}
-use Rattle.op_held.specs.Held.{HeldView, StandsHeld}
+use Rattle.op_held.specs.Held.{HeldView}
 use Rattle.op_held.proofs.PathNumbers.{text_there}
 use Rattle.op_parts.specs.Parts.{found_by, IsFitting, IsStanding}
 use Rattle.op_work.specs.Work.{Extends, AreNamedPaths}
 use Rattle.op_work.proofs.Going.{extends_same}
-use Rattle.prov_base.specs.declared.place.Pos.{Pos}
 use Rattle.py_model.specs.Capture.{Capture}
-use Rattle.py_model.specs.Doing.{Standing, AreItsValues}
+use Rattle.py_model.specs.Doing.{AreItsValues}
 use Rattle.py_model.specs.Store.{RunStore}
 use Rattle.py_value.specs.Contents.{contents}
 use Rattle.py_value.specs.Named.{IsNamedContent, IsNamedKind}

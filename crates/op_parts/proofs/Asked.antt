@@ -1,13 +1,12 @@
 -- Operations that ask a device, over what is held of a run and a source of answers.
-use Rattle.std.proofs.Common.{◌≡◌, refl, sym, ap, subst, ◌∙◌, inl, inr, ◌⊎◌, ℕ, suc, ◌<◌, true, List, ◌∷◌, map, Option, Some, None, Result, Ok, Err}
-use Rattle.std.specs.Option.{option_copied}
+use Rattle.std.proofs.Common.{◌≡◌, refl, sym, subst, inl, inr, ◌⊎◌, ℕ, suc, ◌<◌, true, List, Option, Some, None, Result, Ok, Err}
 use Rattle.std.specs.Result.{IsErr}
 use Rattle.std.proofs.lemmas.Bool.{false≢true}
 use Rattle.answer_source.specs.Sources.{Fits as FitsSource, Stands as StandsSource, Asks, ask_seen, given_seen, next_asking}
 use Rattle.capture.specs.declared.answer.Ask.{Ask as Question}
 use Rattle.capture.specs.declared.answer.Given.{Given as GivenThere}
 use Rattle.op_devices.specs.Given.{asks, IsGiven, noted_as}
-use Rattle.op_held.specs.Held.{HeldView, StandsHeld, Finishes, GoesOn, begun}
+use Rattle.op_held.specs.Held.{HeldView, StandsHeld, Finishes, begun}
 use Rattle.op_parts.specs.Asking.{Known, answered_by}
 use Rattle.op_parts.specs.Parts.{found_by, IsFitting, IsStanding}
 use Rattle.op_parts.specs.Told.{done_of}
@@ -16,11 +15,10 @@ use Rattle.op_parts.proofs.Outcomes.{Grows, noted, lacks}
 use Rattle.op_parts.proofs.Performed.{Seen, Suits, KeepsKeys, Unnoted, began_stands}
 use Rattle.op_parts.proofs.Ready.{Ready, Came, Each, known, own_plan, answers, own_effect, performs_ready, performs_want}
 use Rattle.op_table.specs.Table.{planned}
-use Rattle.op_work.specs.Work.{WorkView, Extends}
 use Rattle.prov_base.specs.declared.place.Pos.{Pos}
 use Rattle.prov_base.specs.declared.refusal.Memory.{Memory as Want}
 use Rattle.py_model.specs.Capture.{Capture, given_in}
-use Rattle.py_model.specs.Doing.{Standing, standing, ForEach, IsLacking, IsRefused, Performs}
+use Rattle.py_model.specs.Doing.{standing, IsLacking, IsRefused, Performs}
 use Rattle.py_model.specs.Quiet.{may_ask}
 use Rattle.py_model.specs.Running.{Asking, State, note, askings_at}
 use Rattle.py_model.specs.declared.doer.Deed.{Deed}

@@ -1,5 +1,5 @@
 -- Activations that are entered, and texts that come, over what is held of a run.
-use Rattle.std.proofs.Common.{◌≡◌, refl, sym, ap, subst, ◌∙◌, arith, ℕ, suc, ◌+◌, ◌<◌, ◌≤◌, List, [], ◌∷◌, map, length, slice_get, unwrap_or, Option, Some, None, Result, Ok, Err}
+use Rattle.std.proofs.Common.{◌≡◌, refl, sym, ap, subst, ◌∙◌, arith, ℕ, suc, ◌+◌, ◌<◌, List, [], ◌∷◌, map, length, slice_get, unwrap_or, Option, Some, None, Result, Ok, Err}
 use Rattle.std.specs.Result.{IsErr, IfOk}
 use Rattle.std.proofs.lemmas.Bool.{false≢true}
 use Rattle.std.proofs.lemmas.Option.{slice_get_within}
@@ -8,24 +8,22 @@ use Rattle.object_store.specs.Keyed.{SeenMap, IsKeyed, ArePlain}
 use Rattle.object_store.specs.Performing.{SuitInTurn}
 use Rattle.op_done.specs.Holding.{Holds}
 use Rattle.op_held.specs.Entering.{set_parameters, parameters_plan}
-use Rattle.op_held.specs.Held.{HeldView, StandsHeld, IsFinished, Finishes, GoesOn, begun}
+use Rattle.op_held.specs.Held.{HeldView, StandsHeld, Finishes, begun}
 use Rattle.op_parts.specs.Parts.{found_by, IsFitting, IsStanding}
-use Rattle.op_parts.proofs.Performed.{began_stands, keyed_run, goes_on_from}
-use Rattle.op_work.specs.Work.{Extends}
+use Rattle.op_parts.proofs.Performed.{began_stands, keyed_run}
 use Rattle.prov_base.specs.declared.place.Pos.{Pos}
 use Rattle.prov_base.specs.declared.refusal.Memory.{Memory as Want}
 use Rattle.py_model.specs.Capture.{Capture}
-use Rattle.py_model.specs.Doing.{Fits, Stands, Standing, standing, ForEach, IsEntered, Enters, IsWord}
-use Rattle.py_model.specs.Effect.{Answers, Effect, Touch, accessed, effect, written, accesses_in, after, after_touches, after_accesses, with_made}
+use Rattle.py_model.specs.Doing.{Fits, Stands, standing, ForEach, IsEntered, Enters, IsWord}
+use Rattle.py_model.specs.Effect.{Answers, effect, written, accesses_in, after, after_touches, after_accesses, with_made}
 use Rattle.py_model.specs.Moment.{parameters_set}
 use Rattle.py_model.specs.Plan.{done}
-use Rattle.py_model.specs.Running.{State, entering}
+use Rattle.py_model.specs.Running.{State}
 use Rattle.py_model.specs.Store.{RunStore}
 use Rattle.py_model.specs.declared.doer.Deed.{Deed}
 use Rattle.py_model.specs.declared.doer.Entered.{Entered}
-use Rattle.py_value.specs.Changes.{after_access}
 use Rattle.py_value.specs.Contents.{Contents, contents, nothing}
-use Rattle.py_value.specs.Seen.{SeenAccess, SeenKind, access_seen, bytes_of, sets, var_at, var_is}
+use Rattle.py_value.specs.Seen.{SeenAccess, SeenKind, bytes_of, sets, var_at, var_is}
 use Rattle.py_value.specs.Values.{ValuesView}
 use Rattle.py_value.specs.declared.value.Value.{Value}
 

@@ -1,17 +1,17 @@
 -- Openings, over what is held of a run and a source of answers.
-use Rattle.std.proofs.Common.{◌≡◌, refl, sym, ap, subst, ◌∙◌, arith, inl, inr, ◌⊎◌, ℕ, suc, ◌<◌, ◌≤◌, Bool, true, false, nat_eq, List, [], ◌∷◌, map, length, Option, Some, None, IsSome, Result, Ok, Err, unwrap_or, if◌then◌else◌}
+use Rattle.std.proofs.Common.{◌≡◌, refl, sym, ap, subst, ◌∙◌, arith, inl, inr, ℕ, suc, ◌<◌, Bool, true, false, nat_eq, List, [], ◌∷◌, map, length, Option, Some, None, IsSome, Result, Ok, Err, unwrap_or, if◌then◌else◌}
 use Rattle.std.specs.List.{list_any}
 use Rattle.std.specs.Option.{option_map}
 use Rattle.std.specs.Result.{IsErr}
 use Rattle.std.specs.Str.{bytes_eq}
 use Rattle.std.proofs.lemmas.Bool.{false≢true}
 use Rattle.std.proofs.lemmas.Slice.Eq.{bytes_eq-Decides}
-use Rattle.answer_source.specs.Sources.{Fits as FitsSource, Stands as StandsSource, PathsOnce, Stays, found_seen}
-use Rattle.object_store.specs.Seen.{held_seen, seen_at, store_seen}
-use Rattle.object_store.specs.Store.{StoreView, held_at, file_at as held_file, bytes as held_bytes}
+use Rattle.answer_source.specs.Sources.{Fits as FitsSource, Stands as StandsSource, PathsOnce, found_seen}
+use Rattle.object_store.specs.Seen.{held_seen, seen_at}
+use Rattle.object_store.specs.Store.{StoreView, file_at as held_file, bytes as held_bytes}
 use Rattle.op_devices.specs.Opening.{mode_named, if_fetched, path_in, IsOpened, HasFile, noted_fetch}
 use Rattle.op_devices.proofs.Fetching.{open_noted}
-use Rattle.op_done.specs.Holding.{Found as DeviceFound, or_found, with_found, Holds}
+use Rattle.op_done.specs.Holding.{Found as DeviceFound, or_found, Holds}
 use Rattle.op_held.specs.Files.{FinishesAt}
 use Rattle.op_held.specs.Held.{HeldView, StandsHeld, begun}
 use Rattle.op_held.specs.Opening.{first_of}
@@ -27,8 +27,8 @@ use Rattle.op_parts.proofs.Outcomes.{noted, lacks}
 use Rattle.op_parts.proofs.Performed.{Seen, Unnoted, began_stands}
 use Rattle.op_parts.proofs.Ready.{Ready, Came, Each, known, own_plan, answers, own_effect}
 use Rattle.op_table.specs.Table.{planned_at}
-use Rattle.op_work.specs.Work.{WorkView, Extends, IsDear, IsSeen, AreNamedPaths}
-use Rattle.op_work.proofs.Going.{extends_then, extends_same}
+use Rattle.op_work.specs.Work.{Extends, IsDear, AreNamedPaths}
+use Rattle.op_work.proofs.Going.{extends_then}
 use Rattle.object_store.specs.Keyed.{IsKeyed}
 use Rattle.object_store.specs.Performing.{SuitInTurn}
 use Rattle.op_held.specs.Held.{IsFinished}
@@ -37,7 +37,7 @@ use Rattle.prov_base.specs.declared.refusal.Memory.{Memory as Want}
 use Rattle.prov_outside.specs.declared.folder.Found.{Found as FoundThere}
 use Rattle.prov_outside.specs.declared.folder.Found.TheVariants.{Bytes, Absent, TooLarge as FoundTooLarge, Failed as Unfound}
 use Rattle.py_model.specs.Capture.{Capture, found_in, with_bytes}
-use Rattle.py_model.specs.Doing.{Standing, standing, IsLacking, IsRefused, Performs}
+use Rattle.py_model.specs.Doing.{IsLacking, Performs}
 use Rattle.py_model.specs.Effect.{Effect, effect, accesses_in, after}
 use Rattle.py_model.specs.Files.{open_plan}
 use Rattle.py_model.specs.Plan.{Found, found_bytes, absent, too_large, found_failed, Plan}
@@ -49,7 +49,7 @@ use Rattle.py_model.specs.declared.doer.Done.TheVariants.{Unanswered}
 use Rattle.py_model.specs.declared.moment.Op.{Op}
 use Rattle.py_value.specs.Contents.{contents}
 use Rattle.py_value.specs.Seen.{SeenContent, file_at, file_is, bytes_of}
-use Rattle.py_value.specs.Values.{ValuesView, AreInterned, AreNamed}
+use Rattle.py_value.specs.Values.{ValuesView, AreNamed}
 use Rattle.py_value.specs.declared.access.Location.TheVariants.{File}
 use Rattle.py_value.specs.declared.access.Mode.TheVariants.{Read}
 use Rattle.py_value.specs.declared.value.Value.{Value}

@@ -1,10 +1,10 @@
 -- An operation that may ask a device asks once, or asks nothing. It lacks an answer exactly where what it asks is not given.
-use Rattle.std.proofs.Common.{◌≡◌, ◌∙◌, refl, sym, ap, subst, eqb-true, inl, inr, ◌⊎◌, ℕ, zero, suc, ◌==◌, ◌-ℤ◌, ℤ, pos, negsuc, Bool, true, false, ◌||◌, List, [], ◌∷◌, map, Option, Some, None, if◌then◌else◌}
+use Rattle.std.proofs.Common.{◌≡◌, ◌∙◌, refl, sym, ap, subst, eqb-true, ℕ, zero, suc, ◌==◌, ◌-ℤ◌, ℤ, pos, negsuc, Bool, true, false, ◌||◌, List, [], ◌∷◌, map, Option, Some, None, if◌then◌else◌}
 use Rattle.std.specs.Str.{is_utf8}
 use Rattle.std.proofs.lemmas.Bool.{false≢true}
 use Rattle.answer_source.specs.Sources.{ask_seen}
 use Rattle.capture.specs.declared.answer.Ask.{Ask as Question}
-use Rattle.capture.specs.declared.answer.Ask.TheVariants.{Time, Word, Line}
+use Rattle.capture.specs.declared.answer.Ask.TheVariants.{Word, Line}
 use Rattle.op_devices.specs.Draws.{many_of, word_for, between_asked, below_asked}
 use Rattle.op_devices.specs.Given.{asks, noted_as}
 use Rattle.op_devices.proofs.Known.{ask_go}
@@ -12,7 +12,7 @@ use Rattle.op_devices.proofs.DrawPlans.{number_is, by_width}
 use Rattle.op_devices.proofs.LinePlans.{line_go}
 use Rattle.op_devices.proofs.Noting.{Unnoted, time_noted, randint_noted, randrange_noted, input_noted}
 use Rattle.op_numbers.specs.Numbers.{number_of_value}
-use Rattle.op_table.specs.Table.{planned, planned_at}
+use Rattle.op_table.specs.Table.{planned_at}
 use Rattle.op_work.proofs.Tuples.{some_tuple}
 use Rattle.prov_base.specs.declared.place.Pos.{Pos}
 use Rattle.py_model.specs.Effect.{Answers, Effect, Outcome, unanswered, effect, lacking}

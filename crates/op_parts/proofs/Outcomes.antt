@@ -1,20 +1,18 @@
 -- What an operation comes to in a run, by an effect that is likewise and what is noted of it.
-use Rattle.std.proofs.Common.{◌≡◌, refl, sym, ap, subst, ◌∙◌, arith, inl, inr, ◌⊎◌, ℕ, suc, ◌+◌, ◌<◌, ◌≤◌, List, ◌∷◌, map, length, Option, Some, None, if◌then◌else◌}
+use Rattle.std.proofs.Common.{◌≡◌, refl, sym, ap, subst, ◌∙◌, arith, inl, inr, ◌⊎◌, ℕ, suc, ◌+◌, ◌<◌, ◌≤◌, List, ◌∷◌, map, length, None, if◌then◌else◌}
 use Rattle.std.proofs.lemmas.Bool.{le-leb, lt-leb}
 use Rattle.std.specs.Option.{option_map}
 use Rattle.op_held.specs.Held.{HeldView, IsFinished, StandsHeld}
 use Rattle.op_parts.specs.Asking.{IsLikewise}
 use Rattle.op_parts.proofs.Likewise.{weight_same, cost_same, after_same}
 use Rattle.prov_base.specs.declared.place.Pos.{Pos}
-use Rattle.py_model.specs.Act.{Walked}
-use Rattle.py_model.specs.Capture.{Capture, answers_at}
-use Rattle.py_model.specs.Doing.{Standing, standing, IsDone, IsTooDear, IsLacking}
+use Rattle.py_model.specs.Capture.{Capture}
+use Rattle.py_model.specs.Doing.{Standing, standing, IsDone}
 use Rattle.py_model.specs.Effect.{Answers, Effect, Touch, Outcome, answered, unanswered, unpaid as no_budget, effect, accesses_in, looked_at, characters_in, weight, cost, after}
 use Rattle.py_model.specs.Moment.{does}
 use Rattle.py_model.specs.Operations.{Op as SeenOp, plan}
 use Rattle.py_model.specs.Plan.{Answer, Plan}
 use Rattle.py_model.specs.Running.{Asking, State, did, too_dear, lacked, operation, effect_of, happened, note, askings_at, walked, performed, method_found}
-use Rattle.py_model.specs.Store.{RunStore}
 use Rattle.py_model.specs.Told.{answer_seen, op_seen}
 use Rattle.py_model.specs.Touches.{prefixed, cost_so_far}
 use Rattle.py_model.specs.declared.doer.Deed.{Deed}

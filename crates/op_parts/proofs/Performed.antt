@@ -1,5 +1,5 @@
 -- Operations that ask nothing, over what is held of a run.
-use Rattle.std.proofs.Common.{◌≡◌, refl, sym, ap, subst, ◌∙◌, inl, ℕ, suc, ◌<◌, ◌≤◌, false, List, map, Option, Some, None, Result, Ok, Err}
+use Rattle.std.proofs.Common.{◌≡◌, refl, sym, subst, ◌∙◌, inl, ℕ, suc, ◌<◌, false, List, map, Some, None, Result, Ok, Err}
 use Rattle.std.specs.Result.{IsErr}
 use Rattle.std.proofs.lemmas.Bool.{false≢true}
 use Rattle.answer_source.specs.Sources.{Fits as FitsSource, Stands as StandsSource}
@@ -20,8 +20,8 @@ use Rattle.op_work.proofs.Going.{extends_then}
 use Rattle.prov_base.specs.declared.place.Pos.{Pos}
 use Rattle.prov_base.specs.declared.refusal.Memory.{Memory as Want}
 use Rattle.py_model.specs.Capture.{Capture, answers_at}
-use Rattle.py_model.specs.Doing.{Fits, Stands, Standing, standing, ForEach, IsDone, IsTooDear, IsRefused, Performs}
-use Rattle.py_model.specs.Effect.{Answers, Effect, unanswered, effect, accesses_in, after}
+use Rattle.py_model.specs.Doing.{Fits, Stands, Standing, standing, ForEach, IsDone, IsTooDear, Performs}
+use Rattle.py_model.specs.Effect.{Answers, unanswered, effect, accesses_in, after}
 use Rattle.py_model.specs.Operations.{Op as SeenOp, plan}
 use Rattle.py_model.specs.Plan.{Plan}
 use Rattle.py_model.specs.Quiet.{may_ask, IsQuiet}

@@ -1,11 +1,11 @@
 -- An operation whose askings are answered, over what is held of a run.
-use Rattle.std.proofs.Common.{◌≡◌, refl, sym, ap, subst, ◌∙◌, inl, inr, ◌⊎◌, ℕ, suc, ◌<◌, ◌≤◌, List, ◌∷◌, map, Option, Some, None, Result, Ok, Err}
+use Rattle.std.proofs.Common.{◌≡◌, refl, sym, subst, ◌∙◌, ◌⊎◌, ℕ, suc, ◌<◌, List, ◌∷◌, map, Option, Some, None, Result, Ok, Err}
 use Rattle.std.specs.Result.{IsErr}
 use Rattle.std.proofs.lemmas.Bool.{false≢true}
 use Rattle.answer_source.specs.Sources.{Fits as FitsSource, Stands as StandsSource}
 use Rattle.object_store.specs.Keyed.{IsKeyed}
 use Rattle.object_store.specs.Performing.{SuitInTurn}
-use Rattle.op_held.specs.Held.{HeldView, StandsHeld, IsFinished, GoesOn, begun}
+use Rattle.op_held.specs.Held.{HeldView, StandsHeld, IsFinished, begun}
 use Rattle.op_held.proofs.KeptHolds.{begins_so}
 use Rattle.op_parts.specs.Asking.{Known, answered_by}
 use Rattle.op_parts.specs.Parts.{found_by, IsFitting, IsStanding}
@@ -17,17 +17,17 @@ use Rattle.op_work.specs.Work.{WorkView, IsDear}
 use Rattle.prov_base.specs.declared.place.Pos.{Pos}
 use Rattle.prov_base.specs.declared.refusal.Memory.{Memory as Want}
 use Rattle.py_model.specs.Capture.{Capture, answers_at}
-use Rattle.py_model.specs.Doing.{Fits, Stands, Standing, standing, ForEach, IsDone, IsTooDear, IsRefused, Performs}
+use Rattle.py_model.specs.Doing.{Standing, standing, IsDone, IsTooDear, IsRefused, Performs}
 use Rattle.py_model.specs.Effect.{Answers, Effect, unanswered, effect, accesses_in, after}
-use Rattle.py_model.specs.Operations.{Op as SeenOp, plan}
+use Rattle.py_model.specs.Operations.{plan}
 use Rattle.py_model.specs.Plan.{Plan}
-use Rattle.py_model.specs.Running.{Asking, State, effect_of, note, askings_at}
+use Rattle.py_model.specs.Running.{Asking, State, note, askings_at}
 use Rattle.py_model.specs.Store.{RunStore}
 use Rattle.py_model.specs.Told.{op_seen}
 use Rattle.py_model.specs.declared.doer.Deed.{Deed}
 use Rattle.py_model.specs.declared.doer.Done.{Done}
 use Rattle.py_model.specs.declared.moment.Op.{Op}
-use Rattle.py_value.specs.Contents.{Contents, contents}
+use Rattle.py_value.specs.Contents.{contents}
 use Rattle.py_value.specs.Values.{ValuesView}
 use Rattle.py_value.specs.declared.value.Value.{Value}
 

@@ -1,4 +1,4 @@
-use Rattle.std.proofs.Common.{◌≡◌, sym, ap, subst, ◌∙◌, Ok, Err, [], unwrap_or}
+use Rattle.std.proofs.Common.{◌≡◌, sym, ap, subst, Ok, Err, [], unwrap_or}
 use Rattle.op_parts.specs.Parts.{IsFitting, IsStanding}
 use Rattle.op_parts.proofs.Fetched.{each_found, lacks_open, place_want}
 use Rattle.op_parts.proofs.Ready.{performs_ready, performs_want}

@@ -1,4 +1,4 @@
-use Rattle.std.proofs.Common.{◌≡◌, ◌+◌, ◌<◌, length, subst, Ok, Some, rules}
+use Rattle.std.proofs.Common.{◌≡◌, ◌+◌, ◌<◌, length, subst, Ok, rules}
 use Rattle.op_held.specs.Entering.{parameters_plan}
 use Rattle.op_held.specs.Held.{Finishes, begun}
 use Rattle.op_parts.specs.Parts.{IsFitting, IsStanding}
