@@ -1,5 +1,5 @@
 // What performs the operations of a run.
-ghost use Rattle.std.specs.Prelude.{ℕ, [], IfOk};
+ghost use Rattle.std.specs.Prelude.{◌≡◌, ℕ, [], IfErr, IfOk};
 ghost use Rattle.op_parts.specs.Parts.{IsFitting, IsStanding};
 ghost use Rattle.py_model.specs.Capture.{Capture};
 ghost use Rattle.py_model.specs.Doing.{standing};
@@ -27,19 +27,30 @@ pub struct Parts<S: Source> {
 
 impl<S: Source + Drop> Parts<S> {
     /// What performs the operations of a run of the script at a path, with these arguments. It stands for the state in which the run begins,
-    /// with any number of steps.
-    pub fn new(alloc: Global, path: &str, arguments: &[Name], source: S) -> Result<Parts<S>, Memory>
+    /// with any number of steps. Where memory runs out the source is given back.
+    pub fn new(alloc: Global, path: &str, arguments: &[Name], source: S) -> Result<Parts<S>, S>
         requires { S.stands source [] [] }
-        ensures fits { IfOk result (λ parts. (table : ValuesView) (capture : Capture) → IsFitting (S.fits parts.source) parts.held.work.values table capture → S.fits source capture) }
+        ensures source { IfOk result (λ parts. parts.source ≡ source) }
         ensures starts { IfOk result (λ parts. (table : ValuesView) (capture : Capture) (steps : ℕ) → IsFitting (S.fits parts.source) parts.held.work.values table capture
             → IsStanding (S.stands parts.source) parts.held parts.entered table capture (standing (starting capture path.now arguments.now steps))) }
+        ensures back { IfErr result (λ back. back ≡ source) }
     {
-        let held = Held::new(alloc, path, arguments)?;
+        let Ok(held) = Held::new(alloc, path, arguments) else {
+            return Err(source);
+        };
         Ok(Parts {
             held,
             source,
             entered: 0,
         })
+    }
+
+    /// What is held of the run, and its source.
+    pub fn finish(self) -> (Held, S)
+        ensures held { result.0 ≡ self.held }
+        ensures source { result.1 ≡ self.source }
+    {
+        (self.held, self.source)
     }
 }
 
