@@ -52,11 +52,15 @@ refusal_at (Some at) = At at
 
 -- ---- why a text is no script
 
--- The text is refused at this place: it is too large; it is not UTF-8; it has a bad token; a bracket or a text of three quotes is open at its
--- end; or its lines are no script, and this is the place of their first fault.
+-- The text is refused at this place.
 pub data IsRefusedAt (text : List ℕ) (at : Pos) : Type 0 where
+  -- it is too large: at its first byte
   too_large : 262144 < length text → at ≡ origin → IsRefusedAt text at
+  -- its first ill-formed sequence begins there
   not_utf8 : IsNotUtf8 text at → IsRefusedAt text at
+  -- its first bad token stands there
   bad_token : IsText text → IsBadTokenPlace text at → IsRefusedAt text at
+  -- the first bracket, or text of three quotes, that is open at its end
   left_open : IsText text → IsLeftOpenPlace text at → IsRefusedAt text at
+  -- its lines are no script, and their first fault is named there
   no_script : length text ≤ 262144 → (lines : List Line) → HasLines text lines → (fault : ParseFault) → FirstFault lines fault → place_of fault ≡ Some at → IsRefusedAt text at

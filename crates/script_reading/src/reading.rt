@@ -16,8 +16,8 @@ use py_parser::parse;
 use py_tree::Script;
 use std::alloc::Global;
 
-/// The script that a text is, within the limits of this profile; or the place of the first fault: that of its logical lines, and where it
-/// has lines that of its script.
+/// The script that a text is, within the limits of this profile; or the place of its first fault. That is a fault of its logical lines, and
+/// where it has these one of its script. A text of more than 262,144 bytes is refused at line 1, column 1.
 pub fn read_script(alloc: Global, text: &[u8]) -> Result<Script, Refusal>
     ensures found { IfOk result (λ script. HasScript text.now (script_of script)) }
     ensures numbered { IfOk result (λ script. IsNumbered (script_of script)) }
