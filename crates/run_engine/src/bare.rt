@@ -1,20 +1,18 @@
 // A run over devices.
-ghost use Rattle.std.specs.Prelude.{◌≡◌, [], IfOk, OnErr};
-ghost use Rattle.answer_source.specs.Live.{IsCaptureOf, capture_of, telling};
-ghost use Rattle.prov_base.specs.declared.refusal.Memory.{Memory as Want};
-ghost use Rattle.py_model.specs.Capture.{Capture as RunCapture};
+ghost use Rattle.answer_source.specs.Live.{telling};
 ghost use Rattle.py_tree.specs.Erasure.{script_of};
-ghost use Rattle.run_engine.specs.Bare.{Gave, IsEnded, nothing_kept};
+ghost use Rattle.run_engine.specs.Bare.{RunsBare};
 
-use crate::engine::run;
 use crate::ending::over;
+use crate::engine::run;
 use answer_source::{Devices, Live};
 use capture::{Capture, Ended};
 use op_parts::Parts;
 use prov_base::{Memory, Name};
 use prov_outside::{Console, Folder, Moments};
-use py_model::NoWatch;
+use py_model::{Doer, NoWatch};
 use py_tree::Script;
+use py_value::Value;
 use std::alloc::Global;
 
 /// Runs the script at a path, with these arguments and so many steps, over devices, which it gives back. What it answers is the run of the script in
@@ -27,8 +25,23 @@ pub fn run_bare<C: Console + Drop, F: Folder + Drop, M: Moments + Drop>(
     budget: u32,
     devices: Devices<C, F, M>,
 ) -> (Result<Ended, Memory>, Devices<C, F, M>)
-    ensures ran { IfOk result.0 (λ over. IsEnded (script_of script.now) path.now arguments.now budget (capture_of over.capture (NOW)) over) }
-    ensures gave { Gave (BEFORE) (NOW) }
+    ensures { RunsBare (script_of script.now) path.now arguments.now budget (telling (C.told devices.console) (F.told devices.folder) (M.told devices.moments) (record {
+      line = C.in_faults devices.console;
+      write = C.out_faults devices.console;
+      file = F.get_faults devices.folder;
+      source = F.source_faults devices.folder;
+      put = F.put_faults devices.folder;
+      time = M.time_faults devices.moments;
+      word = M.word_faults devices.moments;
+    })) (telling (C.told result.1.console) (F.told result.1.folder) (M.told result.1.moments) (record {
+      line = C.in_faults result.1.console;
+      write = C.out_faults result.1.console;
+      file = F.get_faults result.1.folder;
+      source = F.source_faults result.1.folder;
+      put = F.put_faults result.1.folder;
+      time = M.time_faults result.1.moments;
+      word = M.word_faults result.1.moments;
+    })) result.0 }
 {
     let capture = match Capture::new(alloc) {
         Ok(capture) => capture,
@@ -43,8 +56,9 @@ pub fn run_bare<C: Console + Drop, F: Folder + Drop, M: Moments + Drop>(
     };
     let mut left = budget;
     let end = run(alloc, script, &mut parts, &mut NoWatch, &mut left);
-    let (held, source) = parts.finish();
+    let _ = parts.values().has(Value::None);
+    let (mut held, source) = parts.finish();
     let (capture, devices) = source.finish();
-    let ended = over(alloc, held, capture, end, budget.saturating_sub(left));
+    let ended = over(alloc, &mut held, capture, end, budget.saturating_sub(left));
     (ended, devices)
 }

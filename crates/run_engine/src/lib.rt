@@ -1,13 +1,18 @@
-//! A script run to its end, over any doer of operations and any watch.
+//! A script run to its end.
 //!
-//! [`run`] answers how the run came out, in each state of a run for which the doer stood as it began, whatever capture fits the doer afterwards
+//! [`run`] runs it over any doer of operations and any watch. It answers how the run came out, in each state of a run for which the doer stood as it began, whatever capture fits the doer afterwards
 //! (`Runs` in `specs/Run.antt`): the outcome of the script's meaning with so many steps, the state that the doer stands for then, the steps that
 //! are left, and that the watch was told each moment and no other.
 //!
-//! Not performed yet are calls of functions and classes of the script, and targets that are one of several targets: the answer is `Unwritten` then,
-//! with the moment that comes first.
+//! [`run_bare`] runs a script over devices (`RunsBare` in `specs/Bare.antt`): what it answers is the run of the script in the capture that it answers, and
+//! that capture is what the devices gave. Nothing is written and no file is put.
+//!
+//! Not performed yet is a store in several targets that are one of several: [`run`] answers `Unwritten` then, and [`run_bare`] want of memory.
 #![tactic(auto)]
 
+mod bare;
+mod ending;
 mod engine;
 
+pub use bare::run_bare;
 pub use engine::run;
