@@ -7,6 +7,8 @@ use Rattle.std.specs.Str.{bytes_eq}
 use Rattle.std.proofs.lemmas.Bool.{eq-eqb, false≢true}
 use Rattle.std.proofs.lemmas.Slice.Eq.{bytes_eq-Decides}
 use Rattle.std.proofs.lemmas.List.Folds.{find-append}
+use Rattle.std.proofs.lemmas.List.{reverse-append}
+use Rattle.std.specs.Prelude.{reverse}
 use Rattle.prov_base.specs.declared.place.Pos.{Pos}
 use Rattle.prov_base.specs.contracts.place.PosPartialEq.TheImpl.{ghosts as places}
 use Rattle.prov_outside.specs.declared.folder.Found.{Found as FoundThere}
@@ -29,7 +31,7 @@ use Rattle.py_model.specs.Capture.{Capture, Kept, Telling, given_in}
 use Rattle.py_model.specs.Plan.{Ask}
 use Rattle.py_model.specs.Running.{Asking, askings_at}
 use Rattle.answer_source.specs.Going.{Same, Gives, GivesNothing, IsUntouched, fetches_failed}
-use Rattle.answer_source.specs.Live.{IsCaptureOf, AreNumbered, AreFetched, has_file, kept_seen}
+use Rattle.answer_source.specs.Live.{IsCaptureOf, AreNumbered, AreFetched, asking_seen, has_file, kept_seen}
 use Rattle.answer_source.specs.Sources.{ask_seen, given_seen, next_asking, Asks}
 use Rattle.answer_source.proofs.Fitting.{given_of, not_both}
 use Rattle.answer_source.proofs.Going.{device_same, goes_from, tells_part, told_by, refused, answered_so, untouched_then}
@@ -85,11 +87,22 @@ last_unique answers at m n one other = omega (arith, not_less m n one other, not
 pub numbered_more : (view : CaptureView) (x : Asked) (answers : List Asked) (what : Ask) (askings : List Asking) → AreNumbered view askings
     → answers ≡ view.answers ++ x ∷ [] → x.k ≡ askings_at x.at askings + 1 → (at : Pos) → IsLast answers at (askings_at at (next_asking x.at what askings))
 numbered_more view x answers what askings numbered is number at = subst (λ all. IsLast all at (askings_at at (next_asking x.at what askings))) (sym is)
-    (last_more view.answers x at (askings_at at askings) (askings_at at (next_asking x.at what askings)) (numbered at) (by_place (places.eq x.at at) refl))
+    (last_more view.answers x at (askings_at at askings) (askings_at at (next_asking x.at what askings)) (numbered.0 at) (by_place (places.eq x.at at) refl))
   where
     by_place : (b : Bool) → places.eq x.at at ≡ b → (if b then suc (askings_at at askings) else askings_at at askings) ≡ (if b then max (askings_at at askings) x.k else askings_at at askings)
     by_place true same = let here = ap (λ p. askings_at p askings) (same_place x.at at same) in omega (arith, here, number)
     by_place false same = refl
+
+asked_more : (xs : List Asked) (x : Asked) → map asking_seen (xs ++ x ∷ []) ≡ map asking_seen xs ++ asking_seen x ∷ []
+asked_more [] x = refl
+asked_more (y ∷ xs) x = ap (λ all. asking_seen y ∷ all) (asked_more xs x)
+
+ordered_more : (view : CaptureView) (x : Asked) (answers : List Asked) (askings : List Asking) → map asking_seen view.answers ≡ reverse askings → answers ≡ view.answers ++ x ∷ []
+    → x.k ≡ suc (askings_at x.at askings) → map asking_seen answers ≡ reverse (next_asking x.at (ask_seen x.what) askings)
+ordered_more view x answers askings ordered is number =
+    ap (map asking_seen) is ∙ asked_more view.answers x ∙ ap (λ all. all ++ asking_seen x ∷ []) ordered
+    ∙ ap (λ n. reverse askings ++ record { at = x.at; k = n; what = ask_seen x.what } ∷ []) number
+    ∙ sym (reverse-append (record { at = x.at; k = suc (askings_at x.at askings); what = ask_seen x.what } ∷ []) askings)
 
 pushed : (xs : List Asked) (x : Asked) (rest : List Kept) → map kept_seen (xs ++ x ∷ []) ++ rest ≡ map kept_seen xs ++ kept_seen x ∷ rest
 pushed [] x rest = refl
@@ -183,12 +196,13 @@ module _ (old new : CaptureView) (next : Telling) (what : Question) (at : Pos) (
   x = record { at = at; k = k; what = what; given = given }
 
   number : (askings : List Asking) → AreNumbered old askings → k ≡ suc (askings_at at askings)
-  number askings numbered = omega (arith, is_next.2, last_unique old.answers at is_next.0 (askings_at at askings) is_next.1 (numbered at))
+  number askings numbered = omega (arith, is_next.2, last_unique old.answers at is_next.0 (askings_at at askings) is_next.1 (numbered.0 at))
 
   more : (askings : List Asking) (fetches : List (List ℕ)) → AreNumbered old askings × AreFetched old fetches
       → AreNumbered new (next_asking at (ask_seen what) askings) × AreFetched new fetches
   more askings fetches stood = (
-    numbered_more old x new.answers (ask_seen what) askings stood.0 answers (let is = number askings stood.0 in omega (arith, is)),
+    (numbered_more old x new.answers (ask_seen what) askings stood.0 answers (let is = number askings stood.0 in omega (arith, is)),
+    ordered_more old x new.answers askings stood.0.1 answers (number askings stood.0)),
     λ path. ap (λ all. is_some (file_at all path)) files ∙ stood.1 path,
   )
 

@@ -1,5 +1,5 @@
 -- What fits a live source and what it stands for (this project's profile): by what is kept, and by what its devices tell now.
-use Rattle.std.specs.Prelude.{◌≡◌, ℕ, Bool, List, ◌++◌, map, Option, Some, None, is_some}
+use Rattle.std.specs.Prelude.{◌≡◌, ℕ, Bool, List, ◌++◌, map, reverse, Option, Some, None, is_some}
 use Rattle.std.specs.Option.{option_map}
 use Rattle.prov_base.specs.declared.place.Pos.{Pos}
 use Rattle.prov_outside.specs.Console.{ConsoleView}
@@ -43,9 +43,13 @@ pub record IsCaptureOf (view : CaptureView) (now : Telling) (capture : Capture) 
   pub file_faults : capture.ends.file_faults ≡ fetches_failed (has_file view) capture.files now.file_faults
   pub untouched : IsUntouched now capture.ends
 
--- what was asked at each place is numbered so
+-- what was asked, as a run notes it
+abbrev pub asking_seen : Asked → Asking
+asking_seen asked = record { at = asked.at; k = asked.k; what = ask_seen asked.what }
+
+-- what was asked at each place is numbered so, and what is kept was asked in this order
 abbrev pub AreNumbered : CaptureView → List Asking → Type 0
-AreNumbered view askings = (at : Pos) → IsLast view.answers at (askings_at at askings)
+AreNumbered view askings = ((at : Pos) → IsLast view.answers at (askings_at at askings)) × (map asking_seen view.answers ≡ reverse askings)
 
 -- the paths that are kept are exactly those that were fetched
 abbrev pub AreFetched : CaptureView → List (List ℕ) → Type 0

@@ -1,8 +1,8 @@
 -- A run over devices: what is held at its end tells what the run of the script came to.
-use Rattle.std.proofs.Common.{◌≡◌, refl, sym, ap, subst, ◌∙◌, ℕ, suc, ◌-◌, List, Option, Result, Ok, Err, IfOk}
+use Rattle.std.proofs.Common.{◌≡◌, refl, sym, ap, subst, ◌∙◌, ℕ, suc, ◌-◌, List, Option, Result, Ok, Err, IfOk, map, reverse}
 use Rattle.answer_source.proofs.Fitting.{own_fits}
-use Rattle.answer_source.specs.Live.{IsCaptureOf, capture_of}
-use Rattle.capture.specs.Capture.{CaptureView}
+use Rattle.answer_source.specs.Live.{IsCaptureOf, asking_seen, capture_of, has_file}
+use Rattle.capture.specs.Capture.{CaptureView, is_among}
 use Rattle.capture.specs.declared.ended.Ended.{Ended as EndedRun}
 use Rattle.capture.specs.declared.ended.RunEnd.{RunEnd as EndTold}
 use Rattle.capture.specs.declared.ended.RunEnd.TheVariants.{Finished as FinishedTold, Raised as RaisedTold, Spent as SpentTold}
@@ -25,17 +25,23 @@ use Rattle.run_engine.specs.Bare.{EndsAs, IsEnded, RunsBare, nothing_kept}
 use Rattle.run_engine.specs.Over.{IsEndTold, IsTold, IsOverOf}
 use Rattle.run_engine.specs.Run.{RunsTo, Runs}
 
-module _ (script : ScriptTree) (path : List ℕ) (arguments : List (List ℕ)) (steps left : ℕ) (capture : Capture) (held : HeldView) (told : EndedRun) where
+-- what a run asked and fetched is what is kept
+abbrev AreAsked : CaptureView → List Asking → List (List ℕ) → Type 0
+AreAsked view askings fetches = (map asking_seen view.answers ≡ reverse askings) × ((one : List ℕ) → has_file view one ≡ is_among one fetches)
+
+module _ (script : ScriptTree) (path : List ℕ) (arguments : List (List ℕ)) (steps left : ℕ) (capture : Capture) (held : HeldView) (told : EndedRun) (view : CaptureView) (kept : told.capture ≡ view) where
   abbrev begins : State
   begins = starting capture path arguments steps
 
   ended_so : (end : FlowNext) (is_told : IsTold held end (steps - left) told) (found : Found) (e : Ended) → outcome capture (meaning script steps) begins ≡ e → (state_in e).left ≡ left
-      → StandsHeld found is_told.table held (state_in e).store → EndsAs e told.end → IsEnded script path arguments steps capture told
+      → StandsHeld found is_told.table held (state_in e).store × AreAsked view (state_in e).askings (state_in e).fetches → EndsAs e told.end → IsEnded script path arguments steps capture told
   ended_so end is_told found e same left_is stands ends_so = record {
     end_is = subst (λ x. EndsAs x told.end) (sym same) ends_so;
     steps_are = ap (λ x. (run_of steps x).steps) same ∙ (ap (λ n. steps - n) left_is ∙ sym is_told.steps_are);
-    output_is = ap (λ x. (run_of steps x).output) same ∙ is_told.output_is found (state_in e).store stands;
-    finals_are = ap (λ x. (run_of steps x).finals) same ∙ is_told.finals_are found (state_in e).store stands;
+    output_is = ap (λ x. (run_of steps x).output) same ∙ is_told.output_is found (state_in e).store stands.0;
+    finals_are = ap (λ x. (run_of steps x).finals) same ∙ is_told.finals_are found (state_in e).store stands.0;
+    asked_are = ap (λ x. (run_of steps x).asked) same ∙ (sym stands.1.0 ∙ ap (λ (v : CaptureView). map asking_seen v.answers) (sym kept));
+    fetched_are = λ one. ap (λ x. is_among one (state_in x).fetches) same ∙ (sym (stands.1.1 one) ∙ ap (λ v. has_file v one) (sym kept));
   }
 
   finishes_as : (how : How) (next : State) (end : EndTold) → end_of how ≡ finished → IsEndTold next.store Finished end → EndsAs (over how next) end
@@ -53,14 +59,14 @@ module _ (script : ScriptTree) (path : List ℕ) (arguments : List (List ℕ)) (
   spends_as next (RaisedTold class at text) so = absurd so
   spends_as next SpentTold so = refl
 
-  pub ended : (end : FlowNext) (is_told : IsTold held end (steps - left) told) (stands : Standing → Type 0) (found : Found) → ((st : Standing) → stands st → StandsHeld found is_told.table held st.store)
+  pub ended : (end : FlowNext) (is_told : IsTold held end (steps - left) told) (stands : Standing → Type 0) (found : Found) → ((st : Standing) → stands st → StandsHeld found is_told.table held st.store × AreAsked view st.askings st.fetches)
       → (was is : Option (List Moment)) → RunsTo {E = Memory} script (level script (suc steps)) (meaning script steps) left stands was is capture begins (Ok end) → IsEnded script path arguments steps capture told
   ended Finished is_told stands found holds was is r = ended_so Finished is_told found (over r.how r.next) r.comes_out r.left_is (holds (standing r.next) r.stands_so)
-      (finishes_as r.how r.next told.end r.end_is (is_told.end_is found r.next.store (holds (standing r.next) r.stands_so)))
+      (finishes_as r.how r.next told.end r.end_is (is_told.end_is found r.next.store (holds (standing r.next) r.stands_so).0))
   ended (Raised o line) is_told stands found holds was is r = ended_so (Raised o line) is_told found (over r.how r.next) r.comes_out r.left_is (holds (standing r.next) r.stands_so)
-      (raises_as r.how r.next o line told.end r.end_is (is_told.end_is found r.next.store (holds (standing r.next) r.stands_so)))
+      (raises_as r.how r.next o line told.end r.end_is (is_told.end_is found r.next.store (holds (standing r.next) r.stands_so).0))
   ended Spent is_told stands found holds was is r = ended_so Spent is_told found (spent r.next) r.comes_out r.left_is (holds (standing r.next) r.stands_so)
-      (spends_as r.next told.end (is_told.end_is found r.next.store (holds (standing r.next) r.stands_so)))
+      (spends_as r.next told.end (is_told.end_is found r.next.store (holds (standing r.next) r.stands_so).0))
   ended Unanswered is_told stands found holds was is r = absurd is_told.can_end
   ended Unwritten is_told stands found holds was is r = absurd is_told.can_end
   ended More is_told stands found holds was is r = absurd is_told.can_end
@@ -71,7 +77,7 @@ module _ (script : ScriptTree) (path : List ℕ) (arguments : List (List ℕ)) (
     (knew : Knew (λ table capture. IsFitting (IsCaptureOf nothing_kept before) held_before.work.values table capture) (λ table capture. IsFitting (IsCaptureOf view after) held.work.values table capture))
     (starts : (table : ValuesView) (capture : Capture) (steps : ℕ) → IsFitting (IsCaptureOf nothing_kept before) held_before.work.values table capture
     → IsStanding source_before held_before began table capture (standing (starting capture path arguments steps)))
-    (fits : IsCaptureOf view after (capture_of view after)) where
+    (fits : IsCaptureOf view after (capture_of view after)) (asks : (askings : List Asking) (fetches : List (List ℕ)) → source askings fetches → AreAsked view askings fetches) where
   fitting : (table : ValuesView) → AreInterned table → Extends held.work.values table → IsFitting (IsCaptureOf view after) held.work.values table (capture_of view after)
   fitting table interned extends = record { interned = interned; extends = extends; fits = fits }
 
@@ -80,20 +86,20 @@ module _ (script : ScriptTree) (path : List ℕ) (arguments : List (List ℕ)) (
 
   one_told : (end : Result FlowNext Memory) → Runs script steps left (λ table capture. IsFitting (IsCaptureOf view after) held.work.values table capture)
       (λ table capture s. IsStanding source_before held_before began table capture s) (λ table capture s. IsStanding source held entered table capture s) was is end
-      → (told : EndedRun) → IsOverOf held end (steps - left) told → IsEnded script path arguments steps (capture_of view after) told
-  one_told (Ok end) runs told is_told =
+      → (told : EndedRun) → told.capture ≡ view → IsOverOf held end (steps - left) told → IsEnded script path arguments steps (capture_of view after) told
+  one_told (Ok end) runs told kept is_told =
       let fit = fitting is_told.table is_told.interned is_told.extends in
       let earlier = knew is_told.table (capture_of view after) fit in
-      ended script path arguments steps left (capture_of view after) held told end is_told (λ st. IsStanding source held entered is_told.table (capture_of view after) st) (found_by (capture_of view after))
-      (λ st so. so.stands) was is (runs is_told.table (capture_of view after) fit (starting (capture_of view after) path arguments steps) (starts is_told.table (capture_of view after) steps earlier) refl)
-  one_told (Err want) runs told is_told = absurd is_told
+      ended script path arguments steps left (capture_of view after) held told view kept end is_told (λ st. IsStanding source held entered is_told.table (capture_of view after) st) (found_by (capture_of view after))
+      (λ st so. (so.stands, asks st.askings st.fetches so.asked)) was is (runs is_told.table (capture_of view after) fit (starting (capture_of view after) path arguments steps) (starts is_told.table (capture_of view after) steps earlier) refl)
+  one_told (Err want) runs told kept is_told = absurd is_told
 
   pub ran : (table : ValuesView) → AreInterned table → Extends held.work.values table → (end : Result FlowNext Memory)
       → Runs script steps left (λ table capture. IsFitting (IsCaptureOf view after) held.work.values table capture)
       (λ table capture s. IsStanding source_before held_before began table capture s) (λ table capture s. IsStanding source held entered table capture s) was is end
       → (r : Result EndedRun Memory) → IfOk r (λ told. told.capture ≡ view) → IfOk r (λ told. IsOverOf held end (steps - left) told) → RunsBare script path arguments steps before after r
   ran table interned extends end runs (Ok told) kept over_so = subst (λ v. IsCaptureOf nothing_kept before (capture_of v after) × IsEnded script path arguments steps (capture_of v after) told) (sym kept)
-      (gave table interned extends, one_told end runs told over_so)
+      (gave table interned extends, one_told end runs told kept over_so)
   ran table interned extends end runs (Err want) kept over_so = (view, gave table interned extends)
 
 -- The same, by the parts of the doer at the start and at the end.
@@ -110,11 +116,11 @@ pub ran_by : {D : Type 0} (device₀ device device₁ given : D) (tell : D → T
     (held_before held₁ held : HeldView) (began entered : ℕ) (source_before source : List Asking → List (List ℕ) → Type 0) (view₀ view₁ view view₂ : CaptureView)
     → view₀ ≡ nothing_kept → device₀ ≡ device → view₁ ≡ view → device₁ ≡ given → held₁ ≡ held → taken ≡ steps - left
     → Knew (Fit view₀ (tell device₀) held_before) (Fit view₁ (tell device₁) held₁) → Start path arguments source_before held_before began (Fit view₀ (tell device₀) held_before)
-    → view ≡ view₂ → IsCaptureOf view₂ (tell given) (capture_of view (tell given))
+    → ((askings : List Asking) (fetches : List (List ℕ)) → source askings fetches → AreAsked view₁ askings fetches) → view ≡ view₂ → IsCaptureOf view₂ (tell given) (capture_of view (tell given))
     → (table : ValuesView) → AreInterned table → Extends held₁.work.values table → (end : Result FlowNext Memory)
     → Runs script steps left (Fit view₁ (tell device₁) held₁) (Stand source_before held_before began) (Stand source held₁ entered) was is end
     → (r : Result EndedRun Memory) → IfOk r (λ told. told.capture ≡ view) → IfOk r (λ told. IsOverOf held end taken told) → RunsBare script path arguments steps (tell device) (tell given) r
-ran_by device₀ device device₁ given tell script path arguments steps left taken was is held_before held₁ held began entered source_before source view₀ view₁ view view₂ empty same₀ kept same₁ at_end count knew starts one fits
+ran_by device₀ device device₁ given tell script path arguments steps left taken was is held_before held₁ held began entered source_before source view₀ view₁ view view₂ empty same₀ kept same₁ at_end count knew starts asks one fits
     table interned extends end runs r kept_too over_so =
     ran script path arguments steps left (tell device) (tell given) view was is held_before held began entered source_before source
     (subst (λ v. Knew (Fit v (tell device) held_before) (Fit view (tell given) held)) empty
@@ -124,7 +130,8 @@ ran_by device₀ device device₁ given tell script path arguments steps left ta
     (subst (λ h. Knew (Fit view₀ (tell device₀) held_before) (Fit view₁ (tell device₁) h)) at_end knew)))))
     (subst (λ v. Start path arguments source_before held_before began (Fit v (tell device) held_before)) empty
     (subst (λ d. Start path arguments source_before held_before began (Fit view₀ (tell d) held_before)) same₀ starts))
-    (subst (λ v. IsCaptureOf v (tell given) (capture_of view (tell given))) (sym one) fits) table interned (subst (λ (h : HeldView). Extends h.work.values table) at_end extends) end
+    (subst (λ v. IsCaptureOf v (tell given) (capture_of view (tell given))) (sym one) fits)
+    (subst (λ v. (askings : List Asking) (fetches : List (List ℕ)) → source askings fetches → AreAsked v askings fetches) kept asks) table interned (subst (λ (h : HeldView). Extends h.work.values table) at_end extends) end
     (subst (λ v. Runs script steps left (Fit v (tell given) held) (Stand source_before held_before began) (Stand source held entered) was is end) kept
     (subst (λ d. Runs script steps left (Fit view₁ (tell d) held) (Stand source_before held_before began) (Stand source held entered) was is end) same₁
     (subst (λ h. Runs script steps left (Fit view₁ (tell device₁) h) (Stand source_before held_before began) (Stand source h entered) was is end) at_end runs)))

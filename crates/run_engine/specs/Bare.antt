@@ -1,7 +1,7 @@
 -- A run over devices (this project's profile): it is the run of the script in what the devices gave.
 use Rattle.std.specs.Prelude.{◌≡◌, ℕ, List, [], map, Result, Ok, Err}
-use Rattle.answer_source.specs.Live.{IsCaptureOf, capture_of}
-use Rattle.capture.specs.Capture.{CaptureView}
+use Rattle.answer_source.specs.Live.{IsCaptureOf, asking_seen, capture_of, has_file}
+use Rattle.capture.specs.Capture.{CaptureView, is_among}
 use Rattle.prov_base.specs.declared.refusal.Memory.{Memory}
 use Rattle.capture.specs.declared.ended.Ended.{Ended as EndedRun}
 use Rattle.capture.specs.declared.ended.RunEnd.{RunEnd as EndTold}
@@ -25,12 +25,14 @@ EndsAs ended (Raised class line text) = (o : ℕ) × ((end_in ended ≡ uncaught
 EndsAs ended Spent = end_in ended ≡ out_of_steps
 
 -- A run that is over is that of the script at a path, with these arguments and so many steps, in a capture: its end, the steps that it took, what it
--- printed, and the files that it opened for writing.
+-- printed, and the files that it opened for writing. What is kept was asked by it in this order, and the files that are kept are those that it fetched.
 pub record IsEnded (script : ScriptTree) (path : List ℕ) (arguments : List (List ℕ)) (steps : ℕ) (capture : Capture) (over : EndedRun) : Type 0 where
   pub end_is : EndsAs (outcome capture (meaning script steps) (starting capture path arguments steps)) over.end
   pub steps_are : (run script path arguments capture steps).steps ≡ over.steps
   pub output_is : (run script path arguments capture steps).output ≡ over.output
   pub finals_are : (run script path arguments capture steps).finals ≡ map file_out over.finals.items
+  pub asked_are : (run script path arguments capture steps).asked ≡ map asking_seen over.capture.answers
+  pub fetched_are : (one : List ℕ) → is_among one (state_in (outcome capture (meaning script steps) (starting capture path arguments steps))).fetches ≡ has_file over.capture one
 
 -- A run over devices that told this before it and tell that after it. It is the run of the script in the capture that it answers, and that capture is what
 -- the devices gave in the meantime, one answer after the other. After want of memory some capture is.
