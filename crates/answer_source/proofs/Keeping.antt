@@ -201,8 +201,10 @@ module _ (old new : CaptureView) (next : Telling) (what : Question) (at : Pos) (
   more : (askings : List Asking) (fetches : List (List ℕ)) → AreNumbered old askings × AreFetched old fetches
       → AreNumbered new (next_asking at (ask_seen what) askings) × AreFetched new fetches
   more askings fetches stood = (
-    (numbered_more old x new.answers (ask_seen what) askings stood.0 answers (let is = number askings stood.0 in omega (arith, is)),
-    ordered_more old x new.answers askings stood.0.1 answers (number askings stood.0)),
+    (
+      numbered_more old x new.answers (ask_seen what) askings stood.0 answers (let is = number askings stood.0 in omega (arith, is)),
+      ordered_more old x new.answers askings stood.0.1 answers (number askings stood.0),
+    ),
     λ path. ap (λ all. is_some (file_at all path)) files ∙ stood.1 path,
   )
 
