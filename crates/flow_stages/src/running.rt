@@ -1,5 +1,5 @@
 // How a part of a statement is opened.
-ghost use Rattle.std.specs.Prelude.{◌≡◌, IfOk, pos, true};
+ghost use Rattle.std.specs.Prelude.{◌≡◌, IfOk, pos};
 ghost use Rattle.py_tree.specs.Erasure.{form_of};
 ghost use Rattle.py_tree.specs.Tree.{ScriptTree};
 ghost use Rattle.py_value.specs.Contents.{contents, int};
@@ -11,20 +11,19 @@ ghost use Rattle.interp_eval.specs.declared.frames.Scope.{Scope as OneScope};
 ghost use Rattle.flow_parts.specs.Held.{IsHeldClass, IsHeldGoal, IsHeldNow, IsHeldStage};
 ghost use Rattle.flow_parts.specs.Machine.{handled_act, handler_in, inside_here, now_act, suite_act, suite_in, turn_act};
 ghost use Rattle.flow_parts.specs.Seen.{here_seen, now_seen, stmts_seen};
-ghost use Rattle.flow_stages.specs.Running.{HoldsOpened, IsNested, OpensBy};
+ghost use Rattle.flow_stages.specs.Running.{HoldsOpened, OpensBy};
 ghost use Rattle.flow_parts.specs.declared.control.End.TheVariants.{Normal};
 ghost use Rattle.flow_parts.specs.declared.control.Now.TheVariants.{Ended, InSuite};
-ghost use Rattle.flow_stages.specs.declared.running.Way.TheVariants.{Becomes, Runs, Unwritten};
-ghost use Rattle.flow_parts.specs.declared.control.Stage.TheVariants.{Spreads, Stores};
-ghost use Rattle.py_value.specs.declared.value.Value.{Value as OneValue};
+ghost use Rattle.flow_stages.specs.declared.running.Way.TheVariants.{Becomes, Runs};
+ghost use Rattle.flow_parts.specs.declared.control.Stage.TheVariants.{Spreads};
 
 use crate::forms::{handler_in, suite_in};
 use crate::handling::handled;
 use crate::opening::test_opened;
 use flow_parts::{Code, End, Goal, Now, Part, Spot, Stage, on_three};
-use flow_stores::{goal_target, item_at, reached, several_in, stored, target_at};
+use flow_stores::{item_at, reached, several_in, stored, target_at};
 use prov_base::Memory;
-use py_tree::{Form, Stmt, Target};
+use py_tree::{Form, Stmt};
 use py_value::{Value, Values};
 use std::alloc::Global;
 
@@ -35,8 +34,6 @@ pub enum Way {
     Becomes,
     /// It stands at this spot, and the part waits for its end.
     Runs(Spot),
-    /// Nothing is opened: a value is to be stored in several targets that are one of several.
-    Unwritten,
 }
 
 /// What a part of a statement is opened as.
@@ -178,35 +175,6 @@ fn runs<'a>(stmts: &'a [Stmt], spot: Spot) -> Opened<'a>
     }
 }
 
-/// Whether a value is to be stored in several targets that are one of several.
-#[tactic(auto, using(py_tree::proofs::TargetTrees::target_trees))]
-fn is_nested(goal: Goal, form: &Form) -> bool
-    ensures { result ≡ true → (value : OneValue) → IsNested (form_of form.now) (Stores goal value) }
-{
-    let Goal::Breaks(_) = goal else {
-        return false;
-    };
-    let Some(target) = goal_target(goal, form) else {
-        return false;
-    };
-    match target {
-        Target::Many(_) => true,
-        Target::Var(_, _) => false,
-        Target::Part(_, _, _) => false,
-        Target::Field(_, _, _) => false,
-    }
-}
-
-/// Nothing is opened.
-fn unwritten<'a>() -> Opened<'a>
-    ensures { result ≡ record { now = Ended Normal; way = Unwritten } }
-{
-    Opened {
-        now: Now::Ended(End::Normal),
-        way: Way::Unwritten,
-    }
-}
-
 /// The item of one of several targets is stored, and what is left of them waits for that; behind the last what follows them all is next.
 fn spread_opened<'a>(
     part: Part<'a>,
@@ -272,9 +240,6 @@ pub fn part_opened<'a>(
             Ok(runs(stmts_in(form), inner))
         }
         Stage::Stores(goal, value) => {
-            if is_nested(goal, form) {
-                return Ok(unwritten());
-            }
             let now = stored(alloc, part, goal, value, spot.scope)?;
             Ok(becomes(now))
         }

@@ -94,7 +94,8 @@ fn counted(targets: &Targets) -> Result<u32, Memory>
 }
 
 /// A value is stored in the target of a statement, or in one of several: a name is bound at once, a container is evaluated first, and for the
-/// several targets of a statement it is taken apart. Several targets that are one of several are left.
+/// several targets of a statement it is taken apart. No script of the grammar has several targets that one of several is; where one had, memory
+/// would be wanted.
 #[tactic(auto, using(py_tree::proofs::TargetTrees::target_trees))]
 pub fn stored<'a>(
     alloc: Global,
@@ -120,7 +121,7 @@ pub fn stored<'a>(
         Target::Field(_, e, _) => start(alloc, e, scope, holder),
         Target::Many(targets) => {
             if !is_whole(goal) {
-                return Ok(Now::Opens(part.to(Stage::Stores(goal, value))));
+                return Err(Memory);
             }
             let count = counted(targets)?;
             let unpacked = part.to(Stage::Unpacked(goal));

@@ -38,7 +38,7 @@ use Rattle.interp_flow.specs.Calls.{calling_so, failing_so}
 use Rattle.interp_flow.specs.Step.{IsCut, StepsFrom, meant}
 use Rattle.interp_flow.specs.Value.{GoesOnFrom}
 use Rattle.interp_flow.specs.declared.next.FlowNext.{FlowNext}
-use Rattle.interp_flow.specs.declared.next.FlowNext.TheVariants.{More, Finished, Raised, Spent, Unanswered, Unwritten}
+use Rattle.interp_flow.specs.declared.next.FlowNext.TheVariants.{More, Finished, Raised, Spent, Unanswered}
 use Rattle.interp_flow.proofs.Levels.{Unfolds}
 use Rattle.interp_flow.proofs.Outcomes.{same_behind}
 use Rattle.interp_flow.proofs.Stepping.{cut_from, steps_on, told_same, told_weaker, unasked}
@@ -204,4 +204,3 @@ fails_on script frames caller at place values p after count reason left fits sto
 fails_on script frames caller at place values p after count reason left fits stood was fails counted (Ok (Raised o line)) means = absurd means
 fails_on script frames caller at place values p after count reason left fits stood was fails counted (Ok Spent) means = absurd means
 fails_on script frames caller at place values p after count reason left fits stood was fails counted (Ok Unanswered) means = absurd means
-fails_on script frames caller at place values p after count reason left fits stood was fails counted (Ok Unwritten) means = absurd means

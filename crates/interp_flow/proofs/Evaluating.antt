@@ -31,7 +31,7 @@ use Rattle.flow_parts.specs.declared.control.Callee.{Callee}
 use Rattle.flow_parts.specs.declared.control.Part.{Part}
 use Rattle.flow_parts.specs.declared.frames.FlowFrames.{FlowFrames}
 use Rattle.interp_flow.specs.declared.next.FlowNext.{FlowNext}
-use Rattle.interp_flow.specs.declared.next.FlowNext.TheVariants.{More as FlowMore, Finished, Raised as FlowRaised, Spent as FlowSpent, Unanswered as FlowUnanswered, Unwritten}
+use Rattle.interp_flow.specs.declared.next.FlowNext.TheVariants.{More as FlowMore, Finished, Raised as FlowRaised, Spent as FlowSpent, Unanswered as FlowUnanswered}
 use Rattle.interp_flow.specs.Calls.{calling_so}
 use Rattle.interp_flow.specs.Step.{Before, IsStep, StepsFrom}
 use Rattle.interp_flow.specs.Value.{GoesOnFrom, IsInScope, IsTaken, answering, evaluating}
@@ -93,7 +93,6 @@ module _ (script : ScriptTree) (frames : FlowFrames) (eval gone : EvalFrames) (p
   on_from b later same d (Ok (FlowRaised o line)) means = absurd means
   on_from b later same d (Ok FlowSpent) means = absurd means
   on_from b later same d (Ok FlowUnanswered) means = absurd means
-  on_from b later same d (Ok Unwritten) means = absurd means
 
   pub step_taken : (next : EvalNext) (result : Result FlowNext Memory)
       → IsEvalStep script (level script n) (here_seen script table frames.spot) follows {E = Memory} eval gone rest stands was is table capture s (Ok next)
@@ -152,7 +151,6 @@ module _ (script : ScriptTree) (frames : FlowFrames) (eval gone : EvalFrames) (p
   step_taken (Call f args at) (Ok (FlowRaised o line)) known taken = absurd taken
   step_taken (Call f args at) (Ok FlowSpent) known taken = absurd taken
   step_taken (Call f args at) (Ok FlowUnanswered) known taken = absurd taken
-  step_taken (Call f args at) (Ok Unwritten) known taken = absurd taken
 
   -- want of memory in the step
   pub step_cut : (want : Memory) → IsEvalCut capture first s stands was is → IsStep script (level script n) (to first beyond) after rest stands was is table capture s (Err want)

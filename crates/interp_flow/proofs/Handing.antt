@@ -28,7 +28,7 @@ use Rattle.flow_parts.specs.declared.frames.FlowFrames.{FlowFrames}
 use Rattle.interp_flow.specs.Calls.{IsHandedOver, callee_for, calling_so}
 use Rattle.interp_flow.specs.Value.{GoesOnFrom}
 use Rattle.interp_flow.specs.declared.next.FlowNext.{FlowNext}
-use Rattle.interp_flow.specs.declared.next.FlowNext.TheVariants.{More, Finished, Raised, Spent, Unanswered, Unwritten}
+use Rattle.interp_flow.specs.declared.next.FlowNext.TheVariants.{More, Finished, Raised, Spent, Unanswered}
 
 -- the place of what is performed, and what follows a value of it
 place_of : Pos → Act → Pos
@@ -115,7 +115,6 @@ handed_over f arguments at eval p before after caller callee (Ok Finished) is sa
 handed_over f arguments at eval p before after caller callee (Ok (Raised o line)) is same means = absurd means
 handed_over f arguments at eval p before after caller callee (Ok Spent) is same means = absurd means
 handed_over f arguments at eval p before after caller callee (Ok Unanswered) is same means = absurd means
-handed_over f arguments at eval p before after caller callee (Ok Unwritten) is same means = absurd means
 
 -- what is called is named where the value is
 pub callee_named : (table : ValuesView) (f : Value) (callee : Callee) → callee_for f ≡ Some callee → IsNamed table f → IsHeldCallee table callee

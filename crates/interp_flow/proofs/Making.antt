@@ -34,7 +34,7 @@ use Rattle.interp_flow.specs.Calls.{alone_so, calling_so, failing_so, gives_obje
 use Rattle.interp_flow.specs.Step.{Before, IsCut, StepsFrom}
 use Rattle.interp_flow.specs.Value.{GoesOnFrom, answering, evaluating}
 use Rattle.interp_flow.specs.declared.next.FlowNext.{FlowNext}
-use Rattle.interp_flow.specs.declared.next.FlowNext.TheVariants.{More, Finished, Raised, Spent, Unanswered, Unwritten}
+use Rattle.interp_flow.specs.declared.next.FlowNext.TheVariants.{More, Finished, Raised, Spent, Unanswered}
 use Rattle.interp_flow.proofs.Operating.{came_out, told_still}
 use Rattle.interp_flow.proofs.Stepping.{told_weaker, unasked}
 
@@ -46,7 +46,6 @@ goes_same b c after (Ok Finished) same means = absurd means
 goes_same b c after (Ok (Raised o line)) same means = absurd means
 goes_same b c after (Ok Spent) same means = absurd means
 goes_same b c after (Ok Unanswered) same means = absurd means
-goes_same b c after (Ok Unwritten) same means = absurd means
 
 -- an object that was made alone is the value of the call; or the call fails
 alone_is : (script : ScriptTree) (frames : FlowFrames) (eval : EvalFrames) (at : Pos) (of : Value) (arguments : List Value) (o : Value) (has_set : Bool) (p : Part) (table : ValuesView) (next : Task → Act) → may_be_made has_set arguments ≡ true
@@ -211,4 +210,3 @@ module _ (script : ScriptTree) (frames : FlowFrames) (caller : Caller) (at : Pos
     did_made (Ok (Raised o line)) means = absurd means
     did_made (Ok Spent) means = absurd means
     did_made (Ok Unanswered) means = absurd means
-    did_made (Ok Unwritten) means = absurd means

@@ -30,7 +30,7 @@ use Rattle.flow_parts.specs.declared.control.Part.{Part}
 use Rattle.flow_parts.specs.declared.frames.FlowFrames.{FlowFrames}
 use Rattle.flow_calls.specs.Calling.{HasLeft}
 use Rattle.interp_flow.specs.declared.next.FlowNext.{FlowNext}
-use Rattle.interp_flow.specs.declared.next.FlowNext.TheVariants.{More, Finished, Raised, Spent, Unanswered, Unwritten}
+use Rattle.interp_flow.specs.declared.next.FlowNext.TheVariants.{More, Finished, Raised, Spent, Unanswered}
 use Rattle.interp_flow.specs.Step.{IsOn, IsCut, Before, StepsFrom, meant}
 use Rattle.interp_flow.specs.Value.{GoesOnFrom, evaluating, resuming, returning, throwing}
 use Rattle.interp_flow.proofs.Fronts.{goes_on}
@@ -92,7 +92,6 @@ module _ (script : ScriptTree) (frames : FlowFrames) (eval gone : EvalFrames) (m
   resumed_from (Ok (Raised o line)) means = absurd means
   resumed_from (Ok Spent) means = absurd means
   resumed_from (Ok Unanswered) means = absurd means
-  resumed_from (Ok Unwritten) means = absurd means
 
 -- an end that is no exception gives a value
 abbrev pub GivesValue : End → Type 0

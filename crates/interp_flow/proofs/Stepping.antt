@@ -11,13 +11,13 @@ use Rattle.py_model.specs.Doing.{Standing, standing, Fits, Stands, IsRefused}
 use Rattle.py_model.specs.Moment.{Moment, begins, Ending, ends}
 use Rattle.py_model.specs.Running.{State, spent, outcome, beginning, tell}
 use Rattle.py_model.specs.Told.{TellsOn}
-use Rattle.interp_flow.specs.Step.{IsOn, IsSpent, IsCut, IsUnwritten, several_first, IsStep, Before, StepsFrom, IsHeldNext, meant, next_end}
+use Rattle.interp_flow.specs.Step.{IsOn, IsSpent, IsCut, IsStep, Before, StepsFrom, IsHeldNext, meant, next_end}
 use Rattle.flow_parts.specs.Seen.{end_seen}
 use Rattle.flow_parts.specs.Telling.{WasTold, WasNotTold, HasBegun}
 use Rattle.flow_parts.specs.declared.control.End.{End}
 use Rattle.flow_parts.specs.declared.frames.FlowFrames.{FlowFrames}
 use Rattle.interp_flow.specs.declared.next.FlowNext.{FlowNext}
-use Rattle.interp_flow.specs.declared.next.FlowNext.TheVariants.{More, Finished, Raised, Spent, Unanswered, Unwritten}
+use Rattle.interp_flow.specs.declared.next.FlowNext.TheVariants.{More, Finished, Raised, Spent, Unanswered}
 
 pub told_same : (was : Option (List Moment)) → TellsOn was was (λ told more. more ≡ told)
 told_same None = tt
@@ -97,9 +97,6 @@ begun_so number left rest fits before after was is b found same known = subst (�
 -- one act in place of another that comes out the same
 module _ (script : ScriptTree) (next : Task → Act) (a b : Act) (frames : FlowFrames) (left : ℕ) (stands : Standing → Type 0) (was is : Option (List Moment)) (table : ValuesView) (capture : Capture) (s : State)
     (same : outcome capture a s ≡ outcome capture b s) where
-  unwritten_same : IsUnwritten script next capture b s → IsUnwritten script next capture a s
-  unwritten_same (several_first here at targets v k is) = several_first here at targets v k (same ∙ is)
-
   pub step_same : (r : Result FlowNext Memory) → IsStep script next b frames left stands was is table capture s r → IsStep script next a frames left stands was is table capture s r
   step_same (Ok More) h = record { next = h.next; news = h.news; comes_out = same ∙ h.comes_out; told_is = h.told_is; stands_so = h.stands_so; left_is = h.left_is; tells = h.tells }
   step_same (Ok Finished) h = record { how = h.how; comes_out = same ∙ h.comes_out; end_is = h.end_is; stands_so = h.stands_so; left_is = h.left_is; tells = h.tells }
@@ -107,7 +104,6 @@ module _ (script : ScriptTree) (next : Task → Act) (a b : Act) (frames : FlowF
   step_same (Ok Spent) h = record { next = h.next; comes_out = same ∙ h.comes_out; stands_so = h.stands_so; left_is = h.left_is; told_is = h.told_is; tells = h.tells }
   step_same (Ok Unanswered) h =
       record { next = h.next; askings = h.askings; fetches = h.fetches; comes_out = same ∙ h.comes_out; stands_so = h.stands_so; left_is = h.left_is; told_is = h.told_is; tells = h.tells }
-  step_same (Ok Unwritten) h = record { what = unwritten_same h.what; stands_so = h.stands_so; left_is = h.left_is; tells = h.tells }
   step_same (Err want) h = record { rest = h.rest; next = h.next; news = h.news; comes_out = same ∙ h.comes_out; told_is = h.told_is; refused = h.refused; tells = h.tells }
 
 module _ (script : ScriptTree) (b c : Before) (frames : FlowFrames) (left rest : ℕ) (fits : Fits) (stood stands : Stands) (was is : Option (List Moment)) (r : Result FlowNext Memory) where
@@ -153,17 +149,11 @@ over_as script next frames left stands was table capture s how a is (Raised o li
 over_as script next frames left stands was table capture s how a is More known holds steps = absurd cc
 over_as script next frames left stands was table capture s how a is Spent known holds steps = absurd cc
 over_as script next frames left stands was table capture s how a is Unanswered known holds steps = absurd cc
-over_as script next frames left stands was table capture s how a is Unwritten known holds steps = absurd cc
 
 pub steps_over : (script : ScriptTree) (b : Before) (frames : FlowFrames) (end : End) (left : ℕ) (fits : Fits) (stood : Stands) (was : Option (List Moment)) (r : FlowNext) → ((table : ValuesView) → next_end r ≡ Some (end_of (end_seen table end)))
     → ((table : ValuesView) (next : Task → Act) → b table next ≡ ret (end_seen table end)) → StepsFrom {E = Memory} script b frames left left fits stood stood was was (Ok r)
 steps_over script b frames end left fits stood was r known is = λ table capture fit s stood_so steps n enough.
     over_as script (level script n) frames left (stood table capture) was table capture s (end_seen table end) (b table (level script n)) (is table (level script n)) r (known table) stood_so steps
-
--- what is first is not performed
-pub left_from : (script : ScriptTree) (b : Before) (frames : FlowFrames) (left : ℕ) (fits : Fits) (stood : Stands) (was : Option (List Moment))
-    → ((table : ValuesView) (capture : Capture) (s : State) (n : ℕ) → IsUnwritten script (level script n) capture (b table (level script n)) s) → StepsFrom {E = Memory} script b frames left left fits stood stood was was (Ok Unwritten)
-left_from script b frames left fits stood was what = λ table capture fit s stood_so steps n enough. record { what = what table capture s n; stands_so = stood_so; left_is = steps; tells = refl }
 
 -- an answer that ends a run holds nothing
 pub over_held : (table : ValuesView) (frames : FlowFrames) (r : FlowNext) (end : RunEnd) → next_end r ≡ Some end → IsHeldNext {E = Memory} table frames (Ok r)
@@ -172,4 +162,3 @@ over_held table frames (Raised o line) end known = tt
 over_held table frames More end known = absurd cc
 over_held table frames Spent end known = tt
 over_held table frames Unanswered end known = tt
-over_held table frames Unwritten end known = tt

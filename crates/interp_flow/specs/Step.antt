@@ -1,17 +1,14 @@
 -- What one step of a script does: the run comes out from what is still to be done afterwards as from what was still to be done before.
 use Rattle.std.specs.Prelude.{◌≡◌, ◌⊎◌, ◌<◌, ◌++◌, ℕ, List, map, Option, Some, None, Result, Ok, Err, ⊤}
-use Rattle.prov_base.specs.declared.place.Pos.{Pos}
-use Rattle.py_tree.specs.Tree.{TargetsTree, ScriptTree, many_target}
-use Rattle.py_value.specs.Contents.{Contents}
+use Rattle.py_tree.specs.Tree.{ScriptTree}
 use Rattle.py_value.specs.Values.{ValuesView}
-use Rattle.py_model.specs.Act.{Act, How, broke, ret, to}
+use Rattle.py_model.specs.Act.{Act, How, ret, to}
 use Rattle.py_model.specs.Capture.{Capture}
 use Rattle.py_model.specs.Doing.{Standing, standing, Fits, Stands, ForEach, IsRefused}
-use Rattle.py_model.specs.Expressions.{Here, Task}
+use Rattle.py_model.specs.Expressions.{Task}
 use Rattle.py_model.specs.Meaning.{RunEnd, finished, uncaught, end_of, level}
 use Rattle.py_model.specs.Moment.{Moment}
 use Rattle.py_model.specs.Running.{State, Asking, outcome, over, spent, lacking}
-use Rattle.py_model.specs.Statements.{store}
 use Rattle.py_model.specs.Told.{TellsOn}
 use Rattle.flow_parts.specs.Held.{IsHeldEnd, IsHeldFlow, IsHeldNow}
 use Rattle.flow_parts.specs.Machine.{flow, remaining, resumes, waits_act}
@@ -21,7 +18,7 @@ use Rattle.flow_parts.specs.declared.frames.Waits.{Waits}
 use Rattle.flow_parts.specs.declared.control.Now.{Now}
 use Rattle.flow_parts.specs.declared.frames.FlowFrames.{FlowFrames}
 use Rattle.interp_flow.specs.declared.next.FlowNext.{FlowNext}
-use Rattle.interp_flow.specs.declared.next.FlowNext.TheVariants.{More, Finished, Raised, Spent, Unanswered, Unwritten}
+use Rattle.interp_flow.specs.declared.next.FlowNext.TheVariants.{More, Finished, Raised, Spent, Unanswered}
 
 -- The doer stands for a state, so many steps are left, and the watch was told the moments that it has more.
 pub record IsOn (capture : Capture) (before after : Act) (s : State) (left : ℕ) (stands : Standing → Type 0) (was is : Option (List Moment)) : Type 0 where
@@ -72,18 +69,6 @@ pub record IsOver (capture : Capture) (before : Act) (s : State) (end : RunEnd) 
   pub left_is : s.left ≡ left
   pub tells : is ≡ was
 
--- What is first is not performed yet: a value is stored in several targets that are one of several, so that a jump to the next of these follows.
-pub data IsUnwritten (script : ScriptTree) (next : Task → Act) (capture : Capture) (before : Act) (s : State) : Type 0 where
-  several_first : (here : Here) (at : Pos) (targets : TargetsTree) (v : Contents) (k : How → Act)
-      → outcome capture before s ≡ outcome capture (to (store script next here at (many_target targets) v (ret broke)) k) s → IsUnwritten script next capture before s
-
--- Nothing is done of it.
-pub record IsLeft (script : ScriptTree) (next : Task → Act) (capture : Capture) (before : Act) (s : State) (left : ℕ) (stands : Standing → Type 0) (was is : Option (List Moment)) : Type 0 where
-  pub what : IsUnwritten script next capture before s
-  pub stands_so : stands (standing s)
-  pub left_is : s.left ≡ left
-  pub tells : is ≡ was
-
 module _ (script : ScriptTree) (next : Task → Act) where
   abbrev pub IsStep : {E : Type 0} → Act → FlowFrames → ℕ → (Standing → Type 0) → Option (List Moment) → Option (List Moment) → ValuesView → Capture → State → Result FlowNext E → Type 0
   IsStep before after left stands was is table capture s (Ok More) = IsOn capture before (remaining script next (flow_seen script table after)) s left stands was is
@@ -91,7 +76,6 @@ module _ (script : ScriptTree) (next : Task → Act) where
   IsStep before after left stands was is table capture s (Ok (Raised o line)) = IsOver capture before s (uncaught o line) left stands was is
   IsStep before after left stands was is table capture s (Ok Spent) = IsSpent capture before s left stands was is
   IsStep before after left stands was is table capture s (Ok Unanswered) = IsUnanswered capture before s left stands was is
-  IsStep before after left stands was is table capture s (Ok Unwritten) = IsLeft script next capture before s left stands was is
   IsStep before after left stands was is table capture s (Err want) = IsCut capture before s stands was is
 
 -- what was still to be done, by a table and what turns and calls go on with

@@ -1,5 +1,5 @@
 // How frames go on where no moment is performed.
-ghost use Rattle.std.specs.Prelude.{◌≡◌, map, IfOk, OnOk, true, false};
+ghost use Rattle.std.specs.Prelude.{◌≡◌, map, OnOk};
 ghost use Rattle.std.specs.Prelude.{None as Nothing};
 ghost use Rattle.py_tree.specs.Erasure.{form_of, stmt_of};
 ghost use Rattle.py_tree.specs.Tree.{ScriptTree, more_suite};
@@ -11,7 +11,6 @@ ghost use Rattle.flow_parts.specs.Held.{IsHeldEnd, IsHeldFlow, IsHeldStage};
 ghost use Rattle.flow_parts.specs.Machine.{flow, in_suite, remaining, resumes, suite_ended};
 ghost use Rattle.flow_parts.specs.Seen.{end_seen, flow_seen, frame_seen, here_seen, stage_seen, stmts_seen};
 ghost use Rattle.flow_parts.specs.declared.control.Now.TheVariants.{Opens};
-ghost use Rattle.flow_stages.specs.Running.{IsNested};
 ghost use Rattle.interp_flow.specs.Step.{doing_now, meant};
 
 use flow_parts::{End, FlowFrames, Now, Part, Spot, Waits};
@@ -41,30 +40,25 @@ pub(crate) fn open_stmt<'a>(
     frames.push(Waits::Stmt(stmt.no, rest), spot, now)
 }
 
-/// A part of a statement is opened; or it is one that is not performed. The texts and tuples are those of the values that it holds.
+/// A part of a statement is opened. The texts and tuples are those of the values that it holds.
 pub(crate) fn open_part<'a>(
     alloc: Global,
     frames: &mut FlowFrames<'a>,
     part: Part<'a>,
     values: &Values,
-) -> Result<bool, Memory>
+) -> Result<(), Memory>
     requires { IsHeldStage values.now part.stage }
-    ensures means { IfOk result (λ goes. goes ≡ true → (script : ScriptTree) (next : Task → Act) (table : ValuesView) → Keeps values.now.texts table.texts → Keeps values.now.tuples table.tuples
+    ensures means { OnOk result ((script : ScriptTree) (next : Task → Act) (table : ValuesView) → Keeps values.now.texts table.texts → Keeps values.now.tuples table.tuples
         → doing_now script frames.old (Opens part.entry) table next ≡ meant script frames.new table next) }
-    ensures left { IfOk result (λ goes. goes ≡ false → IsNested (form_of part.entry.form.now) part.entry.stage) }
-    ensures held { IfOk result (λ goes. goes ≡ true → (table : ValuesView) → Keeps values.now.texts table.texts → Keeps values.now.tuples table.tuples → IsHeldFlow table frames.old → IsHeldStage table part.entry.stage → IsHeldFlow table frames.new) }
+    ensures held { OnOk result ((table : ValuesView) → Keeps values.now.texts table.texts → Keeps values.now.tuples table.tuples → IsHeldFlow table frames.old → IsHeldStage table part.entry.stage → IsHeldFlow table frames.new) }
 {
     let opened = part_opened(alloc, part, frames.spot, values)?;
     match opened.way {
         Way::Becomes => {
             frames.now = opened.now;
-            Ok(true)
+            Ok(())
         }
-        Way::Runs(inner) => match frames.push(Waits::Part(None, part), inner, opened.now) {
-            Ok(()) => Ok(true),
-            Err(refused) => Err(refused),
-        },
-        Way::Unwritten => Ok(false),
+        Way::Runs(inner) => frames.push(Waits::Part(None, part), inner, opened.now),
     }
 }
 

@@ -13,6 +13,4 @@ pub enum FlowNext {
     Spent,
     /// An operation asked for what is not there.
     Unanswered,
-    /// Nothing was done: a value is stored in several targets that are one of several, which is not performed yet.
-    Unwritten,
 }

@@ -220,8 +220,7 @@ fn now_step<'a, D: Doer, W: Watch>(
         Now::Gives(giving) => gives_step(alloc, frames, giving, script, doer, watch, left),
         Now::Ended(end) => end_step(alloc, frames, end, doer, watch, *left),
         Now::Opens(part) => match open_part(alloc, frames, part, doer.values()) {
-            Ok(true) => Ok(FlowNext::More),
-            Ok(false) => Ok(FlowNext::Unwritten),
+            Ok(()) => Ok(FlowNext::More),
             Err(refused) => Err(refused),
         },
     }

@@ -7,6 +7,7 @@ pub mod ColonParts
 pub mod ExprForms
 pub mod ExprRefusals
 pub mod FixedNames
+pub mod FlatScripts
 pub mod ForHeads
 pub mod ForTargets
 pub mod FreshNames

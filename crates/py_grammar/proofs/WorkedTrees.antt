@@ -1,8 +1,9 @@
 -- Worked trees: statements that may stand where they do, and some that may not; found by computation.
 use Rattle.std.proofs.Common.{◌≡◌, ℕ, Bool, true, false, List, [], ◌∷◌, Some, None, codes, refl}
 use Rattle.py_tree.specs.declared.expr.Atom.TheVariants.{Text}
-use Rattle.py_tree.specs.Tree.{ExprTree, FormTree, SuiteTree, const_expr, var_expr, var_target, field_target, one_stmt, do_form, assign_form, del_form, pass_form, break_form, continue_form, return_form, raise_form, import_form, if_form, while_form, try_form, def_form, class_form, end_suite, more_suite, end_branches, more_branches, no_else, end_handlers, more_handlers}
+use Rattle.py_tree.specs.Tree.{ExprTree, FormTree, SuiteTree, TargetTree, const_expr, var_expr, var_target, field_target, many_target, end_targets, more_targets, one_stmt, do_form, assign_form, del_form, pass_form, break_form, continue_form, return_form, raise_form, import_form, if_form, while_form, for_form, try_form, def_form, class_form, end_suite, more_suite, end_branches, more_branches, no_else, end_handlers, more_handlers}
 use Rattle.py_tree.specs.Unplaced.{nowhere, no_bytes}
+use Rattle.py_grammar.specs.FlatTargets.{is_flat}
 use Rattle.py_grammar.specs.Language.{language_one}
 use Rattle.py_grammar.specs.PlacedTrees.{is_placed_in}
 
@@ -105,3 +106,25 @@ every_last = refl
 -- an attribute is not deleted
 field_deleted : placed (del_form (field_target nowhere x (codes "a"))) ≡ false
 field_deleted = refl
+
+-- `a, b = e` is flat, and `a, (b, c) = e` is not, wherever it stands
+abbrev flat : FormTree → Bool
+flat form = is_flat (record { body = one form; count = 1 })
+
+abbrev target : List ℕ → TargetTree
+target name = var_target nowhere name
+
+abbrev pair : TargetTree → TargetTree → TargetTree
+pair a b = many_target (more_targets a (more_targets b end_targets))
+
+flat_pair : flat (assign_form (pair (target (codes "a")) (field_target nowhere x (codes "b"))) x) ≡ true
+flat_pair = refl
+
+nested_pair : flat (assign_form (pair (target (codes "a")) (pair (target (codes "b")) (target (codes "c")))) x) ≡ false
+nested_pair = refl
+
+nested_in_for : flat (def_of (codes "f") (for_form (pair (pair (target (codes "a")) (target (codes "b"))) (target (codes "c"))) x (one pass_form))) ≡ false
+nested_in_for = refl
+
+flat_in_handler : flat (try_of pass_form (assign_form (pair (target (codes "a")) (target (codes "b"))) x)) ≡ true
+flat_in_handler = refl

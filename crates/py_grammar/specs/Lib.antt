@@ -1,4 +1,5 @@
 pub mod ClosedSets
+pub mod FlatTargets
 pub mod Follows
 pub mod Grammar
 pub mod Language

@@ -9,6 +9,7 @@ ghost use Rattle.py_tree.specs.WellFormed.{IsWellFormed};
 ghost use Rattle.py_grammar.specs.Grammar.{InGrammar};
 ghost use Rattle.prov_base.specs.declared.place.Pos.{Pos};
 ghost use Rattle.py_grammar.specs.ClosedSets.{IsClosed, is_statement, stays};
+ghost use Rattle.py_grammar.specs.FlatTargets.{is_flat};
 ghost use Rattle.py_grammar.specs.Language.{Language, IsScriptIn};
 ghost use Rattle.py_grammar.specs.LineReader.{Head};
 ghost use Rattle.py_grammar.specs.ParsedHead.{head_depth, head_lies};
@@ -48,6 +49,13 @@ pub fn scripts_are_well_formed()
 pub fn trees_are_placed()
     ensures told { (language : Language) (lines : List Line) (tree : ScriptTree) → IsScriptIn language lines tree → IsTrue (is_placed_in language tree) }
     ensures kept { (language : Language) (keep : ℕ → Bool) (tree : ScriptTree) → IsTrue (is_placed_in language tree) → IsTrue (is_placed_in language (deleted keep tree)) }
+{}
+
+/// The law that no script of the grammar stores in several targets that one of several is, as in `a, (b, c) = e`, and that a deletion
+/// leaves it so.
+pub fn targets_are_flat()
+    ensures told { (lines : List Line) (tree : ScriptTree) → InGrammar lines tree → IsTrue (is_flat tree) }
+    ensures kept { (keep : ℕ → Bool) (tree : ScriptTree) → IsTrue (is_flat tree) → IsTrue (is_flat (deleted keep tree)) }
 {}
 
 /// The law that of a set which is closed under parents each statement stays in the deletion. Of another set a statement goes with

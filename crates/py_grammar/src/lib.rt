@@ -18,6 +18,6 @@ pub use context::{Context, Last, Limit};
 pub use head::{Behind, LineHead, What, read_head, read_line_head};
 pub use laws::{
     closed_sets_stay, depth_of_lines, one_script, one_simple_statement, scripts_are_well_formed,
-    trees_are_placed,
+    targets_are_flat, trees_are_placed,
 };
 pub use name_set::Given;

@@ -7,7 +7,7 @@ use Rattle.capture.specs.declared.ended.Ended.{Ended as EndedRun}
 use Rattle.capture.specs.declared.ended.RunEnd.{RunEnd as EndTold}
 use Rattle.capture.specs.declared.ended.RunEnd.TheVariants.{Finished as FinishedTold, Raised as RaisedTold, Spent as SpentTold}
 use Rattle.interp_flow.specs.declared.next.FlowNext.{FlowNext}
-use Rattle.interp_flow.specs.declared.next.FlowNext.TheVariants.{More, Finished, Raised, Spent, Unanswered, Unwritten}
+use Rattle.interp_flow.specs.declared.next.FlowNext.TheVariants.{More, Finished, Raised, Spent, Unanswered}
 use Rattle.op_done.specs.Holding.{Found}
 use Rattle.op_held.specs.Held.{HeldView, StandsHeld}
 use Rattle.op_parts.specs.Parts.{IsFitting, IsStanding, found_by}
@@ -68,7 +68,6 @@ module _ (script : ScriptTree) (path : List ℕ) (arguments : List (List ℕ)) (
   ended Spent is_told stands found holds was is r = ended_so Spent is_told found (spent r.next) r.comes_out r.left_is (holds (standing r.next) r.stands_so)
       (spends_as r.next told.end (is_told.end_is found r.next.store (holds (standing r.next) r.stands_so).0))
   ended Unanswered is_told stands found holds was is r = absurd is_told.can_end
-  ended Unwritten is_told stands found holds was is r = absurd is_told.can_end
   ended More is_told stands found holds was is r = absurd is_told.can_end
 
 -- the whole of a run over devices

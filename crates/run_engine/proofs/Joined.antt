@@ -3,7 +3,7 @@ use Rattle.std.proofs.Common.{◌≡◌, refl, sym, ap, subst, ◌∙◌, append
 use Rattle.flow_parts.specs.declared.frames.FlowFrames.{FlowFrames}
 use Rattle.interp_flow.specs.Step.{IsOn, IsOver, IsStep}
 use Rattle.interp_flow.specs.declared.next.FlowNext.{FlowNext}
-use Rattle.interp_flow.specs.declared.next.FlowNext.TheVariants.{More, Finished, Raised, Spent, Unanswered, Unwritten}
+use Rattle.interp_flow.specs.declared.next.FlowNext.TheVariants.{More, Finished, Raised, Spent, Unanswered}
 use Rattle.prov_base.specs.declared.refusal.Memory.{Memory}
 use Rattle.py_model.specs.Act.{Act}
 use Rattle.py_model.specs.Capture.{Capture}
@@ -80,17 +80,6 @@ module _ (script : ScriptTree) (task : Task → Act) (capture : Capture) (before
     fetches = second.fetches;
     comes_out = first.comes_out ∙ second.comes_out;
     told_is = second.told_is ∙ first.told_is;
-    left_is = second.left_is;
-    tells = same_told was mid is _ second.tells first.tells;
-  }
-  last_step frames left stands is table (Ok Unwritten) other second = record {
-    rest = middle;
-    next = first.next;
-    news = first.news;
-    comes_out = first.comes_out;
-    what = second.what;
-    told_is = first.told_is;
-    stands_so = second.stands_so;
     left_is = second.left_is;
     tells = same_told was mid is _ second.tells first.tells;
   }

@@ -1,8 +1,7 @@
 -- How a whole run comes out (this project's profile), by what its last step came to.
 use Rattle.std.specs.Prelude.{◌≡◌, ◌⊎◌, ℕ, suc, List, ◌++◌, Option, Result, Ok, Err}
-use Rattle.interp_flow.specs.Step.{IsUnwritten}
 use Rattle.interp_flow.specs.declared.next.FlowNext.{FlowNext}
-use Rattle.interp_flow.specs.declared.next.FlowNext.TheVariants.{More, Finished, Raised, Spent, Unanswered, Unwritten}
+use Rattle.interp_flow.specs.declared.next.FlowNext.TheVariants.{More, Finished, Raised, Spent, Unanswered}
 use Rattle.py_model.specs.Act.{Act, How}
 use Rattle.py_model.specs.Capture.{Capture}
 use Rattle.py_model.specs.Doing.{Fits, Stands, Standing, standing, ForEach, IsRefused}
@@ -47,18 +46,6 @@ module _ (capture : Capture) (before : Act) (s : State) where
     pub left_is : next.left ≡ left
     pub tells : TellsOn was is (λ told more. more ≡ news ++ told)
 
-  -- what is first is not performed yet
-  pub record IsRunLeft (script : ScriptTree) (task : Task → Act) (left : ℕ) (stands : Standing → Type 0) (was is : Option (List Moment)) : Type 0 where
-    pub rest : Act
-    pub next : State
-    pub news : List Moment
-    pub comes_out : outcome capture before s ≡ outcome capture rest next
-    pub what : IsUnwritten script task capture rest next
-    pub told_is : next.told ≡ news ++ s.told
-    pub stands_so : stands (standing next)
-    pub left_is : next.left ≡ left
-    pub tells : TellsOn was is (λ told more. more ≡ news ++ told)
-
   -- Memory ran out: behind some moments, of which the watch was told all, or all but the last step's.
   pub record IsRunCut (stands : Standing → Type 0) (was is : Option (List Moment)) : Type 0 where
     pub rest : Act
@@ -75,7 +62,6 @@ RunsTo script task before left stands was is capture s (Ok Finished) = IsRunOver
 RunsTo script task before left stands was is capture s (Ok (Raised o line)) = IsRunOver capture before s (uncaught o line) left stands was is
 RunsTo script task before left stands was is capture s (Ok Spent) = IsRunSpent capture before s left stands was is
 RunsTo script task before left stands was is capture s (Ok Unanswered) = IsRunLacking capture before s left stands was is
-RunsTo script task before left stands was is capture s (Ok Unwritten) = IsRunLeft capture before s script task left stands was is
 RunsTo script task before left stands was is capture s (Ok More) = ⊥
 RunsTo script task before left stands was is capture s (Err want) = IsRunCut capture before s stands was is
 

@@ -7,7 +7,8 @@
 //! [`run_bare`] runs a script over devices (`RunsBare` in `specs/Bare.antt`): what it answers is the run of the script in the capture that it answers, and
 //! that capture is what the devices gave. Nothing is written and no file is put.
 //!
-//! Not performed yet is a store in several targets that are one of several: [`run`] answers `Unwritten` then, and [`run_bare`] want of memory.
+//! Several targets that one of several is, as in `a, (b, c) = e`, are in no script of the grammar (`targets_are_flat` of `py_grammar`). A run that came
+//! to store in some would answer want of memory.
 #![tactic(auto)]
 
 mod bare;

@@ -4,6 +4,7 @@
 //! Which script a text is, and where it is refused, is `specs/Reading.antt`. What [`read_script`] promises, clause by clause:
 //! - `found`, `complete`, `numbered`, `well_formed`: an answered script is the text's, well formed, its statements numbered from 0. A
 //!   text that has a script gets no other answer but Memory.
+//! - `flat`: no target of an answered script is several targets that one of several is.
 //! - `refused`: a place is answered only where the text is refused at it.
 //! - `too_large`, `not_utf8`: a text of more than 262,144 bytes is refused at its first byte, whatever it holds, and one that is not
 //!   UTF-8 at its first ill-formed sequence, whatever memory is left.

@@ -1,10 +1,9 @@
 use Rattle.std.proofs.Common.{ap, subst, ◌∙◌}
 use Rattle.py_tree.specs.Erasure.{script_of}
 use Rattle.flow_parts.specs.Held.{IsHeldNow}
-use Rattle.flow_parts.specs.declared.control.Now.TheVariants.{Ended, Gives, InSuite, Opens}
+use Rattle.flow_parts.specs.declared.control.Now.TheVariants.{Ended, Gives, InSuite}
 use Rattle.interp_flow.specs.Step.{doing_now}
-use Rattle.interp_flow.proofs.Stepping.{cut_from, left_from, steps_fitting, steps_same}
-use Rattle.interp_flow.proofs.Flowing.{several_left, unwritten_now}
+use Rattle.interp_flow.proofs.Stepping.{cut_from, steps_fitting, steps_same}
 use Rattle.interp_flow.proofs.step.now_step.Goals as goal
 
 pub returns-in-InSuite-clause-step : goal.returns-in-InSuite-clause-step
@@ -36,24 +35,18 @@ open_part-requires g c =
     let some = c.values.ensures.some_fits in
     subst (IsHeldNow c.values.result.now c.args.frames.now.spot.scope) c.in-Opens.is (c.requires.now c.values.result.now some.0 some.1)
 
-pub returns-in-Ok-true-clause-step : goal.returns-in-Ok-true-clause-step
-returns-in-Ok-true-clause-step g c =
+pub returns-in-Ok-clause-step : goal.returns-in-Ok-clause-step
+returns-in-Ok-clause-step g c =
     steps_fitting (script_of c.args.script.now) (doing_now (script_of c.args.script.now) c.args.frames.now c.args.now) c.open_part.new.frames c.args.left.now (g.D.Doer.fits c.args.doer.now) (g.D.Doer.stands c.args.doer.now) (g.W.Watch.history c.args.watch.now)
     (λ table capture fit next.
     let within = c.values.ensures.within table capture fit in
     ap (λ now. doing_now (script_of c.args.script.now) c.args.frames.now now table next) c.in-Opens.is
-    ∙ c.in-Ok-true.ensures.means c.in-Ok-true.field-0-test (script_of c.args.script.now) next table within.0 within.1)
+    ∙ c.in-Ok.ensures.means (script_of c.args.script.now) next table within.0 within.1)
 
-pub returns-in-Ok-true-clause-held : goal.returns-in-Ok-true-clause-held
-returns-in-Ok-true-clause-held g c = λ table capture fit.
+pub returns-in-Ok-clause-held : goal.returns-in-Ok-clause-held
+returns-in-Ok-clause-held g c = λ table capture fit.
     let within = c.values.ensures.within table capture fit in
-    c.in-Ok-true.ensures.held c.in-Ok-true.field-0-test table within.0 within.1 (c.requires.held table capture fit) (subst (IsHeldNow table c.args.frames.now.spot.scope) c.in-Opens.is (c.requires.now table capture fit))
-
-pub returns-in-Ok-false-clause-step : goal.returns-in-Ok-false-clause-step
-returns-in-Ok-false-clause-step g c =
-    left_from (script_of c.args.script.now) (doing_now (script_of c.args.script.now) c.args.frames.now c.args.now) c.open_part.new.frames c.args.left.now (g.D.Doer.fits c.args.doer.now) (g.D.Doer.stands c.args.doer.now) (g.W.Watch.history c.args.watch.now)
-    (λ table capture s n. unwritten_now (script_of c.args.script.now) c.args.frames.now c.args.now (Opens c.in-Opens.part) c.in-Opens.is table capture s n
-    (several_left (script_of c.args.script.now) c.args.frames.now c.in-Opens.part (c.in-Ok-false.ensures.left c.in-Ok-false.field-0-test) table capture s n))
+    c.in-Ok.ensures.held table within.0 within.1 (c.requires.held table capture fit) (subst (IsHeldNow table c.args.frames.now.spot.scope) c.in-Opens.is (c.requires.now table capture fit))
 
 pub returns-in-Err-clause-step : goal.returns-in-Err-clause-step
 returns-in-Err-clause-step g c =

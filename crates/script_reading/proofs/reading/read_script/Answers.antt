@@ -18,6 +18,7 @@ returns-in-Err c =
       found = tt;
       numbered = tt;
       well_formed = tt;
+      flat = tt;
       complete = only_memory text c.in-Err.fault c.of_text.result told c.of_text.ensures;
       too_large = λ more. ap (λ (r : Refusal). Err r) (large_text text c.in-Err.fault c.of_text.result told c.of_text.ensures more);
       not_utf8 = λ at is. ap (λ (r : Refusal). Err r) (ill_text text c.in-Err.fault c.of_text.result told c.of_text.ensures at is);
@@ -39,8 +40,13 @@ returns c =
       found = tt;
       numbered = tt;
       well_formed = tt;
+      flat = tt;
       complete = only_memory_there text c.in-Ok.lines c.in-Err-parse.fault c.of_lines.result told c.in-Err-parse.ensures.complete c.of_lines.ensures;
       too_large = λ more. absurd (never_large text c.in-Ok.lines told more);
       not_utf8 = λ at is. absurd (never_ill text c.in-Ok.lines told at is);
       refused = λ at same. refused_lines text c.in-Ok.lines c.in-Err-parse.fault c.of_lines.result told c.in-Ok.ensures.lines c.in-Err-parse.ensures.refused c.of_lines.ensures at (refusal_same c.of_lines.result at same);
     }
+
+-- src/reading.rt
+pub returns-in-Ok-parse-clause-flat : goal.returns-in-Ok-parse-clause-flat
+returns-in-Ok-parse-clause-flat c = c.targets_are_flat.ensures.told _ _ c.in-Ok-parse.ensures.found.script.grammar
