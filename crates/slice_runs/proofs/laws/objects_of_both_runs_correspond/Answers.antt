@@ -1,0 +1,11 @@
+use Rattle.slice_runs.proofs.Ranks.{rank_one, shifted_fits, same_object}
+use Rattle.slice_runs.proofs.laws.objects_of_both_runs_correspond.Goals as goal
+
+pub returns-clause-fits : goal.returns-clause-fits
+returns-clause-fits c = shifted_fits
+
+pub returns-clause-one : goal.returns-clause-one
+returns-clause-one c = rank_one
+
+pub returns-clause-named : goal.returns-clause-named
+returns-clause-named c = same_object

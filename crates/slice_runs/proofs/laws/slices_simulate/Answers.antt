@@ -1,0 +1,17 @@
+use Rattle.slice_runs.proofs.Happenings.{Laws}
+use Rattle.slice_runs.proofs.Simulations.{simulated}
+use Rattle.slice_runs.proofs.laws.slices_simulate.Goals as goal
+
+pub returns : goal.returns
+returns c =
+    let laws : Laws = record {
+      locations = c.tests_are_equality.ensures.locations;
+      alike = c.corresponding_operands_have_alike_plans.ensures;
+      agree = c.operations_agree.ensures;
+      quiet = c.few_operations_ask.ensures.quiet;
+      same = c.few_operations_ask.ensures.same;
+      unnoted = c.few_operations_ask.ensures.unnoted;
+      changes = c.map_changes_by_accesses.ensures;
+    } in
+    λ script capture path arguments steps budget keep upto after well told_is closed plain enough.
+    simulated laws script capture path arguments keep upto steps budget closed well after told_is plain enough

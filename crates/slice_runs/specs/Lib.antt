@@ -1,0 +1,6 @@
+pub mod Renaming
+pub mod Related
+pub mod Under
+pub mod Simulation
+pub mod Owned
+pub mod Atomic
