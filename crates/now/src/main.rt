@@ -1,9 +1,10 @@
-// The program: the top call over the real console and the current folder. Its exit status is the call's.
+// The program: the top call over the real console, the current folder, and the system's clock and random words. Its exit status is the call's.
 #![tactic(auto)]
 
+use answer_source::Devices;
 use now_top::now;
 use prov_outside::Console;
-use prov_real::{RealConsole, RealFolder};
+use prov_real::{RealConsole, RealFolder, RealMoments};
 use std::process::ExitCode;
 use std::{env, io};
 
@@ -24,6 +25,11 @@ fn main(rt: HostRuntime) -> ExitCode {
         // Words that are no text are no command, and neither are none.
         Err(_) => Vec::new(rt.alloc()),
     };
-    let mut folder = RealFolder::new(&rt);
-    ExitCode::from(now(rt.alloc(), &words, &mut console, &mut folder))
+    let devices = Devices {
+        console,
+        folder: RealFolder::new(&rt),
+        moments: RealMoments::new(&rt),
+    };
+    let (status, _) = now(rt.alloc(), &words, devices);
+    ExitCode::from(status)
 }

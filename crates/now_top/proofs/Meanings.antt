@@ -1,143 +1,142 @@
--- The words have one meaning over the files.
-use Rattle.std.proofs.Common.{◌≡◌, ℕ, ◌+◌, ◌-◌, ◌<◌, nat_lt, Bool, false, List, [], length, cond, Option, Some, None, ⊎_elim, refl, sym, ap, ◌∙◌, subst, arith}
-use Rattle.std.proofs.lemmas.Bool.{lt-ltb, le-ltb}
-use Rattle.std.proofs.lemmas.Option.{none-some}
-use Rattle.prov_base.specs.Path.{is_path}
-use Rattle.prov_outside.specs.Folder.{Files}
-use Rattle.now_top.specs.Line.{Line}
-use Rattle.now_top.specs.Script.{Spells, IsRefusedAfter}
-use Rattle.now_top.specs.Least.{name_at, IsLeast}
-use Rattle.now_top.specs.Command.{cut_command}
-use Rattle.now_top.specs.Reply.{longest_script, Asks, AsksText, IsSliceOf, Means, Ending, done, usage, refused, nothing_there, console_failed, folder_failed, out_of_memory}
-use Rattle.now_top.proofs.Scripts.{same_script, not_refused, one_refusal}
-use Rattle.now_top.proofs.LeastSets.{least_same, cut_text_same}
+-- A run over devices is what its command means.
+use Rattle.std.proofs.Common.{◌≡◌, refl, sym, ap, subst, ◌∙◌, ℕ, List, [], ◌∷◌, map, ◌⊎◌, inl, inr, Option, Some, None, is_some, Result, Ok, Err}
+use Rattle.std.specs.Option.{option_map}
+use Rattle.answer_source.proofs.Fitting.{own_fits}
+use Rattle.answer_source.proofs.Replaying.{found_exactly}
+use Rattle.answer_source.specs.Live.{asking_seen, kept_seen, file_seen, capture_of, has_file}
+use Rattle.answer_source.specs.Sources.{found_seen}
+use Rattle.capture.specs.Capture.{CaptureView}
+use Rattle.capture.specs.Files.{file_at}
+use Rattle.capture.specs.declared.answer.Asked.{Asked}
+use Rattle.capture.specs.declared.ended.Ended.{Ended as EndedRun}
+use Rattle.capture.specs.declared.ended.RunEnd.{RunEnd as EndTold}
+use Rattle.capture.specs.declared.ended.RunEnd.TheVariants.{Finished, Raised, Spent}
+use Rattle.delivery.specs.Ending.{Ending, uncaught, refused, out_of_memory, done, usage, nothing_there, console_failed, folder_failed, out_of_steps}
+use Rattle.prov_base.specs.declared.refusal.Memory.{Memory}
+use Rattle.prov_outside.specs.declared.folder.Found.{Found as FoundThere}
+use Rattle.op_held.specs.Uncaught.{class_raised, text_raised}
+use Rattle.py_model.specs.Act.{How, normal, broke, continued, returned, threw}
+use Rattle.py_model.specs.Capture.{Telling, found_in}
+use Rattle.py_model.specs.Meaning.{RunEnd, finished, uncaught as uncaught_at, out_of_steps as out_of_steps_at, unanswered_run, meaning, starting}
+use Rattle.py_model.specs.Running.{State, Ended, over, spent, lacking, outcome}
+use Rattle.py_model.specs.Store.{RunStore}
+use Rattle.py_tree.specs.Tree.{ScriptTree}
+use Rattle.run_engine.specs.Bare.{EndsAs, IsEnded, RunsBare, nothing_kept}
+use Rattle.script_reading.specs.Reading.{HasScript}
+use Rattle.now_top.specs.World.{Plan, closing}
+use Rattle.now_top.specs.Reading.{IsRefusedAs}
+use Rattle.now_top.specs.RunCommand.{ending_in, asking_of, IsRunOf, RunsText, no_script, runs}
+use Rattle.now_top.specs.Planned.{ending_told, plan_of_run}
+use Rattle.now_top.specs.Running.{RunsOver}
+use Rattle.now_top.specs.Seen.{Seen, told_by}
 
--- how far the words lead
-data Stage : Type 0 where
-  no_command : Stage
-  no_path : Stage
-  no_file : Stage
-  too_long : (file : List ℕ) → Stage
-  reads : (file : List ℕ) → (line : ℕ) → (text : List ℕ) → Stage
+abbrev object_in : RunEnd → ℕ
+object_in (uncaught_at o line) = o
+object_in finished = 0
+object_in out_of_steps_at = 0
+object_in unanswered_run = 0
 
-abbrev stage_of_text : List ℕ → ℕ → Option (List ℕ) → Stage
-stage_of_text file line None = no_file
-stage_of_text file line (Some text) = cond (nat_lt longest_script (length text)) (too_long file) (reads file line text)
+abbrev line_in : RunEnd → ℕ
+line_in (uncaught_at o line) = line
+line_in finished = 0
+line_in out_of_steps_at = 0
+line_in unanswered_run = 0
 
-abbrev stage_of_command : Files → Option (List ℕ × ℕ) → Stage
-stage_of_command files None = no_command
-stage_of_command files (Some asked) = cond (is_path asked.0) (stage_of_text asked.0 asked.1 (files asked.0)) no_path
+-- an exception that nothing caught, as the end of the run and as what is told of it
+raised : (store : RunStore) (o line told at : ℕ) (class : List ℕ) (text : Option (List ℕ)) → uncaught_at o line ≡ uncaught_at told at → class_raised store told ≡ class → text_raised store told ≡ text
+    → Some (uncaught (class_raised store o) line (text_raised store o)) ≡ Some (uncaught class at text)
+raised store o line told at class text same is_class is_text = ap Some (ap (λ c. uncaught c line (text_raised store o)) (ap (class_raised store) (ap object_in same) ∙ is_class)
+    ∙ (ap (λ n. uncaught class n (text_raised store o)) (ap line_in same) ∙ ap (uncaught class at) (ap (text_raised store) (ap object_in same) ∙ is_text)))
 
-abbrev stage : List (List ℕ) → Files → Stage
-stage words files = stage_of_command files (cut_command words)
+-- ends that are not the same
+end_not_raised : (o line : ℕ) → finished ≡ uncaught_at o line → ⊥
+end_not_raised o line is = cc
 
--- what each stage means
-abbrev TextMeans : List ℕ → ℕ → List ℕ → Ending → List ℕ → Type 0
-TextMeans file line text done out = IsSliceOf text line out
-TextMeans file line text usage out = ⊥
-TextMeans file line text (refused name at) out = (name ≡ file) × (count : ℕ) × IsRefusedAfter text count × (at ≡ count + 1) × (out ≡ [])
-TextMeans file line text nothing_there out = (script : List Line) × Spells text script × (name_at script (line - 1) ≡ None) × (out ≡ [])
-TextMeans file line text console_failed out = ⊥
-TextMeans file line text (folder_failed name) out = ⊥
-TextMeans file line text out_of_memory out = ⊥
+spent_not_raised : (o line : ℕ) → out_of_steps_at ≡ uncaught_at o line → ⊥
+spent_not_raised o line is = cc
 
-abbrev StageMeans : Stage → Ending → List ℕ → Type 0
-StageMeans no_command ending out = (ending ≡ usage) × (out ≡ [])
-StageMeans no_path ending out = (ending ≡ nothing_there) × (out ≡ [])
-StageMeans no_file ending out = (ending ≡ nothing_there) × (out ≡ [])
-StageMeans (too_long file) ending out = (ending ≡ refused file 1) × (out ≡ [])
-StageMeans (reads file line text) ending out = TextMeans file line text ending out
+lacking_not_raised : (o line : ℕ) → unanswered_run ≡ uncaught_at o line → ⊥
+lacking_not_raised o line is = cc
 
--- ---- the stage that a cause is at
+by_how : (how : How) (s : State) (end : EndTold) → EndsAs (over how s) end → ending_in (over how s) ≡ Some (ending_told end)
+by_how (threw o line) s (Raised class at text) so = raised s.store o line so.0 at class text so.1.0 so.1.1.0 so.1.1.1
+by_how (threw o line) s Finished so = cc
+by_how (threw o line) s Spent so = cc
+by_how normal s Finished so = refl
+by_how normal s (Raised class at text) so = absurd (end_not_raised so.0 at so.1.0)
+by_how normal s Spent so = cc
+by_how broke s Finished so = refl
+by_how broke s (Raised class at text) so = absurd (end_not_raised so.0 at so.1.0)
+by_how broke s Spent so = cc
+by_how continued s Finished so = refl
+by_how continued s (Raised class at text) so = absurd (end_not_raised so.0 at so.1.0)
+by_how continued s Spent so = cc
+by_how (returned v) s Finished so = refl
+by_how (returned v) s (Raised class at text) so = absurd (end_not_raised so.0 at so.1.0)
+by_how (returned v) s Spent so = cc
 
-module _ (words : List (List ℕ)) (files : Files) where
-  at_path : (file : List ℕ) (line : ℕ) → Asks words file line → stage words files ≡ stage_of_text file line (files file)
-  at_path file line asks = ap (stage_of_command files) asks.command ∙ ap (λ (b : Bool). cond b (stage_of_text file line (files file)) no_path) asks.path
+ends_as : (e : Ended) (end : EndTold) → EndsAs e end → ending_in e ≡ Some (ending_told end)
+ends_as (over how s) end so = by_how how s end so
+ends_as (spent s) Spent so = refl
+ends_as (spent s) Finished so = cc
+ends_as (spent s) (Raised class at text) so = absurd (spent_not_raised so.0 at so.1.0)
+ends_as (lacking s) Spent so = cc
+ends_as (lacking s) Finished so = cc
+ends_as (lacking s) (Raised class at text) so = absurd (lacking_not_raised so.0 at so.1.0)
 
-  at_text : (line : ℕ) (text : List ℕ) (asked : AsksText words files line text) → stage words files ≡ reads asked.file line text
-  at_text line text asked =
-      at_path asked.file line asked.asks ∙ ap (stage_of_text asked.file line) asked.content
-      ∙ ap (λ (b : Bool). cond b (too_long asked.file) (reads asked.file line text)) (le-ltb longest_script (length text) asked.fits)
+askings_as : (answers : List Asked) → map asking_seen answers ≡ map asking_of (map kept_seen answers)
+askings_as [] = refl
+askings_as (asked ∷ answers) = ap (λ rest. asking_seen asked ∷ rest) (askings_as answers)
 
-  at_no_path : (file : List ℕ) (line : ℕ) → cut_command words ≡ Some (file, line) → is_path file ≡ false → stage words files ≡ no_path
-  at_no_path file line command bad = ap (stage_of_command files) command ∙ ap (λ (b : Bool). cond b (stage_of_text file line (files file)) no_path) bad
+files_as : (view : CaptureView) (path : List ℕ) → has_file view path ≡ is_some (found_in (map file_seen view.files) path)
+files_as view path = some_as (file_at view.files path) ∙ ap is_some (sym (found_exactly view.files path))
+  where
+    some_as : (found : Option FoundThere) → is_some found ≡ is_some (option_map found_seen found)
+    some_as None = refl
+    some_as (Some found) = refl
 
-  at_long : (file : List ℕ) (line : ℕ) (text : List ℕ) → Asks words file line → files file ≡ Some text → longest_script < length text → stage words files ≡ too_long file
-  at_long file line text asks content long =
-      at_path file line asks ∙ ap (stage_of_text file line) content ∙ ap (λ (b : Bool). cond b (too_long file) (reads file line text)) (lt-ltb longest_script (length text) long)
+is_run : (script : ScriptTree) (file : List ℕ) (arguments : List (List ℕ)) (steps : ℕ) (ended : EndedRun) (now : Telling) → IsEnded script file arguments steps (capture_of ended.capture now) ended
+    → IsRunOf script file arguments steps (capture_of ended.capture now) (plan_of_run ended)
+is_run script file arguments steps ended now is = record {
+  ending = ends_as (outcome (capture_of ended.capture now) (meaning script steps) (starting (capture_of ended.capture now) file arguments steps)) ended.end is.end_is;
+  text = is.output_is;
+  files = is.finals_are;
+  asked = is.asked_are ∙ askings_as ended.capture.answers;
+  fetched = λ path. is.fetched_are path ∙ files_as ended.capture path;
+}
 
-  to_stage : (s : Stage) (ending : Ending) (out : List ℕ) → stage words files ≡ s → StageMeans s ending out → StageMeans (stage words files) ending out
-  to_stage s ending out at means = subst (λ (x : Stage). StageMeans x ending out) (sym at) means
+-- the run of the script that FILE has
+pub ran : (file text : List ℕ) (steps : ℕ) (arguments : List (List ℕ)) (read after : Seen) (script : ScriptTree) → HasScript text script → (ended : EndedRun) → RunsBare script file arguments steps (told_by read) (told_by after) (Ok ended)
+    → RunsOver file text steps arguments read after (plan_of_run ended)
+ran file text steps arguments read after script has ended so = record {
+  capture = capture_of ended.capture (told_by after);
+  gave = so.0;
+  ends = refl;
+  comes = inl (runs script has (plan_of_run ended) (is_run script file arguments steps ended (told_by after) so.1));
+}
 
-  stage_means : (ending : Ending) (out : List ℕ) → Means words files ending out → StageMeans (stage words files) ending out
-  stage_means done out slice = to_stage _ done out (at_text slice.line slice.text slice.asked) slice.slice_of
-  stage_means usage out means = to_stage no_command usage out (ap (stage_of_command files) means.0) (refl, means.1)
-  stage_means (refused file at) out means = ⊎_elim
-      (λ long. to_stage (too_long file) (refused file at) out (at_long file long.0 long.1 long.2 long.3 long.4) (ap (refused file) long.5, means.1))
-      (λ bad. to_stage _ (refused file at) out (at_text bad.0 bad.1 bad.3) (sym bad.4, bad.2, bad.5, bad.6, means.1))
-      means.0
-  stage_means nothing_there out means = ⊎_elim
-      (λ path. to_stage no_path nothing_there out (at_no_path path.0 path.1 path.2 path.3) (refl, means.1))
-      (λ more. ⊎_elim
-      (λ absent. to_stage no_file nothing_there out (at_path absent.0 absent.1 absent.2 ∙ ap (stage_of_text absent.0 absent.1) absent.3) (refl, means.1))
-      (λ line. to_stage _ nothing_there out (at_text line.0 line.1 line.3) (line.2, line.4, line.5, means.1))
-      more)
-      means.0
-  stage_means console_failed out means = absurd means
-  stage_means (folder_failed file) out means = absurd means
-  stage_means out_of_memory out means = absurd means
+-- memory ran out in it
+pub ran_short : (file text : List ℕ) (steps : ℕ) (arguments : List (List ℕ)) (read after : Seen) (script : ScriptTree) (want : Memory) → RunsBare script file arguments steps (told_by read) (told_by after) (Err want)
+    → RunsOver file text steps arguments read after (closing out_of_memory)
+ran_short file text steps arguments read after script want so = record { capture = capture_of so.0 (told_by after); gave = so.1; ends = refl; comes = inr refl }
 
--- ---- one meaning at each stage
+-- the text has no script, or memory ran out for it
+not_run_so : (file text : List ℕ) (steps : ℕ) (arguments : List (List ℕ)) (read : Seen) (ending : Ending) → IsRefusedAs file text ending
+    → RunsText file text steps arguments (capture_of nothing_kept (told_by read)) (closing ending) ⊎ (closing ending ≡ closing out_of_memory)
+not_run_so file text steps arguments read (refused name line column) so = inl (subst (λ e. RunsText file text steps arguments (capture_of nothing_kept (told_by read)) (closing e)) (sym so.2) (no_script so.0 so.1 (record { answers = refl; files = refl })))
+not_run_so file text steps arguments read out_of_memory so = inr refl
+not_run_so file text steps arguments read done so = absurd so
+not_run_so file text steps arguments read usage so = absurd so
+not_run_so file text steps arguments read nothing_there so = absurd so
+not_run_so file text steps arguments read console_failed so = absurd so
+not_run_so file text steps arguments read out_of_steps so = absurd so
+not_run_so file text steps arguments read (folder_failed path) so = absurd so
+not_run_so file text steps arguments read (uncaught class line words) so = absurd so
 
-scripts_agree : (text : List ℕ) (a b : List Line) → Spells text a → Spells text b → a ≡ b
-scripts_agree text a b of_a of_b = same_script a b of_a.is_script of_b.is_script (sym of_a.text_is ∙ of_b.text_is)
-
-slices_agree : (text : List ℕ) (line : ℕ) (a b : List ℕ) → IsSliceOf text line a → IsSliceOf text line b → a ≡ b
-slices_agree text line a b of_a of_b =
-    let script = scripts_agree text of_a.script of_b.script of_a.spells of_b.spells in
-    let least = subst (λ (s : List Line). IsLeast s (line - 1) of_a.keep) script of_a.least in
-    of_a.slice_is ∙ cut_text_same of_a.keep of_b.keep text (least_same of_b.script (line - 1) of_a.keep of_b.keep least of_b.least) ∙ sym of_b.slice_is
-
-named_or_not : (text : List ℕ) (line : ℕ) (slice : List ℕ) (script : List Line) → IsSliceOf text line slice → Spells text script → name_at script (line - 1) ≡ None → ⊥
-named_or_not text line slice script of spells none =
-    none-some of.name (sym none ∙ ap (λ (s : List Line). name_at s (line - 1)) (scripts_agree text script of.script spells of.spells) ∙ of.binds)
-
--- two meanings are one
-abbrev AreOne : Ending → List ℕ → Ending → List ℕ → Type 0
-AreOne a x b y = (a ≡ b) × (x ≡ y)
-
-refusals_agree : (file text : List ℕ) (m n : List ℕ) (i j : ℕ) (x y : List ℕ) → (m ≡ file) × (count : ℕ) × IsRefusedAfter text count × (i ≡ count + 1) × (x ≡ []) → (n ≡ file) × (count : ℕ) × IsRefusedAfter text count × (j ≡ count + 1) × (y ≡ []) → AreOne (refused m i) x (refused n j) y
-refusals_agree file text m n i j x y of_a of_b =
-    let count : of_a.1 ≡ of_b.1 = one_refusal text of_a.1 of_b.1 of_a.2 of_b.2 in
-    let number : i ≡ j = omega (arith, count, of_a.3, of_b.3) in
-    (ap (λ (f : List ℕ). refused f i) (of_a.0 ∙ sym of_b.0) ∙ ap (refused n) number, of_a.4 ∙ sym of_b.4)
-
-text_agrees : (file : List ℕ) (line : ℕ) (text : List ℕ) (a : Ending) (x : List ℕ) (b : Ending) (y : List ℕ) → TextMeans file line text a x → TextMeans file line text b y → AreOne a x b y
-text_agrees file line text done x done y of_a of_b = (refl, slices_agree text line x y of_a of_b)
-text_agrees file line text done x (refused n j) y of_a of_b = absurd (not_refused text of_a.script of_b.1 of_a.spells of_b.2)
-text_agrees file line text done x nothing_there y of_a of_b = absurd (named_or_not text line x of_b.0 of_a of_b.1 of_b.2)
-text_agrees file line text (refused m i) x done y of_a of_b = absurd (not_refused text of_b.script of_a.1 of_b.spells of_a.2)
-text_agrees file line text (refused m i) x (refused n j) y of_a of_b = refusals_agree file text m n i j x y of_a of_b
-text_agrees file line text (refused m i) x nothing_there y of_a of_b = absurd (not_refused text of_b.0 of_a.1 of_b.1 of_a.2)
-text_agrees file line text nothing_there x done y of_a of_b = absurd (named_or_not text line y of_a.0 of_b of_a.1 of_a.2)
-text_agrees file line text nothing_there x (refused n j) y of_a of_b = absurd (not_refused text of_a.0 of_b.1 of_a.1 of_b.2)
-text_agrees file line text nothing_there x nothing_there y of_a of_b = (refl, of_a.3 ∙ sym of_b.3)
-text_agrees file line text usage x b y of_a of_b = absurd of_a
-text_agrees file line text console_failed x b y of_a of_b = absurd of_a
-text_agrees file line text (folder_failed m) x b y of_a of_b = absurd of_a
-text_agrees file line text out_of_memory x b y of_a of_b = absurd of_a
-text_agrees file line text a x usage y of_a of_b = absurd of_b
-text_agrees file line text a x console_failed y of_a of_b = absurd of_b
-text_agrees file line text a x (folder_failed n) y of_a of_b = absurd of_b
-text_agrees file line text a x out_of_memory y of_a of_b = absurd of_b
-
-stage_agrees : (s : Stage) (a : Ending) (x : List ℕ) (b : Ending) (y : List ℕ) → StageMeans s a x → StageMeans s b y → AreOne a x b y
-stage_agrees no_command a x b y of_a of_b = (of_a.0 ∙ sym of_b.0, of_a.1 ∙ sym of_b.1)
-stage_agrees no_path a x b y of_a of_b = (of_a.0 ∙ sym of_b.0, of_a.1 ∙ sym of_b.1)
-stage_agrees no_file a x b y of_a of_b = (of_a.0 ∙ sym of_b.0, of_a.1 ∙ sym of_b.1)
-stage_agrees (too_long file) a x b y of_a of_b = (of_a.0 ∙ sym of_b.0, of_a.1 ∙ sym of_b.1)
-stage_agrees (reads file line text) a x b y of_a of_b = text_agrees file line text a x b y of_a of_b
-
--- the words have one meaning over the files
-pub one_meaning : (words : List (List ℕ)) (files : Files) (a : Ending) (x : List ℕ) (b : Ending) (y : List ℕ) → Means words files a x → Means words files b y → (a ≡ b) × (x ≡ y)
-one_meaning words files a x b y of_a of_b = stage_agrees (stage words files) a x b y (stage_means words files a x of_a) (stage_means words files b y of_b)
+pub not_run : (file text : List ℕ) (steps : ℕ) (arguments : List (List ℕ)) (read : Seen) (ending : Ending) → IsRefusedAs file text ending → RunsOver file text steps arguments read read (closing ending)
+not_run file text steps arguments read ending so = record {
+  capture = capture_of nothing_kept (told_by read);
+  gave = own_fits nothing_kept (told_by read) tt;
+  ends = refl;
+  comes = not_run_so file text steps arguments read ending so;
+}

@@ -1,105 +1,132 @@
--- Why a reply comes, from what was found at the path.
-use Rattle.std.proofs.Common.{◌≡◌, ℕ, zero, suc, ◌+◌, ◌-◌, ◌<◌, ◌≤◌, nat_le, Bool, true, false, ◌&&◌, cond, codes, List, [], ◌∷◌, length, take, Option, Some, None, IsTrue, inl, inr, ⊎_elim, refl, sym, ap, ◌∙◌, subst, arith, Ok}
-use Rattle.std.proofs.lemmas.Option.{same_Some, none-some}
-use Rattle.prov_outside.specs.Folder.{Files, largest_file, IsFound, Gets}
+-- How a plan comes about: where nothing is read, where FILE has no text, and where it has one.
+use Rattle.std.proofs.Common.{◌≡◌, refl, sym, ap, subst, ◌∙◌, ℕ, ◌<◌, ◌≤◌, List, [], length, ◌⊎◌, inl, inr, Option, Some, None, Result, Ok, Err, IsTrue, arith}
+use Rattle.answer_source.proofs.Fitting.{own_fits}
+use Rattle.answer_source.specs.Live.{capture_of}
+use Rattle.command_words.specs.Command.{Command, cut, run_bare}
+use Rattle.delivery.specs.Ending.{Ending, done, uncaught, usage, refused, nothing_there, console_failed, folder_failed, out_of_memory, out_of_steps}
+use Rattle.prov_base.specs.declared.place.Pos.{Pos}
+use Rattle.prov_outside.specs.Folder.{Files, largest_file}
 use Rattle.prov_outside.specs.Tells.{Tells}
-use Rattle.prov_outside.specs.declared.folder.Found.{Found}
-use Rattle.prov_outside.specs.declared.folder.Found.TheVariants.{Bytes, Absent, TooLarge}
-use Rattle.now_top.specs.Meaning.{value_after}
-use Rattle.now_top.specs.Cut.{cut_text, cut_lines}
-use Rattle.now_top.specs.Command.{cut_command, is_line_number}
-use Rattle.now_top.specs.Line.{is_numeral, number_of}
-use Rattle.std.specs.Str.{bytes_eq}
-use Rattle.std.proofs.lemmas.Bool.{and_parts, leb-true}
-use Rattle.now_top.specs.Reply.{Asks, IsRefused, IsSliceOf, BindsTheSame, Because}
-use Rattle.now_top.specs.Prepared.{ending_of, reply_text, FromText, Prepared}
-use Rattle.now_top.specs.declared.reply.Reply.{Reply}
-use Rattle.now_top.specs.declared.reply.Reply.TheVariants.{Slice, Usage, Refused, NothingThere, FolderFailed, OutOfMemory}
-use Rattle.now_top.proofs.CutTexts.{cut_spelled, cut_stands_from}
-use Rattle.now_top.proofs.Simulation.{cut_keeps_value}
+use Rattle.run_engine.specs.Bare.{nothing_kept}
+use Rattle.script_reading.specs.Reading.{IsRefusedAt, too_large}
+use Rattle.py_parser.specs.Faults.{origin}
+use Rattle.now_top.specs.World.{World, Plan, closing, StandsAt, IsNowhere, IsUnasked}
+use Rattle.now_top.specs.CutCommand as cutting
+use Rattle.now_top.specs.RunCommand as running
+use Rattle.now_top.specs.Means.{MeansCommand, file_of}
+use Rattle.now_top.specs.Reading.{Agrees, IsReadAs, ReadsFile, IsRefusedAs}
+use Rattle.now_top.specs.Running.{RunsOver}
+use Rattle.now_top.specs.Seen.{Seen, told_by, OnlyReads}
+use Rattle.now_top.specs.Replies.{Comes, meant, unread, no_memory, Prepares}
 
--- a cause that stands whatever the files are
-pub prepared_always : (words : List (List ℕ)) (told : Option Files) (rose : Type 0) (reply : Reply) → ((files : Files) → Because words files rose ⊥ (ending_of reply) (reply_text reply)) → Prepared words told rose reply
-prepared_always words None rose reply because = record { files = λ path. None; agrees = tt; because = because (λ path. None) }
-prepared_always words (Some files) rose reply because = record { files = files; agrees = refl; because = because files }
+-- the files that a folder tells, or none
+abbrev files_of : Option Files → Files
+files_of None = λ path. None
+files_of (Some files) = files
 
--- a cause that rests on what was found: some files explain it, those of the folder where it tells them
-pub prepared_found : (words : List (List ℕ)) (old new : Option Files) (path : List ℕ) (found : Found) (rose : Type 0) (reply : Reply) → Tells old new (Gets path (Ok found)) → (some : Files) → IsFound (some path) found
-    → ((files : Files) → IsFound (files path) found → Because words files rose ⊥ (ending_of reply) (reply_text reply)) → Prepared words new rose reply
-prepared_found words old None path found rose reply tells some fits because = record { files = some; agrees = tt; because = because some fits }
-prepared_found words None (Some files) path found rose reply tells some fits because = absurd tells
-prepared_found words (Some before) (Some files) path found rose reply tells some fits because = record {
-  files = files;
-  agrees = refl;
-  because = because files (subst (λ (f : Files). IsFound (f path) found) (sym tells.1) tells.0);
+agrees_of : (told : Option Files) → Agrees told (files_of told)
+agrees_of None = tt
+agrees_of (Some files) = refl
+
+tells_same : (told : Option Files) → Tells told told (λ before after. after ≡ before)
+tells_same None = tt
+tells_same (Some files) = refl
+
+untouched : (seen : Seen) → OnlyReads seen seen
+untouched seen = record { console = refl; moments = refl; folder = tells_same seen.folder; line = refl; write = refl; file = refl; put = refl; time = refl; word = refl }
+
+-- the world of a command that runs no script
+abbrev still : Files → Seen → World
+still files seen = record { files = files; capture = capture_of nothing_kept (told_by seen) }
+
+unasked : (seen : Seen) → IsUnasked (capture_of nothing_kept (told_by seen))
+unasked seen = record { answers = refl; files = refl }
+
+unrun : (command : Option Command) (before read : Seen) (plan : Plan) (files : Files) → OnlyReads before read → Agrees read.folder files → Comes command before read (still files read) plan → Prepares command before read plan
+unrun command before read plan files reads agrees comes = record {
+  world = still files read;
+  read = read;
+  reads = reads;
+  agrees = agrees;
+  gave = own_fits nothing_kept (told_by read) tt;
+  ends = refl;
+  comes = comes;
 }
 
--- what was found, as the content
-pub found_bytes : (content : Option (List ℕ)) (bytes : List ℕ) → IsFound content (Bytes bytes) → content ≡ Some bytes
-found_bytes None bytes found = absurd found
-found_bytes (Some content) bytes found = ap Some (sym found)
+-- the words are no command
+pub no_command : (before : Seen) → Prepares None before before (closing usage)
+no_command before = unrun None before before (closing usage) (files_of before.folder) (untouched before) (agrees_of before.folder) (meant (closing usage) refl (unasked before, refl))
 
-pub found_nothing : (content : Option (List ℕ)) → IsFound content Absent → content ≡ None
-found_nothing None found = refl
-found_nothing (Some content) found = absurd found
+-- memory runs out before anything is read
+pub lacks_memory : (command : Option Command) (before : Seen) → Prepares command before before (closing out_of_memory)
+lacks_memory command before = unrun command before before (closing out_of_memory) (files_of before.folder) (untouched before) (agrees_of before.folder) (no_memory refl)
 
-pub found_large : (content : Option (List ℕ)) → IsFound content TooLarge → (text : List ℕ) × (content ≡ Some text) × (largest_file < length text)
-found_large None found = absurd found
-found_large (Some content) found = (content, refl, found)
+-- by the command that the words are
+pub for_words : (command found : Option Command) (before ran : Seen) (plan : Plan) → found ≡ command → Prepares found before ran plan → Prepares command before ran plan
+for_words command found before ran plan same prepares = subst (λ (c : Option Command). Prepares c before ran plan) same prepares
 
--- a list of any length
-pub long_list : (n : ℕ) → (xs : List ℕ) × (length xs ≡ n)
-long_list zero = ([], refl)
-long_list (suc n) = let rest = long_list n in (0 ∷ rest.0, ap suc rest.1)
+-- ---- FILE has no text that could be read
 
--- the law of the slice: its lines bind the name to the same integer
-pub binds_the_same : (text : List ℕ) (line : ℕ) (slice : List ℕ) → 1 ≤ line → IsSliceOf text line slice → BindsTheSame text line slice
-binds_the_same text line slice low of =
-    let law = cut_keeps_value of.script (line - 1) of.name of.keep of.spells.is_script of.binds of.least in
-    let number : line - 1 + 1 ≡ line = omega arith in
-    record {
-      script = of.script;
-      spells = of.spells;
-      name = of.name;
-      binds = of.binds;
-      lines = cut_lines of.keep of.script;
-      are_lines = cut_stands_from 0 of.keep of.script of.spells.is_script.lines;
-      slice_is = of.slice_is ∙ ap (cut_text of.keep) of.spells.text_is ∙ cut_spelled of.keep of.script of.spells.is_script.lines;
-      value = law.0;
-      in_script = subst (λ (n : ℕ). value_after (take n of.script) of.name ≡ Some law.0) number law.1;
-      in_slice = law.2;
-    }
+module _ (one : Command) (before read : Seen) (reads : OnlyReads before read)
+    (nowhere : (files : Files) → IsNowhere (file_of one) files → MeansCommand (Some one) (still files read) (closing nothing_there))
+    (large : (files : Files) (text : List ℕ) → StandsAt (file_of one) files text → largest_file < length text → MeansCommand (Some one) (still files read) (closing (refused (file_of one) 1 1))) where
+  ends_so : (files : Files) (ending : Ending) → IsReadAs (file_of one) files before.faults.source read.faults.source (Err ending) → Comes (Some one) before read (still files read) (closing ending)
+  ends_so files nothing_there b = meant (closing nothing_there) b.0 (nowhere files b.1)
+  ends_so files (refused name line column) b = subst (λ e. Comes (Some one) before read (still files read) (closing e)) (sym b.1.3) (meant (closing (refused (file_of one) 1 1)) b.0 (large files b.1.0 b.1.1 b.1.2))
+  ends_so files (folder_failed path) b = subst (λ p. Comes (Some one) before read (still files read) (closing (folder_failed p))) (sym b.1.1) (unread one refl b.1.0 b.0 (unasked read))
+  ends_so files out_of_memory b = no_memory b
+  ends_so files done b = absurd b
+  ends_so files usage b = absurd b
+  ends_so files console_failed b = absurd b
+  ends_so files out_of_steps b = absurd b
+  ends_so files (uncaught class line text) b = absurd b
 
--- what a text comes to, as a cause
-pub because_of_text : (words : List (List ℕ)) (files : Files) (file text : List ℕ) (line : ℕ) (rose : Type 0) → 1 ≤ line → Asks words file line → files file ≡ Some text → (reply : Reply) → FromText file text line reply → Because words files rose ⊥ (ending_of reply) (reply_text reply)
-because_of_text words files file text line rose low asks content (Slice bytes) from =
-    (record { line = line; text = text; asked = record { file = file; asks = asks; content = content; fits = from.0 }; slice_of = from.1 }, binds_the_same text line bytes.items low from.1)
-because_of_text words files file text line rose low asks content Usage from = absurd from
-because_of_text words files file text line rose low asks content (Refused name at) from = (
-  subst (λ (f : List ℕ). IsRefused words files f at) (sym from.0) (⊎_elim
-      (λ long. inl (line, text, asks, content, long.0, long.1))
-      (λ bad. inr (line, text, bad.1.0, record { file = file; asks = asks; content = content; fits = bad.0 }, refl, bad.1.1, bad.1.2))
-      from.1),
-  refl,
-)
-because_of_text words files file text line rose low asks content NothingThere from =
-    (inr (inr (line, text, from.1.0, record { file = file; asks = asks; content = content; fits = from.0 }, from.1.1, from.1.2)), refl)
-because_of_text words files file text line rose low asks content (FolderFailed name) from = absurd from
-because_of_text words files file text line rose low asks content OutOfMemory from = inr refl
+  pub without_text : (ending : Ending) → ReadsFile (file_of one) read.folder before.faults.source read.faults.source (Err ending) → Prepares (Some one) before read (closing ending)
+  without_text ending r = unrun (Some one) before read (closing ending) r.files reads r.agrees (ends_so r.files ending r.because)
 
--- a line's number in the words is from 1 on
-pub line_from_one : (words : List (List ℕ)) (file : List ℕ) (line : ℕ) → cut_command words ≡ Some (file, line) → 1 ≤ line
-line_from_one [] file line is = absurd (none-some _ is)
-line_from_one (verb ∷ []) file line is = absurd (none-some _ is)
-line_from_one (verb ∷ name ∷ []) file line is = absurd (none-some _ is)
-line_from_one (verb ∷ name ∷ digits ∷ []) file line is = cases (bytes_eq verb (codes "cut") && is_line_number digits) refl is
-  where
-    number_from_one : IsTrue (is_line_number digits) → 1 ≤ number_of digits
-    number_from_one is_number = leb-true 1 (number_of digits) (and_parts (is_numeral digits) (nat_le 1 (number_of digits)) (and_parts (is_numeral digits && nat_le 1 (number_of digits)) (nat_le (number_of digits) 4294967295) is_number).0).1
+longer : (n : ℕ) → largest_file < n → 262144 < n
+longer n far = omega (arith, far)
 
-    cases : (b : Bool) → (bytes_eq verb (codes "cut") && is_line_number digits) ≡ b → cond {A = Option (List ℕ × ℕ)} b (Some (name, number_of digits)) None ≡ Some (file, line) → 1 ≤ line
-    cases true test same =
-        let number : number_of digits ≡ line = ap (λ (p : List ℕ × ℕ). p.1) (same_Some _ _ same) in
-        subst (λ (n : ℕ). 1 ≤ n) number (number_from_one (and_parts (bytes_eq verb (codes "cut")) (is_line_number digits) test).1)
-    cases false test same = absurd (none-some _ same)
-line_from_one (verb ∷ name ∷ digits ∷ more ∷ words) file line is = absurd (none-some _ is)
+pub cut_without_text : (file : List ℕ) (line : ℕ) (before read : Seen) → OnlyReads before read → (ending : Ending) → ReadsFile file read.folder before.faults.source read.faults.source (Err ending)
+    → Prepares (Some (cut file line)) before read (closing ending)
+cut_without_text file line before read reads = without_text (cut file line) before read reads (λ files where_not. (unasked read, cutting.nowhere where_not))
+    (λ files text st far. (unasked read, cutting.stands text st (closing (refused file 1 1)) (cutting.too_long (longer (length text) far))))
+
+pub run_without_text : (file : List ℕ) (steps : ℕ) (arguments : List (List ℕ)) (before read : Seen) → OnlyReads before read → (ending : Ending) → ReadsFile file read.folder before.faults.source read.faults.source (Err ending)
+    → Prepares (Some (run_bare steps file arguments)) before read (closing ending)
+run_without_text file steps arguments before read reads = without_text (run_bare steps file arguments) before read reads (λ files where_not. running.nowhere where_not (unasked read))
+    (λ files text st far. running.stands text st (closing (refused file 1 1)) (running.no_script origin (too_large (longer (length text) far) refl) (unasked read)))
+
+-- ---- FILE has a text
+
+cut_so : (file : List ℕ) (line : ℕ) (before read : Seen) (files : Files) (text : List ℕ) (plan : Plan) → IsReadAs file files before.faults.source read.faults.source (Ok text)
+    → cutting.CutsText file text line plan ⊎ (plan ≡ closing out_of_memory) → Comes (Some (cut file line)) before read (still files read) plan
+cut_so file line before read files text plan b (inl cuts) = meant plan b.0 (unasked read, cutting.stands text b.1 plan cuts)
+cut_so file line before read files text plan b (inr lacks) = subst (Comes (Some (cut file line)) before read (still files read)) (sym lacks) (no_memory b.0)
+
+pub cut_with_text : (file : List ℕ) (line : ℕ) (before read : Seen) → OnlyReads before read → (text : List ℕ) → ReadsFile file read.folder before.faults.source read.faults.source (Ok text) → (plan : Plan)
+    → cutting.CutsText file text line plan ⊎ (plan ≡ closing out_of_memory) → Prepares (Some (cut file line)) before read plan
+cut_with_text file line before read reads text r plan so = unrun (Some (cut file line)) before read plan r.files reads r.agrees (cut_so file line before read r.files text plan r.because so)
+
+run_so : (file : List ℕ) (steps : ℕ) (arguments : List (List ℕ)) (before read : Seen) (files : Files) (text : List ℕ) (plan : Plan) (world : World) → world.files ≡ files → IsReadAs file files before.faults.source read.faults.source (Ok text)
+    → running.RunsText file text steps arguments world.capture plan ⊎ (plan ≡ closing out_of_memory) → Comes (Some (run_bare steps file arguments)) before read world plan
+run_so file steps arguments before read files text plan world same b (inl runs) = meant plan b.0 (running.stands text (subst (λ (f : Files). StandsAt file f text) (sym same) b.1) plan runs)
+run_so file steps arguments before read files text plan world same b (inr lacks) = subst (Comes (Some (run_bare steps file arguments)) before read world) (sym lacks) (no_memory b.0)
+
+pub run_with_text : (file : List ℕ) (steps : ℕ) (arguments : List (List ℕ)) (before read ran : Seen) → OnlyReads before read → (text : List ℕ) → ReadsFile file read.folder before.faults.source read.faults.source (Ok text) → (plan : Plan)
+    → RunsOver file text steps arguments read ran plan → Prepares (Some (run_bare steps file arguments)) before ran plan
+run_with_text file steps arguments before read ran reads text r plan over = record {
+  world = record { files = r.files; capture = over.capture };
+  read = read;
+  reads = reads;
+  agrees = r.agrees;
+  gave = over.gave;
+  ends = over.ends;
+  comes = run_so file steps arguments before read r.files text plan (record { files = r.files; capture = over.capture }) refl r.because over.comes;
+}
+
+-- the same of the bytes of the text as they are shown
+pub run_with_shown : (file : List ℕ) (steps : ℕ) (arguments : List (List ℕ)) (before read ran : Seen) → OnlyReads before read → (text shown : List ℕ) → shown ≡ text
+    → ReadsFile file read.folder before.faults.source read.faults.source (Ok text) → (plan : Plan) → RunsOver file shown steps arguments read ran plan → Prepares (Some (run_bare steps file arguments)) before ran plan
+run_with_shown file steps arguments before read ran reads text shown same r plan over =
+    run_with_text file steps arguments before read ran reads text r plan (subst (λ (t : List ℕ). RunsOver file t steps arguments read ran plan) same over)

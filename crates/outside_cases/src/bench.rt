@@ -1,9 +1,10 @@
 // What the commands have set up for the next call of the program, and the one place where a command is told from others.
 use crate::texts::{bytes_of, halves, number, write_rows};
 use crate::{base, devices, streams};
+use answer_source::Devices;
 use now_top::now;
 use prov_base::{Bytes, Name};
-use prov_outside::{MemoryConsole, MemoryFolder};
+use prov_outside::{MemoryConsole, MemoryFolder, MemoryMoments};
 use std::alloc::{AllocError, Global};
 
 /// The one file of the folder, and the numbers of the calls of the console and of the folder that fail. 0 is none.
@@ -106,20 +107,26 @@ impl Bench {
         Ok(MemoryConsole::of(Bytes::of(Vec::new(alloc)), failing))
     }
 
-    /// Makes a call of the program, its words with `|` between them. It writes the status, what stands on the console, and whether
-    /// the file is another one afterwards.
+    fn devices(
+        &self,
+        alloc: Global,
+    ) -> Result<Devices<MemoryConsole, MemoryFolder, MemoryMoments>, AllocError> {
+        Ok(Devices {
+            console: self.console(alloc)?,
+            folder: self.folder(alloc)?,
+            moments: MemoryMoments::of(Vec::new(alloc), Vec::new(alloc), Vec::new(alloc)),
+        })
+    }
+
+    /// Makes a call of the program, its words with `|` between them. It writes the status, what stands on the console, whether the
+    /// file is another one afterwards, and what stands at `out.txt` and at `more.txt`.
     fn call(&mut self, alloc: Global, words: &str, out: &mut Vec<u8>) -> Result<(), AllocError> {
         let list = words_of(alloc, words)?;
-        let mut console = self.console(alloc)?;
-        let mut folder = self.folder(alloc)?;
-        let status = now(alloc, &list, &mut console, &mut folder);
-        self.write_call(
-            alloc,
-            status,
-            console.written(),
-            folder.bytes(self.path.as_str()),
-            out,
-        )
+        let (status, devices) = now(alloc, &list, self.devices(alloc)?);
+        let file = devices.folder.bytes(self.path.as_str());
+        self.write_call(alloc, status, devices.console.written(), file, out)?;
+        write_file(alloc, "out.txt", &devices.folder, out)?;
+        write_file(alloc, "more.txt", &devices.folder, out)
     }
 
     fn write_call(
@@ -150,6 +157,20 @@ impl Bench {
             write_rows(alloc, out, written)
         }
     }
+}
+
+/// Writes what stands at a path, where something does.
+fn write_file(
+    alloc: Global,
+    path: &str,
+    folder: &MemoryFolder,
+    out: &mut Vec<u8>,
+) -> Result<(), AllocError> {
+    if let Some(bytes) = folder.bytes(path) {
+        out.extend_from_slice(format!(in alloc; ", {path} ")?.as_bytes())?;
+        write_rows(alloc, out, bytes)?;
+    }
+    Ok(())
 }
 
 /// The words of a call, with `|` between them.

@@ -1,0 +1,19 @@
+// What the words ask for.
+use prov_base::Name;
+
+/// A command. Its file is one of the words as it stands there, which need not be a path.
+#[derive(Drop)]
+pub enum Command<'w> {
+    /// `cut FILE LINE`: the file, and the line from 1.
+    Cut {
+        file: &'w str,
+        line: u32,
+    },
+    /// `run --bare [--steps N] FILE [ARG]..`: the file, the greatest number of steps, from 1 to 1000000, and copies of the
+    /// arguments in order.
+    RunBare {
+        file: &'w str,
+        steps: u32,
+        arguments: Vec<Name>,
+    },
+}

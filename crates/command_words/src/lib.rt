@@ -1,0 +1,21 @@
+//! The words behind the program's name, and the command that they are. Nothing here opens a file or looks at what is in one.
+//!
+//! - `cut FILE LINE`: these three words. LINE is decimal digits without a leading zero, from 1 to 4294967295.
+//! - `run --bare [--steps N] FILE [ARG]..`: the first `--` behind `run` is dropped, and every word behind it is a positional.
+//!   - Before it the options may stand anywhere behind `run`, each at most once. `--steps` has the next word before the `--` as
+//!     its value; `--steps=N` is one word. N is decimal digits, leading zeros allowed, from 1 to 1000000, and 1000000 where
+//!     it is not said.
+//!   - Any other word before it that begins with `-` and is not `-` alone makes the words no command.
+//!   - The other words are positionals, the empty word too. The first is FILE, the others are ARG in order.
+//!
+//! [`read`] gives the command exactly where the words are one ([`Command`], `command_of` in `specs/Command.antt`). That FILE is
+//! a path is not asked here.
+#![tactic(auto)]
+
+mod command;
+mod number;
+mod reading;
+mod words;
+
+pub use command::Command;
+pub use words::read;

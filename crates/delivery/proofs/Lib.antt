@@ -1,0 +1,5 @@
+pub mod Delivering
+pub mod Finishing
+pub mod Putting
+pub mod Reading
+pub mod Standing

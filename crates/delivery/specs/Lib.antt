@@ -1,0 +1,6 @@
+pub mod Delivered
+pub mod Ending
+pub mod PutsAll
+pub mod Shown
+pub mod Stages
+pub mod Stands

@@ -1,0 +1,38 @@
+-- What the top call says (this project's profile): how its devices go from one stage of a command to the next, and why the plan that is delivered is that of the words.
+use Rattle.std.specs.Prelude.{◌≡◌, ℕ, List, Option, Some, IsTrue}
+use Rattle.answer_source.specs.Live.{IsCaptureOf}
+use Rattle.command_words.specs.Command.{Command, command_of}
+use Rattle.delivery.specs.Ending.{folder_failed, out_of_memory}
+use Rattle.prov_base.specs.Path.{is_path}
+use Rattle.prov_outside.specs.Count.{one_more}
+use Rattle.run_engine.specs.Bare.{nothing_kept}
+use Rattle.now_top.specs.World.{World, Plan, closing, IsUnasked}
+use Rattle.now_top.specs.Means.{MeansCommand, file_of}
+use Rattle.now_top.specs.Reading.{Agrees}
+use Rattle.now_top.specs.Seen.{Seen, told_by, OnlyReads, Delivers}
+
+-- Why a plan is made, from what was seen before and after the reading of FILE: the command means it; or FILE, which is a path, could not be read, and the
+-- folder counted that; or memory ran out, and nothing but a closing line is planned.
+pub data Comes (command : Option Command) (before read : Seen) (world : World) : Plan → Type 0 where
+  meant : (plan : Plan) → read.faults.source ≡ before.faults.source → MeansCommand command world plan → Comes command before read world plan
+  unread : (one : Command) → command ≡ Some one → IsTrue (is_path (file_of one)) → read.faults.source ≡ one_more before.faults.source → IsUnasked world.capture
+      → Comes command before read world (closing (folder_failed (file_of one)))
+  no_memory : read.faults.source ≡ before.faults.source → Comes command before read world (closing out_of_memory)
+
+-- A plan is made: FILE is read, and then its script is run, or nothing else is done. The world has the files of the folder, where it tells
+-- them, and what the devices gave from then on, and no more.
+pub record Prepares (command : Option Command) (before ran : Seen) (plan : Plan) : Type 0 where
+  pub world : World
+  pub read : Seen
+  pub reads : OnlyReads before read
+  pub agrees : Agrees read.folder world.files
+  pub gave : IsCaptureOf nothing_kept (told_by read) world.capture
+  pub ends : world.capture.ends ≡ told_by ran
+  pub comes : Comes command before read world plan
+
+-- A plan is made for what the words ask for, and delivered.
+pub record Replies (words : List (List ℕ)) (before after : Seen) (status : ℕ) : Type 0 where
+  pub plan : Plan
+  pub ran : Seen
+  pub prepares : Prepares (command_of words) before ran plan
+  pub delivers : Delivers plan ran after status

@@ -1,0 +1,139 @@
+// What the words ask for, worked out before anything is delivered.
+ghost use Rattle.std.specs.Prelude.{◌≡◌, ◌≤◌, ◌⊎◌, Some, map};
+ghost use Rattle.std.specs.String.{string_bytes};
+ghost use Rattle.command_words.specs.Command.{cut, command_of};
+ghost use Rattle.delivery.specs.Ending.{out_of_memory};
+ghost use Rattle.now_top.specs.CutCommand.{CutsText};
+ghost use Rattle.now_top.specs.Planned.{plan_of};
+ghost use Rattle.now_top.specs.Replies.{Prepares};
+ghost use Rattle.now_top.specs.World.{closing};
+
+use crate::planned::Planned;
+use crate::run::plan_run;
+use crate::source::read_source;
+use answer_source::Devices;
+use command_words::{Command, read};
+use delivery::Ending;
+use prov_base::Memory;
+use prov_outside::{Console, Folder, Moments};
+use std::alloc::Global;
+use straight_line::{Sliced, slice_at};
+
+/// The bytes of the longest script.
+const LONGEST_SCRIPT: usize = 262144;
+
+/// What a text at FILE comes to at a line, counted from 1.
+fn plan_text<'w>(alloc: Global, file: &'w str, text: &[u8], line: u32) -> Planned<'w>
+    requires { 1 ≤ line }
+    ensures { CutsText file.now text.now line (plan_of result) ⊎ (plan_of result ≡ closing out_of_memory) }
+{
+    if text.len() > LONGEST_SCRIPT {
+        return Planned::Closes(Ending::Refused {
+            file,
+            line: 1,
+            column: 1,
+        });
+    }
+    match slice_at(alloc, text, line) {
+        Ok(Sliced::Slice(slice)) => Planned::Slice(slice),
+        Ok(Sliced::Refused(line)) => Planned::Closes(Ending::Refused {
+            file,
+            line,
+            column: 1,
+        }),
+        Ok(Sliced::NoLine) => Planned::Closes(Ending::NothingThere),
+        Err(_) => Planned::Closes(Ending::OutOfMemory),
+    }
+}
+
+/// What `cut FILE LINE` comes to over the devices, which it gives back. Nothing is changed.
+fn plan_cut<'w, C: Console + Drop, F: Folder + Drop, M: Moments + Drop>(
+    alloc: Global,
+    file: &'w str,
+    line: u32,
+    mut devices: Devices<C, F, M>,
+) -> (Planned<'w>, Devices<C, F, M>)
+    requires { 1 ≤ line }
+    ensures { Prepares (Some (cut file.now line)) (record {
+      console = C.told devices.console;
+      folder = F.told devices.folder;
+      moments = M.told devices.moments;
+      faults = record {
+        line = C.in_faults devices.console;
+        write = C.out_faults devices.console;
+        file = F.get_faults devices.folder;
+        source = F.source_faults devices.folder;
+        put = F.put_faults devices.folder;
+        time = M.time_faults devices.moments;
+        word = M.word_faults devices.moments;
+      };
+    }) (record {
+      console = C.told result.1.console;
+      folder = F.told result.1.folder;
+      moments = M.told result.1.moments;
+      faults = record {
+        line = C.in_faults result.1.console;
+        write = C.out_faults result.1.console;
+        file = F.get_faults result.1.folder;
+        source = F.source_faults result.1.folder;
+        put = F.put_faults result.1.folder;
+        time = M.time_faults result.1.moments;
+        word = M.word_faults result.1.moments;
+      };
+    }) (plan_of result.0) }
+{
+    match read_source(alloc, file, &mut devices.folder) {
+        Ok(text) => (plan_text(alloc, file, text.as_slice(), line), devices),
+        Err(ending) => (Planned::Closes(ending), devices),
+    }
+}
+
+/// What the words ask for over the devices, which it gives back. Nothing is written, and no file is put.
+pub fn plan<'w, C: Console + Drop, F: Folder + Drop, M: Moments + Drop>(
+    alloc: Global,
+    words: &'w [String],
+    devices: Devices<C, F, M>,
+) -> (Planned<'w>, Devices<C, F, M>)
+    ensures { Prepares (command_of (map string_bytes words.now)) (record {
+      console = C.told devices.console;
+      folder = F.told devices.folder;
+      moments = M.told devices.moments;
+      faults = record {
+        line = C.in_faults devices.console;
+        write = C.out_faults devices.console;
+        file = F.get_faults devices.folder;
+        source = F.source_faults devices.folder;
+        put = F.put_faults devices.folder;
+        time = M.time_faults devices.moments;
+        word = M.word_faults devices.moments;
+      };
+    }) (record {
+      console = C.told result.1.console;
+      folder = F.told result.1.folder;
+      moments = M.told result.1.moments;
+      faults = record {
+        line = C.in_faults result.1.console;
+        write = C.out_faults result.1.console;
+        file = F.get_faults result.1.folder;
+        source = F.source_faults result.1.folder;
+        put = F.put_faults result.1.folder;
+        time = M.time_faults result.1.moments;
+        word = M.word_faults result.1.moments;
+      };
+    }) (plan_of result.0) }
+{
+    match read(alloc, words) {
+        Ok(Some(Command::Cut { file, line })) => plan_cut(alloc, file, line, devices),
+        Ok(
+            Some(
+                Command::RunBare {
+                    file,
+                    steps,
+                    arguments,
+                },
+            ),
+        ) => plan_run(alloc, file, steps, &arguments, devices),
+        Ok(None) => (Planned::Closes(Ending::Usage), devices),
+        Err(Memory) => (Planned::Closes(Ending::OutOfMemory), devices),
+    }
+}

@@ -1,0 +1,127 @@
+// `run --bare`: a script that is read and run.
+ghost use Rattle.std.specs.Prelude.{◌≡◌, Some, IfOk, IfErr};
+ghost use Rattle.command_words.specs.Command.{run_bare as run_bare_command};
+ghost use Rattle.delivery.specs.Ending.{ending_of};
+ghost use Rattle.now_top.specs.Planned.{plan_of};
+ghost use Rattle.now_top.specs.Reading.{IsRefusedAs};
+ghost use Rattle.now_top.specs.Replies.{Prepares};
+ghost use Rattle.now_top.specs.Running.{RunsOver};
+ghost use Rattle.py_tree.specs.Erasure.{script_of};
+ghost use Rattle.script_reading.specs.Reading.{HasScript};
+
+use crate::planned::Planned;
+use crate::source::read_source;
+use answer_source::Devices;
+use delivery::Ending;
+use prov_base::{Memory, Name};
+use prov_outside::{Console, Folder, Moments};
+use py_tree::Script;
+use run_engine::run_bare;
+use script_reading::{Refusal, read_script};
+use std::alloc::Global;
+
+/// The script of a text at FILE, or how the command ends where it has none.
+fn script_at<'w>(alloc: Global, file: &'w str, text: &[u8]) -> Result<Script, Ending<'w>>
+    ensures script { IfOk result (λ script. HasScript text.now (script_of script)) }
+    ensures refused { IfErr result (λ ending. IsRefusedAs file.now text.now (ending_of ending)) }
+{
+    match read_script(alloc, text) {
+        Ok(script) => Ok(script),
+        Err(Refusal::At(at)) => Err(Ending::Refused {
+            file,
+            line: at.line,
+            column: at.col,
+        }),
+        Err(Refusal::Memory) => Err(Ending::OutOfMemory),
+    }
+}
+
+/// What a text at FILE comes to: its script is run over the devices, which are given back.
+fn run_text<'w, C: Console + Drop, F: Folder + Drop, M: Moments + Drop>(
+    alloc: Global,
+    file: &'w str,
+    text: &[u8],
+    steps: u32,
+    arguments: &[Name],
+    devices: Devices<C, F, M>,
+) -> (Planned<'w>, Devices<C, F, M>)
+    ensures { RunsOver file.now text.now steps arguments.now (record {
+      console = C.told devices.console;
+      folder = F.told devices.folder;
+      moments = M.told devices.moments;
+      faults = record {
+        line = C.in_faults devices.console;
+        write = C.out_faults devices.console;
+        file = F.get_faults devices.folder;
+        source = F.source_faults devices.folder;
+        put = F.put_faults devices.folder;
+        time = M.time_faults devices.moments;
+        word = M.word_faults devices.moments;
+      };
+    }) (record {
+      console = C.told result.1.console;
+      folder = F.told result.1.folder;
+      moments = M.told result.1.moments;
+      faults = record {
+        line = C.in_faults result.1.console;
+        write = C.out_faults result.1.console;
+        file = F.get_faults result.1.folder;
+        source = F.source_faults result.1.folder;
+        put = F.put_faults result.1.folder;
+        time = M.time_faults result.1.moments;
+        word = M.word_faults result.1.moments;
+      };
+    }) (plan_of result.0) }
+{
+    let script = match script_at(alloc, file, text) {
+        Ok(script) => script,
+        Err(ending) => return (Planned::Closes(ending), devices),
+    };
+    let (ran, devices) = run_bare(alloc, &script, file, arguments, steps, devices);
+    match ran {
+        Ok(over) => (Planned::Ran(over), devices),
+        Err(Memory) => (Planned::Closes(Ending::OutOfMemory), devices),
+    }
+}
+
+/// What `run --bare` comes to over the devices, which it gives back. Nothing is written, and no file is put.
+pub fn plan_run<'w, C: Console + Drop, F: Folder + Drop, M: Moments + Drop>(
+    alloc: Global,
+    file: &'w str,
+    steps: u32,
+    arguments: &[Name],
+    mut devices: Devices<C, F, M>,
+) -> (Planned<'w>, Devices<C, F, M>)
+    ensures { Prepares (Some (run_bare_command steps file.now arguments.now)) (record {
+      console = C.told devices.console;
+      folder = F.told devices.folder;
+      moments = M.told devices.moments;
+      faults = record {
+        line = C.in_faults devices.console;
+        write = C.out_faults devices.console;
+        file = F.get_faults devices.folder;
+        source = F.source_faults devices.folder;
+        put = F.put_faults devices.folder;
+        time = M.time_faults devices.moments;
+        word = M.word_faults devices.moments;
+      };
+    }) (record {
+      console = C.told result.1.console;
+      folder = F.told result.1.folder;
+      moments = M.told result.1.moments;
+      faults = record {
+        line = C.in_faults result.1.console;
+        write = C.out_faults result.1.console;
+        file = F.get_faults result.1.folder;
+        source = F.source_faults result.1.folder;
+        put = F.put_faults result.1.folder;
+        time = M.time_faults result.1.moments;
+        word = M.word_faults result.1.moments;
+      };
+    }) (plan_of result.0) }
+{
+    match read_source(alloc, file, &mut devices.folder) {
+        Ok(text) => run_text(alloc, file, text.as_slice(), steps, arguments, devices),
+        Err(ending) => (Planned::Closes(ending), devices),
+    }
+}

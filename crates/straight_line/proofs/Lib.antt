@@ -1,0 +1,16 @@
+pub mod CutTexts
+pub mod LeastSets
+pub mod LineTexts
+pub mod LinkLemmas
+pub mod NoLine
+pub mod Numbers
+pub mod OneSlice
+pub mod Operands
+pub mod PieceLemmas
+pub mod Readings
+pub mod Scripts
+pub mod Simulation
+pub mod SliceValues
+pub mod Slices
+pub mod Tracks
+pub mod Worked

@@ -1,0 +1,12 @@
+pub mod Bindings
+pub mod Cut
+pub mod Least
+pub mod Line
+pub mod Links
+pub mod LinksOf
+pub mod Meaning
+pub mod Parsed
+pub mod Script
+pub mod Slice
+pub mod Sliced
+pub mod Table
