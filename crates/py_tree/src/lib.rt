@@ -19,5 +19,7 @@ pub use expr::{Atom, BinOp, CmpOp, Expr, Exprs, LogicOp, Pairs, Target, Targets,
 pub use laws::{
     deletion_is_well_formed, deletion_keeps_places, deletion_of_nothing, deletion_twice,
 };
-pub use stmt::{Bound, Branches, Form, Globals, Handlers, Params, Script, Stmt, Suite};
+pub use stmt::{
+    Bound, Branches, Form, Globals, Handlers, Params, Script, Stmt, Suite, drop_script,
+};
 pub use stmt_set::StmtSet;

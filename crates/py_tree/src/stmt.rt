@@ -103,3 +103,6 @@ pub struct Script {
     pub body: Suite,
     pub count: u32,
 }
+
+/// Drops a script. Crates above call this, so the drop of the whole tree is proved here alone.
+pub fn drop_script(_script: Script) {}
