@@ -3,3 +3,4 @@ pub mod Finishing
 pub mod Putting
 pub mod Reading
 pub mod Standing
+pub mod Ways

@@ -16,14 +16,14 @@ use Rattle.delivery.specs.Delivered.{Delivered, ending_to_close}
 use Rattle.delivery.specs.Stands.{HasAll, all_well, IsWell, WentWell, DidAsPlanned}
 use Rattle.delivery.proofs.Standing.{has_all}
 
-tells_more : {T : Type 0} (old new : Option T) (P Q : T → T → Type 0) → ((a b : T) → P a b → Q a b) → Tells old new P → Tells old new Q
+pub tells_more : {T : Type 0} (old new : Option T) (P Q : T → T → Type 0) → ((a b : T) → P a b → Q a b) → Tells old new P → Tells old new Q
 tells_more old None P Q more tells = tt
 tells_more None (Some b) P Q more tells = absurd tells
 tells_more (Some a) (Some b) P Q more tells = more a b tells
 
 -- ---- counts
 
-rises : (n : ℕ) → Rose n (one_more n)
+pub rises : (n : ℕ) → Rose n (one_more n)
 rises n = ⊎_elim (λ below. inl (omega (arith, below))) (λ past. inr (omega (arith, past))) (cases_lt n 18446744073709551615)
 
 rises_more : (a b : ℕ) → Rose a b → Rose a (one_more b)
@@ -32,7 +32,7 @@ rises_more a b rose = ⊎_elim
     (λ at_end. inr (omega (arith, at_end)))
     rose
 
-stays_risen : (outcome : Outcome) (a b : ℕ) → Rose a b → Rose a (faults_after outcome b)
+pub stays_risen : (outcome : Outcome) (a b : ℕ) → Rose a b → Rose a (faults_after outcome b)
 stays_risen (Ok all) a b rose = rose
 stays_risen (Err Failed) a b rose = rises_more a b rose
 stays_risen (Err Memory) a b rose = rose
@@ -41,7 +41,7 @@ all_risen : (puts : List Outcome) (a b : ℕ) → Rose a b → Rose a (faults_of
 all_risen [] a b rose = rose
 all_risen (put ∷ puts) a b rose = all_risen puts a (faults_after put b) (stays_risen put a b rose)
 
-failed_rose : (files : List OutFile) (puts : List Outcome) (path : List ℕ) → first_failed files puts ≡ Some path → (n : ℕ) → Rose n (faults_of puts n)
+pub failed_rose : (files : List OutFile) (puts : List Outcome) (path : List ℕ) → first_failed files puts ≡ Some path → (n : ℕ) → Rose n (faults_of puts n)
 failed_rose [] puts path is n = absurd (cc)
 failed_rose (file ∷ files) [] path is n = absurd (cc)
 failed_rose (file ∷ files) (Ok all ∷ puts) path is n = failed_rose files puts path is n
@@ -56,7 +56,7 @@ failed_behind (Err Memory) n = rises n
 -- ---- puts
 
 -- how a command can end by its puts
-abbrev Ways : Ending → List OutFile → List Outcome → Ending → Type 0
+abbrev pub Ways : Ending → List OutFile → List Outcome → Ending → Type 0
 Ways planned files puts ending = ((all_well puts ≡ true) × (ending ≡ planned)) ⊎ ((ending ≡ out_of_memory) ⊎ ((path : List ℕ) × (ending ≡ folder_failed path) × (first_failed files puts ≡ Some path)))
 
 well_lacks : (puts : List Outcome) → all_well puts ≡ true → lacks_memory puts ≡ false
@@ -94,7 +94,7 @@ ways_by planned files puts false even is = ⊎_elim
     (λ failed. inr (inr (failed.0, rw is (rw failed.1 refl), failed.1)))
     (well_or_failed files puts even is)
 
-ways : (planned : Ending) (files : List OutFile) (puts : List Outcome) → length puts ≡ length files → Ways planned files puts (ending_after_puts planned files puts)
+pub ways : (planned : Ending) (files : List OutFile) (puts : List Outcome) → length puts ≡ length files → Ways planned files puts (ending_after_puts planned files puts)
 ways planned files puts even = ways_by planned files puts (lacks_memory puts) even refl
 
 -- ---- the endings by their statuses
@@ -135,7 +135,7 @@ six_is out_of_steps is = absurd (omega (arith, is))
 -- ---- behind the text
 
 -- a fault at the text leaves one of these
-fault_leaves : (ending : Ending) → let left : Ending = if outlasts_console ending then ending else console_failed in (left ≡ console_failed) ⊎ ((left ≡ out_of_memory) ⊎ ((path : List ℕ) × (left ≡ folder_failed path) × (ending ≡ folder_failed path)))
+pub fault_leaves : (ending : Ending) → let left : Ending = if outlasts_console ending then ending else console_failed in (left ≡ console_failed) ⊎ ((left ≡ out_of_memory) ⊎ ((path : List ℕ) × (left ≡ folder_failed path) × (ending ≡ folder_failed path)))
 fault_leaves done = inl refl
 fault_leaves (uncaught class line text) = inl refl
 fault_leaves usage = inl refl
@@ -195,7 +195,7 @@ line_folder (line_tried (Err Failed)) ending path is = is
 line_folder (line_tried (Err Memory)) ending path is = absurd (cc)
 line_folder (line_unmade outcome) ending path is = absurd (cc)
 
-line_memory : (closing : Closing) → after_line closing out_of_memory ≡ out_of_memory
+pub line_memory : (closing : Closing) → after_line closing out_of_memory ≡ out_of_memory
 line_memory no_line = refl
 line_memory (line_tried (Ok all)) = refl
 line_memory (line_tried (Err Failed)) = refl
@@ -222,7 +222,7 @@ text_well : (outcome : Outcome) (ending : Ending) → IsOk outcome → after_tex
 text_well (Ok all) ending good = refl
 text_well (Err trouble) ending good = absurd (false≢true good)
 
-no_bytes : (ending : Ending) → has_line ending ≡ false → closing_line ending ≡ []
+pub no_bytes : (ending : Ending) → has_line ending ≡ false → closing_line ending ≡ []
 no_bytes done is = refl
 no_bytes console_failed is = refl
 no_bytes (uncaught class line text) is = absurd (false≢true (sym is))
@@ -252,12 +252,12 @@ shown_well text ending o (line_unmade p) before after first second closes got = 
 
 -- ---- what went well, by the counts and the status
 
-text_ok : (outcome : Outcome) (ending : Ending) (n : ℕ) → (Rose n (faults_after outcome n) → ⊥) → (after_text outcome ending ≡ out_of_memory → ⊥) → IsOk outcome
+pub text_ok : (outcome : Outcome) (ending : Ending) (n : ℕ) → (Rose n (faults_after outcome n) → ⊥) → (after_text outcome ending ≡ out_of_memory → ⊥) → IsOk outcome
 text_ok (Ok all) ending n quiet room = refl
 text_ok (Err Failed) ending n quiet room = absurd (quiet (rises n))
 text_ok (Err Memory) ending n quiet room = absurd (room refl)
 
-line_ok : (closing : Closing) (ending : Ending) (outcome : Outcome) (n : ℕ) → (Rose n (faults_after (outcome_of closing) (faults_after outcome n)) → ⊥)
+pub line_ok : (closing : Closing) (ending : Ending) (outcome : Outcome) (n : ℕ) → (Rose n (faults_after (outcome_of closing) (faults_after outcome n)) → ⊥)
     → (after_line closing ending ≡ out_of_memory → ⊥) → IsWell closing
 line_ok no_line ending outcome n quiet room = tt
 line_ok (line_tried (Ok all)) ending outcome n quiet room = refl
@@ -288,7 +288,7 @@ text_stays (Err Memory) ending five six eight = absurd (eight refl)
 abbrev GetsFront : List ℕ → List ℕ → ConsoleView → ConsoleView → Type 0
 GetsFront text line before after = (after.lines ≡ before.lines) × ((n : ℕ) × (after.written ≡ before.written ++ text ++ take n line))
 
-front_of : (line : List ℕ) (outcome : Outcome) (shown : List ℕ) → Leaves line outcome shown → (n : ℕ) × (shown ≡ take n line)
+unfoldable pub front_of : (line : List ℕ) (outcome : Outcome) (shown : List ℕ) → Leaves line outcome shown → (n : ℕ) × (shown ≡ take n line)
 front_of line (Ok all) shown is = (length line, is ∙ sym (take_all (length line) line (omega arith)))
 front_of line (Err trouble) shown is = is
 

@@ -1,5 +1,6 @@
 pub mod Delivered
 pub mod Ending
+pub mod Ends
 pub mod PutsAll
 pub mod Shown
 pub mod Stages

@@ -10,7 +10,8 @@
 //!   closing line, no further line is tried.
 //! - With a status other than 5, 6 and 8 all stands but perhaps the closing line (`as_planned`). With status 0, or where no count rose
 //!   and the status is not 8, all stands (`all_done`, `went_well`). The laws [`puts_stand`] and [`nothing_failed`] say what the outcomes
-//!   come to.
+//!   come to, [`ends_in_one_way`] which statuses there are, and [`prefixes_are_written`] what is on the console in any case. [`done_is_whole`], [`no_count_rose`] and
+//!   [`no_fault_answered`] say the clauses of `deliver` as laws.
 //!
 //! Any call may be answered as want of memory, so no clause rules out a body that ends with status 8 wherever something is to be put or
 //! written. Which of the two devices is called first is not said either: neither tells of the other.
@@ -24,5 +25,8 @@ mod puts;
 mod whole;
 
 pub use ending::Ending;
-pub use laws::{nothing_failed, puts_stand};
+pub use laws::{
+    done_is_whole, ends_in_one_way, no_count_rose, no_fault_answered, nothing_failed,
+    prefixes_are_written, puts_stand,
+};
 pub use whole::deliver;

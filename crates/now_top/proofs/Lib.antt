@@ -1,3 +1,4 @@
+pub mod Completing
 pub mod Sources
 pub mod Preparing
 pub mod Meanings

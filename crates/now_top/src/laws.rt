@@ -1,9 +1,16 @@
 // The laws of the top call: public functions without a body, whose contracts are the laws.
-ghost use Rattle.std.specs.Prelude.{◌≡◌, ℕ, List, Option};
-ghost use Rattle.command_words.specs.Command.{Command};
+ghost use Rattle.std.specs.Prelude.{◌≡◌, ℕ, List, Option, Some};
+ghost use Rattle.command_words.specs.Command.{Command, cut, command_of};
+ghost use Rattle.prov_outside.specs.Count.{Rose};
+ghost use Rattle.now_top.specs.Completes.{Completes, DoesWhole, DoesAsMeant, WritesPrefixes, WritesSlice};
 ghost use Rattle.now_top.specs.Means.{MeansCommand};
+ghost use Rattle.now_top.specs.Replies.{Replies};
+ghost use Rattle.now_top.specs.Seen.{Seen};
 ghost use Rattle.now_top.specs.World.{World, Plan};
 
+use delivery::{
+    done_is_whole, ends_in_one_way, no_count_rose, no_fault_answered, prefixes_are_written,
+};
 use script_reading::one_reading;
 use straight_line::one_slice;
 
@@ -14,4 +21,51 @@ pub fn one_meaning()
 {
     one_slice();
     one_reading();
+}
+
+/// Completeness: where the words mean a plan, the status is that of its ending; or it is 5 and the console's count rose, or 6 and a count of the folder rose, or 8.
+/// The world is that of the call: the folder's files, and what the devices gave.
+pub fn completes()
+    ensures { (words : List (List ℕ)) (before after : Seen) (status : ℕ) (so : Replies words before after status) (plan : Plan)
+        → MeansCommand (command_of words) so.prepares.world plan → Completes plan.ending before.faults after.faults status }
+{
+    one_meaning();
+    ends_in_one_way();
+}
+
+/// The law of a call in which no device failed at the script's text, at a put or at a write, and for which memory sufficed: the words mean a plan, and all of it
+/// stands.
+pub fn does_whole()
+    ensures { (words : List (List ℕ)) (before after : Seen) (status : ℕ) (so : Replies words before after status)
+        → (Rose before.faults.source after.faults.source → ⊥) → (Rose before.faults.put after.faults.put → ⊥) → (Rose before.faults.write after.faults.write → ⊥) → (status ≡ 8 → ⊥)
+        → DoesWhole (command_of words) so.prepares.world so.plan before after status }
+{
+    no_count_rose();
+}
+
+/// The law of the statuses that tell of no fault of a device and of no want of memory: the words mean a plan, and all of it stands but perhaps the end of its
+/// closing line.
+pub fn does_as_meant()
+    ensures { (words : List (List ℕ)) (before after : Seen) (status : ℕ) (so : Replies words before after status)
+        → (status ≡ 5 → ⊥) → (status ≡ 6 → ⊥) → (status ≡ 8 → ⊥) → DoesAsMeant (command_of words) so.prepares.world so.plan before after status }
+{
+    no_fault_answered();
+}
+
+/// The law of the console, whatever became of the call: it got a prefix of the planned text and then a prefix of a closing line, that of the status that is
+/// answered, or with status 8 of another. Both are whole where the console's count did not rise and the status is not 8.
+pub fn writes_prefixes()
+    ensures { (words : List (List ℕ)) (before after : Seen) (status : ℕ) (so : Replies words before after status) → WritesPrefixes so.plan.text status before after }
+{
+    prefixes_are_written();
+}
+
+/// The law of slices: `cut FILE LINE` with status 0 has written the script at FILE cut to the least closed set of lines that has LINE, and nothing else. The
+/// slice binds the line's name to the same integer.
+pub fn writes_slice()
+    ensures { (words : List (List ℕ)) (before after : Seen) (status : ℕ) (so : Replies words before after status) (file : List ℕ) (line : ℕ)
+        → command_of words ≡ Some (cut file line) → status ≡ 0 → WritesSlice file line so.prepares.world before after }
+{
+    no_fault_answered();
+    done_is_whole();
 }

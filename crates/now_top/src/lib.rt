@@ -7,8 +7,9 @@
 //! - FILE is read only where it is a path. `run --bare` then runs its script over the devices, which are asked what the run asks and no more.
 //! - The plan is delivered by `delivery`: files in order, text, closing line, status.
 //!
-//! The law: a command has at most one meaning over a world ([`one_meaning`]). No law says yet that the status follows from the meaning where no count of
-//! faults rose and memory sufficed; `deliver` says that of a plan.
+//! The laws: a command has at most one meaning over a world ([`one_meaning`]). Where the words mean a plan, the status is that of its ending, or a fault that was
+//! counted, or want of memory ([`completes`]). Without such a fault all of the plan stands ([`does_whole`], [`does_as_meant`]). The console has a prefix of the text
+//! and of a closing line in any case ([`writes_prefixes`]). [`writes_slice`] says what `cut` has written with status 0.
 #![tactic(auto)]
 
 mod deliver;
@@ -19,5 +20,5 @@ mod run;
 mod source;
 mod top;
 
-pub use laws::one_meaning;
+pub use laws::{completes, does_as_meant, does_whole, one_meaning, writes_prefixes, writes_slice};
 pub use top::now;

@@ -15,7 +15,7 @@ use answer_source::Devices;
 use delivery::Ending;
 use prov_base::{Memory, Name};
 use prov_outside::{Console, Folder, Moments};
-use py_tree::Script;
+use py_tree::{Script, drop_script};
 use run_engine::run_bare;
 use script_reading::{Refusal, read_script};
 use std::alloc::Global;
@@ -78,6 +78,7 @@ fn run_text<'w, C: Console + Drop, F: Folder + Drop, M: Moments + Drop>(
         Err(ending) => return (Planned::Closes(ending), devices),
     };
     let (ran, devices) = run_bare(alloc, &script, file, arguments, steps, devices);
+    drop_script(script);
     match ran {
         Ok(over) => (Planned::Ran(over), devices),
         Err(Memory) => (Planned::Closes(Ending::OutOfMemory), devices),

@@ -4,6 +4,7 @@ use crate::words::{add_bytes, bytes_of, halves};
 use answer_source::Devices;
 use prov_base::{Bytes, Memory, Name};
 use prov_outside::{MemoryConsole, MemoryFolder, MemoryMoments};
+use py_tree::drop_script;
 use run_engine::run_bare;
 use script_reading::{Refusal, read_script};
 use std::alloc::{AllocError, Global};
@@ -160,9 +161,16 @@ impl Case {
             }
             Err(Refusal::Memory) => return write_line("out of memory in reading", out),
         };
-        let devices = self.devices(alloc)?;
+        let devices = match self.devices(alloc) {
+            Ok(devices) => devices,
+            Err(lack) => {
+                drop_script(script);
+                return Err(lack);
+            }
+        };
         let (path, steps) = (self.path.as_str(), self.steps);
         let (ran, _) = run_bare(alloc, &script, path, &self.arguments, steps, devices);
+        drop_script(script);
         match ran {
             Ok(over) if whole => write_ended(alloc, &over, out),
             Ok(over) => write_shown(alloc, &over, out),

@@ -1,0 +1,48 @@
+-- How a call of the program ends, and what stands then, by what its words mean (this project's profile).
+use Rattle.std.specs.Prelude.{◌≡◌, ℕ, List, ◌++◌, take, ◌⊎◌, Option, Some}
+use Rattle.answer_source.specs.Live.{Faults}
+use Rattle.command_words.specs.Command.{Command}
+use Rattle.delivery.specs.Ending.{Ending, status_of, closing_line}
+use Rattle.delivery.specs.Ends.{GetsPrefixes}
+use Rattle.delivery.specs.Stands.{HasAll}
+use Rattle.prov_outside.specs.Console.{ConsoleView}
+use Rattle.prov_outside.specs.Count.{Rose}
+use Rattle.prov_outside.specs.Tells.{Tells}
+use Rattle.straight_line.specs.Slice.{IsSliceOf, BindsTheSame}
+use Rattle.now_top.specs.Means.{MeansCommand}
+use Rattle.now_top.specs.Seen.{Seen}
+use Rattle.now_top.specs.World.{World, Plan, StandsAt}
+
+-- The status is that of the ending; or a device failed, whose count rose; or memory ran out.
+pub data Completes (ending : Ending) (before after : Faults) (status : ℕ) : Type 0 where
+  as_meant : status ≡ status_of ending → Completes ending before after status
+  by_console : status ≡ 5 → Rose before.write after.write → Completes ending before after status
+  by_folder : status ≡ 6 → Rose before.source after.source ⊎ Rose before.put after.put → Completes ending before after status
+  no_memory : status ≡ 8 → Completes ending before after status
+
+-- The words mean the plan, and all of it stands: its files in the folder, its text and its closing line on the console, its status.
+pub record DoesWhole (command : Option Command) (world : World) (plan : Plan) (before after : Seen) (status : ℕ) : Type 0 where
+  pub means : MeansCommand command world plan
+  pub folder : Tells before.folder after.folder (HasAll plan.files)
+  pub console : Tells before.console after.console (λ (was is : ConsoleView). is.written ≡ was.written ++ plan.text ++ closing_line plan.ending)
+  pub status_is : status ≡ status_of plan.ending
+
+-- The words mean the plan, and all of it stands but perhaps the end of its closing line.
+pub record DoesAsMeant (command : Option Command) (world : World) (plan : Plan) (before after : Seen) (status : ℕ) : Type 0 where
+  pub means : MeansCommand command world plan
+  pub folder : Tells before.folder after.folder (HasAll plan.files)
+  pub console : Tells before.console after.console (λ (was is : ConsoleView). (n : ℕ) × (is.written ≡ was.written ++ plan.text ++ take n (closing_line plan.ending)))
+  pub status_is : status ≡ status_of plan.ending
+
+-- What the console got of a text and a closing line, and whether that is all of them.
+abbrev pub WritesPrefixes : List ℕ → ℕ → Seen → Seen → Type 0
+WritesPrefixes text status before after = Tells before.console after.console (λ (was is : ConsoleView). GetsPrefixes text before.faults.write after.faults.write status was.written is.written)
+
+-- The console got the script at FILE cut to the least closed set of lines that has the line, and nothing else; it binds the line's name to the same integer.
+pub record WritesSlice (file : List ℕ) (line : ℕ) (world : World) (before after : Seen) : Type 0 where
+  pub text : List ℕ
+  pub slice : List ℕ
+  pub stands : StandsAt file world.files text
+  pub is_slice : IsSliceOf text line slice
+  pub same : BindsTheSame text line slice
+  pub console : Tells before.console after.console (λ (was is : ConsoleView). is.written ≡ was.written ++ slice)
