@@ -51,6 +51,13 @@ risen n = ⊎_elim (λ below. inl (omega (arith, below))) (λ past. inr (omega (
 rose_from : (a b c d : ℕ) → b ≡ a → d ≡ c → Rose b d → Rose a c
 rose_from a b c d first second rose = subst (λ (n : ℕ). Rose n c) first (subst (λ (n : ℕ). Rose b n) second rose)
 
+-- where nothing closes it, the text alone was written
+only_text : (x y z text : List ℕ) (ending : Ending) → ending ≡ done → y ≡ x → z ≡ y ++ text ++ closing_line ending → z ≡ x ++ text
+only_text x y z text ending is same all =
+    let plain : z ≡ y ++ text ++ [] = subst (λ (e : Ending). z ≡ y ++ text ++ closing_line e) is all in
+    let short : y ++ text ++ [] ≡ y ++ text = append-nil (y ++ text) in
+    plain ∙ short ∙ ap (λ (xs : List ℕ). xs ++ text) same
+
 -- ---- a plan and why it came about
 
 module _ (words : List (List ℕ)) (before after : Seen) (status : ℕ) (so : Replies words before after status) where
@@ -164,7 +171,7 @@ module _ (words : List (List ℕ)) (before after : Seen) (status : ℕ) (so : Re
     console = tells_through before.console so.ran.console after.console (λ (was is : ConsoleView). is.written ≡ was.written)
         (λ (was is : ConsoleView). (is.lines ≡ was.lines) × ((n : ℕ) × (is.written ≡ was.written ++ so.plan.text ++ take n (closing_line so.plan.ending))))
         (λ (was is : ConsoleView). (n : ℕ) × (is.written ≡ was.written ++ so.plan.text ++ take n (closing_line so.plan.ending)))
-        (λ x y z same got. (got.1, got.2 ∙ ap (λ (xs : List ℕ). xs ++ so.plan.text ++ take got.1 (closing_line so.plan.ending)) same)) written_same did.console;
+        (λ x y z same got. (got.1.0, got.1.1 ∙ ap (λ (xs : List ℕ). xs ++ so.plan.text ++ take got.1.0 (closing_line so.plan.ending)) same)) written_same did.console;
     status_is = did.status_is;
   }
 
@@ -190,13 +197,13 @@ module _ (words : List (List ℕ)) (before after : Seen) (status : ℕ) (so : Re
   slice_text file text line plan (cutting.too_long far) is = absurd (cc)
   slice_text file text line plan (cutting.bad_line short at bad) is = absurd (cc)
   slice_text file text line plan (cutting.no_line short none) is = absurd (cc)
-  slice_text file text line plan (cutting.cuts short slice cut same) is = (cut, same)
+  slice_text file text line plan (cutting.cuts short slice is_cut same) is = (is_cut, same)
 
   slice_at : (file : List ℕ) (line : ℕ) (plan : Plan) → cutting.MeansCut file line world.files plan → plan.ending ≡ done
       → (text : List ℕ) × StandsAt file world.files text × IsSliceOf text line plan.text × BindsTheSame text line plan.text
   slice_at file line plan (cutting.nowhere gone) is = absurd (cc)
-  slice_at file line plan (cutting.stands text st made cut) is =
-      let both : IsSliceOf text line made.text × BindsTheSame text line made.text = slice_text file text line made cut is in (text, st, both.0, both.1)
+  slice_at file line plan (cutting.stands text st made cuts_so) is =
+      let both : IsSliceOf text line made.text × BindsTheSame text line made.text = slice_text file text line made cuts_so is in (text, st, both.0, both.1)
 
   pub slices_so : (file : List ℕ) (line : ℕ) → command ≡ Some (cut file line) → so.plan.ending ≡ done → DoesAsMeant command world so.plan before after status
       → Tells so.ran.console after.console (λ (was is : ConsoleView). (is.lines ≡ was.lines) × (is.written ≡ was.written ++ so.plan.text ++ closing_line so.plan.ending))
@@ -213,5 +220,5 @@ module _ (words : List (List ℕ)) (before after : Seen) (status : ℕ) (so : Re
         console = tells_through before.console so.ran.console after.console (λ (was now : ConsoleView). now.written ≡ was.written)
             (λ (was now : ConsoleView). (now.lines ≡ was.lines) × (now.written ≡ was.written ++ so.plan.text ++ closing_line so.plan.ending))
             (λ (was now : ConsoleView). now.written ≡ was.written ++ so.plan.text)
-            (λ x y z same all. all.1 ∙ ap (λ (e : Ending). y.written ++ so.plan.text ++ closing_line e) is ∙ ap (λ (xs : List ℕ). y.written ++ xs) (append-nil so.plan.text) ∙ ap (λ (xs : List ℕ). xs ++ so.plan.text) same) written_same got;
+            (λ x y z same all. only_text x.written y.written z.written so.plan.text so.plan.ending is same all.1) written_same got;
       }
