@@ -122,8 +122,8 @@ module_jumps (ends number normal_end ∷ before) = module_jumps before
 module_jumps (ends number ended ∷ before) = elim (without_top (frames_after before)) [ [] ↦ number ∷ module_jumps before | frame ∷ frames ↦ module_jumps before ]
 module_jumps (moment ∷ before) = module_jumps before
 
--- the locations that are reachable from a value: the lengths and items of lists, the orders and entries of dictionaries and instances,
--- the offset and closing of files, and so on through items and tuples
+-- The locations that are reachable from a value: the lengths and items of lists, the orders and entries of dictionaries and instances, the
+-- offset and closing of files, and so on through items, keys, entries and tuples. So a location where nothing stands is among them too.
 abbrev pub has_object : ℕ → List ℕ → Bool
 has_object o seen = list_any (λ p. p == o) seen
 
@@ -146,14 +146,22 @@ module _ (store : RunStore) where
       from_parts no_parts r = r
       from_parts (part first rest) r = from_parts rest (from_value first r)
 
+    -- what may be absent: nothing stands at a place, or no entry
+    abbrev pub from_item : Option Contents → Reachable → Reachable
+    from_item None r = r
+    from_item (Some v) r = from_value v r
+
+    abbrev pub from_entry : Option (Contents × Contents) → Reachable → Reachable
+    from_entry None r = r
+    from_entry (Some entry) r = from_value entry.1 r
+
     abbrev pub from_items : ℕ → ℕ → ℕ → Reachable → Reachable
     from_items zero o i r = r
-    from_items (suc n) o i r = elim (item_of store o i) [ None ↦ r | Some v ↦ from_items n o (suc i) (from_value v (with_places (item_at o i ∷ []) r)) ]
+    from_items (suc n) o i r = from_items n o (suc i) (from_item (item_of store o i) (with_places (item_at o i ∷ []) r))
 
     abbrev pub from_entries : ℕ → List Contents → Reachable → Reachable
     from_entries o [] r = r
-    from_entries o (key ∷ keys) r =
-        from_entries o keys (elim (entry_of store o key) [ None ↦ r | Some entry ↦ from_value entry.1 (from_value entry.0 (with_places (entry_at o (normal key) ∷ []) r)) ])
+    from_entries o (key ∷ keys) r = from_entries o keys (from_entry (entry_of store o key) (from_value key (with_places (entry_at o (normal key) ∷ []) r)))
 
     abbrev pub from_content : ℕ → Option SeenKind → Reachable → Reachable
     from_content o None r = r

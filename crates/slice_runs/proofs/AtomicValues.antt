@@ -93,7 +93,7 @@ module _ (is_same : (v w : Contents) → (same_value v w ≡ true) ↔ (v ≡ w)
     match_is = match_own v is;
   }
 
-value_text : (script : ScriptTree) (opening : RunStore) (told : List Moment) (v : Contents) → answer_of told ≡ Some (value v)
+pub value_text : (script : ScriptTree) (opening : RunStore) (told : List Moment) (v : Contents) → answer_of told ≡ Some (value v)
     → last_value script opening told ≡ Some (graph_text script (store_after opening told) v)
 value_text script opening [] v is = absurd cc
 value_text script opening (does at number values (value w) made accesses weight ∷ before) v is =

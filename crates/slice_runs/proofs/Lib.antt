@@ -21,3 +21,7 @@ mod OwnMoments
 mod Evaluations
 mod Functionless
 mod AtomicValues
+mod Reachables
+mod SharedGraphs
+mod Nameless
+mod Values

@@ -33,6 +33,8 @@ ghost use Rattle.slice_runs.specs.Owned.{SamePlace};
 ghost use Rattle.slice_runs.specs.Simulation.{IsPlainRun, Simulates, answer_of, ReachesEvaluation};
 ghost use Rattle.py_tree.specs.WellFormed.{IsWellFormed};
 ghost use Rattle.py_model.specs.Occurrences.{up_to_evaluation};
+ghost use Rattle.std.specs.Prelude.{[]};
+ghost use Rattle.py_model.specs.Graph.{names_in};
 
 use py_model::{
     corresponding_operands_have_alike_plans, few_operations_ask, graph_texts_tell_graphs,
@@ -124,7 +126,7 @@ pub fn slices_simulate()
 /// The law of the occurrence: in these runs the k-th evaluation at a place is reached by the slice as the k-th at that place, with a corresponding
 /// value, and no more steps are spent up to there. A place is of one statement, so no evaluation of a deleted statement stands at it.
 ///
-/// Not shown here, beside what [`slices_simulate`] leaves open: that corresponding values with objects have the same graph text.
+/// That corresponding values have the same graph text is [`values_are_reproduced`].
 pub fn slices_reach_the_evaluation()
     ensures { (script : ScriptTree) (capture : Capture) (path : List ℕ) (arguments : List (List ℕ)) (steps budget : ℕ) (at : Pos) (k : ℕ) (keep : StmtSet) (upto : List Moment)
         → IsWellFormed script → up_to_evaluation at k (told_by script capture path arguments steps) ≡ Some upto → IsClosed script (opening_in capture path arguments) upto keep
@@ -149,6 +151,25 @@ pub fn atomic_values_are_reproduced()
         → IsWellFormed script → up_to_evaluation at k (told_by script capture path arguments steps) ≡ Some upto → IsLeast script (opening_in capture path arguments) upto keep
         → IsPlainRun script capture path arguments steps → answer_of upto ≡ Some (value v) → is_atomic v ≡ true
         → Reproduces script capture path arguments (spent_on (told_by script capture path arguments steps)) at k upto keep }
+{
+    tests_are_equality();
+    graph_texts_tell_graphs();
+    slices_reach_the_evaluation();
+}
+
+/// The law of values: in these runs of scripts without functions and classes the slice reproduces each evaluation, whatever its value is. The value
+/// has the same graph text at the same occurrence, with all objects that are reachable from it, and no more steps are spent. So it is for every
+/// closed set, and for the least one with as many steps as the whole run took.
+///
+/// The criterion of a closed set reaches each location that a graph text shows, and what stands at these corresponds. Not shown here: scripts that
+/// define functions or classes, and runs that open a file for writing.
+pub fn values_are_reproduced()
+    ensures closed { (script : ScriptTree) (capture : Capture) (path : List ℕ) (arguments : List (List ℕ)) (steps budget : ℕ) (at : Pos) (k : ℕ) (keep : StmtSet) (upto : List Moment)
+        → IsWellFormed script → up_to_evaluation at k (told_by script capture path arguments steps) ≡ Some upto → IsClosed script (opening_in capture path arguments) upto keep
+        → IsPlainRun script capture path arguments steps → names_in script.body ≡ [] → spent_on upto ≤ budget → Reproduces script capture path arguments budget at k upto keep }
+    ensures least { (script : ScriptTree) (capture : Capture) (path : List ℕ) (arguments : List (List ℕ)) (steps : ℕ) (at : Pos) (k : ℕ) (keep : StmtSet) (upto : List Moment)
+        → IsWellFormed script → up_to_evaluation at k (told_by script capture path arguments steps) ≡ Some upto → IsLeast script (opening_in capture path arguments) upto keep
+        → IsPlainRun script capture path arguments steps → names_in script.body ≡ [] → Reproduces script capture path arguments (spent_on (told_by script capture path arguments steps)) at k upto keep }
 {
     tests_are_equality();
     graph_texts_tell_graphs();
