@@ -1,6 +1,6 @@
 -- A value whose objects are there in both runs has the same graph in both stores, where all that is reachable from it corresponds.
-use Rattle.std.proofs.Common.{◌≡◌, ℕ, ◌<◌, Bool, true, false, ◌&&◌, List, [], ◌∷◌, slice_get, Option, Some, None, option_map, refl, sym, ap, subst, ◌∙◌}
-use Rattle.std.specs.Prelude.{⊤, ◌↔◌}
+use Rattle.std.proofs.Common.{◌≡◌, ℕ, Bool, true, ◌&&◌, List, [], ◌∷◌, slice_get, Option, Some, None, option_map, refl, sym, ap, subst, ◌∙◌}
+use Rattle.std.specs.Prelude.{◌↔◌}
 use Rattle.std.proofs.lemmas.Bool.{and_parts, and_from}
 use Rattle.prov_base.specs.declared.place.Pos.{Pos}
 use Rattle.py_value.specs.Contents.{Contents, Parts, nothing, truth, int, text, tuple, range, function, class, exception_class, builtin, object, no_parts, part}
@@ -9,8 +9,8 @@ use Rattle.py_value.specs.Same.{same_value}
 use Rattle.py_value.specs.Seen.{SeenLocation, SeenKind, a_list, a_dict, an_instance, a_file, len_at, item_at, entry_at, order_at, offset_at, closed_at}
 use Rattle.py_model.specs.Graph.{function_name, class_name, class_text}
 use Rattle.py_model.specs.Renaming.{Renaming, renamed, renamed_parts, renamed_option, renamed_list, renamed_entry, renamed_kind}
-use Rattle.py_model.specs.SameGraph.{Setting, SameClass, Match, PartsMatch, OptionsMatch, EntriesMatch, KeysMatch, ContentMatches, HaveSameGraph}
-use Rattle.py_model.specs.Store.{RunStore, len_of, item_of, entry_of, order_of}
+use Rattle.py_model.specs.SameGraph.{Setting, Match, PartsMatch, OptionsMatch, EntriesMatch, KeysMatch, ContentMatches, HaveSameGraph}
+use Rattle.py_model.specs.Store.{item_of, entry_of, order_of}
 use Rattle.slice_law.specs.Closed.{IsIn}
 use Rattle.slice_law.specs.Edges.{Reachable}
 use Rattle.slice_runs.proofs.Ranks.{agreed_is_marked}

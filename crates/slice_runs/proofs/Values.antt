@@ -1,5 +1,5 @@
 -- The value of an evaluation has the same graph text in the run of the slice.
-use Rattle.std.proofs.Common.{◌≡◌, ℕ, Bool, true, false, ◌&&◌, List, [], ◌∷◌, ◌++◌, map, length, slice_get, Option, Some, option_map, inl, inr, refl, sym, ap, subst, ◌∙◌, append-nil}
+use Rattle.std.proofs.Common.{◌≡◌, ℕ, Bool, true, false, ◌&&◌, List, [], ◌∷◌, map, length, slice_get, Some, option_map, inl, inr, refl, sym, ap, subst, ◌∙◌, append-nil}
 use Rattle.std.specs.Prelude.{◌↔◌}
 use Rattle.std.proofs.lemmas.Bool.{false≢true, and_parts}
 use Rattle.std.proofs.lemmas.Option.{slice_get-map}
@@ -14,7 +14,7 @@ use Rattle.py_model.specs.Capture.{Capture, opening_in}
 use Rattle.py_model.specs.Graph.{first_name, names_in, graph_text}
 use Rattle.py_model.specs.History.{kinds_after, made_by}
 use Rattle.py_model.specs.Moment.{Moment, begins, does, enters, leaves, ends}
-use Rattle.py_model.specs.Occurrences.{evaluates, is_value, is_evaluation_at, up_to_evaluation}
+use Rattle.py_model.specs.Occurrences.{evaluates, is_evaluation_at, up_to_evaluation}
 use Rattle.py_model.specs.Plan.{value, raised, at_end}
 use Rattle.py_model.specs.Renaming.{Renaming, renamed, renamed_answer, renamed_kind}
 use Rattle.py_model.specs.SameGraph.{Setting, HaveSameGraph}
@@ -30,7 +30,7 @@ use Rattle.slice_runs.proofs.Reachables.{traversed, all_met, all_covered}
 use Rattle.slice_runs.proofs.SharedGraphs.{graphs_match}
 use Rattle.slice_runs.proofs.Standing.{in_front, in_behind}
 use Rattle.slice_runs.specs.Related.{kept_of}
-use Rattle.slice_runs.specs.Renaming.{is_kept, marks_after, is_marked, rank, Fits, IsShifted, Matches}
+use Rattle.slice_runs.specs.Renaming.{is_kept, marks_after, is_marked, rank, Fits, IsShifted}
 use Rattle.slice_runs.specs.Simulation.{answer_of, ReachesEvaluation}
 
 -- an evaluation has a value

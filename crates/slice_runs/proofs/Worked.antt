@@ -1,7 +1,7 @@
--- Runs of the class that the simulation speaks of, by computation: a list with two names is changed by one of them; and an exception is raised
+-- Runs and scripts of the class that the simulation speaks of, by computation: a list with two names is changed by one of them; and an exception is raised
 -- in a loop and handled.
 use Rattle.py_tree.specs.declared.expr.BinOp.TheVariants.{Add, FloorDiv}
-use Rattle.std.proofs.Common.{ℕ, [], codes, refl, Some, None}
+use Rattle.std.proofs.Common.{◌≡◌, ℕ, [], codes, refl, Some, None}
 use Rattle.std.specs.Prelude.{pos}
 use Rattle.std.specs.Str.{chars, is_utf8}
 use Rattle.std.specs.Char.{encode_utf8}
@@ -10,6 +10,7 @@ use Rattle.prov_base.specs.declared.place.Span.{Span}
 use Rattle.py_tree.specs.declared.expr.Atom.TheVariants.{Int as int_atom}
 use Rattle.py_tree.specs.Tree.{const_expr, var_expr, call_expr, attr_expr, list_expr, end_exprs, more_exprs, var_target, one_stmt, do_form, assign_form, end_suite, more_suite, ScriptTree, binary_expr, for_form, try_form, aug_form, pass_form, more_handlers, end_handlers}
 use Rattle.py_model.specs.Capture.{Capture}
+use Rattle.py_model.specs.Graph.{names_in}
 use Rattle.py_model.specs.Meaning.{level}
 use Rattle.slice_runs.specs.Simulation.{IsPlainRun}
 
@@ -38,6 +39,9 @@ alias_is_plain : (capture : Capture) → IsPlainRun alias (record capture { answ
 unfolding is_utf8 chars encode_utf8 level
 alias_is_plain capture = record { functionless = refl; unnoted = record { names = λ place. refl; paths = refl } }
 
+alias_defines_nothing : names_in alias.body ≡ []
+alias_defines_nothing = refl
+
 -- total = 0
 -- for n in [1, 0]:
 --     try:
@@ -61,3 +65,6 @@ handled = record {
 handled_is_plain : (capture : Capture) → IsPlainRun handled (record capture { answers = []; files = [] }) (codes "s.py") [] 1000
 unfolding is_utf8 chars encode_utf8 level
 handled_is_plain capture = record { functionless = refl; unnoted = record { names = λ place. refl; paths = refl } }
+
+handled_defines_nothing : names_in handled.body ≡ []
+handled_defines_nothing = refl
