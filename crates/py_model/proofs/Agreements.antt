@@ -9,6 +9,7 @@ use Rattle.py_model.specs.Operations.{Op, plan}
 use Rattle.py_model.specs.Orderly.{IsOrderly, other_read}
 use Rattle.py_model.specs.Quiet.{may_ask, IsQuiet}
 use Rattle.py_model.specs.Renaming.{Renaming, renamed_list}
+use Rattle.py_model.specs.Tidy.{IsTidy}
 
 pub every_alike : (r : Renaming) (op : Op) (values : List Contents) → AlikeBy (allowed op.no) r (plan op values) (plan (renamed_op r op) (renamed_list r values))
 every_alike r op values = operation_alike r (λ may. print_alike may r) (λ may. repr_alike may r) (λ may. str_alike may r) op values
@@ -29,3 +30,6 @@ every_quiet op values none = (every_alike as_they_are op values).quiet none
 
 pub every_orderly : (op : Op) (values : List Contents) → IsOrderly (plan op values)
 every_orderly op values = (every_alike as_they_are op values).orderly other_read
+
+pub every_tidy : (op : Op) (values : List Contents) → IsTidy (plan op values)
+every_tidy op values = (every_alike as_they_are op values).tidy

@@ -11,7 +11,7 @@ use Rattle.py_model.proofs.AlikeComparing.{if_alike}
 use Rattle.py_model.proofs.AlikeItems.{next_alike}
 use Rattle.py_model.proofs.AlikeOperands.{AlikeFor}
 use Rattle.py_model.proofs.AlikeWalks.{wrong_kind_alike, wrong_number_alike, fault_alike}
-use Rattle.py_model.proofs.AlikePlans.{Allowed, AlikeBy, both_read_file, both_read_offset, both_read_closed, both_kind, both_was_opened, both_ask, both_fetch, both_count, both_print, both_writes, both_make, AlikePlainly, both_write, both_change, both_open, both_done, both_done_at_end}
+use Rattle.py_model.proofs.AlikePlans.{Allowed, AlikeBy, both_read_file, both_read_offset, both_read_closed, both_kind, both_was_opened, both_ask, both_fetch, both_count, both_print, both_writes, both_make, both_make_opening, AlikePlainly, both_write, both_change, both_open, both_set_and_open, both_done, both_done_at_end}
 use Rattle.py_model.specs.Faults.{fault, os_error, eof_error, wrong_kind}
 use Rattle.py_model.specs.Files.{bad_file, no_file, is_closed_fault, wrong_mode, not_utf8, device_failed, begun, with_file, open_with, open_plan, to_be_read, taken, read_plan, first_line, readline_plan, next_line, write_plan, close_plan, input_plan, time_ns_plan, drawn, no_range, draw_between, randint_plan, draw_below, randrange_plan}
 use Rattle.py_model.specs.Lists.{next}
@@ -48,7 +48,7 @@ module _ (may : Allowed) (r : Renaming) where
   by_opened_alike asks path go gone each false = both_fetch asks (by_found_alike path go gone each)
 
   with_file_alike : may.asks ≡ true → (path : List ℕ) (go gone : Option (List ℕ) → Plan) → ((bytes : Option (List ℕ)) → AlikeBy may r (go bytes) (gone bytes)) → AlikeBy may r (with_file path go) (with_file path gone)
-  with_file_alike asks path go gone each = both_was_opened (by_opened_alike asks path go gone each)
+  with_file_alike asks path go gone each = both_was_opened (record { gone = go; is = refl }) (by_opened_alike asks path go gone each)
 
   -- `open`
   abbrev to_read : List ℕ → Option (List ℕ) → Plan
@@ -64,8 +64,8 @@ module _ (may : Allowed) (r : Renaming) where
   to_append path None = makes (a_file path Append) (λ o. write (file_at path) (file_is []) (opens path (begun o)))
 
   to_append_alike : (path : List ℕ) (bytes : Option (List ℕ)) → AlikeBy may r (to_append path bytes) (to_append path bytes)
-  to_append_alike path (Some bytes) = both_make refl (λ o. both_open (begun_alike o))
-  to_append_alike path None = both_make refl (λ o. both_write refl refl refl (both_open (begun_alike o)))
+  to_append_alike path (Some bytes) = both_make_opening refl (λ o. both_open (begun_alike o))
+  to_append_alike path None = both_make_opening refl (λ o. both_set_and_open (begun_alike o))
 
   abbrev at_path : List ℕ → Plan → Plan
   at_path path plan = if is_path path then plan else fault os_error (codes "bad path")
@@ -76,7 +76,7 @@ module _ (may : Allowed) (r : Renaming) where
   open_with_alike : may.asks ≡ true → (path mode : List ℕ) → AlikeBy may r (open_with path mode) (open_with path mode)
   open_with_alike asks path mode =
       if_alike may r (bytes_eq mode (codes "r")) (bytes_eq mode (codes "r")) _ _ _ _ refl (at_path_alike path _ _ (with_file_alike asks path (to_read path) (to_read path) (to_read_alike path)))
-      (if_alike may r (bytes_eq mode (codes "w")) (bytes_eq mode (codes "w")) _ _ _ _ refl (at_path_alike path _ _ (both_make refl (λ o. both_write refl refl refl (both_open (begun_alike o)))))
+      (if_alike may r (bytes_eq mode (codes "w")) (bytes_eq mode (codes "w")) _ _ _ _ refl (at_path_alike path _ _ (both_make_opening refl (λ o. both_set_and_open (begun_alike o))))
       (if_alike may r (bytes_eq mode (codes "a")) (bytes_eq mode (codes "a")) _ _ _ _ refl (at_path_alike path _ _ (with_file_alike asks path (to_append path) (to_append path) (to_append_alike path)))
       (fault_alike may r _ _)))
 

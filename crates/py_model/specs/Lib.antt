@@ -40,6 +40,7 @@ pub mod Statements
 pub mod Store
 pub mod TextMethods
 pub mod Texts
+pub mod Tidy
 pub mod Told
 pub mod Touches
 pub mod Walks

@@ -28,6 +28,7 @@ ghost use Rattle.prov_base.specs.declared.place.Pos.{Pos};
 ghost use Rattle.py_model.specs.SameGraph.{Setting, HaveSameGraph};
 ghost use Rattle.py_model.specs.Spans.{moved};
 ghost use Rattle.py_model.specs.Statements.{task};
+ghost use Rattle.py_model.specs.Tidy.{IsTidy};
 ghost use Rattle.py_model.specs.Touches.{prefixed, cost_so_far};
 ghost use Rattle.py_value.specs.Seen.{SeenAccess};
 
@@ -133,6 +134,12 @@ pub fn few_operations_ask()
 /// new key behind the others; or takes an entry out with its key; or makes an object that begins with keys and their entries.
 pub fn operations_are_orderly()
     ensures { (op : Op) (values : List Contents) → IsOrderly (plan op values) }
+{}
+
+/// The law of tidy openings: an operation that opens a file for writing sets it to empty, or appends to it as it is, and nothing else sets a file.
+/// An operation that asks whether a path was opened reads the file there, if it was.
+pub fn operations_open_tidily()
+    ensures { (op : Op) (values : List Contents) → IsTidy (plan op values) }
 {}
 
 /// The law of payment: an operation happens only where it answers, and where its cost is left. So one for which no budget pays never

@@ -14,7 +14,7 @@
 //!
 //! [`operations_agree`] is the law that all an operation depends on is among what it reads and asks: `specs/Agreement.antt` says what
 //! has to correspond in two stores, `specs/Renaming.antt` under which renaming. [`operations_are_orderly`] says in which ways alone operations
-//! write entries and orders of keys (`specs/Orderly.antt`).
+//! write entries and orders of keys (`specs/Orderly.antt`), [`operations_open_tidily`] in which they open files (`specs/Tidy.antt`).
 #![tactic(auto)]
 
 mod doer;
@@ -27,9 +27,9 @@ pub use laws::{
     alike_plans_agree, asked_is_captured, corresponding_operands_have_alike_plans, costs_grow,
     few_operations_ask, frames_follow_brackets, graph_texts_tell_graphs, larger_budget_extends,
     map_changes_by_accesses, meaning_unfolds, moments_nest, operations_agree,
-    operations_are_orderly, operations_are_paid, raised_writes_its_exception_alone,
-    renamed_effects_weigh_the_same, spans_change_nothing, states_agree_with_moments, touches_join,
-    unpaid_ends_the_run,
+    operations_are_orderly, operations_are_paid, operations_open_tidily,
+    raised_writes_its_exception_alone, renamed_effects_weigh_the_same, spans_change_nothing,
+    states_agree_with_moments, touches_join, unpaid_ends_the_run,
 };
 pub use moment::{Answer, Args, How, Moment, Op};
 pub use watch::{NoWatch, Watch};

@@ -17,6 +17,7 @@ use Rattle.py_model.specs.Quiet.{may_ask, IsQuiet}
 use Rattle.py_model.specs.Renaming.{Renaming, renamed_list, renamed_touch, renamed_effect}
 use Rattle.py_model.specs.Running.{Asking, State, did, too_dear, askings_at, note, walked, performed, happened, effect_of, operation}
 use Rattle.py_model.specs.Store.{RunStore}
+use Rattle.py_model.specs.Tidy.{IsTidy}
 
 pub record Laws : Type 0 where
   pub locations : (l m : SeenLocation) → (same_location l m ≡ true) ↔ (l ≡ m)
@@ -29,6 +30,7 @@ pub record Laws : Type 0 where
   pub quiet : (op : Op) (values : List Contents) → may_ask op.no ≡ false → IsQuiet (plan op values)
   pub same : (store : RunStore) (answers others : Answers) (p : Plan) → IsQuiet p → effect store others p ≡ effect store answers p
   pub unnoted : (store : RunStore) (answers : Answers) (p : Plan) (at : Pos) (k : ℕ) (s : State) → IsQuiet p → note at k (effect store answers p).touches s ≡ s
+  pub tidy : (op : Op) (values : List Contents) → IsTidy (plan op values)
   pub changes : (e : Effect) (store : RunStore) → (after e store).at ≡ after_accesses (accesses_in e.touches) store.at
 
 module _ (at : Pos) (op : Op) (values : List Contents) where

@@ -4,7 +4,7 @@ use Rattle.std.proofs.lemmas.List.{length-map}
 use Rattle.std.proofs.lemmas.Option.{slice_get-map}
 use Rattle.prov_base.specs.declared.place.Pos.{Pos}
 use Rattle.py_value.specs.Contents.{Contents}
-use Rattle.py_value.specs.Seen.{SeenLocation, SeenAccess, SeenKind, reads, sets, updates}
+use Rattle.py_value.specs.Seen.{SeenLocation, SeenAccess, SeenKind, file_at, reads, sets, updates}
 use Rattle.py_model.specs.Act.{Walked}
 use Rattle.py_model.specs.Agreement.{Alike, Agrees, NextCorresponds}
 use Rattle.py_model.specs.Capture.{Capture, answers_at}
@@ -22,6 +22,7 @@ use Rattle.slice_law.specs.Closed.{StmtSet}
 use Rattle.slice_law.specs.Edges.{owner_stmt}
 use Rattle.slice_runs.proofs.Happenings.{Laws, DidSo, did_so, do_so, asked_after, fetched_after, with_asked, note_as, asked_alike}
 use Rattle.slice_runs.proofs.Marks.{kind_at, next_at, marked_at, kinds_made, counted_made, Grows, marks_grow, spent_joined, shifts}
+use Rattle.slice_runs.proofs.Opened.{opens_at, open_keeps, open_now, open_from, same_opens, tidily, AreOpened, opened_at, opened_agree}
 use Rattle.slice_runs.proofs.Readings.{AreRead, agrees}
 use Rattle.slice_runs.proofs.Renamings.{accesses_match}
 use Rattle.slice_runs.proofs.Touching.{kinds_grow, AlikeNotes, notes_after, same_accesses, walked_same}
@@ -65,6 +66,13 @@ module _ (laws : Laws) (capture : Capture) (names : ℕ → ℕ → Type 0) (kee
     known (sets l content ∷ accesses) there = known accesses there
     known (updates l how ∷ accesses) there = known accesses there
 
+    known_opened : (accesses : List SeenAccess) → AllInReach keep s.told accesses → AreOpened s.store t.store accesses
+    known_opened [] there = tt
+    known_opened (reads l ∷ accesses) there =
+        (opened_at s.store t.store l (λ path is before. related.opened_here path before (subst (λ m. IsInReach keep m s.told) is there.0)), known_opened accesses there.1)
+    known_opened (sets l content ∷ accesses) there = known_opened accesses there
+    known_opened (updates l how ∷ accesses) there = known_opened accesses there
+
     module _ (answer : Answer) (news : List Moment) (upto_is : upto ≡ news ++ moment answer ∷ s.told)
         (there : AllInReach keep s.told (accesses_in own.touches)) where
       now_marks : List Bool
@@ -104,9 +112,11 @@ module _ (laws : Laws) (capture : Capture) (names : ℕ → ℕ → Type 0) (kee
       reads_agree : (r : Renaming) → Fits marks r
           → Agrees r s.store t.store (answers_at capture at (suc (askings_at at s.askings))) (answers_at capture at (suc (askings_at at s.askings))) (plan p vs)
       reads_agree r fits =
-          agrees s.store t.store marks near far kinds_agree related.noted_names (λ path. ap (has_path path) related.opened)
+          agrees s.store t.store marks near far kinds_agree related.noted_names
           (answers_at capture at (suc (askings_at at s.askings))) r fits (plan p vs) (plan q ws)
-          (alike near) (alike far) (known (accesses_in own.touches) there) (next_is r fits)
+          (alike near) (alike far) (known (accesses_in own.touches) there)
+          (opened_agree s.store t.store (answers_at capture at (suc (askings_at at s.askings))) related.opened_there (plan p vs) (laws.tidy p vs) (known_opened (accesses_in own.touches) there))
+          (next_is r fits)
         where
           near : IsShifted marks 0
           near = shifts keep upto 0
@@ -165,14 +175,30 @@ module _ (laws : Laws) (capture : Capture) (names : ℕ → ℕ → Type 0) (kee
               ∙ ap₂ (λ mark kinds. map (renamed_kind r) (kept_of (with_mark own.made mark (marks_after keep s.told)) kinds)) (sym own_mark) (sym (kinds_grow own s.store))));
           counted = ap length (kinds_grow own s.store) ∙ counted_made own.made (is_kept keep (owner_stmt s.told)) (marks_after keep s.told) s.store.kinds related.counted;
           noted_names = notes.names;
-          opened = notes.paths;
+          opened_there = λ path is. there_after path (open_from path other t.store is);
+          opened_here = λ path is inside. here_after path (by_access (OwnerIsKept keep s.told) (IsInReach keep (file_at path) s.told) (sets_at (file_at path) (accesses_in own.touches)) (updates_at (file_at path) (accesses_in own.touches)) inside)
+              (open_from path own s.store is);
           enough = omega (arith, related.enough, same_cost, enough_left);
           no_more = omega (arith, related.no_more, same_cost);
         }
           where
             notes : AlikeNotes (after own s.store) (after other t.store)
             notes = subst (λ e. AlikeNotes (after own s.store) (after e t.store)) (sym (same_effect (shifts keep upto 0).by (shifts keep upto 0).fits))
-                (notes_after (shifts keep upto 0).by own s.store t.store (record { names = related.noted_names; paths = related.opened }))
+                (notes_after (shifts keep upto 0).by own s.store t.store (record { names = related.noted_names }))
+
+            same_paths : (path : List ℕ) → opens_at path other.touches ≡ opens_at path own.touches
+            same_paths path = ap (λ e. opens_at path e.touches) (same_effect (shifts keep upto 0).by (shifts keep upto 0).fits) ∙ same_opens path (shifts keep upto 0).by own.touches
+
+            there_after : (path : List ℕ) → (has_path path t.store.opened ≡ true) ⊎ (opens_at path other.touches ≡ true) → has_path path (after own s.store).opened ≡ true
+            there_after path (inl was) = open_keeps path own s.store (related.opened_there path was)
+            there_after path (inr now) = open_now path own s.store (sym (same_paths path) ∙ now)
+
+            here_after : (path : List ℕ) → (sets_at (file_at path) (accesses_in own.touches) ≡ true) ⊎ IsInReach keep (file_at path) s.told
+                → (has_path path s.store.opened ≡ true) ⊎ (opens_at path own.touches ≡ true) → has_path path (after other t.store).opened ≡ true
+            here_after path (inl set) known = open_now path other t.store
+                (same_paths path ∙ (tidily path s.store (answers_at capture at (suc (askings_at at s.askings))) (plan p vs) (laws.tidy p vs)).opens_it_too set)
+            here_after path (inr inside) (inl was) = open_keeps path other t.store (related.opened_here path was inside)
+            here_after path (inr inside) (inr now) = open_now path other t.store (same_paths path ∙ now)
 
             before : (l : SeenLocation) → IsInReach keep l (moment answer ∷ s.told) → (r : Renaming) → Fits marks r
                 → (sets_at l (accesses_in own.touches) ≡ true) ⊎ Matches r s.store.at t.store.at l

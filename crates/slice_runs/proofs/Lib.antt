@@ -21,6 +21,7 @@ mod OwnMoments
 mod Evaluations
 mod Functionless
 mod AtomicValues
+mod Opened
 mod Reachables
 mod SharedGraphs
 mod Nameless

@@ -1,11 +1,12 @@
 -- All other moments keep the relation of the two runs too: what a deleted statement does, and what begins and ends.
-use Rattle.std.proofs.Common.{◌≡◌, ◌≤◌, ℕ, suc, Bool, true, false, List, ◌∷◌, ◌++◌, map, length, Some, option_map, refl, sym, ap, ap₂, subst, ◌∙◌, arith}
+use Rattle.std.proofs.Common.{◌≡◌, ◌≤◌, ℕ, suc, Bool, true, false, List, ◌∷◌, ◌++◌, map, length, Some, option_map, ◌⊎◌, inl, inr, refl, sym, ap, ap₂, subst, ◌∙◌, arith}
 use Rattle.std.proofs.lemmas.Bool.{false≢true}
 use Rattle.prov_base.specs.declared.place.Pos.{Pos}
 use Rattle.prov_base.specs.contracts.place.PosPartialEq.TheImpl.{ghosts as places}
 use Rattle.py_value.specs.Contents.{Contents}
-use Rattle.py_value.specs.Seen.{SeenLocation}
-use Rattle.py_model.specs.Capture.{Capture}
+use Rattle.py_value.specs.Seen.{SeenLocation, a_file, file_at}
+use Rattle.py_value.specs.declared.access.Mode.TheVariants.{Append}
+use Rattle.py_model.specs.Capture.{Capture, answers_at}
 use Rattle.py_model.specs.Effect.{Effect, accesses_in, after, weight}
 use Rattle.py_model.specs.History.{spent_on}
 use Rattle.py_model.specs.Moment.{Moment, begins, does, ends, Ending, normal_end}
@@ -16,12 +17,14 @@ use Rattle.py_model.specs.Plan.{Answer}
 use Rattle.py_model.specs.Quiet.{may_ask}
 use Rattle.py_model.specs.Renaming.{Renaming, renamed_location, renamed_content, renamed_kind}
 use Rattle.py_model.specs.Running.{Asking, State, did, askings_at, effect_of, operation, performed, beginning, tell}
+use Rattle.py_model.specs.Store.{has_path}
 use Rattle.slice_law.specs.Closed.{StmtSet}
 use Rattle.slice_law.specs.Edges.{owner_stmt}
 use Rattle.slice_runs.proofs.Happenings.{Laws, DidSo, did_so, asked_after, fetched_after, with_asked, note_as, asked_elsewhere}
 use Rattle.slice_runs.proofs.Marks.{kinds_alone, counted_made, spent_joined}
 use Rattle.slice_runs.proofs.Renamings.{untouched}
-use Rattle.slice_runs.proofs.Touching.{kinds_grow, unnoted_before}
+use Rattle.slice_runs.proofs.Opened.{opens_at, open_keeps, open_from, OpensTidily, tidily}
+use Rattle.slice_runs.proofs.Touching.{kinds_grow, unnoted_before, unappended}
 use Rattle.slice_runs.specs.Related.{IsUnnoted, ByAccess, OwnerIsKept, IsInReach, alone_did, both_began, alone_began, passed, both_ended, alone_ended, kept_of, Related}
 use Rattle.slice_runs.specs.Renaming.{is_kept, with_mark, marks_after, Fits, Matches}
 
@@ -33,8 +36,8 @@ by_none own earlier false false none there = (refl, refl, there)
 
 module _ (laws : Laws) (names : ℕ → ℕ → Type 0) (keep : StmtSet) (upto : List Moment) where
   pub alone_moment : (at : Pos) (p : Op) (vs : List Contents) (answer : Answer) (e : Effect) (n : ℕ) (s t : State) (a : List Asking) (f : List (List ℕ))
-      → Related names keep upto s t → keep n ≡ false → owner_stmt s.told ≡ Some n → IsUnnoted (after e s.store) → Related names keep upto (performed at p vs answer e (record s { askings = a; fetches = f })) t
-  alone_moment at p vs answer e n s t a f related out owner unnoted = record {
+      → Related names keep upto s t → keep n ≡ false → owner_stmt s.told ≡ Some n → IsUnnoted (after e s.store) → ((path : List ℕ) → OpensTidily path e) → Related names keep upto (performed at p vs answer e (record s { askings = a; fetches = f })) t
+  alone_moment at p vs answer e n s t a f related out owner unnoted tidy = record {
     follows = alone_did out owner related.follows;
     contents = λ l inside r fits. contents_after l inside r fits;
     kinds = λ r fits.
@@ -42,13 +45,30 @@ module _ (laws : Laws) (names : ℕ → ℕ → Type 0) (keep : StmtSet) (upto :
         ∙ ap₂ (λ mark kinds. map (renamed_kind r) (kept_of (with_mark e.made mark (marks_after keep s.told)) kinds)) (sym own_mark) (sym (kinds_grow e s.store));
     counted = ap length (kinds_grow e s.store) ∙ counted_made e.made (is_kept keep (owner_stmt s.told)) (marks_after keep s.told) s.store.kinds related.counted;
     noted_names = λ place. related.noted_names place ∙ ((unnoted_before e s.store unnoted).names place ∙ sym (unnoted.names place));
-    opened = related.opened ∙ ((unnoted_before e s.store unnoted).paths ∙ sym unnoted.paths);
+    opened_there = λ path is. open_keeps path e s.store (related.opened_there path is);
+    opened_here = opened_after;
     enough = omega (arith, related.enough);
     no_more = omega (arith, related.no_more);
   }
     where
       own_mark : is_kept keep (owner_stmt s.told) ≡ false
       own_mark = ap (is_kept keep) owner ∙ out
+
+      opened_after : (path : List ℕ) → has_path path (after e s.store).opened ≡ true
+          → IsInReach keep (file_at path) (does at p.no vs answer e.made (accesses_in e.touches) (weight e) ∷ s.told) → has_path path t.store.opened ≡ true
+      opened_after path is inside = by_parts
+          (by_none (OwnerIsKept keep s.told) (IsInReach keep (file_at path) s.told) (sets_at (file_at path) (accesses_in e.touches)) (updates_at (file_at path) (accesses_in e.touches))
+          (λ all. false≢true (sym out ∙ all n owner)) inside)
+          (open_from path e s.store is)
+        where
+          by_sets : sets_at (file_at path) (accesses_in e.touches) ≡ false → (sets_at (file_at path) (accesses_in e.touches) ≡ true) ⊎ (e.made ≡ Some (a_file path Append)) → has_path path t.store.opened ≡ true
+          by_sets none (inl there) = absurd (false≢true (sym none ∙ there))
+          by_sets none (inr made) = absurd (unappended e s.store path unnoted made)
+
+          by_parts : (sets_at (file_at path) (accesses_in e.touches) ≡ false) × (updates_at (file_at path) (accesses_in e.touches) ≡ false) × IsInReach keep (file_at path) s.told
+              → (has_path path s.store.opened ≡ true) ⊎ (opens_at path e.touches ≡ true) → has_path path t.store.opened ≡ true
+          by_parts parts (inl before) = related.opened_here path before parts.2
+          by_parts parts (inr now) = by_sets parts.0 ((tidy path).sets_it_too now)
 
       contents_after : (l : SeenLocation) → IsInReach keep l (does at p.no vs answer e.made (accesses_in e.touches) (weight e) ∷ s.told) → (r : Renaming) → Fits (marks_after keep upto) r
           → Matches r (after e s.store).at t.store.at l
@@ -73,7 +93,8 @@ module _ (laws : Laws) (names : ℕ → ℕ → Type 0) (keep : StmtSet) (upto :
       kinds = related.kinds;
       counted = related.counted;
       noted_names = related.noted_names;
-      opened = related.opened;
+      opened_there = related.opened_there;
+      opened_here = related.opened_here;
       enough = omega (arith, related.enough, pays);
       no_more = omega (arith, related.no_more);
     }
@@ -85,7 +106,8 @@ module _ (laws : Laws) (names : ℕ → ℕ → Type 0) (keep : StmtSet) (upto :
       kinds = related.kinds;
       counted = related.counted;
       noted_names = related.noted_names;
-      opened = related.opened;
+      opened_there = related.opened_there;
+      opened_here = related.opened_here;
       enough = omega (arith, related.enough);
       no_more = omega (arith, related.no_more);
     }
@@ -97,7 +119,8 @@ module _ (laws : Laws) (names : ℕ → ℕ → Type 0) (keep : StmtSet) (upto :
       kinds = related.kinds;
       counted = related.counted;
       noted_names = related.noted_names;
-      opened = related.opened;
+      opened_there = related.opened_there;
+      opened_here = related.opened_here;
       enough = omega (arith, related.enough, pays);
       no_more = omega (arith, related.no_more);
     }
@@ -109,7 +132,8 @@ module _ (laws : Laws) (names : ℕ → ℕ → Type 0) (keep : StmtSet) (upto :
       kinds = related.kinds;
       counted = related.counted;
       noted_names = related.noted_names;
-      opened = related.opened;
+      opened_there = related.opened_there;
+      opened_here = related.opened_here;
       enough = omega (arith, related.enough);
       no_more = omega (arith, related.no_more);
     }
@@ -121,7 +145,8 @@ module _ (laws : Laws) (names : ℕ → ℕ → Type 0) (keep : StmtSet) (upto :
       kinds = related.kinds;
       counted = related.counted;
       noted_names = related.noted_names;
-      opened = related.opened;
+      opened_there = related.opened_there;
+      opened_here = related.opened_here;
       enough = omega (arith, related.enough);
       no_more = omega (arith, related.no_more);
     }
@@ -133,7 +158,8 @@ module _ (laws : Laws) (names : ℕ → ℕ → Type 0) (keep : StmtSet) (upto :
       subst (λ next. Related names keep upto next t) (sym so.next_is)
       (alone_moment at p vs answer (effect_of capture at p vs s) n s t
       (asked_after at (suc (askings_at at s.askings)) (effect_of capture at p vs s).touches s.askings) (fetched_after (effect_of capture at p vs s).touches s.fetches)
-      related out owner (subst (λ next. IsUnnoted next.store) so.next_is unnoted))
+      related out owner (subst (λ next. IsUnnoted next.store) so.next_is unnoted)
+      (λ path. tidily path s.store (answers_at capture at (suc (askings_at at s.askings))) (plan p vs) (laws.tidy p vs)))
     where
       so : DidSo at p vs (effect_of capture at p vs s) (effect_of capture at p vs s).outcome (with_asked at (suc (askings_at at s.askings)) (effect_of capture at p vs s).touches s) answer came next
       so = did_so at p vs capture s (with_asked at (suc (askings_at at s.askings)) (effect_of capture at p vs s).touches s) answer came next

@@ -109,7 +109,8 @@ module _ (laws : Laws) (script : ScriptTree) (capture : Capture) (path : List 鈩
     kinds = 位 r fits. refl;
     counted = refl;
     noted_names = 位 place. refl;
-    opened = refl;
+    opened_there = 位 path is. is;
+    opened_here = 位 path is inside. is;
     enough = omega (arith, enough);
     no_more = omega arith;
   }

@@ -1,16 +1,18 @@
--- What touches make of kinds, noted names and opened paths, in two stores.
-use Rattle.std.proofs.Common.{◌≡◌, ℕ, Bool, true, false, List, [], ◌∷◌, ◌++◌, map, Option, Some, None, option_map, if◌then◌else◌, refl, ap, ◌∙◌}
+-- What touches make of kinds and noted names, in two stores.
+use Rattle.std.proofs.Common.{◌≡◌, ℕ, Bool, true, false, ◌||◌, List, [], ◌∷◌, ◌++◌, map, Option, Some, None, option_map, if◌then◌else◌, refl, sym, ap, ◌∙◌}
+use Rattle.std.proofs.lemmas.Bool.{false≢true}
 use Rattle.prov_base.specs.declared.place.Pos.{Pos}
 use Rattle.prov_base.specs.contracts.place.PosPartialEq.TheImpl.{ghosts as places}
-use Rattle.py_value.specs.Seen.{SeenAccess, SeenKind, var_at, len_at, item_at, entry_at, order_at, file_at, offset_at, closed_at, method_at, base_at, reads, sets, updates}
+use Rattle.py_value.specs.declared.access.Mode.TheVariants.{Append}
+use Rattle.py_value.specs.Seen.{SeenAccess, SeenKind, a_file, var_at, len_at, item_at, entry_at, order_at, file_at, offset_at, closed_at, method_at, base_at, reads, sets, updates}
 use Rattle.py_model.specs.Act.{Walked}
 use Rattle.py_model.specs.Effect.{Touch, accessed, looked, counted, printed, opened, noted, asked, fetched, Effect, accesses_in, after, after_touches, after_touch, with_made}
 use Rattle.py_model.specs.History.{with_kind}
 use Rattle.py_model.specs.Renaming.{Renaming, renamed_touch, renamed_access, renamed_effect, renamed_kind}
 use Rattle.py_model.specs.Running.{method_found, sets_an_entry, walked}
-use Rattle.py_model.specs.Store.{RunStore, has_path, with_path, method_of}
+use Rattle.py_model.specs.Store.{RunStore, method_of}
 use Rattle.slice_runs.proofs.Readings.{AreRead, method_read}
-use Rattle.slice_runs.specs.Related.{IsUnnoted}
+use Rattle.slice_runs.specs.Related.{is_appended, has_appended, IsUnnoted}
 use Rattle.slice_runs.specs.Renaming.{Fits}
 
 kinds_stay : (touches : List Touch) (store : RunStore) → (after_touches touches store).kinds ≡ store.kinds
@@ -31,29 +33,28 @@ made_kind (Some kind) store = refl
 pub kinds_grow : (e : Effect) (store : RunStore) → (after e store).kinds ≡ with_kind e.made store.kinds
 kinds_grow e store = kinds_stay e.touches (with_made e.made store) ∙ made_kind e.made store
 
--- the same names are noted, and the same paths opened
+-- the same names are noted
 pub record AlikeNotes (store other : RunStore) : Type 0 where
   pub names : (place : Pos) → other.names place ≡ store.names place
-  pub paths : other.opened ≡ store.opened
 
 module _ (r : Renaming) where
   notes_stay : (touches : List Touch) (store other : RunStore) → AlikeNotes store other → AlikeNotes (after_touches touches store) (after_touches (map (renamed_touch r) touches) other)
   notes_stay [] store other same = same
-  notes_stay (accessed access ∷ touches) store other same = notes_stay touches _ _ (record { names = same.names; paths = same.paths })
+  notes_stay (accessed access ∷ touches) store other same = notes_stay touches _ _ (record { names = same.names })
   notes_stay (looked n ∷ touches) store other same = notes_stay touches _ _ same
   notes_stay (counted n ∷ touches) store other same = notes_stay touches _ _ same
-  notes_stay (printed bytes ∷ touches) store other same = notes_stay touches _ _ (record { names = same.names; paths = same.paths })
-  notes_stay (opened path ∷ touches) store other same = notes_stay touches _ _ (record { names = same.names; paths = ap (with_path path) same.paths })
+  notes_stay (printed bytes ∷ touches) store other same = notes_stay touches _ _ (record { names = same.names })
+  notes_stay (opened path ∷ touches) store other same = notes_stay touches _ _ (record { names = same.names })
   notes_stay (noted place name ∷ touches) store other same =
-      notes_stay touches _ _ (record { names = λ at. ap (λ old. if places.eq place at then Some name else old) (same.names at); paths = same.paths })
+      notes_stay touches _ _ (record { names = λ at. ap (λ old. if places.eq place at then Some name else old) (same.names at) })
   notes_stay (asked what ∷ touches) store other same = notes_stay touches _ _ same
   notes_stay (fetched path ∷ touches) store other same = notes_stay touches _ _ same
 
   made_notes : (made another : Option SeenKind) (store other : RunStore) → AlikeNotes store other → AlikeNotes (with_made made store) (with_made another other)
   made_notes None None store other same = same
-  made_notes (Some kind) None store other same = record { names = same.names; paths = same.paths }
-  made_notes None (Some kind) store other same = record { names = same.names; paths = same.paths }
-  made_notes (Some one) (Some kind) store other same = record { names = same.names; paths = same.paths }
+  made_notes (Some kind) None store other same = record { names = same.names }
+  made_notes None (Some kind) store other same = record { names = same.names }
+  made_notes (Some one) (Some kind) store other same = record { names = same.names }
 
   pub notes_after : (e : Effect) (store other : RunStore) → AlikeNotes store other → AlikeNotes (after e store) (after (renamed_effect r e) other)
   notes_after e store other same =
@@ -110,7 +111,7 @@ module _ (r : Renaming) where
         both : {m n : Option Pos} {a b : Bool} → m ≡ n → a ≡ b → ◌≡◌ {A = Walked} (record { method = m; is_exception = a }) (record { method = n; is_exception = b })
         both one another = cc
 
--- once noted or opened, always so
+-- once noted, always so
 no_name : (touches : List Touch) (store : RunStore) (place : Pos) → (after_touches touches store).names place ≡ None → store.names place ≡ None
 no_name [] store place is = is
 no_name (accessed access ∷ touches) store place is = no_name touches (after_touch (accessed access) store) place is
@@ -126,25 +127,37 @@ no_name (noted at name ∷ touches) store place is = by_place (places.eq at plac
 no_name (asked what ∷ touches) store place is = no_name touches store place is
 no_name (fetched path ∷ touches) store place is = no_name touches store place is
 
-none_opened : (touches : List Touch) (store : RunStore) → (after_touches touches store).opened ≡ [] → store.opened ≡ []
-none_opened [] store is = is
-none_opened (accessed access ∷ touches) store is = none_opened touches (after_touch (accessed access) store) is
-none_opened (looked n ∷ touches) store is = none_opened touches store is
-none_opened (counted n ∷ touches) store is = none_opened touches store is
-none_opened (printed bytes ∷ touches) store is = none_opened touches (after_touch (printed bytes) store) is
-none_opened (noted place name ∷ touches) store is = none_opened touches (after_touch (noted place name) store) is
-none_opened (opened path ∷ touches) store is = by_paths (has_path path store.opened) store.opened (none_opened touches (after_touch (opened path) store) is)
+appended_before : (xs ys : List SeenKind) → has_appended (xs ++ ys) ≡ false → has_appended xs ≡ false
+appended_before [] ys is = refl
+appended_before (x ∷ xs) ys is = by_test (is_appended x) is (appended_before xs ys)
   where
-    by_paths : (test : Bool) (paths : List (List ℕ)) → (if test then paths else paths ++ path ∷ []) ≡ [] → paths ≡ []
-    by_paths true paths is = is
-    by_paths false [] is = refl
-    by_paths false (first ∷ paths) is = absurd cc
-none_opened (asked what ∷ touches) store is = none_opened touches store is
-none_opened (fetched path ∷ touches) store is = none_opened touches store is
+    by_test : (b : Bool) → (b || has_appended (xs ++ ys)) ≡ false → (has_appended (xs ++ ys) ≡ false → has_appended xs ≡ false) → (b || has_appended xs) ≡ false
+    by_test true not on = not
+    by_test false not on = on not
+
+appended_last : (xs : List SeenKind) (kind : SeenKind) → is_appended kind ≡ true → has_appended (xs ++ kind ∷ []) ≡ true
+appended_last [] kind is = ap (λ b. b || false) is
+appended_last (x ∷ xs) kind is = by_test (is_appended x) (appended_last xs kind is)
+  where
+    by_test : (b : Bool) → has_appended (xs ++ kind ∷ []) ≡ true → (b || has_appended (xs ++ kind ∷ [])) ≡ true
+    by_test true more = refl
+    by_test false more = more
+
+with_before : (made : Option SeenKind) (kinds : List SeenKind) → has_appended (with_kind made kinds) ≡ false → has_appended kinds ≡ false
+with_before None kinds is = is
+with_before (Some kind) kinds is = appended_before kinds (kind ∷ []) is
 
 pub unnoted_before : (e : Effect) (store : RunStore) → IsUnnoted (after e store) → IsUnnoted store
-unnoted_before e store is = by_made e.made (record { names = λ place. no_name e.touches (with_made e.made store) place (is.names place); paths = none_opened e.touches (with_made e.made store) is.paths })
+unnoted_before e store is = record {
+  names = λ place. names_before e.made place (no_name e.touches (with_made e.made store) place (is.names place));
+  appends_none = with_before e.made store.kinds (ap has_appended (sym (kinds_grow e store)) ∙ is.appends_none);
+}
   where
-    by_made : (made : Option SeenKind) → IsUnnoted (with_made made store) → IsUnnoted store
-    by_made None is = is
-    by_made (Some kind) is = record { names = is.names; paths = is.paths }
+    names_before : (made : Option SeenKind) (place : Pos) → (with_made made store).names place ≡ None → store.names place ≡ None
+    names_before None place is = is
+    names_before (Some kind) place is = is
+
+-- so nothing is made for appending
+pub unappended : (e : Effect) (store : RunStore) (path : List ℕ) → IsUnnoted (after e store) → e.made ≡ Some (a_file path Append) → ⊥
+unappended e store path is made = false≢true (sym (ap has_appended (sym (kinds_grow e store)) ∙ is.appends_none)
+    ∙ (ap (λ one. has_appended (with_kind one store.kinds)) made ∙ appended_last store.kinds (a_file path Append) refl))

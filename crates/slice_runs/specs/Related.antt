@@ -1,13 +1,14 @@
 -- When a state of a run of the slice stands for a state of the script's run (after Korel and Laski 1988; this project's profile).
-use Rattle.std.specs.Prelude.{◌≡◌, ℕ, ◌+◌, ◌≤◌, ◌<◌, Bool, true, false, List, [], ◌∷◌, map, length, Some, None, ⊤}
+use Rattle.std.specs.Prelude.{◌≡◌, ℕ, ◌+◌, ◌≤◌, ◌<◌, ◌||◌, Bool, true, false, List, [], ◌∷◌, map, length, Some, None, ⊤}
 use Rattle.std.specs.Option.{option_map}
 use Rattle.prov_base.specs.declared.place.Pos.{Pos}
 use Rattle.py_value.specs.Contents.{Contents}
-use Rattle.py_value.specs.Seen.{SeenLocation, SeenAccess, reads}
+use Rattle.py_value.specs.Seen.{SeenLocation, SeenAccess, SeenKind, a_file, file_at, reads}
+use Rattle.py_value.specs.declared.access.Mode.TheVariants.{Append}
 use Rattle.py_model.specs.Act.{Walked}
 use Rattle.py_model.specs.Capture.{Capture}
 use Rattle.py_model.specs.Operations.{Op}
-use Rattle.py_model.specs.Store.{RunStore}
+use Rattle.py_model.specs.Store.{RunStore, has_path}
 use Rattle.py_model.specs.History.{accesses_by, spent_on}
 use Rattle.py_model.specs.Moment.{Moment, begins, does, ends, Ending, normal_end}
 use Rattle.py_model.specs.Occurrences.{sets_at, updates_at}
@@ -62,15 +63,16 @@ kept_of (mark ∷ marks) [] = []
 kept_of (true ∷ marks) (x ∷ xs) = x ∷ kept_of marks xs
 kept_of (false ∷ marks) (x ∷ xs) = kept_of marks xs
 
--- Wherever the reach lies in the set, contents correspond; kinds, noted names and opened paths do; and the slice has taken no more steps, and
--- has enough left for all moments up to the last that is asked for.
+-- Wherever the reach lies in the set, contents correspond; kinds and noted names do; and the slice has taken no more steps, and has enough
+-- left for all moments up to the last that is asked for. The slice opened no other paths for writing, and each whose file's reach lies in the set.
 pub record Related (names : ℕ → ℕ → Type 0) (keep : StmtSet) (upto : List Moment) (s t : State) : Type 0 where
   pub follows : Follows names keep (marks_after keep upto) s.told t.told
   pub contents : (l : SeenLocation) → IsInReach keep l s.told → (r : Renaming) → Fits (marks_after keep upto) r → Matches r s.store.at t.store.at l
   pub kinds : (r : Renaming) → Fits (marks_after keep upto) r → t.store.kinds ≡ map (renamed_kind r) (kept_of (marks_after keep s.told) s.store.kinds)
   pub counted : length s.store.kinds ≡ length (marks_after keep s.told)
   pub noted_names : (place : Pos) → t.store.names place ≡ s.store.names place
-  pub opened : t.store.opened ≡ s.store.opened
+  pub opened_there : (path : List ℕ) → has_path path t.store.opened ≡ true → has_path path s.store.opened ≡ true
+  pub opened_here : (path : List ℕ) → has_path path s.store.opened ≡ true → IsInReach keep (file_at path) s.told → has_path path t.store.opened ≡ true
   pub enough : spent_on upto ≤ t.left + spent_on s.told
   pub no_more : spent_on t.told ≤ spent_on s.told
 
@@ -91,7 +93,15 @@ pub record DoneAgain (capture : Capture) (names : ℕ → ℕ → Type 0) (keep 
   pub askings : (place : Pos) → askings_at place t.askings ≡ askings_at place s.askings → askings_at place now.askings ≡ askings_at place next.askings
   pub fewer : now.left < t.left
 
--- no name is noted, and no path was opened for writing
+-- no name is noted, and no file was opened for appending
+abbrev pub is_appended : SeenKind → Bool
+is_appended (a_file path Append) = true
+is_appended kind = false
+
+abbrev pub has_appended : List SeenKind → Bool
+has_appended [] = false
+has_appended (kind ∷ kinds) = is_appended kind || has_appended kinds
+
 pub record IsUnnoted (store : RunStore) : Type 0 where
   pub names : (place : Pos) → store.names place ≡ None
-  pub paths : store.opened ≡ []
+  pub appends_none : has_appended store.kinds ≡ false

@@ -38,7 +38,7 @@ ghost use Rattle.py_model.specs.Graph.{names_in};
 
 use py_model::{
     corresponding_operands_have_alike_plans, few_operations_ask, graph_texts_tell_graphs,
-    map_changes_by_accesses, operations_agree,
+    map_changes_by_accesses, operations_agree, operations_open_tidily,
 };
 use py_value::tests_are_equality;
 
@@ -85,11 +85,12 @@ pub fn kept_moments_are_done_again()
     corresponding_operands_have_alike_plans();
     operations_agree();
     few_operations_ask();
+    operations_open_tidily();
     map_changes_by_accesses();
 }
 
 /// The law of other moments: what a statement outside the set does leaves the states standing for one another, where it notes no name and opens no
-/// file.
+/// file for appending.
 pub fn deleted_moments_keep_the_relation()
     ensures { (capture : Capture) (script other : ScriptTree) (keep : StmtSet) (upto : List Moment) (at : Pos) (p : Op) (vs : List Contents) (n : ℕ) (s t next : State) (answer : Answer) (came : Walked)
         → Related (SamePlace script other) keep upto s t → keep n ≡ false → owner_stmt s.told ≡ Some n → operation capture at p vs s ≡ did answer came next
@@ -99,18 +100,19 @@ pub fn deleted_moments_keep_the_relation()
     corresponding_operands_have_alike_plans();
     operations_agree();
     few_operations_ask();
+    operations_open_tidily();
     map_changes_by_accesses();
 }
 
-/// The law of the simulation, for scripts without functions and runs that define no class and open no file for writing. With a set that is
+/// The law of the simulation, for scripts without functions and runs that define no class and open no file for appending. With a set that is
 /// closed for the moments up to some one, the run of the deletion performs up to there exactly the script's moments without those of deleted
 /// statements, and the `pass` of each execution of an emptied suite. Statements are named by place, and objects of kept statements are renamed
 /// one-to-one. Where the reach of a location is kept, what stands there corresponds. No more steps are needed than the script's run took up to
 /// there.
 ///
 /// The class is said by `IsPlainRun` of `specs/Simulation.antt`. All expressions and statements are in it but `def` and `class`, with jumps,
-/// exceptions, handlers, askings of devices, files that are read and reads of unset names. Not shown here: runs that call functions or classes
-/// of the script or define them, or that open a file for writing.
+/// exceptions, handlers, askings of devices, files that are read or written and reads of unset names. Not shown here: runs that call functions or
+/// classes of the script or define them, or that open a file for appending.
 pub fn slices_simulate()
     ensures { (script : ScriptTree) (capture : Capture) (path : List ℕ) (arguments : List (List ℕ)) (steps budget : ℕ) (keep : StmtSet) (upto after : List Moment)
         → IsWellFormed script → told_by script capture path arguments steps ≡ after ++ upto → IsClosed script (opening_in capture path arguments) upto keep
@@ -120,6 +122,7 @@ pub fn slices_simulate()
     corresponding_operands_have_alike_plans();
     operations_agree();
     few_operations_ask();
+    operations_open_tidily();
     map_changes_by_accesses();
 }
 
@@ -136,6 +139,7 @@ pub fn slices_reach_the_evaluation()
     corresponding_operands_have_alike_plans();
     operations_agree();
     few_operations_ask();
+    operations_open_tidily();
     map_changes_by_accesses();
 }
 
@@ -162,7 +166,7 @@ pub fn atomic_values_are_reproduced()
 /// closed set, and for the least one with as many steps as the whole run took.
 ///
 /// The criterion of a closed set reaches each location that a graph text shows, and what stands at these corresponds. Not shown here: scripts that
-/// define functions or classes, and runs that open a file for writing.
+/// define functions or classes, and runs that open a file for appending.
 pub fn values_are_reproduced()
     ensures closed { (script : ScriptTree) (capture : Capture) (path : List ℕ) (arguments : List (List ℕ)) (steps budget : ℕ) (at : Pos) (k : ℕ) (keep : StmtSet) (upto : List Moment)
         → IsWellFormed script → up_to_evaluation at k (told_by script capture path arguments steps) ≡ Some upto → IsClosed script (opening_in capture path arguments) upto keep

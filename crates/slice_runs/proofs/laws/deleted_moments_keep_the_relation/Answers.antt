@@ -12,6 +12,7 @@ returns c =
       quiet = c.few_operations_ask.ensures.quiet;
       same = c.few_operations_ask.ensures.same;
       unnoted = c.few_operations_ask.ensures.unnoted;
+      tidy = c.operations_open_tidily.ensures;
       changes = c.map_changes_by_accesses.ensures;
     } in
     λ capture script other keep upto at p vs n s t next answer came. deleted_moment laws (SamePlace script other) keep upto capture at p vs n s t next answer came

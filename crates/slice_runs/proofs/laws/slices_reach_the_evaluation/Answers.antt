@@ -11,6 +11,7 @@ returns c =
       quiet = c.few_operations_ask.ensures.quiet;
       same = c.few_operations_ask.ensures.same;
       unnoted = c.few_operations_ask.ensures.unnoted;
+      tidy = c.operations_open_tidily.ensures;
       changes = c.map_changes_by_accesses.ensures;
     } in
     λ script capture path arguments steps budget at k keep upto well is closed plain enough.
