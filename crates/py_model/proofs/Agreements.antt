@@ -1,5 +1,5 @@
 -- Every operation is alike for corresponding operands, those that print too, and asks nothing where it may not.
-use Rattle.std.proofs.Common.{◌≡◌, false, List, refl}
+use Rattle.std.proofs.Common.{◌≡◌, false, List, None, refl}
 use Rattle.py_value.specs.Contents.{Contents}
 use Rattle.py_model.proofs.AlikePrinting.{print_alike, repr_alike, str_alike}
 use Rattle.py_model.proofs.Correspondence.{allowed, operation_alike}
@@ -32,4 +32,4 @@ pub every_orderly : (op : Op) (values : List Contents) → IsOrderly (plan op va
 every_orderly op values = (every_alike as_they_are op values).orderly other_read
 
 pub every_tidy : (op : Op) (values : List Contents) → IsTidy (plan op values)
-every_tidy op values = (every_alike as_they_are op values).tidy
+every_tidy op values = (every_alike as_they_are op values).tidy None

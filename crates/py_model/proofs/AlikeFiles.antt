@@ -11,7 +11,12 @@ use Rattle.py_model.proofs.AlikeComparing.{if_alike}
 use Rattle.py_model.proofs.AlikeItems.{next_alike}
 use Rattle.py_model.proofs.AlikeOperands.{AlikeFor}
 use Rattle.py_model.proofs.AlikeWalks.{wrong_kind_alike, wrong_number_alike, fault_alike}
-use Rattle.py_model.proofs.AlikePlans.{Allowed, AlikeBy, both_read_file, both_read_offset, both_read_closed, both_kind, both_was_opened, both_ask, both_fetch, both_count, both_print, both_writes, both_make, both_make_opening, AlikePlainly, both_write, both_change, both_open, both_set_and_open, both_done, both_done_at_end}
+use Rattle.py_model.proofs.AlikePlans.{Allowed, AlikeBy, AlikeKnown, RaisesOnly, known_any, not_both, both_read_file, both_read_offset, both_read_closed, both_kind, both_ask, both_count, both_print, both_writes, both_make, both_make_opening, both_make_left, AlikePlainly, both_write, both_change, both_set_and_open, both_done, both_done_at_end}
+use Rattle.py_model.specs.Agreement as plans
+use Rattle.py_model.specs.Agreement.{Alike}
+use Rattle.py_model.specs.Orderly.{LastRead, other_read, IsOrderlyAfter}
+use Rattle.py_model.specs.Tidy.{is_there, IsTidyAfter}
+use Rattle.std.proofs.lemmas.Bool.{false≢true}
 use Rattle.py_model.specs.Faults.{fault, os_error, eof_error, wrong_kind}
 use Rattle.py_model.specs.Files.{bad_file, no_file, is_closed_fault, wrong_mode, not_utf8, device_failed, begun, with_file, open_with, open_plan, to_be_read, taken, read_plan, first_line, readline_plan, next_line, write_plan, close_plan, input_plan, time_ns_plan, drawn, no_range, draw_between, randint_plan, draw_below, randrange_plan}
 use Rattle.py_model.specs.Lists.{next}
@@ -31,41 +36,75 @@ module _ (may : Allowed) (r : Renaming) where
   by_found path go too_large = read_file path (λ content. bad_file)
   by_found path go found_failed = read_file path (λ content. bad_file)
 
-  by_found_alike : (path : List ℕ) (go gone : Option (List ℕ) → Plan) → ((bytes : Option (List ℕ)) → AlikeBy may r (go bytes) (gone bytes)) → (found : Found)
-      → AlikeBy may r (by_found path go found) (by_found path gone found)
-  by_found_alike path go gone each (found_bytes bytes) = both_read_file each
-  by_found_alike path go gone each absent = both_read_file each
-  by_found_alike path go gone each too_large = both_read_file (λ bytes. fault_alike may r _ _)
-  by_found_alike path go gone each found_failed = both_read_file (λ bytes. fault_alike may r _ _)
+  record FoundAlike (path : List ℕ) (p q : Plan) (found : Found) : Type 0 where
+    pub same : Alike r p q
+    pub again : RaisesOnly may.again p
+    pub tidy : IsTidyAfter (if is_there found then Some path else None) p
+    pub orderly : (last : LastRead) → IsOrderlyAfter last p
+
+  abbrev AllKnown : List ℕ → (Option (List ℕ) → Plan) → (Option (List ℕ) → Plan) → Type 0
+  AllKnown path go gone = (bytes : Option (List ℕ)) → AlikeKnown path may r (go bytes) (gone bytes)
+
+  not_read : (path : List ℕ) → AlikeBy may r (read_file path (λ content. bad_file)) (read_file path (λ content. bad_file))
+  not_read path = both_read_file (λ bytes. fault_alike may r _ _)
+
+  by_found_alike : (path : List ℕ) (go gone : Option (List ℕ) → Plan) → AllKnown path go gone → (found : Found) → FoundAlike path (by_found path go found) (by_found path gone found) found
+  by_found_alike path go gone each (found_bytes bytes) = record { same = plans.both_read_file (λ v. (each v).same); again = λ v. (each v).again; tidy = λ v. (each v).tidy; orderly = λ last v. (each v).orderly other_read }
+  by_found_alike path go gone each absent = record { same = plans.both_read_file (λ v. (each v).same); again = λ v. (each v).again; tidy = λ v. (each v).tidy; orderly = λ last v. (each v).orderly other_read }
+  by_found_alike path go gone each too_large = record { same = (not_read path).same; again = (not_read path).again; tidy = (not_read path).tidy None; orderly = (not_read path).orderly }
+  by_found_alike path go gone each found_failed = record { same = (not_read path).same; again = (not_read path).again; tidy = (not_read path).tidy None; orderly = (not_read path).orderly }
 
   abbrev by_opened : List ℕ → (Option (List ℕ) → Plan) → Bool → Plan
   by_opened path go true = read_file path go
   by_opened path go false = fetch path (by_found path go)
 
-  by_opened_alike : may.asks ≡ true → (path : List ℕ) (go gone : Option (List ℕ) → Plan) → ((bytes : Option (List ℕ)) → AlikeBy may r (go bytes) (gone bytes)) → (b : Bool)
-      → AlikeBy may r (by_opened path go b) (by_opened path gone b)
-  by_opened_alike asks path go gone each true = both_read_file each
-  by_opened_alike asks path go gone each false = both_fetch asks (by_found_alike path go gone each)
+  by_opened_same : (path : List ℕ) (go gone : Option (List ℕ) → Plan) → AllKnown path go gone → (b : Bool) → Alike r (by_opened path go b) (by_opened path gone b)
+  by_opened_same path go gone each true = plans.both_read_file (λ v. (each v).same)
+  by_opened_same path go gone each false = plans.both_fetch (λ found. (by_found_alike path go gone each found).same)
 
-  with_file_alike : may.asks ≡ true → (path : List ℕ) (go gone : Option (List ℕ) → Plan) → ((bytes : Option (List ℕ)) → AlikeBy may r (go bytes) (gone bytes)) → AlikeBy may r (with_file path go) (with_file path gone)
-  with_file_alike asks path go gone each = both_was_opened (record { gone = go; is = refl }) (by_opened_alike asks path go gone each)
+  by_opened_again : (path : List ℕ) (go gone : Option (List ℕ) → Plan) → AllKnown path go gone → (b : Bool) → RaisesOnly may.again (by_opened path go b)
+  by_opened_again path go gone each true = λ v. (each v).again
+  by_opened_again path go gone each false = λ found. (by_found_alike path go gone each found).again
+
+  by_opened_orderly : (path : List ℕ) (go gone : Option (List ℕ) → Plan) → AllKnown path go gone → (b : Bool) → IsOrderlyAfter other_read (by_opened path go b)
+  by_opened_orderly path go gone each true = λ v. (each v).orderly other_read
+  by_opened_orderly path go gone each false = λ found. (by_found_alike path go gone each found).orderly other_read
+
+  there_same : (path : List ℕ) (go : Option (List ℕ) → Plan) (found : Found) → is_there found ≡ true → by_found path go found ≡ read_file path go
+  there_same path go (found_bytes bytes) is = refl
+  there_same path go absent is = refl
+  there_same path go too_large is = absurd (false≢true is)
+  there_same path go found_failed is = absurd (false≢true is)
+
+  with_file_alike : may.asks ≡ true → (path : List ℕ) (go gone : Option (List ℕ) → Plan) → AllKnown path go gone → AlikeBy may r (with_file path go) (with_file path gone)
+  with_file_alike asks path go gone each = record {
+    same = plans.both_was_opened (by_opened_same path go gone each);
+    quiet = not_both may.asks asks;
+    again = by_opened_again path go gone each;
+    tidy = λ known. (
+      record { read = go; gone = by_found path go; opened_is = refl; fetched_is = refl; there_is = there_same path go },
+      (λ v. (each v).tidy),
+      (λ found. (by_found_alike path go gone each found).tidy),
+    );
+    orderly = λ last. by_opened_orderly path go gone each;
+  }
 
   -- `open`
   abbrev to_read : List ℕ → Option (List ℕ) → Plan
   to_read path (Some bytes) = makes (a_file path Read) begun
   to_read path None = no_file
 
-  to_read_alike : (path : List ℕ) (bytes : Option (List ℕ)) → AlikeBy may r (to_read path bytes) (to_read path bytes)
-  to_read_alike path (Some bytes) = both_make refl begun_alike
-  to_read_alike path None = fault_alike may r _ _
+  to_read_alike : (path : List ℕ) → AllKnown path (to_read path) (to_read path)
+  to_read_alike path (Some bytes) = known_any (both_make refl begun_alike)
+  to_read_alike path None = known_any (fault_alike may r _ _)
 
   abbrev to_append : List ℕ → Option (List ℕ) → Plan
   to_append path (Some bytes) = makes (a_file path Append) (λ o. opens path (begun o))
   to_append path None = makes (a_file path Append) (λ o. write (file_at path) (file_is []) (opens path (begun o)))
 
-  to_append_alike : (path : List ℕ) (bytes : Option (List ℕ)) → AlikeBy may r (to_append path bytes) (to_append path bytes)
-  to_append_alike path (Some bytes) = both_make_opening refl (λ o. both_open (begun_alike o))
-  to_append_alike path None = both_make_opening refl (λ o. both_set_and_open (begun_alike o))
+  to_append_alike : (path : List ℕ) → AllKnown path (to_append path) (to_append path)
+  to_append_alike path (Some bytes) = both_make_left refl begun_alike
+  to_append_alike path None = known_any (both_make_opening refl (λ o. both_set_and_open (begun_alike o)))
 
   abbrev at_path : List ℕ → Plan → Plan
   at_path path plan = if is_path path then plan else fault os_error (codes "bad path")

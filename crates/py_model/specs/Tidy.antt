@@ -1,12 +1,10 @@
--- Plans that open files for writing in few ways alone (this project's profile). What stands at the path is set to empty with it, or the file is
--- opened for appending. Whether a path was opened before is asked only by what then reads the file there.
-use Rattle.std.specs.Prelude.{◌≡◌, ◌⊎◌, ⊤, ℕ, Bool, true, List, [], Option}
+-- Plans that open files for writing in few ways alone (this project's profile). What stands at the path is set to empty with it, or it is left as it
+-- is where it was read. Whether a path was opened before is asked only by what then reads the file there.
+use Rattle.std.specs.Prelude.{◌≡◌, ◌⊎◌, ⊤, ℕ, Bool, true, false, if◌then◌else◌, List, [], Option, Some, None}
 use Rattle.prov_base.specs.declared.place.Pos.{Pos}
 use Rattle.py_value.specs.Contents.{Contents}
-use Rattle.py_value.specs.Seen.{SeenLocation, SeenKind, a_file, file_at, file_is}
-use Rattle.py_value.specs.declared.access.Mode.{Mode}
-use Rattle.py_value.specs.declared.access.Mode.TheVariants.{Append}
-use Rattle.py_model.specs.Plan.{Given, Found, Writes, write, change, move, opens, notes, done, done_at_end, Plan, read_var, read_len, read_item, read_entry, read_order, read_file, read_offset, read_closed, read_method, read_base, kind_of, name_of, was_opened, ask, fetch, looks, counts, prints, writes, makes, raises, raises_again, ends, runs_away}
+use Rattle.py_value.specs.Seen.{SeenLocation, SeenKind, file_at, file_is}
+use Rattle.py_model.specs.Plan.{Given, Found, found_bytes, absent, Writes, write, change, move, opens, notes, done, done_at_end, Plan, read_var, read_len, read_item, read_entry, read_order, read_file, read_offset, read_closed, read_method, read_base, kind_of, name_of, was_opened, ask, fetch, looks, counts, prints, writes, makes, raises, raises_again, ends, runs_away}
 
 -- a location that is no file
 abbrev pub IsNoFile : SeenLocation → Type 0
@@ -23,39 +21,51 @@ IsFileless (notes place name rest) = IsFileless rest
 IsFileless (done answer) = ⊤
 IsFileless done_at_end = ⊤
 
--- a file object of this kind is made, and its path opened: the file is set to empty, or opened for appending as it is
-pub data OpensFile : SeenKind → Writes → Type 0 where
-  sets_it : {path : List ℕ} {mode : Mode} {rest : Writes} → IsFileless rest → OpensFile (a_file path mode) (write (file_at path) (file_is []) (opens path rest))
-  appends_to_it : {path : List ℕ} {rest : Writes} → IsFileless rest → OpensFile (a_file path Append) (opens path rest)
+-- what was found at a path can be read, or nothing stands there
+abbrev pub is_there : Found → Bool
+is_there (found_bytes bytes) = true
+is_there absent = true
+is_there other = false
 
--- the file at a path is read next
-pub record ReadsFile (path : List ℕ) (p : Plan) : Type 0 where
-  pub gone : Option (List ℕ) → Plan
-  pub is : p ≡ read_file path gone
+-- A path is opened: the file is set to empty, or left as it is, where it is known that the path was opened or can be read.
+pub data OpensFile (known : Option (List ℕ)) : Writes → Type 0 where
+  sets_it : {path : List ℕ} {rest : Writes} → IsFileless rest → OpensFile known (write (file_at path) (file_is []) (opens path rest))
+  leaves_it : {path : List ℕ} {rest : Writes} → known ≡ Some path → IsFileless rest → OpensFile known (opens path rest)
 
--- whatever is read, the plan goes on so
+-- If the path was opened, the file is read next. If not, the path is fetched, and the plan goes on as if it was, where the file can be read.
+pub record AsksPath (path : List ℕ) (go : Bool → Plan) : Type 0 where
+  pub read : Option (List ℕ) → Plan
+  pub gone : Found → Plan
+  pub opened_is : go true ≡ read_file path read
+  pub fetched_is : go false ≡ fetch path gone
+  pub there_is : (found : Found) → is_there found ≡ true → gone found ≡ go true
+
+-- Whatever is read, the plan goes on so. It is known of one path that it was opened or can be read.
+abbrev pub IsTidyAfter : Option (List ℕ) → Plan → Type 0
+IsTidyAfter known (read_var scope name go) = (v : Option Contents) → IsTidyAfter known (go v)
+IsTidyAfter known (read_len o go) = (n : ℕ) → IsTidyAfter known (go n)
+IsTidyAfter known (read_item o i go) = (v : Option Contents) → IsTidyAfter known (go v)
+IsTidyAfter known (read_entry o key go) = (entry : Option (Contents × Contents)) → IsTidyAfter known (go entry)
+IsTidyAfter known (read_order o go) = (keys : List Contents) → IsTidyAfter known (go keys)
+IsTidyAfter known (read_file path go) = (bytes : Option (List ℕ)) → IsTidyAfter known (go bytes)
+IsTidyAfter known (read_offset o go) = (n : ℕ) → IsTidyAfter known (go n)
+IsTidyAfter known (read_closed o go) = (b : Bool) → IsTidyAfter known (go b)
+IsTidyAfter known (read_method place name go) = (at : Option Pos) → IsTidyAfter known (go at)
+IsTidyAfter known (read_base place go) = (v : Option Contents) → IsTidyAfter known (go v)
+IsTidyAfter known (kind_of o go) = (kind : Option SeenKind) → IsTidyAfter known (go kind)
+IsTidyAfter known (name_of place go) = (name : Option (List ℕ)) → IsTidyAfter known (go name)
+IsTidyAfter known (was_opened path go) = AsksPath path go × IsTidyAfter (Some path) (go true) × IsTidyAfter None (go false)
+IsTidyAfter known (ask what go) = (given : Given) → IsTidyAfter known (go given)
+IsTidyAfter known (fetch path go) = (found : Found) → IsTidyAfter (if is_there found then Some path else None) (go found)
+IsTidyAfter known (looks n rest) = IsTidyAfter known rest
+IsTidyAfter known (counts n rest) = IsTidyAfter known rest
+IsTidyAfter known (prints bytes rest) = IsTidyAfter known rest
+IsTidyAfter known (writes all) = IsFileless all
+IsTidyAfter known (makes kind all) = (o : ℕ) → IsFileless (all o) ⊎ OpensFile known (all o)
+IsTidyAfter known (raises of items) = ⊤
+IsTidyAfter known (raises_again o) = ⊤
+IsTidyAfter known ends = ⊤
+IsTidyAfter known runs_away = ⊤
+
 abbrev pub IsTidy : Plan → Type 0
-IsTidy (read_var scope name go) = (v : Option Contents) → IsTidy (go v)
-IsTidy (read_len o go) = (n : ℕ) → IsTidy (go n)
-IsTidy (read_item o i go) = (v : Option Contents) → IsTidy (go v)
-IsTidy (read_entry o key go) = (entry : Option (Contents × Contents)) → IsTidy (go entry)
-IsTidy (read_order o go) = (keys : List Contents) → IsTidy (go keys)
-IsTidy (read_file path go) = (bytes : Option (List ℕ)) → IsTidy (go bytes)
-IsTidy (read_offset o go) = (n : ℕ) → IsTidy (go n)
-IsTidy (read_closed o go) = (b : Bool) → IsTidy (go b)
-IsTidy (read_method place name go) = (at : Option Pos) → IsTidy (go at)
-IsTidy (read_base place go) = (v : Option Contents) → IsTidy (go v)
-IsTidy (kind_of o go) = (kind : Option SeenKind) → IsTidy (go kind)
-IsTidy (name_of place go) = (name : Option (List ℕ)) → IsTidy (go name)
-IsTidy (was_opened path go) = ReadsFile path (go true) × ((b : Bool) → IsTidy (go b))
-IsTidy (ask what go) = (given : Given) → IsTidy (go given)
-IsTidy (fetch path go) = (found : Found) → IsTidy (go found)
-IsTidy (looks n rest) = IsTidy rest
-IsTidy (counts n rest) = IsTidy rest
-IsTidy (prints bytes rest) = IsTidy rest
-IsTidy (writes all) = IsFileless all
-IsTidy (makes kind all) = (o : ℕ) → IsFileless (all o) ⊎ OpensFile kind (all o)
-IsTidy (raises of items) = ⊤
-IsTidy (raises_again o) = ⊤
-IsTidy ends = ⊤
-IsTidy runs_away = ⊤
+IsTidy p = IsTidyAfter None p

@@ -136,8 +136,8 @@ pub fn operations_are_orderly()
     ensures { (op : Op) (values : List Contents) → IsOrderly (plan op values) }
 {}
 
-/// The law of tidy openings: an operation that opens a file for writing sets it to empty, or appends to it as it is, and nothing else sets a file.
-/// An operation that asks whether a path was opened reads the file there, if it was.
+/// The law of tidy openings: an operation that opens a file for writing sets it to empty, or leaves it as it is where it was read. Nothing else sets
+/// a file. An operation that asks whether a path was opened reads the file there, and fetches it first if it was not.
 pub fn operations_open_tidily()
     ensures { (op : Op) (values : List Contents) → IsTidy (plan op values) }
 {}

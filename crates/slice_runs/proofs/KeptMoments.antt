@@ -1,5 +1,5 @@
 -- What a kept statement's operation does in the script's run, it does in the slice's too, up to the numbers of objects.
-use Rattle.std.proofs.Common.{◌≡◌, ◌≤◌, ◌<◌, ◌+◌, ◌-◌, ℕ, suc, Bool, true, false, List, [], ◌∷◌, ◌++◌, map, length, slice_get, Option, Some, option_map, ◌⊎◌, inl, inr, refl, sym, ap, ap₂, subst, ◌∙◌, arith, append_assoc}
+use Rattle.std.proofs.Common.{◌≡◌, ◌≤◌, ◌<◌, ◌+◌, ◌-◌, ℕ, suc, Bool, true, false, List, [], ◌∷◌, ◌++◌, map, length, slice_get, Option, Some, None, option_map, ◌⊎◌, inl, inr, refl, sym, ap, ap₂, subst, ◌∙◌, arith, append_assoc}
 use Rattle.std.proofs.lemmas.List.{length-map}
 use Rattle.std.proofs.lemmas.Option.{slice_get-map}
 use Rattle.prov_base.specs.declared.place.Pos.{Pos}
@@ -7,8 +7,8 @@ use Rattle.py_value.specs.Contents.{Contents}
 use Rattle.py_value.specs.Seen.{SeenLocation, SeenAccess, SeenKind, file_at, reads, sets, updates}
 use Rattle.py_model.specs.Act.{Walked}
 use Rattle.py_model.specs.Agreement.{Alike, Agrees, NextCorresponds}
-use Rattle.py_model.specs.Capture.{Capture, answers_at}
-use Rattle.py_model.specs.Effect.{Touch, answered, Effect, effect, accesses_in, after, after_accesses, weight, cost}
+use Rattle.py_model.specs.Capture.{Capture, answers_at, found_in}
+use Rattle.py_model.specs.Effect.{Touch, answered, Answers, Effect, effect, accesses_in, after, after_accesses, weight, cost}
 use Rattle.py_model.specs.History.{spent_on, with_kind}
 use Rattle.py_model.specs.Moment.{Moment, does}
 use Rattle.py_model.specs.Occurrences.{sets_at, updates_at}
@@ -17,16 +17,17 @@ use Rattle.py_model.specs.Plan.{Answer}
 use Rattle.py_model.specs.Quiet.{may_ask}
 use Rattle.py_model.specs.Renaming.{Renaming, renamed_touch, renamed_answer, renamed_kind, renamed_access, renamed_outcome, renamed_effect}
 use Rattle.py_model.specs.Running.{Asking, State, did, askings_at, walked, performed, effect_of, operation}
-use Rattle.py_model.specs.Store.{has_path}
+use Rattle.py_model.specs.Store.{RunStore, has_path}
 use Rattle.slice_law.specs.Closed.{StmtSet}
 use Rattle.slice_law.specs.Edges.{owner_stmt}
 use Rattle.slice_runs.proofs.Happenings.{Laws, DidSo, did_so, do_so, asked_after, fetched_after, with_asked, note_as, asked_alike}
 use Rattle.slice_runs.proofs.Marks.{kind_at, next_at, marked_at, kinds_made, counted_made, Grows, marks_grow, spent_joined, shifts}
-use Rattle.slice_runs.proofs.Opened.{opens_at, open_keeps, open_now, open_from, same_opens, tidily, AreOpened, opened_at, opened_agree}
+use Rattle.slice_runs.proofs.Late.{SameBut, but_accesses, but_weight, but_cost, but_opens, but_askings, but_store, AreOpened, opened_at, all_opened, late}
+use Rattle.slice_runs.proofs.Opened.{opens_at, open_keeps, open_now, open_from, same_opens, tidily}
 use Rattle.slice_runs.proofs.Readings.{AreRead, agrees}
 use Rattle.slice_runs.proofs.Renamings.{accesses_match}
 use Rattle.slice_runs.proofs.Touching.{kinds_grow, AlikeNotes, notes_after, same_accesses, walked_same}
-use Rattle.slice_runs.specs.Related.{AllInReach, DoneAgain, ByAccess, OwnerIsKept, IsInReach, both_did, kept_of, Related}
+use Rattle.slice_runs.specs.Related.{IsThere, AllInReach, DoneAgain, ByAccess, OwnerIsKept, IsInReach, both_did, kept_of, Related}
 use Rattle.slice_runs.specs.Renaming.{is_kept, with_mark, marks_after, is_marked, rank, Fits, Matches, IsShifted, SameValues, SameOp}
 
 by_access : (own earlier : Type 0) (a b : Bool) → ByAccess a b own earlier → (a ≡ true) ⊎ earlier
@@ -49,7 +50,7 @@ module _ (laws : Laws) (capture : Capture) (names : ℕ → ℕ → Type 0) (kee
   marks = marks_after keep upto
 
   module _ (at : Pos) (p q : Op) (vs ws : List Contents) (n : ℕ) (s t : State)
-      (related : Related names keep upto s t) (kept : keep n ≡ true) (owner : owner_stmt s.told ≡ Some n)
+      (related : Related capture names keep upto s t) (kept : keep n ≡ true) (owner : owner_stmt s.told ≡ Some n)
       (same_op : SameOp marks p q) (same_values : SameValues marks vs ws) (same_asked : effect_of capture at q ws t ≡ effect t.store (answers_at capture at (suc (askings_at at s.askings))) (plan q ws)) where
     abbrev pub own : Effect
     own = effect_of capture at p vs s
@@ -66,12 +67,28 @@ module _ (laws : Laws) (capture : Capture) (names : ℕ → ℕ → Type 0) (kee
     known (sets l content ∷ accesses) there = known accesses there
     known (updates l how ∷ accesses) there = known accesses there
 
-    known_opened : (accesses : List SeenAccess) → AllInReach keep s.told accesses → AreOpened s.store t.store accesses
+    -- the slice's store, as if the paths that the script's run opened were opened there
+    abbrev full : RunStore
+    full = record t.store { opened = s.store.opened }
+
+    abbrev here : Answers
+    here = answers_at capture at (suc (askings_at at s.askings))
+
+    known_full : (accesses : List SeenAccess) → AllInReach keep s.told accesses → AreRead s.store full marks accesses
+    known_full [] there = tt
+    known_full (reads l ∷ accesses) there = (related.contents l there.0, known_full accesses there.1)
+    known_full (sets l content ∷ accesses) there = known_full accesses there
+    known_full (updates l how ∷ accesses) there = known_full accesses there
+
+    known_opened : (accesses : List SeenAccess) → AllInReach keep s.told accesses → AreOpened s.store.opened t.store here accesses
     known_opened [] there = tt
     known_opened (reads l ∷ accesses) there =
-        (opened_at s.store t.store l (λ path is before. related.opened_here path before (subst (λ m. IsInReach keep m s.told) is there.0)), known_opened accesses there.1)
+        (opened_at s.store.opened t.store here l (λ path is before. related.opened_here path before (subst (λ m. IsInReach keep m s.told) is there.0)), known_opened accesses there.1)
     known_opened (sets l content ∷ accesses) there = known_opened accesses there
     known_opened (updates l how ∷ accesses) there = known_opened accesses there
+
+    abbrev pub fully : Effect
+    fully = effect full here (plan q ws)
 
     module _ (answer : Answer) (news : List Moment) (upto_is : upto ≡ news ++ moment answer ∷ s.told)
         (there : AllInReach keep s.told (accesses_in own.touches)) where
@@ -109,14 +126,10 @@ module _ (laws : Laws) (capture : Capture) (names : ℕ → ℕ → Type 0) (kee
               ∙ (ap₂ (λ made mark. with_mark made mark (marks_after keep s.told) ++ grows.more) made own_mark
               ∙ append_assoc (marks_after keep s.told) (true ∷ []) grows.more)
 
-      reads_agree : (r : Renaming) → Fits marks r
-          → Agrees r s.store t.store (answers_at capture at (suc (askings_at at s.askings))) (answers_at capture at (suc (askings_at at s.askings))) (plan p vs)
+      reads_agree : (r : Renaming) → Fits marks r → Agrees r s.store full here here (plan p vs)
       reads_agree r fits =
-          agrees s.store t.store marks near far kinds_agree related.noted_names
-          (answers_at capture at (suc (askings_at at s.askings))) r fits (plan p vs) (plan q ws)
-          (alike near) (alike far) (known (accesses_in own.touches) there)
-          (opened_agree s.store t.store (answers_at capture at (suc (askings_at at s.askings))) related.opened_there (plan p vs) (laws.tidy p vs) (known_opened (accesses_in own.touches) there))
-          (next_is r fits)
+          agrees s.store full marks near far kinds_agree related.noted_names (λ path. refl) here r fits (plan p vs) (plan q ws)
+          (alike near) (alike far) (known_full (accesses_in own.touches) there) (next_is r fits)
         where
           near : IsShifted marks 0
           near = shifts keep upto 0
@@ -127,27 +140,37 @@ module _ (laws : Laws) (capture : Capture) (names : ℕ → ℕ → Type 0) (kee
           alike : {more : ℕ} → (shift : IsShifted marks more) → Alike shift.by (plan p vs) (plan q ws)
           alike shift = subst (Alike shift.by (plan p vs)) (sym (ap₂ plan (same_op.is shift.by shift.fits) (same_values.is shift.by shift.fits))) (laws.alike shift.by p vs)
 
-      same_effect : (r : Renaming) → Fits marks r → other ≡ renamed_effect r own
-      same_effect r fits =
-          same_asked ∙ (ap₂ (λ op values. effect t.store (answers_at capture at (suc (askings_at at s.askings))) (plan op values)) (same_op.is r fits) (same_values.is r fits)
-          ∙ (laws.agree r s.store t.store (answers_at capture at (suc (askings_at at s.askings))) (answers_at capture at (suc (askings_at at s.askings))) p vs (reads_agree r fits)).0)
+      agreed : (r : Renaming) → Fits marks r → (fully ≡ renamed_effect r own) × (weight fully ≡ weight own) × (cost fully ≡ cost own)
+      agreed r fits = subst (λ e. (e ≡ renamed_effect r own) × (weight e ≡ weight own) × (cost e ≡ cost own))
+          (sym (ap₂ (λ op values. effect full here (plan op values)) (same_op.is r fits) (same_values.is r fits))) (laws.agree r s.store full here here p vs (reads_agree r fits))
+
+      pub full_effect : (r : Renaming) → Fits marks r → fully ≡ renamed_effect r own
+      full_effect r fits = (agreed r fits).0
+
+      full_accesses : (r : Renaming) → Fits marks r → accesses_in fully.touches ≡ map (renamed_access r) (accesses_in own.touches)
+      full_accesses r fits = ap (λ e. accesses_in e.touches) (full_effect r fits) ∙ same_accesses r own.touches
+
+      -- what is done differs in what is fetched alone
+      pub same_but : SameBut fully other
+      same_but = subst (SameBut fully) (sym same_asked)
+          (late s.store.opened t.store here related.opened_there None (plan q ws) (laws.tidy q ws)
+          (subst (AreOpened s.store.opened t.store here) (sym (full_accesses (shifts keep upto 0).by (shifts keep upto 0).fits))
+          (all_opened s.store.opened t.store here (shifts keep upto 0).by (accesses_in own.touches) (known_opened (accesses_in own.touches) there))))
+
+      same_made : (r : Renaming) → Fits marks r → other.made ≡ option_map (renamed_kind r) own.made
+      same_made r fits = same_but.made ∙ ap (λ e. e.made) (full_effect r fits)
+
+      same_outcome : (r : Renaming) → Fits marks r → other.outcome ≡ renamed_outcome r own.outcome
+      same_outcome r fits = same_but.outcome ∙ ap (λ e. e.outcome) (full_effect r fits)
 
       same_weight : weight other ≡ weight own
-      same_weight =
-          let r = (shifts keep upto 0).by in
-          let fits = (shifts keep upto 0).fits in
-          ap weight same_asked ∙ (ap₂ (λ op values. weight (effect t.store (answers_at capture at (suc (askings_at at s.askings))) (plan op values))) (same_op.is r fits) (same_values.is r fits)
-          ∙ (laws.agree r s.store t.store (answers_at capture at (suc (askings_at at s.askings))) (answers_at capture at (suc (askings_at at s.askings))) p vs (reads_agree r fits)).1)
+      same_weight = but_weight fully other same_but ∙ (agreed (shifts keep upto 0).by (shifts keep upto 0).fits).1
 
       same_cost : cost other ≡ cost own
-      same_cost =
-          let r = (shifts keep upto 0).by in
-          let fits = (shifts keep upto 0).fits in
-          ap cost same_asked ∙ (ap₂ (λ op values. cost (effect t.store (answers_at capture at (suc (askings_at at s.askings))) (plan op values))) (same_op.is r fits) (same_values.is r fits)
-          ∙ (laws.agree r s.store t.store (answers_at capture at (suc (askings_at at s.askings))) (answers_at capture at (suc (askings_at at s.askings))) p vs (reads_agree r fits)).2)
+      same_cost = but_cost fully other same_but ∙ (agreed (shifts keep upto 0).by (shifts keep upto 0).fits).2
 
       others_accesses : (r : Renaming) → Fits marks r → accesses_in other.touches ≡ map (renamed_access r) (accesses_in own.touches)
-      others_accesses r fits = ap (λ e. accesses_in e.touches) (same_effect r fits) ∙ same_accesses r own.touches
+      others_accesses r fits = but_accesses fully other same_but ∙ full_accesses r fits
 
       enough_left : cost own + spent_on s.told ≤ t.left + spent_on s.told
       enough_left = omega (arith, related.enough, ap spent_on upto_is, spent_joined news (moment answer ∷ s.told))
@@ -157,20 +180,20 @@ module _ (laws : Laws) (capture : Capture) (names : ℕ → ℕ → Type 0) (kee
         again = renamed_answer (shifts keep upto 0).by answer
 
         outcome_is : other.outcome ≡ answered again
-        outcome_is = ap (λ e. e.outcome) (same_effect (shifts keep upto 0).by (shifts keep upto 0).fits) ∙ ap (renamed_outcome (shifts keep upto 0).by) answers
+        outcome_is = same_outcome (shifts keep upto 0).by (shifts keep upto 0).fits ∙ ap (renamed_outcome (shifts keep upto 0).by) answers
 
         again_is : (r : Renaming) → Fits marks r → again ≡ renamed_answer r answer
-        again_is r fits = answered_same again (renamed_answer r answer) (sym outcome_is ∙ (ap (λ e. e.outcome) (same_effect r fits) ∙ ap (renamed_outcome r) answers))
+        again_is r fits = answered_same again (renamed_answer r answer) (sym outcome_is ∙ (same_outcome r fits ∙ ap (renamed_outcome r) answers))
 
         pub related_after : (a b : List Asking) (f g : List (List ℕ))
-            → Related names keep upto (performed at p vs answer own (record s { askings = a; fetches = f })) (performed at q ws again other (record t { askings = b; fetches = g }))
+            → Related capture names keep upto (performed at p vs answer own (record s { askings = a; fetches = f })) (performed at q ws again other (record t { askings = b; fetches = g }))
         related_after a b f g = record {
           follows = both_did kept owner (λ r fits. does_same (ap (λ op. op.no) (same_op.is r fits)) (same_values.is r fits) (again_is r fits)
-              (ap (λ e. e.made) (same_effect r fits)) (others_accesses r fits) same_weight) related.follows;
+              (same_made r fits) (others_accesses r fits) same_weight) related.follows;
           contents = λ l inside r fits. contents_after l inside r fits;
           kinds = λ r fits.
               kinds_grow other t.store
-              ∙ (ap (λ e. with_kind e.made t.store.kinds) (same_effect r fits)
+              ∙ (ap (λ made. with_kind made t.store.kinds) (same_made r fits)
               ∙ (kinds_made (renamed_kind r) (marks_after keep s.told) s.store.kinds t.store.kinds related.counted (related.kinds r fits) own.made
               ∙ ap₂ (λ mark kinds. map (renamed_kind r) (kept_of (with_mark own.made mark (marks_after keep s.told)) kinds)) (sym own_mark) (sym (kinds_grow own s.store))));
           counted = ap length (kinds_grow own s.store) ∙ counted_made own.made (is_kept keep (owner_stmt s.told)) (marks_after keep s.told) s.store.kinds related.counted;
@@ -183,22 +206,25 @@ module _ (laws : Laws) (capture : Capture) (names : ℕ → ℕ → Type 0) (kee
         }
           where
             notes : AlikeNotes (after own s.store) (after other t.store)
-            notes = subst (λ e. AlikeNotes (after own s.store) (after e t.store)) (sym (same_effect (shifts keep upto 0).by (shifts keep upto 0).fits))
+            notes = subst (AlikeNotes (after own s.store)) (sym (but_store fully other same_but t.store ∙ ap (λ e. after e t.store) (full_effect (shifts keep upto 0).by (shifts keep upto 0).fits)))
                 (notes_after (shifts keep upto 0).by own s.store t.store (record { names = related.noted_names }))
 
             same_paths : (path : List ℕ) → opens_at path other.touches ≡ opens_at path own.touches
-            same_paths path = ap (λ e. opens_at path e.touches) (same_effect (shifts keep upto 0).by (shifts keep upto 0).fits) ∙ same_opens path (shifts keep upto 0).by own.touches
+            same_paths path = but_opens fully other same_but path ∙ (ap (λ e. opens_at path e.touches) (full_effect (shifts keep upto 0).by (shifts keep upto 0).fits) ∙ same_opens path (shifts keep upto 0).by own.touches)
 
             there_after : (path : List ℕ) → (has_path path t.store.opened ≡ true) ⊎ (opens_at path other.touches ≡ true) → has_path path (after own s.store).opened ≡ true
             there_after path (inl was) = open_keeps path own s.store (related.opened_there path was)
             there_after path (inr now) = open_now path own s.store (sym (same_paths path) ∙ now)
 
             here_after : (path : List ℕ) → (sets_at (file_at path) (accesses_in own.touches) ≡ true) ⊎ IsInReach keep (file_at path) s.told
-                → (has_path path s.store.opened ≡ true) ⊎ (opens_at path own.touches ≡ true) → has_path path (after other t.store).opened ≡ true
-            here_after path (inl set) known = open_now path other t.store
-                (same_paths path ∙ (tidily path s.store (answers_at capture at (suc (askings_at at s.askings))) (plan p vs) (laws.tidy p vs)).opens_it_too set)
-            here_after path (inr inside) (inl was) = open_keeps path other t.store (related.opened_here path was inside)
-            here_after path (inr inside) (inr now) = open_now path other t.store (same_paths path ∙ now)
+                → (has_path path s.store.opened ≡ true) ⊎ (opens_at path own.touches ≡ true) → (has_path path (after other t.store).opened ≡ true) ⊎ IsThere (found_in capture.files) path
+            here_after path (inl set) known = inl (open_now path other t.store (same_paths path ∙ (tidily path s.store here None (plan p vs) (laws.tidy p vs)).opens_it_too set))
+            here_after path (inr inside) (inr now) = inl (open_now path other t.store (same_paths path ∙ now))
+            here_after path (inr inside) (inl was) = by_before (related.opened_here path was inside)
+              where
+                by_before : (has_path path t.store.opened ≡ true) ⊎ IsThere (found_in capture.files) path → (has_path path (after other t.store).opened ≡ true) ⊎ IsThere (found_in capture.files) path
+                by_before (inl there) = inl (open_keeps path other t.store there)
+                by_before (inr there) = inr there
 
             before : (l : SeenLocation) → IsInReach keep l (moment answer ∷ s.told) → (r : Renaming) → Fits marks r
                 → (sets_at l (accesses_in own.touches) ≡ true) ⊎ Matches r s.store.at t.store.at l
@@ -225,7 +251,7 @@ module _ (laws : Laws) (capture : Capture) (names : ℕ → ℕ → Type 0) (kee
 
   -- one moment of a kept statement
   pub kept_moment : (at : Pos) (p q : Op) (vs ws : List Contents) (n : ℕ) (s t next : State) (answer : Answer) (came : Walked)
-      → Related names keep upto s t → keep n ≡ true → owner_stmt s.told ≡ Some n → SameOp marks p q → SameValues marks vs ws
+      → Related capture names keep upto s t → keep n ≡ true → owner_stmt s.told ≡ Some n → SameOp marks p q → SameValues marks vs ws
       → (may_ask p.no ≡ false) ⊎ (askings_at at t.askings ≡ askings_at at s.askings)
       → operation capture at p vs s ≡ did answer came next → (news : List Moment) → upto ≡ news ++ next.told
       → AllInReach keep s.told (accesses_in (effect_of capture at p vs s).touches) → DoneAgain capture names keep upto at q ws s t answer came next
@@ -239,14 +265,15 @@ module _ (laws : Laws) (capture : Capture) (names : ℕ → ℕ → Type 0) (kee
         ∙ ap (λ came. did (renamed_answer (shifts keep upto 0).by answer) came
         (performed at q ws (renamed_answer (shifts keep upto 0).by answer) (effect_of capture at q ws t) (with_asked at (suc (askings_at at t.askings)) (effect_of capture at q ws t).touches t))) came_same;
     answers = again_is at p q vs ws n s t related kept owner same_op same_values asked_so answer news upto_now there so.answers;
-    related = subst (λ next. Related names keep upto next
+    related = subst (λ next. Related capture names keep upto next
         (performed at q ws (renamed_answer (shifts keep upto 0).by answer) (effect_of capture at q ws t) (with_asked at (suc (askings_at at t.askings)) (effect_of capture at q ws t).touches t))) (sym so.next_is)
         (related_after at p q vs ws n s t related kept owner same_op same_values asked_so answer news upto_now there so.answers
         (asked_after at (suc (askings_at at s.askings)) (effect_of capture at p vs s).touches s.askings) (asked_after at (suc (askings_at at t.askings)) (effect_of capture at q ws t).touches t.askings)
         (fetched_after (effect_of capture at p vs s).touches s.fetches) (fetched_after (effect_of capture at q ws t).touches t.fetches));
-    askings = λ place same. ap (λ (touches : List Touch). askings_at place (asked_after at (suc (askings_at at t.askings)) touches t.askings)) others_touches
+    askings = λ place same. ap (λ (asked : List Asking). askings_at place asked) others_asked
+        ∙ (ap (λ (touches : List Touch). askings_at place (asked_after at (suc (askings_at at t.askings)) touches t.askings)) others_touches
         ∙ (asked_alike (shifts keep upto 0).by at place (suc (askings_at at s.askings)) (suc (askings_at at t.askings)) (effect_of capture at p vs s).touches s.askings t.askings same
-        ∙ sym (ap (λ (next : State). askings_at place next.askings) so.next_is));
+        ∙ sym (ap (λ (next : State). askings_at place next.askings) so.next_is)));
     fewer = left_falls (cost (effect_of capture at q ws t)) t.left (omega arith) pays;
   }
     where
@@ -260,9 +287,14 @@ module _ (laws : Laws) (capture : Capture) (names : ℕ → ℕ → Type 0) (kee
       asked_so : effect_of capture at q ws t ≡ effect t.store (answers_at capture at (suc (askings_at at s.askings))) (plan q ws)
       asked_so = asks_alike at p q ws s t (ap (λ op. op.no) (same_op.is (shifts keep upto 0).by (shifts keep upto 0).fits)) asks
 
-      others_touches : (effect_of capture at q ws t).touches ≡ map (renamed_touch (shifts keep upto 0).by) (effect_of capture at p vs s).touches
+      others_asked : asked_after at (suc (askings_at at t.askings)) (effect_of capture at q ws t).touches t.askings
+          ≡ asked_after at (suc (askings_at at t.askings)) (fully at p q vs ws n s t related kept owner same_op same_values asked_so).touches t.askings
+      others_asked = but_askings (fully at p q vs ws n s t related kept owner same_op same_values asked_so) (effect_of capture at q ws t)
+          (same_but at p q vs ws n s t related kept owner same_op same_values asked_so answer news upto_now there) at (suc (askings_at at t.askings)) t.askings
+
+      others_touches : (fully at p q vs ws n s t related kept owner same_op same_values asked_so).touches ≡ map (renamed_touch (shifts keep upto 0).by) (effect_of capture at p vs s).touches
       others_touches = ap (λ e. e.touches)
-          (same_effect at p q vs ws n s t related kept owner same_op same_values asked_so answer news upto_now there (shifts keep upto 0).by (shifts keep upto 0).fits)
+          (full_effect at p q vs ws n s t related kept owner same_op same_values asked_so answer news upto_now there (shifts keep upto 0).by (shifts keep upto 0).fits)
 
       pays : cost (effect_of capture at q ws t) ≤ t.left
       pays = omega (

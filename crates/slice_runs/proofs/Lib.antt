@@ -22,6 +22,7 @@ mod Evaluations
 mod Functionless
 mod AtomicValues
 mod Opened
+mod Late
 mod Reachables
 mod SharedGraphs
 mod Nameless

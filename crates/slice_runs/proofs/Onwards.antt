@@ -108,7 +108,7 @@ module _ (capture : Capture) where
       by_left : (b : Bool) → Onward (entering at def names values s) (state_in (outcome capture (next (suc s.entered)) (entering at def names values s)))
           → Onward s (state_in (if b then outcome capture (next (suc s.entered)) (entering at def names values s) else spent s))
       by_left true on =
-          onward_then (onward_told (enters at def values (parameters_set (suc s.entered) names values)) refl (λ is. record { names = is.names; appends_none = is.appends_none })) on
+          onward_then (onward_told (enters at def values (parameters_set (suc s.entered) names values)) refl (λ is. record { names = is.names })) on
       by_left false on = onward_same refl refl
   onwards (leave v rest) s = onward_then (onward_told (leaves v) refl (λ is. is)) (onwards rest (tell (leaves v) s))
 

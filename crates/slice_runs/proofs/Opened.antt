@@ -1,21 +1,17 @@
--- Paths that are opened for writing: what an operation opens it sets too, and whether a path was opened is the same in both runs where the plan
--- goes on to read the file there.
-use Rattle.std.proofs.Common.{◌≡◌, ℕ, Bool, true, false, ◌||◌, List, [], ◌∷◌, ◌++◌, map, length, slice_get, Option, Some, None, if◌then◌else◌, ◌⊎◌, inl, inr, refl, sym, ap, subst, ◌∙◌}
-use Rattle.std.specs.Prelude.{⊤}
+-- Paths that are opened for writing: what an operation opens it sets too, or leaves as it is where it was read; and what it sets it opens.
+use Rattle.std.proofs.Common.{◌≡◌, ℕ, Bool, true, false, ◌||◌, List, [], ◌∷◌, ◌++◌, map, length, slice_get, Option, Some, None, if◌then◌else◌, ◌⊎◌, inl, inr, refl, sym, ap, ◌∙◌}
 use Rattle.std.specs.Str.{bytes_eq}
 use Rattle.std.proofs.lemmas.Bool.{false≢true}
 use Rattle.std.proofs.lemmas.Slice.Eq.{bytes_eq-Decides}
-use Rattle.prov_base.specs.declared.place.Pos.{Pos}
-use Rattle.py_value.specs.Contents.{Contents}
 use Rattle.py_value.specs.Same.{same_location}
-use Rattle.py_value.specs.Seen.{SeenLocation, SeenAccess, SeenKind, a_file, var_at, len_at, item_at, entry_at, order_at, file_at, offset_at, closed_at, method_at, base_at, reads, sets, updates}
-use Rattle.py_value.specs.declared.access.Mode.TheVariants.{Append}
+use Rattle.py_value.specs.Seen.{SeenLocation, SeenKind, var_at, len_at, item_at, order_at, file_at, offset_at, closed_at, method_at, base_at, reads}
 use Rattle.py_model.specs.Effect.{Touch, accessed, looked, counted, printed, opened, noted, asked, fetched, Answers, Effect, effect, written, accesses_in, after, after_touches, after_touch, with_made, touching, lacking}
 use Rattle.py_model.specs.Occurrences.{sets_at}
 use Rattle.py_model.specs.Plan.{Writes, write, change, move, opens, notes, done, done_at_end, Plan, read_var, read_len, read_item, read_entry, read_order, read_file, read_offset, read_closed, read_method, read_base, kind_of, name_of, was_opened, ask, fetch, looks, counts, prints, writes, makes, raises, raises_again, ends, runs_away, Given, Found}
 use Rattle.py_model.specs.Renaming.{Renaming, renamed_touch}
 use Rattle.py_model.specs.Store.{RunStore, has_path, with_path, var_of, len_of, item_of, entry_of, order_of, file_of, offset_of, closed_of, method_of, base_of}
-use Rattle.py_model.specs.Tidy.{IsNoFile, IsFileless, OpensFile, sets_it, appends_to_it, ReadsFile, IsTidy}
+use Rattle.py_model.specs.Tidy.{IsNoFile, IsFileless, is_there, OpensFile, sets_it, leaves_it, IsTidyAfter}
+use Rattle.slice_runs.specs.Related.{IsThere}
 
 same_path : (p q : List ℕ) → bytes_eq p q ≡ true → p ≡ q
 same_path p q is = (bytes_eq-Decides p q).0 is
@@ -180,11 +176,6 @@ module _ (path : List ℕ) where
   same_opens r (asked what ∷ touches) = same_opens r touches
   same_opens r (fetched one ∷ touches) = same_opens r touches
 
-  -- What is opened is set too, or for appending; and what is set is opened.
-  pub record OpensTidily (e : Effect) : Type 0 where
-    pub sets_it_too : opens_at path e.touches ≡ true → (sets_at (file_at path) (accesses_in e.touches) ≡ true) ⊎ (e.made ≡ Some (a_file path Append))
-    pub opens_it_too : sets_at (file_at path) (accesses_in e.touches) ≡ true → opens_at path e.touches ≡ true
-
   record OpensNone (touches : List Touch) : Type 0 where
     pub opens_none : opens_at path touches ≡ false
     pub sets_none : sets_at (file_at path) (accesses_in touches) ≡ false
@@ -192,9 +183,6 @@ module _ (path : List ℕ) where
   no_file : (l : SeenLocation) → IsNoFile l → same_location l (file_at path) ≡ false
   no_file (file_at one) not = absurd not
   no_file l not = refl
-
-  no_more : (e : Effect) → OpensNone e.touches → OpensTidily e
-  no_more e none = record { sets_it_too = λ is. absurd (false≢true (sym none.opens_none ∙ is)); opens_it_too = λ is. absurd (false≢true (sym none.sets_none ∙ is)) }
 
   module _ (store : RunStore) where
     fileless : (made : Option SeenKind) (all : Writes) → IsFileless all → OpensNone (written store made all).touches
@@ -208,15 +196,6 @@ module _ (path : List ℕ) where
     fileless made (done answer) none = record { opens_none = refl; sets_none = refl }
     fileless made done_at_end none = record { opens_none = refl; sets_none = refl }
 
-    made_is : (made : Option SeenKind) (all : Writes) → (written store made all).made ≡ made
-    made_is made (write l content rest) = made_is made rest
-    made_is made (change l how rest) = made_is made rest
-    made_is made (move o from onto rest) = made_is made rest
-    made_is made (opens one rest) = made_is made rest
-    made_is made (notes place name rest) = made_is made rest
-    made_is made (done answer) = refl
-    made_is made done_at_end = refl
-
     other_way : (p q : List ℕ) (a b : Bool) → a ≡ false → b ≡ false → (bytes_eq p q || a) ≡ true → (bytes_eq q p || b) ≡ true
     other_way p q a b none another is = by_parts (or_parts (bytes_eq p q) a is)
       where
@@ -224,174 +203,108 @@ module _ (path : List ℕ) where
         by_parts (inl same) = or_left (bytes_eq q p) b ((bytes_eq-Decides q p).1 (sym (same_path p q same)))
         by_parts (inr there) = absurd (false≢true (sym none ∙ there))
 
-    opening : (kind : SeenKind) (all : Writes) → OpensFile kind all → OpensTidily (written store (Some kind) all)
-    opening _ _ (sets_it {path = one} {mode = mode} {rest = rest} none) =
-        let more = fileless (Some (a_file one mode)) rest none in
-        record {
-          sets_it_too = λ is. inl (other_way path one (opens_at path (written store (Some (a_file one mode)) rest).touches) (sets_at (file_at path) (accesses_in (written store (Some (a_file one mode)) rest).touches)) more.opens_none more.sets_none is);
-          opens_it_too = λ is. other_way one path (sets_at (file_at path) (accesses_in (written store (Some (a_file one mode)) rest).touches)) (opens_at path (written store (Some (a_file one mode)) rest).touches) more.sets_none more.opens_none is;
-        }
-    opening _ _ (appends_to_it {path = one} {rest = rest} none) =
-        let more = fileless (Some (a_file one Append)) rest none in
-        record {
-          sets_it_too = λ is. inr (by_parts more.opens_none (or_parts (bytes_eq path one) (opens_at path (written store (Some (a_file one Append)) rest).touches) is));
-          opens_it_too = λ is. absurd (false≢true (sym more.sets_none ∙ is));
-        }
-      where
-        by_parts : {b : Bool} → b ≡ false → (bytes_eq path one ≡ true) ⊎ (b ≡ true) → (written store (Some (a_file one Append)) (opens one rest)).made ≡ Some (a_file path Append)
-        by_parts none (inl same) = made_is (Some (a_file one Append)) rest ∙ ap (λ p. Some (a_file p Append)) (sym (same_path path one same))
-        by_parts none (inr there) = absurd (false≢true (sym none ∙ there))
-
     module _ (answers : Answers) where
-      again : {e : Effect} (touch : Touch) → opens_at path (touch ∷ e.touches) ≡ opens_at path e.touches
-          → sets_at (file_at path) (accesses_in (touch ∷ e.touches)) ≡ sets_at (file_at path) (accesses_in e.touches) → OpensTidily e → OpensTidily (touching touch e)
-      again {e} touch opens_same sets_same tidy = record {
+      -- why a path is opened that is not set
+      abbrev pub IsLeft : Option (List ℕ) → Type 0
+      IsLeft known = (known ≡ Some path) ⊎ ((has_path path store.opened ≡ true) ⊎ IsThere answers.found path)
+
+      -- What is opened is set too, or left as it is; and what is set is opened.
+      pub record OpensTidily (known : Option (List ℕ)) (e : Effect) : Type 0 where
+        pub sets_it_too : opens_at path e.touches ≡ true → (sets_at (file_at path) (accesses_in e.touches) ≡ true) ⊎ IsLeft known
+        pub opens_it_too : sets_at (file_at path) (accesses_in e.touches) ≡ true → opens_at path e.touches ≡ true
+
+      no_more : (known : Option (List ℕ)) (e : Effect) → OpensNone e.touches → OpensTidily known e
+      no_more known e none = record { sets_it_too = λ is. absurd (false≢true (sym none.opens_none ∙ is)); opens_it_too = λ is. absurd (false≢true (sym none.sets_none ∙ is)) }
+
+      opening : (known : Option (List ℕ)) (made : Option SeenKind) (all : Writes) → OpensFile known all → OpensTidily known (written store made all)
+      opening known made _ (sets_it {path = one} {rest = rest} none) =
+          let more = fileless made rest none in
+          record {
+            sets_it_too = λ is. inl (other_way path one (opens_at path (written store made rest).touches) (sets_at (file_at path) (accesses_in (written store made rest).touches)) more.opens_none more.sets_none is);
+            opens_it_too = λ is. other_way one path (sets_at (file_at path) (accesses_in (written store made rest).touches)) (opens_at path (written store made rest).touches) more.sets_none more.opens_none is;
+          }
+      opening known made _ (leaves_it {path = one} {rest = rest} known_is none) =
+          let more = fileless made rest none in
+          record {
+            sets_it_too = λ is. inr (inl (by_parts more.opens_none (or_parts (bytes_eq path one) (opens_at path (written store made rest).touches) is)));
+            opens_it_too = λ is. absurd (false≢true (sym more.sets_none ∙ is));
+          }
+        where
+          by_parts : {b : Bool} → b ≡ false → (bytes_eq path one ≡ true) ⊎ (b ≡ true) → known ≡ Some path
+          by_parts none (inl same) = known_is ∙ ap (λ p. Some p) (sym (same_path path one same))
+          by_parts none (inr there) = absurd (false≢true (sym none ∙ there))
+
+      again : {e : Effect} (known : Option (List ℕ)) (touch : Touch) → opens_at path (touch ∷ e.touches) ≡ opens_at path e.touches
+          → sets_at (file_at path) (accesses_in (touch ∷ e.touches)) ≡ sets_at (file_at path) (accesses_in e.touches) → OpensTidily known e → OpensTidily known (touching touch e)
+      again {e} known touch opens_same sets_same tidy = record {
         sets_it_too = λ is. by_sets (tidy.sets_it_too (sym opens_same ∙ is));
         opens_it_too = λ is. opens_same ∙ tidy.opens_it_too (sym sets_same ∙ is);
       }
         where
-          by_sets : (sets_at (file_at path) (accesses_in e.touches) ≡ true) ⊎ (e.made ≡ Some (a_file path Append))
-              → (sets_at (file_at path) (accesses_in (touch ∷ e.touches)) ≡ true) ⊎ (e.made ≡ Some (a_file path Append))
+          by_sets : (sets_at (file_at path) (accesses_in e.touches) ≡ true) ⊎ IsLeft known → (sets_at (file_at path) (accesses_in (touch ∷ e.touches)) ≡ true) ⊎ IsLeft known
           by_sets (inl is) = inl (sets_same ∙ is)
-          by_sets (inr is) = inr is
+          by_sets (inr left) = inr left
 
-      pub tidily : (p : Plan) → IsTidy p → OpensTidily (effect store answers p)
-      tidily (read_var scope name go) tidy = again (accessed (reads (var_at scope name))) refl refl (tidily (go (var_of store scope name)) (tidy (var_of store scope name)))
-      tidily (read_len o go) tidy = again (accessed (reads (len_at o))) refl refl (tidily (go (len_of store o)) (tidy (len_of store o)))
-      tidily (read_item o i go) tidy = again (accessed (reads (item_at o i))) refl refl (tidily (go (item_of store o i)) (tidy (item_of store o i)))
-      tidily (read_entry o key go) tidy = again _ refl refl (tidily (go (entry_of store o key)) (tidy (entry_of store o key)))
-      tidily (read_order o go) tidy = again (accessed (reads (order_at o))) refl refl (tidily (go (order_of store o)) (tidy (order_of store o)))
-      tidily (read_file one go) tidy = again (accessed (reads (file_at one))) refl refl (tidily (go (file_of store one)) (tidy (file_of store one)))
-      tidily (read_offset o go) tidy = again (accessed (reads (offset_at o))) refl refl (tidily (go (offset_of store o)) (tidy (offset_of store o)))
-      tidily (read_closed o go) tidy = again (accessed (reads (closed_at o))) refl refl (tidily (go (closed_of store o)) (tidy (closed_of store o)))
-      tidily (read_method place name go) tidy = again (accessed (reads (method_at place name))) refl refl (tidily (go (method_of store place name)) (tidy (method_of store place name)))
-      tidily (read_base place go) tidy = again (accessed (reads (base_at place))) refl refl (tidily (go (base_of store place)) (tidy (base_of store place)))
-      tidily (kind_of o go) tidy = tidily (go (slice_get store.kinds o)) (tidy (slice_get store.kinds o))
-      tidily (name_of place go) tidy = tidily (go (store.names place)) (tidy (store.names place))
-      tidily (was_opened one go) tidy = tidily (go (has_path one store.opened)) (tidy.1 (has_path one store.opened))
-      tidily (ask what go) tidy = again (asked what) refl refl (by_given (answers.given what) (λ given. tidily (go given) (tidy given)))
+      -- what is known of a path says it of no other
+      other_known : (known next : Option (List ℕ)) (e : Effect) → (next ≡ Some path → IsLeft known) → OpensTidily next e → OpensTidily known e
+      other_known known next e each tidy = record { sets_it_too = λ is. by_left (tidy.sets_it_too is); opens_it_too = tidy.opens_it_too }
         where
-          by_given : (given : Option Given) → ((v : Given) → OpensTidily (effect store answers (go v))) → OpensTidily (elim given [ None ↦ lacking store | Some v ↦ effect store answers (go v) ])
-          by_given None each = no_more (lacking store) (record { opens_none = refl; sets_none = refl })
+          by_left : (sets_at (file_at path) (accesses_in e.touches) ≡ true) ⊎ IsLeft next → (sets_at (file_at path) (accesses_in e.touches) ≡ true) ⊎ IsLeft known
+          by_left (inl is) = inl is
+          by_left (inr (inl is)) = inr (each is)
+          by_left (inr (inr left)) = inr (inr left)
+
+      some_path : (one : List ℕ) → Some one ≡ Some path → one ≡ path
+      some_path one is = cc
+
+      none_known : (known : Option (List ℕ)) → None ≡ Some path → IsLeft known
+      none_known known is = absurd cc
+
+      found_known : (known : Option (List ℕ)) (one : List ℕ) (found : Found) → answers.found one ≡ Some found → (if is_there found then Some one else None) ≡ Some path → IsLeft known
+      found_known known one found is next = by_test (is_there found) refl next
+        where
+          by_test : (b : Bool) → is_there found ≡ b → (if b then Some one else None) ≡ Some path → IsLeft known
+          by_test true there next = inr (inr (record { what = found; found_is = ap answers.found (sym (some_path one next)) ∙ is; there = there }))
+          by_test false not next = none_known known next
+
+      pub tidily : (known : Option (List ℕ)) (p : Plan) → IsTidyAfter known p → OpensTidily known (effect store answers p)
+      tidily known (read_var scope name go) tidy = again known (accessed (reads (var_at scope name))) refl refl (tidily known (go (var_of store scope name)) (tidy (var_of store scope name)))
+      tidily known (read_len o go) tidy = again known (accessed (reads (len_at o))) refl refl (tidily known (go (len_of store o)) (tidy (len_of store o)))
+      tidily known (read_item o i go) tidy = again known (accessed (reads (item_at o i))) refl refl (tidily known (go (item_of store o i)) (tidy (item_of store o i)))
+      tidily known (read_entry o key go) tidy = again known _ refl refl (tidily known (go (entry_of store o key)) (tidy (entry_of store o key)))
+      tidily known (read_order o go) tidy = again known (accessed (reads (order_at o))) refl refl (tidily known (go (order_of store o)) (tidy (order_of store o)))
+      tidily known (read_file one go) tidy = again known (accessed (reads (file_at one))) refl refl (tidily known (go (file_of store one)) (tidy (file_of store one)))
+      tidily known (read_offset o go) tidy = again known (accessed (reads (offset_at o))) refl refl (tidily known (go (offset_of store o)) (tidy (offset_of store o)))
+      tidily known (read_closed o go) tidy = again known (accessed (reads (closed_at o))) refl refl (tidily known (go (closed_of store o)) (tidy (closed_of store o)))
+      tidily known (read_method place name go) tidy = again known (accessed (reads (method_at place name))) refl refl (tidily known (go (method_of store place name)) (tidy (method_of store place name)))
+      tidily known (read_base place go) tidy = again known (accessed (reads (base_at place))) refl refl (tidily known (go (base_of store place)) (tidy (base_of store place)))
+      tidily known (kind_of o go) tidy = tidily known (go (slice_get store.kinds o)) (tidy (slice_get store.kinds o))
+      tidily known (name_of place go) tidy = tidily known (go (store.names place)) (tidy (store.names place))
+      tidily known (was_opened one go) tidy = by_test (has_path one store.opened) refl (tidily (Some one) (go true) tidy.1) (tidily None (go false) tidy.2)
+        where
+          by_test : (b : Bool) → has_path one store.opened ≡ b → OpensTidily (Some one) (effect store answers (go true)) → OpensTidily None (effect store answers (go false)) → OpensTidily known (effect store answers (go b))
+          by_test true was opened_so other_so = other_known known (Some one) (effect store answers (go true)) (λ is. inr (inl (ap (λ p. has_path p store.opened) (sym (some_path one is)) ∙ was))) opened_so
+          by_test false was opened_so other_so = other_known known None (effect store answers (go false)) (none_known known) other_so
+      tidily known (ask what go) tidy = again known (asked what) refl refl (by_given (answers.given what) (λ given. tidily known (go given) (tidy given)))
+        where
+          by_given : (given : Option Given) → ((v : Given) → OpensTidily known (effect store answers (go v))) → OpensTidily known (elim given [ None ↦ lacking store | Some v ↦ effect store answers (go v) ])
+          by_given None each = no_more known (lacking store) (record { opens_none = refl; sets_none = refl })
           by_given (Some v) each = each v
-      tidily (fetch one go) tidy = again (fetched one) refl refl (by_found (answers.found one) (λ found. tidily (go found) (tidy found)))
+      tidily known (fetch one go) tidy = again known (fetched one) refl refl (by_found (answers.found one) refl (λ found. tidily (if is_there found then Some one else None) (go found) (tidy found)))
         where
-          by_found : (found : Option Found) → ((v : Found) → OpensTidily (effect store answers (go v))) → OpensTidily (elim found [ None ↦ lacking store | Some v ↦ effect store answers (go v) ])
-          by_found None each = no_more (lacking store) (record { opens_none = refl; sets_none = refl })
-          by_found (Some v) each = each v
-      tidily (looks n rest) tidy = again (looked n) refl refl (tidily rest tidy)
-      tidily (counts n rest) tidy = again (counted n) refl refl (tidily rest tidy)
-      tidily (prints bytes rest) tidy = again (printed bytes) refl refl (tidily rest tidy)
-      tidily (writes all) tidy = no_more (written store None all) (fileless None all tidy)
-      tidily (makes kind all) tidy = by_case (tidy (length store.kinds))
+          by_found : (found : Option Found) → answers.found one ≡ found → ((v : Found) → OpensTidily (if is_there v then Some one else None) (effect store answers (go v))) → OpensTidily known (elim found [ None ↦ lacking store | Some v ↦ effect store answers (go v) ])
+          by_found None is each = no_more known (lacking store) (record { opens_none = refl; sets_none = refl })
+          by_found (Some v) is each = other_known known (if is_there v then Some one else None) (effect store answers (go v)) (found_known known one v is) (each v)
+      tidily known (looks n rest) tidy = again known (looked n) refl refl (tidily known rest tidy)
+      tidily known (counts n rest) tidy = again known (counted n) refl refl (tidily known rest tidy)
+      tidily known (prints bytes rest) tidy = again known (printed bytes) refl refl (tidily known rest tidy)
+      tidily known (writes all) tidy = no_more known (written store None all) (fileless None all tidy)
+      tidily known (makes kind all) tidy = by_case (tidy (length store.kinds))
         where
-          by_case : IsFileless (all (length store.kinds)) ⊎ OpensFile kind (all (length store.kinds)) → OpensTidily (written store (Some kind) (all (length store.kinds)))
-          by_case (inl none) = no_more (written store (Some kind) (all (length store.kinds))) (fileless (Some kind) (all (length store.kinds)) none)
-          by_case (inr opens_one) = opening kind (all (length store.kinds)) opens_one
-      tidily (raises of items) tidy = record { sets_it_too = λ is. absurd (false≢true is); opens_it_too = λ is. absurd (false≢true is) }
-      tidily (raises_again o) tidy = record { sets_it_too = λ is. absurd (false≢true is); opens_it_too = λ is. absurd (false≢true is) }
-      tidily ends tidy = record { sets_it_too = λ is. absurd (false≢true is); opens_it_too = λ is. absurd (false≢true is) }
-      tidily runs_away tidy = record { sets_it_too = λ is. absurd (false≢true is); opens_it_too = λ is. absurd (false≢true is) }
-
--- Of the files that are read, what was opened in the one store was in the other.
-module _ (store other : RunStore) where
-  abbrev OpenedAt : SeenLocation → Type 0
-  OpenedAt (file_at path) = has_path path store.opened ≡ true → has_path path other.opened ≡ true
-  OpenedAt l = ⊤
-
-  abbrev pub AreOpened : List SeenAccess → Type 0
-  AreOpened [] = ⊤
-  AreOpened (reads l ∷ accesses) = OpenedAt l × AreOpened accesses
-  AreOpened (access ∷ accesses) = AreOpened accesses
-
-  pub opened_at : (l : SeenLocation) → ((path : List ℕ) → l ≡ file_at path → has_path path store.opened ≡ true → has_path path other.opened ≡ true) → OpenedAt l
-  opened_at (file_at path) each = each path refl
-  opened_at (var_at scope name) each = tt
-  opened_at (len_at o) each = tt
-  opened_at (item_at o i) each = tt
-  opened_at (entry_at o key) each = tt
-  opened_at (order_at o) each = tt
-  opened_at (offset_at o) each = tt
-  opened_at (closed_at o) each = tt
-  opened_at (method_at place name) each = tt
-  opened_at (base_at place) each = tt
-
-  module _ (answers : Answers) where
-    -- where the plan asks whether a path was opened, the stores agree
-    abbrev pub OpenedAgree : Plan → Type 0
-    OpenedAgree (read_var scope name go) = OpenedAgree (go (var_of store scope name))
-    OpenedAgree (read_len o go) = OpenedAgree (go (len_of store o))
-    OpenedAgree (read_item o i go) = OpenedAgree (go (item_of store o i))
-    OpenedAgree (read_entry o key go) = OpenedAgree (go (entry_of store o key))
-    OpenedAgree (read_order o go) = OpenedAgree (go (order_of store o))
-    OpenedAgree (read_file path go) = OpenedAgree (go (file_of store path))
-    OpenedAgree (read_offset o go) = OpenedAgree (go (offset_of store o))
-    OpenedAgree (read_closed o go) = OpenedAgree (go (closed_of store o))
-    OpenedAgree (read_method place name go) = OpenedAgree (go (method_of store place name))
-    OpenedAgree (read_base place go) = OpenedAgree (go (base_of store place))
-    OpenedAgree (kind_of o go) = OpenedAgree (go (slice_get store.kinds o))
-    OpenedAgree (name_of place go) = OpenedAgree (go (store.names place))
-    OpenedAgree (was_opened path go) = (has_path path other.opened ≡ has_path path store.opened) × OpenedAgree (go (has_path path store.opened))
-    OpenedAgree (ask what go) = elim (answers.given what) [ None ↦ ⊤ | Some given ↦ OpenedAgree (go given) ]
-    OpenedAgree (fetch path go) = elim (answers.found path) [ None ↦ ⊤ | Some found ↦ OpenedAgree (go found) ]
-    OpenedAgree (looks n rest) = OpenedAgree rest
-    OpenedAgree (counts n rest) = OpenedAgree rest
-    OpenedAgree (prints bytes rest) = OpenedAgree rest
-    OpenedAgree (writes all) = ⊤
-    OpenedAgree (makes kind all) = ⊤
-    OpenedAgree (raises of items) = ⊤
-    OpenedAgree (raises_again o) = ⊤
-    OpenedAgree ends = ⊤
-    OpenedAgree runs_away = ⊤
-
-    module _ (below : (path : List ℕ) → has_path path other.opened ≡ true → has_path path store.opened ≡ true) where
-      both_open : (a b : Bool) → (a ≡ true → b ≡ true) → (b ≡ true → a ≡ true) → a ≡ b
-      both_open true b one another = sym (one refl)
-      both_open false true one another = another refl
-      both_open false false one another = refl
-
-      read_so : (path : List ℕ) (p : Plan) → ReadsFile path p → AreOpened (accesses_in (effect store answers p).touches) → has_path path store.opened ≡ true → has_path path other.opened ≡ true
-      read_so path p next known = (subst (λ q. AreOpened (accesses_in (effect store answers q).touches)) next.is known).0
-
-      pub opened_agree : (p : Plan) → IsTidy p → AreOpened (accesses_in (effect store answers p).touches) → OpenedAgree p
-      opened_agree (read_var scope name go) tidy known = opened_agree (go (var_of store scope name)) (tidy (var_of store scope name)) known.1
-      opened_agree (read_len o go) tidy known = opened_agree (go (len_of store o)) (tidy (len_of store o)) known.1
-      opened_agree (read_item o i go) tidy known = opened_agree (go (item_of store o i)) (tidy (item_of store o i)) known.1
-      opened_agree (read_entry o key go) tidy known = opened_agree (go (entry_of store o key)) (tidy (entry_of store o key)) known.1
-      opened_agree (read_order o go) tidy known = opened_agree (go (order_of store o)) (tidy (order_of store o)) known.1
-      opened_agree (read_file path go) tidy known = opened_agree (go (file_of store path)) (tidy (file_of store path)) known.1
-      opened_agree (read_offset o go) tidy known = opened_agree (go (offset_of store o)) (tidy (offset_of store o)) known.1
-      opened_agree (read_closed o go) tidy known = opened_agree (go (closed_of store o)) (tidy (closed_of store o)) known.1
-      opened_agree (read_method place name go) tidy known = opened_agree (go (method_of store place name)) (tidy (method_of store place name)) known.1
-      opened_agree (read_base place go) tidy known = opened_agree (go (base_of store place)) (tidy (base_of store place)) known.1
-      opened_agree (kind_of o go) tidy known = opened_agree (go (slice_get store.kinds o)) (tidy (slice_get store.kinds o)) known
-      opened_agree (name_of place go) tidy known = opened_agree (go (store.names place)) (tidy (store.names place)) known
-      opened_agree (was_opened path go) tidy known = (
-        both_open (has_path path other.opened) (has_path path store.opened) (below path) (by_test (has_path path store.opened) refl known),
-        opened_agree (go (has_path path store.opened)) (tidy.1 (has_path path store.opened)) known,
-      )
-        where
-          by_test : (b : Bool) → has_path path store.opened ≡ b → AreOpened (accesses_in (effect store answers (go b)).touches) → b ≡ true → has_path path other.opened ≡ true
-          by_test true was known is = read_so path (go true) tidy.0 known was
-          by_test false was known is = absurd (false≢true is)
-      opened_agree (ask what go) tidy known = by_given (answers.given what) known (λ given. opened_agree (go given) (tidy given))
-        where
-          by_given : (given : Option Given) → AreOpened (accesses_in (touching (asked what) (elim given [ None ↦ lacking store | Some v ↦ effect store answers (go v) ])).touches)
-              → ((v : Given) → AreOpened (accesses_in (effect store answers (go v)).touches) → OpenedAgree (go v)) → elim given as (λ one. Type 0) [ None ↦ ⊤ | Some v ↦ OpenedAgree (go v) ]
-          by_given None known each = tt
-          by_given (Some v) known each = each v known
-      opened_agree (fetch path go) tidy known = by_found (answers.found path) known (λ found. opened_agree (go found) (tidy found))
-        where
-          by_found : (found : Option Found) → AreOpened (accesses_in (touching (fetched path) (elim found [ None ↦ lacking store | Some v ↦ effect store answers (go v) ])).touches)
-              → ((v : Found) → AreOpened (accesses_in (effect store answers (go v)).touches) → OpenedAgree (go v)) → elim found as (λ one. Type 0) [ None ↦ ⊤ | Some v ↦ OpenedAgree (go v) ]
-          by_found None known each = tt
-          by_found (Some v) known each = each v known
-      opened_agree (looks n rest) tidy known = opened_agree rest tidy known
-      opened_agree (counts n rest) tidy known = opened_agree rest tidy known
-      opened_agree (prints bytes rest) tidy known = opened_agree rest tidy known
-      opened_agree (writes all) tidy known = tt
-      opened_agree (makes kind all) tidy known = tt
-      opened_agree (raises of items) tidy known = tt
-      opened_agree (raises_again o) tidy known = tt
-      opened_agree ends tidy known = tt
-      opened_agree runs_away tidy known = tt
+          by_case : IsFileless (all (length store.kinds)) ⊎ OpensFile known (all (length store.kinds)) → OpensTidily known (written store (Some kind) (all (length store.kinds)))
+          by_case (inl none) = no_more known (written store (Some kind) (all (length store.kinds))) (fileless (Some kind) (all (length store.kinds)) none)
+          by_case (inr opens_one) = opening known (Some kind) (all (length store.kinds)) opens_one
+      tidily known (raises of items) tidy = record { sets_it_too = λ is. absurd (false≢true is); opens_it_too = λ is. absurd (false≢true is) }
+      tidily known (raises_again o) tidy = record { sets_it_too = λ is. absurd (false≢true is); opens_it_too = λ is. absurd (false≢true is) }
+      tidily known ends tidy = record { sets_it_too = λ is. absurd (false≢true is); opens_it_too = λ is. absurd (false≢true is) }
+      tidily known runs_away tidy = record { sets_it_too = λ is. absurd (false≢true is); opens_it_too = λ is. absurd (false≢true is) }

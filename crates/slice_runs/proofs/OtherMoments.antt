@@ -1,12 +1,11 @@
 -- All other moments keep the relation of the two runs too: what a deleted statement does, and what begins and ends.
-use Rattle.std.proofs.Common.{◌≡◌, ◌≤◌, ℕ, suc, Bool, true, false, List, ◌∷◌, ◌++◌, map, length, Some, option_map, ◌⊎◌, inl, inr, refl, sym, ap, ap₂, subst, ◌∙◌, arith}
+use Rattle.std.proofs.Common.{◌≡◌, ◌≤◌, ℕ, suc, Bool, true, false, List, ◌∷◌, ◌++◌, map, length, Some, None, option_map, ◌⊎◌, inl, inr, refl, sym, ap, ap₂, subst, ◌∙◌, arith}
 use Rattle.std.proofs.lemmas.Bool.{false≢true}
 use Rattle.prov_base.specs.declared.place.Pos.{Pos}
 use Rattle.prov_base.specs.contracts.place.PosPartialEq.TheImpl.{ghosts as places}
 use Rattle.py_value.specs.Contents.{Contents}
-use Rattle.py_value.specs.Seen.{SeenLocation, a_file, file_at}
-use Rattle.py_value.specs.declared.access.Mode.TheVariants.{Append}
-use Rattle.py_model.specs.Capture.{Capture, answers_at}
+use Rattle.py_value.specs.Seen.{SeenLocation, file_at}
+use Rattle.py_model.specs.Capture.{Capture, answers_at, found_in}
 use Rattle.py_model.specs.Effect.{Effect, accesses_in, after, weight}
 use Rattle.py_model.specs.History.{spent_on}
 use Rattle.py_model.specs.Moment.{Moment, begins, does, ends, Ending, normal_end}
@@ -23,9 +22,9 @@ use Rattle.slice_law.specs.Edges.{owner_stmt}
 use Rattle.slice_runs.proofs.Happenings.{Laws, DidSo, did_so, asked_after, fetched_after, with_asked, note_as, asked_elsewhere}
 use Rattle.slice_runs.proofs.Marks.{kinds_alone, counted_made, spent_joined}
 use Rattle.slice_runs.proofs.Renamings.{untouched}
-use Rattle.slice_runs.proofs.Opened.{opens_at, open_keeps, open_from, OpensTidily, tidily}
-use Rattle.slice_runs.proofs.Touching.{kinds_grow, unnoted_before, unappended}
-use Rattle.slice_runs.specs.Related.{IsUnnoted, ByAccess, OwnerIsKept, IsInReach, alone_did, both_began, alone_began, passed, both_ended, alone_ended, kept_of, Related}
+use Rattle.slice_runs.proofs.Opened.{opens_at, open_keeps, open_from, IsLeft, OpensTidily, tidily}
+use Rattle.slice_runs.proofs.Touching.{kinds_grow, unnoted_before}
+use Rattle.slice_runs.specs.Related.{IsThere, IsUnnoted, ByAccess, OwnerIsKept, IsInReach, alone_did, both_began, alone_began, passed, both_ended, alone_ended, kept_of, Related}
 use Rattle.slice_runs.specs.Renaming.{is_kept, with_mark, marks_after, Fits, Matches}
 
 -- where the owner is not kept, neither set nor updated
@@ -34,9 +33,9 @@ by_none own earlier true b none there = absurd (none there)
 by_none own earlier false true none there = absurd (none there.0)
 by_none own earlier false false none there = (refl, refl, there)
 
-module _ (laws : Laws) (names : ℕ → ℕ → Type 0) (keep : StmtSet) (upto : List Moment) where
+module _ (laws : Laws) (capture : Capture) (names : ℕ → ℕ → Type 0) (keep : StmtSet) (upto : List Moment) where
   pub alone_moment : (at : Pos) (p : Op) (vs : List Contents) (answer : Answer) (e : Effect) (n : ℕ) (s t : State) (a : List Asking) (f : List (List ℕ))
-      → Related names keep upto s t → keep n ≡ false → owner_stmt s.told ≡ Some n → IsUnnoted (after e s.store) → ((path : List ℕ) → OpensTidily path e) → Related names keep upto (performed at p vs answer e (record s { askings = a; fetches = f })) t
+      → Related capture names keep upto s t → keep n ≡ false → owner_stmt s.told ≡ Some n → IsUnnoted (after e s.store) → ((path : List ℕ) → OpensTidily path s.store (answers_at capture at (suc (askings_at at s.askings))) None e) → Related capture names keep upto (performed at p vs answer e (record s { askings = a; fetches = f })) t
   alone_moment at p vs answer e n s t a f related out owner unnoted tidy = record {
     follows = alone_did out owner related.follows;
     contents = λ l inside r fits. contents_after l inside r fits;
@@ -55,20 +54,24 @@ module _ (laws : Laws) (names : ℕ → ℕ → Type 0) (keep : StmtSet) (upto :
       own_mark = ap (is_kept keep) owner ∙ out
 
       opened_after : (path : List ℕ) → has_path path (after e s.store).opened ≡ true
-          → IsInReach keep (file_at path) (does at p.no vs answer e.made (accesses_in e.touches) (weight e) ∷ s.told) → has_path path t.store.opened ≡ true
+          → IsInReach keep (file_at path) (does at p.no vs answer e.made (accesses_in e.touches) (weight e) ∷ s.told) → (has_path path t.store.opened ≡ true) ⊎ IsThere (found_in capture.files) path
       opened_after path is inside = by_parts
           (by_none (OwnerIsKept keep s.told) (IsInReach keep (file_at path) s.told) (sets_at (file_at path) (accesses_in e.touches)) (updates_at (file_at path) (accesses_in e.touches))
           (λ all. false≢true (sym out ∙ all n owner)) inside)
           (open_from path e s.store is)
         where
-          by_sets : sets_at (file_at path) (accesses_in e.touches) ≡ false → (sets_at (file_at path) (accesses_in e.touches) ≡ true) ⊎ (e.made ≡ Some (a_file path Append)) → has_path path t.store.opened ≡ true
-          by_sets none (inl there) = absurd (false≢true (sym none ∙ there))
-          by_sets none (inr made) = absurd (unappended e s.store path unnoted made)
+          by_sets : sets_at (file_at path) (accesses_in e.touches) ≡ false → IsInReach keep (file_at path) s.told
+              → (sets_at (file_at path) (accesses_in e.touches) ≡ true) ⊎ IsLeft path s.store (answers_at capture at (suc (askings_at at s.askings))) None
+              → (has_path path t.store.opened ≡ true) ⊎ IsThere (found_in capture.files) path
+          by_sets none before (inl there) = absurd (false≢true (sym none ∙ there))
+          by_sets none before (inr (inl not)) = absurd cc
+          by_sets none before (inr (inr (inl was))) = related.opened_here path was before
+          by_sets none before (inr (inr (inr there))) = inr there
 
           by_parts : (sets_at (file_at path) (accesses_in e.touches) ≡ false) × (updates_at (file_at path) (accesses_in e.touches) ≡ false) × IsInReach keep (file_at path) s.told
-              → (has_path path s.store.opened ≡ true) ⊎ (opens_at path e.touches ≡ true) → has_path path t.store.opened ≡ true
-          by_parts parts (inl before) = related.opened_here path before parts.2
-          by_parts parts (inr now) = by_sets parts.0 ((tidy path).sets_it_too now)
+              → (has_path path s.store.opened ≡ true) ⊎ (opens_at path e.touches ≡ true) → (has_path path t.store.opened ≡ true) ⊎ IsThere (found_in capture.files) path
+          by_parts parts (inl was) = related.opened_here path was parts.2
+          by_parts parts (inr now) = by_sets parts.0 parts.2 ((tidy path).sets_it_too now)
 
       contents_after : (l : SeenLocation) → IsInReach keep l (does at p.no vs answer e.made (accesses_in e.touches) (weight e) ∷ s.told) → (r : Renaming) → Fits (marks_after keep upto) r
           → Matches r (after e s.store).at t.store.at l
@@ -81,12 +84,12 @@ module _ (laws : Laws) (names : ℕ → ℕ → Type 0) (keep : StmtSet) (upto :
               subst (λ here. Matches r here t.store.at l) (sym (laws.changes e s.store))
               (subst (λ content. t.store.at (renamed_location r l) ≡ option_map (renamed_content r) content) (sym (untouched l (accesses_in e.touches) s.store.at parts.0 parts.1)) (related.contents l parts.2 r fits))
 
-  module _ (n m : ℕ) (s t : State) (related : Related names keep upto s t) where
+  module _ (n m : ℕ) (s t : State) (related : Related capture names keep upto s t) where
     -- the budget of a slice pays for what the script's run has done up to the last moment
     pub begin_paid : (news : List Moment) → upto ≡ news ++ begins n ∷ s.told → 1 ≤ t.left
     begin_paid news is = omega (arith, related.enough, ap spent_on is, spent_joined news (begins n ∷ s.told))
 
-    pub both_begin_related : keep n ≡ true → names n m → 1 ≤ t.left → Related names keep upto (beginning n s) (beginning m t)
+    pub both_begin_related : keep n ≡ true → names n m → 1 ≤ t.left → Related capture names keep upto (beginning n s) (beginning m t)
     both_begin_related kept named pays = record {
       follows = both_began kept named related.follows;
       contents = related.contents;
@@ -99,7 +102,7 @@ module _ (laws : Laws) (names : ℕ → ℕ → Type 0) (keep : StmtSet) (upto :
       no_more = omega (arith, related.no_more);
     }
 
-    pub alone_begin_related : keep n ≡ false → Related names keep upto (beginning n s) t
+    pub alone_begin_related : keep n ≡ false → Related capture names keep upto (beginning n s) t
     alone_begin_related out = record {
       follows = alone_began out related.follows;
       contents = related.contents;
@@ -112,7 +115,7 @@ module _ (laws : Laws) (names : ℕ → ℕ → Type 0) (keep : StmtSet) (upto :
       no_more = omega (arith, related.no_more);
     }
 
-    pub pass_related : keep n ≡ false → names n m → 1 ≤ t.left → Related names keep upto (beginning n s) (tell (ends m normal_end) (beginning m t))
+    pub pass_related : keep n ≡ false → names n m → 1 ≤ t.left → Related capture names keep upto (beginning n s) (tell (ends m normal_end) (beginning m t))
     pass_related out named pays = record {
       follows = passed out named related.follows;
       contents = related.contents;
@@ -125,7 +128,7 @@ module _ (laws : Laws) (names : ℕ → ℕ → Type 0) (keep : StmtSet) (upto :
       no_more = omega (arith, related.no_more);
     }
 
-    pub both_end_related : (ended : Ending) → keep n ≡ true → names n m → Related names keep upto (tell (ends n ended) s) (tell (ends m ended) t)
+    pub both_end_related : (ended : Ending) → keep n ≡ true → names n m → Related capture names keep upto (tell (ends n ended) s) (tell (ends m ended) t)
     both_end_related ended kept named = record {
       follows = both_ended kept named related.follows;
       contents = related.contents;
@@ -138,7 +141,7 @@ module _ (laws : Laws) (names : ℕ → ℕ → Type 0) (keep : StmtSet) (upto :
       no_more = omega (arith, related.no_more);
     }
 
-    pub alone_end_related : (ended : Ending) → keep n ≡ false → Related names keep upto (tell (ends n ended) s) t
+    pub alone_end_related : (ended : Ending) → keep n ≡ false → Related capture names keep upto (tell (ends n ended) s) t
     alone_end_related ended out = record {
       follows = alone_ended out related.follows;
       contents = related.contents;
@@ -151,24 +154,24 @@ module _ (laws : Laws) (names : ℕ → ℕ → Type 0) (keep : StmtSet) (upto :
       no_more = omega (arith, related.no_more);
     }
 
-  pub deleted_moment : (capture : Capture) (at : Pos) (p : Op) (vs : List Contents) (n : ℕ) (s t next : State) (answer : Answer) (came : Walked)
-      → Related names keep upto s t → keep n ≡ false → owner_stmt s.told ≡ Some n → operation capture at p vs s ≡ did answer came next
-      → IsUnnoted next.store → Related names keep upto next t
-  deleted_moment capture at p vs n s t next answer came related out owner happens unnoted =
-      subst (λ next. Related names keep upto next t) (sym so.next_is)
+  pub deleted_moment : (at : Pos) (p : Op) (vs : List Contents) (n : ℕ) (s t next : State) (answer : Answer) (came : Walked)
+      → Related capture names keep upto s t → keep n ≡ false → owner_stmt s.told ≡ Some n → operation capture at p vs s ≡ did answer came next
+      → IsUnnoted next.store → Related capture names keep upto next t
+  deleted_moment at p vs n s t next answer came related out owner happens unnoted =
+      subst (λ next. Related capture names keep upto next t) (sym so.next_is)
       (alone_moment at p vs answer (effect_of capture at p vs s) n s t
       (asked_after at (suc (askings_at at s.askings)) (effect_of capture at p vs s).touches s.askings) (fetched_after (effect_of capture at p vs s).touches s.fetches)
       related out owner (subst (λ next. IsUnnoted next.store) so.next_is unnoted)
-      (λ path. tidily path s.store (answers_at capture at (suc (askings_at at s.askings))) (plan p vs) (laws.tidy p vs)))
+      (λ path. tidily path s.store (answers_at capture at (suc (askings_at at s.askings))) None (plan p vs) (laws.tidy p vs)))
     where
       so : DidSo at p vs (effect_of capture at p vs s) (effect_of capture at p vs s).outcome (with_asked at (suc (askings_at at s.askings)) (effect_of capture at p vs s).touches s) answer came next
       so = did_so at p vs capture s (with_asked at (suc (askings_at at s.askings)) (effect_of capture at p vs s).touches s) answer came next
           (note_as at (suc (askings_at at s.askings)) (effect_of capture at p vs s).touches s) happens
 
   -- it asks at its own place alone
-  pub deleted_askings : (capture : Capture) (at : Pos) (p : Op) (vs : List Contents) (s next : State) (answer : Answer) (came : Walked)
+  pub deleted_askings : (at : Pos) (p : Op) (vs : List Contents) (s next : State) (answer : Answer) (came : Walked)
       → operation capture at p vs s ≡ did answer came next → (place : Pos) → (may_ask p.no ≡ true → places.eq at place ≡ false) → askings_at place next.askings ≡ askings_at place s.askings
-  deleted_askings capture at p vs s next answer came happens place apart = by_asking (may_ask p.no) refl
+  deleted_askings at p vs s next answer came happens place apart = by_asking (may_ask p.no) refl
     where
       by_asking : (test : Bool) → may_ask p.no ≡ test → askings_at place next.askings ≡ askings_at place s.askings
       by_asking false is =

@@ -11,7 +11,6 @@ use Rattle.py_model.specs.Effect.{Answers, effect, written, accesses_in, lacking
 use Rattle.py_model.specs.Plan.{Writes, write, change, move, opens, notes, done, done_at_end, Plan, read_var, read_len, read_item, read_entry, read_order, read_file, read_offset, read_closed, read_method, read_base, kind_of, name_of, was_opened, looks, counts, prints, Given, Found, ask, fetch}
 use Rattle.py_model.specs.Renaming.{Renaming, renamed, renamed_option, renamed_list, renamed_entry, renamed_content, renamed_kind}
 use Rattle.py_model.specs.Store.{RunStore, empty, var_of, len_of, item_of, entry_of, order_of, file_of, offset_of, closed_of, method_of, base_of, has_path}
-use Rattle.slice_runs.proofs.Opened.{OpenedAgree}
 use Rattle.slice_runs.proofs.Ranks.{agreed_is_marked}
 use Rattle.slice_runs.proofs.Renamings.{normal_renamed}
 use Rattle.slice_runs.specs.Renaming.{is_marked, Fits, IsShifted}
@@ -192,91 +191,92 @@ module _ (store other : RunStore) (marks : List Bool) where
       (kinds_agree : (o : ℕ) → is_marked marks o ≡ true → (r : Renaming) → Fits marks r
       → slice_get other.kinds (r.objects o) ≡ option_map (renamed_kind r) (slice_get store.kinds o))
       (names_agree : (place : Pos) → other.names place ≡ store.names place)
+      (opened_agree : (path : List ℕ) → has_path path other.opened ≡ has_path path store.opened)
       (answers : Answers) (r : Renaming) (fits : Fits marks r)
     where
-      pub agrees : (p q : Plan) → Alike near.by p q → Alike far.by p q → AreRead (accesses_in (effect store answers p).touches) → OpenedAgree store other answers p
+      pub agrees : (p q : Plan) → Alike near.by p q → Alike far.by p q → AreRead (accesses_in (effect store answers p).touches)
           → ((kind : SeenKind) → (effect store answers p).made ≡ Some kind → NextCorresponds r store other) → Agrees r store other answers answers p
-      agrees _ _ (both_read_var {scope} {name} {go} {gone} each) distant known opened next =
+      agrees _ _ (both_read_var {scope} {name} {go} {gone} each) distant known next =
           let v = var_of store scope name in
           let others_are = after far.by _ _ distant in (
             known.0 r fits,
             agrees (go v) (gone (renamed_option near.by (var_of store scope name))) (each v)
                 (subst (Alike far.by (go v)) (joined (λ scope. var_of other scope name) gone others_are.0 (cc (others_are.1)) (cc (others_are.1)) (var_read near.by store other scope name (known.0 near.by near.fits)) (var_read far.by store other scope name (known.0 far.by far.fits))) (others_are.2 v))
-                known.1 opened next,
+                known.1 next,
           )
-      agrees _ _ (both_read_len {o} {go} {gone} each) distant known opened next =
+      agrees _ _ (both_read_len {o} {go} {gone} each) distant known next =
           let v = len_of store o in
           let others_are = after far.by _ _ distant in (
             known.0 r fits,
             agrees (go v) (gone (len_of store o)) (each v)
                 (subst (Alike far.by (go v)) (joined (λ o. len_of other o) gone others_are.0 (cc (others_are.1)) (cc (others_are.1)) (len_read near.by store other o (known.0 near.by near.fits)) (len_read far.by store other o (known.0 far.by far.fits))) (others_are.2 v))
-                known.1 opened next,
+                known.1 next,
           )
-      agrees _ _ (both_read_item {o} {i} {go} {gone} each) distant known opened next =
+      agrees _ _ (both_read_item {o} {i} {go} {gone} each) distant known next =
           let v = item_of store o i in
           let others_are = after far.by _ _ distant in (
             known.0 r fits,
             agrees (go v) (gone (renamed_option near.by (item_of store o i))) (each v)
                 (subst (Alike far.by (go v)) (joined (λ o. item_of other o i) gone others_are.0 (cc (others_are.1)) (cc (others_are.1)) (item_read near.by store other o i (known.0 near.by near.fits)) (item_read far.by store other o i (known.0 far.by far.fits))) (others_are.2 v))
-                known.1 opened next,
+                known.1 next,
           )
-      agrees _ _ (both_read_entry {o} {key} {go} {gone} each) distant known opened next =
+      agrees _ _ (both_read_entry {o} {key} {go} {gone} each) distant known next =
           let v = entry_of store o key in
           let others_are = after far.by _ _ distant in (
             known.0 r fits,
             agrees (go v) (gone (renamed_entry near.by (entry_of store o key))) (each v)
                 (subst (Alike far.by (go v)) (joined (λ (x : ℕ × Contents). entry_of other x.0 x.1) gone others_are.0 (pair_same (cc (others_are.1)) (cc (others_are.1))) (cc (others_are.1)) (entry_read near.by store other o key (known.0 near.by near.fits)) (entry_read far.by store other o key (known.0 far.by far.fits))) (others_are.2 v))
-                known.1 opened next,
+                known.1 next,
           )
-      agrees _ _ (both_read_order {o} {go} {gone} each) distant known opened next =
+      agrees _ _ (both_read_order {o} {go} {gone} each) distant known next =
           let v = order_of store o in
           let others_are = after far.by _ _ distant in (
             known.0 r fits,
             agrees (go v) (gone (renamed_list near.by (order_of store o))) (each v)
                 (subst (Alike far.by (go v)) (joined (λ o. order_of other o) gone others_are.0 (cc (others_are.1)) (cc (others_are.1)) (order_read near.by store other o (known.0 near.by near.fits)) (order_read far.by store other o (known.0 far.by far.fits))) (others_are.2 v))
-                known.1 opened next,
+                known.1 next,
           )
-      agrees _ _ (both_read_file {path} {go} {gone} each) distant known opened next =
+      agrees _ _ (both_read_file {path} {go} {gone} each) distant known next =
           let v = file_of store path in
           let others_are = after far.by _ _ distant in (
             known.0 r fits,
             agrees (go v) (gone (file_of store path)) (each v)
                 (subst (Alike far.by (go v)) (joined (λ path. file_of other path) gone others_are.0 refl (cc (others_are.1)) (file_read near.by store other path (known.0 near.by near.fits)) (file_read far.by store other path (known.0 far.by far.fits))) (others_are.2 v))
-                known.1 opened next,
+                known.1 next,
           )
-      agrees _ _ (both_read_offset {o} {go} {gone} each) distant known opened next =
+      agrees _ _ (both_read_offset {o} {go} {gone} each) distant known next =
           let v = offset_of store o in
           let others_are = after far.by _ _ distant in (
             known.0 r fits,
             agrees (go v) (gone (offset_of store o)) (each v)
                 (subst (Alike far.by (go v)) (joined (λ o. offset_of other o) gone others_are.0 (cc (others_are.1)) (cc (others_are.1)) (offset_read near.by store other o (known.0 near.by near.fits)) (offset_read far.by store other o (known.0 far.by far.fits))) (others_are.2 v))
-                known.1 opened next,
+                known.1 next,
           )
-      agrees _ _ (both_read_closed {o} {go} {gone} each) distant known opened next =
+      agrees _ _ (both_read_closed {o} {go} {gone} each) distant known next =
           let v = closed_of store o in
           let others_are = after far.by _ _ distant in (
             known.0 r fits,
             agrees (go v) (gone (closed_of store o)) (each v)
                 (subst (Alike far.by (go v)) (joined (λ o. closed_of other o) gone others_are.0 (cc (others_are.1)) (cc (others_are.1)) (closed_read near.by store other o (known.0 near.by near.fits)) (closed_read far.by store other o (known.0 far.by far.fits))) (others_are.2 v))
-                known.1 opened next,
+                known.1 next,
           )
-      agrees _ _ (both_read_method {place} {name} {go} {gone} each) distant known opened next =
+      agrees _ _ (both_read_method {place} {name} {go} {gone} each) distant known next =
           let v = method_of store place name in
           let others_are = after far.by _ _ distant in (
             known.0 r fits,
             agrees (go v) (gone (method_of store place name)) (each v)
                 (subst (Alike far.by (go v)) (joined (λ place. method_of other place name) gone others_are.0 refl (cc (others_are.1)) (method_read near.by store other place name (known.0 near.by near.fits)) (method_read far.by store other place name (known.0 far.by far.fits))) (others_are.2 v))
-                known.1 opened next,
+                known.1 next,
           )
-      agrees _ _ (both_read_base {place} {go} {gone} each) distant known opened next =
+      agrees _ _ (both_read_base {place} {go} {gone} each) distant known next =
           let v = base_of store place in
           let others_are = after far.by _ _ distant in (
             known.0 r fits,
             agrees (go v) (gone (renamed_option near.by (base_of store place))) (each v)
                 (subst (Alike far.by (go v)) (joined (λ place. base_of other place) gone others_are.0 refl (cc (others_are.1)) (base_read near.by store other place (known.0 near.by near.fits)) (base_read far.by store other place (known.0 far.by far.fits))) (others_are.2 v))
-                known.1 opened next,
+                known.1 next,
           )
-      agrees _ _ (both_kind {o} {go} {gone} each) distant known opened next =
+      agrees _ _ (both_kind {o} {go} {gone} each) distant known next =
           let v = slice_get store.kinds o in
           let others_are = after far.by _ _ distant in
           let marked = agreed_is_marked marks near far o (cc (others_are.1)) in (
@@ -284,64 +284,62 @@ module _ (store other : RunStore) (marks : List Bool) where
             agrees (go v) (gone (option_map (renamed_kind near.by) v)) (each v)
                 (subst (Alike far.by (go v))
                 (joined (λ o. slice_get other.kinds o) gone others_are.0 (cc (others_are.1)) (cc (others_are.1)) (kinds_agree o marked near.by near.fits) (kinds_agree o marked far.by far.fits))
-                (others_are.2 v)) known opened next,
+                (others_are.2 v)) known next,
           )
-      agrees _ _ (both_name {place} {go} {gone} each) distant known opened next =
+      agrees _ _ (both_name {place} {go} {gone} each) distant known next =
           let v = store.names place in
           let others_are = after far.by _ _ distant in
           let same : others_are.0 ≡ gone = cc (others_are.1) in
-          (names_agree place, agrees (go v) (gone v) (each v) (subst (λ (g : Option (List ℕ) → Plan). Alike far.by (go v) (g v)) same (others_are.2 v)) known opened next)
-      agrees _ _ (both_was_opened {path} {go} {gone} each) distant known opened next =
+          (names_agree place, agrees (go v) (gone v) (each v) (subst (λ (g : Option (List ℕ) → Plan). Alike far.by (go v) (g v)) same (others_are.2 v)) known next)
+      agrees _ _ (both_was_opened {path} {go} {gone} each) distant known next =
           let v = has_path path store.opened in
           let others_are = after far.by _ _ distant in
           let same : others_are.0 ≡ gone = cc (others_are.1) in
-          (opened.0, agrees (go v) (gone v) (each v) (subst (λ (g : Bool → Plan). Alike far.by (go v) (g v)) same (others_are.2 v)) known opened.1 next)
-      agrees _ _ (both_ask {what} {go} {gone} each) distant known opened next =
+          (opened_agree path, agrees (go v) (gone v) (each v) (subst (λ (g : Bool → Plan). Alike far.by (go v) (g v)) same (others_are.2 v)) known next)
+      agrees _ _ (both_ask {what} {go} {gone} each) distant known next =
           let others_are = after far.by _ _ distant in
           let same : others_are.0 ≡ gone = cc (others_are.1) in
-          by_given (answers.given what) known opened next
+          by_given (answers.given what) known next
           (λ v. agrees (go v) (gone v) (each v) (subst (λ (g : Given → Plan). Alike far.by (go v) (g v)) same (others_are.2 v)))
         where
           by_given : (given : Option Given)
               → AreRead (accesses_in (touching (asked what) (elim given [ None ↦ lacking store | Some v ↦ effect store answers (go v) ])).touches)
-              → elim given as (λ one. Type 0) [ None ↦ ⊤ | Some v ↦ OpenedAgree store other answers (go v) ]
               → ((kind : SeenKind) → (touching (asked what) (elim given [ None ↦ lacking store | Some v ↦ effect store answers (go v) ])).made ≡ Some kind → NextCorresponds r store other)
-              → ((v : Given) → AreRead (accesses_in (effect store answers (go v)).touches) → OpenedAgree store other answers (go v) → ((kind : SeenKind) → (effect store answers (go v)).made ≡ Some kind → NextCorresponds r store other)
+              → ((v : Given) → AreRead (accesses_in (effect store answers (go v)).touches) → ((kind : SeenKind) → (effect store answers (go v)).made ≡ Some kind → NextCorresponds r store other)
               → Agrees r store other answers answers (go v))
               → (answers.given what ≡ answers.given what) × (elim given as (λ one. Type 0) [ None ↦ ⊤ | Some v ↦ Agrees r store other answers answers (go v) ])
-          by_given None known opened next on = (refl, tt)
-          by_given (Some v) known opened next on = (refl, on v known opened next)
-      agrees _ _ (both_fetch {path} {go} {gone} each) distant known opened next =
+          by_given None known next on = (refl, tt)
+          by_given (Some v) known next on = (refl, on v known next)
+      agrees _ _ (both_fetch {path} {go} {gone} each) distant known next =
           let others_are = after far.by _ _ distant in
           let same : others_are.0 ≡ gone = cc (others_are.1) in
-          by_given (answers.found path) known opened next
+          by_given (answers.found path) known next
           (λ v. agrees (go v) (gone v) (each v) (subst (λ (g : Found → Plan). Alike far.by (go v) (g v)) same (others_are.2 v)))
         where
           by_given : (given : Option Found)
               → AreRead (accesses_in (touching (fetched path) (elim given [ None ↦ lacking store | Some v ↦ effect store answers (go v) ])).touches)
-              → elim given as (λ one. Type 0) [ None ↦ ⊤ | Some v ↦ OpenedAgree store other answers (go v) ]
               → ((kind : SeenKind) → (touching (fetched path) (elim given [ None ↦ lacking store | Some v ↦ effect store answers (go v) ])).made ≡ Some kind → NextCorresponds r store other)
-              → ((v : Found) → AreRead (accesses_in (effect store answers (go v)).touches) → OpenedAgree store other answers (go v) → ((kind : SeenKind) → (effect store answers (go v)).made ≡ Some kind → NextCorresponds r store other)
+              → ((v : Found) → AreRead (accesses_in (effect store answers (go v)).touches) → ((kind : SeenKind) → (effect store answers (go v)).made ≡ Some kind → NextCorresponds r store other)
               → Agrees r store other answers answers (go v))
               → (answers.found path ≡ answers.found path) × (elim given as (λ one. Type 0) [ None ↦ ⊤ | Some v ↦ Agrees r store other answers answers (go v) ])
-          by_given None known opened next on = (refl, tt)
-          by_given (Some v) known opened next on = (refl, on v known opened next)
-      agrees _ _ (both_look {m} {n} {p} {q} is both) distant known opened next =
+          by_given None known next on = (refl, tt)
+          by_given (Some v) known next on = (refl, on v known next)
+      agrees _ _ (both_look {m} {n} {p} {q} is both) distant known next =
           let others_are = after far.by _ _ distant in
           let same : others_are.1 ≡ q = cc (others_are.2) in
-          agrees p q both (subst (Alike far.by p) same others_are.3) known opened next
-      agrees _ _ (both_count {m} {n} {p} {q} is both) distant known opened next =
+          agrees p q both (subst (Alike far.by p) same others_are.3) known next
+      agrees _ _ (both_count {m} {n} {p} {q} is both) distant known next =
           let others_are = after far.by _ _ distant in
           let same : others_are.1 ≡ q = cc (others_are.2) in
-          agrees p q both (subst (Alike far.by p) same others_are.3) known opened next
-      agrees _ _ (both_print {bytes} {p} {q} both) distant known opened next =
+          agrees p q both (subst (Alike far.by p) same others_are.3) known next
+      agrees _ _ (both_print {bytes} {p} {q} both) distant known next =
           let others_are = after far.by _ _ distant in
           let same : others_are.0 ≡ q = cc (others_are.1) in
-          agrees p q both (subst (Alike far.by p) same others_are.2) known opened next
-      agrees _ _ (both_writes {all} {every} both) distant known opened next = writes_agree r fits None all known
-      agrees _ _ (both_make {kind} {like} {all} {every} is both) distant known opened next =
+          agrees p q both (subst (Alike far.by p) same others_are.2) known next
+      agrees _ _ (both_writes {all} {every} both) distant known next = writes_agree r fits None all known
+      agrees _ _ (both_make {kind} {like} {all} {every} is both) distant known next =
           (next kind (made_is (Some kind) (all (length store.kinds))), writes_agree r fits (Some kind) (all (length store.kinds)) known)
-      agrees _ _ (both_raise {of} is more) distant known opened next = next (an_instance of) refl
-      agrees _ _ both_again distant known opened next = tt
-      agrees _ _ both_end distant known opened next = tt
-      agrees _ _ both_run_away distant known opened next = tt
+      agrees _ _ (both_raise {of} is more) distant known next = next (an_instance of) refl
+      agrees _ _ both_again distant known next = tt
+      agrees _ _ both_end distant known next = tt
+      agrees _ _ both_run_away distant known next = tt

@@ -92,7 +92,7 @@ module _ (capture : Capture) (keep : StmtSet) (opening : RunStore) (upto : List 
     pub news : List Moment
     pub told_is : (state_in ended).told ≡ news ++ there.told
     pub here_is : here.told ≡ upto
-    pub related : Related names keep upto here there
+    pub related : Related capture names keep upto here there
     pub holds : Holds opening OnlyKept here there
 
   -- What is asked of the set: what a kept statement's operation reads was written last by kept statements; and what ends by a jump inside a kept
@@ -114,7 +114,7 @@ module _ (capture : Capture) (keep : StmtSet) (opening : RunStore) (upto : List 
     marks = marks_after keep upto
 
     -- it has arrived, or it goes on
-    pub arrive : (a b : Act) (s t : State) → Related names keep upto s t → Holds opening OnlyKept s t → length s.told ≤ length upto → Through capture keep opening upto (outcome capture a s)
+    pub arrive : (a b : Act) (s t : State) → Related capture names keep upto s t → Holds opening OnlyKept s t → length s.told ≤ length upto → Through capture keep opening upto (outcome capture a s)
         → (length s.told < length upto → Reaches (outcome capture b t)) → Reaches (outcome capture b t)
     arrive a b s t related holds short through go = by_length (nat_lt (length s.told) (length upto)) refl
       where
@@ -130,7 +130,7 @@ module _ (capture : Capture) (keep : StmtSet) (opening : RunStore) (upto : List 
           holds = holds;
         }
 
-    pub simulate : {k : ℕ} {from onto : List Open} {a b : Act} → Beside names keep marks k from onto a b → (s t : State) → Related names keep upto s t → Holds opening OnlyKept s t
+    pub simulate : {k : ℕ} {from onto : List Open} {a b : Act} → Beside names keep marks k from onto a b → (s t : State) → Related capture names keep upto s t → Holds opening OnlyKept s t
         → map open_of (frames_after s.told) ≡ from → t.left < k → length s.told < length upto → Through capture keep opening upto (outcome capture a s) → Reaches (outcome capture b t)
     simulate unreached s t related holds frames few before through = absurd (omega (arith, few))
     simulate (both_ret same) s t related holds frames few before through = absurd (not_yet capture keep opening upto s refl before through)
@@ -141,11 +141,11 @@ module _ (capture : Capture) (keep : StmtSet) (opening : RunStore) (upto : List 
       where
         by_happened : (h : Happened) → operation capture at p vs s ≡ h → CameBy at p vs (effect_of capture at p vs s) s h
             → Through capture keep opening upto (elim h [ did answer came u ↦ outcome capture (f answer came) u | too_dear u ↦ spent u | lacked u ↦ lacking u ])
-            → ((v w : Contents) (came : Walked) → SameValue marks v w → (next now : State) → Related names keep upto next now → Holds opening OnlyKept next now → map open_of (frames_after next.told) ≡ a_statement n ∷ from
+            → ((v w : Contents) (came : Walked) → SameValue marks v w → (next now : State) → Related capture names keep upto next now → Holds opening OnlyKept next now → map open_of (frames_after next.told) ≡ a_statement n ∷ from
             → now.left < k → length next.told < length upto → Through capture keep opening upto (outcome capture (f (value v) came) next) → Reaches (outcome capture (g (value w) came) now))
-            → ((o e : ℕ) (came : Walked) → SameValue marks (object o) (object e) → (next now : State) → Related names keep upto next now → Holds opening OnlyKept next now → map open_of (frames_after next.told) ≡ a_statement n ∷ from
+            → ((o e : ℕ) (came : Walked) → SameValue marks (object o) (object e) → (next now : State) → Related capture names keep upto next now → Holds opening OnlyKept next now → map open_of (frames_after next.told) ≡ a_statement n ∷ from
             → now.left < k → length next.told < length upto → Through capture keep opening upto (outcome capture (f (raised o) came) next) → Reaches (outcome capture (g (raised e) came) now))
-            → ((came : Walked) → (next now : State) → Related names keep upto next now → Holds opening OnlyKept next now → map open_of (frames_after next.told) ≡ a_statement n ∷ from
+            → ((came : Walked) → (next now : State) → Related capture names keep upto next now → Holds opening OnlyKept next now → map open_of (frames_after next.told) ≡ a_statement n ∷ from
             → now.left < k → length next.told < length upto → Through capture keep opening upto (outcome capture (f at_end came) next) → Reaches (outcome capture (g at_end came) now))
             → Reaches (outcome capture (perform at q ws g) t)
         by_happened (too_dear u) is came through on on_raise last = absurd (not_yet capture keep opening upto s came.0 before through)
@@ -217,7 +217,7 @@ module _ (capture : Capture) (keep : StmtSet) (opening : RunStore) (upto : List 
       where
         by_happened : (h : Happened) → operation capture at p vs s ≡ h → CameBy at p vs (effect_of capture at p vs s) s h
             → Through capture keep opening upto (elim h [ did answer came u ↦ outcome capture (f answer came) u | too_dear u ↦ spent u | lacked u ↦ lacking u ])
-            → ((answer : Answer) (came : Walked) → (next : State) → Related names keep upto next t → Holds opening OnlyKept next t → map open_of (frames_after next.told) ≡ a_statement n ∷ from
+            → ((answer : Answer) (came : Walked) → (next : State) → Related capture names keep upto next t → Holds opening OnlyKept next t → map open_of (frames_after next.told) ≡ a_statement n ∷ from
             → t.left < k → length next.told < length upto → Through capture keep opening upto (outcome capture (f answer came) next) → Reaches (outcome capture b t))
             → Reaches (outcome capture b t)
         by_happened (too_dear u) is came through on = absurd (not_yet capture keep opening upto s came.0 before through)
@@ -240,26 +240,26 @@ module _ (capture : Capture) (keep : StmtSet) (opening : RunStore) (upto : List 
               here = held_after laws opening at p vs (effect_of capture at p vs s) s answer u told holds.here;
               there = holds.there;
               askings = λ place only. holds.askings place only
-                  ∙ sym (deleted_askings laws names keep upto capture at p vs s u answer came is place
+                  ∙ sym (deleted_askings laws capture names keep upto at p vs s u answer came is place
                   (λ may. asks.asking_out within.front s.told at p.no vs answer _ _ _ n upto_is (owner_in s.told n from frames) may out place only));
             }
 
-            related_now : Related names keep upto u t
-            related_now = deleted_moment laws names keep upto capture at p vs n s t u answer came related out (owner_in s.told n from frames) is
+            related_now : Related capture names keep upto u t
+            related_now = deleted_moment laws capture names keep upto at p vs n s t u answer came related out (owner_in s.told n from frames) is
                 ((onwards capture (f answer came) u).unnoted through.unnoted)
     simulate {k = suc k} (both_begin {n = n} {m = m} {from = from} {a = a} {b = b} kept named rest) s t related holds frames few before through =
         by_left (nat_le 1 s.left) through (simulate rest (beginning n s) (beginning m t))
       where
         by_left : (enough : Bool) → Through capture keep opening upto (if enough then outcome capture a (beginning n s) else spent s)
-            → (Related names keep upto (beginning n s) (beginning m t) → Holds opening OnlyKept (beginning n s) (beginning m t) → map open_of (frames_after (begins n ∷ s.told)) ≡ a_statement n ∷ from → (beginning m t).left < k
+            → (Related capture names keep upto (beginning n s) (beginning m t) → Holds opening OnlyKept (beginning n s) (beginning m t) → map open_of (frames_after (begins n ∷ s.told)) ≡ a_statement n ∷ from → (beginning m t).left < k
             → suc (length s.told) < length upto → Through capture keep opening upto (outcome capture a (beginning n s)) → Reaches (outcome capture b (beginning m t)))
             → Reaches (outcome capture (begin m b) t)
         by_left false through on = absurd (not_yet capture keep opening upto s refl before through)
         by_left true through on =
             let within : IsEndOf (begins n ∷ s.told) upto = told_within capture keep opening upto a (beginning n s) (omega (arith, before)) through in
-            let pays : 1 ≤ t.left = begin_paid laws names keep upto n m s t related within.front within.whole_is in
+            let pays : 1 ≤ t.left = begin_paid laws capture names keep upto n m s t related within.front within.whole_is in
             let held_now : Holds opening OnlyKept (beginning n s) (beginning m t) = record { here = record { map_is = holds.here.map_is; kinds_are = holds.here.kinds_are }; there = record { map_is = holds.there.map_is; kinds_are = holds.there.kinds_are }; askings = holds.askings } in
-            let now : Related names keep upto (beginning n s) (beginning m t) = both_begin_related laws names keep upto n m s t related kept named pays in
+            let now : Related capture names keep upto (beginning n s) (beginning m t) = both_begin_related laws capture names keep upto n m s t related kept named pays in
             subst Reaches (ap (λ test. if test then outcome capture b (beginning m t) else spent t) (sym (le-leb 1 t.left pays)))
             (arrive a b (beginning n s) (beginning m t) now held_now (omega (arith, before)) through
             (λ early. on now held_now (ap (λ (open_ones : List Open). a_statement n ∷ open_ones) frames) (omega (arith, few, pays)) early through))
@@ -267,35 +267,35 @@ module _ (capture : Capture) (keep : StmtSet) (opening : RunStore) (upto : List 
         by_left (nat_le 1 s.left) through (simulate rest (beginning n s) t)
       where
         by_left : (enough : Bool) → Through capture keep opening upto (if enough then outcome capture a (beginning n s) else spent s)
-            → (Related names keep upto (beginning n s) t → Holds opening OnlyKept (beginning n s) t → map open_of (frames_after (begins n ∷ s.told)) ≡ a_statement n ∷ from → t.left < k
+            → (Related capture names keep upto (beginning n s) t → Holds opening OnlyKept (beginning n s) t → map open_of (frames_after (begins n ∷ s.told)) ≡ a_statement n ∷ from → t.left < k
             → suc (length s.told) < length upto → Through capture keep opening upto (outcome capture a (beginning n s)) → Reaches (outcome capture b t))
             → Reaches (outcome capture b t)
         by_left false through on = absurd (not_yet capture keep opening upto s refl before through)
         by_left true through on =
             let held_now : Holds opening OnlyKept (beginning n s) t = record { here = record { map_is = holds.here.map_is; kinds_are = holds.here.kinds_are }; there = record { map_is = holds.there.map_is; kinds_are = holds.there.kinds_are }; askings = holds.askings } in
-            let now : Related names keep upto (beginning n s) t = alone_begin_related laws names keep upto n 0 s t related out in
+            let now : Related capture names keep upto (beginning n s) t = alone_begin_related laws capture names keep upto n 0 s t related out in
             arrive a b (beginning n s) t now held_now (omega (arith, before)) through
             (λ early. on now held_now (ap (λ (open_ones : List Open). a_statement n ∷ open_ones) frames) few early through)
     simulate {k = suc k} (pass_begin {n = n} {m = m} {from = from} {a = a} {b = b} out named rest) s t related holds frames few before through =
         by_left (nat_le 1 s.left) through (simulate rest (beginning n s) (tell (ends m normal_end) (beginning m t)))
       where
         by_left : (enough : Bool) → Through capture keep opening upto (if enough then outcome capture a (beginning n s) else spent s)
-            → (Related names keep upto (beginning n s) (tell (ends m normal_end) (beginning m t)) → Holds opening OnlyKept (beginning n s) (tell (ends m normal_end) (beginning m t)) → map open_of (frames_after (begins n ∷ s.told)) ≡ a_statement n ∷ from
+            → (Related capture names keep upto (beginning n s) (tell (ends m normal_end) (beginning m t)) → Holds opening OnlyKept (beginning n s) (tell (ends m normal_end) (beginning m t)) → map open_of (frames_after (begins n ∷ s.told)) ≡ a_statement n ∷ from
             → (beginning m t).left < k → suc (length s.told) < length upto → Through capture keep opening upto (outcome capture a (beginning n s))
             → Reaches (outcome capture b (tell (ends m normal_end) (beginning m t))))
             → Reaches (outcome capture (begin m (close m normal_end b)) t)
         by_left false through on = absurd (not_yet capture keep opening upto s refl before through)
         by_left true through on =
             let within : IsEndOf (begins n ∷ s.told) upto = told_within capture keep opening upto a (beginning n s) (omega (arith, before)) through in
-            let pays : 1 ≤ t.left = begin_paid laws names keep upto n m s t related within.front within.whole_is in
+            let pays : 1 ≤ t.left = begin_paid laws capture names keep upto n m s t related within.front within.whole_is in
             let held_now : Holds opening OnlyKept (beginning n s) (tell (ends m normal_end) (beginning m t)) = record { here = record { map_is = holds.here.map_is; kinds_are = holds.here.kinds_are }; there = record { map_is = holds.there.map_is; kinds_are = holds.there.kinds_are }; askings = holds.askings } in
-            let now : Related names keep upto (beginning n s) (tell (ends m normal_end) (beginning m t)) = pass_related laws names keep upto n m s t related out named pays in
+            let now : Related capture names keep upto (beginning n s) (tell (ends m normal_end) (beginning m t)) = pass_related laws capture names keep upto n m s t related out named pays in
             subst Reaches (ap (λ test. if test then outcome capture b (tell (ends m normal_end) (beginning m t)) else spent t) (sym (le-leb 1 t.left pays)))
             (arrive a b (beginning n s) (tell (ends m normal_end) (beginning m t)) now held_now (omega (arith, before)) through
             (λ early. on now held_now (ap (λ (open_ones : List Open). a_statement n ∷ open_ones) frames) (omega (arith, few, pays)) early through))
     simulate (both_close {n = n} {m = m} {from = from} {ended = ended} {a = a} {b = b} kept named rest) s t related holds frames few before through =
         let held_now : Holds opening OnlyKept (tell (ends n ended) s) (tell (ends m ended) t) = record { here = record { map_is = holds.here.map_is; kinds_are = holds.here.kinds_are }; there = record { map_is = holds.there.map_is; kinds_are = holds.there.kinds_are }; askings = holds.askings } in
-        let now : Related names keep upto (tell (ends n ended) s) (tell (ends m ended) t) = both_end_related laws names keep upto n m s t related ended kept named in
+        let now : Related capture names keep upto (tell (ends n ended) s) (tell (ends m ended) t) = both_end_related laws capture names keep upto n m s t related ended kept named in
         arrive a b (tell (ends n ended) s) (tell (ends m ended) t) now held_now (omega (arith, before)) (told_on through)
         (λ early. simulate rest (tell (ends n ended) s) (tell (ends m ended) t) now held_now (closed_frames (frames_after s.told) n from frames) few early (told_on through))
       where
@@ -303,7 +303,7 @@ module _ (capture : Capture) (keep : StmtSet) (opening : RunStore) (upto : List 
         told_on through = record { rest = through.rest; told_is = through.told_is; unnoted = through.unnoted }
     simulate (alone_close {n = n} {from = from} {ended = ended} {a = a} {b = b} out rest) s t related holds frames few before through =
         let held_now : Holds opening OnlyKept (tell (ends n ended) s) t = record { here = record { map_is = holds.here.map_is; kinds_are = holds.here.kinds_are }; there = record { map_is = holds.there.map_is; kinds_are = holds.there.kinds_are }; askings = holds.askings } in
-        let now : Related names keep upto (tell (ends n ended) s) t = alone_end_related laws names keep upto n 0 s t related ended out in
+        let now : Related capture names keep upto (tell (ends n ended) s) t = alone_end_related laws capture names keep upto n 0 s t related ended out in
         arrive a b (tell (ends n ended) s) t now held_now (omega (arith, before)) (told_on through)
         (λ early. simulate rest (tell (ends n ended) s) t now held_now (closed_frames (frames_after s.told) n from frames) few early (told_on through))
       where

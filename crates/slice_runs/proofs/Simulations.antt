@@ -1,5 +1,5 @@
 -- The run of a slice, from its beginning.
-use Rattle.std.proofs.Common.{◌≡◌, ◌≤◌, ◌+◌, ℕ, suc, List, [], ◌∷◌, ◌++◌, map, length, Option, Some, inr, refl, sym, ap, ap₂, subst, ◌∙◌, arith, codes, Bool}
+use Rattle.std.proofs.Common.{◌≡◌, ◌≤◌, ◌+◌, ℕ, suc, List, [], ◌∷◌, ◌++◌, map, length, Option, Some, inl, inr, refl, sym, ap, ap₂, subst, ◌∙◌, arith, codes, Bool}
 use Rattle.py_tree.specs.Deletion.{deleted}
 use Rattle.py_tree.specs.Tree.{ScriptTree}
 use Rattle.py_value.specs.Contents.{text}
@@ -102,7 +102,7 @@ module _ (laws : Laws) (script : ScriptTree) (capture : Capture) (path : List �
       at_start at_start starts 0 script.body (body_under keep script (opening_in capture path arguments) upto closed)
       (record { each = λ s place there. there }) (record { each = λ n place there. there }) [] tt
 
-  related_first : spent_on upto ≤ budget → Related (names (IsHere script) (IsHere (deleted keep script)) keep upto) keep upto (starting capture path arguments steps) (starting capture path arguments budget)
+  related_first : spent_on upto ≤ budget → Related capture (names (IsHere script) (IsHere (deleted keep script)) keep upto) keep upto (starting capture path arguments steps) (starting capture path arguments budget)
   related_first enough = record {
     follows = nothing_done;
     contents = λ l inside r fits. opening_matches laws r path arguments (with_bytes capture.files) l;
@@ -110,7 +110,7 @@ module _ (laws : Laws) (script : ScriptTree) (capture : Capture) (path : List �
     counted = refl;
     noted_names = λ place. refl;
     opened_there = λ path is. is;
-    opened_here = λ path is inside. is;
+    opened_here = λ path is inside. inl is;
     enough = omega (arith, enough);
     no_more = omega arith;
   }

@@ -1,10 +1,8 @@
 -- What touches make of kinds and noted names, in two stores.
-use Rattle.std.proofs.Common.{◌≡◌, ℕ, Bool, true, false, ◌||◌, List, [], ◌∷◌, ◌++◌, map, Option, Some, None, option_map, if◌then◌else◌, refl, sym, ap, ◌∙◌}
-use Rattle.std.proofs.lemmas.Bool.{false≢true}
+use Rattle.std.proofs.Common.{◌≡◌, Bool, true, false, List, [], ◌∷◌, map, Option, Some, None, option_map, if◌then◌else◌, refl, ap, ◌∙◌}
 use Rattle.prov_base.specs.declared.place.Pos.{Pos}
 use Rattle.prov_base.specs.contracts.place.PosPartialEq.TheImpl.{ghosts as places}
-use Rattle.py_value.specs.declared.access.Mode.TheVariants.{Append}
-use Rattle.py_value.specs.Seen.{SeenAccess, SeenKind, a_file, var_at, len_at, item_at, entry_at, order_at, file_at, offset_at, closed_at, method_at, base_at, reads, sets, updates}
+use Rattle.py_value.specs.Seen.{SeenAccess, SeenKind, var_at, len_at, item_at, entry_at, order_at, file_at, offset_at, closed_at, method_at, base_at, reads, sets, updates}
 use Rattle.py_model.specs.Act.{Walked}
 use Rattle.py_model.specs.Effect.{Touch, accessed, looked, counted, printed, opened, noted, asked, fetched, Effect, accesses_in, after, after_touches, after_touch, with_made}
 use Rattle.py_model.specs.History.{with_kind}
@@ -12,7 +10,7 @@ use Rattle.py_model.specs.Renaming.{Renaming, renamed_touch, renamed_access, ren
 use Rattle.py_model.specs.Running.{method_found, sets_an_entry, walked}
 use Rattle.py_model.specs.Store.{RunStore, method_of}
 use Rattle.slice_runs.proofs.Readings.{AreRead, method_read}
-use Rattle.slice_runs.specs.Related.{is_appended, has_appended, IsUnnoted}
+use Rattle.slice_runs.specs.Related.{IsUnnoted}
 use Rattle.slice_runs.specs.Renaming.{Fits}
 
 kinds_stay : (touches : List Touch) (store : RunStore) → (after_touches touches store).kinds ≡ store.kinds
@@ -127,37 +125,9 @@ no_name (noted at name ∷ touches) store place is = by_place (places.eq at plac
 no_name (asked what ∷ touches) store place is = no_name touches store place is
 no_name (fetched path ∷ touches) store place is = no_name touches store place is
 
-appended_before : (xs ys : List SeenKind) → has_appended (xs ++ ys) ≡ false → has_appended xs ≡ false
-appended_before [] ys is = refl
-appended_before (x ∷ xs) ys is = by_test (is_appended x) is (appended_before xs ys)
-  where
-    by_test : (b : Bool) → (b || has_appended (xs ++ ys)) ≡ false → (has_appended (xs ++ ys) ≡ false → has_appended xs ≡ false) → (b || has_appended xs) ≡ false
-    by_test true not on = not
-    by_test false not on = on not
-
-appended_last : (xs : List SeenKind) (kind : SeenKind) → is_appended kind ≡ true → has_appended (xs ++ kind ∷ []) ≡ true
-appended_last [] kind is = ap (λ b. b || false) is
-appended_last (x ∷ xs) kind is = by_test (is_appended x) (appended_last xs kind is)
-  where
-    by_test : (b : Bool) → has_appended (xs ++ kind ∷ []) ≡ true → (b || has_appended (xs ++ kind ∷ [])) ≡ true
-    by_test true more = refl
-    by_test false more = more
-
-with_before : (made : Option SeenKind) (kinds : List SeenKind) → has_appended (with_kind made kinds) ≡ false → has_appended kinds ≡ false
-with_before None kinds is = is
-with_before (Some kind) kinds is = appended_before kinds (kind ∷ []) is
-
 pub unnoted_before : (e : Effect) (store : RunStore) → IsUnnoted (after e store) → IsUnnoted store
-unnoted_before e store is = record {
-  names = λ place. names_before e.made place (no_name e.touches (with_made e.made store) place (is.names place));
-  appends_none = with_before e.made store.kinds (ap has_appended (sym (kinds_grow e store)) ∙ is.appends_none);
-}
+unnoted_before e store is = record { names = λ place. names_before e.made place (no_name e.touches (with_made e.made store) place (is.names place)) }
   where
     names_before : (made : Option SeenKind) (place : Pos) → (with_made made store).names place ≡ None → store.names place ≡ None
     names_before None place is = is
     names_before (Some kind) place is = is
-
--- so nothing is made for appending
-pub unappended : (e : Effect) (store : RunStore) (path : List ℕ) → IsUnnoted (after e store) → e.made ≡ Some (a_file path Append) → ⊥
-unappended e store path is made = false≢true (sym (ap has_appended (sym (kinds_grow e store)) ∙ is.appends_none)
-    ∙ (ap (λ one. has_appended (with_kind one store.kinds)) made ∙ appended_last store.kinds (a_file path Append) refl))

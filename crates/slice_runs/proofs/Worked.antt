@@ -1,5 +1,5 @@
 -- Runs and scripts of the class that the simulation speaks of, by computation: a list with two names is changed by one of them;
--- an exception is raised in a loop and handled; and a file is written and opened again.
+-- an exception is raised in a loop and handled; and a file is written and opened again for appending.
 use Rattle.py_tree.specs.declared.expr.BinOp.TheVariants.{Add, FloorDiv}
 use Rattle.std.proofs.Common.{◌≡◌, ℕ, [], codes, refl, Some, None}
 use Rattle.std.specs.Prelude.{pos}
@@ -37,7 +37,7 @@ alias = record {
 
 alias_is_plain : (capture : Capture) → IsPlainRun alias (record capture { answers = []; files = [] }) (codes "s.py") [] 1000
 unfolding is_utf8 chars encode_utf8 level
-alias_is_plain capture = record { functionless = refl; unnoted = record { names = λ place. refl; appends_none = refl } }
+alias_is_plain capture = record { functionless = refl; unnoted = record { names = λ place. refl } }
 
 alias_defines_nothing : names_in alias.body ≡ []
 alias_defines_nothing = refl
@@ -64,7 +64,7 @@ handled = record {
 
 handled_is_plain : (capture : Capture) → IsPlainRun handled (record capture { answers = []; files = [] }) (codes "s.py") [] 1000
 unfolding is_utf8 chars encode_utf8 level
-handled_is_plain capture = record { functionless = refl; unnoted = record { names = λ place. refl; appends_none = refl } }
+handled_is_plain capture = record { functionless = refl; unnoted = record { names = λ place. refl } }
 
 handled_defines_nothing : names_in handled.body ≡ []
 handled_defines_nothing = refl
@@ -72,17 +72,17 @@ handled_defines_nothing = refl
 -- f = open("o.txt", "w")
 -- f.write("a")
 -- f.close()
--- g = open("o.txt")
+-- g = open("o.txt", "a")
 abbrev written : ScriptTree
 written = record {
   body = more_suite (one_stmt 0 (place 1 1) no_span (assign_form (var_target (place 1 1) (codes "f"))
       (call_expr (place 1 9) (var_expr (place 1 5) (codes "open")) (more_exprs (const_expr (place 1 10) (text_atom (codes "o.txt"))) (more_exprs (const_expr (place 1 19) (text_atom (codes "w"))) end_exprs)))))
       (more_suite (one_stmt 1 (place 2 1) no_span (do_form (call_expr (place 2 8) (attr_expr (place 2 2) (var_expr (place 2 1) (codes "f")) (codes "write")) (more_exprs (const_expr (place 2 9) (text_atom (codes "a"))) end_exprs))))
       (more_suite (one_stmt 2 (place 3 1) no_span (do_form (call_expr (place 3 8) (attr_expr (place 3 2) (var_expr (place 3 1) (codes "f")) (codes "close")) end_exprs)))
-      (more_suite (one_stmt 3 (place 4 1) no_span (assign_form (var_target (place 4 1) (codes "g")) (call_expr (place 4 9) (var_expr (place 4 5) (codes "open")) (more_exprs (const_expr (place 4 10) (text_atom (codes "o.txt"))) end_exprs)))) end_suite)));
+      (more_suite (one_stmt 3 (place 4 1) no_span (assign_form (var_target (place 4 1) (codes "g")) (call_expr (place 4 9) (var_expr (place 4 5) (codes "open")) (more_exprs (const_expr (place 4 10) (text_atom (codes "o.txt"))) (more_exprs (const_expr (place 4 19) (text_atom (codes "a"))) end_exprs))))) end_suite)));
   count = 4;
 }
 
 written_is_plain : (capture : Capture) → IsPlainRun written (record capture { answers = []; files = [] }) (codes "s.py") [] 1000
 unfolding is_utf8 chars encode_utf8 level
-written_is_plain capture = record { functionless = refl; unnoted = record { names = λ place. refl; appends_none = refl } }
+written_is_plain capture = record { functionless = refl; unnoted = record { names = λ place. refl } }

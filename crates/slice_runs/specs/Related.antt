@@ -1,18 +1,18 @@
 -- When a state of a run of the slice stands for a state of the script's run (after Korel and Laski 1988; this project's profile).
-use Rattle.std.specs.Prelude.{◌≡◌, ℕ, ◌+◌, ◌≤◌, ◌<◌, ◌||◌, Bool, true, false, List, [], ◌∷◌, map, length, Some, None, ⊤}
+use Rattle.std.specs.Prelude.{◌≡◌, ℕ, ◌+◌, ◌≤◌, ◌<◌, ◌⊎◌, Bool, true, false, List, [], ◌∷◌, map, length, Option, Some, None, ⊤}
 use Rattle.std.specs.Option.{option_map}
 use Rattle.prov_base.specs.declared.place.Pos.{Pos}
 use Rattle.py_value.specs.Contents.{Contents}
-use Rattle.py_value.specs.Seen.{SeenLocation, SeenAccess, SeenKind, a_file, file_at, reads}
-use Rattle.py_value.specs.declared.access.Mode.TheVariants.{Append}
+use Rattle.py_value.specs.Seen.{SeenLocation, SeenAccess, file_at, reads}
 use Rattle.py_model.specs.Act.{Walked}
-use Rattle.py_model.specs.Capture.{Capture}
+use Rattle.py_model.specs.Capture.{Capture, found_in}
 use Rattle.py_model.specs.Operations.{Op}
 use Rattle.py_model.specs.Store.{RunStore, has_path}
+use Rattle.py_model.specs.Tidy.{is_there}
 use Rattle.py_model.specs.History.{accesses_by, spent_on}
 use Rattle.py_model.specs.Moment.{Moment, begins, does, ends, Ending, normal_end}
 use Rattle.py_model.specs.Occurrences.{sets_at, updates_at}
-use Rattle.py_model.specs.Plan.{Answer}
+use Rattle.py_model.specs.Plan.{Answer, Found}
 use Rattle.py_model.specs.Renaming.{Renaming, renamed_list, renamed_answer, renamed_kind, renamed_access}
 use Rattle.py_model.specs.Running.{State, did, askings_at, operation}
 use Rattle.slice_law.specs.Closed.{StmtSet}
@@ -56,6 +56,12 @@ pub data Follows (names : ℕ → ℕ → Type 0) (keep : StmtSet) (marks : List
       → Follows names keep marks (ends s ended ∷ before) (ends n ended ∷ others)
   alone_ended : {s : ℕ} {ended : Ending} {before others : List Moment} → keep s ≡ false → Follows names keep marks before others → Follows names keep marks (ends s ended ∷ before) others
 
+-- what was found at a path can be read, or nothing stands there
+pub record IsThere (found : List ℕ → Option Found) (path : List ℕ) : Type 0 where
+  pub what : Found
+  pub found_is : found path ≡ Some what
+  pub there : is_there what ≡ true
+
 -- of the objects of the script's run those of both runs
 abbrev pub kept_of : {A : Type 0} → List Bool → List A → List A
 kept_of [] xs = []
@@ -64,15 +70,17 @@ kept_of (true ∷ marks) (x ∷ xs) = x ∷ kept_of marks xs
 kept_of (false ∷ marks) (x ∷ xs) = kept_of marks xs
 
 -- Wherever the reach lies in the set, contents correspond; kinds and noted names do; and the slice has taken no more steps, and has enough
--- left for all moments up to the last that is asked for. The slice opened no other paths for writing, and each whose file's reach lies in the set.
-pub record Related (names : ℕ → ℕ → Type 0) (keep : StmtSet) (upto : List Moment) (s t : State) : Type 0 where
+-- left for all moments up to the last that is asked for. The slice opened no other paths for writing. Of those that the script's run opened, it
+-- opened each whose file's reach lies in the set; or the file can be read as it was found.
+pub record Related (capture : Capture) (names : ℕ → ℕ → Type 0) (keep : StmtSet) (upto : List Moment) (s t : State) : Type 0 where
   pub follows : Follows names keep (marks_after keep upto) s.told t.told
   pub contents : (l : SeenLocation) → IsInReach keep l s.told → (r : Renaming) → Fits (marks_after keep upto) r → Matches r s.store.at t.store.at l
   pub kinds : (r : Renaming) → Fits (marks_after keep upto) r → t.store.kinds ≡ map (renamed_kind r) (kept_of (marks_after keep s.told) s.store.kinds)
   pub counted : length s.store.kinds ≡ length (marks_after keep s.told)
   pub noted_names : (place : Pos) → t.store.names place ≡ s.store.names place
   pub opened_there : (path : List ℕ) → has_path path t.store.opened ≡ true → has_path path s.store.opened ≡ true
-  pub opened_here : (path : List ℕ) → has_path path s.store.opened ≡ true → IsInReach keep (file_at path) s.told → has_path path t.store.opened ≡ true
+  pub opened_here : (path : List ℕ) → has_path path s.store.opened ≡ true → IsInReach keep (file_at path) s.told
+      → (has_path path t.store.opened ≡ true) ⊎ IsThere (found_in capture.files) path
   pub enough : spent_on upto ≤ t.left + spent_on s.told
   pub no_more : spent_on t.told ≤ spent_on s.told
 
@@ -89,19 +97,10 @@ pub record DoneAgain (capture : Capture) (names : ℕ → ℕ → Type 0) (keep 
   pub now : State
   pub happens : operation capture at q ws t ≡ did again came now
   pub answers : (r : Renaming) → Fits (marks_after keep upto) r → again ≡ renamed_answer r answer
-  pub related : Related names keep upto next now
+  pub related : Related capture names keep upto next now
   pub askings : (place : Pos) → askings_at place t.askings ≡ askings_at place s.askings → askings_at place now.askings ≡ askings_at place next.askings
   pub fewer : now.left < t.left
 
--- no name is noted, and no file was opened for appending
-abbrev pub is_appended : SeenKind → Bool
-is_appended (a_file path Append) = true
-is_appended kind = false
-
-abbrev pub has_appended : List SeenKind → Bool
-has_appended [] = false
-has_appended (kind ∷ kinds) = is_appended kind || has_appended kinds
-
+-- no name is noted
 pub record IsUnnoted (store : RunStore) : Type 0 where
   pub names : (place : Pos) → store.names place ≡ None
-  pub appends_none : has_appended store.kinds ≡ false

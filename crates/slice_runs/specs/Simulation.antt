@@ -21,8 +21,8 @@ use Rattle.slice_runs.specs.Owned.{SamePlace}
 use Rattle.slice_runs.specs.Related.{Follows, kept_of, IsUnnoted}
 use Rattle.slice_runs.specs.Renaming.{marks_after, Fits, IsShifted, Matches}
 
--- The runs that are spoken of: the script has no functions, no name of a class is noted, and no file opened for appending. Exceptions, jumps,
--- askings and files that are read or written are among them.
+-- The runs that are spoken of: the script has no functions, and no name of a class is noted. Exceptions, jumps, askings and files that are read
+-- or written are among them.
 pub record IsPlainRun (script : ScriptTree) (capture : Capture) (path : List ℕ) (arguments : List (List ℕ)) (steps : ℕ) : Type 0 where
   pub functionless : functions_in script.body ≡ []
   pub unnoted : IsUnnoted (state_in (outcome capture (meaning script steps) (starting capture path arguments steps))).store

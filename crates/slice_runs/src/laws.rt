@@ -77,7 +77,7 @@ pub fn objects_of_both_runs_correspond()
 /// corresponds, and the states afterwards stand for one another. No operation is taken apart: it follows from the law of agreement.
 pub fn kept_moments_are_done_again()
     ensures { (capture : Capture) (script other : ScriptTree) (keep : StmtSet) (upto : List Moment) (at : Pos) (p q : Op) (vs ws : List Contents) (n : ℕ) (s t next : State) (answer : Answer) (came : Walked)
-        → Related (SamePlace script other) keep upto s t → keep n ≡ true → owner_stmt s.told ≡ Some n → SameOp (marks_after keep upto) p q → SameValues (marks_after keep upto) vs ws
+        → Related capture (SamePlace script other) keep upto s t → keep n ≡ true → owner_stmt s.told ≡ Some n → SameOp (marks_after keep upto) p q → SameValues (marks_after keep upto) vs ws
         → (may_ask p.no ≡ false) ⊎ (askings_at at t.askings ≡ askings_at at s.askings) → operation capture at p vs s ≡ did answer came next → (news : List Moment) → upto ≡ news ++ next.told
         → AllInReach keep s.told (accesses_in (effect_of capture at p vs s).touches) → DoneAgain capture (SamePlace script other) keep upto at q ws s t answer came next }
 {
@@ -89,12 +89,11 @@ pub fn kept_moments_are_done_again()
     map_changes_by_accesses();
 }
 
-/// The law of other moments: what a statement outside the set does leaves the states standing for one another, where it notes no name and opens no
-/// file for appending.
+/// The law of other moments: what a statement outside the set does leaves the states standing for one another, where it notes no name.
 pub fn deleted_moments_keep_the_relation()
     ensures { (capture : Capture) (script other : ScriptTree) (keep : StmtSet) (upto : List Moment) (at : Pos) (p : Op) (vs : List Contents) (n : ℕ) (s t next : State) (answer : Answer) (came : Walked)
-        → Related (SamePlace script other) keep upto s t → keep n ≡ false → owner_stmt s.told ≡ Some n → operation capture at p vs s ≡ did answer came next
-        → IsUnnoted next.store → Related (SamePlace script other) keep upto next t }
+        → Related capture (SamePlace script other) keep upto s t → keep n ≡ false → owner_stmt s.told ≡ Some n → operation capture at p vs s ≡ did answer came next
+        → IsUnnoted next.store → Related capture (SamePlace script other) keep upto next t }
 {
     tests_are_equality();
     corresponding_operands_have_alike_plans();
@@ -104,15 +103,14 @@ pub fn deleted_moments_keep_the_relation()
     map_changes_by_accesses();
 }
 
-/// The law of the simulation, for scripts without functions and runs that define no class and open no file for appending. With a set that is
-/// closed for the moments up to some one, the run of the deletion performs up to there exactly the script's moments without those of deleted
-/// statements, and the `pass` of each execution of an emptied suite. Statements are named by place, and objects of kept statements are renamed
-/// one-to-one. Where the reach of a location is kept, what stands there corresponds. No more steps are needed than the script's run took up to
-/// there.
+/// The law of the simulation, for scripts without functions and runs that define no class. With a set that is closed for the moments up to some
+/// one, the run of the deletion performs up to there exactly the script's moments without those of deleted statements, and the `pass` of each
+/// execution of an emptied suite. Statements are named by place, and objects of kept statements are renamed one-to-one. Where the reach of a
+/// location is kept, what stands there corresponds. No more steps are needed than the script's run took up to there.
 ///
 /// The class is said by `IsPlainRun` of `specs/Simulation.antt`. All expressions and statements are in it but `def` and `class`, with jumps,
 /// exceptions, handlers, askings of devices, files that are read or written and reads of unset names. Not shown here: runs that call functions or
-/// classes of the script or define them, or that open a file for appending.
+/// classes of the script or define them.
 pub fn slices_simulate()
     ensures { (script : ScriptTree) (capture : Capture) (path : List ℕ) (arguments : List (List ℕ)) (steps budget : ℕ) (keep : StmtSet) (upto after : List Moment)
         → IsWellFormed script → told_by script capture path arguments steps ≡ after ++ upto → IsClosed script (opening_in capture path arguments) upto keep
@@ -166,7 +164,7 @@ pub fn atomic_values_are_reproduced()
 /// closed set, and for the least one with as many steps as the whole run took.
 ///
 /// The criterion of a closed set reaches each location that a graph text shows, and what stands at these corresponds. Not shown here: scripts that
-/// define functions or classes, and runs that open a file for appending.
+/// define functions or classes.
 pub fn values_are_reproduced()
     ensures closed { (script : ScriptTree) (capture : Capture) (path : List ℕ) (arguments : List (List ℕ)) (steps budget : ℕ) (at : Pos) (k : ℕ) (keep : StmtSet) (upto : List Moment)
         → IsWellFormed script → up_to_evaluation at k (told_by script capture path arguments steps) ≡ Some upto → IsClosed script (opening_in capture path arguments) upto keep

@@ -6,7 +6,7 @@
 //! a kept statement stands in a kept one. `specs/Simulation.antt` states the simulation, and of which runs it speaks.
 //!
 //! [`slices_simulate`], [`slices_reach_the_evaluation`] and [`values_are_reproduced`] are the laws of the simulation. They do not speak of scripts
-//! with functions, and of runs that define classes or open a file for appending.
+//! with functions, and of runs that define classes.
 #![tactic(auto)]
 
 mod laws;
