@@ -3,11 +3,11 @@ use Rattle.std.proofs.Common.{◌≡◌, false, List, None, refl}
 use Rattle.py_value.specs.Contents.{Contents}
 use Rattle.py_model.proofs.AlikePrinting.{print_alike, repr_alike, str_alike}
 use Rattle.py_model.proofs.Correspondence.{allowed, operation_alike}
-use Rattle.py_model.proofs.AlikePlans.{AlikeBy}
+use Rattle.py_model.proofs.AlikePlans.{AlikeBy, IsNoteless}
 use Rattle.py_model.specs.AlikeOperations.{renamed_op}
 use Rattle.py_model.specs.Operations.{Op, plan}
 use Rattle.py_model.specs.Orderly.{IsOrderly, other_read}
-use Rattle.py_model.specs.Quiet.{may_ask, IsQuiet}
+use Rattle.py_model.specs.Quiet.{may_ask, may_note, IsQuiet}
 use Rattle.py_model.specs.Renaming.{Renaming, renamed_list}
 use Rattle.py_model.specs.Tidy.{IsTidy}
 
@@ -33,3 +33,6 @@ every_orderly op values = (every_alike as_they_are op values).orderly other_read
 
 pub every_tidy : (op : Op) (values : List Contents) → IsTidy (plan op values)
 every_tidy op values = (every_alike as_they_are op values).tidy None
+
+pub every_noteless : (op : Op) (values : List Contents) → may_note op.no ≡ false → IsNoteless (plan op values)
+every_noteless op values none = (every_alike as_they_are op values).noteless none

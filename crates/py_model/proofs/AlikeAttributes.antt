@@ -9,7 +9,7 @@ use Rattle.py_model.proofs.AlikeClasses.{derived_alike, end_alike, method_alike}
 use Rattle.py_model.proofs.AlikeComparing.{if_alike}
 use Rattle.py_model.proofs.AlikeOperands.{AlikeFor}
 use Rattle.py_model.proofs.AlikeWalks.{wrong_kind_alike, wrong_number_alike, not_there_alike, too_deep_alike, fault_alike}
-use Rattle.py_model.proofs.AlikePlans.{Allowed, AlikeBy, both_read_entry, both_kind, both_look, both_writes, both_raise, both_again, AlikeAfter, after_writes, both_begin, both_read_entry_and_write, both_write, both_note, both_done}
+use Rattle.py_model.proofs.AlikePlans.{Allowed, AlikeBy, both_read_entry, both_kind, both_look, both_writes, both_raise, both_again, AlikeAfter, after_writes, both_begin, both_read_entry_and_write, both_write, both_note, both_writes_noting, both_done}
 use Rattle.py_model.specs.Agreement as plans
 use Rattle.py_model.specs.Agreement.{AlikeWrites}
 use Rattle.py_model.specs.Classes.{object_is, value_is, isinstance, list_name, dict_name, end_of_chain, method_of_class, class_attribute, instance_attribute, operation, no_method_value, getattr_of_object, getattr, setattr_entry, setattr_of_object, setattr, method_found, find_of_object, find, instance_begun, make_of, make, is_class, is_kind, each_part, first_hit, answers_truth, define, define_method, class_begun, begin_class, import_module, is_module, sys_module, time_module, random_module, list_methods, dict_methods, text_methods, file_methods, time_methods, random_methods, args_key}
@@ -123,26 +123,26 @@ module _ (may : Allowed) (r : Renaming) where
   make_alike other items = wrong_kind_alike may r
 
   -- definitions
-  pub define_alike : (name : List ℕ) (v : Contents) → AlikeBy may r (define name v) (define name (renamed r v))
-  define_alike name (function place) = both_writes (both_note (both_write tt (ap (λ s. var_at s name) (sym r.module_stays)) refl (both_done refl)))
-  define_alike name other = wrong_kind_alike may r
+  pub define_alike : may.notes ≡ true → (name : List ℕ) (v : Contents) → AlikeBy may r (define name v) (define name (renamed r v))
+  define_alike noting name (function place) = both_writes_noting noting (both_note (both_write tt (ap (λ s. var_at s name) (sym r.module_stays)) refl (both_done refl)))
+  define_alike noting name other = wrong_kind_alike may r
 
-  pub define_method_alike : (name : List ℕ) (v of : Contents) → AlikeBy may r (define_method name v of) (define_method name (renamed r v) (renamed r of))
-  define_method_alike name (function place) (class of) = both_writes (both_note (both_write tt refl refl (both_done refl)))
-  define_method_alike name v other = wrong_kind_alike may r
+  pub define_method_alike : may.notes ≡ true → (name : List ℕ) (v of : Contents) → AlikeBy may r (define_method name v of) (define_method name (renamed r v) (renamed r of))
+  define_method_alike noting name (function place) (class of) = both_writes_noting noting (both_note (both_write tt refl refl (both_done refl)))
+  define_method_alike noting name v other = wrong_kind_alike may r
 
-  class_begun_alike : (name : List ℕ) (v : Contents) (base : Option Contents) → AlikeBy may r (class_begun name v base) (class_begun name (renamed r v) (renamed_option r base))
-  class_begun_alike name (class place) base = both_writes (both_note (both_write tt refl refl (both_done refl)))
-  class_begun_alike name other base = wrong_kind_alike may r
+  class_begun_alike : may.notes ≡ true → (name : List ℕ) (v : Contents) (base : Option Contents) → AlikeBy may r (class_begun name v base) (class_begun name (renamed r v) (renamed_option r base))
+  class_begun_alike noting name (class place) base = both_writes_noting noting (both_note (both_write tt refl refl (both_done refl)))
+  class_begun_alike noting name other base = wrong_kind_alike may r
 
   class_stays : (v : Contents) → is_class (renamed r v) ≡ is_class v
   class_stays (class place) = refl
   class_stays (exception_class number) = refl
   class_stays other = refl
 
-  pub begin_class_alike : (name : List ℕ) (v : Contents) (base : Option Contents) → AlikeBy may r (begin_class name v base) (begin_class name (renamed r v) (renamed_option r base))
-  begin_class_alike name v None = class_begun_alike name v None
-  begin_class_alike name v (Some base) = if_alike may r (is_class base) (is_class (renamed r base)) _ _ _ _ (class_stays base) (class_begun_alike name v (Some base)) (wrong_kind_alike may r)
+  pub begin_class_alike : may.notes ≡ true → (name : List ℕ) (v : Contents) (base : Option Contents) → AlikeBy may r (begin_class name v base) (begin_class name (renamed r v) (renamed_option r base))
+  begin_class_alike noting name v None = class_begun_alike noting name v None
+  begin_class_alike noting name v (Some base) = if_alike may r (is_class base) (is_class (renamed r base)) _ _ _ _ (class_stays base) (class_begun_alike noting name v (Some base)) (wrong_kind_alike may r)
 
   pub import_alike : (scope : ℕ) (name : List ℕ) (v : Contents) → AlikeBy may r (import_module scope name v) (import_module (r.scopes scope) name (renamed r v))
   import_alike scope name v = both_writes (both_write tt refl refl (both_done refl))

@@ -11,7 +11,7 @@ use Rattle.py_model.proofs.AlikeComparing.{if_alike}
 use Rattle.py_model.proofs.AlikeItems.{next_alike}
 use Rattle.py_model.proofs.AlikeOperands.{AlikeFor}
 use Rattle.py_model.proofs.AlikeWalks.{wrong_kind_alike, wrong_number_alike, fault_alike}
-use Rattle.py_model.proofs.AlikePlans.{Allowed, AlikeBy, AlikeKnown, RaisesOnly, known_any, not_both, both_read_file, both_read_offset, both_read_closed, both_kind, both_ask, both_count, both_print, both_writes, both_make, both_make_opening, both_make_left, AlikePlainly, both_write, both_change, both_set_and_open, both_done, both_done_at_end}
+use Rattle.py_model.proofs.AlikePlans.{Allowed, AlikeBy, AlikeKnown, RaisesOnly, IsNoteless, known_any, not_both, both_read_file, both_read_offset, both_read_closed, both_kind, both_ask, both_count, both_print, both_writes, both_make, both_make_opening, both_make_left, AlikePlainly, both_write, both_change, both_set_and_open, both_done, both_done_at_end}
 use Rattle.py_model.specs.Agreement as plans
 use Rattle.py_model.specs.Agreement.{Alike}
 use Rattle.py_model.specs.Orderly.{LastRead, other_read, IsOrderlyAfter}
@@ -40,6 +40,7 @@ module _ (may : Allowed) (r : Renaming) where
     pub same : Alike r p q
     pub again : RaisesOnly may.again p
     pub tidy : IsTidyAfter (if is_there found then Some path else None) p
+    pub noteless : may.notes ≡ false → IsNoteless p
     pub orderly : (last : LastRead) → IsOrderlyAfter last p
 
   abbrev AllKnown : List ℕ → (Option (List ℕ) → Plan) → (Option (List ℕ) → Plan) → Type 0
@@ -49,10 +50,10 @@ module _ (may : Allowed) (r : Renaming) where
   not_read path = both_read_file (λ bytes. fault_alike may r _ _)
 
   by_found_alike : (path : List ℕ) (go gone : Option (List ℕ) → Plan) → AllKnown path go gone → (found : Found) → FoundAlike path (by_found path go found) (by_found path gone found) found
-  by_found_alike path go gone each (found_bytes bytes) = record { same = plans.both_read_file (λ v. (each v).same); again = λ v. (each v).again; tidy = λ v. (each v).tidy; orderly = λ last v. (each v).orderly other_read }
-  by_found_alike path go gone each absent = record { same = plans.both_read_file (λ v. (each v).same); again = λ v. (each v).again; tidy = λ v. (each v).tidy; orderly = λ last v. (each v).orderly other_read }
-  by_found_alike path go gone each too_large = record { same = (not_read path).same; again = (not_read path).again; tidy = (not_read path).tidy None; orderly = (not_read path).orderly }
-  by_found_alike path go gone each found_failed = record { same = (not_read path).same; again = (not_read path).again; tidy = (not_read path).tidy None; orderly = (not_read path).orderly }
+  by_found_alike path go gone each (found_bytes bytes) = record { same = plans.both_read_file (λ v. (each v).same); again = λ v. (each v).again; tidy = λ v. (each v).tidy; noteless = λ none v. (each v).noteless none; orderly = λ last v. (each v).orderly other_read }
+  by_found_alike path go gone each absent = record { same = plans.both_read_file (λ v. (each v).same); again = λ v. (each v).again; tidy = λ v. (each v).tidy; noteless = λ none v. (each v).noteless none; orderly = λ last v. (each v).orderly other_read }
+  by_found_alike path go gone each too_large = record { same = (not_read path).same; again = (not_read path).again; tidy = (not_read path).tidy None; noteless = (not_read path).noteless; orderly = (not_read path).orderly }
+  by_found_alike path go gone each found_failed = record { same = (not_read path).same; again = (not_read path).again; tidy = (not_read path).tidy None; noteless = (not_read path).noteless; orderly = (not_read path).orderly }
 
   abbrev by_opened : List ℕ → (Option (List ℕ) → Plan) → Bool → Plan
   by_opened path go true = read_file path go
@@ -70,6 +71,10 @@ module _ (may : Allowed) (r : Renaming) where
   by_opened_orderly path go gone each true = λ v. (each v).orderly other_read
   by_opened_orderly path go gone each false = λ found. (by_found_alike path go gone each found).orderly other_read
 
+  by_opened_noteless : (path : List ℕ) (go gone : Option (List ℕ) → Plan) → AllKnown path go gone → may.notes ≡ false → (b : Bool) → IsNoteless (by_opened path go b)
+  by_opened_noteless path go gone each none true = λ v. (each v).noteless none
+  by_opened_noteless path go gone each none false = λ found. (by_found_alike path go gone each found).noteless none
+
   there_same : (path : List ℕ) (go : Option (List ℕ) → Plan) (found : Found) → is_there found ≡ true → by_found path go found ≡ read_file path go
   there_same path go (found_bytes bytes) is = refl
   there_same path go absent is = refl
@@ -86,6 +91,7 @@ module _ (may : Allowed) (r : Renaming) where
       (λ v. (each v).tidy),
       (λ found. (by_found_alike path go gone each found).tidy),
     );
+    noteless = by_opened_noteless path go gone each;
     orderly = λ last. by_opened_orderly path go gone each;
   }
 

@@ -20,7 +20,7 @@ use Rattle.py_model.specs.Operands.{of_one}
 use Rattle.py_model.specs.Operations.{Op, of_none, is_silent, targets_of, make_plan, def_plan, class_plan, language, functions, methods, or_none, or_no_operation, plan}
 use Rattle.py_model.specs.Plan.{Plan}
 use Rattle.py_model.specs.Printing.{print_values, repr_of, str_of}
-use Rattle.py_model.specs.Quiet.{may_ask}
+use Rattle.py_model.specs.Quiet.{may_ask, may_note}
 use Rattle.py_model.specs.Renaming.{Renaming, renamed, renamed_list}
 
 module _ (may : Allowed) (r : Renaming) where
@@ -44,15 +44,15 @@ module _ (may : Allowed) (r : Renaming) where
   abbrev pub AlikeNamed : (Op → List Contents → Plan) → Type 0
   AlikeNamed named = (op : Op) (values : List Contents) → AlikeBy may r (named op values) (named (renamed_op r op) (renamed_list r values))
 
-  pub def_plan_alike : AlikeNamed def_plan
-  def_plan_alike op [] = define_alike may r op.name op.value
-  def_plan_alike op (of ∷ []) = define_method_alike may r op.name op.value of
-  def_plan_alike op values = wrong_number_alike may r
+  pub def_plan_alike : may.notes ≡ true → AlikeNamed def_plan
+  def_plan_alike noting op [] = define_alike may r noting op.name op.value
+  def_plan_alike noting op (of ∷ []) = define_method_alike may r noting op.name op.value of
+  def_plan_alike noting op values = wrong_number_alike may r
 
-  pub class_plan_alike : AlikeNamed class_plan
-  class_plan_alike op [] = begin_class_alike may r op.name op.value None
-  class_plan_alike op (base ∷ []) = begin_class_alike may r op.name op.value (Some base)
-  class_plan_alike op values = wrong_number_alike may r
+  pub class_plan_alike : may.notes ≡ true → AlikeNamed class_plan
+  class_plan_alike noting op [] = begin_class_alike may r noting op.name op.value None
+  class_plan_alike noting op (base ∷ []) = begin_class_alike may r noting op.name op.value (Some base)
+  class_plan_alike noting op values = wrong_number_alike may r
 
   pub unbind_op_alike : AlikeNamed (λ op. of_none (unbind (is_silent op.value) op.scope op.name))
   unbind_op_alike op values = of_none_alike _ _
@@ -66,13 +66,13 @@ module _ (may : Allowed) (r : Renaming) where
   bind_op_alike op (v ∷ []) = bind_alike may r op.scope op.name v
   bind_op_alike op values = wrong_number_alike may r
 
--- what the operation with a number may do: five ask, and one raises again
+-- what the operation with a number may do: five ask, two note names, and one raises again
 abbrev pub of_raise : Bool → ℕ → Type 0
 of_raise true o = Unit {0}
 of_raise false o = ⊥
 
 abbrev pub allowed : ℕ → Allowed
-allowed number = record { asks = may_ask number; again = of_raise (number == 40) }
+allowed number = record { asks = may_ask number; notes = may_note number; again = of_raise (number == 40) }
 
 module _ (r : Renaming) where
   -- rows of operations, with what each of them may do
@@ -180,9 +180,9 @@ module _ (r : Renaming) where
                                                                                     (
                                                                                       (λ op. of_two_alike _ r _ (matches_alike _ r)),
                                                                                       (
-                                                                                        def_plan_alike _ r,
+                                                                                        def_plan_alike _ r refl,
                                                                                         (
-                                                                                          class_plan_alike _ r,
+                                                                                          class_plan_alike _ r refl,
                                                                                           (
                                                                                             (λ op. of_none_alike _ r _ _ (import_alike _ r op.scope op.name op.value)),
                                                                                             ((λ op. of_one_alike _ r _ (end_with_alike _ r)), ((λ op. of_one_alike _ r _ (begin_with_alike _ r)), ((λ op. assertion_alike _ r), tt))),

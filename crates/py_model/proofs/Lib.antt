@@ -50,3 +50,4 @@ pub mod WorkedPrinting
 pub mod WorkedStores
 pub mod WorkedTexts
 pub mod WorkedWalks
+mod Noting

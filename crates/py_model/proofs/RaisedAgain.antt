@@ -23,7 +23,7 @@ module _ (store : RunStore) (answers : Answers) where
   there_where p only o is = alone (IsThere store) store answers p only o is
 
   abbrev may : Allowed
-  may = record { asks = false; again = IsThere store }
+  may = record { asks = false; notes = false; again = IsThere store }
 
   object_there : (p : ℕ) (kind : Option SeenKind) → slice_get store.kinds p ≡ kind → (o : ℕ) → There (raise_object p kind) o
   object_there p (Some (an_instance of)) is =

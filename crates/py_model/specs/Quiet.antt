@@ -1,4 +1,4 @@
--- Plans that ask no device and fetch no file (this project's profile), and the operations that may.
+-- Plans that ask no device and fetch no file (this project's profile), the operations that may, and those that may note names.
 use Rattle.std.specs.Prelude.{ℕ, Bool, ◌==◌, ◌||◌, List, Option, ⊤}
 use Rattle.py_value.specs.Contents.{Contents}
 use Rattle.py_value.specs.Seen.{SeenKind}
@@ -8,6 +8,10 @@ use Rattle.py_model.specs.Plan.{Plan, read_var, read_len, read_item, read_entry,
 -- `input`, `open`, `time_ns`, `randint` and `randrange`, by number
 abbrev pub may_ask : ℕ → Bool
 may_ask number = (number == 55) || ((number == 62) || ((number == 109) || ((number == 110) || (number == 111))))
+
+-- `def` and the beginning of a `class`, by number
+abbrev pub may_note : ℕ → Bool
+may_note number = (number == 42) || (number == 43)
 
 -- whatever is read, nothing is asked and nothing fetched
 abbrev pub IsQuiet : Plan → Type 0

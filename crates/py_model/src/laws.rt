@@ -8,7 +8,7 @@ ghost use Rattle.py_model.specs.Operations.{Op, plan};
 ghost use Rattle.py_model.specs.Orderly.{IsOrderly};
 ghost use Rattle.py_model.specs.Plan.{Plan, Answer, raised};
 ghost use Rattle.py_model.specs.PlainGraph.{IsPlain, HasNames, IsPlainSetting};
-ghost use Rattle.py_model.specs.Quiet.{may_ask, IsQuiet};
+ghost use Rattle.py_model.specs.Quiet.{may_ask, may_note, IsQuiet};
 ghost use Rattle.py_model.specs.Renaming.{Renaming, renamed_list, renamed_effect};
 ghost use Rattle.py_model.specs.Store.{RunStore, opening};
 ghost use Rattle.std.specs.Prelude.{◌<◌};
@@ -134,6 +134,12 @@ pub fn few_operations_ask()
 /// new key behind the others; or takes an entry out with its key; or makes an object that begins with keys and their entries.
 pub fn operations_are_orderly()
     ensures { (op : Op) (values : List Contents) → IsOrderly (plan op values) }
+{}
+
+/// The law of noted names: operations but `def` and the beginning of a `class` leave the names as they were noted.
+pub fn few_operations_note()
+    ensures { (store : RunStore) (answers : Answers) (op : Op) (values : List Contents) (place : Pos) → may_note op.no ≡ false
+        → (after (effect store answers (plan op values)) store).names place ≡ store.names place }
 {}
 
 /// The law of tidy openings: an operation that opens a file for writing sets it to empty, or leaves it as it is where it was read. Nothing else sets

@@ -25,9 +25,9 @@ mod watch;
 pub use doer::{Deed, Doer, Done, Entered};
 pub use laws::{
     alike_plans_agree, asked_is_captured, corresponding_operands_have_alike_plans, costs_grow,
-    few_operations_ask, frames_follow_brackets, graph_texts_tell_graphs, larger_budget_extends,
-    map_changes_by_accesses, meaning_unfolds, moments_nest, operations_agree,
-    operations_are_orderly, operations_are_paid, operations_open_tidily,
+    few_operations_ask, few_operations_note, frames_follow_brackets, graph_texts_tell_graphs,
+    larger_budget_extends, map_changes_by_accesses, meaning_unfolds, moments_nest,
+    operations_agree, operations_are_orderly, operations_are_paid, operations_open_tidily,
     raised_writes_its_exception_alone, renamed_effects_weigh_the_same, spans_change_nothing,
     states_agree_with_moments, touches_join, unpaid_ends_the_run,
 };

@@ -27,3 +27,5 @@ mod Reachables
 mod SharedGraphs
 mod Nameless
 mod Values
+mod SilentRules
+mod Bareness

@@ -4,3 +4,4 @@ pub mod Under
 pub mod Simulation
 pub mod Owned
 pub mod Atomic
+pub mod Bare

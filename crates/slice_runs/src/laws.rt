@@ -35,10 +35,11 @@ ghost use Rattle.py_tree.specs.WellFormed.{IsWellFormed};
 ghost use Rattle.py_model.specs.Occurrences.{up_to_evaluation};
 ghost use Rattle.std.specs.Prelude.{[]};
 ghost use Rattle.py_model.specs.Graph.{names_in};
+ghost use Rattle.slice_runs.specs.Bare.{BareSuite};
 
 use py_model::{
-    corresponding_operands_have_alike_plans, few_operations_ask, graph_texts_tell_graphs,
-    map_changes_by_accesses, operations_agree, operations_open_tidily,
+    corresponding_operands_have_alike_plans, few_operations_ask, few_operations_note,
+    graph_texts_tell_graphs, map_changes_by_accesses, operations_agree, operations_open_tidily,
 };
 use py_value::tests_are_equality;
 
@@ -176,4 +177,17 @@ pub fn values_are_reproduced()
     tests_are_equality();
     graph_texts_tell_graphs();
     slices_reach_the_evaluation();
+}
+
+/// The law of scripts that define no function and no class, in any of their suites: each of their runs is of the class that is spoken of above. So
+/// the slice by the least closed set reproduces every evaluation of every run, with as many steps as the whole run took, and spends no more up to
+/// there.
+pub fn slices_of_bare_scripts_reproduce()
+    ensures plain { (script : ScriptTree) (capture : Capture) (path : List ℕ) (arguments : List (List ℕ)) (steps : ℕ) → BareSuite script.body → IsPlainRun script capture path arguments steps }
+    ensures reproduce { (script : ScriptTree) → IsWellFormed script → BareSuite script.body → (capture : Capture) (path : List ℕ) (arguments : List (List ℕ)) (steps : ℕ) (at : Pos) (k : ℕ) (upto : List Moment) (keep : StmtSet)
+        → up_to_evaluation at k (told_by script capture path arguments steps) ≡ Some upto → IsLeast script (opening_in capture path arguments) upto keep
+        → Reproduces script capture path arguments (spent_on (told_by script capture path arguments steps)) at k upto keep }
+{
+    few_operations_note();
+    values_are_reproduced();
 }

@@ -5,7 +5,8 @@
 //! `specs/Owned.antt` says which statement has which nodes, and when statements of two scripts stand at one place. `specs/Under.antt` says that
 //! a kept statement stands in a kept one. `specs/Simulation.antt` states the simulation, and of which runs it speaks.
 //!
-//! [`slices_simulate`], [`slices_reach_the_evaluation`] and [`values_are_reproduced`] are the laws of the simulation. They do not speak of scripts
+//! [`slices_simulate`], [`slices_reach_the_evaluation`] and [`values_are_reproduced`] are the laws of the simulation, and
+//! [`slices_of_bare_scripts_reproduce`] says it of scripts without definitions (`specs/Bare.antt`). They do not speak of scripts
 //! with functions, and of runs that define classes.
 #![tactic(auto)]
 
@@ -14,5 +15,6 @@ mod laws;
 pub use laws::{
     accesses_keep_correspondence, atomic_values_are_reproduced, deleted_moments_keep_the_relation,
     kept_moments_are_done_again, objects_of_both_runs_correspond, renaming_keeps_equality,
-    slices_reach_the_evaluation, slices_simulate, values_are_reproduced,
+    slices_of_bare_scripts_reproduce, slices_reach_the_evaluation, slices_simulate,
+    values_are_reproduced,
 };
