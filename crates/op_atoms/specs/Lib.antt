@@ -1,0 +1,4 @@
+pub mod Answers
+pub mod Atoms
+pub mod Marks
+pub mod Telling
