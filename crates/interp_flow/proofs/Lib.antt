@@ -7,6 +7,7 @@ pub mod Endings
 pub mod Operating
 pub mod Evaluating
 pub mod Flowing
+pub mod Expressions
 pub mod Returns
 pub mod Bodies
 pub mod Making

@@ -1,3 +1,4 @@
 pub mod Step
 pub mod Value
 pub mod Calls
+pub mod Expression

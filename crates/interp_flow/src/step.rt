@@ -14,7 +14,7 @@ ghost use Rattle.flow_parts.specs.Held.{IsHeldBy};
 ghost use Rattle.interp_flow.specs.Value.{AreHeldStages, IsHeldWorkBy, working};
 
 use crate::calling::call_step;
-use crate::expression::expression_step;
+use crate::expression::{evaluates, expression_step, keep};
 use crate::moving::{end_part, open_part, open_stmt};
 use crate::next::FlowNext;
 use crate::returning::return_step;
@@ -167,9 +167,7 @@ fn work_step<'a, D: Doer, W: Watch>(
         Work::Operation(at, code, values) => operation_step(
             alloc, frames, at, code, values, part, script, doer, watch, left,
         ),
-        Work::Evaluates(eval) => {
-            expression_step(alloc, frames, eval, part, script, doer, watch, left)
-        }
+        Work::Evaluates(eval) => keep(alloc, frames, eval, part),
         Work::Calls(caller, at, callee, values) => call_step(
             alloc, frames, caller, at, callee, values, part, script, doer, watch, left,
         ),
@@ -243,6 +241,9 @@ pub fn flow_step<'a, D: Doer, W: Watch>(
     ensures held { HoldsNext (D.fits doer.new) frames.new result }
     ensures step { Steps (script_of script.entry.now) frames.old frames.new left.old left.new (D.fits doer.new) (D.stands doer.old) (D.stands doer.new) (W.history watch.old) (W.history watch.new) result }
 {
+    if evaluates(&frames.now) {
+        return expression_step(alloc, frames, script, doer, watch, left);
+    }
     let now = mem::replace(&mut frames.now, Now::Ended(End::Normal));
     now_step(alloc, frames, now, script, doer, watch, left)
 }

@@ -24,3 +24,8 @@ returns-clause-step g c =
     steps_same (script_of c.args.script.now) (meant (script_of c.args.script.now) c.args.frames.now) (doing_now (script_of c.args.script.now) c.args.frames.now c.replace-now.result) c.now_step.new.frames c.args.left.now c.now_step.new.left
     (g.D.Doer.fits c.now_step.new.doer) (g.D.Doer.stands c.args.doer.now) (g.D.Doer.stands c.now_step.new.doer) (g.W.Watch.history c.args.watch.now) (g.W.Watch.history c.now_step.new.watch) c.now_step.result
     (λ table next. ap (λ now. doing_now (script_of c.args.script.now) c.args.frames.now now table next) (sym c.replace-now.ensures.value)) c.now_step.ensures.step
+
+pub returns-then-evaluates-clause-state : goal.returns-then-evaluates-clause-state
+returns-then-evaluates-clause-state g c =
+    flow_state (script_of c.args.script.now) (meant (script_of c.args.script.now) c.args.frames.now) c.expression_step.new.frames c.args.left.now c.expression_step.new.left (g.D.Doer.fits c.args.doer.now) (g.D.Doer.fits c.expression_step.new.doer)
+    (g.D.Doer.stands c.args.doer.now) (g.D.Doer.stands c.expression_step.new.doer) (g.W.Watch.history c.args.watch.now) (g.W.Watch.history c.expression_step.new.watch) c.expression_step.result c.expression_step.ensures.knew c.requires.state c.expression_step.ensures.step

@@ -3,6 +3,7 @@ use Rattle.py_tree.specs.Erasure.{script_of}
 use Rattle.flow_parts.specs.Held.{IsHeldWork}
 use Rattle.interp_flow.specs.Calls.{calling_so}
 use Rattle.interp_flow.specs.Value.{evaluating, operating, working}
+use Rattle.interp_flow.proofs.Expressions.{goes_from}
 use Rattle.interp_flow.proofs.Stepping.{steps_same}
 use Rattle.interp_flow.proofs.step.work_step.Goals as goal
 
@@ -16,18 +17,19 @@ returns-in-Operation-clause-step g c =
     (g.D.Doer.fits c.operation_step.new.doer) (g.D.Doer.stands c.args.doer.now) (g.D.Doer.stands c.operation_step.new.doer) (g.W.Watch.history c.args.watch.now) (g.W.Watch.history c.operation_step.new.watch) c.operation_step.result
     (λ table next. ap (λ w. working (script_of c.args.script.now) c.args.frames.now w c.args.part table next) c.in-Operation.is) c.operation_step.ensures.step
 
-pub expression_step-requires-clause-eval : goal.expression_step-requires-clause-eval
-expression_step-requires-clause-eval g c = λ table capture fit. (subst (IsHeldWork table c.args.frames.now.spot.scope) c.in-Evaluates.is (c.requires.work table capture fit)).0
-
-pub expression_step-requires-clause-scope : goal.expression_step-requires-clause-scope
-expression_step-requires-clause-scope g c = λ table capture fit. (subst (IsHeldWork table c.args.frames.now.spot.scope) c.in-Evaluates.is (c.requires.work table capture fit)).1
-
 pub returns-in-Evaluates-clause-step : goal.returns-in-Evaluates-clause-step
 returns-in-Evaluates-clause-step g c =
     steps_same (script_of c.args.script.now) (working (script_of c.args.script.now) c.args.frames.now c.args.work c.args.part)
-    (evaluating (script_of c.args.script.now) c.args.frames.now c.in-Evaluates.eval c.args.part) c.expression_step.new.frames c.args.left.now c.expression_step.new.left
-    (g.D.Doer.fits c.expression_step.new.doer) (g.D.Doer.stands c.args.doer.now) (g.D.Doer.stands c.expression_step.new.doer) (g.W.Watch.history c.args.watch.now) (g.W.Watch.history c.expression_step.new.watch) c.expression_step.result
-    (λ table next. ap (λ w. working (script_of c.args.script.now) c.args.frames.now w c.args.part table next) c.in-Evaluates.is) c.expression_step.ensures.step
+    (evaluating (script_of c.args.script.now) c.args.frames.now c.in-Evaluates.eval c.args.part) c.keep.new.frames c.args.left.now c.args.left.now
+    (g.D.Doer.fits c.args.doer.now) (g.D.Doer.stands c.args.doer.now) (g.D.Doer.stands c.args.doer.now) (g.W.Watch.history c.args.watch.now) (g.W.Watch.history c.args.watch.now) c.keep.result
+    (λ table next. ap (λ w. working (script_of c.args.script.now) c.args.frames.now w c.args.part table next) c.in-Evaluates.is)
+    (goes_from (script_of c.args.script.now) (λ script. evaluating script c.args.frames.now c.in-Evaluates.eval c.args.part) c.keep.new.frames c.args.left.now
+    (g.D.Doer.fits c.args.doer.now) (g.D.Doer.stands c.args.doer.now) (g.W.Watch.history c.args.watch.now) c.keep.result c.keep.ensures.means)
+
+pub returns-in-Evaluates-clause-held : goal.returns-in-Evaluates-clause-held
+returns-in-Evaluates-clause-held g c = λ table capture fit.
+    let work = subst (IsHeldWork table c.args.frames.now.spot.scope) c.in-Evaluates.is (c.requires.work table capture fit) in
+    c.keep.ensures.held table (c.requires.held table capture fit) work.0 work.1 (c.requires.stage table capture fit)
 
 pub call_step-requires-clause-caller : goal.call_step-requires-clause-caller
 call_step-requires-clause-caller g c = λ table capture fit. (subst (IsHeldWork table c.args.frames.now.spot.scope) c.in-Calls.is (c.requires.work table capture fit)).0
