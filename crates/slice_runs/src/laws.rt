@@ -104,8 +104,8 @@ pub fn deleted_moments_keep_the_relation()
     map_changes_by_accesses();
 }
 
-/// The law of the simulation, for scripts without functions and runs that define no class. With a set that is closed for the moments up to some
-/// one, the run of the deletion performs up to there exactly the script's moments without those of deleted statements, and the `pass` of each
+/// The law of the simulation, for scripts without functions and runs that define no class. A set is given that is closed for the moments up to some
+/// one. Up to there the run of the deletion performs exactly the script's moments without those of deleted statements, and the `pass` of each
 /// execution of an emptied suite. Statements are named by place, and objects of kept statements are renamed one-to-one. Where the reach of a
 /// location is kept, what stands there corresponds. No more steps are needed than the script's run took up to there.
 ///
