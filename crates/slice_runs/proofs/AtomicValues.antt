@@ -21,7 +21,7 @@ use Rattle.py_model.specs.Store.{RunStore}
 use Rattle.slice_law.specs.Closed.{StmtSet, store_after}
 use Rattle.slice_law.specs.Slices.{last_value, Reproduces}
 use Rattle.slice_runs.specs.Atomic.{is_atomic, are_atomic}
-use Rattle.slice_runs.specs.Renaming.{marks_after, IsShifted}
+use Rattle.slice_runs.specs.Renaming.{IsShifted, all_marks}
 use Rattle.slice_runs.specs.Simulation.{answer_of, ReachesEvaluation}
 
 mutual
@@ -123,7 +123,7 @@ reproduced is_same graphs script capture path arguments budget keep at k upto v 
     opening : RunStore
     opening = opening_in capture path arguments
 
-    near : IsShifted (marks_after keep upto) 0
+    near : IsShifted (all_marks keep upto) 0
     near = reaches.simulates.renaming
 
     answers_again : answer_of reaches.simulates.again ≡ Some (value v)

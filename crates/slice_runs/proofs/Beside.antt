@@ -1,6 +1,6 @@
 -- The tree of actions of a script beside that of its slice: what is kept stands in both, all else in the script's alone, and the `pass` of
 -- an emptied suite in the slice's alone. No state is named.
-use Rattle.std.proofs.Common.{◌≡◌, ℕ, zero, suc, Bool, true, false, List, [], ◌∷◌}
+use Rattle.std.proofs.Common.{◌≡◌, ℕ, zero, suc, true, false, List, [], ◌∷◌}
 use Rattle.std.specs.Prelude.{⊤}
 use Rattle.prov_base.specs.declared.place.Pos.{Pos}
 use Rattle.py_value.specs.Contents.{Contents, object}
@@ -10,10 +10,10 @@ use Rattle.py_model.specs.Moment.{Ending, normal_end}
 use Rattle.py_model.specs.Operations.{Op}
 use Rattle.py_model.specs.Plan.{Answer, value, raised, at_end}
 use Rattle.slice_law.specs.Closed.{StmtSet}
-use Rattle.slice_runs.specs.Renaming.{SameValue, SameValues, SameOp}
+use Rattle.slice_runs.specs.Renaming.{SameValue, SameValues, SameOp, Marks}
 
 -- how both ended
-pub data SameHow (marks : List Bool) : How → How → Type 0 where
+pub data SameHow (marks : Marks) : How → How → Type 0 where
   both_normal : SameHow marks normal normal
   both_broke : SameHow marks broke broke
   both_continued : SameHow marks continued continued
@@ -26,7 +26,7 @@ TopIsKept keep [] = ⊤
 TopIsKept keep (a_statement number ∷ from) = keep number ≡ true
 TopIsKept keep (an_activation ∷ from) = ⊥
 
-module _ (names : ℕ → ℕ → Type 0) (keep : StmtSet) (marks : List Bool) where
+module _ (names : ℕ → ℕ → Type 0) (keep : StmtSet) (marks : Marks) where
   -- Down to so many actions of the slice's that cost something. What is open in the script's tree as they begin is the first list.
   pub data Beside : ℕ → List Open → List Open → Act → Act → Type 0 where
     unreached : {from onto : List Open} {a b : Act} → Beside zero from onto a b
@@ -103,7 +103,7 @@ module _ (keep : StmtSet) where
   out_to (out_close out rest) each = out_close out (out_to rest each)
 
   -- in the script's run alone, before what follows
-  pub beside_after : (names : ℕ → ℕ → Type 0) (marks : List Bool) {k : ℕ} {from between onto : List Open} {a b : Act} {f : How → Act} → Outside from between a
+  pub beside_after : (names : ℕ → ℕ → Type 0) (marks : Marks) {k : ℕ} {from between onto : List Open} {a b : Act} {f : How → Act} → Outside from between a
       → ((how : How) → Beside names keep marks k between onto (f how) b) → Beside names keep marks k from onto (to a f) b
   beside_after names marks out_ret each = each _
   beside_after names marks out_stop each = stopped

@@ -25,7 +25,7 @@ use Rattle.slice_runs.proofs.Simulations.{simulated}
 use Rattle.slice_runs.proofs.Standing.{in_front, owner_once}
 use Rattle.slice_runs.specs.Owned.{owned_suite, SamePlace}
 use Rattle.slice_runs.specs.Related.{renamed_moment, Follows, at_start as nothing_done, both_did, alone_did, both_began, alone_began, passed, both_ended, alone_ended}
-use Rattle.slice_runs.specs.Renaming.{marks_after, Fits, IsShifted}
+use Rattle.slice_runs.specs.Renaming.{Fits, IsShifted, Marks, all_marks}
 use Rattle.slice_runs.specs.Simulation.{IsPlainRun, Simulates, answer_of, ReachesEvaluation}
 
 -- a moment that evaluates at the place, with its number
@@ -98,7 +98,7 @@ module _ (q : Pos) where
     renamed_evaluates r (leaves v) = refl
     renamed_evaluates r (ends n ended) = refl
 
-    module _ (names : ℕ → ℕ → Type 0) (marks : List Bool) (near : IsShifted marks 0) where
+    module _ (names : ℕ → ℕ → Type 0) (marks : Marks) (near : IsShifted marks 0) where
       pub evaluations_same : {told again : List Moment} → Follows names keep marks told again → AreKept told → evaluations_at q again ≡ evaluations_at q told
       evaluations_same nothing_done kept = refl
       evaluations_same (both_did {moment = moment} is owner same rest) kept =
@@ -225,14 +225,14 @@ module _ (laws : Laws) (script : ScriptTree) (capture : Capture) (path : List �
       all_kept : AreKept q keep (found.moment ∷ found.before)
       all_kept = subst (AreKept q keep) found.upto_is (kept_there last.number last.kept last.owns well.apart upto own)
 
-      near : IsShifted (marks_after keep upto) 0
+      near : IsShifted (all_marks keep upto) 0
       near = shifts keep upto 0
 
-      once_more : IsAgain q keep (SamePlace script (deleted keep script)) (marks_after keep upto) near found.moment found.before simulation.again
-      once_more = head_again q keep (SamePlace script (deleted keep script)) (marks_after keep upto) near found.upto_is simulation.follows found.evaluates_here (all_kept.0 found.evaluates_here)
+      once_more : IsAgain q keep (SamePlace script (deleted keep script)) (all_marks keep upto) near found.moment found.before simulation.again
+      once_more = head_again q keep (SamePlace script (deleted keep script)) (all_marks keep upto) near found.upto_is simulation.follows found.evaluates_here (all_kept.0 found.evaluates_here)
 
       evaluates_too : is_evaluation_at q once_more.other ≡ true
       evaluates_too = ap (is_evaluation_at q) (once_more.other_is near.by near.fits) ∙ (renamed_evaluates q keep near.by found.moment ∙ found.evaluates_here)
 
       counted : evaluations_at q once_more.others ≡ evaluations_at q found.before
-      counted = evaluations_same q keep (SamePlace script (deleted keep script)) (marks_after keep upto) near once_more.rest all_kept.1
+      counted = evaluations_same q keep (SamePlace script (deleted keep script)) (all_marks keep upto) near once_more.rest all_kept.1

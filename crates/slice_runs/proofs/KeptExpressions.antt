@@ -25,7 +25,7 @@ use Rattle.py_model.specs.Renaming.{Renaming, renamed, renamed_parts, renamed_li
 use Rattle.py_model.specs.Statements.{module_names}
 use Rattle.slice_runs.proofs.Beside.{SameHow, both_normal, both_threw, Beside, both_ret, both_perform, less}
 use Rattle.slice_runs.proofs.Marks.{shifts}
-use Rattle.slice_runs.specs.Renaming.{marks_after, Fits, SameValue, SameValues, SameOp}
+use Rattle.slice_runs.specs.Renaming.{Fits, SameValue, SameValues, SameOp, Marks, all_marks}
 
 length_renamed : (r : Renaming) (vs : List Contents) → length (renamed_list r vs) ≡ length vs
 length_renamed r [] = refl
@@ -55,21 +55,21 @@ scope_zero here name is = by_function here.function is
     by_function (Some f) is = absurd cc
 
 module _ (names : ℕ → ℕ → Type 0) (keep : StmtSet) (upto : List Moment) where
-  abbrev pub marks : List Bool
-  marks = marks_after keep upto
+  abbrev pub marks : Marks
+  marks = all_marks keep upto
 
   abbrev pub Same : Contents → Contents → Type 0
-  Same v w = SameValue (marks_after keep upto) v w
+  Same v w = SameValue (all_marks keep upto) v w
 
   abbrev pub AllSame : List Contents → List Contents → Type 0
-  AllSame vs ws = SameValues (marks_after keep upto) vs ws
+  AllSame vs ws = SameValues (all_marks keep upto) vs ws
 
   pub record PartsSame (ps qs : Parts) : Type 0 where
-    pub is : (r : Renaming) → Fits (marks_after keep upto) r → qs ≡ renamed_parts r ps
+    pub is : (r : Renaming) → Fits (all_marks keep upto) r → qs ≡ renamed_parts r ps
 
   -- inside any kept statement
   abbrev pub In : ℕ → Act → Act → Type 0
-  In k a b = (n : ℕ) (from : List Open) → keep n ≡ true → Beside names keep (marks_after keep upto) k (a_statement n ∷ from) (a_statement n ∷ from) a b
+  In k a b = (n : ℕ) (from : List Open) → keep n ≡ true → Beside names keep (all_marks keep upto) k (a_statement n ∷ from) (a_statement n ∷ from) a b
 
   abbrev pub GoBoth : ℕ → (Contents → Act) → (Contents → Act) → Type 0
   GoBoth k go gone = (v w : Contents) → Same v w → In k (go v) (gone w)
@@ -100,27 +100,27 @@ module _ (names : ℕ → ℕ → Type 0) (keep : StmtSet) (upto : List Moment) 
   pub one_same : {v w : Contents} → Same v w → AllSame (v ∷ []) (w ∷ [])
   one_same one = more_same one none_same
 
-  pub plain_op : (number : ℕ) → SameOp (marks_after keep upto) (op number) (op number)
+  pub plain_op : (number : ℕ) → SameOp (all_marks keep upto) (op number) (op number)
   plain_op number = record { is = λ r fits. op_same r number [] 0 0 nothing nothing (sym r.module_stays) refl }
 
-  pub named_op : (number : ℕ) (name : List ℕ) → SameOp (marks_after keep upto) (op_named number name) (op_named number name)
+  pub named_op : (number : ℕ) (name : List ℕ) → SameOp (all_marks keep upto) (op_named number name) (op_named number name)
   named_op number name = record { is = λ r fits. op_same r number name 0 0 nothing nothing (sym r.module_stays) refl }
 
-  pub valued_op : (number : ℕ) {v w : Contents} → Same v w → SameOp (marks_after keep upto) (op_of number v) (op_of number w)
+  pub valued_op : (number : ℕ) {v w : Contents} → Same v w → SameOp (all_marks keep upto) (op_of number v) (op_of number w)
   valued_op number {v} {w} same = record { is = λ r fits. op_same r number [] 0 0 v w (sym r.module_stays) (same.is r fits) }
 
-  pub whole_op : (number : ℕ) (name : List ℕ) {v w : Contents} → Same v w → SameOp (marks_after keep upto) (op_whole number 0 name v) (op_whole number 0 name w)
+  pub whole_op : (number : ℕ) (name : List ℕ) {v w : Contents} → Same v w → SameOp (all_marks keep upto) (op_whole number 0 name v) (op_whole number 0 name w)
   whole_op number name {v} {w} same = record { is = λ r fits. op_same r number name 0 0 v w (sym r.module_stays) (same.is r fits) }
 
   pub scoped_whole : (number : ℕ) {here there : Here} → BothHere here there → (name : List ℕ) {v w : Contents} → Same v w
-      → SameOp (marks_after keep upto) (op_whole number (scope_of here name) name v) (op_whole number (scope_of there name) name w)
+      → SameOp (all_marks keep upto) (op_whole number (scope_of here name) name v) (op_whole number (scope_of there name) name w)
   scoped_whole number {here} {there} both name {v} {w} same = record {
     is = λ r fits.
         op_same r number name (scope_of here name) (scope_of there name) v w
         (scope_zero there name both.function_there ∙ (sym r.module_stays ∙ ap r.scopes (sym (scope_zero here name both.function_here)))) (same.is r fits);
   }
 
-  pub scoped_op : (number : ℕ) {here there : Here} → BothHere here there → (name : List ℕ) → SameOp (marks_after keep upto) (op_scoped number here name) (op_scoped number there name)
+  pub scoped_op : (number : ℕ) {here there : Here} → BothHere here there → (name : List ℕ) → SameOp (all_marks keep upto) (op_scoped number here name) (op_scoped number there name)
   scoped_op number both name = scoped_whole number both name (record { is = λ r fits. refl })
 
   constant_same : (atom : Atom) → Same (constant atom) (constant atom)
@@ -154,11 +154,11 @@ module _ (names : ℕ → ℕ → Type 0) (keep : StmtSet) (upto : List Moment) 
   as_long : {vs ws : List Contents} → AllSame vs ws → length ws ≡ length vs
   as_long {vs} same = ap length (same.is (shifts keep upto 0).by (shifts keep upto 0).fits) ∙ length_renamed (shifts keep upto 0).by vs
 
-  pub ended : {k : ℕ} {how other : How} → SameHow (marks_after keep upto) how other → In k (ret how) (ret other)
+  pub ended : {k : ℕ} {how other : How} → SameHow (all_marks keep upto) how other → In k (ret how) (ret other)
   ended same n from kept = both_ret same
 
   pub in_less : (k : ℕ) {a b : Act} → In (suc k) a b → In k a b
-  in_less k beside n from kept = less names keep (marks_after keep upto) k (beside n from kept)
+  in_less k beside n from kept = less names keep (all_marks keep upto) k (beside n from kept)
 
   in_if : {k : ℕ} {a b c d : Act} (test other : Bool) → other ≡ test → In k a b → In k c d → In k (if test then a else c) (if other then b else d)
   in_if true true same first second = first
@@ -169,24 +169,24 @@ module _ (names : ℕ → ℕ → Type 0) (keep : StmtSet) (upto : List Moment) 
   thrown_both : {k : ℕ} (here there : Here) → there.line ≡ here.line → (o e : ℕ) → Same (object o) (object e) → In k (ret (threw o here.line)) (ret (threw e there.line))
   thrown_both {k} here there line o e same = subst (λ l. In k (ret (threw o here.line)) (ret (threw e l))) (sym line) (ended (both_threw same))
 
-  pub doing_on : {k : ℕ} (here there : Here) → there.line ≡ here.line → (at : Pos) {p q : Op} {vs ws : List Contents} {go gone : Contents → Act} → SameOp (marks_after keep upto) p q → AllSame vs ws
+  pub doing_on : {k : ℕ} (here there : Here) → there.line ≡ here.line → (at : Pos) {p q : Op} {vs ws : List Contents} {go gone : Contents → Act} → SameOp (all_marks keep upto) p q → AllSame vs ws
       → GoBoth k go gone → In (suc k) (doing here at p vs go) (doing there at q ws gone)
   doing_on here there line at same_op same_values each n from kept =
       both_perform kept same_op same_values (λ v w walked same. each v w same n from kept) (λ o e walked same. thrown_both here there line o e same n from kept) (λ walked. both_ret both_normal)
 
-  pub doing_both : {k : ℕ} (here there : Here) → there.line ≡ here.line → (at : Pos) {p q : Op} {vs ws : List Contents} {go gone : Contents → Act} → SameOp (marks_after keep upto) p q → AllSame vs ws
+  pub doing_both : {k : ℕ} (here there : Here) → there.line ≡ here.line → (at : Pos) {p q : Op} {vs ws : List Contents} {go gone : Contents → Act} → SameOp (all_marks keep upto) p q → AllSame vs ws
       → GoBoth (suc k) go gone → In (suc k) (doing here at p vs go) (doing there at q ws gone)
   doing_both {k} here there line at same_op same_values each = doing_on here there line at same_op same_values (λ v w same. in_less k (each v w same))
 
-  pub doing_or_on : {k : ℕ} (here there : Here) → there.line ≡ here.line → (at : Pos) {p q : Op} {vs ws : List Contents} {go gone : Contents → Act} → SameOp (marks_after keep upto) p q → AllSame vs ws
+  pub doing_or_on : {k : ℕ} (here there : Here) → there.line ≡ here.line → (at : Pos) {p q : Op} {vs ws : List Contents} {go gone : Contents → Act} → SameOp (all_marks keep upto) p q → AllSame vs ws
       → GoBoth k go gone → In (suc k) (doing_or here at p vs (ret normal) go) (doing_or there at q ws (ret normal) gone)
   doing_or_on here there line at same_op same_values each n from kept =
       both_perform kept same_op same_values (λ v w walked same. each v w same n from kept) (λ o e walked same. thrown_both here there line o e same n from kept) (λ walked. both_ret both_normal)
 
-  walking_both : {k : ℕ} (here there : Here) → there.line ≡ here.line → (at : Pos) {p q : Op} {vs ws : List Contents} {go gone : Contents → Walked → Act} → SameOp (marks_after keep upto) p q → AllSame vs ws
+  walking_both : {k : ℕ} (here there : Here) → there.line ≡ here.line → (at : Pos) {p q : Op} {vs ws : List Contents} {go gone : Contents → Walked → Act} → SameOp (all_marks keep upto) p q → AllSame vs ws
       → ((v w : Contents) (walked : Walked) → Same v w → In (suc k) (go v walked) (gone w walked)) → In (suc k) (walking here at p vs go) (walking there at q ws gone)
   walking_both {k} here there line at same_op same_values each n from kept =
-      both_perform kept same_op same_values (λ v w walked same. less names keep (marks_after keep upto) k (each v w walked same n from kept))
+      both_perform kept same_op same_values (λ v w walked same. less names keep (all_marks keep upto) k (each v w walked same n from kept))
       (λ o e walked same. thrown_both here there line o e same n from kept) (λ walked. both_ret both_normal)
 
   truth_cases : {k : ℕ} {a b c d : Act} → In k a b → In k c d → (v : Contents) → In k (by_truth a c v) (by_truth b d (renamed (shifts keep upto 0).by v))

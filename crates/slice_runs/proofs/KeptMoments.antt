@@ -28,7 +28,7 @@ use Rattle.slice_runs.proofs.Readings.{AreRead, agrees}
 use Rattle.slice_runs.proofs.Renamings.{accesses_match}
 use Rattle.slice_runs.proofs.Touching.{kinds_grow, AlikeNotes, notes_after, same_accesses, walked_same}
 use Rattle.slice_runs.specs.Related.{IsThere, AllInReach, DoneAgain, ByAccess, OwnerIsKept, IsInReach, both_did, kept_of, Related}
-use Rattle.slice_runs.specs.Renaming.{is_kept, with_mark, marks_after, is_marked, rank, Fits, Matches, IsShifted, SameValues, SameOp}
+use Rattle.slice_runs.specs.Renaming.{is_kept, with_mark, marks_after, is_marked, rank, Fits, Matches, IsShifted, SameValues, SameOp, Marks, all_marks}
 
 by_access : (own earlier : Type 0) (a b : Bool) → ByAccess a b own earlier → (a ≡ true) ⊎ earlier
 by_access own earlier true b there = inl refl
@@ -46,8 +46,8 @@ answered_same : (a b : Answer) → answered a ≡ answered b → a ≡ b
 answered_same a b is = cc
 
 module _ (laws : Laws) (capture : Capture) (names : ℕ → ℕ → Type 0) (keep : StmtSet) (upto : List Moment) where
-  abbrev pub marks : List Bool
-  marks = marks_after keep upto
+  abbrev pub marks : Marks
+  marks = all_marks keep upto
 
   module _ (at : Pos) (p q : Op) (vs ws : List Contents) (n : ℕ) (s t : State)
       (related : Related capture names keep upto s t) (kept : keep n ≡ true) (owner : owner_stmt s.told ≡ Some n)
@@ -95,14 +95,14 @@ module _ (laws : Laws) (capture : Capture) (names : ℕ → ℕ → Type 0) (kee
       now_marks : List Bool
       now_marks = marks_after keep s.told
 
-      grows : Grows (marks_after keep (moment answer ∷ s.told)) marks
+      grows : Grows (marks_after keep (moment answer ∷ s.told)) marks.objects
       grows = subst (λ all. Grows (marks_after keep (moment answer ∷ s.told)) (marks_after keep all)) (sym upto_is) (marks_grow keep news (moment answer ∷ s.told))
 
-      sooner : Grows (marks_after keep s.told) marks
+      sooner : Grows (marks_after keep s.told) marks.objects
       sooner = subst (λ all. Grows (marks_after keep s.told) (marks_after keep all)) (sym (upto_is ∙ sym (append_assoc news (moment answer ∷ []) s.told)))
           (marks_grow keep (news ++ moment answer ∷ []) s.told)
 
-      kinds_agree : (o : ℕ) → is_marked marks o ≡ true → (r : Renaming) → Fits marks r
+      kinds_agree : (o : ℕ) → is_marked marks.objects o ≡ true → (r : Renaming) → Fits marks r
           → slice_get t.store.kinds (r.objects o) ≡ option_map (renamed_kind r) (slice_get s.store.kinds o)
       kinds_agree o marked r fits =
           ap₂ slice_get (related.kinds r fits) (fits.objects_are o marked ∙ ap (λ all. rank all o) sooner.all_is)
@@ -121,7 +121,7 @@ module _ (laws : Laws) (capture : Capture) (names : ℕ → ℕ → Type 0) (kee
           ∙ (sym (fits.objects_are (length (marks_after keep s.told)) (ap (λ all. is_marked all (length (marks_after keep s.told))) all_is ∙ marked_at (marks_after keep s.told) grows.more))
           ∙ ap r.objects (sym related.counted)))))
         where
-          all_is : marks ≡ marks_after keep s.told ++ true ∷ grows.more
+          all_is : marks.objects ≡ marks_after keep s.told ++ true ∷ grows.more
           all_is = grows.all_is
               ∙ (ap₂ (λ made mark. with_mark made mark (marks_after keep s.told) ++ grows.more) made own_mark
               ∙ append_assoc (marks_after keep s.told) (true ∷ []) grows.more)
@@ -197,6 +197,8 @@ module _ (laws : Laws) (capture : Capture) (names : ℕ → ℕ → Type 0) (kee
               ∙ (kinds_made (renamed_kind r) (marks_after keep s.told) s.store.kinds t.store.kinds related.counted (related.kinds r fits) own.made
               ∙ ap₂ (λ mark kinds. map (renamed_kind r) (kept_of (with_mark own.made mark (marks_after keep s.told)) kinds)) (sym own_mark) (sym (kinds_grow own s.store))));
           counted = ap length (kinds_grow own s.store) ∙ counted_made own.made (is_kept keep (owner_stmt s.told)) (marks_after keep s.told) s.store.kinds related.counted;
+          entered_here = related.entered_here;
+          entered_there = related.entered_there;
           noted_names = notes.names;
           opened_there = λ path is. there_after path (open_from path other t.store is);
           opened_here = λ path is inside. here_after path (by_access (OwnerIsKept keep s.told) (IsInReach keep (file_at path) s.told) (sets_at (file_at path) (accesses_in own.touches)) (updates_at (file_at path) (accesses_in own.touches)) inside)

@@ -18,7 +18,7 @@ use Rattle.py_model.specs.Moment.{Moment, normal_end}
 use Rattle.slice_runs.proofs.Beside.{SameHow, both_normal, both_broke, both_continued, both_returned, both_threw, TopIsKept, Beside, unreached, both_ret, stopped, both_begin, alone_begin, pass_begin, both_close, alone_close, abrupt_close, less, beside_to, beside_after}
 use Rattle.slice_runs.proofs.KeptExpressions.{Same, AllSame, In, SameClass, no_class, one_class, SameHandled, none_handled, one_handled, BothHere, truth_both, none_same, more_same, one_same, plain_op, whole_op, scoped_whole, scoped_op, module_same, ended, in_less, doing_on, doing_both, doing_or_on, asking_on, asking_both, eval_both, store_both, augment_both, unset_both}
 use Rattle.slice_runs.proofs.OutsideRules.{Out, HasNone, under_none, rule_out, levels_out}
-use Rattle.slice_runs.specs.Renaming.{marks_after}
+use Rattle.slice_runs.specs.Renaming.{all_marks}
 use Rattle.slice_runs.proofs.Standing.{AllOwned, owned_left, owned_right}
 use Rattle.slice_runs.specs.Owned.{started_suite, started_stmt, started_form, started_branches, started_else, started_handlers}
 use Rattle.slice_runs.specs.Under.{UnderSuite, UnderStmt, UnderForm, UnderBranches, UnderElse, UnderHandlers}
@@ -30,7 +30,7 @@ module _ (P Q : ℕ → Pos → Type 0) (keep : StmtSet) (upto : List Moment) wh
 
   -- at module level, or inside a kept statement
   abbrev pub Suites : ℕ → Act → Act → Type 0
-  Suites k a b = (from : List Open) → TopIsKept keep from → Beside names keep (marks_after keep upto) k from from a b
+  Suites k a b = (from : List Open) → TopIsKept keep from → Beside names keep (all_marks keep upto) k from from a b
 
   -- what is kept of a suite whose owner is kept, numbered from m on
   abbrev pub rest_of_suite : ℕ → SuiteTree → SuiteTree
@@ -46,29 +46,29 @@ module _ (P Q : ℕ → Pos → Type 0) (keep : StmtSet) (upto : List Moment) wh
   abbrev pub TasksBoth : ℕ → (Task → Act) → (Task → Act) → Type 0
   TasksBoth k next other = (what task : Task) → SameTask what task → In names keep upto k (next what) (other task)
 
-  turned_both : {k : ℕ} {a b : Act} → In names keep upto k a b → (how other : How) → SameHow (marks_after keep upto) how other → In names keep upto k (turned a how) (turned b other)
+  turned_both : {k : ℕ} {a b : Act} → In names keep upto k a b → (how other : How) → SameHow (all_marks keep upto) how other → In names keep upto k (turned a how) (turned b other)
   turned_both going _ _ both_normal = going
   turned_both going _ _ both_continued = going
   turned_both going _ _ both_broke = ended names keep upto both_normal
   turned_both going _ _ (both_returned same) = ended names keep upto (both_returned same)
   turned_both going _ _ (both_threw same) = ended names keep upto (both_threw same)
 
-  so_both : {k : ℕ} {a b : Act} → Suites k a b → (how other : How) → SameHow (marks_after keep upto) how other → Suites k (then_so a how) (then_so b other)
+  so_both : {k : ℕ} {a b : Act} → Suites k a b → (how other : How) → SameHow (all_marks keep upto) how other → Suites k (then_so a how) (then_so b other)
   so_both going _ _ both_normal = going
   so_both going _ _ both_continued = λ from top. both_ret both_continued
   so_both going _ _ both_broke = λ from top. both_ret both_broke
   so_both going _ _ (both_returned same) = λ from top. both_ret (both_returned same)
   so_both going _ _ (both_threw same) = λ from top. both_ret (both_threw same)
 
-  in_to : {k : ℕ} {a b : Act} {f g : How → Act} → In names keep upto k a b → ((how other : How) → SameHow (marks_after keep upto) how other → In names keep upto k (f how) (g other)) → In names keep upto k (to a f) (to b g)
-  in_to first each n from kept = beside_to names keep (marks_after keep upto) (first n from kept) (λ how other same. each how other same n from kept)
+  in_to : {k : ℕ} {a b : Act} {f g : How → Act} → In names keep upto k a b → ((how other : How) → SameHow (all_marks keep upto) how other → In names keep upto k (f how) (g other)) → In names keep upto k (to a f) (to b g)
+  in_to first each n from kept = beside_to names keep (all_marks keep upto) (first n from kept) (λ how other same. each how other same n from kept)
 
   in_suite : {k : ℕ} {a b : Act} → Suites k a b → In names keep upto k a b
   in_suite suites n from kept = suites (a_statement n ∷ from) kept
 
   -- how a statement ends in both, and in the script's run alone
-  close_both : {k n m : ℕ} {from : List Open} (how other : How) → keep n ≡ true → names n m → SameHow (marks_after keep upto) how other
-      → Beside names keep (marks_after keep upto) k (a_statement n ∷ from) from (close n (ending how) (ret how)) (close m (ending other) (ret other))
+  close_both : {k n m : ℕ} {from : List Open} (how other : How) → keep n ≡ true → names n m → SameHow (all_marks keep upto) how other
+      → Beside names keep (all_marks keep upto) k (a_statement n ∷ from) from (close n (ending how) (ret how)) (close m (ending other) (ret other))
   close_both _ _ kept named both_normal = both_close kept named (both_ret both_normal)
   close_both _ _ kept named both_broke = both_close kept named (both_ret both_broke)
   close_both _ _ kept named both_continued = both_close kept named (both_ret both_continued)
@@ -76,7 +76,7 @@ module _ (P Q : ℕ → Pos → Type 0) (keep : StmtSet) (upto : List Moment) wh
   close_both _ _ kept named (both_threw same) = both_close kept named (both_ret (both_threw same))
 
   close_alone : {k n : ℕ} {from : List Open} → keep n ≡ false → TopIsKept keep from → (how : How)
-      → Beside names keep (marks_after keep upto) k (a_statement n ∷ from) from (close n (ending how) (ret how)) (ret normal)
+      → Beside names keep (all_marks keep upto) k (a_statement n ∷ from) from (close n (ending how) (ret how)) (ret normal)
   close_alone out top normal = alone_close out (both_ret both_normal)
   close_alone out top broke = abrupt_close out top (λ is. cc)
   close_alone out top continued = abrupt_close out top (λ is. cc)
@@ -84,9 +84,9 @@ module _ (P Q : ℕ → Pos → Type 0) (keep : StmtSet) (upto : List Moment) wh
   close_alone out top (threw o line) = abrupt_close out top (λ is. cc)
 
   -- where the slice's suite is empty and the script's begins with a statement, `pass` stands there
-  passing : {k n m : ℕ} {from onto : List Open} {a : Act} → names n m → Beside names keep (marks_after keep upto) (suc k) from onto (begin n a) (ret normal)
-      → Beside names keep (marks_after keep upto) (suc k) from onto (begin n a) (begin m (close m normal_end (ret normal)))
-  passing {k} named (alone_begin out rest) = pass_begin out named (less names keep (marks_after keep upto) k rest)
+  passing : {k n m : ℕ} {from onto : List Open} {a : Act} → names n m → Beside names keep (all_marks keep upto) (suc k) from onto (begin n a) (ret normal)
+      → Beside names keep (all_marks keep upto) (suc k) from onto (begin n a) (begin m (close m normal_end (ret normal)))
+  passing {k} named (alone_begin out rest) = pass_begin out named (less names keep (all_marks keep upto) k rest)
 
   raised_same : {one other : Option ℕ} → SameHandled names keep upto one other → AllSame names keep upto (raised_value one) (raised_value other)
   raised_same none_handled = none_same names keep upto
@@ -128,7 +128,7 @@ module _ (P Q : ℕ → Pos → Type 0) (keep : StmtSet) (upto : List Moment) wh
           doing_both names keep upto here there both.line_is bound.at (scoped_op names keep upto 33 both bound.name) (one_same names keep upto same) (λ x y is. going)
 
       caught_both : (f g : ℕ → ℕ → Act) → ((o e line : ℕ) → Same names keep upto (object o) (object e) → In names keep upto (suc k) (f o line) (g e line))
-          → (how other_how : How) → SameHow (marks_after keep upto) how other_how → In names keep upto (suc k) (caught script next f how) (caught cut other g other_how)
+          → (how other_how : How) → SameHow (all_marks keep upto) how other_how → In names keep upto (suc k) (caught script next f how) (caught cut other g other_how)
       caught_both f g each _ _ both_normal = ended names keep upto both_normal
       caught_both f g each _ _ both_broke = ended names keep upto both_broke
       caught_both f g each _ _ both_continued = ended names keep upto both_continued
@@ -175,7 +175,7 @@ module _ (P Q : ℕ → Pos → Type 0) (keep : StmtSet) (upto : List Moment) wh
           doing_both names keep upto here there both.line_is at (whole_op names keep upto 43 name (record { is = λ r fits. refl })) all (λ v w same.
           in_to (body v w same) (in_so (doing_both names keep upto here there both.line_is at (scoped_op names keep upto 33 both name) (one_same names keep upto same) (λ x y is. ended names keep upto both_normal))))
         where
-          in_so : {a b : Act} → In names keep upto (suc k) a b → (how other_how : How) → SameHow (marks_after keep upto) how other_how → In names keep upto (suc k) (then_so a how) (then_so b other_how)
+          in_so : {a b : Act} → In names keep upto (suc k) a b → (how other_how : How) → SameHow (all_marks keep upto) how other_how → In names keep upto (suc k) (then_so a how) (then_so b other_how)
           in_so going _ _ both_normal = going
           in_so going _ _ both_continued = ended names keep upto both_continued
           in_so going _ _ both_broke = ended names keep upto both_broke
@@ -186,7 +186,7 @@ module _ (P Q : ℕ → Pos → Type 0) (keep : StmtSet) (upto : List Moment) wh
         -- a statement that is not kept
         stmt_alone : (here : Here) (s : StmtTree) → keep (number_of s) ≡ false → UnderStmt keep true s → Suites (suc k) (stmt script next here s) (ret normal)
         stmt_alone here (one_stmt number at span form) out under from top =
-            alone_begin out (beside_after keep names (marks_after keep upto) (rule_out keep script none_here next alone (on_line at.line here) at form (under_none keep number form out under.1) number from out)
+            alone_begin out (beside_after keep names (all_marks keep upto) (rule_out keep script none_here next alone (on_line at.line here) at form (under_none keep number form out under.1) number from out)
             (close_alone out top))
 
         -- a suite whose owner is kept
@@ -223,10 +223,10 @@ module _ (P Q : ℕ → Pos → Type 0) (keep : StmtSet) (upto : List Moment) wh
                   → Suites (suc k) (suite script next here (more_suite s rest))
                   (suite cut other there (numbered_suite m (if test then more_suite (kept_stmt keep s) (kept_suite keep rest) else kept_suite keep rest)))
               by_test true is outs first others from top =
-                  beside_to names keep (marks_after keep upto) (first is (owned_left _ outs) from top)
+                  beside_to names keep (all_marks keep upto) (first is (owned_left _ outs) from top)
                   (λ how other_how same. so_both (others (m + size_stmt (kept_stmt keep s)) (owned_right (started_stmt (numbered_stmt m (kept_stmt keep s))) outs)) how other_how same from top)
               by_test false is outs first others from top =
-                  beside_to names keep (marks_after keep upto) {b = ret normal} {g = then_so (suite cut other there (numbered_suite m (kept_suite keep rest)))}
+                  beside_to names keep (all_marks keep upto) {b = ret normal} {g = then_so (suite cut other there (numbered_suite m (kept_suite keep rest)))}
                   (stmt_alone here s is under.0 from top) (λ how other_how same. so_both (others m outs) how other_how same from top)
 
           stmt_both : (here there : Here) → BothHere names keep upto here there → (m : ℕ) (s : StmtTree) → keep (number_of s) ≡ true → UnderStmt keep true s
@@ -234,8 +234,8 @@ module _ (P Q : ℕ → Pos → Type 0) (keep : StmtSet) (upto : List Moment) wh
               → Suites (suc k) (stmt script next here s) (stmt cut other there (numbered_stmt m (kept_stmt keep s)))
           stmt_both here there both m (one_stmt number at span form) kept under ins outs from top =
               let named : names number m = (at, ins.each number at (inl refl), outs.each m at (inl refl)) in
-              both_begin kept named (beside_to names keep (marks_after keep upto)
-              (less names keep (marks_after keep upto) k
+              both_begin kept named (beside_to names keep (all_marks keep upto)
+              (less names keep (all_marks keep upto) k
               (rule_both (on_line at.line here) (on_line at.line there) (on_line_both at.line both) at (m + 1) form (subst (λ around. UnderForm keep around form) kept under.1)
               (owned_right ((number, at) ∷ []) ins) (owned_right ((m, at) ∷ []) outs) number from kept))
               (λ how other_how same. close_both how other_how kept named same))

@@ -1,15 +1,15 @@
--- The objects of both runs at a moment, and up to the last one.
+-- The objects and activations of both runs at a moment, and up to the last one.
 use Rattle.std.proofs.Common.{◌≡◌, ℕ, zero, suc, ◌+◌, Bool, true, false, List, [], ◌∷◌, ◌++◌, map, length, slice_get, Option, Some, None, option_map, refl, sym, ap, subst, ◌∙◌, arith, append_assoc, append-nil}
 use Rattle.std.proofs.lemmas.Bool.{false≢true}
 use Rattle.std.proofs.lemmas.List.{length-append, map-append}
 use Rattle.py_value.specs.Seen.{SeenKind}
 use Rattle.py_model.specs.History.{made_by, with_kind, spent_on}
-use Rattle.py_model.specs.Moment.{Moment}
+use Rattle.py_model.specs.Moment.{Moment, begins, does, enters, leaves, ends}
 use Rattle.slice_law.specs.Closed.{StmtSet}
 use Rattle.slice_law.specs.Edges.{owner_stmt}
 use Rattle.slice_runs.proofs.Ranks.{shifted_fits}
 use Rattle.slice_runs.specs.Related.{kept_of}
-use Rattle.slice_runs.specs.Renaming.{is_kept, with_mark, marks_after, is_marked, rank, IsShifted}
+use Rattle.slice_runs.specs.Renaming.{activations_after, Marks, is_kept, with_mark, marks_after, is_marked, rank, IsShifted, all_marks}
 
 -- what is asked of an object is the same in the whole list and in its front
 pub kind_at : {A : Type 0} (now more : List Bool) (xs : List A) (o : ℕ) → length xs ≡ length now → is_marked (now ++ more) o ≡ true
@@ -80,16 +80,55 @@ marks_grow keep (moment ∷ news) told = by_made (made_by moment) (marks_grow ke
           ∙ append_assoc (marks_after keep told) grows.more (is_kept keep (owner_stmt (news ++ told)) ∷ []);
     }
 
+pub activations_grow : (keep : StmtSet) (news told : List Moment) → Grows (activations_after keep told) (activations_after keep (news ++ told))
+activations_grow keep [] told = record { more = []; all_is = sym (append-nil (activations_after keep told)) }
+activations_grow keep (enters at def values accesses ∷ news) told = by_grows (activations_grow keep news told)
+  where
+    by_grows : Grows (activations_after keep told) (activations_after keep (news ++ told))
+        → Grows (activations_after keep told) (activations_after keep (news ++ told) ++ is_kept keep (owner_stmt (news ++ told)) ∷ [])
+    by_grows grows = record {
+      more = grows.more ++ is_kept keep (owner_stmt (news ++ told)) ∷ [];
+      all_is = ap (λ (marks : List Bool). marks ++ is_kept keep (owner_stmt (news ++ told)) ∷ []) grows.all_is
+          ∙ append_assoc (activations_after keep told) grows.more (is_kept keep (owner_stmt (news ++ told)) ∷ []);
+    }
+activations_grow keep (does at number values answer made accesses weight ∷ news) told = activations_grow keep news told
+activations_grow keep (begins n ∷ news) told = activations_grow keep news told
+activations_grow keep (leaves v ∷ news) told = activations_grow keep news told
+activations_grow keep (ends n ended ∷ news) told = activations_grow keep news told
+
+-- the next activation: in both runs, and in the script's alone
+pub kept_longer : (now : List Bool) → length (kept_of (now ++ true ∷ []) (now ++ true ∷ [])) ≡ suc (length (kept_of now now))
+kept_longer now = ap length (kept_joined now (true ∷ []) now (true ∷ []) refl) ∙ (length-append (kept_of now now) (true ∷ []) ∙ omega arith)
+
+pub kept_as_long : (now : List Bool) → length (kept_of (now ++ false ∷ []) (now ++ false ∷ [])) ≡ length (kept_of now now)
+kept_as_long now = ap length (kept_joined now (false ∷ []) now (false ∷ []) refl) ∙ (length-append (kept_of now now) [] ∙ omega arith)
+
+pub one_longer : (now : List Bool) (mark : Bool) → length (now ++ mark ∷ []) ≡ suc (length now)
+one_longer now mark = length-append now (mark ∷ []) ∙ omega arith
+
 pub spent_joined : (news told : List Moment) → spent_on (news ++ told) ≡ spent_on news + spent_on told
 spent_joined [] told = omega arith
 spent_joined (moment ∷ news) told = omega (arith, spent_joined news told)
 
+both_same : {objects others activations more : List Bool} → objects ≡ others → activations ≡ more
+    → ◌≡◌ {A = Marks} (record { objects = objects; activations = activations }) (record { objects = others; activations = more })
+both_same one other = cc
+
 -- the first object is there in both runs, so renamings that fit are there
-pub shifts : (keep : StmtSet) (upto : List Moment) (more : ℕ) → IsShifted (marks_after keep upto) more
-shifts keep upto more = subst (λ marks. IsShifted marks more) (sym (start upto).all_is) (shifted_fits (start upto).more more)
+pub shifts : (keep : StmtSet) (upto : List Moment) (more : ℕ) → IsShifted (all_marks keep upto) more
+shifts keep upto more = subst (λ marks. IsShifted marks more) marks_are (shifted_fits (start upto).more (entered upto).more more)
   where
     start : (told : List Moment) → Grows (true ∷ []) (marks_after keep told)
     start told = by_end (marks_grow keep told [])
       where
         by_end : Grows (true ∷ []) (marks_after keep (told ++ [])) → Grows (true ∷ []) (marks_after keep told)
         by_end grows = record { more = grows.more; all_is = ap (marks_after keep) (sym (append-nil told)) ∙ grows.all_is }
+
+    entered : (told : List Moment) → Grows (true ∷ []) (activations_after keep told)
+    entered told = by_end (activations_grow keep told [])
+      where
+        by_end : Grows (true ∷ []) (activations_after keep (told ++ [])) → Grows (true ∷ []) (activations_after keep told)
+        by_end grows = record { more = grows.more; all_is = ap (activations_after keep) (sym (append-nil told)) ∙ grows.all_is }
+
+    marks_are : record { objects = true ∷ (start upto).more; activations = true ∷ (entered upto).more } ≡ all_marks keep upto
+    marks_are = both_same (sym (start upto).all_is) (sym (entered upto).all_is)

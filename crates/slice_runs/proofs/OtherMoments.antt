@@ -25,7 +25,7 @@ use Rattle.slice_runs.proofs.Renamings.{untouched}
 use Rattle.slice_runs.proofs.Opened.{opens_at, open_keeps, open_from, IsLeft, OpensTidily, tidily}
 use Rattle.slice_runs.proofs.Touching.{kinds_grow, unnoted_before}
 use Rattle.slice_runs.specs.Related.{IsThere, IsUnnoted, ByAccess, OwnerIsKept, IsInReach, alone_did, both_began, alone_began, passed, both_ended, alone_ended, kept_of, Related}
-use Rattle.slice_runs.specs.Renaming.{is_kept, with_mark, marks_after, Fits, Matches}
+use Rattle.slice_runs.specs.Renaming.{is_kept, with_mark, marks_after, Fits, Matches, all_marks}
 
 -- where the owner is not kept, neither set nor updated
 by_none : (own earlier : Type 0) (a b : Bool) → (own → ⊥) → ByAccess a b own earlier → (a ≡ false) × (b ≡ false) × earlier
@@ -42,6 +42,8 @@ module _ (laws : Laws) (capture : Capture) (names : ℕ → ℕ → Type 0) (kee
     kinds = λ r fits.
         kinds_alone (renamed_kind r) (marks_after keep s.told) s.store.kinds t.store.kinds related.counted (related.kinds r fits) e.made
         ∙ ap₂ (λ mark kinds. map (renamed_kind r) (kept_of (with_mark e.made mark (marks_after keep s.told)) kinds)) (sym own_mark) (sym (kinds_grow e s.store));
+    entered_here = related.entered_here;
+    entered_there = related.entered_there;
     counted = ap length (kinds_grow e s.store) ∙ counted_made e.made (is_kept keep (owner_stmt s.told)) (marks_after keep s.told) s.store.kinds related.counted;
     noted_names = λ place. related.noted_names place ∙ ((unnoted_before e s.store unnoted).names place ∙ sym (unnoted.names place));
     opened_there = λ path is. open_keeps path e s.store (related.opened_there path is);
@@ -73,7 +75,7 @@ module _ (laws : Laws) (capture : Capture) (names : ℕ → ℕ → Type 0) (kee
           by_parts parts (inl was) = related.opened_here path was parts.2
           by_parts parts (inr now) = by_sets parts.0 parts.2 ((tidy path).sets_it_too now)
 
-      contents_after : (l : SeenLocation) → IsInReach keep l (does at p.no vs answer e.made (accesses_in e.touches) (weight e) ∷ s.told) → (r : Renaming) → Fits (marks_after keep upto) r
+      contents_after : (l : SeenLocation) → IsInReach keep l (does at p.no vs answer e.made (accesses_in e.touches) (weight e) ∷ s.told) → (r : Renaming) → Fits (all_marks keep upto) r
           → Matches r (after e s.store).at t.store.at l
       contents_after l inside r fits = by_parts
           (by_none (OwnerIsKept keep s.told) (IsInReach keep l s.told) (sets_at l (accesses_in e.touches)) (updates_at l (accesses_in e.touches))
@@ -95,6 +97,8 @@ module _ (laws : Laws) (capture : Capture) (names : ℕ → ℕ → Type 0) (kee
       contents = related.contents;
       kinds = related.kinds;
       counted = related.counted;
+      entered_here = related.entered_here;
+      entered_there = related.entered_there;
       noted_names = related.noted_names;
       opened_there = related.opened_there;
       opened_here = related.opened_here;
@@ -108,6 +112,8 @@ module _ (laws : Laws) (capture : Capture) (names : ℕ → ℕ → Type 0) (kee
       contents = related.contents;
       kinds = related.kinds;
       counted = related.counted;
+      entered_here = related.entered_here;
+      entered_there = related.entered_there;
       noted_names = related.noted_names;
       opened_there = related.opened_there;
       opened_here = related.opened_here;
@@ -121,6 +127,8 @@ module _ (laws : Laws) (capture : Capture) (names : ℕ → ℕ → Type 0) (kee
       contents = related.contents;
       kinds = related.kinds;
       counted = related.counted;
+      entered_here = related.entered_here;
+      entered_there = related.entered_there;
       noted_names = related.noted_names;
       opened_there = related.opened_there;
       opened_here = related.opened_here;
@@ -134,6 +142,8 @@ module _ (laws : Laws) (capture : Capture) (names : ℕ → ℕ → Type 0) (kee
       contents = related.contents;
       kinds = related.kinds;
       counted = related.counted;
+      entered_here = related.entered_here;
+      entered_there = related.entered_there;
       noted_names = related.noted_names;
       opened_there = related.opened_there;
       opened_here = related.opened_here;
@@ -147,6 +157,8 @@ module _ (laws : Laws) (capture : Capture) (names : ℕ → ℕ → Type 0) (kee
       contents = related.contents;
       kinds = related.kinds;
       counted = related.counted;
+      entered_here = related.entered_here;
+      entered_there = related.entered_there;
       noted_names = related.noted_names;
       opened_there = related.opened_there;
       opened_here = related.opened_here;

@@ -1,8 +1,8 @@
--- Objects of both runs are numbered one-to-one, and renamings that fit differ on all others.
+-- Objects and activations of both runs are numbered one-to-one, and renamings that fit differ on all others.
 use Rattle.std.proofs.Common.{◌≡◌, ℕ, zero, suc, ◌+◌, ◌<◌, Bool, true, false, List, [], ◌∷◌, length, if◌then◌else◌, refl, sym, ap, ◌∙◌, arith}
 use Rattle.std.proofs.lemmas.Bool.{false≢true}
 use Rattle.py_value.specs.Contents.{Contents, object}
-use Rattle.slice_runs.specs.Renaming.{is_marked, rank, shifted, IsShifted, SameValue}
+use Rattle.slice_runs.specs.Renaming.{Marks, is_marked, rank, shifted, IsShifted, SameValue, SameScope}
 
 rank_within : (marks : List Bool) (o : ℕ) → is_marked marks o ≡ true → rank marks o < length marks
 rank_within [] o is = absurd (false≢true is)
@@ -33,40 +33,61 @@ module _ (marks : List Bool) (more : ℕ) where
       by_marks false is true on = absurd (omega (arith, shifted_as m false is, shifted_as n true on, same, rank_within marks n on))
       by_marks false is false on = omega (arith, shifted_as m false is, shifted_as n false on, same)
 
-pub shifted_fits : (marks : List Bool) (more : ℕ) → IsShifted (true ∷ marks) more
-shifted_fits marks more = record {
+pub shifted_fits : (objects activations : List Bool) (more : ℕ) → IsShifted (record { objects = true ∷ objects; activations = true ∷ activations }) more
+shifted_fits objects activations more = record {
   by = record {
-    objects = shifted (true ∷ marks) more;
-    scopes = λ scope. scope;
-    one_object = shifted_one (true ∷ marks) more;
-    one_scope = λ m n is. is;
+    objects = shifted (true ∷ objects) more;
+    scopes = shifted (true ∷ activations) more;
+    one_object = shifted_one (true ∷ objects) more;
+    one_scope = shifted_one (true ∷ activations) more;
     module_stays = refl;
     arguments_stay = refl;
   };
-  fits = record { objects_are = λ o is. shifted_as (true ∷ marks) more o true is };
+  fits = record {
+    objects_are = λ o is. shifted_as (true ∷ objects) more o true is;
+    scopes_are = λ a is. shifted_as (true ∷ activations) more a true is;
+  };
   objects_are = λ o. refl;
+  scopes_are = λ a. refl;
 }
 
 -- What two renamings that fit agree on is there in both runs.
-pub agreed_is_marked : (marks : List Bool) (near : IsShifted marks 0) (far : IsShifted marks 1) (o : ℕ) → near.by.objects o ≡ far.by.objects o → is_marked marks o ≡ true
-agreed_is_marked marks near far o same = by_mark (is_marked marks o) refl
+moved_is_marked : (marks : List Bool) (o : ℕ) → shifted marks 0 o ≡ shifted marks 1 o → is_marked marks o ≡ true
+moved_is_marked marks o same = by_mark (is_marked marks o) refl
   where
     by_mark : (mark : Bool) → is_marked marks o ≡ mark → is_marked marks o ≡ true
     by_mark true is = is
-    by_mark false is = absurd (omega (arith, near.objects_are o, far.objects_are o, shifted_as marks 0 o false is, shifted_as marks 1 o false is, same))
+    by_mark false is = absurd (omega (arith, shifted_as marks 0 o false is, shifted_as marks 1 o false is, same))
+
+pub agreed_is_marked : (marks : Marks) (near : IsShifted marks 0) (far : IsShifted marks 1) (o : ℕ) → near.by.objects o ≡ far.by.objects o → is_marked marks.objects o ≡ true
+agreed_is_marked marks near far o same = moved_is_marked marks.objects o (sym (near.objects_are o) ∙ (same ∙ far.objects_are o))
+
+-- so is it with activations
+pub same_scope : (objects activations : List Bool) (a b : ℕ) → SameScope (record { objects = true ∷ objects; activations = true ∷ activations }) a b
+    → (is_marked (true ∷ activations) a ≡ true) × (b ≡ rank (true ∷ activations) a)
+same_scope objects activations a b same = (marked, same.is near.by near.fits ∙ near.fits.scopes_are a marked)
+  where
+    near : IsShifted (record { objects = true ∷ objects; activations = true ∷ activations }) 0
+    near = shifted_fits objects activations 0
+
+    far : IsShifted (record { objects = true ∷ objects; activations = true ∷ activations }) 1
+    far = shifted_fits objects activations 1
+
+    marked : is_marked (true ∷ activations) a ≡ true
+    marked = moved_is_marked (true ∷ activations) a (sym (near.scopes_are a) ∙ (sym (same.is near.by near.fits) ∙ (same.is far.by far.fits ∙ far.scopes_are a)))
 
 object_same : (m n : ℕ) → object m ≡ object n → m ≡ n
 object_same m n is = cc
 
-pub same_object : (marks : List Bool) (o : ℕ) (w : Contents) → SameValue (true ∷ marks) (object o) w
-    → (is_marked (true ∷ marks) o ≡ true) × (w ≡ object (rank (true ∷ marks) o))
-same_object marks o w same = (marked, same.is near.by near.fits ∙ ap object (near.fits.objects_are o marked))
+pub same_object : (objects activations : List Bool) (o : ℕ) (w : Contents) → SameValue (record { objects = true ∷ objects; activations = true ∷ activations }) (object o) w
+    → (is_marked (true ∷ objects) o ≡ true) × (w ≡ object (rank (true ∷ objects) o))
+same_object objects activations o w same = (marked, same.is near.by near.fits ∙ ap object (near.fits.objects_are o marked))
   where
-    near : IsShifted (true ∷ marks) 0
-    near = shifted_fits marks 0
+    near : IsShifted (record { objects = true ∷ objects; activations = true ∷ activations }) 0
+    near = shifted_fits objects activations 0
 
-    far : IsShifted (true ∷ marks) 1
-    far = shifted_fits marks 1
+    far : IsShifted (record { objects = true ∷ objects; activations = true ∷ activations }) 1
+    far = shifted_fits objects activations 1
 
-    marked : is_marked (true ∷ marks) o ≡ true
-    marked = agreed_is_marked (true ∷ marks) near far o (object_same _ _ (sym (same.is near.by near.fits) ∙ same.is far.by far.fits))
+    marked : is_marked (true ∷ objects) o ≡ true
+    marked = agreed_is_marked (record { objects = true ∷ objects; activations = true ∷ activations }) near far o (object_same _ _ (sym (same.is near.by near.fits) ∙ same.is far.by far.fits))

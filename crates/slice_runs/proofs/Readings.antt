@@ -13,7 +13,7 @@ use Rattle.py_model.specs.Renaming.{Renaming, renamed, renamed_option, renamed_l
 use Rattle.py_model.specs.Store.{RunStore, empty, var_of, len_of, item_of, entry_of, order_of, file_of, offset_of, closed_of, method_of, base_of, has_path}
 use Rattle.slice_runs.proofs.Ranks.{agreed_is_marked}
 use Rattle.slice_runs.proofs.Renamings.{normal_renamed}
-use Rattle.slice_runs.specs.Renaming.{is_marked, Fits, IsShifted}
+use Rattle.slice_runs.specs.Renaming.{is_marked, Fits, IsShifted, Marks}
 
 -- what is read at corresponding locations
 abbrev pub holding : Option SeenContent → RunStore
@@ -157,7 +157,7 @@ joined f gone anew same is one another = cc
 pair_same : {A B : Type 0} {a c : A} {b d : B} → a ≡ c → b ≡ d → ◌≡◌ {A = A × B} (a, b) (c, d)
 pair_same one another = cc
 
-module _ (store other : RunStore) (marks : List Bool) where
+module _ (store other : RunStore) (marks : Marks) where
   -- the location has corresponding contents, under all renamings that fit
   abbrev pub IsKnown : SeenLocation → Type 0
   IsKnown l = (r : Renaming) → Fits marks r → CorrespondsAt r store other l
@@ -188,7 +188,7 @@ module _ (store other : RunStore) (marks : List Bool) where
 
   module _
       (near : IsShifted marks 0) (far : IsShifted marks 1)
-      (kinds_agree : (o : ℕ) → is_marked marks o ≡ true → (r : Renaming) → Fits marks r
+      (kinds_agree : (o : ℕ) → is_marked marks.objects o ≡ true → (r : Renaming) → Fits marks r
       → slice_get other.kinds (r.objects o) ≡ option_map (renamed_kind r) (slice_get store.kinds o))
       (names_agree : (place : Pos) → other.names place ≡ store.names place)
       (opened_agree : (path : List ℕ) → has_path path other.opened ≡ has_path path store.opened)

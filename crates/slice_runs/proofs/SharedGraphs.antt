@@ -17,7 +17,7 @@ use Rattle.slice_runs.proofs.Ranks.{agreed_is_marked}
 use Rattle.slice_runs.proofs.Reachables.{within, parts_within, item_within, entry_within, within_both, item_both, entry_both, met, KeysCovered, Covered}
 use Rattle.slice_runs.proofs.Readings.{len_read, item_read, entry_read, order_read, offset_read, closed_read}
 use Rattle.slice_runs.proofs.Renamings.{value_test}
-use Rattle.slice_runs.specs.Renaming.{is_marked, Fits, IsShifted, Matches}
+use Rattle.slice_runs.specs.Renaming.{is_marked, Fits, IsShifted, Matches, Marks}
 
 object_same : (m n : ℕ) → object m ≡ object n → m ≡ n
 object_same m n is = cc
@@ -48,10 +48,10 @@ abbrev item_in : Option (Contents × Contents) → Option Contents
 item_in None = None
 item_in (Some entry) = Some entry.1
 
-module _ (is_same : (v w : Contents) → (same_value v w ≡ true) ↔ (v ≡ w)) (marks : List Bool) (near : IsShifted marks 0) (far : IsShifted marks 1) where
+module _ (is_same : (v w : Contents) → (same_value v w ≡ true) ↔ (v ≡ w)) (marks : Marks) (near : IsShifted marks 0) (far : IsShifted marks 1) where
   -- what two renamings that fit make the same of has objects of both runs alone
   mutual
-    shared : (v : Contents) → renamed near.by v ≡ renamed far.by v → within (is_marked marks) v ≡ true
+    shared : (v : Contents) → renamed near.by v ≡ renamed far.by v → within (is_marked marks.objects) v ≡ true
     shared (tuple parts) is = parts_shared parts (tuple_same (renamed_parts near.by parts) (renamed_parts far.by parts) is)
     shared (object o) is = agreed_is_marked marks near far o (object_same (near.by.objects o) (far.by.objects o) is)
     shared nothing is = refl
@@ -64,32 +64,32 @@ module _ (is_same : (v w : Contents) → (same_value v w ≡ true) ↔ (v ≡ w)
     shared (exception_class number) is = refl
     shared (builtin number) is = refl
 
-    parts_shared : (ps : Parts) → renamed_parts near.by ps ≡ renamed_parts far.by ps → parts_within (is_marked marks) ps ≡ true
+    parts_shared : (ps : Parts) → renamed_parts near.by ps ≡ renamed_parts far.by ps → parts_within (is_marked marks.objects) ps ≡ true
     parts_shared no_parts is = refl
-    parts_shared (part first rest) is = and_from (within (is_marked marks) first) (parts_within (is_marked marks) rest)
+    parts_shared (part first rest) is = and_from (within (is_marked marks.objects) first) (parts_within (is_marked marks.objects) rest)
         (shared first (first_same (renamed near.by first) (renamed far.by first) (renamed_parts near.by rest) (renamed_parts far.by rest) is))
         (parts_shared rest (rest_same (renamed near.by first) (renamed far.by first) (renamed_parts near.by rest) (renamed_parts far.by rest) is))
 
-  item_shared : (v : Option Contents) → renamed_option near.by v ≡ renamed_option far.by v → item_within (is_marked marks) v ≡ true
+  item_shared : (v : Option Contents) → renamed_option near.by v ≡ renamed_option far.by v → item_within (is_marked marks.objects) v ≡ true
   item_shared None is = refl
   item_shared (Some v) is = shared v (some_same (renamed near.by v) (renamed far.by v) is)
 
-  entry_shared : (entry : Option (Contents × Contents)) → renamed_entry near.by entry ≡ renamed_entry far.by entry → entry_within (is_marked marks) entry ≡ true
+  entry_shared : (entry : Option (Contents × Contents)) → renamed_entry near.by entry ≡ renamed_entry far.by entry → entry_within (is_marked marks.objects) entry ≡ true
   entry_shared None is = refl
   entry_shared (Some entry) is = shared entry.1 (some_same (renamed near.by entry.1) (renamed far.by entry.1) (ap item_in is))
 
-  same_number : (o : ℕ) → is_marked marks o ≡ true → far.by.objects o ≡ near.by.objects o
+  same_number : (o : ℕ) → is_marked marks.objects o ≡ true → far.by.objects o ≡ near.by.objects o
   same_number o marked = far.fits.objects_are o marked ∙ sym (near.fits.objects_are o marked)
 
   module _ (here there : Setting) (s : Reachable)
       (covers : (o : ℕ) → met s o ≡ true → Covered here.store s o (slice_get here.store.kinds o))
       (matches : (l : SeenLocation) → IsIn s.places l → (r : Renaming) → Fits marks r → Matches r here.store.at there.store.at l)
-      (kinds : (o : ℕ) → is_marked marks o ≡ true → slice_get there.store.kinds (near.by.objects o) ≡ option_map (renamed_kind near.by) (slice_get here.store.kinds o))
+      (kinds : (o : ℕ) → is_marked marks.objects o ≡ true → slice_get there.store.kinds (near.by.objects o) ≡ option_map (renamed_kind near.by) (slice_get here.store.kinds o))
       (functions : (at : Pos) → function_name here.script here.store at ≡ function_name there.script there.store at)
       (classes : (at : Pos) → class_name here.script here.store at ≡ class_name there.script there.store at) where
     -- objects that were met and are there in both runs
     abbrev reached : ℕ → Bool
-    reached o = met s o && is_marked marks o
+    reached o = met s o && is_marked marks.objects o
 
     abbrev pairs : Contents → Contents → Bool
     pairs v w = within reached v && same_value (renamed near.by v) w
@@ -147,11 +147,11 @@ module _ (is_same : (v w : Contents) → (same_value v w ≡ true) ↔ (v ≡ w)
     entry_own (Some entry) is = match_own entry.1 is
 
     -- of an object of both runs what stands at its locations
-    module _ (o : ℕ) (marked : is_marked marks o ≡ true) where
+    module _ (o : ℕ) (marked : is_marked marks.objects o ≡ true) where
       item_match : (i : ℕ) → IsIn s.places (item_at o i) → item_within (met s) (item_of here.store o i) ≡ true
           → OptionsMatch here there pairs (item_of here.store o i) (item_of there.store (near.by.objects o) i)
       item_match i place inside = subst (OptionsMatch here there pairs (item_of here.store o i)) (sym in_near)
-          (item_own (item_of here.store o i) (item_both (met s) (is_marked marks) (item_of here.store o i) inside (item_shared (item_of here.store o i) (sym in_near ∙ (ap (λ p. item_of there.store p i) (sym (same_number o marked)) ∙ in_far)))))
+          (item_own (item_of here.store o i) (item_both (met s) (is_marked marks.objects) (item_of here.store o i) inside (item_shared (item_of here.store o i) (sym in_near ∙ (ap (λ p. item_of there.store p i) (sym (same_number o marked)) ∙ in_far)))))
         where
           in_near : item_of there.store (near.by.objects o) i ≡ renamed_option near.by (item_of here.store o i)
           in_near = item_read near.by here.store there.store o i (matches (item_at o i) place near.by near.fits)
@@ -162,7 +162,7 @@ module _ (is_same : (v w : Contents) → (same_value v w ≡ true) ↔ (v ≡ w)
       entry_match : (key : Contents) → renamed near.by key ≡ renamed far.by key → IsIn s.places (entry_at o (normal key)) → entry_within (met s) (entry_of here.store o key) ≡ true
           → EntriesMatch here there pairs (entry_of here.store o key) (entry_of there.store (near.by.objects o) (renamed near.by key))
       entry_match key same place inside = subst (EntriesMatch here there pairs (entry_of here.store o key)) (sym in_near)
-          (entry_own (entry_of here.store o key) (entry_both (met s) (is_marked marks) (entry_of here.store o key) inside (entry_shared (entry_of here.store o key)
+          (entry_own (entry_of here.store o key) (entry_both (met s) (is_marked marks.objects) (entry_of here.store o key) inside (entry_shared (entry_of here.store o key)
           (sym in_near ∙ (ap (λ p. entry_of there.store p (renamed near.by key)) (sym (same_number o marked)) ∙ (ap (entry_of there.store (far.by.objects o)) same ∙ in_far))))))
         where
           in_near : entry_of there.store (near.by.objects o) (renamed near.by key) ≡ renamed_entry near.by (entry_of here.store o key)
@@ -176,7 +176,7 @@ module _ (is_same : (v w : Contents) → (same_value v w ≡ true) ↔ (v ≡ w)
       keys_match [] same all = tt
       keys_match (key ∷ keys) same all =
           let first : renamed near.by key ≡ renamed far.by key = head_same (renamed near.by key) (renamed far.by key) (renamed_list near.by keys) (renamed_list far.by keys) same in (
-            match_own key (within_both (met s) (is_marked marks) key all.1 (shared key first)),
+            match_own key (within_both (met s) (is_marked marks.objects) key all.1 (shared key first)),
             entry_match key first all.0 all.2,
             keys_match keys (tail_same (renamed near.by key) (renamed far.by key) (renamed_list near.by keys) (renamed_list far.by keys) same) all.3,
           )
@@ -209,7 +209,7 @@ module _ (is_same : (v w : Contents) → (same_value v w ≡ true) ↔ (v ≡ w)
 
     objects_match : (o p : ℕ) → pairs (object o) (object p) ≡ true → ContentMatches here there pairs o p (slice_get here.store.kinds o) (slice_get there.store.kinds p)
     objects_match o p is =
-        let both : (met s o ≡ true) × (is_marked marks o ≡ true) = and_parts (met s o) (is_marked marks o) (paired_within (object o) (object p) is) in
+        let both : (met s o ≡ true) × (is_marked marks.objects o ≡ true) = and_parts (met s o) (is_marked marks.objects o) (paired_within (object o) (object p) is) in
         subst (λ q. ContentMatches here there pairs o q (slice_get here.store.kinds o) (slice_get there.store.kinds q)) (object_same (near.by.objects o) p (paired_same (object o) (object p) is))
         (subst (ContentMatches here there pairs o (near.by.objects o) (slice_get here.store.kinds o)) (sym (kinds o both.1)) (content_match o both.1 (slice_get here.store.kinds o) (covers o both.0)))
 
@@ -223,5 +223,5 @@ module _ (is_same : (v w : Contents) → (same_value v w ≡ true) ↔ (v ≡ w)
         tuples = λ ps qs is. subst (PartsMatch here there pairs ps) (tuple_same (renamed_parts near.by ps) qs (paired_same (tuple ps) (tuple qs) is)) (parts_own ps (paired_within (tuple ps) (tuple qs) is));
         objects = objects_match;
       };
-      match_is = match_own v (within_both (met s) (is_marked marks) v inside (shared v same));
+      match_is = match_own v (within_both (met s) (is_marked marks.objects) v inside (shared v same));
     }

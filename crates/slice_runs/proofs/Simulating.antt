@@ -30,7 +30,7 @@ use Rattle.py_value.specs.Changes.{after_accesses}
 use Rattle.slice_runs.proofs.Touching.{kinds_grow}
 use Rattle.slice_runs.proofs.OtherMoments.{deleted_moment, deleted_askings, begin_paid, both_begin_related, alone_begin_related, pass_related, both_end_related, alone_end_related}
 use Rattle.slice_runs.specs.Related.{Related, AllInReach, DoneAgain, IsUnnoted}
-use Rattle.slice_runs.specs.Renaming.{marks_after, SameValue, IsShifted}
+use Rattle.slice_runs.specs.Renaming.{SameValue, IsShifted, Marks, all_marks}
 
 value_same : (v w : Contents) → value v ≡ value w → v ≡ w
 value_same v w is = cc
@@ -110,8 +110,8 @@ module _ (capture : Capture) (keep : StmtSet) (opening : RunStore) (upto : List 
         → (place : Pos) → OnlyKept place → places.eq at place ≡ false
 
   module _ (laws : Laws) (asks : AsksKept) where
-    abbrev pub marks : List Bool
-    marks = marks_after keep upto
+    abbrev pub marks : Marks
+    marks = all_marks keep upto
 
     -- it has arrived, or it goes on
     pub arrive : (a b : Act) (s t : State) → Related capture names keep upto s t → Holds opening OnlyKept s t → length s.told ≤ length upto → Through capture keep opening upto (outcome capture a s)

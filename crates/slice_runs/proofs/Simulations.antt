@@ -1,5 +1,5 @@
 -- The run of a slice, from its beginning.
-use Rattle.std.proofs.Common.{◌≡◌, ◌≤◌, ◌+◌, ℕ, suc, List, [], ◌∷◌, ◌++◌, map, length, Option, Some, inl, inr, refl, sym, ap, ap₂, subst, ◌∙◌, arith, codes, Bool}
+use Rattle.std.proofs.Common.{◌≡◌, ◌≤◌, ◌+◌, ℕ, suc, List, [], ◌∷◌, ◌++◌, map, length, Option, Some, inl, inr, refl, sym, ap, ap₂, subst, ◌∙◌, arith, codes}
 use Rattle.py_tree.specs.Deletion.{deleted}
 use Rattle.py_tree.specs.Tree.{ScriptTree}
 use Rattle.py_value.specs.Contents.{text}
@@ -30,7 +30,7 @@ use Rattle.slice_runs.proofs.Simulating.{Holds, Reaches, Through, AsksKept, arri
 use Rattle.prov_base.specs.declared.place.Pos.{Pos}
 use Rattle.slice_runs.specs.Owned.{started_suite}
 use Rattle.slice_runs.specs.Related.{at_start as nothing_done, both_did, alone_did, both_began, alone_began, passed, both_ended, alone_ended, Follows, IsInReach, kept_of, Related}
-use Rattle.slice_runs.specs.Renaming.{marks_after, Fits, Matches}
+use Rattle.slice_runs.specs.Renaming.{marks_after, Fits, Matches, Marks, all_marks}
 use Rattle.slice_runs.specs.Simulation.{IsPlainRun, Simulates}
 
 module _ (laws : Laws) (r : Renaming) where
@@ -76,7 +76,7 @@ module _ (laws : Laws) (r : Renaming) where
       lengths = put (len_at 0) (len_is (length arguments + 1)) (with_items 0 0 (path ∷ arguments) (with_files files unset))
 
 -- other words for the same naming
-named_by : {names others : ℕ → ℕ → Type 0} {keep : StmtSet} {marks : List Bool} {told again : List Moment} → ((s n : ℕ) → names s n → others s n)
+named_by : {names others : ℕ → ℕ → Type 0} {keep : StmtSet} {marks : Marks} {told again : List Moment} → ((s n : ℕ) → names s n → others s n)
     → Follows names keep marks told again → Follows others keep marks told again
 named_by each nothing_done = nothing_done
 named_by each (both_did is owner same rest) = both_did is owner same (named_by each rest)
@@ -95,7 +95,7 @@ module _ (laws : Laws) (script : ScriptTree) (capture : Capture) (path : List �
   starts : BothHere (names (IsHere script) (IsHere (deleted keep script)) keep upto) keep upto at_start at_start
   starts = record { function_here = refl; function_there = refl; line_is = refl; handled = none_handled; classes = no_class }
 
-  whole : functions_in script.body ≡ [] → Beside (names (IsHere script) (IsHere (deleted keep script)) keep upto) keep (marks_after keep upto) (suc (suc budget)) [] [] (meaning script steps) (meaning (deleted keep script) budget)
+  whole : functions_in script.body ≡ [] → Beside (names (IsHere script) (IsHere (deleted keep script)) keep upto) keep (all_marks keep upto) (suc (suc budget)) [] [] (meaning script steps) (meaning (deleted keep script) budget)
   whole none =
       body_both (IsHere script) (IsHere (deleted keep script)) keep upto script (deleted keep script) (none_in keep script none) (none_left keep script none) (level script (suc steps)) (level (deleted keep script) (suc budget)) (suc budget)
       (levels_both (IsHere script) (IsHere (deleted keep script)) keep upto script (deleted keep script) (none_in keep script none) (none_left keep script none) (suc budget) (suc steps)) (levels_out keep script (none_in keep script none) (suc steps))
@@ -108,6 +108,8 @@ module _ (laws : Laws) (script : ScriptTree) (capture : Capture) (path : List �
     contents = λ l inside r fits. opening_matches laws r path arguments (with_bytes capture.files) l;
     kinds = λ r fits. refl;
     counted = refl;
+    entered_here = refl;
+    entered_there = refl;
     noted_names = λ place. refl;
     opened_there = λ path is. is;
     opened_here = λ path is inside. inl is;
@@ -148,7 +150,7 @@ module _ (laws : Laws) (script : ScriptTree) (capture : Capture) (path : List �
         again = reached.there.told;
         after = reached.news;
         reached = reached.told_is;
-        follows = named_by (λ s n named. record { place = named.0; here = named.1; there = named.2 }) (subst (λ told. Follows (names (IsHere script) (IsHere (deleted keep script)) keep upto) keep (marks_after keep upto) told reached.there.told) reached.here_is reached.related.follows);
+        follows = named_by (λ s n named. record { place = named.0; here = named.1; there = named.2 }) (subst (λ told. Follows (names (IsHere script) (IsHere (deleted keep script)) keep upto) keep (all_marks keep upto) told reached.there.told) reached.here_is reached.related.follows);
         contents = λ l all r fits. contents l (subst (λ told. IsInReach keep l told) (sym reached.here_is) (reach_in keep l upto all)) r fits;
         kinds = λ r fits. sym reached.holds.there.kinds_are
             ∙ (reached.related.kinds r fits
@@ -157,7 +159,7 @@ module _ (laws : Laws) (script : ScriptTree) (capture : Capture) (path : List �
         no_more = subst (λ told. spent_on reached.there.told ≤ spent_on told) reached.here_is reached.related.no_more;
       }
         where
-          contents : (l : SeenLocation) → IsInReach keep l reached.here.told → (r : Renaming) → Fits (marks_after keep upto) r
+          contents : (l : SeenLocation) → IsInReach keep l reached.here.told → (r : Renaming) → Fits (all_marks keep upto) r
               → Matches r (held (opening_in capture path arguments).at upto) (held (opening_in capture path arguments).at reached.there.told) l
           contents l inside r fits =
               subst (λ there. Matches r (held (opening_in capture path arguments).at upto) there l) reached.holds.there.map_is

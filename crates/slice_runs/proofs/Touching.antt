@@ -11,7 +11,7 @@ use Rattle.py_model.specs.Running.{method_found, sets_an_entry, walked}
 use Rattle.py_model.specs.Store.{RunStore, method_of}
 use Rattle.slice_runs.proofs.Readings.{AreRead, method_read}
 use Rattle.slice_runs.specs.Related.{IsUnnoted}
-use Rattle.slice_runs.specs.Renaming.{Fits}
+use Rattle.slice_runs.specs.Renaming.{Fits, Marks}
 
 kinds_stay : (touches : List Touch) (store : RunStore) → (after_touches touches store).kinds ≡ store.kinds
 kinds_stay [] store = refl
@@ -84,7 +84,7 @@ module _ (r : Renaming) where
   entries_same (sets (method_at place name) content ∷ accesses) = entries_same accesses
   entries_same (sets (base_at place) content ∷ accesses) = entries_same accesses
 
-  module _ (store other : RunStore) (marks : List Bool) (fits : Fits marks r) where
+  module _ (store other : RunStore) (marks : Marks) (fits : Fits marks r) where
     methods_same : (accesses : List SeenAccess) (found : Option Pos) → AreRead store other marks accesses
         → method_found other (map (renamed_access r) accesses) found ≡ method_found store accesses found
     methods_same [] found known = refl

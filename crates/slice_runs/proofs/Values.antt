@@ -30,7 +30,7 @@ use Rattle.slice_runs.proofs.Reachables.{traversed, all_met, all_covered}
 use Rattle.slice_runs.proofs.SharedGraphs.{graphs_match}
 use Rattle.slice_runs.proofs.Standing.{in_front, in_behind}
 use Rattle.slice_runs.specs.Related.{kept_of}
-use Rattle.slice_runs.specs.Renaming.{is_kept, marks_after, is_marked, rank, Fits, IsShifted}
+use Rattle.slice_runs.specs.Renaming.{Marks, is_kept, marks_after, is_marked, rank, Fits, IsShifted, all_marks}
 use Rattle.slice_runs.specs.Simulation.{answer_of, ReachesEvaluation}
 
 -- an evaluation has a value
@@ -70,14 +70,14 @@ counted : (keep : StmtSet) (told : List Moment) → length (kinds_after (a_list 
 counted keep [] = refl
 counted keep (moment ∷ before) = counted_made (made_by moment) (is_kept keep (owner_stmt before)) (marks_after keep before) (kinds_after (a_list ∷ []) before) (counted keep before)
 
-kind_there : (marks : List Bool) (r : Renaming) → Fits marks r → (kinds others : List SeenKind) → length kinds ≡ length marks → others ≡ map (renamed_kind r) (kept_of marks kinds)
-    → (o : ℕ) → is_marked marks o ≡ true → slice_get others (r.objects o) ≡ option_map (renamed_kind r) (slice_get kinds o)
+kind_there : (marks : Marks) (r : Renaming) → Fits marks r → (kinds others : List SeenKind) → length kinds ≡ length marks.objects
+    → others ≡ map (renamed_kind r) (kept_of marks.objects kinds) → (o : ℕ) → is_marked marks.objects o ≡ true → slice_get others (r.objects o) ≡ option_map (renamed_kind r) (slice_get kinds o)
 kind_there marks r fits kinds others same are o marked =
     ap (λ (xs : List SeenKind). slice_get xs (r.objects o)) are
-    ∙ (ap (slice_get (map (renamed_kind r) (kept_of marks kinds))) (fits.objects_are o marked)
-    ∙ (slice_get-map (renamed_kind r) (kept_of marks kinds) (rank marks o)
-    ∙ ap (option_map (renamed_kind r)) (ap (λ all. slice_get (kept_of marks kinds) (rank all o)) (sym (append-nil marks))
-    ∙ kind_at marks [] kinds o same (ap (λ all. is_marked all o) (append-nil marks) ∙ marked))))
+    ∙ (ap (slice_get (map (renamed_kind r) (kept_of marks.objects kinds))) (fits.objects_are o marked)
+    ∙ (slice_get-map (renamed_kind r) (kept_of marks.objects kinds) (rank marks.objects o)
+    ∙ ap (option_map (renamed_kind r)) (ap (λ all. slice_get (kept_of marks.objects kinds) (rank all o)) (sym (append-nil marks.objects))
+    ∙ kind_at marks.objects [] kinds o same (ap (λ all. is_marked all o) (append-nil marks.objects) ∙ marked))))
 
 module _ (is_same : (v w : Contents) → (same_value v w ≡ true) ↔ (v ≡ w))
     (graphs : (here there : Setting) (v w : Contents) → HaveSameGraph here there v w → graph_text here.script here.store v ≡ graph_text there.script there.store w)
@@ -101,13 +101,13 @@ module _ (is_same : (v w : Contents) → (same_value v w ≡ true) ↔ (v ≡ w)
       there : Setting
       there = record { script = deleted keep script; store = store_after opening reaches.simulates.again }
 
-      near : IsShifted (marks_after keep upto) 0
+      near : IsShifted (all_marks keep upto) 0
       near = shifts keep upto 0
 
-      far : IsShifted (marks_after keep upto) 1
+      far : IsShifted (all_marks keep upto) 1
       far = shifts keep upto 1
 
-      answers_by : (r : Renaming) → Fits (marks_after keep upto) r → answer_of reaches.simulates.again ≡ Some (value (renamed r v))
+      answers_by : (r : Renaming) → Fits (all_marks keep upto) r → answer_of reaches.simulates.again ≡ Some (value (renamed r v))
       answers_by r fits = reaches.answers r fits ∙ ap (option_map (renamed_answer r)) answers
 
       value_one : (x y : Contents) → Some (value x) ≡ Some (value y) → x ≡ y
@@ -121,10 +121,10 @@ module _ (is_same : (v w : Contents) → (same_value v w ≡ true) ↔ (v ≡ w)
       same_names is_class at = ap (first_name is_class at) (nameless ∙ sym (still_nameless keep script nameless))
 
       same_graph : HaveSameGraph here there v (renamed near.by v)
-      same_graph = graphs_match is_same (marks_after keep upto) near far here there (traversed (store_after opening upto) v)
+      same_graph = graphs_match is_same (all_marks keep upto) near far here there (traversed (store_after opening upto) v)
           (all_covered (store_after opening upto) v)
           (λ l place r fits. reaches.simulates.contents l (kept_place l place) r fits)
-          (λ o marked. kind_there (marks_after keep upto) near.by near.fits (kinds_after (a_list ∷ []) upto) (kinds_after (a_list ∷ []) reaches.simulates.again) (counted keep upto) (reaches.simulates.kinds near.by near.fits) o marked)
+          (λ o marked. kind_there (all_marks keep upto) near.by near.fits (kinds_after (a_list ∷ []) upto) (kinds_after (a_list ∷ []) reaches.simulates.again) (counted keep upto) (reaches.simulates.kinds near.by near.fits) o marked)
           (same_names false) (same_names true) v (all_met (store_after opening upto) v)
           (value_one (renamed near.by v) (renamed far.by v) (sym (answers_by near.by near.fits) ∙ answers_by far.by far.fits))
 

@@ -19,7 +19,7 @@ use Rattle.slice_law.specs.Edges.{reach_stmts}
 use Rattle.slice_law.specs.Slices.{told_by}
 use Rattle.slice_runs.specs.Owned.{SamePlace}
 use Rattle.slice_runs.specs.Related.{Follows, kept_of, IsUnnoted}
-use Rattle.slice_runs.specs.Renaming.{marks_after, Fits, IsShifted, Matches}
+use Rattle.slice_runs.specs.Renaming.{marks_after, Fits, IsShifted, Matches, all_marks}
 
 -- The runs that are spoken of: the script has no functions, and no name of a class is noted. Exceptions, jumps, askings and files that are read
 -- or written are among them.
@@ -31,14 +31,14 @@ pub record IsPlainRun (script : ScriptTree) (capture : Capture) (path : List ℕ
 -- `pass` for each execution of an emptied suite; statements are named by their places. In the stores there, what stands at a location whose
 -- reach is kept corresponds, and so do the kinds of the objects of both runs, up to the numbers of objects. No more steps are spent.
 pub record Simulates (script : ScriptTree) (capture : Capture) (path : List ℕ) (arguments : List (List ℕ)) (budget : ℕ) (keep : StmtSet) (upto : List Moment) : Type 0 where
-  pub renaming : IsShifted (marks_after keep upto) 0
+  pub renaming : IsShifted (all_marks keep upto) 0
   pub again : List Moment
   pub after : List Moment
   pub reached : told_by (deleted keep script) capture path arguments budget ≡ after ++ again
-  pub follows : Follows (SamePlace script (deleted keep script)) keep (marks_after keep upto) upto again
-  pub contents : (l : SeenLocation) → ((s : ℕ) → IsIn (reach_stmts l upto) s → keep s ≡ true) → (r : Renaming) → Fits (marks_after keep upto) r
+  pub follows : Follows (SamePlace script (deleted keep script)) keep (all_marks keep upto) upto again
+  pub contents : (l : SeenLocation) → ((s : ℕ) → IsIn (reach_stmts l upto) s → keep s ≡ true) → (r : Renaming) → Fits (all_marks keep upto) r
       → Matches r (held (opening_in capture path arguments).at upto) (held (opening_in capture path arguments).at again) l
-  pub kinds : (r : Renaming) → Fits (marks_after keep upto) r
+  pub kinds : (r : Renaming) → Fits (all_marks keep upto) r
       → kinds_after (opening_in capture path arguments).kinds again ≡ map (renamed_kind r) (kept_of (marks_after keep upto) (kinds_after (opening_in capture path arguments).kinds upto))
   pub no_more : spent_on again ≤ spent_on upto
 
@@ -52,4 +52,4 @@ answer_of told = None
 pub record ReachesEvaluation (script : ScriptTree) (capture : Capture) (path : List ℕ) (arguments : List (List ℕ)) (budget : ℕ) (keep : StmtSet) (at : Pos) (k : ℕ) (upto : List Moment) : Type 0 where
   pub simulates : Simulates script capture path arguments budget keep upto
   pub found : up_to_evaluation at k (told_by (deleted keep script) capture path arguments budget) ≡ Some simulates.again
-  pub answers : (r : Renaming) → Fits (marks_after keep upto) r → answer_of simulates.again ≡ option_map (renamed_answer r) (answer_of upto)
+  pub answers : (r : Renaming) → Fits (all_marks keep upto) r → answer_of simulates.again ≡ option_map (renamed_answer r) (answer_of upto)

@@ -8,7 +8,7 @@ ghost use Rattle.py_value.specs.Same.{same_value, same_location};
 ghost use Rattle.py_value.specs.Seen.{SeenLocation, SeenContent, SeenChange, SeenAccess};
 ghost use Rattle.py_model.specs.Occurrences.{sets_at};
 ghost use Rattle.py_model.specs.Renaming.{Renaming, renamed, renamed_list, renamed_location, renamed_content, renamed_change, renamed_access};
-ghost use Rattle.slice_runs.specs.Renaming.{marks_after, is_marked, rank, IsShifted, Matches, SameValue, SameValues, SameOp};
+ghost use Rattle.slice_runs.specs.Renaming.{all_marks, is_marked, rank, IsShifted, Matches, SameValue, SameValues, SameOp, SameScope};
 ghost use Rattle.prov_base.specs.declared.place.Pos.{Pos};
 ghost use Rattle.py_model.specs.Act.{Walked};
 ghost use Rattle.py_model.specs.Capture.{Capture};
@@ -65,12 +65,14 @@ pub fn accesses_keep_correspondence()
 }
 
 /// The law of numbers: renamings fit that give the objects of the script's run alone other numbers. So an object of a value that stands for
-/// another, whatever these numbers are, is there in both runs, with its number in the slice's.
+/// another, whatever these numbers are, is there in both runs, with its number in the slice's. So is it with activations.
 pub fn objects_of_both_runs_correspond()
-    ensures fits { (marks : List Bool) (more : ℕ) → IsShifted (true ∷ marks) more }
+    ensures fits { (objects activations : List Bool) (more : ℕ) → IsShifted (record { objects = true ∷ objects; activations = true ∷ activations }) more }
     ensures one { (marks : List Bool) (m n : ℕ) → is_marked marks m ≡ true → is_marked marks n ≡ true → rank marks m ≡ rank marks n → m ≡ n }
-    ensures named { (marks : List Bool) (o : ℕ) (w : Contents) → SameValue (true ∷ marks) (object o) w
-        → (is_marked (true ∷ marks) o ≡ true) × (w ≡ object (rank (true ∷ marks) o)) }
+    ensures named { (objects activations : List Bool) (o : ℕ) (w : Contents) → SameValue (record { objects = true ∷ objects; activations = true ∷ activations }) (object o) w
+        → (is_marked (true ∷ objects) o ≡ true) × (w ≡ object (rank (true ∷ objects) o)) }
+    ensures entered { (objects activations : List Bool) (a b : ℕ) → SameScope (record { objects = true ∷ objects; activations = true ∷ activations }) a b
+        → (is_marked (true ∷ activations) a ≡ true) × (b ≡ rank (true ∷ activations) a) }
 {}
 
 /// The law of kept moments: what a kept statement's operation does in a script's run it does in its slice's run. The two states stand for one
@@ -78,7 +80,7 @@ pub fn objects_of_both_runs_correspond()
 /// corresponds, and the states afterwards stand for one another. No operation is taken apart: it follows from the law of agreement.
 pub fn kept_moments_are_done_again()
     ensures { (capture : Capture) (script other : ScriptTree) (keep : StmtSet) (upto : List Moment) (at : Pos) (p q : Op) (vs ws : List Contents) (n : ℕ) (s t next : State) (answer : Answer) (came : Walked)
-        → Related capture (SamePlace script other) keep upto s t → keep n ≡ true → owner_stmt s.told ≡ Some n → SameOp (marks_after keep upto) p q → SameValues (marks_after keep upto) vs ws
+        → Related capture (SamePlace script other) keep upto s t → keep n ≡ true → owner_stmt s.told ≡ Some n → SameOp (all_marks keep upto) p q → SameValues (all_marks keep upto) vs ws
         → (may_ask p.no ≡ false) ⊎ (askings_at at t.askings ≡ askings_at at s.askings) → operation capture at p vs s ≡ did answer came next → (news : List Moment) → upto ≡ news ++ next.told
         → AllInReach keep s.told (accesses_in (effect_of capture at p vs s).touches) → DoneAgain capture (SamePlace script other) keep upto at q ws s t answer came next }
 {

@@ -1,4 +1,4 @@
-use Rattle.slice_runs.proofs.Ranks.{rank_one, shifted_fits, same_object}
+use Rattle.slice_runs.proofs.Ranks.{rank_one, shifted_fits, same_object, same_scope}
 use Rattle.slice_runs.proofs.laws.objects_of_both_runs_correspond.Goals as goal
 
 pub returns-clause-fits : goal.returns-clause-fits
@@ -9,3 +9,6 @@ returns-clause-one c = rank_one
 
 pub returns-clause-named : goal.returns-clause-named
 returns-clause-named c = same_object
+
+pub returns-clause-entered : goal.returns-clause-entered
+returns-clause-entered c = same_scope
