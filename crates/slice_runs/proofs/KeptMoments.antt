@@ -30,7 +30,7 @@ use Rattle.slice_runs.proofs.Touching.{kinds_grow, AlikeNotes, notes_after, same
 use Rattle.slice_runs.specs.Related.{IsThere, AllInReach, DoneAgain, ByAccess, OwnerIsKept, IsInReach, both_did, kept_of, Related}
 use Rattle.slice_runs.specs.Renaming.{is_kept, with_mark, marks_after, is_marked, rank, Fits, Matches, IsShifted, SameValues, SameOp, Marks, all_marks}
 
-by_access : (own earlier : Type 0) (a b : Bool) → ByAccess a b own earlier → (a ≡ true) ⊎ earlier
+pub by_access : (own earlier : Type 0) (a b : Bool) → ByAccess a b own earlier → (a ≡ true) ⊎ earlier
 by_access own earlier true b there = inl refl
 by_access own earlier false true there = inr there.1
 by_access own earlier false false there = inr there

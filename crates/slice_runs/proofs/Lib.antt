@@ -29,3 +29,4 @@ mod Nameless
 mod Values
 mod SilentRules
 mod Bareness
+mod Activations

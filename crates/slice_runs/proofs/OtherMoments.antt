@@ -28,7 +28,7 @@ use Rattle.slice_runs.specs.Related.{IsThere, IsUnnoted, ByAccess, OwnerIsKept, 
 use Rattle.slice_runs.specs.Renaming.{is_kept, with_mark, marks_after, Fits, Matches, all_marks}
 
 -- where the owner is not kept, neither set nor updated
-by_none : (own earlier : Type 0) (a b : Bool) → (own → ⊥) → ByAccess a b own earlier → (a ≡ false) × (b ≡ false) × earlier
+pub by_none : (own earlier : Type 0) (a b : Bool) → (own → ⊥) → ByAccess a b own earlier → (a ≡ false) × (b ≡ false) × earlier
 by_none own earlier true b none there = absurd (none there)
 by_none own earlier false true none there = absurd (none there.0)
 by_none own earlier false false none there = (refl, refl, there)
