@@ -10,11 +10,12 @@ use Rattle.py_value.specs.Seen.{SeenLocation, SeenAccess, var_at, len_at, item_a
 use Rattle.py_model.specs.Going.{Open, a_statement, an_activation}
 use Rattle.py_model.specs.History.{accesses_by}
 use Rattle.py_model.specs.Moment.{Moment, begins, does, enters, leaves, ends, Ending, normal_end, break_end, continue_end, return_end, raise_end}
-use Rattle.py_model.specs.Occurrences.{Frame, in_occurrence, in_activation, frames_after, without_top, open_of, reach, sets_at, updates_at}
+use Rattle.py_model.specs.Occurrences.{Occurrence, Frame, in_occurrence, in_activation, frames_after, without_top, innermost, open_of, reach, sets_at, updates_at}
 use Rattle.py_model.specs.Store.{RunStore}
 use Rattle.slice_law.specs.Closed.{StmtSet, IsIn, store_after, IsClosed}
-use Rattle.slice_law.specs.Edges.{Edge, edge, by_data, by_control, by_jump, to_each, from_option, owner_stmt, stmt_at, stmts_at, reach_stmts, unset_local, read_asks, reads_ask, is_abrupt, asks_for_jump, asks, run_asks, parents_asked, module_jumps, asked_by_value}
-use Rattle.slice_runs.proofs.Beside.{TopIsKept}
+use Rattle.slice_law.specs.Edges.{Edge, edge, by_data, by_control, by_jump, to_each, from_option, owner_stmt, stmt_at, stmts_at, reach_stmts, unset_local, read_asks, reads_ask, is_abrupt, caller, asks_for_jump, asks, run_asks, parents_asked, module_jumps, asked_by_value}
+use Rattle.slice_runs.proofs.Beside.{InnermostIs, TopIsKept, CallerIsOut}
+use Rattle.std.proofs.lemmas.Bool.{false≢true}
 use Rattle.slice_runs.specs.Related.{ByAccess, OwnerIsKept, IsInReach, AllInReach}
 use Rattle.slice_runs.specs.Under.{UnderSuite, UnderStmt, UnderForm, UnderBranches, UnderElse, UnderHandlers}
 
@@ -159,6 +160,39 @@ module _ (keep : StmtSet) where
     jump_here return_end abrupt n before is = first_jump (without_top (frames_after before)) n (module_jumps before) is
     jump_here raise_end abrupt n before is = first_jump (without_top (frames_after before)) n (module_jumps before) is
 
+    -- the statement that called
+    record IsInner (mark : Bool) (frames : List Frame) : Type 0 where
+      inner : Occurrence
+      is_inner : innermost frames ≡ Some inner
+      mark_is : keep inner.stmt ≡ mark
+
+    inner_is : (mark : Bool) (frames : List Frame) (from : List Open) → map open_of frames ≡ from → InnermostIs mark keep from → IsInner mark frames
+    inner_is mark [] from is inner = absurd (subst (InnermostIs mark keep) (sym is) inner)
+    inner_is mark (in_occurrence o ∷ frames) from is inner = record { inner = o; is_inner = refl; mark_is = subst (InnermostIs mark keep) (sym is) inner }
+    inner_is mark (in_activation time ∷ frames) from is inner =
+        let below : IsInner mark frames = inner_is mark frames (map open_of frames) refl (subst (InnermostIs mark keep) (sym is) inner) in
+        record { inner = below.inner; is_inner = below.is_inner; mark_is = below.mark_is }
+
+    caller_is : (frames : List Frame) (from : List Open) → map open_of frames ≡ from → CallerIsOut keep from → (o : Occurrence) × (_ : caller script frames ≡ Some o) × (keep o.stmt ≡ false)
+    caller_is [] from is out = absurd (subst (CallerIsOut keep) (sym is) out)
+    caller_is (in_occurrence o ∷ frames) from is out = caller_is frames (map open_of frames) refl (subst (CallerIsOut keep) (sym is) out)
+    caller_is (in_activation time ∷ frames) from is out =
+        let inner : IsInner false frames = inner_is false frames (map open_of frames) refl (subst (CallerIsOut keep) (sym is) out) in
+        (inner.inner, inner.is_inner, inner.mark_is)
+
+    -- what begins in an activation asks for the statement that called
+    pub calls_kept : (news before : List Moment) (n : ℕ) (from : List Open) → upto ≡ news ++ begins n ∷ before → map open_of (frames_after before) ≡ from → CallerIsOut keep from → keep n ≡ false
+    calls_kept news before n from is frames out = by_test (keep n) refl
+      where
+        called : (o : Occurrence) × (_ : caller script (frames_after before) ≡ Some o) × (keep o.stmt ≡ false)
+        called = caller_is (frames_after before) from frames out
+
+        by_test : (test : Bool) → keep n ≡ test → keep n ≡ false
+        by_test false is_out = is_out
+        by_test true kept =
+            absurd (false≢true (sym called.2 ∙ asked_kept news before (begins n) (edge by_control n called.0.stmt) is
+            (subst (λ found. IsIn (elim found [ None ↦ [] | Some o ↦ edge by_control n o.stmt ∷ [] ]) (edge by_control n called.0.stmt)) (sym called.1) (inl refl)) kept))
+
     jump_kept : (news before : List Moment) (n : ℕ) (ended : Ending) (from : List Open) → upto ≡ news ++ ends n ended ∷ before → (ended ≡ normal_end → ⊥)
         → (frames : List Frame) → frames_after before ≡ frames → map open_of frames ≡ a_statement n ∷ from → TopIsKept keep from → keep n ≡ true
     jump_kept news before n ended from is abrupt [] at open_is top = absurd cc
@@ -166,7 +200,16 @@ module _ (keep : StmtSet) where
         closed.has_roots n (in_behind (asked_by_value (store_after opening upto) upto) (module_jumps upto) n
         (subst (λ told. IsIn (module_jumps told) n) (sym is) (jump_stays news (ends n ended ∷ before) n (jump_here ended abrupt n before (ap without_top at)))))
     jump_kept news before n ended [] is abrupt (frame ∷ other ∷ frames) at open_is top = absurd cc
-    jump_kept news before n ended (an_activation ∷ from) is abrupt (frame ∷ other ∷ frames) at open_is top = absurd top
+    jump_kept news before n ended (an_activation ∷ from) is abrupt (frame ∷ in_occurrence o ∷ frames) at open_is top = absurd cc
+    jump_kept news before n ended (an_activation ∷ from) is abrupt (frame ∷ in_activation time ∷ frames) at open_is top =
+        let under : map open_of frames ≡ from = cc in
+        let called : IsInner true frames = inner_is true frames from under top in
+        asked_kept news before (ends n ended) (edge by_jump called.inner.stmt n) is
+        (subst (λ found. IsIn (if found then elim (asks_for_jump script (without_top (frames_after before))) [ None ↦ [] | Some own ↦ edge by_jump own.stmt n ∷ [] ] else []) (edge by_jump called.inner.stmt n))
+        (sym (abruptly ended abrupt))
+        (subst (λ frames. IsIn (elim (asks_for_jump script (without_top frames)) [ None ↦ [] | Some own ↦ edge by_jump own.stmt n ∷ [] ]) (edge by_jump called.inner.stmt n)) (sym at)
+        (subst (λ own. IsIn (elim own [ None ↦ [] | Some own ↦ edge by_jump own.stmt n ∷ [] ]) (edge by_jump called.inner.stmt n)) (sym called.is_inner) (inl refl))))
+        called.mark_is
     jump_kept news before n ended (a_statement p ∷ from) is abrupt (frame ∷ in_activation time ∷ frames) at open_is top = absurd cc
     jump_kept news before n ended (a_statement p ∷ from) is abrupt (frame ∷ in_occurrence o ∷ frames) at open_is top =
         let same : o.stmt ≡ p = cc in

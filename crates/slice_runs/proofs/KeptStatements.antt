@@ -15,7 +15,7 @@ use Rattle.py_tree.specs.Deletion.{or_pass, kept_suite, kept_stmt, kept_form, ke
 use Rattle.py_tree.specs.Numbering.{size_stmt, size_suite, size_branches, numbered_stmt, numbered_form, numbered_suite, numbered_branches, numbered_else, numbered_handlers}
 use Rattle.py_model.specs.Meaning.{level}
 use Rattle.py_model.specs.Moment.{Moment, normal_end}
-use Rattle.slice_runs.proofs.Beside.{SameHow, both_normal, both_broke, both_continued, both_returned, both_threw, TopIsKept, Beside, unreached, both_ret, stopped, both_begin, alone_begin, pass_begin, both_close, alone_close, abrupt_close, less, beside_to, beside_after}
+use Rattle.slice_runs.proofs.Beside.{SameHow, both_normal, both_broke, both_continued, both_returned, both_threw, TopIsKept, Beside, unreached, both_ret, stopped, both_begin, alone_begin, pass_begin, both_close, alone_close, abrupt_close, barred_begin, less, beside_to, beside_after}
 use Rattle.slice_runs.proofs.KeptExpressions.{Same, AllSame, In, SameClass, no_class, one_class, SameHandled, none_handled, one_handled, BothHere, truth_both, none_same, more_same, one_same, plain_op, whole_op, scoped_whole, scoped_op, module_same, ended, in_less, doing_on, doing_both, doing_or_on, asking_on, asking_both, eval_both, store_both, augment_both, unset_both}
 use Rattle.slice_runs.proofs.OutsideRules.{Out, HasNone, under_none, rule_out, levels_out}
 use Rattle.slice_runs.specs.Renaming.{all_marks}
@@ -87,6 +87,7 @@ module _ (P Q : ℕ → Pos → Type 0) (keep : StmtSet) (upto : List Moment) wh
   passing : {k n m : ℕ} {from onto : List Open} {a : Act} → names n m → Beside names keep (all_marks keep upto) (suc k) from onto (begin n a) (ret normal)
       → Beside names keep (all_marks keep upto) (suc k) from onto (begin n a) (begin m (close m normal_end (ret normal)))
   passing {k} named (alone_begin out rest) = pass_begin out named (less names keep (all_marks keep upto) k rest)
+  passing named (barred_begin kept out) = barred_begin kept out
 
   raised_same : {one other : Option ℕ} → SameHandled names keep upto one other → AllSame names keep upto (raised_value one) (raised_value other)
   raised_same none_handled = none_same names keep upto

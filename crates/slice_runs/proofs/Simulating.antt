@@ -6,22 +6,23 @@ use Rattle.prov_base.specs.declared.place.Pos.{Pos}
 use Rattle.prov_base.specs.contracts.place.PosPartialEq.TheImpl.{ghosts as places}
 use Rattle.py_value.specs.Contents.{Contents, object}
 use Rattle.py_value.specs.Seen.{SeenAccess, SeenKind}
-use Rattle.py_model.specs.Act.{Act, Walked, perform, begin, close}
+use Rattle.py_model.specs.Act.{Act, Walked, perform, begin, close, enter, leave}
 use Rattle.py_model.specs.Capture.{Capture}
 use Rattle.py_model.specs.Effect.{Effect, accesses_in, weight}
-use Rattle.py_model.specs.Going.{Open, a_statement}
+use Rattle.py_model.specs.Going.{Open, a_statement, an_activation}
 use Rattle.py_model.specs.History.{held, kinds_after, with_kind}
-use Rattle.py_model.specs.Moment.{Moment, begins, does, ends, Ending, normal_end}
+use Rattle.py_model.specs.Moment.{Moment, begins, does, leaves, ends, Ending, normal_end, parameters_set}
 use Rattle.py_model.specs.Occurrences.{Occurrence, Frame, in_occurrence, in_activation, frames_after, without_top, innermost, open_of}
 use Rattle.py_model.specs.Operations.{Op}
 use Rattle.py_model.specs.Plan.{Answer, value, raised, at_end}
 use Rattle.py_model.specs.Quiet.{may_ask}
 use Rattle.py_model.specs.Renaming.{renamed, renamed_answer}
-use Rattle.py_model.specs.Running.{State, askings_at, Ended, spent, lacking, state_in, Happened, did, too_dear, lacked, effect_of, operation, outcome, beginning, tell}
+use Rattle.py_model.specs.Running.{State, askings_at, Ended, spent, lacking, state_in, Happened, did, too_dear, lacked, effect_of, operation, outcome, beginning, entering, tell}
 use Rattle.py_model.specs.Store.{RunStore}
 use Rattle.slice_law.specs.Closed.{StmtSet}
 use Rattle.slice_law.specs.Edges.{owner_stmt}
-use Rattle.slice_runs.proofs.Beside.{TopIsKept, Beside, unreached, both_ret, stopped, both_perform, alone_perform, both_begin, alone_begin, pass_begin, both_close, alone_close, abrupt_close}
+use Rattle.slice_runs.proofs.Beside.{TopIsKept, CallerIsOut, Beside, unreached, both_ret, stopped, both_perform, alone_perform, both_begin, alone_begin, pass_begin, both_close, alone_close, abrupt_close, both_enter, alone_enter, both_leave, alone_leave, barred_begin}
+use Rattle.slice_runs.proofs.Activations.{alone_enter_related, same_activation, enter_paid, both_enter_related, both_leave_related, alone_leave_related}
 use Rattle.slice_runs.proofs.Happenings.{Laws}
 use Rattle.slice_runs.proofs.KeptMoments.{kept_moment}
 use Rattle.slice_runs.proofs.Marks.{shifts}
@@ -30,7 +31,7 @@ use Rattle.py_value.specs.Changes.{after_accesses}
 use Rattle.slice_runs.proofs.Touching.{kinds_grow}
 use Rattle.slice_runs.proofs.OtherMoments.{deleted_moment, deleted_askings, begin_paid, both_begin_related, alone_begin_related, pass_related, both_end_related, alone_end_related}
 use Rattle.slice_runs.specs.Related.{Related, AllInReach, DoneAgain, IsUnnoted}
-use Rattle.slice_runs.specs.Renaming.{SameValue, IsShifted, Marks, all_marks}
+use Rattle.slice_runs.specs.Renaming.{SameValue, SameScope, IsShifted, Marks, all_marks}
 
 value_same : (v w : Contents) → value v ≡ value w → v ≡ w
 value_same v w is = cc
@@ -47,6 +48,21 @@ owner_in told n from is = by_frames (frames_after told) is
     by_frames (in_occurrence o ∷ frames) is = cc
     by_frames (in_activation time ∷ frames) is = absurd cc
 
+-- in an activation it is the statement that called
+owner_inside : (told : List Moment) (n : ℕ) (from : List Open) → map open_of (frames_after told) ≡ an_activation ∷ (a_statement n ∷ from) → owner_stmt told ≡ Some n
+owner_inside told n from is = by_frames (frames_after told) is
+  where
+    by_frames : (frames : List Frame) → map open_of frames ≡ an_activation ∷ (a_statement n ∷ from) → option_map (λ (o : Occurrence). o.stmt) (innermost frames) ≡ Some n
+    by_frames [] is = absurd cc
+    by_frames (in_occurrence o ∷ frames) is = absurd cc
+    by_frames (in_activation time ∷ []) is = absurd cc
+    by_frames (in_activation time ∷ in_activation other ∷ frames) is = absurd cc
+    by_frames (in_activation time ∷ in_occurrence o ∷ frames) is = cc
+
+left_frames : (frames : List Frame) (from : List Open) → map open_of frames ≡ an_activation ∷ from → map open_of (without_top frames) ≡ from
+left_frames [] from is = absurd cc
+left_frames (frame ∷ frames) from is = cc
+
 pub closed_frames : (frames : List Frame) (n : ℕ) (from : List Open) → map open_of frames ≡ a_statement n ∷ from → map open_of (without_top frames) ≡ from
 closed_frames [] n from is = absurd cc
 closed_frames (frame ∷ frames) n from is = cc
@@ -61,6 +77,13 @@ held_after : (laws : Laws) (opening : RunStore) (at : Pos) (p : Op) (vs : List C
 held_after laws opening at p vs e s answer u came held_so = record {
   map_is = ap (λ (store : RunStore). store.at) came.store_is ∙ (laws.changes e s.store ∙ (ap (after_accesses (accesses_in e.touches)) held_so.map_is ∙ sym (ap (held opening.at) came.told_is)));
   kinds_are = ap (λ (store : RunStore). store.kinds) came.store_is ∙ (kinds_grow e s.store ∙ (ap (with_kind e.made) held_so.kinds_are ∙ sym (ap (kinds_after opening.kinds) came.told_is)));
+}
+
+-- So it is where an activation was entered.
+entered_held : (opening : RunStore) (at def : Pos) (params : List (List ℕ)) (vs : List Contents) (s : State) → IsHeld opening s → IsHeld opening (entering at def params vs s)
+entered_held opening at def params vs s held_so = record {
+  map_is = ap (after_accesses (parameters_set (suc s.entered) params vs)) held_so.map_is;
+  kinds_are = held_so.kinds_are;
 }
 
 pub record Holds (opening : RunStore) (OnlyKept : Pos → Type 0) (s t : State) : Type 0 where
@@ -102,6 +125,8 @@ module _ (capture : Capture) (keep : StmtSet) (opening : RunStore) (upto : List 
         → upto ≡ news ++ does at number values answer made accesses size ∷ before → owner_stmt before ≡ Some n → keep n ≡ true → AllInReach keep before accesses
     pub jumps : (news before : List Moment) (n : ℕ) (ended : Ending) (from : List Open) → upto ≡ news ++ ends n ended ∷ before → (ended ≡ normal_end → ⊥)
         → map open_of (frames_after before) ≡ a_statement n ∷ from → TopIsKept keep from → keep n ≡ true
+    -- what begins in an activation that a statement entered which is not kept
+    pub calls : (news before : List Moment) (n : ℕ) (from : List Open) → upto ≡ news ++ begins n ∷ before → map open_of (frames_after before) ≡ from → CallerIsOut keep from → keep n ≡ false
     -- a place at which something is asked is of kept statements alone, or of none
     pub asking : (news before : List Moment) (at : Pos) (number : ℕ) (values : List Contents) (answer : Answer) (made : Option SeenKind) (accesses : List SeenAccess) (size n : ℕ)
         → upto ≡ news ++ does at number values answer made accesses size ∷ before → owner_stmt before ≡ Some n → may_ask number ≡ true → keep n ≡ true → OnlyKept at
@@ -309,6 +334,64 @@ module _ (capture : Capture) (keep : StmtSet) (opening : RunStore) (upto : List 
       where
         told_on : Through capture keep opening upto (outcome capture (close n ended a) s) → Through capture keep opening upto (outcome capture a (tell (ends n ended) s))
         told_on through = record { rest = through.rest; told_is = through.told_is; unnoted = through.unnoted }
+    simulate {k = suc k} (both_enter {n = n} {from = from} {at = at} {def = def} {params = params} {vs = vs} {ws = ws} {f = f} {g = g} kept same each) s t related holds frames few before through =
+        by_left (nat_le (suc (length vs)) s.left) through (λ now. simulate (each (suc s.entered) (suc t.entered) now) (entering at def params vs s) (entering at def params ws t))
+      where
+        owner : owner_stmt s.told ≡ Some n
+        owner = owner_in s.told n from frames
+
+        by_left : (enough : Bool) → Through capture keep opening upto (if enough then outcome capture (f (suc s.entered)) (entering at def params vs s) else spent s)
+            → (SameScope marks (suc s.entered) (suc t.entered) → Related capture names keep upto (entering at def params vs s) (entering at def params ws t) → Holds opening OnlyKept (entering at def params vs s) (entering at def params ws t)
+            → map open_of (frames_after (entering at def params vs s).told) ≡ an_activation ∷ (a_statement n ∷ from) → (entering at def params ws t).left < k → suc (length s.told) < length upto
+            → Through capture keep opening upto (outcome capture (f (suc s.entered)) (entering at def params vs s)) → Reaches (outcome capture (g (suc t.entered)) (entering at def params ws t)))
+            → Reaches (outcome capture (enter at def params ws g) t)
+        by_left false through on = absurd (not_yet capture keep opening upto s refl before through)
+        by_left true through on =
+            let within : IsEndOf (entering at def params vs s).told upto = told_within capture keep opening upto (f (suc s.entered)) (entering at def params vs s) (omega (arith, before)) through in
+            let pays : suc (length ws) ≤ t.left = enter_paid laws capture names keep upto at def params vs n s t related owner ws kept same within.front within.whole_is in
+            let held_now : Holds opening OnlyKept (entering at def params vs s) (entering at def params ws t) = record { here = entered_held opening at def params vs s holds.here; there = entered_held opening at def params ws t holds.there; askings = holds.askings } in
+            let now : Related capture names keep upto (entering at def params vs s) (entering at def params ws t) = both_enter_related laws capture names keep upto at def params vs n s t related owner ws kept same within.front within.whole_is in
+            subst Reaches (ap (λ test. if test then outcome capture (g (suc t.entered)) (entering at def params ws t) else spent t) (sym (le-leb (suc (length ws)) t.left pays)))
+            (arrive (f (suc s.entered)) (g (suc t.entered)) (entering at def params vs s) (entering at def params ws t) now held_now (omega (arith, before)) through
+            (λ early. on (same_activation laws capture names keep upto at def params vs n s t related owner ws kept same within.front within.whole_is) now held_now
+            (ap (λ (open_ones : List Open). an_activation ∷ open_ones) frames) (omega (arith, few, pays)) early through))
+    simulate (alone_enter {k = k} {n = n} {from = from} {at = at} {def = def} {params = params} {vs = vs} {f = f} {b = b} out each) s t related holds frames few before through =
+        by_left (nat_le (suc (length vs)) s.left) through (simulate (each (suc s.entered)) (entering at def params vs s) t)
+      where
+        by_left : (enough : Bool) → Through capture keep opening upto (if enough then outcome capture (f (suc s.entered)) (entering at def params vs s) else spent s)
+            → (Related capture names keep upto (entering at def params vs s) t → Holds opening OnlyKept (entering at def params vs s) t
+            → map open_of (frames_after (entering at def params vs s).told) ≡ an_activation ∷ (a_statement n ∷ from) → t.left < k → suc (length s.told) < length upto
+            → Through capture keep opening upto (outcome capture (f (suc s.entered)) (entering at def params vs s)) → Reaches (outcome capture b t))
+            → Reaches (outcome capture b t)
+        by_left false through on = absurd (not_yet capture keep opening upto s refl before through)
+        by_left true through on =
+            let held_now : Holds opening OnlyKept (entering at def params vs s) t = record { here = entered_held opening at def params vs s holds.here; there = holds.there; askings = holds.askings } in
+            let now : Related capture names keep upto (entering at def params vs s) t = alone_enter_related laws capture names keep upto at def params vs n s t related (owner_in s.told n from frames) out in
+            arrive (f (suc s.entered)) b (entering at def params vs s) t now held_now (omega (arith, before)) through
+            (λ early. on now held_now (ap (λ (open_ones : List Open). an_activation ∷ open_ones) frames) few early through)
+    simulate (both_leave {n = n} {from = from} {v = v} {w = w} {a = a} {b = b} kept same rest) s t related holds frames few before through =
+        let held_now : Holds opening OnlyKept (tell (leaves v) s) (tell (leaves w) t) = record { here = record { map_is = holds.here.map_is; kinds_are = holds.here.kinds_are }; there = record { map_is = holds.there.map_is; kinds_are = holds.there.kinds_are }; askings = holds.askings } in
+        let now : Related capture names keep upto (tell (leaves v) s) (tell (leaves w) t) = both_leave_related laws capture names keep upto v w n s t related (owner_inside s.told n from frames) kept same in
+        arrive a b (tell (leaves v) s) (tell (leaves w) t) now held_now (omega (arith, before)) (told_on through)
+        (λ early. simulate rest (tell (leaves v) s) (tell (leaves w) t) now held_now (left_frames (frames_after s.told) (a_statement n ∷ from) frames) few early (told_on through))
+      where
+        told_on : Through capture keep opening upto (outcome capture (leave v a) s) → Through capture keep opening upto (outcome capture a (tell (leaves v) s))
+        told_on through = record { rest = through.rest; told_is = through.told_is; unnoted = through.unnoted }
+    simulate (alone_leave {n = n} {from = from} {v = v} {a = a} {b = b} out rest) s t related holds frames few before through =
+        let held_now : Holds opening OnlyKept (tell (leaves v) s) t = record { here = record { map_is = holds.here.map_is; kinds_are = holds.here.kinds_are }; there = record { map_is = holds.there.map_is; kinds_are = holds.there.kinds_are }; askings = holds.askings } in
+        let now : Related capture names keep upto (tell (leaves v) s) t = alone_leave_related laws capture names keep upto v v n s t related (owner_inside s.told n from frames) out in
+        arrive a b (tell (leaves v) s) t now held_now (omega (arith, before)) (told_on through)
+        (λ early. simulate rest (tell (leaves v) s) t now held_now (left_frames (frames_after s.told) (a_statement n ∷ from) frames) few early (told_on through))
+      where
+        told_on : Through capture keep opening upto (outcome capture (leave v a) s) → Through capture keep opening upto (outcome capture a (tell (leaves v) s))
+        told_on through = record { rest = through.rest; told_is = through.told_is; unnoted = through.unnoted }
+    simulate (barred_begin {n = n} {from = from} {a = a} {b = b} kept out) s t related holds frames few before through = by_left (nat_le 1 s.left) through
+      where
+        by_left : (enough : Bool) → Through capture keep opening upto (if enough then outcome capture a (beginning n s) else spent s) → Reaches (outcome capture b t)
+        by_left false through = absurd (not_yet capture keep opening upto s refl before through)
+        by_left true through =
+            let within : IsEndOf (begins n ∷ s.told) upto = told_within capture keep opening upto a (beginning n s) (omega (arith, before)) through in
+            absurd (false≢true (sym (asks.calls within.front s.told n from within.whole_is frames out) ∙ kept))
     simulate (abrupt_close {n = n} {from = from} {ended = ended} {a = a} {b = b} out top abrupt) s t related holds frames few before through =
         let within : IsEndOf (ends n ended ∷ s.told) upto = told_within capture keep opening upto a (tell (ends n ended) s) (omega (arith, before)) (told_on through) in
         absurd (false≢true (sym out ∙ asks.jumps within.front s.told n ended from within.whole_is abrupt frames top))

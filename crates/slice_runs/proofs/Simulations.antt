@@ -15,7 +15,7 @@ use Rattle.py_model.specs.Store.{opening, unset, with_items, with_files}
 use Rattle.slice_law.specs.Closed.{StmtSet, IsClosed, IsIn}
 use Rattle.slice_law.specs.Slices.{told_by}
 use Rattle.slice_runs.proofs.Beside.{Beside}
-use Rattle.slice_runs.proofs.Closedness.{reach_in, reads_kept, jumps_kept, body_under}
+use Rattle.slice_runs.proofs.Closedness.{reach_in, reads_kept, jumps_kept, calls_kept, body_under}
 use Rattle.py_model.specs.Functions.{functions_in}
 use Rattle.slice_runs.proofs.Functionless.{none_in, none_left}
 use Rattle.slice_runs.proofs.Happenings.{Laws}
@@ -139,6 +139,7 @@ module _ (laws : Laws) (script : ScriptTree) (capture : Capture) (path : List â„
       asks = record {
         reads = reads_kept keep script (opening_in capture path arguments) upto closed;
         jumps = jumps_kept keep script (opening_in capture path arguments) upto closed;
+        calls = calls_kept keep script (opening_in capture path arguments) upto closed;
         asking = asking_kept script capture path arguments steps keep upto well.apart own;
         asking_out = asking_apart script capture path arguments steps keep upto own;
       }
