@@ -17,7 +17,7 @@ use Rattle.py_model.specs.Meaning.{level}
 use Rattle.py_model.specs.Moment.{Moment, normal_end}
 use Rattle.slice_runs.proofs.Beside.{SameHow, both_normal, both_broke, both_continued, both_returned, both_threw, TopIsKept, Beside, unreached, both_ret, stopped, both_begin, alone_begin, pass_begin, both_close, alone_close, abrupt_close, barred_begin, less, beside_to, beside_after}
 use Rattle.slice_runs.proofs.KeptExpressions.{Same, AllSame, In, SameClass, no_class, one_class, SameHandled, none_handled, one_handled, BothHere, truth_both, none_same, more_same, one_same, plain_op, whole_op, scoped_whole, scoped_op, module_same, ended, in_less, doing_on, doing_both, doing_or_on, asking_on, asking_both, eval_both, store_both, augment_both, unset_both}
-use Rattle.slice_runs.proofs.OutsideRules.{Out, HasNone, under_none, rule_out, levels_out}
+use Rattle.slice_runs.proofs.OutsideRules.{Alone, TurnsAlone, BodiesAlone, under_none, rule_alone, bodies_out, levels_alone}
 use Rattle.slice_runs.specs.Renaming.{all_marks}
 use Rattle.slice_runs.proofs.Standing.{AllOwned, owned_left, owned_right}
 use Rattle.slice_runs.specs.Owned.{started_suite, started_stmt, started_form, started_branches, started_else, started_handlers}
@@ -183,11 +183,11 @@ module _ (P Q : ℕ → Pos → Type 0) (keep : StmtSet) (upto : List Moment) wh
           in_so going _ _ (both_returned same) = ended names keep upto (both_returned same)
           in_so going _ _ (both_threw same) = ended names keep upto (both_threw same)
 
-      module _ (tasks : TasksBoth k next other) (alone : (what : Task) → HasNone keep what → Out keep (next what)) where
+      module _ (tasks : TasksBoth k next other) (bodies : BodiesAlone keep next) (alone : (what : Task) → TurnsAlone keep what → Alone keep (next what)) where
         -- a statement that is not kept
         stmt_alone : (here : Here) (s : StmtTree) → keep (number_of s) ≡ false → UnderStmt keep true s → Suites (suc k) (stmt script next here s) (ret normal)
         stmt_alone here (one_stmt number at span form) out under from top =
-            alone_begin out (beside_after keep names (all_marks keep upto) (rule_out keep script none_here next alone (on_line at.line here) at form (under_none keep number form out under.1) number from out)
+            alone_begin out (beside_after keep names (all_marks keep upto) (rule_alone keep script next bodies alone (on_line at.line here) at form (under_none keep number form out under.1) number from out)
             (close_alone out top))
 
         -- a suite whose owner is kept
@@ -336,4 +336,4 @@ module _ (P Q : ℕ → Pos → Type 0) (keep : StmtSet) (upto : List Moment) wh
     levels_both zero n what task same number from kept = unreached
     levels_both (suc k) zero what task same number from kept = stopped
     levels_both (suc k) (suc n) what task same number from kept =
-        task_both script cut none_here none_there (level script n) (level cut k) k (levels_both k n) (levels_out keep script none_here n) what task same number from kept
+        task_both script cut none_here none_there (level script n) (level cut k) k (levels_both k n) (bodies_out keep script n) (levels_alone keep script n) what task same number from kept

@@ -1,7 +1,7 @@
 -- What the rules of the language give for a statement outside the set, and all in it: actions of statements outside the set alone.
-use Rattle.std.proofs.Common.{◌≡◌, ◌+◌, ℕ, zero, suc, Bool, true, false, if◌then◌else◌, List, [], ◌∷◌, length, Option, Some, None, refl, subst, sym}
+use Rattle.std.proofs.Common.{◌≡◌, ◌+◌, ℕ, zero, suc, Bool, true, false, if◌then◌else◌, List, [], ◌∷◌, length, Option, Some, None, refl, subst, sym, ◌∙◌}
 use Rattle.std.proofs.lemmas.Bool.{false≢true}
-use Rattle.std.specs.Prelude.{nat_lt, pos, slice_get, ◌-◌}
+use Rattle.std.specs.Prelude.{nat_eq, nat_lt, pos, ⊤, slice_get, ◌-◌}
 use Rattle.prov_base.specs.declared.place.Pos.{Pos}
 use Rattle.py_tree.specs.declared.expr.LogicOp.TheVariants.{And as Both, Or as Either}
 use Rattle.py_tree.specs.declared.expr.BinOp.{BinOp}
@@ -9,22 +9,18 @@ use Rattle.py_tree.specs.declared.stmt.Bound.{Bound}
 use Rattle.py_tree.specs.Tree.{ExprTree, MaybeTree, ExprsTree, PairsTree, TargetTree, TargetsTree, StmtTree, FormTree, SuiteTree, BranchesTree, ElseTree, HandlersTree, ScriptTree, const_expr, var_expr, unary_expr, binary_expr, compare_expr, logic_expr, choose_expr, call_expr, attr_expr, part_expr, range_expr, list_expr, dict_expr, tuple_expr, no_expr, some_expr, end_exprs, more_exprs, end_pairs, more_pairs, var_target, part_target, field_target, many_target, end_targets, more_targets, one_stmt, do_form, assign_form, aug_form, del_form, pass_form, break_form, continue_form, return_form, raise_form, assert_form, import_form, if_form, while_form, for_form, try_form, with_form, def_form, class_form, end_suite, more_suite, end_branches, more_branches, no_else, else_suite, end_handlers, more_handlers}
 use Rattle.py_value.specs.Contents.{Contents, Parts, nothing, truth, int, text, tuple, range, function, class, exception_class, builtin, object}
 use Rattle.py_model.specs.Act.{Act, How, Walked, ret, to, normal, broke, continued, returned, threw}
-use Rattle.py_model.specs.Expressions.{Here, Task, body_of, while_again, for_again, scope_of, op, op_named, op_scoped, op_of, by_answer, doing, doing_or, walking, by_truth, asking_truth, eval, eval_maybe, eval_all, eval_pairs, failing, giving, calling_function, without_init, initialising, calling_class, calling_builtin, calling_method, calling, with_receiver, calling_attribute, takes_so_many, function_arities, method_arities, not_callable, wrong_arguments, constant, unary_number, binary_number, compare_number}
-use Rattle.py_model.specs.Functions.{expr_place, function_at}
-use Rattle.py_model.specs.Going.{Open, a_statement}
+use Rattle.py_model.specs.Expressions.{Here, Task, body_of, while_again, for_again, scope_of, op, op_named, op_scoped, op_of, by_answer, doing, doing_or, walking, by_truth, asking_truth, eval, eval_maybe, eval_all, eval_pairs, failing, giving, left_with, inside, running, calling_function, without_init, initialising, calling_class, calling_builtin, calling_method, calling, with_receiver, calling_attribute, takes_so_many, function_arities, method_arities, not_callable, wrong_arguments, too_many_open, constant, unary_number, binary_number, compare_number}
+use Rattle.py_model.specs.Functions.{Function, expr_place, function_at}
+use Rattle.py_model.specs.Going.{Open, a_statement, an_activation}
 use Rattle.py_model.specs.Operations.{Op}
 use Rattle.py_model.specs.Plan.{Answer, value, raised, at_end}
 use Rattle.py_model.specs.Statements.{op_whole, module_of, on_line, handling, in_class_of, parts_in, first_of, rest_of, binding, unbinding, turned, then_so, raised_value, store, store_all, augment, unset, while_turn, for_turn, clause, caught, matching, class_body, failed_assert, defining, suite, stmt, rule, choose, otherwise, handle, task, augmented_number, count_targets}
 use Rattle.slice_law.specs.Closed.{StmtSet}
 use Rattle.py_model.specs.Meaning.{level}
-use Rattle.slice_runs.proofs.Beside.{Outside, out_ret, out_stop, out_perform, out_begin, out_close, out_to}
+use Rattle.slice_runs.proofs.Beside.{CallerIsOut, Outside, out_ret, out_stop, out_perform, out_begin, out_close, out_enter, out_leave, out_barred, out_to}
 use Rattle.slice_runs.specs.Under.{UnderSuite, UnderStmt, UnderForm, UnderBranches, UnderElse, UnderHandlers}
 
 module _ (keep : StmtSet) where
-  -- inside any statement that is not kept
-  abbrev pub Out : Act → Type 0
-  Out a = (n : ℕ) (from : List Open) → keep n ≡ false → Outside keep (a_statement n ∷ from) (a_statement n ∷ from) a
-
   -- what stands in a statement that is not kept is not kept
   pub not_kept : (n : ℕ) → (keep n ≡ true → false ≡ true) → keep n ≡ false
   not_kept n under = by_test (keep n) refl
@@ -36,11 +32,28 @@ module _ (keep : StmtSet) where
   pub under_none : (n : ℕ) (form : FormTree) → keep n ≡ false → UnderForm keep (keep n) form → UnderForm keep false form
   under_none n form is under = subst (λ around. UnderForm keep around form) is under
 
+-- Some statements are not kept: those outside a set. Of the others none begins where something holds of what is open.
+module _ (keep low : StmtSet) (A : List Open → Type 0) (bar : (n : ℕ) (from : List Open) → low n ≡ false → keep n ≡ true → A from → CallerIsOut keep from)
+    (push : (n : ℕ) (from : List Open) → A from → A (a_statement n ∷ from)) where
+  -- inside any statement that is not kept
+  abbrev pub Out : Act → Type 0
+  Out a = (n : ℕ) (from : List Open) → keep n ≡ false → A (a_statement n ∷ from) → Outside keep (a_statement n ∷ from) (a_statement n ∷ from) a
+
+  -- in a suite
+  abbrev pub OutFrom : Act → Type 0
+  OutFrom a = (from : List Open) → A from → Outside keep from from a
+
+  inside_out : {a : Act} → OutFrom a → Out a
+  inside_out going n from out holds = going (a_statement n ∷ from) holds
+
   ended : (how : How) → Out (ret how)
-  ended how n from out = out_ret
+  ended how n from out holds = out_ret
 
   then_out : {a : Act} {f : How → Act} → Out a → ((how : How) → Out (f how)) → Out (to a f)
-  then_out first each n from out = out_to keep (first n from out) (λ how. each how n from out)
+  then_out first each n from out holds = out_to keep (first n from out holds) (λ how. each how n from out holds)
+
+  then_from : {a : Act} {f : How → Act} → OutFrom a → ((how : How) → OutFrom (f how)) → OutFrom (to a f)
+  then_from first each from holds = out_to keep (first from holds) (λ how. each how from holds)
 
   out_if : {a b : Act} (test : Bool) → Out a → Out b → Out (if test then a else b)
   out_if true first second = first
@@ -52,13 +65,13 @@ module _ (keep : StmtSet) where
   answer_out here at_last each at_end = at_last
 
   doing_out : (here : Here) (at : Pos) (p : Op) (values : List Contents) {go : Contents → Act} → ((v : Contents) → Out (go v)) → Out (doing here at p values go)
-  doing_out here at p values each n from out = out_perform out (λ answer walked. answer_out here (ended normal) each answer n from out)
+  doing_out here at p values each n from out holds = out_perform out (λ answer walked. answer_out here (ended normal) each answer n from out holds)
 
   doing_or_out : (here : Here) (at : Pos) (p : Op) (values : List Contents) {go : Contents → Act} → ((v : Contents) → Out (go v)) → Out (doing_or here at p values (ret normal) go)
-  doing_or_out here at p values each n from out = out_perform out (λ answer walked. answer_out here (ended normal) each answer n from out)
+  doing_or_out here at p values each n from out holds = out_perform out (λ answer walked. answer_out here (ended normal) each answer n from out holds)
 
   walking_out : (here : Here) (at : Pos) (p : Op) (values : List Contents) {go : Contents → Walked → Act} → ((v : Contents) (walked : Walked) → Out (go v walked)) → Out (walking here at p values go)
-  walking_out here at p values each n from out = out_perform out (λ answer walked. answer_out here (ended normal) (λ v. each v walked) answer n from out)
+  walking_out here at p values each n from out holds = out_perform out (λ answer walked. answer_out here (ended normal) (λ v. each v walked) answer n from out holds)
 
   truth_out : {a b : Act} → Out a → Out b → (v : Contents) → Out (by_truth a b v)
   truth_out first second (truth true) = first
@@ -80,10 +93,14 @@ module _ (keep : StmtSet) where
   -- a further turn of a loop that has no kept statement
   abbrev pub HasNone : Task → Type 0
   HasNone (body_of here body) = ⊥
-  HasNone (while_again here test body) = UnderSuite keep false body
-  HasNone (for_again here at target body items turns size) = UnderSuite keep false body
+  HasNone (while_again here test body) = UnderSuite low false body
+  HasNone (for_again here at target body items turns size) = UnderSuite low false body
 
-  module _ (script : ScriptTree) (none : (place : Pos) → function_at script place ≡ None) (next : Task → Act) where
+  -- the suite of a function that a statement calls which is not kept
+  abbrev pub Bodies : (Task → Act) → Type 0
+  Bodies next = (here : Here) (body : SuiteTree) (from : List Open) → CallerIsOut keep from → Outside keep from from (next (body_of here body))
+
+  module _ (script : ScriptTree) (next : Task → Act) (bodies : Bodies next) where
     abbrev GoesOut : (Contents → Act) → Type 0
     GoesOut go = (v : Contents) → Out (go v)
 
@@ -93,10 +110,25 @@ module _ (keep : StmtSet) where
     giving_out : (here : Here) (at : Pos) {go : Contents → Act} → GoesOut go → GoesOut (giving script next here at go)
     giving_out here at each v = doing_out here at (op 2) (v ∷ []) each
 
-    -- the script has no functions
-    function_out : (here : Here) (at : Pos) (called : Contents) (place : Pos) (values : List Contents) (go : Contents → Act) → Out (calling_function script next here at called (function_at script place) values go)
-    function_out here at called place values go =
-        subst (λ f. Out (calling_function script next here at called f values go)) (sym (none place)) (failing_out here at not_callable (called ∷ values))
+    -- a function is entered, its suite runs, and it is left
+    left_out : {go : Contents → Act} → GoesOut go → (how : How) (n : ℕ) (from : List Open) → keep n ≡ false → A (a_statement n ∷ from)
+        → Outside keep (an_activation ∷ (a_statement n ∷ from)) (a_statement n ∷ from) (left_with script next go how)
+    left_out each (threw o line) n from out holds = out_leave out out_ret
+    left_out each (returned v) n from out holds = out_leave out (each v n from out holds)
+    left_out each normal n from out holds = out_leave out (each nothing n from out holds)
+    left_out each broke n from out holds = out_leave out (each nothing n from out holds)
+    left_out each continued n from out holds = out_leave out (each nothing n from out holds)
+
+    running_out : (here : Here) (at : Pos) (f : Function) (values : List Contents) {go : Contents → Act} → GoesOut go → Out (running script next here at f values go)
+    running_out here at f values each n from out holds =
+        out_enter out (λ activation. out_to keep (bodies (inside script next here f activation) f.body (an_activation ∷ (a_statement n ∷ from)) out) (λ how. left_out each how n from out holds))
+
+    function_out : (here : Here) (at : Pos) (called : Contents) (found : Option Function) (values : List Contents) {go : Contents → Act} → GoesOut go → Out (calling_function script next here at called found values go)
+    function_out here at called None values each = failing_out here at not_callable (called ∷ values)
+    function_out here at called (Some f) values each =
+        out_if (nat_eq (length f.params) (length values))
+        (out_if (nat_lt here.open_activations 1000) (running_out here at f values each) (failing_out here at too_many_open (called ∷ values)))
+        (failing_out here at wrong_arguments (called ∷ values))
 
     without_init_out : (here : Here) (at : Pos) (of : Contents) (arguments : List Contents) (instance : Contents) (takes_any : Bool) {go : Contents → Act} → GoesOut go
         → Out (without_init script next here at of arguments instance takes_any go)
@@ -108,7 +140,7 @@ module _ (keep : StmtSet) where
         → Out (initialising script next here at of arguments instance takes_any init go)
     initialising_out here at of arguments instance takes_any None each = without_init_out here at of arguments instance takes_any each
     initialising_out here at of arguments instance takes_any (Some init) {go} each =
-        function_out here at (function init) init (instance ∷ arguments) (λ v. giving script next here at go instance)
+        function_out here at (function init) (function_at script init) (instance ∷ arguments) (λ v. giving_out here at each instance)
 
     class_out : (here : Here) (at : Pos) (of : Contents) (arguments : List Contents) {go : Contents → Act} → GoesOut go → Out (calling_class script next here at of arguments go)
     class_out here at of arguments each =
@@ -126,7 +158,7 @@ module _ (keep : StmtSet) where
         (failing_out here at wrong_arguments (builtin number ∷ receiver ∷ arguments))
 
     calling_out : (here : Here) (at : Pos) (called : Contents) (arguments : List Contents) {go : Contents → Act} → GoesOut go → Out (calling script next here at called arguments go)
-    calling_out here at (function place) arguments {go} each = function_out here at (function place) place arguments (giving script next here at go)
+    calling_out here at (function place) arguments each = function_out here at (function place) (function_at script place) arguments (giving_out here at each)
     calling_out here at (class place) arguments each = class_out here at (class place) arguments each
     calling_out here at (exception_class number) arguments each = class_out here at (exception_class number) arguments each
     calling_out here at (builtin number) arguments each = builtin_out here at number arguments each
@@ -245,6 +277,13 @@ module _ (keep : StmtSet) where
     so_out going (returned v) = ended (returned v)
     so_out going (threw o line) = ended (threw o line)
 
+    so_from : {a : Act} → OutFrom a → (how : How) → OutFrom (then_so a how)
+    so_from going normal = going
+    so_from going continued = λ from holds. out_ret
+    so_from going broke = λ from holds. out_ret
+    so_from going (returned v) = λ from holds. out_ret
+    so_from going (threw o line) = λ from holds. out_ret
+
     binding_out : (here : Here) (bound : Option Bound) (v : Contents) {a : Act} → Out a → Out (binding here bound v a)
     binding_out here None v going = going
     binding_out here (Some bound) v going = doing_out here bound.at (op_scoped 33 here bound.name) (v ∷ []) (λ done. going)
@@ -288,16 +327,25 @@ module _ (keep : StmtSet) where
 
     module _ (tasks : (what : Task) → HasNone what → Out (next what)) where
       mutual
-        suite_out : (here : Here) (body : SuiteTree) → UnderSuite keep false body → Out (suite script next here body)
+        pub suite_from : (here : Here) (body : SuiteTree) → UnderSuite low false body → OutFrom (suite script next here body)
+        suite_from here end_suite under = λ from holds. out_ret
+        suite_from here (more_suite s rest) under = then_from (stmt_from here s under.0) (so_from (suite_from here rest under.1))
+
+        suite_out : (here : Here) (body : SuiteTree) → UnderSuite low false body → Out (suite script next here body)
         suite_out here end_suite under = ended normal
-        suite_out here (more_suite s rest) under = then_out (stmt_out here s under.0) (so_out (suite_out here rest under.1))
+        suite_out here (more_suite s rest) under = then_out (inside_out (stmt_from here s under.0)) (so_out (suite_out here rest under.1))
 
-        stmt_out : (here : Here) (s : StmtTree) → UnderStmt keep false s → Out (stmt script next here s)
-        stmt_out here (one_stmt number at span form) under n from out =
-            out_begin (not_kept number under.0) (out_to keep (rule_out (on_line at.line here) at form (under_none number form (not_kept number under.0) under.1) number (a_statement n ∷ from) (not_kept number under.0))
-            (λ how. out_close (not_kept number under.0) out_ret))
+        stmt_from : (here : Here) (s : StmtTree) → UnderStmt low false s → OutFrom (stmt script next here s)
+        stmt_from here (one_stmt number at span form) under from holds =
+            begun (keep number) refl (rule_out (on_line at.line here) at form (under_none low number form (not_kept low number under.0) under.1) number from)
+          where
+            begun : (test : Bool) → keep number ≡ test
+                → (keep number ≡ false → A (a_statement number ∷ from) → Outside keep (a_statement number ∷ from) (a_statement number ∷ from) (rule script next (on_line at.line here) at form))
+                → Outside keep from from (stmt script next here (one_stmt number at span form))
+            begun true kept going = out_barred kept (bar number from (not_kept low number under.0) kept holds)
+            begun false out going = out_begin out (out_to keep (going out (push number from holds)) (λ how. out_close out out_ret))
 
-        pub rule_out : (here : Here) (at : Pos) (form : FormTree) → UnderForm keep false form → Out (rule script next here at form)
+        pub rule_out : (here : Here) (at : Pos) (form : FormTree) → UnderForm low false form → Out (rule script next here at form)
         rule_out here at (do_form e) under = eval_out here e (λ v. ended normal)
         rule_out here at (assign_form target e) under = eval_out here e (λ v. store_out here at target v (ended normal))
         rule_out here at (aug_form target sign place e) under = augment_out here target sign place e
@@ -325,16 +373,16 @@ module _ (keep : StmtSet) where
         rule_out here at (class_form name (Some base) body) under =
             eval_out here base (λ v. class_body_out here at name (v ∷ []) (λ of. suite_out (in_class_of of here) body under))
 
-        choose_out : (here : Here) (branches : BranchesTree) → UnderBranches keep false branches → {a : Act} → Out a → Out (choose script next here branches a)
+        choose_out : (here : Here) (branches : BranchesTree) → UnderBranches low false branches → {a : Act} → Out a → Out (choose script next here branches a)
         choose_out here end_branches under going = going
         choose_out here (more_branches test body rest) under going =
             eval_out here test (λ v. asking_out here (expr_place test) v (suite_out here body under.0) (choose_out here rest under.1 going))
 
-        otherwise_out : (here : Here) (orelse : ElseTree) → UnderElse keep false orelse → Out (otherwise script next here orelse)
+        otherwise_out : (here : Here) (orelse : ElseTree) → UnderElse low false orelse → Out (otherwise script next here orelse)
         otherwise_out here no_else under = ended normal
         otherwise_out here (else_suite body) under = suite_out here body under
 
-        handle_out : (here : Here) (at : Pos) (handlers : HandlersTree) → UnderHandlers keep false handlers → (o line : ℕ) → Out (handle script next here at handlers o line)
+        handle_out : (here : Here) (at : Pos) (handlers : HandlersTree) → UnderHandlers low false handlers → (o line : ℕ) → Out (handle script next here at handlers o line)
         handle_out here at end_handlers under o line = ended (threw o line)
         handle_out here at (more_handlers None bound body rest) under o line = clause_out here bound o (suite_out (handling o here) body under.0)
         handle_out here at (more_handlers (Some kind) bound body rest) under o line =
@@ -346,7 +394,95 @@ module _ (keep : StmtSet) where
       task_out (for_again here at target body items turns size) none =
           for_out here at target items turns size (suite_out here body none) (tasks (for_again here at target body items (suc turns) size) none)
 
-  pub levels_out : (script : ScriptTree) → ((place : Pos) → function_at script place ≡ None) → (n : ℕ) (what : Task) → HasNone what → Out (level script n what)
+-- no statement stands under the empty set
+abbrev pub empty : StmtSet
+empty n = false
+
+mutual
+  under_empty : (body : SuiteTree) → UnderSuite empty false body
+  under_empty end_suite = tt
+  under_empty (more_suite s rest) = (under_empty_stmt s, under_empty rest)
+
+  under_empty_stmt : (s : StmtTree) → UnderStmt empty false s
+  under_empty_stmt (one_stmt number at span form) = ((λ is. is), under_empty_form form)
+
+  under_empty_form : (form : FormTree) → UnderForm empty false form
+  under_empty_form (if_form branches orelse) = (under_empty_branches branches, under_empty_else orelse)
+  under_empty_form (while_form test body) = under_empty body
+  under_empty_form (for_form target items body) = under_empty body
+  under_empty_form (try_form body handlers) = (under_empty body, under_empty_handlers handlers)
+  under_empty_form (with_form e bound body) = under_empty body
+  under_empty_form (def_form name params globals body) = under_empty body
+  under_empty_form (class_form name base body) = under_empty body
+  under_empty_form (do_form e) = tt
+  under_empty_form (assign_form target e) = tt
+  under_empty_form (aug_form target sign place e) = tt
+  under_empty_form (del_form target) = tt
+  under_empty_form pass_form = tt
+  under_empty_form break_form = tt
+  under_empty_form continue_form = tt
+  under_empty_form (return_form e) = tt
+  under_empty_form (raise_form e) = tt
+  under_empty_form (assert_form test message) = tt
+  under_empty_form (import_form name) = tt
+
+  under_empty_branches : (branches : BranchesTree) → UnderBranches empty false branches
+  under_empty_branches end_branches = tt
+  under_empty_branches (more_branches test body rest) = (under_empty body, under_empty_branches rest)
+
+  under_empty_else : (orelse : ElseTree) → UnderElse empty false orelse
+  under_empty_else no_else = tt
+  under_empty_else (else_suite body) = under_empty body
+
+  under_empty_handlers : (handlers : HandlersTree) → UnderHandlers empty false handlers
+  under_empty_handlers end_handlers = tt
+  under_empty_handlers (more_handlers kind bound body rest) = (under_empty body, under_empty_handlers rest)
+
+module _ (keep : StmtSet) where
+  pub barred : (n : ℕ) (from : List Open) → empty n ≡ false → keep n ≡ true → CallerIsOut keep from → CallerIsOut keep from
+  barred n from out kept holds = holds
+
+  pub pushed : (n : ℕ) (from : List Open) → CallerIsOut keep from → CallerIsOut keep (a_statement n ∷ from)
+  pushed n from holds = holds
+
+  -- in an activation that was entered by a statement which is not kept
+  mutual
+    unfolding level
+
+    pub bodies_out : (script : ScriptTree) (k : ℕ) → Bodies keep empty (CallerIsOut keep) barred pushed (level script k)
+    bodies_out script zero here body from holds = out_stop
+    bodies_out script (suc k) here body from holds =
+        suite_from keep empty (CallerIsOut keep) barred pushed script (level script k) (bodies_out script k) (loops_out script k) here body (under_empty body) from holds
+
+    loops_out : (script : ScriptTree) (k : ℕ) (what : Task) → HasNone keep empty (CallerIsOut keep) barred pushed what → Out keep empty (CallerIsOut keep) barred pushed (level script k what)
+    loops_out script zero what none n from out holds = out_stop
+    loops_out script (suc k) what none n from out holds =
+        task_out keep empty (CallerIsOut keep) barred pushed script (level script k) (bodies_out script k) (loops_out script k) what none n from out holds
+
+  abbrev pub Anywhere : List Open → Type 0
+  Anywhere from = ⊤
+
+  pub unbarred : (n : ℕ) (from : List Open) → keep n ≡ false → keep n ≡ true → Anywhere from → CallerIsOut keep from
+  unbarred n from out kept holds = absurd (false≢true (sym out ∙ kept))
+
+  -- inside any statement that is not kept
+  abbrev pub Alone : Act → Type 0
+  Alone a = (n : ℕ) (from : List Open) → keep n ≡ false → Outside keep (a_statement n ∷ from) (a_statement n ∷ from) a
+
+  -- a further turn of a loop that has no kept statement
+  abbrev pub TurnsAlone : Task → Type 0
+  TurnsAlone what = HasNone keep keep Anywhere unbarred (λ n from holds. tt) what
+
+  abbrev pub BodiesAlone : (Task → Act) → Type 0
+  BodiesAlone next = Bodies keep keep Anywhere unbarred (λ n from holds. tt) next
+
+  pub rule_alone : (script : ScriptTree) (next : Task → Act) → BodiesAlone next → ((what : Task) → TurnsAlone what → Alone (next what))
+      → (here : Here) (at : Pos) (form : FormTree) → UnderForm keep false form → Alone (rule script next here at form)
+  rule_alone script next bodies tasks here at form under n from out =
+      rule_out keep keep Anywhere unbarred (λ n from holds. tt) script next bodies (λ what none n from out holds. tasks what none n from out) here at form under n from out tt
+
+  pub levels_alone : (script : ScriptTree) (k : ℕ) (what : Task) → TurnsAlone what → Alone (level script k what)
   unfolding level
-  levels_out script functionless zero what none m from out = out_stop
-  levels_out script functionless (suc n) what none m from out = task_out script functionless (level script n) (levels_out script functionless n) what none m from out
+  levels_alone script zero what none n from out = out_stop
+  levels_alone script (suc k) what none n from out =
+      task_out keep keep Anywhere unbarred (λ n from holds. tt) script (level script k) (bodies_out script k) (λ what none n from out holds. levels_alone script k what none n from out) what none n from out tt

@@ -22,7 +22,7 @@ use Rattle.slice_runs.proofs.Happenings.{Laws}
 use Rattle.slice_runs.proofs.KeptExpressions.{BothHere, no_class, none_handled}
 use Rattle.slice_runs.proofs.KeptStatements.{names, body_both, levels_both}
 use Rattle.slice_runs.proofs.Marks.{shifts}
-use Rattle.slice_runs.proofs.OutsideRules.{levels_out}
+use Rattle.slice_runs.proofs.OutsideRules.{bodies_out, levels_alone}
 use Rattle.slice_runs.proofs.OwnMoments.{AllOwn, Owns, OnlyKept, all_own, asking_kept, asking_apart}
 use Rattle.py_tree.specs.WellFormed.{IsWellFormed}
 use Rattle.slice_runs.proofs.Renamings.{accesses_match}
@@ -98,7 +98,7 @@ module _ (laws : Laws) (script : ScriptTree) (capture : Capture) (path : List �
   whole : functions_in script.body ≡ [] → Beside (names (IsHere script) (IsHere (deleted keep script)) keep upto) keep (all_marks keep upto) (suc (suc budget)) [] [] (meaning script steps) (meaning (deleted keep script) budget)
   whole none =
       body_both (IsHere script) (IsHere (deleted keep script)) keep upto script (deleted keep script) (none_in keep script none) (none_left keep script none) (level script (suc steps)) (level (deleted keep script) (suc budget)) (suc budget)
-      (levels_both (IsHere script) (IsHere (deleted keep script)) keep upto script (deleted keep script) (none_in keep script none) (none_left keep script none) (suc budget) (suc steps)) (levels_out keep script (none_in keep script none) (suc steps))
+      (levels_both (IsHere script) (IsHere (deleted keep script)) keep upto script (deleted keep script) (none_in keep script none) (none_left keep script none) (suc budget) (suc steps)) (bodies_out keep script (suc steps)) (levels_alone keep script (suc steps))
       at_start at_start starts 0 script.body (body_under keep script (opening_in capture path arguments) upto closed)
       (record { each = λ s place there. there }) (record { each = λ n place there. there }) [] tt
 
