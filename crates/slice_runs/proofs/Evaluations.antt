@@ -216,7 +216,7 @@ module _ (laws : Laws) (script : ScriptTree) (capture : Capture) (path : List â„
       simulation = simulated laws script capture path arguments keep upto steps budget closed well found.after found.whole_is plain_run enough
 
       own : AllOwn (Owns script capture path arguments steps keep upto) upto
-      own = all_own script capture path arguments steps keep upto plain_run.functionless
+      own = all_own script capture path arguments steps keep upto
           (record { rest = found.after; told_is = found.whole_is; unnoted = plain_run.unnoted })
 
       last : LastKept

@@ -8,23 +8,23 @@ use Rattle.prov_base.specs.declared.place.Pos.{Pos}
 use Rattle.prov_base.specs.contracts.place.PosPartialEq.TheImpl.{ghosts as places}
 use Rattle.py_tree.specs.Places.{suite_places, are_distinct}
 use Rattle.py_tree.specs.Tree.{ScriptTree}
-use Rattle.py_model.specs.Act.{Act, Walked, close}
+use Rattle.py_model.specs.Act.{Act, Walked, close, leave}
 use Rattle.py_model.specs.Capture.{Capture, opening_in}
-use Rattle.py_model.specs.Functions.{functions_in, first_placed}
-use Rattle.py_model.specs.Going.{Open, a_statement}
+use Rattle.py_model.specs.Functions.{function_at}
+use Rattle.py_model.specs.Going.{Open, a_statement, an_activation}
 use Rattle.py_model.specs.Meaning.{level, meaning, at_start, starting}
-use Rattle.py_model.specs.Moment.{Moment, begins, does, ends}
+use Rattle.py_model.specs.Moment.{Moment, begins, does, leaves, ends}
 use Rattle.py_model.specs.Occurrences.{frames_after, open_of, evaluates}
 use Rattle.py_model.specs.Plan.{Answer}
-use Rattle.py_model.specs.Running.{State, spent, lacking, Happened, did, too_dear, lacked, effect_of, operation, outcome, beginning, tell}
+use Rattle.py_model.specs.Running.{State, spent, lacking, Happened, did, too_dear, lacked, effect_of, operation, outcome, beginning, entering, tell}
 use Rattle.py_model.specs.Store.{RunStore}
 use Rattle.py_model.specs.Quiet.{may_ask}
 use Rattle.slice_law.specs.Closed.{StmtSet, IsIn}
 use Rattle.slice_law.specs.Edges.{owner_stmt}
 use Rattle.slice_runs.proofs.Onwards.{CameBy, came_by, same_end}
-use Rattle.slice_runs.proofs.PlacedRules.{suite_placed, levels_placed}
-use Rattle.slice_runs.proofs.Simulating.{Through, told_within, not_yet, owner_in, closed_frames}
-use Rattle.slice_runs.proofs.Standing.{Stands, st_ret, st_stop, st_perform, st_begin, st_close, owner_once}
+use Rattle.slice_runs.proofs.PlacedRules.{FoundPlaced, suite_placed, bodies_placed, levels_placed, found_placed}
+use Rattle.slice_runs.proofs.Simulating.{Through, told_within, not_yet, owner_in, closed_frames, left_frames}
+use Rattle.slice_runs.proofs.Standing.{AllOwned, Stands, st_ret, st_stop, st_perform, st_begin, st_close, st_enter, st_leave, owner_once}
 use Rattle.slice_runs.specs.Owned.{owned_suite}
 
 pub place_same : (p q : Pos) → places.eq p q ≡ true → p ≡ q
@@ -83,19 +83,40 @@ module _ (P : ℕ → Pos → Type 0) where
       where
         told_on : Through capture keep opening upto (outcome capture (close n ended a) s) → Through capture keep opening upto (outcome capture a (tell (ends n ended) s))
         told_on through = record { rest = through.rest; told_is = through.told_is; unnoted = through.unnoted }
+    stands_told (st_enter {from = from} {at = at} {def = def} {params = params} {vs = vs} {f = f} next) s own frames early through =
+        by_left (nat_le (suc (length vs)) s.left) through (stands_told (next (suc s.entered)) (entering at def params vs s))
+      where
+        by_left : (enough : Bool) → Through capture keep opening upto (if enough then outcome capture (f (suc s.entered)) (entering at def params vs s) else spent s)
+            → (AllOwn (entering at def params vs s).told → map open_of (frames_after (entering at def params vs s).told) ≡ an_activation ∷ from → suc (length s.told) < length upto
+            → Through capture keep opening upto (outcome capture (f (suc s.entered)) (entering at def params vs s)) → AllOwn upto)
+            → AllOwn upto
+        by_left false through on = absurd (not_yet capture keep opening upto s refl early through)
+        by_left true through on = arrived (f (suc s.entered)) (entering at def params vs s) (tt, own) (omega (arith, early)) through
+            (λ early. on (tt, own) (ap (λ (open_ones : List Open). an_activation ∷ open_ones) frames) early through)
+    stands_told (st_leave {from = from} {v = v} {a = a} rest) s own frames early through =
+        arrived a (tell (leaves v) s) (tt, own) (omega (arith, early)) (told_on through)
+        (λ early. stands_told rest (tell (leaves v) s) (tt, own) (left_frames (frames_after s.told) from frames) early (told_on through))
+      where
+        told_on : Through capture keep opening upto (outcome capture (leave v a) s) → Through capture keep opening upto (outcome capture a (tell (leaves v) s))
+        told_on through = record { rest = through.rest; told_is = through.told_is; unnoted = through.unnoted }
 
 module _ (script : ScriptTree) (capture : Capture) (path : List ℕ) (arguments : List (List ℕ)) (steps : ℕ) (keep : StmtSet) (upto : List Moment) where
   abbrev pub Owns : ℕ → Pos → Type 0
   Owns n place = IsIn (owned_suite script.body) (n, place)
 
   -- the statement of each evaluation is the one that has its place
-  pub all_own : functions_in script.body ≡ []
-      → Through capture keep (opening_in capture path arguments) upto (outcome capture (meaning script steps) (starting capture path arguments steps)) → AllOwn Owns upto
-  all_own functionless through =
+  pub all_own : Through capture keep (opening_in capture path arguments) upto (outcome capture (meaning script steps) (starting capture path arguments steps)) → AllOwn Owns upto
+  all_own through =
       arrived Owns capture keep (opening_in capture path arguments) upto (meaning script steps) (starting capture path arguments steps) tt (omega arith) through
       (λ early. stands_told Owns capture keep (opening_in capture path arguments) upto
-      (suite_placed Owns script (λ place. ap (first_placed place) functionless) (level script (suc steps)) (λ n what own. levels_placed Owns script (λ place. ap (first_placed place) functionless) (suc steps) n what own) at_start script.body (record { each = λ n place there. there }) [])
+      (suite_placed Owns script found (level script (suc steps)) (bodies_placed Owns script found (suc steps)) (levels_placed Owns script found (suc steps)) at_start script.body every [])
       (starting capture path arguments steps) tt refl early through)
+    where
+      every : AllOwned Owns (owned_suite script.body)
+      every = record { each = λ n place there. there }
+
+      found : (place : Pos) → FoundPlaced Owns (function_at script place)
+      found = found_placed Owns script every
 
   -- operations that ask are evaluations
   asks_evaluate : (number : ℕ) → may_ask number ≡ true → evaluates number ≡ true

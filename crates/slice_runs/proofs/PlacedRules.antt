@@ -2,27 +2,36 @@
 -- operator of the innermost statement.
 use Rattle.std.proofs.Common.{◌≡◌, ◌+◌, ℕ, zero, suc, Bool, true, false, if◌then◌else◌, List, [], ◌∷◌, ◌++◌, length, Option, Some, None, subst, sym}
 use Rattle.std.proofs.lemmas.Bool.{false≢true}
-use Rattle.std.specs.Prelude.{nat_lt, pos, slice_get, ◌-◌}
+use Rattle.std.specs.Prelude.{nat_eq, nat_lt, pos, ⊤, slice_get, ◌-◌}
 use Rattle.prov_base.specs.declared.place.Pos.{Pos}
+use Rattle.prov_base.specs.contracts.place.PosPartialEq.TheImpl.{ghosts as places}
 use Rattle.py_tree.specs.declared.expr.LogicOp.TheVariants.{And as Both, Or as Either}
 use Rattle.py_tree.specs.declared.expr.BinOp.{BinOp}
 use Rattle.py_tree.specs.declared.stmt.Bound.{Bound}
 use Rattle.py_tree.specs.Tree.{ExprTree, MaybeTree, ExprsTree, PairsTree, TargetTree, TargetsTree, StmtTree, FormTree, SuiteTree, BranchesTree, ElseTree, HandlersTree, ScriptTree, const_expr, var_expr, unary_expr, binary_expr, compare_expr, logic_expr, choose_expr, call_expr, attr_expr, part_expr, range_expr, list_expr, dict_expr, tuple_expr, no_expr, some_expr, end_exprs, more_exprs, end_pairs, more_pairs, var_target, part_target, field_target, many_target, end_targets, more_targets, one_stmt, do_form, assign_form, aug_form, del_form, pass_form, break_form, continue_form, return_form, raise_form, assert_form, import_form, if_form, while_form, for_form, try_form, with_form, def_form, class_form, end_suite, more_suite, end_branches, more_branches, no_else, else_suite, end_handlers, more_handlers}
 use Rattle.py_value.specs.Contents.{Contents, Parts, nothing, truth, int, text, tuple, range, function, class, exception_class, builtin, object}
 use Rattle.py_model.specs.Act.{Act, How, Walked, ret, to, normal, broke, continued, returned, threw}
-use Rattle.py_model.specs.Expressions.{Here, Task, body_of, while_again, for_again, scope_of, op, op_named, op_scoped, op_of, by_answer, doing, doing_or, walking, by_truth, asking_truth, eval, eval_maybe, eval_all, eval_pairs, failing, giving, calling_function, without_init, initialising, calling_class, calling_builtin, calling_method, calling, with_receiver, calling_attribute, takes_so_many, function_arities, method_arities, not_callable, wrong_arguments, constant, unary_number, binary_number, compare_number}
-use Rattle.py_model.specs.Functions.{expr_place, function_at}
-use Rattle.py_model.specs.Going.{Open, a_statement}
+use Rattle.py_model.specs.Expressions.{Here, Task, body_of, while_again, for_again, scope_of, op, op_named, op_scoped, op_of, by_answer, doing, doing_or, walking, by_truth, asking_truth, eval, eval_maybe, eval_all, eval_pairs, failing, giving, left_with, inside, running, calling_function, without_init, initialising, calling_class, calling_builtin, calling_method, calling, with_receiver, calling_attribute, takes_so_many, function_arities, method_arities, not_callable, wrong_arguments, too_many_open, constant, unary_number, binary_number, compare_number}
+use Rattle.py_model.specs.Functions.{Function, expr_place, functions_in, functions_of, functions_at, first_placed, function_at}
+use Rattle.py_model.specs.Going.{Open, a_statement, an_activation}
 use Rattle.py_model.specs.Operations.{Op}
 use Rattle.py_model.specs.Plan.{Answer, value, raised, at_end}
 use Rattle.py_model.specs.Statements.{op_whole, module_of, on_line, handling, in_class_of, parts_in, first_of, rest_of, binding, unbinding, turned, then_so, raised_value, store, store_all, augment, unset, while_turn, for_turn, clause, caught, matching, class_body, failed_assert, defining, suite, stmt, rule, choose, otherwise, handle, task, augmented_number, count_targets}
 use Rattle.py_tree.specs.Places.{expr_places, maybe_places, exprs_places, pairs_places, target_places, targets_places, option_places, bound_places}
 use Rattle.py_model.specs.Meaning.{level}
 use Rattle.py_model.specs.Occurrences.{evaluates}
-use Rattle.slice_runs.proofs.Standing.{AllAt, first, behind, left, right, AllOwned, owned_left, owned_right, untagged, Stands, st_ret, st_stop, st_perform, st_begin, st_close, st_to}
+use Rattle.slice_runs.proofs.Standing.{AllAt, first, behind, left, right, AllOwned, owned_left, owned_right, untagged, Stands, st_ret, st_stop, st_perform, st_begin, st_close, st_enter, st_leave, st_to}
 use Rattle.slice_runs.specs.Owned.{tag, owned_suite, owned_stmt, owned_form, owned_branches, owned_else, owned_handlers}
 
 module _ (P : ℕ → Pos → Type 0) where
+  -- the suites of functions
+  abbrev pub FoundPlaced : Option Function → Type 0
+  FoundPlaced None = ⊤
+  FoundPlaced (Some f) = AllOwned P (owned_suite f.body)
+
+  abbrev pub BodiesPlaced : (Task → Act) → Type 0
+  BodiesPlaced next = (here : Here) (body : SuiteTree) → AllOwned P (owned_suite body) → (from : List Open) → Stands P from from (next (body_of here body))
+
   module _ (n : ℕ) where
     -- inside statement n
     abbrev pub Placed : Act → Type 0
@@ -69,7 +78,7 @@ module _ (P : ℕ → Pos → Type 0) where
     asking_placed : (here : Here) (at : Pos) (v : Contents) {a b : Act} → Placed a → Placed b → Placed (asking_truth here at v a b)
     asking_placed here at v one another = doing_placed here at (op 3) (v ∷ []) (λ is. absurd (false≢true is)) (truth_placed one another)
 
-    module _ (script : ScriptTree) (none : (place : Pos) → function_at script place ≡ None) (next : Task → Act) where
+    module _ (script : ScriptTree) (found : (place : Pos) → FoundPlaced (function_at script place)) (next : Task → Act) (bodies : BodiesPlaced next) where
       abbrev GoesOn : (Contents → Act) → Type 0
       GoesOn go = (v : Contents) → Placed (go v)
 
@@ -79,10 +88,24 @@ module _ (P : ℕ → Pos → Type 0) where
       giving_placed : (here : Here) (at : Pos) {go : Contents → Act} → P n at → GoesOn go → GoesOn (giving script next here at go)
       giving_placed here at own each v = doing_placed here at (op 2) (v ∷ []) (λ is. own) each
 
-      -- the script has no functions
-      function_placed : (here : Here) (at : Pos) (called : Contents) (place : Pos) (values : List Contents) (go : Contents → Act) → Placed (calling_function script next here at called (function_at script place) values go)
-      function_placed here at called place values go =
-          subst (λ f. Placed (calling_function script next here at called f values go)) (sym (none place)) (failing_placed here at not_callable (called ∷ values))
+      -- a function is entered, its suite runs, and it is left
+      left_placed : {go : Contents → Act} → GoesOn go → (how : How) (from : List Open) → Stands P (an_activation ∷ (a_statement n ∷ from)) (a_statement n ∷ from) (left_with script next go how)
+      left_placed each (threw o line) from = st_leave st_ret
+      left_placed each (returned v) from = st_leave (each v from)
+      left_placed each normal from = st_leave (each nothing from)
+      left_placed each broke from = st_leave (each nothing from)
+      left_placed each continued from = st_leave (each nothing from)
+
+      running_placed : (here : Here) (at : Pos) (f : Function) (values : List Contents) {go : Contents → Act} → AllOwned P (owned_suite f.body) → GoesOn go → Placed (running script next here at f values go)
+      running_placed here at f values all each from =
+          st_enter (λ activation. st_to P (bodies (inside script next here f activation) f.body all (an_activation ∷ (a_statement n ∷ from))) (λ how. left_placed each how from))
+
+      function_placed : (here : Here) (at : Pos) (called : Contents) (f : Option Function) (values : List Contents) {go : Contents → Act} → FoundPlaced f → GoesOn go → Placed (calling_function script next here at called f values go)
+      function_placed here at called None values all each = failing_placed here at not_callable (called ∷ values)
+      function_placed here at called (Some f) values all each =
+          placed_if (nat_eq (length f.params) (length values))
+          (placed_if (nat_lt here.open_activations 1000) (running_placed here at f values all each) (failing_placed here at too_many_open (called ∷ values)))
+          (failing_placed here at wrong_arguments (called ∷ values))
 
       without_init_placed : (here : Here) (at : Pos) (of : Contents) (arguments : List Contents) (instance : Contents) (takes_any : Bool) {go : Contents → Act} → P n at → GoesOn go
           → Placed (without_init script next here at of arguments instance takes_any go)
@@ -94,7 +117,7 @@ module _ (P : ℕ → Pos → Type 0) where
           → Placed (initialising script next here at of arguments instance takes_any init go)
       initialising_placed here at of arguments instance takes_any None own each = without_init_placed here at of arguments instance takes_any own each
       initialising_placed here at of arguments instance takes_any (Some init) {go} own each =
-          function_placed here at (function init) init (instance ∷ arguments) (λ v. giving script next here at go instance)
+          function_placed here at (function init) (function_at script init) (instance ∷ arguments) (found init) (λ v. giving_placed here at own each instance)
 
       class_placed : (here : Here) (at : Pos) (of : Contents) (arguments : List Contents) {go : Contents → Act} → P n at → GoesOn go → Placed (calling_class script next here at of arguments go)
       class_placed here at of arguments own each =
@@ -112,7 +135,7 @@ module _ (P : ℕ → Pos → Type 0) where
           (failing_placed here at wrong_arguments (builtin number ∷ receiver ∷ arguments))
 
       calling_placed : (here : Here) (at : Pos) (called : Contents) (arguments : List Contents) {go : Contents → Act} → P n at → GoesOn go → Placed (calling script next here at called arguments go)
-      calling_placed here at (function place) arguments {go} own each = function_placed here at (function place) place arguments (giving script next here at go)
+      calling_placed here at (function place) arguments own each = function_placed here at (function place) (function_at script place) arguments (found place) (giving_placed here at own each)
       calling_placed here at (class place) arguments own each = class_placed here at (class place) arguments own each
       calling_placed here at (exception_class number) arguments own each = class_placed here at (exception_class number) arguments own each
       calling_placed here at (builtin number) arguments own each = builtin_placed here at number arguments own each
@@ -305,7 +328,7 @@ module _ (P : ℕ → Pos → Type 0) where
   TaskPlaced n (while_again here test body) = AllAt (P n) (expr_places test) × AllOwned P (owned_suite body)
   TaskPlaced n (for_again here at target body items turns size) = AllAt (P n) (target_places target) × AllOwned P (owned_suite body)
 
-  module _ (script : ScriptTree) (none : (place : Pos) → function_at script place ≡ None) (next : Task → Act) (tasks : (n : ℕ) (what : Task) → TaskPlaced n what → Placed n (next what)) where
+  module _ (script : ScriptTree) (found : (place : Pos) → FoundPlaced (function_at script place)) (next : Task → Act) (bodies : BodiesPlaced next) (tasks : (n : ℕ) (what : Task) → TaskPlaced n what → Placed n (next what)) where
     so_stands : {from : List Open} {a : Act} → Stands P from from a → (how : How) → Stands P from from (then_so a how)
     so_stands going normal = going
     so_stands going continued = st_ret
@@ -322,54 +345,54 @@ module _ (P : ℕ → Pos → Type 0) where
       stmt_placed here (one_stmt number at span form) all from = st_begin (st_to P (rule_placed number (on_line at.line here) at form all from) (λ how. st_close st_ret))
 
       rule_placed : (n : ℕ) (here : Here) (at : Pos) (form : FormTree) → AllOwned P (owned_form n form) → Placed n (rule script next here at form)
-      rule_placed n here at (do_form e) all = eval_placed n script none next here e (untagged n (expr_places e) all) (λ v. ended n normal)
+      rule_placed n here at (do_form e) all = eval_placed n script found next bodies here e (untagged n (expr_places e) all) (λ v. ended n normal)
       rule_placed n here at (assign_form target e) all =
           let own : AllAt (P n) (target_places target ++ expr_places e) = untagged n (target_places target ++ expr_places e) all in
-          eval_placed n script none next here e (right (target_places target) own) (λ v. store_placed n script none next here at target v (left _ own) (ended n normal))
+          eval_placed n script found next bodies here e (right (target_places target) own) (λ v. store_placed n script found next bodies here at target v (left _ own) (ended n normal))
       rule_placed n here at (aug_form target sign place e) all =
           let own : AllAt (P n) (place ∷ (target_places target ++ expr_places e)) = untagged n (place ∷ (target_places target ++ expr_places e)) all in
-          augment_placed n script none next here target sign place e (first own) (left _ (behind own)) (right (target_places target) (behind own))
-      rule_placed n here at (del_form target) all = unset_placed n script none next here target (untagged n (target_places target) all)
+          augment_placed n script found next bodies here target sign place e (first own) (left _ (behind own)) (right (target_places target) (behind own))
+      rule_placed n here at (del_form target) all = unset_placed n script found next bodies here target (untagged n (target_places target) all)
       rule_placed n here at pass_form all = ended n normal
       rule_placed n here at break_form all = ended n broke
       rule_placed n here at continue_form all = ended n continued
       rule_placed n here at (return_form None) all = ended n (returned nothing)
-      rule_placed n here at (return_form (Some e)) all = eval_placed n script none next here e (untagged n (expr_places e) all) (λ v. ended n (returned v))
+      rule_placed n here at (return_form (Some e)) all = eval_placed n script found next bodies here e (untagged n (expr_places e) all) (λ v. ended n (returned v))
       rule_placed n here at (raise_form None) all = doing_placed n here at (op 40) (raised_value here.handled) (λ is. absurd (false≢true is)) (λ done. ended n normal)
-      rule_placed n here at (raise_form (Some e)) all = eval_placed n script none next here e (untagged n (expr_places e) all) (λ v. doing_placed n here at (op 40) (v ∷ []) (λ is. absurd (false≢true is)) (λ done. ended n normal))
+      rule_placed n here at (raise_form (Some e)) all = eval_placed n script found next bodies here e (untagged n (expr_places e) all) (λ v. doing_placed n here at (op 40) (v ∷ []) (λ is. absurd (false≢true is)) (λ done. ended n normal))
       rule_placed n here at (assert_form test message) all =
           let own : AllAt (P n) (expr_places test ++ option_places message) = untagged n (expr_places test ++ option_places message) all in
-          eval_placed n script none next here test (left _ own) (λ v. asking_placed n here (expr_place test) v (ended n normal) (failed_placed n script none next here at message (right (expr_places test) own)))
+          eval_placed n script found next bodies here test (left _ own) (λ v. asking_placed n here (expr_place test) v (ended n normal) (failed_placed n script found next bodies here at message (right (expr_places test) own)))
       rule_placed n here at (import_form name) all = doing_placed n here at (op_whole 44 (scope_of here name) name (module_of name)) [] (λ is. absurd (false≢true is)) (λ done. ended n normal)
       rule_placed n here at (if_form branches orelse) all =
           choose_placed n here branches (owned_left _ all) (otherwise_placed n here orelse (owned_right (owned_branches n branches) all))
       rule_placed n here at (while_form test body) all =
           let own : AllAt (P n) (expr_places test) = untagged n (expr_places test) (owned_left _ all) in
           let inner : AllOwned P (owned_suite body) = owned_right (tag n (expr_places test)) all in
-          while_placed n script none next here test own (λ from. suite_placed here body inner (a_statement n ∷ from)) (tasks n (while_again here test body) (own, inner))
+          while_placed n script found next bodies here test own (λ from. suite_placed here body inner (a_statement n ∷ from)) (tasks n (while_again here test body) (own, inner))
       rule_placed n here at (for_form target e body) all =
           let own : AllAt (P n) (target_places target) = untagged n (target_places target) (owned_left _ all) in
           let items : AllAt (P n) (expr_places e) = untagged n (expr_places e) (owned_left _ (owned_right (tag n (target_places target)) all)) in
           let inner : AllOwned P (owned_suite body) = owned_right (tag n (expr_places e)) (owned_right (tag n (target_places target)) all) in
-          eval_placed n script none next here e items (λ v. doing_placed n here at (op 36) (v ∷ []) (λ is. absurd (false≢true is)) (λ size.
-          for_placed n script none next here at target v 0 size own (λ from. suite_placed here body inner (a_statement n ∷ from)) (tasks n (for_again here at target body v 1 size) (own, inner))))
+          eval_placed n script found next bodies here e items (λ v. doing_placed n here at (op 36) (v ∷ []) (λ is. absurd (false≢true is)) (λ size.
+          for_placed n script found next bodies here at target v 0 size own (λ from. suite_placed here body inner (a_statement n ∷ from)) (tasks n (for_again here at target body v 1 size) (own, inner))))
       rule_placed n here at (try_form body handlers) all =
-          then_placed n (λ from. suite_placed here body (owned_left _ all) (a_statement n ∷ from)) (caught_placed n script none next (handle_placed n here at handlers (owned_right (owned_suite body) all)))
+          then_placed n (λ from. suite_placed here body (owned_left _ all) (a_statement n ∷ from)) (caught_placed n script found next bodies (handle_placed n here at handlers (owned_right (owned_suite body) all)))
       rule_placed n here at (with_form e bound body) all =
-          eval_placed n script none next here e (untagged n (expr_places e) (owned_left _ all)) (λ v. doing_placed n here at (op 46) (v ∷ []) (λ is. absurd (false≢true is)) (λ file. binding_placed n script none next here bound file
+          eval_placed n script found next bodies here e (untagged n (expr_places e) (owned_left _ all)) (λ v. doing_placed n here at (op 46) (v ∷ []) (λ is. absurd (false≢true is)) (λ file. binding_placed n script found next bodies here bound file
           (then_placed n (λ from. suite_placed here body (owned_right (tag n (bound_places bound)) (owned_right (tag n (expr_places e)) all)) (a_statement n ∷ from))
           (λ how. doing_placed n here at (op 45) (file ∷ []) (λ is. absurd (false≢true is)) (λ done. ended n how)))))
-      rule_placed n here at (def_form name params globals body) all = defining_placed n script none next here at name here.in_class
+      rule_placed n here at (def_form name params globals body) all = defining_placed n script found next bodies here at name here.in_class
       rule_placed n here at (class_form name None body) all =
-          class_body_placed n script none next here at name [] (λ of. λ from. suite_placed (in_class_of of here) body all (a_statement n ∷ from))
+          class_body_placed n script found next bodies here at name [] (λ of. λ from. suite_placed (in_class_of of here) body all (a_statement n ∷ from))
       rule_placed n here at (class_form name (Some base) body) all =
-          eval_placed n script none next here base (untagged n (expr_places base) (owned_left _ all)) (λ v. class_body_placed n script none next here at name (v ∷ [])
+          eval_placed n script found next bodies here base (untagged n (expr_places base) (owned_left _ all)) (λ v. class_body_placed n script found next bodies here at name (v ∷ [])
           (λ of. λ from. suite_placed (in_class_of of here) body (owned_right (tag n (expr_places base)) all) (a_statement n ∷ from)))
 
       choose_placed : (n : ℕ) (here : Here) (branches : BranchesTree) → AllOwned P (owned_branches n branches) → {a : Act} → Placed n a → Placed n (choose script next here branches a)
       choose_placed n here end_branches all going = going
       choose_placed n here (more_branches test body rest) all going =
-          eval_placed n script none next here test (untagged n (expr_places test) (owned_left _ all)) (λ v. asking_placed n here (expr_place test) v
+          eval_placed n script found next bodies here test (untagged n (expr_places test) (owned_left _ all)) (λ v. asking_placed n here (expr_place test) v
           (λ from. suite_placed here body (owned_left _ (owned_right (tag n (expr_places test)) all)) (a_statement n ∷ from))
           (choose_placed n here rest (owned_right (owned_suite body) (owned_right (tag n (expr_places test)) all)) going))
 
@@ -380,21 +403,78 @@ module _ (P : ℕ → Pos → Type 0) where
       handle_placed : (n : ℕ) (here : Here) (at : Pos) (handlers : HandlersTree) → AllOwned P (owned_handlers n handlers) → (o line : ℕ) → Placed n (handle script next here at handlers o line)
       handle_placed n here at end_handlers all o line = ended n (threw o line)
       handle_placed n here at (more_handlers None bound body rest) all o line =
-          clause_placed n script none next here bound o (λ from. suite_placed (handling o here) body (owned_left _ (owned_right (tag n (bound_places bound)) all)) (a_statement n ∷ from))
+          clause_placed n script found next bodies here bound o (λ from. suite_placed (handling o here) body (owned_left _ (owned_right (tag n (bound_places bound)) all)) (a_statement n ∷ from))
       handle_placed n here at (more_handlers (Some kind) bound body rest) all o line =
           let behind_kind : AllOwned P (tag n (bound_places bound) ++ (owned_suite body ++ owned_handlers n rest)) = owned_right (tag n (expr_places kind)) all in
-          matching_placed n script none next here at kind o (untagged n (expr_places kind) (owned_left _ all))
-          (clause_placed n script none next here bound o (λ from. suite_placed (handling o here) body (owned_left _ (owned_right (tag n (bound_places bound)) behind_kind)) (a_statement n ∷ from)))
+          matching_placed n script found next bodies here at kind o (untagged n (expr_places kind) (owned_left _ all))
+          (clause_placed n script found next bodies here bound o (λ from. suite_placed (handling o here) body (owned_left _ (owned_right (tag n (bound_places bound)) behind_kind)) (a_statement n ∷ from)))
           (handle_placed n here at rest (owned_right (owned_suite body) (owned_right (tag n (bound_places bound)) behind_kind)) o line)
 
     pub task_placed : (n : ℕ) (what : Task) → TaskPlaced n what → Placed n (task script next what)
     task_placed n (body_of here body) none = absurd none
     task_placed n (while_again here test body) own =
-        while_placed n script none next here test own.0 (λ from. suite_placed here body own.1 (a_statement n ∷ from)) (tasks n (while_again here test body) own)
+        while_placed n script found next bodies here test own.0 (λ from. suite_placed here body own.1 (a_statement n ∷ from)) (tasks n (while_again here test body) own)
     task_placed n (for_again here at target body items turns size) own =
-        for_placed n script none next here at target items turns size own.0 (λ from. suite_placed here body own.1 (a_statement n ∷ from)) (tasks n (for_again here at target body items (suc turns) size) own)
+        for_placed n script found next bodies here at target items turns size own.0 (λ from. suite_placed here body own.1 (a_statement n ∷ from)) (tasks n (for_again here at target body items (suc turns) size) own)
 
-  pub levels_placed : (script : ScriptTree) → ((place : Pos) → function_at script place ≡ None) → (k n : ℕ) (what : Task) → TaskPlaced n what → Placed n (level script k what)
-  unfolding level
-  levels_placed script none zero n what own from = st_stop
-  levels_placed script none (suc k) n what own from = task_placed script none (level script k) (levels_placed script none k) n what own from
+  mutual
+    unfolding level
+
+    pub bodies_placed : (script : ScriptTree) → ((place : Pos) → FoundPlaced (function_at script place)) → (k : ℕ) → BodiesPlaced (level script k)
+    bodies_placed script found zero here body all from = st_stop
+    bodies_placed script found (suc k) here body all from =
+        suite_placed script found (level script k) (bodies_placed script found k) (levels_placed script found k) here body all from
+
+    pub levels_placed : (script : ScriptTree) → ((place : Pos) → FoundPlaced (function_at script place)) → (k n : ℕ) (what : Task) → TaskPlaced n what → Placed n (level script k what)
+    levels_placed script found zero n what own from = st_stop
+    levels_placed script found (suc k) n what own from = task_placed script found (level script k) (bodies_placed script found k) (levels_placed script found k) n what own from
+
+  -- the suites of a script's functions are of the script
+  abbrev AllPlaced : List Function → Type 0
+  AllPlaced [] = ⊤
+  AllPlaced (f ∷ fs) = AllOwned P (owned_suite f.body) × AllPlaced fs
+
+  all_joined : (fs gs : List Function) → AllPlaced fs → AllPlaced gs → AllPlaced (fs ++ gs)
+  all_joined [] gs one another = another
+  all_joined (f ∷ fs) gs one another = (one.0, all_joined fs gs one.1 another)
+
+  first_found : (place : Pos) (fs : List Function) → AllPlaced fs → FoundPlaced (first_placed place fs)
+  first_found place [] all = tt
+  first_found place (f ∷ fs) all = by_test (places.eq f.place place) (first_found place fs all.1)
+    where
+      by_test : (test : Bool) → FoundPlaced (first_placed place fs) → FoundPlaced (if test then Some f else first_placed place fs)
+      by_test true later = all.0
+      by_test false later = later
+
+  mutual
+    functions_placed : (body : SuiteTree) → AllOwned P (owned_suite body) → AllPlaced (functions_in body)
+    functions_placed end_suite all = tt
+    functions_placed (more_suite s rest) all =
+        all_joined (functions_of s) (functions_in rest) (functions_placed_stmt s (owned_left _ all)) (functions_placed rest (owned_right (owned_stmt s) all))
+
+    functions_placed_stmt : (s : StmtTree) → AllOwned P (owned_stmt s) → AllPlaced (functions_of s)
+    functions_placed_stmt (one_stmt number at span form) all = functions_placed_form number at form all
+
+    functions_placed_form : (n : ℕ) (at : Pos) (form : FormTree) → AllOwned P (owned_form n form) → AllPlaced (functions_at at form)
+    functions_placed_form n at (def_form name params globals body) all = (all, tt)
+    functions_placed_form n at (class_form name None body) all = functions_placed body all
+    functions_placed_form n at (class_form name (Some base) body) all = functions_placed body (owned_right (tag n (expr_places base)) all)
+    functions_placed_form n at (do_form e) all = tt
+    functions_placed_form n at (assign_form target e) all = tt
+    functions_placed_form n at (aug_form target sign place e) all = tt
+    functions_placed_form n at (del_form target) all = tt
+    functions_placed_form n at pass_form all = tt
+    functions_placed_form n at break_form all = tt
+    functions_placed_form n at continue_form all = tt
+    functions_placed_form n at (return_form e) all = tt
+    functions_placed_form n at (raise_form e) all = tt
+    functions_placed_form n at (assert_form test message) all = tt
+    functions_placed_form n at (import_form name) all = tt
+    functions_placed_form n at (if_form branches orelse) all = tt
+    functions_placed_form n at (while_form test body) all = tt
+    functions_placed_form n at (for_form target items body) all = tt
+    functions_placed_form n at (try_form body handlers) all = tt
+    functions_placed_form n at (with_form e bound body) all = tt
+
+  pub found_placed : (script : ScriptTree) → AllOwned P (owned_suite script.body) → (place : Pos) → FoundPlaced (function_at script place)
+  found_placed script all place = first_found place (functions_in script.body) (functions_placed script.body all)

@@ -59,7 +59,7 @@ owner_inside told n from is = by_frames (frames_after told) is
     by_frames (in_activation time ∷ in_activation other ∷ frames) is = absurd cc
     by_frames (in_activation time ∷ in_occurrence o ∷ frames) is = cc
 
-left_frames : (frames : List Frame) (from : List Open) → map open_of frames ≡ an_activation ∷ from → map open_of (without_top frames) ≡ from
+pub left_frames : (frames : List Frame) (from : List Open) → map open_of frames ≡ an_activation ∷ from → map open_of (without_top frames) ≡ from
 left_frames [] from is = absurd cc
 left_frames (frame ∷ frames) from is = cc
 

@@ -133,7 +133,7 @@ module _ (laws : Laws) (script : ScriptTree) (capture : Capture) (path : List â„
       through = record { rest = rest; told_is = told_is; unnoted = plain_run.unnoted }
 
       own : AllOwn (Owns script capture path arguments steps keep upto) upto
-      own = all_own script capture path arguments steps keep upto plain_run.functionless through
+      own = all_own script capture path arguments steps keep upto through
 
       asks : AsksKept capture keep (opening_in capture path arguments) upto (OnlyKept script capture path arguments steps keep upto) (names (IsHere script) (IsHere (deleted keep script)) keep upto)
       asks = record {

@@ -6,8 +6,8 @@ use Rattle.prov_base.specs.declared.place.Pos.{Pos}
 use Rattle.py_tree.specs.Places.{expr_places, target_places, option_places, bound_places, form_places, suite_places, stmt_places, branches_places, else_places, handlers_places, is_same, are_distinct}
 use Rattle.py_tree.specs.Tree.{StmtTree, FormTree, SuiteTree, BranchesTree, ElseTree, HandlersTree, one_stmt, do_form, assign_form, aug_form, del_form, pass_form, break_form, continue_form, return_form, raise_form, assert_form, import_form, if_form, while_form, for_form, try_form, with_form, def_form, class_form, end_suite, more_suite, end_branches, more_branches, no_else, else_suite, end_handlers, more_handlers}
 use Rattle.py_value.specs.Contents.{Contents}
-use Rattle.py_model.specs.Act.{Act, How, Walked, ret, stop, perform, begin, close, to}
-use Rattle.py_model.specs.Going.{Open, a_statement}
+use Rattle.py_model.specs.Act.{Act, How, Walked, ret, stop, perform, begin, close, enter, leave, to}
+use Rattle.py_model.specs.Going.{Open, a_statement, an_activation}
 use Rattle.py_model.specs.Moment.{Ending}
 use Rattle.py_model.specs.Occurrences.{evaluates}
 use Rattle.py_model.specs.Operations.{Op}
@@ -67,6 +67,9 @@ module _ (P : ℕ → Pos → Type 0) where
         → ((answer : Answer) (walked : Walked) → Stands (a_statement n ∷ from) onto (f answer walked)) → Stands (a_statement n ∷ from) onto (perform at p vs f)
     st_begin : {n : ℕ} {from onto : List Open} {a : Act} → Stands (a_statement n ∷ from) onto a → Stands from onto (begin n a)
     st_close : {n : ℕ} {from onto : List Open} {ended : Ending} {a : Act} → Stands from onto a → Stands (a_statement n ∷ from) onto (close n ended a)
+    st_enter : {from onto : List Open} {at def : Pos} {params : List (List ℕ)} {vs : List Contents} {f : ℕ → Act} → ((activation : ℕ) → Stands (an_activation ∷ from) onto (f activation))
+        → Stands from onto (enter at def params vs f)
+    st_leave : {from onto : List Open} {v : Contents} {a : Act} → Stands from onto a → Stands (an_activation ∷ from) onto (leave v a)
 
   pub st_to : {from between onto : List Open} {a : Act} {f : How → Act} → Stands from between a → ((how : How) → Stands between onto (f how)) → Stands from onto (to a f)
   st_to st_ret each = each _
@@ -74,6 +77,8 @@ module _ (P : ℕ → Pos → Type 0) where
   st_to (st_perform own next) each = st_perform own (λ answer walked. st_to (next answer walked) each)
   st_to (st_begin rest) each = st_begin (st_to rest each)
   st_to (st_close rest) each = st_close (st_to rest each)
+  st_to (st_enter next) each = st_enter (λ activation. st_to (next activation) each)
+  st_to (st_leave rest) each = st_leave (st_to rest each)
 
 -- the places with their statements are the places of the whole
 abbrev seconds : List (ℕ × Pos) → List Pos
