@@ -1,0 +1,6 @@
+mod Walking
+mod Sequences
+mod Counting
+mod Objects
+mod Outsides
+mod Every
