@@ -4,3 +4,4 @@ mod Counting
 mod Objects
 mod Outsides
 mod Every
+mod Stores

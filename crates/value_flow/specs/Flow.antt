@@ -1,10 +1,12 @@
 -- Where the functions and classes come from that an operation answers and writes: from its operands and from what it reads (this project's
 -- profile). A value is known where each function and class of the script in it stands at a place of a set.
-use Rattle.std.specs.Prelude.{◌≡◌, ⊤, ℕ, Bool, true, List, [], ◌∷◌, Option, Some, None}
+use Rattle.std.specs.Prelude.{◌≡◌, ⊤, ℕ, Bool, true, List, [], ◌∷◌, slice_get, Option, Some, None}
 use Rattle.prov_base.specs.declared.place.Pos.{Pos}
 use Rattle.py_value.specs.Contents.{Contents, Parts, tuple, function, class, no_parts, part}
-use Rattle.py_value.specs.Seen.{SeenContent, SeenChange, SeenKind, an_instance, var_is, item_is, entry_is, order_is, method_is, base_is, key_inserted, key_deleted, bytes_appended}
-use Rattle.py_model.specs.Plan.{Ask, Given, Found, Writes, write, change, move, opens, notes, done, done_at_end, Plan, read_var, read_len, read_item, read_entry, read_order, read_file, read_offset, read_closed, read_method, read_base, kind_of, name_of, was_opened, ask, fetch, looks, counts, prints, writes, makes, raises, raises_again, ends, runs_away}
+use Rattle.py_value.specs.Seen.{SeenLocation, SeenContent, SeenChange, SeenKind, an_instance, var_is, item_is, entry_is, order_is, method_is, base_is, key_inserted, key_deleted, bytes_appended}
+use Rattle.py_model.specs.Plan.{Ask, Given, Found, Answer, value, Writes, write, change, move, opens, notes, done, done_at_end, Plan, read_var, read_len, read_item, read_entry, read_order, read_file, read_offset, read_closed, read_method, read_base, kind_of, name_of, was_opened, ask, fetch, looks, counts, prints, writes, makes, raises, raises_again, ends, runs_away}
+use Rattle.py_model.specs.Effect.{Outcome, answered}
+use Rattle.py_model.specs.Store.{RunStore}
 
 module _ (known : Pos → Bool) where
   abbrev mutual
@@ -88,3 +90,20 @@ module _ (known : Pos → Bool) where
     by_again : {o : ℕ} → KeepsKnown (raises_again o)
     by_end : KeepsKnown ends
     by_run_away : KeepsKnown runs_away
+
+  -- what stands somewhere in a store, and what is answered
+  abbrev pub KnownFound : Option SeenContent → Type 0
+  KnownFound None = ⊤
+  KnownFound (Some content) = KnownContent content
+
+  pub record KnownStore (store : RunStore) : Type 0 where
+    pub at : (l : SeenLocation) → KnownFound (store.at l)
+    pub kinds : (o : ℕ) → KnownKind (slice_get store.kinds o)
+
+  abbrev pub KnownAnswer : Answer → Type 0
+  KnownAnswer (value v) = KnownValue v
+  KnownAnswer other = ⊤
+
+  abbrev pub KnownOutcome : Outcome → Type 0
+  KnownOutcome (answered answer) = KnownAnswer answer
+  KnownOutcome other = ⊤

@@ -3,10 +3,19 @@ ghost use Rattle.std.specs.Prelude.{Bool, List};
 ghost use Rattle.prov_base.specs.declared.place.Pos.{Pos};
 ghost use Rattle.py_value.specs.Contents.{Contents};
 ghost use Rattle.py_model.specs.Operations.{Op, plan};
-ghost use Rattle.value_flow.specs.Flow.{KnownValue, KnownAll, KeepsKnown};
+ghost use Rattle.py_model.specs.Effect.{Answers, effect, after};
+ghost use Rattle.py_model.specs.Plan.{Plan};
+ghost use Rattle.py_model.specs.Store.{RunStore};
+ghost use Rattle.value_flow.specs.Flow.{KnownValue, KnownAll, KeepsKnown, KnownStore, KnownOutcome};
 
 /// The law that no operation makes a function or class of the script from nothing. Where those in its operands and in all that it reads stand at
 /// places of a set, so do those in what it answers, writes, makes and raises. It asks for names at such places alone.
 pub fn operations_pass_functions_on()
     ensures { (known : Pos → Bool) (op : Op) (values : List Contents) → KnownValue known op.value → KnownAll known values → KeepsKnown known (plan op values) }
+{}
+
+/// The law of effects: in a store where all is known, a plan that keeps it so has a known answer, and leaves such a store.
+pub fn effects_keep_stores_known()
+    ensures store { (known : Pos → Bool) (store : RunStore) (answers : Answers) (p : Plan) → KeepsKnown known p → KnownStore known store → KnownStore known (after (effect store answers p) store) }
+    ensures answer { (known : Pos → Bool) (store : RunStore) (answers : Answers) (p : Plan) → KeepsKnown known p → KnownStore known store → KnownOutcome known (effect store answers p).outcome }
 {}

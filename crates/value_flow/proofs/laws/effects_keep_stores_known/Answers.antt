@@ -1,0 +1,8 @@
+use Rattle.value_flow.proofs.Stores.{store_stays_known, answer_is_known}
+use Rattle.value_flow.proofs.laws.effects_keep_stores_known.Goals as goal
+
+pub returns-clause-store : goal.returns-clause-store
+returns-clause-store c = store_stays_known
+
+pub returns-clause-answer : goal.returns-clause-answer
+returns-clause-answer c = answer_is_known
