@@ -1,16 +1,15 @@
 -- What is told of an operation answers as its plan does.
-use Rattle.std.proofs.Common.{◌≡◌, ◌↔◌, ◌&&◌, ℕ, Bool, true, false, Result, Ok, Err, IfOk, refl, sym, subst, ap, ◌∙◌}
+use Rattle.std.proofs.Common.{◌≡◌, ◌↔◌, ◌&&◌, Bool, true, false, Result, Ok, Err, IfOk, refl, sym, subst, ap, ◌∙◌}
 use Rattle.std.proofs.lemmas.Bool.{false≢true}
 use Rattle.prov_base.specs.declared.refusal.Memory.{Memory as Want}
-use Rattle.op_atoms.specs.Answers.{AnswersIn, AnswersAs, RaisesText}
+use Rattle.op_atoms.specs.Answers.{AnswersAs}
 use Rattle.op_atoms.specs.Telling.{IsTold}
 use Rattle.op_atoms.specs.declared.atomic.Atomic.{Atomic}
 use Rattle.op_atoms.specs.declared.atomic.Atomic.TheVariants.{Gives, Raises, NotAtomic}
-use Rattle.op_work.specs.Work.{WorkView, Extends, IsSeen, EndedSo, Ends, Goes}
+use Rattle.op_work.specs.Work.{WorkView, IsSeen, EndedSo, Ends}
 use Rattle.op_work.specs.declared.stop.Stop.{Stop}
 use Rattle.py_model.specs.Effect.{Effect}
 use Rattle.py_model.specs.Plan.{Plan}
-use Rattle.py_model.specs.Store.{RunStore}
 use Rattle.py_model.specs.declared.moment.Answer.{Answer as OneAnswer}
 use Rattle.py_value.specs.Values.{ValuesView}
 

@@ -1,5 +1,5 @@
 -- What is told of an operation that came to its end or stopped.
-use Rattle.std.specs.Prelude.{◌≡◌, ⊤, ℕ, Result, Ok, Err}
+use Rattle.std.specs.Prelude.{◌≡◌, ⊤, Result, Ok, Err}
 use Rattle.op_atoms.specs.declared.atomic.Atomic.{Atomic}
 use Rattle.op_atoms.specs.declared.atomic.Atomic.TheVariants.{Gives, Raises, NotAtomic}
 use Rattle.op_work.specs.declared.stop.Stop.{Stop}

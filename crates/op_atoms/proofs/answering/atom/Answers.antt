@@ -1,4 +1,4 @@
-use Rattle.std.proofs.Common.{◌≡◌, ◌∙◌, sym, ap, false, true}
+use Rattle.std.proofs.Common.{◌∙◌, sym, ap}
 use Rattle.std.specs.List.{list_all}
 use Rattle.op_atoms.specs.Answers.{is_atomic as is_atomic_number}
 use Rattle.op_atoms.specs.Atoms.{is_atom as is_atomic_value}

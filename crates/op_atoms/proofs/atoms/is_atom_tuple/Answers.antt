@@ -1,4 +1,4 @@
-use Rattle.std.proofs.Common.{◌≡◌, ◌∙◌, sym, subst, length}
+use Rattle.std.proofs.Common.{◌∙◌, sym, subst, length}
 use Rattle.py_value.specs.Values.{AreBelow}
 use Rattle.op_atoms.proofs.Marking.{tuple_marked}
 use Rattle.op_atoms.proofs.atoms.is_atom_tuple.Goals as goal
