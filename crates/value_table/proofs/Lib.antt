@@ -1,0 +1,5 @@
+pub mod Standing
+pub mod Effects
+pub mod Lists
+pub mod PlainLists
+pub mod WorkedLists

@@ -1,0 +1,50 @@
+-- What objects of a store are as values (The Python Language Reference 3, section 3.2): a list is its items.
+use Rattle.std.specs.Prelude.{◌≡◌, ◌<◌, ⊤, ℕ, zero, suc, Bool, true, false, ◌==◌, List, [], ◌∷◌, map, length, slice_get, Some, is_some, unwrap_or}
+use Rattle.py_value.specs.Contents.{Contents, nothing, text, tuple, range, object}
+use Rattle.py_value.specs.Seen.{SeenLocation, a_list, len_at, item_at, entry_at, order_at, offset_at, closed_at}
+use Rattle.py_model.specs.Numbers.{range_count}
+use Rattle.py_model.specs.Store.{RunStore, len_of, item_of}
+use Rattle.py_model.specs.Texts.{characters}
+use Rattle.py_model.specs.Walks.{items_of, numbers_from}
+
+-- from a place of a list on, these items stand there
+abbrev pub Stand : RunStore → ℕ → ℕ → List Contents → Type 0
+Stand store o i [] = ⊤
+Stand store o i (item ∷ items) = (item_of store o i ≡ Some item) × Stand store o (suc i) items
+
+-- the object is the list of these items: its length is their number, and each stands at its place
+pub record IsList (store : RunStore) (o : ℕ) (items : List Contents) : Type 0 where
+  pub kind_is : slice_get store.kinds o ≡ Some a_list
+  pub length_is : len_of store o ≡ length items
+  pub items_stand : Stand store o 0 items
+
+-- the items that are read of a list: what was never set is read as None
+abbrev pub items_from : RunStore → ℕ → ℕ → ℕ → List Contents
+items_from store zero o i = []
+items_from store (suc n) o i = unwrap_or (item_of store o i) nothing ∷ items_from store n o (suc i)
+
+abbrev pub items_at : RunStore → ℕ → List Contents
+items_at store o = items_from store (len_of store o) o 0
+
+-- a list is plain: at each place below its length stands an item
+pub record IsPlainList (store : RunStore) (o : ℕ) : Type 0 where
+  pub kind_is : slice_get store.kinds o ≡ Some a_list
+  pub has_items : (i : ℕ) → i < len_of store o → is_some (item_of store o i) ≡ true
+
+-- the location belongs to the object
+abbrev pub is_of : ℕ → SeenLocation → Bool
+is_of o (len_at p) = o == p
+is_of o (item_at p i) = o == p
+is_of o (entry_at p key) = o == p
+is_of o (order_at p) = o == p
+is_of o (offset_at p) = o == p
+is_of o (closed_at p) = o == p
+is_of o l = false
+
+-- the value is a sequence with these items: a list, a tuple, a range, or a text with its characters
+abbrev pub HasItems : RunStore → Contents → List Contents → Type 0
+HasItems store (object o) items = IsList store o items
+HasItems store (tuple parts) items = items ≡ items_of parts
+HasItems store (range start end step) items = items ≡ numbers_from (range_count start end step) start step
+HasItems store (text bytes) items = items ≡ map text (characters bytes)
+HasItems store other items = ⊥

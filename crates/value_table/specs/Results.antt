@@ -1,0 +1,40 @@
+-- What the table says of an operation, and when an effect does that (this project's profile).
+use Rattle.std.specs.Prelude.{◌≡◌, ℕ, false, List, length, Some, None}
+use Rattle.py_value.specs.Contents.{Contents, exception_class, object}
+use Rattle.py_value.specs.Seen.{SeenLocation, a_list}
+use Rattle.py_model.specs.Effect.{Effect, answered, after, thrown}
+use Rattle.py_model.specs.Plan.{value}
+use Rattle.py_model.specs.Store.{RunStore}
+use Rattle.value_table.specs.Reading.{IsList, is_of}
+
+-- It answers a value and leaves the object as this; or makes a list of these items, the answer, and leaves the object as it is; or raises
+-- an exception of a class of the language with these arguments, and leaves the object as it is.
+pub data Result (A : Type 0) : Type 0 where
+  leaves : Contents → A → Result A
+  makes_list : List Contents → Result A
+  throws : ℕ → List Contents → Result A
+
+-- it answers a value, makes nothing, and changes nothing but the object
+pub record Leaves (store : RunStore) (o : ℕ) (e : Effect) (answer : Contents) : Type 0 where
+  pub answer_is : e.outcome ≡ answered (value answer)
+  pub made_is : e.made ≡ None
+  pub elsewhere : (l : SeenLocation) → is_of o l ≡ false → (after e store).at l ≡ store.at l
+
+-- it makes a list of these items and answers it, and changes nothing else
+pub record MakesList (store : RunStore) (e : Effect) (items : List Contents) : Type 0 where
+  pub answer_is : e.outcome ≡ answered (value (object (length store.kinds)))
+  pub made_is : e.made ≡ Some a_list
+  pub is_list : IsList (after e store) (length store.kinds) items
+  pub elsewhere : (l : SeenLocation) → is_of (length store.kinds) l ≡ false → (after e store).at l ≡ store.at l
+
+-- it raises an exception of this class with these arguments, and does nothing else
+pub record Throws (store : RunStore) (e : Effect) (number : ℕ) (arguments : List Contents) : Type 0 where
+  pub outcome_is : e.outcome ≡ (thrown store (exception_class number) arguments).outcome
+  pub made_is : e.made ≡ (thrown store (exception_class number) arguments).made
+  pub after_is : after e store ≡ after (thrown store (exception_class number) arguments) store
+
+-- the effect of an operation on an object does what the table says, where this is what the object is as a value
+abbrev pub Does : {A : Type 0} → (RunStore → ℕ → A → Type 0) → RunStore → ℕ → Effect → Result A → Type 0
+Does Is store o e (leaves answer is) = Leaves store o e answer × Is (after e store) o is
+Does Is store o e (makes_list items) = MakesList store e items
+Does Is store o e (throws number arguments) = Throws store e number arguments

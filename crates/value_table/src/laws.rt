@@ -1,0 +1,57 @@
+// Laws of the table in terms of values, each a function without a body that says it.
+ghost use Rattle.std.specs.Prelude.{◌≡◌, ℕ, ℤ, List, [], ◌∷◌, Option, Some, None};
+ghost use Rattle.py_value.specs.Contents.{Contents, object};
+ghost use Rattle.py_model.specs.Arithmetic.{add_plan, iadd_plan, len_plan, mul_plan};
+ghost use Rattle.py_model.specs.Effect.{Answers, effect};
+ghost use Rattle.py_model.specs.Lists.{append, extend, insert, pop, getitem, setitem, delitem, slice, reverse_method, sort_method};
+ghost use Rattle.py_model.specs.Numbers.{times};
+ghost use Rattle.py_model.specs.Operands.{number_in};
+ghost use Rattle.py_model.specs.Sorting.{refused_to};
+ghost use Rattle.py_model.specs.Store.{RunStore};
+ghost use Rattle.py_model.specs.Walks.{deepest};
+ghost use Rattle.value_table.specs.Reading.{IsList, HasItems, IsPlainList, items_at};
+ghost use Rattle.value_table.specs.Results.{Does};
+ghost use Rattle.value_table.specs.TableLists.{append_is, getitem_is, setitem_is, delitem_is, pop_is, pop_last_is, insert_is, len_is, extend_is, iadd_is, add_is, slice_is, mul_is, reverse_is, sort_is, bound_in};
+
+/// The law that a plain list is the list of the items that are read of it, and of no others; and a list of items is plain.
+pub fn plain_lists_have_items()
+    ensures plain { (store : RunStore) (o : ℕ) → IsPlainList store o → IsList store o (items_at store o) }
+    ensures one { (store : RunStore) (o : ℕ) (items : List Contents) → IsList store o items → IsPlainList store o × (items ≡ items_at store o) }
+{}
+
+/// The law of lists: where an object is the list of some items, each operation does what the table says of these items.
+pub fn lists_do_as_the_table()
+    ensures append { (store : RunStore) (answers : Answers) (o : ℕ) (items : List Contents) (item : Contents) → IsList store o items
+        → Does IsList store o (effect store answers (append (object o ∷ (item ∷ [])))) (append_is items item) }
+    ensures getitem { (store : RunStore) (answers : Answers) (o : ℕ) (items : List Contents) (index : Contents) (i : ℤ) → IsList store o items
+        → number_in index ≡ Some i → Does IsList store o (effect store answers (getitem (object o ∷ (index ∷ [])))) (getitem_is items i) }
+    ensures setitem { (store : RunStore) (answers : Answers) (o : ℕ) (items : List Contents) (index : Contents) (i : ℤ) (item : Contents)
+        → IsList store o items → number_in index ≡ Some i
+        → Does IsList store o (effect store answers (setitem (object o ∷ (index ∷ (item ∷ []))))) (setitem_is items i item) }
+    ensures delitem { (store : RunStore) (answers : Answers) (o : ℕ) (items : List Contents) (index : Contents) (i : ℤ) → IsList store o items
+        → number_in index ≡ Some i → Does IsList store o (effect store answers (delitem (object o ∷ (index ∷ [])))) (delitem_is items i) }
+    ensures pop { (store : RunStore) (answers : Answers) (o : ℕ) (items : List Contents) (index : Contents) (i : ℤ) → IsList store o items
+        → number_in index ≡ Some i → Does IsList store o (effect store answers (pop (object o ∷ (index ∷ [])))) (pop_is items i) }
+    ensures pop_last { (store : RunStore) (answers : Answers) (o : ℕ) (items : List Contents) → IsList store o items
+        → Does IsList store o (effect store answers (pop (object o ∷ []))) (pop_last_is items) }
+    ensures insert { (store : RunStore) (answers : Answers) (o : ℕ) (items : List Contents) (index : Contents) (i : ℤ) (item : Contents)
+        → IsList store o items → number_in index ≡ Some i
+        → Does IsList store o (effect store answers (insert (object o ∷ (index ∷ (item ∷ []))))) (insert_is items i item) }
+    ensures len { (store : RunStore) (answers : Answers) (o : ℕ) (items : List Contents) → IsList store o items
+        → Does IsList store o (effect store answers (len_plan (object o ∷ []))) (len_is items) }
+    ensures extend { (store : RunStore) (answers : Answers) (o : ℕ) (items more : List Contents) (other : Contents) → IsList store o items
+        → HasItems store other more → Does IsList store o (effect store answers (extend (object o ∷ (other ∷ [])))) (extend_is items more) }
+    ensures iadd { (store : RunStore) (answers : Answers) (o : ℕ) (items more : List Contents) (other : Contents) → IsList store o items
+        → HasItems store other more → Does IsList store o (effect store answers (iadd_plan (object o ∷ (other ∷ [])))) (iadd_is o items more) }
+    ensures add { (store : RunStore) (answers : Answers) (o p : ℕ) (items more : List Contents) → IsList store o items → IsList store p more
+        → Does IsList store o (effect store answers (add_plan (object o ∷ (object p ∷ [])))) (add_is items more) }
+    ensures slice { (store : RunStore) (answers : Answers) (o : ℕ) (items : List Contents) (low high : Contents) (l h : Option ℤ) → IsList store o items
+        → bound_in low ≡ Some l → bound_in high ≡ Some h
+        → Does IsList store o (effect store answers (slice (object o ∷ (low ∷ (high ∷ []))))) (slice_is items l h) }
+    ensures mul { (store : RunStore) (answers : Answers) (o : ℕ) (items : List Contents) (number : Contents) (i : ℤ) → IsList store o items
+        → number_in number ≡ Some i → Does IsList store o (effect store answers (mul_plan (object o ∷ (number ∷ [])))) (mul_is items (times i)) }
+    ensures reverse { (store : RunStore) (answers : Answers) (o : ℕ) (items : List Contents) → IsList store o items
+        → Does IsList store o (effect store answers (reverse_method (object o ∷ []))) (reverse_is items) }
+    ensures sort { (store : RunStore) (answers : Answers) (o : ℕ) (items : List Contents) → IsList store o items → refused_to deepest items ≡ None
+        → Does IsList store o (effect store answers (sort_method (object o ∷ []))) (sort_is items) }
+{}
