@@ -28,7 +28,7 @@ same_then e f g s t u one other = record { answer_is = one.answer_is ∙ other.a
 pub after_same : (store : RunStore) (e f : Effect) → ((s : RunStore) → Same e f s s) → after e store ≡ after f store
 after_same store e f same = (same (with_made e.made store)).after_is ∙ ap (λ made. after_touches f.touches (with_made made store)) (same store).made_is
 
-behind_read : (l : SeenLocation) (e f : Effect) (s t : RunStore) → Same e f s t → Same (touching (accessed (reads l)) e) f s t
+pub behind_read : (l : SeenLocation) (e f : Effect) (s t : RunStore) → Same e f s t → Same (touching (accessed (reads l)) e) f s t
 behind_read l e f s t same = record { answer_is = same.answer_is; made_is = same.made_is; after_is = same.after_is }
 
 module _ {A : Type 0} (Is : RunStore → ℕ → A → Type 0) (store : RunStore) (o : ℕ) where

@@ -72,7 +72,7 @@ last_is : {A : Type 0} (xs : List A) (x : A) → slice_get (xs ++ x ∷ []) (len
 last_is [] x = refl
 last_is (y ∷ ys) x = last_is ys x
 
-abbrev length_by : ℕ → (ℕ → Plan) → Option SeenKind → Plan
+abbrev pub length_by : ℕ → (ℕ → Plan) → Option SeenKind → Plan
 length_by o go (Some a_list) = read_len o go
 length_by o go (Some a_dict) = read_order o (λ keys. go (length keys))
 length_by o go other = wrong_kind

@@ -10,13 +10,13 @@ use Rattle.value_table.specs.Reading.{items_at}
 use Rattle.value_table.specs.Results.{leaves, throws}
 use Rattle.value_table.specs.TableLists.{append_is, getitem_is, pop_is, insert_is, delitem_is}
 
-abbrev n : ℕ → Contents
+abbrev pub n : ℕ → Contents
 n k = int (pos k)
 
-abbrev devices : Answers
+abbrev pub devices : Answers
 devices = record { given = λ what. None; found = λ path. None }
 
-abbrev then_store : RunStore → Plan → RunStore
+abbrev pub then_store : RunStore → Plan → RunStore
 then_store store p = after (effect store devices p) store
 
 -- the list `[7, 8, 9]` is object 0

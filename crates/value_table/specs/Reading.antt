@@ -1,9 +1,13 @@
--- What objects of a store are as values (The Python Language Reference 3, section 3.2): a list is its items.
-use Rattle.std.specs.Prelude.{◌≡◌, ◌<◌, ⊤, ℕ, zero, suc, Bool, true, false, ◌==◌, List, [], ◌∷◌, map, length, slice_get, Some, is_some, unwrap_or}
+-- What objects of a store are as values (The Python Language Reference 3, section 3.2): a list is its items, a dictionary its
+-- pairs of key and value in order, an instance its attributes.
+use Rattle.std.specs.Prelude.{◌≡◌, ◌<◌, ⊤, ℕ, zero, suc, Bool, true, false, ◌==◌, List, [], ◌∷◌, map, length, slice_get, Option, Some, None, if◌then◌else◌, is_some, unwrap_or}
 use Rattle.py_value.specs.Contents.{Contents, nothing, text, tuple, range, object}
-use Rattle.py_value.specs.Seen.{SeenLocation, a_list, len_at, item_at, entry_at, order_at, offset_at, closed_at}
+use Rattle.py_value.specs.Seen.{SeenLocation, a_list, a_dict, an_instance, len_at, item_at, entry_at, order_at, offset_at, closed_at}
+use Rattle.py_value.specs.KeyOf.{normal}
+use Rattle.py_value.specs.Same.{same_value}
+use Rattle.py_model.specs.Orderly.{HasKeysApart}
 use Rattle.py_model.specs.Numbers.{range_count}
-use Rattle.py_model.specs.Store.{RunStore, len_of, item_of}
+use Rattle.py_model.specs.Store.{RunStore, len_of, item_of, entry_of, order_of}
 use Rattle.py_model.specs.Texts.{characters}
 use Rattle.py_model.specs.Walks.{items_of, numbers_from}
 
@@ -30,6 +34,31 @@ items_at store o = items_from store (len_of store o) o 0
 pub record IsPlainList (store : RunStore) (o : ℕ) : Type 0 where
   pub kind_is : slice_get store.kinds o ≡ Some a_list
   pub has_items : (i : ℕ) → i < len_of store o → is_some (item_of store o i) ≡ true
+
+-- the pair of a key, where there is one; 1 and True are one key, so normal forms are compared
+abbrev pub pair_of : Contents → List (Contents × Contents) → Option (Contents × Contents)
+pair_of key [] = None
+pair_of key (pair ∷ pairs) = if same_value (normal key) (normal pair.0) then Some pair else pair_of key pairs
+
+-- The object has these pairs: its order is their keys, no key twice, and under each key stands its pair, and under others none. An order
+-- that was never set is empty.
+pub record HasPairs (store : RunStore) (o : ℕ) (pairs : List (Contents × Contents)) : Type 0 where
+  pub order_is : order_of store o ≡ map (λ (pair : Contents × Contents). pair.0) pairs
+  pub entries_are : (key : Contents) → entry_of store o key ≡ pair_of key pairs
+  pub apart : HasKeysApart pairs
+
+-- the pairs that are read of an object, in order
+abbrev pub pairs_at : RunStore → ℕ → List (Contents × Contents)
+pairs_at store o = map (λ key. unwrap_or (entry_of store o key) (key, nothing)) (order_of store o)
+
+-- the object is the dictionary, or the instance of a class, with these pairs
+pub record IsDict (store : RunStore) (o : ℕ) (pairs : List (Contents × Contents)) : Type 0 where
+  pub kind_is : slice_get store.kinds o ≡ Some a_dict
+  pub has_pairs : HasPairs store o pairs
+
+pub record IsInstance (of : Contents) (store : RunStore) (o : ℕ) (pairs : List (Contents × Contents)) : Type 0 where
+  pub kind_is : slice_get store.kinds o ≡ Some (an_instance of)
+  pub has_pairs : HasPairs store o pairs
 
 -- the location belongs to the object
 abbrev pub is_of : ℕ → SeenLocation → Bool

@@ -1,7 +1,10 @@
 // Laws of the table in terms of values, each a function without a body that says it.
 ghost use Rattle.std.specs.Prelude.{◌≡◌, ℕ, ℤ, List, [], ◌∷◌, Option, Some, None};
-ghost use Rattle.py_value.specs.Contents.{Contents, object};
-ghost use Rattle.py_model.specs.Arithmetic.{add_plan, iadd_plan, len_plan, mul_plan};
+ghost use Rattle.py_value.specs.Contents.{Contents, nothing, object, text};
+ghost use Rattle.py_value.specs.KeyOf.{key_fault};
+ghost use Rattle.py_model.specs.Arithmetic.{add_plan, in_plan, iadd_plan, len_plan, mul_plan};
+ghost use Rattle.py_model.specs.Classes.{find, getattr, setattr};
+ghost use Rattle.py_model.specs.Dicts.{get_method, items_method, keys_method, values_method};
 ghost use Rattle.py_model.specs.Effect.{Answers, effect};
 ghost use Rattle.py_model.specs.Lists.{append, extend, insert, pop, getitem, setitem, delitem, slice, reverse_method, sort_method};
 ghost use Rattle.py_model.specs.Numbers.{times};
@@ -9,9 +12,12 @@ ghost use Rattle.py_model.specs.Operands.{number_in};
 ghost use Rattle.py_model.specs.Sorting.{refused_to};
 ghost use Rattle.py_model.specs.Store.{RunStore};
 ghost use Rattle.py_model.specs.Walks.{deepest};
-ghost use Rattle.value_table.specs.Reading.{IsList, HasItems, IsPlainList, items_at};
+ghost use Rattle.value_table.specs.Reading.{HasPairs, IsDict, IsInstance, IsList, pair_of, pairs_at, HasItems, IsPlainList, items_at};
+ghost use Rattle.value_table.specs.TableDicts.{Pairs, getitem_is as dict_getitem_is, setitem_is as dict_setitem_is, delitem_is as dict_delitem_is, in_is, len_is as dict_len_is, get_is, items_is, keys_is, values_is, setattr_is, getattr_is};
 ghost use Rattle.value_table.specs.Results.{Does};
 ghost use Rattle.value_table.specs.TableLists.{append_is, getitem_is, setitem_is, delitem_is, pop_is, pop_last_is, insert_is, len_is, extend_is, iadd_is, add_is, slice_is, mul_is, reverse_is, sort_is, bound_in};
+
+use py_value::tests_are_equality;
 
 /// The law that a plain list is the list of the items that are read of it, and of no others; and a list of items is plain.
 pub fn plain_lists_have_items()
@@ -55,3 +61,46 @@ pub fn lists_do_as_the_table()
     ensures sort { (store : RunStore) (answers : Answers) (o : ℕ) (items : List Contents) → IsList store o items → refused_to deepest items ≡ None
         → Does IsList store o (effect store answers (sort_method (object o ∷ []))) (sort_is items) }
 {}
+
+/// The law of dictionaries: where an object is the dictionary of some pairs, each operation does with a usable key what the table says of these
+/// pairs. They are those that are read.
+pub fn dicts_do_as_the_table()
+    ensures getitem { (store : RunStore) (answers : Answers) (o : ℕ) (pairs : Pairs) (key : Contents) → IsDict store o pairs → key_fault deepest key ≡ None
+        → Does IsDict store o (effect store answers (getitem (object o ∷ (key ∷ [])))) (dict_getitem_is pairs key) }
+    ensures setitem { (store : RunStore) (answers : Answers) (o : ℕ) (pairs : Pairs) (key item : Contents) → IsDict store o pairs → key_fault deepest key ≡ None
+        → Does IsDict store o (effect store answers (setitem (object o ∷ (key ∷ (item ∷ []))))) (dict_setitem_is pairs key item) }
+    ensures delitem { (store : RunStore) (answers : Answers) (o : ℕ) (pairs : Pairs) (key : Contents) → IsDict store o pairs → key_fault deepest key ≡ None
+        → Does IsDict store o (effect store answers (delitem (object o ∷ (key ∷ [])))) (dict_delitem_is pairs key) }
+    ensures contains { (store : RunStore) (answers : Answers) (o : ℕ) (pairs : Pairs) (key : Contents) → IsDict store o pairs → key_fault deepest key ≡ None
+        → Does IsDict store o (effect store answers (in_plan (key ∷ (object o ∷ [])))) (in_is pairs key) }
+    ensures get { (store : RunStore) (answers : Answers) (o : ℕ) (pairs : Pairs) (key instead : Contents) → IsDict store o pairs → key_fault deepest key ≡ None
+        → Does IsDict store o (effect store answers (get_method (object o ∷ (key ∷ (instead ∷ []))))) (get_is pairs key instead) }
+    ensures get_or_none { (store : RunStore) (answers : Answers) (o : ℕ) (pairs : Pairs) (key : Contents) → IsDict store o pairs → key_fault deepest key ≡ None
+        → Does IsDict store o (effect store answers (get_method (object o ∷ (key ∷ [])))) (get_is pairs key nothing) }
+    ensures len { (store : RunStore) (answers : Answers) (o : ℕ) (pairs : Pairs) → IsDict store o pairs
+        → Does IsDict store o (effect store answers (len_plan (object o ∷ []))) (dict_len_is pairs) }
+    ensures items { (store : RunStore) (answers : Answers) (o : ℕ) (pairs : Pairs) → IsDict store o pairs
+        → Does IsDict store o (effect store answers (items_method (object o ∷ []))) (items_is pairs) }
+    ensures keys { (store : RunStore) (answers : Answers) (o : ℕ) (pairs : Pairs) → IsDict store o pairs
+        → Does IsDict store o (effect store answers (keys_method (object o ∷ []))) (keys_is pairs) }
+    ensures values { (store : RunStore) (answers : Answers) (o : ℕ) (pairs : Pairs) → IsDict store o pairs
+        → Does IsDict store o (effect store answers (values_method (object o ∷ []))) (values_is pairs) }
+    ensures read { (store : RunStore) (o : ℕ) (pairs : Pairs) → HasPairs store o pairs → pairs ≡ pairs_at store o }
+{
+    tests_are_equality();
+}
+
+/// The law of attributes: where an object is the instance of a class with some attributes, one that is there is read and any is set as the table
+/// says.
+pub fn attributes_do_as_the_table()
+    ensures setattr { (store : RunStore) (answers : Answers) (of : Contents) (o : ℕ) (pairs : Pairs) (name : List ℕ) (item : Contents)
+        → IsInstance of store o pairs → Does (IsInstance of) store o (effect store answers (setattr name (object o) item)) (setattr_is pairs name item) }
+    ensures getattr { (store : RunStore) (answers : Answers) (of : Contents) (o : ℕ) (pairs : Pairs) (name : List ℕ) (pair : Contents × Contents)
+        → IsInstance of store o pairs → pair_of (text name) pairs ≡ Some pair
+        → Does (IsInstance of) store o (effect store answers (getattr name (object o))) (getattr_is pairs pair) }
+    ensures find { (store : RunStore) (answers : Answers) (of : Contents) (o : ℕ) (pairs : Pairs) (name : List ℕ) (pair : Contents × Contents)
+        → IsInstance of store o pairs → pair_of (text name) pairs ≡ Some pair
+        → Does (IsInstance of) store o (effect store answers (find name (object o))) (getattr_is pairs pair) }
+{
+    tests_are_equality();
+}

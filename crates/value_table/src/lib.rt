@@ -7,4 +7,7 @@
 
 mod laws;
 
-pub use laws::{lists_do_as_the_table, plain_lists_have_items};
+pub use laws::{
+    attributes_do_as_the_table, dicts_do_as_the_table, lists_do_as_the_table,
+    plain_lists_have_items,
+};

@@ -1,0 +1,73 @@
+-- The table of operations on dictionaries and on attributes of instances (The Python Language Reference 3, sections 3.2, 6.2.7 and 6.3, and
+-- The Python Standard Library, "Mapping Types"): each over the pairs of key and value in order. The key is one that is usable as a key.
+use Rattle.std.specs.Prelude.{ℕ, pos, List, [], ◌∷◌, map, length, Option, Some, None, is_some, if◌then◌else◌, unwrap_or}
+use Rattle.std.specs.Option.{option_map}
+use Rattle.py_value.specs.Contents.{Contents, nothing, truth, tuple, text, no_parts, part}
+use Rattle.py_value.specs.KeyOf.{normal}
+use Rattle.py_value.specs.Same.{same_value}
+use Rattle.py_model.specs.Dicts.{with_pair}
+use Rattle.py_model.specs.Faults.{key_error}
+use Rattle.value_table.specs.Reading.{pair_of}
+use Rattle.value_table.specs.Results.{Result, leaves, makes_list, throws}
+use Rattle.value_table.specs.TableLists.{number_or_overflow}
+
+abbrev pub Pairs : Type 0
+Pairs = List (Contents × Contents)
+
+-- it does something with the pair of a key, and raises the key itself where there is none
+abbrev pub at_key : Contents → Pairs → (Contents × Contents → Result Pairs) → Result Pairs
+at_key key pairs does = by_pair (pair_of key pairs)
+  where
+    by_pair : Option (Contents × Contents) → Result Pairs
+    by_pair (Some pair) = does pair
+    by_pair None = throws key_error (key ∷ [])
+
+-- the pairs without the one of a key
+abbrev pub without_pair : Contents → Pairs → Pairs
+without_pair key [] = []
+without_pair key (pair ∷ pairs) = if same_value (normal key) (normal pair.0) then pairs else pair ∷ without_pair key pairs
+
+-- 26 getitem (R Entry): the value of the key
+abbrev pub getitem_is : Pairs → Contents → Result Pairs
+getitem_is pairs key = at_key key pairs (λ pair. leaves pair.1 pairs)
+
+-- 28 setitem (R Entry, S Entry, U Order where absent): the pairs with this value for the key, which keeps its place and its first form, or
+-- goes behind the others
+abbrev pub setitem_is : Pairs → Contents → Contents → Result Pairs
+setitem_is pairs key item = leaves nothing (with_pair key item pairs)
+
+-- 29 delitem (R Entry, S Entry, U Order): the pairs without the one of the key
+abbrev pub delitem_is : Pairs → Contents → Result Pairs
+delitem_is pairs key = at_key key pairs (λ pair. leaves nothing (without_pair key pairs))
+
+-- 18 in (R Entry): whether there is a pair of the key; 19 not in answers the other truth value
+abbrev pub in_is : Pairs → Contents → Result Pairs
+in_is pairs key = leaves (truth (is_some (pair_of key pairs))) pairs
+
+-- 58 len (R Order): how many pairs
+abbrev pub len_is : Pairs → Result Pairs
+len_is pairs = number_or_overflow (pos (length pairs)) pairs
+
+-- 87 get (R Entry): the value of the key, or what is given instead, None where nothing is
+abbrev pub get_is : Pairs → Contents → Contents → Result Pairs
+get_is pairs key instead = leaves (unwrap_or (option_map (λ (pair : Contents × Contents). pair.1) (pair_of key pairs)) instead) pairs
+
+-- 88 items (R Order, R Entries, S Len, S Items): a new list of the pairs, each as a tuple
+abbrev pub items_is : Pairs → Result Pairs
+items_is pairs = makes_list (map (λ (pair : Contents × Contents). tuple (part pair.0 (part pair.1 no_parts))) pairs)
+
+-- 89 keys (R Order, S Len, S Items): a new list of the keys
+abbrev pub keys_is : Pairs → Result Pairs
+keys_is pairs = makes_list (map (λ (pair : Contents × Contents). pair.0) pairs)
+
+-- 90 values (R Order, R Entries, S Len, S Items): a new list of the values
+abbrev pub values_is : Pairs → Result Pairs
+values_is pairs = makes_list (map (λ (pair : Contents × Contents). pair.1) pairs)
+
+-- 31 setattr of an instance (R Entry, S Entry, U Order where absent): its attributes with this value for the name
+abbrev pub setattr_is : Pairs → List ℕ → Contents → Result Pairs
+setattr_is pairs name item = leaves nothing (with_pair (text name) item pairs)
+
+-- 30 getattr of an instance that has the attribute (R Entry): its value; where it has none the class is asked, as the plan says
+abbrev pub getattr_is : Pairs → Contents × Contents → Result Pairs
+getattr_is pairs pair = leaves pair.1 pairs
