@@ -6,3 +6,5 @@ pub mod WorkedDicts
 pub mod WorkedLists
 pub mod Keys
 pub mod Dicts
+pub mod Alone
+pub mod WorkedTexts

@@ -21,7 +21,7 @@ use Rattle.value_table.specs.TableLists.{item_in, at_place, without, append_is, 
 use Rattle.value_table.proofs.Standing.{set, block, stand_at, stand_taken, stand_dropped, stand_put, front_kept, blocked, with_length, taken_length, length_without, length_exchanged, length_inserted, block_apart, length_apart, item_apart, block_kinds, with_items, block_elsewhere, block_stands, length_in, length_set}
 use Rattle.value_table.proofs.Effects.{Same, does_as, items_set, moved_down, moved_up, ends, stays, same_then, does_same, items_read, list_walked, walked, tested, index_goes, bound_goes}
 
-abbrev placed : (ℕ → Plan) → Option ℕ → Plan
+abbrev pub placed : (ℕ → Plan) → Option ℕ → Plan
 placed go (Some p) = go p
 placed go None = bad_index
 
@@ -95,7 +95,7 @@ abbrev repeats_by : ℕ → ℕ → Option SeenKind → Plan
 repeats_by o n (Some a_list) = walk (object o) (λ found. new_list (repeated n found))
 repeats_by o n other = wrong_kind
 
-abbrev sorted_by : (List Contents → Plan) → List Contents → Option Plan → Plan
+abbrev pub sorted_by : (List Contents → Plan) → List Contents → Option Plan → Plan
 sorted_by go items None = go (in_order items)
 sorted_by go items (Some refused) = refused
 

@@ -2,3 +2,6 @@ pub mod Reading
 pub mod Results
 pub mod TableDicts
 pub mod TableLists
+pub mod TableNumbers
+pub mod TableSequences
+pub mod TableTexts

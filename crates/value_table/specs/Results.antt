@@ -38,3 +38,19 @@ abbrev pub Does : {A : Type 0} → (RunStore → ℕ → A → Type 0) → RunSt
 Does Is store o e (leaves answer is) = Leaves store o e answer × Is (after e store) o is
 Does Is store o e (makes_list items) = MakesList store e items
 Does Is store o e (throws number arguments) = Throws store e number arguments
+
+-- what an operation answers that leaves no object but those it makes
+abbrev pub gives : Contents → Result (Unit {0})
+gives answer = leaves answer tt
+
+-- it answers a value and changes nothing at all
+pub record Gives (store : RunStore) (e : Effect) (answer : Contents) : Type 0 where
+  pub answer_is : e.outcome ≡ answered (value answer)
+  pub made_is : e.made ≡ None
+  pub after_is : after e store ≡ store
+
+-- the effect of an operation on texts, tuples, ranges and numbers, and on what a sequence has, does what the table says
+abbrev pub DoesAlone : RunStore → Effect → Result (Unit {0}) → Type 0
+DoesAlone store e (leaves answer left) = Gives store e answer
+DoesAlone store e (makes_list items) = MakesList store e items
+DoesAlone store e (throws number arguments) = Throws store e number arguments

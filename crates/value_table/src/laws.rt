@@ -1,21 +1,25 @@
 // Laws of the table in terms of values, each a function without a body that says it.
-ghost use Rattle.std.specs.Prelude.{◌≡◌, ℕ, ℤ, List, [], ◌∷◌, Option, Some, None};
-ghost use Rattle.py_value.specs.Contents.{Contents, nothing, object, text};
+ghost use Rattle.std.specs.Prelude.{◌≡◌, ℕ, ℤ, List, [], ◌∷◌, Option, Some, None, map, length};
+ghost use Rattle.py_value.specs.Contents.{Contents, Parts, nothing, object, range, text, tuple};
 ghost use Rattle.py_value.specs.KeyOf.{key_fault};
-ghost use Rattle.py_model.specs.Arithmetic.{add_plan, in_plan, iadd_plan, len_plan, mul_plan};
+ghost use Rattle.py_model.specs.Arithmetic.{add_plan, in_plan, iadd_plan, len_plan, mul_plan, neg_plan, pos_plan, abs_plan, sub_plan, floor_div_plan, mod_plan};
 ghost use Rattle.py_model.specs.Classes.{find, getattr, setattr};
 ghost use Rattle.py_model.specs.Dicts.{get_method, items_method, keys_method, values_method};
 ghost use Rattle.py_model.specs.Effect.{Answers, effect};
-ghost use Rattle.py_model.specs.Lists.{append, extend, insert, pop, getitem, setitem, delitem, slice, reverse_method, sort_method};
-ghost use Rattle.py_model.specs.Numbers.{times};
+ghost use Rattle.py_model.specs.Lists.{append, extend, insert, pop, getitem, setitem, delitem, slice, reverse_method, sort_method, list_builtin, tuple_builtin, sorted_builtin, enumerate, zip_builtin};
+ghost use Rattle.py_model.specs.Numbers.{times, range_count};
 ghost use Rattle.py_model.specs.Operands.{number_in};
 ghost use Rattle.py_model.specs.Sorting.{refused_to};
 ghost use Rattle.py_model.specs.Store.{RunStore};
-ghost use Rattle.py_model.specs.Walks.{deepest};
+ghost use Rattle.py_model.specs.Walks.{deepest, items_of};
 ghost use Rattle.value_table.specs.Reading.{HasPairs, IsDict, IsInstance, IsList, pair_of, pairs_at, HasItems, IsPlainList, items_at};
 ghost use Rattle.value_table.specs.TableDicts.{Pairs, getitem_is as dict_getitem_is, setitem_is as dict_setitem_is, delitem_is as dict_delitem_is, in_is, len_is as dict_len_is, get_is, items_is, keys_is, values_is, setattr_is, getattr_is};
-ghost use Rattle.value_table.specs.Results.{Does};
+ghost use Rattle.value_table.specs.Results.{Does, DoesAlone};
 ghost use Rattle.value_table.specs.TableLists.{append_is, getitem_is, setitem_is, delitem_is, pop_is, pop_last_is, insert_is, len_is, extend_is, iadd_is, add_is, slice_is, mul_is, reverse_is, sort_is, bound_in};
+ghost use Rattle.py_model.specs.TextMethods.{strip_plan, lstrip_plan, rstrip_plan, split_plan, join_plan, replace_plan, find_plan, startswith_plan, endswith_plan, upper_plan, lower_plan, isdigit_plan, ljust_plan, rjust_plan};
+ghost use Rattle.value_table.specs.TableNumbers as numbers;
+ghost use Rattle.value_table.specs.TableSequences as sequences;
+ghost use Rattle.value_table.specs.TableTexts as texts;
 
 use py_value::tests_are_equality;
 
@@ -104,3 +108,97 @@ pub fn attributes_do_as_the_table()
 {
     tests_are_equality();
 }
+
+/// The law of texts: each operation on texts does what the table says.
+pub fn texts_do_as_the_table()
+    ensures getitem { (store : RunStore) (answers : Answers) (bytes : List ℕ) (index : Contents) (i : ℤ) → number_in index ≡ Some i
+        → DoesAlone store (effect store answers (getitem (text bytes ∷ (index ∷ [])))) (texts.getitem_is bytes i) }
+    ensures slice { (store : RunStore) (answers : Answers) (bytes : List ℕ) (low high : Contents) (l h : Option ℤ) → bound_in low ≡ Some l → bound_in high ≡ Some h
+        → DoesAlone store (effect store answers (slice (text bytes ∷ (low ∷ (high ∷ []))))) (texts.slice_is bytes l h) }
+    ensures add { (store : RunStore) (answers : Answers) (one other : List ℕ)
+        → DoesAlone store (effect store answers (add_plan (text one ∷ (text other ∷ [])))) (texts.add_is one other) }
+    ensures mul { (store : RunStore) (answers : Answers) (bytes : List ℕ) (number : Contents) (i : ℤ) → number_in number ≡ Some i
+        → DoesAlone store (effect store answers (mul_plan (text bytes ∷ (number ∷ [])))) (texts.mul_is bytes (times i)) }
+    ensures contains { (store : RunStore) (answers : Answers) (sought bytes : List ℕ)
+        → DoesAlone store (effect store answers (in_plan (text sought ∷ (text bytes ∷ [])))) (texts.in_is sought bytes) }
+    ensures len { (store : RunStore) (answers : Answers) (bytes : List ℕ)
+        → DoesAlone store (effect store answers (len_plan (text bytes ∷ []))) (texts.len_is bytes) }
+    ensures strip { (store : RunStore) (answers : Answers) (bytes : List ℕ)
+        → DoesAlone store (effect store answers (strip_plan (text bytes ∷ []))) (texts.strip_is bytes) }
+    ensures lstrip { (store : RunStore) (answers : Answers) (bytes : List ℕ)
+        → DoesAlone store (effect store answers (lstrip_plan (text bytes ∷ []))) (texts.lstrip_is bytes) }
+    ensures rstrip { (store : RunStore) (answers : Answers) (bytes : List ℕ)
+        → DoesAlone store (effect store answers (rstrip_plan (text bytes ∷ []))) (texts.rstrip_is bytes) }
+    ensures split { (store : RunStore) (answers : Answers) (bytes : List ℕ)
+        → DoesAlone store (effect store answers (split_plan (text bytes ∷ []))) (texts.split_is bytes) }
+    ensures split_by { (store : RunStore) (answers : Answers) (bytes separator : List ℕ)
+        → DoesAlone store (effect store answers (split_plan (text bytes ∷ (text separator ∷ [])))) (texts.split_by_is bytes separator) }
+    ensures join { (store : RunStore) (answers : Answers) (separator : List ℕ) (v : Contents) (all : List (List ℕ)) → HasItems store v (map text all)
+        → DoesAlone store (effect store answers (join_plan (text separator ∷ (v ∷ [])))) (texts.join_is separator all) }
+    ensures replace { (store : RunStore) (answers : Answers) (bytes sought other : List ℕ)
+        → DoesAlone store (effect store answers (replace_plan (text bytes ∷ (text sought ∷ (text other ∷ []))))) (texts.replace_is bytes sought other) }
+    ensures find { (store : RunStore) (answers : Answers) (bytes sought : List ℕ)
+        → DoesAlone store (effect store answers (find_plan (text bytes ∷ (text sought ∷ [])))) (texts.find_is bytes sought) }
+    ensures startswith { (store : RunStore) (answers : Answers) (bytes sought : List ℕ)
+        → DoesAlone store (effect store answers (startswith_plan (text bytes ∷ (text sought ∷ [])))) (texts.startswith_is bytes sought) }
+    ensures endswith { (store : RunStore) (answers : Answers) (bytes sought : List ℕ)
+        → DoesAlone store (effect store answers (endswith_plan (text bytes ∷ (text sought ∷ [])))) (texts.endswith_is bytes sought) }
+    ensures upper { (store : RunStore) (answers : Answers) (bytes : List ℕ)
+        → DoesAlone store (effect store answers (upper_plan (text bytes ∷ []))) (texts.upper_is bytes) }
+    ensures lower { (store : RunStore) (answers : Answers) (bytes : List ℕ)
+        → DoesAlone store (effect store answers (lower_plan (text bytes ∷ []))) (texts.lower_is bytes) }
+    ensures isdigit { (store : RunStore) (answers : Answers) (bytes : List ℕ)
+        → DoesAlone store (effect store answers (isdigit_plan (text bytes ∷ []))) (texts.isdigit_is bytes) }
+    ensures ljust { (store : RunStore) (answers : Answers) (bytes : List ℕ) (number : Contents) (i : ℤ) → number_in number ≡ Some i
+        → DoesAlone store (effect store answers (ljust_plan (text bytes ∷ (number ∷ [])))) (texts.ljust_is bytes i) }
+    ensures rjust { (store : RunStore) (answers : Answers) (bytes : List ℕ) (number : Contents) (i : ℤ) → number_in number ≡ Some i
+        → DoesAlone store (effect store answers (rjust_plan (text bytes ∷ (number ∷ [])))) (texts.rjust_is bytes i) }
+{}
+
+/// The law of sequences: each operation on tuples and ranges, and each that walks a sequence, does what the table says of the items.
+pub fn sequences_do_as_the_table()
+    ensures getitem { (store : RunStore) (answers : Answers) (parts : Parts) (index : Contents) (i : ℤ) → number_in index ≡ Some i
+        → DoesAlone store (effect store answers (getitem (tuple parts ∷ (index ∷ [])))) (sequences.getitem_is (items_of parts) i) }
+    ensures getitem_of_range { (store : RunStore) (answers : Answers) (start end step : ℤ) (index : Contents) (i : ℤ) → number_in index ≡ Some i
+        → DoesAlone store (effect store answers (getitem (range start end step ∷ (index ∷ [])))) (sequences.getitem_of_range_is start end step i) }
+    ensures slice { (store : RunStore) (answers : Answers) (parts : Parts) (low high : Contents) (l h : Option ℤ) → bound_in low ≡ Some l → bound_in high ≡ Some h
+        → DoesAlone store (effect store answers (slice (tuple parts ∷ (low ∷ (high ∷ []))))) (sequences.slice_is (items_of parts) l h) }
+    ensures add { (store : RunStore) (answers : Answers) (ps qs : Parts)
+        → DoesAlone store (effect store answers (add_plan (tuple ps ∷ (tuple qs ∷ [])))) (sequences.add_is (items_of ps) (items_of qs)) }
+    ensures mul { (store : RunStore) (answers : Answers) (parts : Parts) (number : Contents) (i : ℤ) → number_in number ≡ Some i
+        → DoesAlone store (effect store answers (mul_plan (tuple parts ∷ (number ∷ [])))) (sequences.mul_is (items_of parts) (times i)) }
+    ensures len { (store : RunStore) (answers : Answers) (parts : Parts)
+        → DoesAlone store (effect store answers (len_plan (tuple parts ∷ []))) (sequences.len_is (length (items_of parts))) }
+    ensures len_of_range { (store : RunStore) (answers : Answers) (start end step : ℤ)
+        → DoesAlone store (effect store answers (len_plan (range start end step ∷ []))) (sequences.len_is (range_count start end step)) }
+    ensures list { (store : RunStore) (answers : Answers) (v : Contents) (items : List Contents) → HasItems store v items
+        → DoesAlone store (effect store answers (list_builtin (v ∷ []))) (sequences.list_is items) }
+    ensures tuple { (store : RunStore) (answers : Answers) (v : Contents) (items : List Contents) → HasItems store v items
+        → DoesAlone store (effect store answers (tuple_builtin (v ∷ []))) (sequences.tuple_is items) }
+    ensures sorted { (store : RunStore) (answers : Answers) (v : Contents) (items : List Contents) → HasItems store v items → refused_to deepest items ≡ None
+        → DoesAlone store (effect store answers (sorted_builtin (v ∷ []))) (sequences.sorted_is items) }
+    ensures enumerate { (store : RunStore) (answers : Answers) (v : Contents) (items : List Contents) → HasItems store v items
+        → DoesAlone store (effect store answers (enumerate (v ∷ []))) (sequences.enumerate_is items) }
+    ensures zip { (store : RunStore) (answers : Answers) (v w : Contents) (items more : List Contents) → HasItems store v items → HasItems store w more
+        → DoesAlone store (effect store answers (zip_builtin (v ∷ (w ∷ [])))) (sequences.zip_is items more) }
+{}
+
+/// The law of numbers: each operation on operands that are numbers does what the table says of these.
+pub fn numbers_do_as_the_table()
+    ensures neg { (store : RunStore) (answers : Answers) (v : Contents) (i : ℤ) → number_in v ≡ Some i
+        → DoesAlone store (effect store answers (neg_plan (v ∷ []))) (numbers.neg_is i) }
+    ensures pos { (store : RunStore) (answers : Answers) (v : Contents) (i : ℤ) → number_in v ≡ Some i
+        → DoesAlone store (effect store answers (pos_plan (v ∷ []))) (numbers.pos_is i) }
+    ensures abs { (store : RunStore) (answers : Answers) (v : Contents) (i : ℤ) → number_in v ≡ Some i
+        → DoesAlone store (effect store answers (abs_plan (v ∷ []))) (numbers.abs_is i) }
+    ensures sub { (store : RunStore) (answers : Answers) (v w : Contents) (i j : ℤ) → number_in v ≡ Some i → number_in w ≡ Some j
+        → DoesAlone store (effect store answers (sub_plan (v ∷ (w ∷ [])))) (numbers.sub_is i j) }
+    ensures mul { (store : RunStore) (answers : Answers) (v w : Contents) (i j : ℤ) → number_in v ≡ Some i → number_in w ≡ Some j
+        → DoesAlone store (effect store answers (mul_plan (v ∷ (w ∷ [])))) (numbers.mul_is i j) }
+    ensures floordiv { (store : RunStore) (answers : Answers) (v w : Contents) (i j : ℤ) → number_in v ≡ Some i → number_in w ≡ Some j
+        → DoesAlone store (effect store answers (floor_div_plan (v ∷ (w ∷ [])))) (numbers.floordiv_is i j) }
+    ensures remainder { (store : RunStore) (answers : Answers) (v w : Contents) (i j : ℤ) → number_in v ≡ Some i → number_in w ≡ Some j
+        → DoesAlone store (effect store answers (mod_plan (v ∷ (w ∷ [])))) (numbers.mod_is i j) }
+    ensures add { (store : RunStore) (answers : Answers) (v w : Contents) (i j : ℤ) → number_in v ≡ Some i → number_in w ≡ Some j
+        → DoesAlone store (effect store answers (add_plan (v ∷ (w ∷ [])))) (numbers.add_is i j) }
+{}

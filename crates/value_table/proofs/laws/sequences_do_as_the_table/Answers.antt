@@ -1,0 +1,39 @@
+use Rattle.std.proofs.Common.{refl}
+use Rattle.value_table.proofs.laws.sequences_do_as_the_table.Goals as goal
+use Rattle.value_table.proofs.Alone.{tuple_item, range_item, tuple_slice, tuple_times, tuple_length, range_length, listed, tupled, sorted_does, enumerated, zipped}
+
+pub returns-clause-getitem : goal.returns-clause-getitem
+returns-clause-getitem c = λ store answers parts index i is. tuple_item store answers parts index i is
+
+pub returns-clause-getitem_of_range : goal.returns-clause-getitem_of_range
+returns-clause-getitem_of_range c = λ store answers start end step index i is. range_item store answers start end step index i is
+
+pub returns-clause-slice : goal.returns-clause-slice
+returns-clause-slice c = λ store answers parts low high l h low_is high_is. tuple_slice store answers parts low high l h low_is high_is
+
+pub returns-clause-add : goal.returns-clause-add
+returns-clause-add c = λ store answers ps qs. record { answer_is = refl; made_is = refl; after_is = refl }
+
+pub returns-clause-mul : goal.returns-clause-mul
+returns-clause-mul c = λ store answers parts number i is. tuple_times store answers parts number i is
+
+pub returns-clause-len : goal.returns-clause-len
+returns-clause-len c = tuple_length
+
+pub returns-clause-len_of_range : goal.returns-clause-len_of_range
+returns-clause-len_of_range c = range_length
+
+pub returns-clause-list : goal.returns-clause-list
+returns-clause-list c = listed
+
+pub returns-clause-tuple : goal.returns-clause-tuple
+returns-clause-tuple c = tupled
+
+pub returns-clause-sorted : goal.returns-clause-sorted
+returns-clause-sorted c = sorted_does
+
+pub returns-clause-enumerate : goal.returns-clause-enumerate
+returns-clause-enumerate c = enumerated
+
+pub returns-clause-zip : goal.returns-clause-zip
+returns-clause-zip c = λ store answers v w items more has other. zipped store answers v items has w more other

@@ -1,0 +1,62 @@
+-- The table of operations on tuples and ranges, and of those that walk a sequence (The Python Language Reference 3, sections 6.2.3 and 6.3,
+-- and The Python Standard Library, "Sequence Types" and "Built-in Functions"): each over the items, or the numbers of a range.
+use Rattle.std.specs.Prelude.{ℕ, ◌-◌, ℤ, pos, List, [], ◌∷◌, ◌++◌, length, take, drop, Option}
+use Rattle.py_value.specs.Contents.{Contents, tuple}
+use Rattle.py_model.specs.Arithmetic.{repeated}
+use Rattle.py_model.specs.Dicts.{paired}
+use Rattle.py_model.specs.Effect.{parts_of}
+use Rattle.py_model.specs.Lists.{number_at, numbered}
+use Rattle.py_model.specs.Numbers.{range_count}
+use Rattle.py_model.specs.Places.{place_in, low_bound, high_bound}
+use Rattle.py_model.specs.Sorting.{in_order}
+use Rattle.value_table.specs.Results.{Result, gives, makes_list}
+use Rattle.value_table.specs.TableLists.{item_in, at_place, number_or_overflow}
+
+-- the tuple of items
+abbrev pub tuple_of : List Contents → Result (Unit {0})
+tuple_of items = gives (tuple (parts_of items))
+
+-- 26 getitem of a tuple: the item at the place
+abbrev pub getitem_is : List Contents → ℤ → Result (Unit {0})
+getitem_is items i = at_place (place_in i (length items)) (λ p. gives (item_in items p))
+
+-- 26 getitem of a range: the number at the place
+abbrev pub getitem_of_range_is : ℤ → ℤ → ℤ → ℤ → Result (Unit {0})
+getitem_of_range_is start end step i = at_place (place_in i (range_count start end step)) (λ p. gives (number_at start step p))
+
+-- 27 slice of a tuple: the tuple of the items from one bound to the other
+abbrev pub slice_is : List Contents → Option ℤ → Option ℤ → Result (Unit {0})
+slice_is items low high =
+    let n = length items in
+    tuple_of (take (high_bound high n - low_bound low n) (drop (low_bound low n) items))
+
+-- 7 add of two tuples: the tuple of both
+abbrev pub add_is : List Contents → List Contents → Result (Unit {0})
+add_is items more = tuple_of (items ++ more)
+
+-- 9 mul of a tuple: the tuple of the items so many times
+abbrev pub mul_is : List Contents → ℕ → Result (Unit {0})
+mul_is items n = tuple_of (repeated n items)
+
+-- 58 len of a tuple, and of a range
+abbrev pub len_is : ℕ → Result (Unit {0})
+len_is n = number_or_overflow (pos n) tt
+
+-- 59 list (walk, S Len, S Items): a new list of the items of the sequence; 70 tuple (walk): their tuple
+abbrev pub list_is : List Contents → Result (Unit {0})
+list_is items = makes_list items
+
+abbrev pub tuple_is : List Contents → Result (Unit {0})
+tuple_is items = tuple_of items
+
+-- 67 sorted (walk, S Len, S Items): a new list of the items in order
+abbrev pub sorted_is : List Contents → Result (Unit {0})
+sorted_is items = makes_list (in_order items)
+
+-- 54 enumerate (walk, S Len, S Items): a new list of the items, each in a tuple with its number from 0 on
+abbrev pub enumerate_is : List Contents → Result (Unit {0})
+enumerate_is items = makes_list (numbered 0 items)
+
+-- 71 zip (walk each, S Len, S Items): a new list of the pairs, up to the end of the shorter sequence
+abbrev pub zip_is : List Contents → List Contents → Result (Unit {0})
+zip_is lefts rights = makes_list (paired lefts rights)
