@@ -152,15 +152,15 @@ module _ (tested : ValuesTested) (Is : RunStore → ℕ → Pairs → Type 0) (s
   DoesThis e result = Does Is store o e result
 
   by_entry : (k : Contents) (go : Option (Contents × Contents) → Plan) (result : Result Pairs) → DoesThis (effect store answers (go (pair_of k pairs))) result → DoesThis (effect store answers (read_entry o k go)) result
-  by_entry k go result does = does_as Is store o (touching (accessed (reads (entry_at o (normal k)))) (effect store answers (go (entry_of store o k)))) (effect store answers (go (entry_of store o k))) result refl refl refl
+  by_entry k go result does = does_as (is_of o) Is store o (touching (accessed (reads (entry_at o (normal k)))) (effect store answers (go (entry_of store o k)))) (effect store answers (go (entry_of store o k))) result refl refl refl
       (subst (λ (found : Option (Contents × Contents)). DoesThis (effect store answers (go found)) result) (sym (has.entries_are k)) does)
 
   by_order : (go : List Contents → Plan) (result : Result Pairs) → DoesThis (effect store answers (go (keys_in pairs))) result → DoesThis (effect store answers (read_order o go)) result
-  by_order go result does = does_as Is store o (touching (accessed (reads (order_at o))) (effect store answers (go (order_of store o)))) (effect store answers (go (order_of store o))) result refl refl refl
+  by_order go result does = does_as (is_of o) Is store o (touching (accessed (reads (order_at o))) (effect store answers (go (order_of store o)))) (effect store answers (go (order_of store o))) result refl refl refl
       (subst (λ (keys : List Contents). DoesThis (effect store answers (go keys)) result) (sym has.order_is) does)
 
   unchanged : (answer : Contents) → DoesThis (effect store answers (writes (done answer))) (leaves answer pairs)
-  unchanged answer = stays Is store o (effect store answers (writes (done answer))) answer pairs refl refl refl is
+  unchanged answer = stays (is_of o) Is store o (effect store answers (writes (done answer))) answer pairs refl refl refl is
 
   pub gets : (k : Contents) → DoesThis (effect store answers (read_entry o k (got k))) (getitem_is pairs k)
   gets k = by_entry k (got k) (getitem_is pairs k) (by_found (pair_of k pairs))
@@ -173,9 +173,9 @@ module _ (tested : ValuesTested) (Is : RunStore → ℕ → Pairs → Type 0) (s
   puts k item = by_entry k (put_entry o item k) (leaves nothing (with_pair k item pairs)) (by_found (pair_of k pairs) refl)
     where
       by_found : (found : Option (Contents × Contents)) → pair_of k pairs ≡ found → DoesThis (effect store answers (put_entry o item k found)) (leaves nothing (with_pair k item pairs))
-      by_found (Some pair) found = ends Is store o (effect store answers (put_entry o item k (Some pair))) (with_entry o k (Some (pair.0, item)) store) nothing (with_pair k item pairs) refl refl refl
+      by_found (Some pair) found = ends (is_of o) Is store o (effect store answers (put_entry o item k (Some pair))) (with_entry o k (Some (pair.0, item)) store) nothing (with_pair k item pairs) refl refl refl
           (again (with_entry o k (Some (pair.0, item)) store) (with_pair k item pairs) refl (value_set tested store o pairs has k item pair found)) (λ l apart. entry_apart store o k (Some (pair.0, item)) l apart)
-      by_found None found = ends Is store o (effect store answers (put_entry o item k None)) (put_store tested store o pairs has k item) nothing (with_pair k item pairs) refl refl refl
+      by_found None found = ends (is_of o) Is store o (effect store answers (put_entry o item k None)) (put_store tested store o pairs has k item) nothing (with_pair k item pairs) refl refl refl
           (again (put_store tested store o pairs has k item) (with_pair k item pairs) refl (pair_put tested store o pairs has k item found))
           (λ l apart. order_apart (with_entry o k (Some (k, item)) store) o (changed (key_inserted k) (store.at (order_at o))) l apart ∙ entry_apart store o k (Some (k, item)) l apart)
 
@@ -183,7 +183,7 @@ module _ (tested : ValuesTested) (Is : RunStore → ℕ → Pairs → Type 0) (s
   takes k = by_entry k (take_entry o k) (delitem_is pairs k) (by_found (pair_of k pairs) refl)
     where
       by_found : (found : Option (Contents × Contents)) → pair_of k pairs ≡ found → DoesThis (effect store answers (take_entry o k found)) (elim found [ None ↦ throws key_error (k ∷ []) | Some pair ↦ leaves nothing (without_pair k pairs) ])
-      by_found (Some pair) found = ends Is store o (effect store answers (take_entry o k (Some pair))) (taken_store tested store o pairs has k pair.0) nothing (without_pair k pairs) refl refl refl
+      by_found (Some pair) found = ends (is_of o) Is store o (effect store answers (take_entry o k (Some pair))) (taken_store tested store o pairs has k pair.0) nothing (without_pair k pairs) refl refl refl
           (again (taken_store tested store o pairs has k pair.0) (without_pair k pairs) refl (pair_taken tested store o pairs has k pair found))
           (λ l apart. order_apart (with_entry o k None store) o (changed (key_deleted pair.0) (store.at (order_at o))) l apart ∙ entry_apart store o k None l apart)
       by_found None found = record { outcome_is = refl; made_is = refl; after_is = refl }
@@ -216,7 +216,7 @@ module _ (tested : ValuesTested) (store : RunStore) (answers : Answers) (o : ℕ
   delitem_does k usable = by_dict (del_of o k) (delitem_is pairs k) (by_key k (λ key. read_entry o key (take_entry o key)) (delitem_is pairs k) usable (takes tested IsDict store answers o pairs is is.has_pairs dict_again k))
 
   same_here : (answer : Contents) → DoesToDict (effect store answers (writes (done answer))) (leaves answer pairs)
-  same_here answer = stays IsDict store o (effect store answers (writes (done answer))) answer pairs refl refl refl is
+  same_here answer = stays (is_of o) IsDict store o (effect store answers (writes (done answer))) answer pairs refl refl refl is
 
   pub in_does : (k : Contents) → key_fault deepest k ≡ None → DoesToDict (effect store answers (in_plan (k ∷ (object o ∷ [])))) (in_is pairs k)
   in_does k usable = by_dict (contained_by o k gives_truth) (in_is pairs k) (by_key k (λ key. read_entry o key (λ entry. gives_truth (is_some entry))) (in_is pairs k) usable
@@ -263,7 +263,7 @@ module _ (tested : ValuesTested) (store : RunStore) (answers : Answers) (o : ℕ
       (entries_read rest (λ items. go (pair.1 ∷ items)) s found.1))
 
   listed : (go : List Contents → Plan) (new : List Contents) → effect store answers (go (seconds pairs)) ≡ effect store answers (new_list new) → DoesToDict (effect store answers (read_entries o (keys_in pairs) go)) (makes_list new)
-  listed go new goes = does_same IsDict store o (effect store answers (read_entries o (keys_in pairs) go)) (effect store answers (go (seconds pairs))) (makes_list new) (λ s. entries_read pairs go s (each_found tested pairs is.has_pairs.apart))
+  listed go new goes = does_same (is_of o) IsDict store o (effect store answers (read_entries o (keys_in pairs) go)) (effect store answers (go (seconds pairs))) (makes_list new) (λ s. entries_read pairs go s (each_found tested pairs is.has_pairs.apart))
       (subst (λ (e : Effect). DoesToDict e (makes_list new)) (sym goes) (list_made store answers new))
 
   pub values_does : DoesToDict (effect store answers (values_method (object o ∷ []))) (values_is pairs)

@@ -1,5 +1,5 @@
 -- Effects that come to the same, and what writes make of a store.
-use Rattle.std.proofs.Common.{◌≡◌, ℕ, suc, ℤ, false, List, [], ◌∷◌, length, slice_get, Option, Some, None, unwrap_or, refl, sym, ap, subst, ◌∙◌}
+use Rattle.std.proofs.Common.{◌≡◌, ℕ, suc, ℤ, false, List, [], ◌∷◌, length, slice_get, Option, Some, None, unwrap_or, refl, sym, ap, subst, ◌∙◌, Bool}
 use Rattle.py_value.specs.Contents.{Contents, nothing, truth, int, text, tuple, range, object, no_parts}
 use Rattle.py_value.specs.Seen.{SeenLocation, SeenKind, a_list, item_at, len_at, item_is, reads}
 use Rattle.py_model.specs.Effect.{Effect, Answers, accessed, touching, answered, effect, written, after, after_touches, with_made}
@@ -11,7 +11,7 @@ use Rattle.py_model.specs.Plan.{Plan, Writes, value, kind_of}
 use Rattle.py_model.specs.Store.{RunStore, item_of, len_of}
 use Rattle.py_model.specs.Walks.{read_items, walk, walk_object, if_walked, when_walked}
 use Rattle.value_table.specs.Reading.{Stand, IsList, HasItems, is_of}
-use Rattle.value_table.specs.Results.{Result, leaves, makes_list, throws, Does}
+use Rattle.value_table.specs.Results.{Result, leaves, makes_list, throws, DoesIn}
 use Rattle.value_table.specs.TableLists.{bound_in}
 use Rattle.value_table.proofs.Standing.{set, block}
 
@@ -31,14 +31,14 @@ after_same store e f same = (same (with_made e.made store)).after_is ∙ ap (λ 
 pub behind_read : (l : SeenLocation) (e f : Effect) (s t : RunStore) → Same e f s t → Same (touching (accessed (reads l)) e) f s t
 behind_read l e f s t same = record { answer_is = same.answer_is; made_is = same.made_is; after_is = same.after_is }
 
-module _ {A : Type 0} (Is : RunStore → ℕ → A → Type 0) (store : RunStore) (o : ℕ) where
+module _ {A : Type 0} (belongs : SeenLocation → Bool) (Is : RunStore → ℕ → A → Type 0) (store : RunStore) (o : ℕ) where
   pub does_as : (e f : Effect) (result : Result A) → e.outcome ≡ f.outcome → e.made ≡ f.made → after e store ≡ after f store
-      → Does Is store o f result → Does Is store o e result
+      → DoesIn belongs Is store o f result → DoesIn belongs Is store o e result
   does_as e f (leaves answer is) outcome_is made after_is does = (
     record {
       answer_is = outcome_is ∙ does.0.answer_is;
       made_is = made ∙ does.0.made_is;
-      elsewhere = subst (λ (s : RunStore). (l : SeenLocation) → is_of o l ≡ false → s.at l ≡ store.at l) (sym after_is) does.0.elsewhere;
+      elsewhere = subst (λ (s : RunStore). (l : SeenLocation) → belongs l ≡ false → s.at l ≡ store.at l) (sym after_is) does.0.elsewhere;
     },
     subst (λ (s : RunStore). Is s o is) (sym after_is) does.1,
   )
@@ -54,21 +54,21 @@ module _ {A : Type 0} (Is : RunStore → ℕ → A → Type 0) (store : RunStore
     after_is = after_is ∙ does.after_is;
   }
 
-  pub does_same : (e f : Effect) (result : Result A) → ((s : RunStore) → Same e f s s) → Does Is store o f result → Does Is store o e result
+  pub does_same : (e f : Effect) (result : Result A) → ((s : RunStore) → Same e f s s) → DoesIn belongs Is store o f result → DoesIn belongs Is store o e result
   does_same e f result same does = does_as e f result (same store).answer_is (same store).made_is (after_same store e f same) does
 
   -- an effect that ends in a store
   pub ends : (e : Effect) (t : RunStore) (answer : Contents) (new : A) → e.outcome ≡ answered (value answer) → e.made ≡ None → after_touches e.touches store ≡ t
-      → Is t o new → ((l : SeenLocation) → is_of o l ≡ false → t.at l ≡ store.at l) → Does Is store o e (leaves answer new)
+      → Is t o new → ((l : SeenLocation) → belongs l ≡ false → t.at l ≡ store.at l) → DoesIn belongs Is store o e (leaves answer new)
   ends e t answer new answer_is made after_is is elsewhere =
       let same : after e store ≡ t = ap (λ made. after_touches e.touches (with_made made store)) made ∙ after_is in (
-        record { answer_is = answer_is; made_is = made; elsewhere = subst (λ (s : RunStore). (l : SeenLocation) → is_of o l ≡ false → s.at l ≡ store.at l) (sym same) elsewhere },
+        record { answer_is = answer_is; made_is = made; elsewhere = subst (λ (s : RunStore). (l : SeenLocation) → belongs l ≡ false → s.at l ≡ store.at l) (sym same) elsewhere },
         subst (λ (s : RunStore). Is s o new) (sym same) is,
       )
 
   -- nothing is changed
   pub stays : (e : Effect) (answer : Contents) (old : A) → e.outcome ≡ answered (value answer) → e.made ≡ None → after_touches e.touches store ≡ store → Is store o old
-      → Does Is store o e (leaves answer old)
+      → DoesIn belongs Is store o e (leaves answer old)
   stays e answer old answer_is made after_is is = ends e store answer old answer_is made after_is is (λ l apart. refl)
 
 -- writes of items

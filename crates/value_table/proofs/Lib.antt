@@ -8,3 +8,5 @@ pub mod Keys
 pub mod Dicts
 pub mod Alone
 pub mod WorkedTexts
+pub mod Files
+pub mod WorkedFiles

@@ -145,7 +145,7 @@ module _ (store : RunStore) (answers : Answers) (o : ℕ) (items : List Contents
   by_index index i go result is does = subst (λ (p : Plan). Does (effect store answers p) result) (sym (index_goes index i go is)) does
 
   by_length : (go : ℕ → Plan) (result : Result (List Contents)) → Does (effect store answers (go (length items))) result → Does (effect store answers (read_len o go)) result
-  by_length go result does = does_as IsList store o (touching (accessed (reads (len_at o))) (effect store answers (go (len_of store o)))) (effect store answers (go (len_of store o))) result refl refl refl
+  by_length go result does = does_as (is_of o) IsList store o (touching (accessed (reads (len_at o))) (effect store answers (go (len_of store o)))) (effect store answers (go (len_of store o))) result refl refl refl
       (subst (λ (n : ℕ). Does (effect store answers (go n)) result) (sym listed.length_is) does)
 
   by_place : (i : ℤ) (go : ℕ → Plan) (does : ℕ → Result (List Contents)) → ((p : ℕ) → p < length items → Does (effect store answers (go p)) (does p))
@@ -157,18 +157,18 @@ module _ (store : RunStore) (answers : Answers) (o : ℕ) (items : List Contents
       by_test None is = record { outcome_is = refl; made_is = refl; after_is = refl }
 
   by_item : (p : ℕ) (go : Contents → Plan) (result : Result (List Contents)) → p < length items → Does (effect store answers (go (item_in items p))) result → Does (effect store answers (read_value o p go)) result
-  by_item p go result below does = does_as IsList store o (touching (accessed (reads (item_at o p))) (effect store answers (go (unwrap_or (item_of store o p) nothing)))) (effect store answers (go (unwrap_or (item_of store o p) nothing))) result refl refl refl
+  by_item p go result below does = does_as (is_of o) IsList store o (touching (accessed (reads (item_at o p))) (effect store answers (go (unwrap_or (item_of store o p) nothing)))) (effect store answers (go (unwrap_or (item_of store o p) nothing))) result refl refl refl
       (subst (λ (found : Option Contents). Does (effect store answers (go (unwrap_or found nothing))) result) (sym (subst (λ (k : ℕ). item_of store o k ≡ Some (item_in items p)) (omega arith) (stand_at store o 0 p items listed.items_stand below))) does)
 
   unchanged : (answer : Contents) → Does (effect store answers (writes (done answer))) (leaves answer items)
-  unchanged answer = stays IsList store o (effect store answers (writes (done answer))) answer items refl refl refl listed
+  unchanged answer = stays (is_of o) IsList store o (effect store answers (writes (done answer))) answer items refl refl refl listed
 
   pub append_does : (item : Contents) → Does (effect store answers (append (object o ∷ (item ∷ [])))) (append_is items item)
   append_does item =
       let n = length items in
       let t = set (len_at o) (len_is (suc n)) (block o n (item ∷ []) store) in
       by_kind (when_list (read_len o (append_writes o item))) (append_is items item) (by_length (append_writes o item) (append_is items item)
-      (ends IsList store o (effect store answers (append_writes o item n)) t nothing (items ++ item ∷ []) refl refl refl
+      (ends (is_of o) IsList store o (effect store answers (append_writes o item n)) t nothing (items ++ item ∷ []) refl refl refl
       (with_length (block o n (item ∷ []) store) o (suc n) (items ++ item ∷ []) listed.kind_is (omega (arith, length-append items (item ∷ []))) (blocked store o items (item ∷ []) listed.items_stand n refl))
       (λ l apart. length_apart (block o n (item ∷ []) store) o (suc n) l apart ∙ block_apart o n (item ∷ []) store l apart)))
 
@@ -183,7 +183,7 @@ module _ (store : RunStore) (answers : Answers) (o : ℕ) (items : List Contents
       each : (p : ℕ) → p < length items → Does (effect store answers (writes (write (item_at o p) (item_is item) (done nothing)))) (leaves nothing (take p items ++ item ∷ drop (suc p) items))
       each p below =
           let t = set (item_at o p) (item_is item) store in
-          ends IsList store o (effect store answers (set_at o item p)) t nothing (take p items ++ item ∷ drop (suc p) items) refl refl refl
+          ends (is_of o) IsList store o (effect store answers (set_at o item p)) t nothing (take p items ++ item ∷ drop (suc p) items) refl refl refl
           (record {
             kind_is = listed.kind_is;
             length_is = listed.length_is ∙ length_exchanged p items item below;
@@ -200,7 +200,7 @@ module _ (store : RunStore) (answers : Answers) (o : ℕ) (items : List Contents
       let rest = write (len_at o) (len_is (n - 1)) (done answer) in
       let same = moved_down store None o p ys rest store (subst (λ (k : ℕ). Stand store o k ys) (omega arith) (stand_dropped store o 0 (suc p) items listed.items_stand)) in
       subst (λ (m : ℕ). Does (written store None (move_down m o p rest)) (leaves answer (without p items))) (length-drop (suc p) items)
-      (ends IsList store o (written store None (move_down (length ys) o p rest)) (set (len_at o) (len_is (n - 1)) (block o p ys store)) answer (without p items) same.answer_is same.made_is same.after_is
+      (ends (is_of o) IsList store o (written store None (move_down (length ys) o p rest)) (set (len_at o) (len_is (n - 1)) (block o p ys store)) answer (without p items) same.answer_is same.made_is same.after_is
       (with_length (block o p ys store) o (n - 1) (without p items) (ap (λ (kinds : List SeenKind). slice_get kinds o) (block_kinds o p ys store) ∙ listed.kind_is) (length_without p items below)
       (blocked store o xs ys (stand_taken store o 0 p items listed.items_stand) p (taken_length p items (omega (arith, below)))))
       (λ l apart. length_apart (block o p ys store) o (n - 1) l apart ∙ block_apart o p ys store l apart))
@@ -235,13 +235,13 @@ module _ (store : RunStore) (answers : Answers) (o : ℕ) (items : List Contents
           let t = set (item_at o p) (item_is item) s in
           let length_is = taken_length p items within in
           subst (λ (m : ℕ). Does (written store None (move_up m o p rest)) (leaves nothing (xs ++ item ∷ ys))) (length-drop p items)
-          (ends IsList store o (written store None (move_up (length ys) o p rest)) (set (len_at o) (len_is (suc n)) t) nothing (xs ++ item ∷ ys) same.answer_is same.made_is same.after_is
+          (ends (is_of o) IsList store o (written store None (move_up (length ys) o p rest)) (set (len_at o) (len_is (suc n)) t) nothing (xs ++ item ∷ ys) same.answer_is same.made_is same.after_is
           (with_length t o (suc n) (xs ++ item ∷ ys) (ap (λ (kinds : List SeenKind). slice_get kinds o) (block_kinds o (suc p) ys store) ∙ listed.kind_is) (length_inserted p items item within)
           (stand_put s o p xs ys item length_is (front_kept store o xs ys (stand_taken store o 0 p items listed.items_stand) (suc p) (omega (arith, length_is))) (block_stands o (suc p) ys store)))
           (λ l apart. length_apart t o (suc n) l apart ∙ item_apart s o p item l apart ∙ block_apart o (suc p) ys store l apart))
 
   made : (e : Effect) (new : List Contents) → ((s : RunStore) → Same e (effect store answers (new_list new)) s s) → Does e (makes_list new)
-  made e new same = does_same IsList store o e (effect store answers (new_list new)) (makes_list new) same (list_made store answers new)
+  made e new same = does_same (is_of o) IsList store o e (effect store answers (new_list new)) (makes_list new) same (list_made store answers new)
 
   number_given : (i : ℤ) → Does (effect store answers (gives_int i)) (number_or_overflow i items)
   number_given i = by_test (is_int i)
@@ -259,14 +259,14 @@ module _ (store : RunStore) (answers : Answers) (o : ℕ) (items : List Contents
     longer =
         let n = length items in
         let same = items_set store None o n more (write (len_at o) (len_is (n + length more)) (done answer)) store in
-        ends IsList store o (written store None (extended o answer n more)) (set (len_at o) (len_is (n + length more)) (block o n more store)) answer (items ++ more) same.answer_is same.made_is same.after_is
+        ends (is_of o) IsList store o (written store None (extended o answer n more)) (set (len_at o) (len_is (n + length more)) (block o n more store)) answer (items ++ more) same.answer_is same.made_is same.after_is
         (with_length (block o n more store) o (n + length more) (items ++ more) (ap (λ (kinds : List SeenKind). slice_get kinds o) (block_kinds o n more store) ∙ listed.kind_is) (sym (length-append items more))
         (blocked store o items more listed.items_stand n refl))
         (λ l apart. length_apart (block o n more store) o (n + length more) l apart ∙ block_apart o n more store l apart)
 
     pub lengthened : Does (effect store answers (extending o other answer)) (leaves answer (items ++ more))
     lengthened = by_length (λ n. walk other (λ found. writes (extended o answer n found))) (leaves answer (items ++ more))
-        (does_same IsList store o (effect store answers (walk other (λ found. writes (extended o answer (length items) found)))) (effect store answers (writes (extended o answer (length items) more))) (leaves answer (items ++ more))
+        (does_same (is_of o) IsList store o (effect store answers (walk other (λ found. writes (extended o answer (length items) found)))) (effect store answers (writes (extended o answer (length items) more))) (leaves answer (items ++ more))
         (λ s. walked store answers other more (λ found. writes (extended o answer (length items) found)) s has) longer)
 
     pub if_lengthened : Does (effect store answers (if_walked other (extending o other answer))) (leaves answer (items ++ more))
@@ -323,13 +323,13 @@ module _ (store : RunStore) (answers : Answers) (o : ℕ) (items : List Contents
   all_set : (new : List Contents) → length new ≡ length items → Does (effect store answers (writes (set_items o 0 new (done nothing)))) (leaves nothing new)
   all_set new same =
       let all = items_set store None o 0 new (done nothing) store in
-      ends IsList store o (written store None (set_items o 0 new (done nothing))) (block o 0 new store) nothing new all.answer_is all.made_is all.after_is (with_items store o items new listed same) (λ l apart. block_apart o 0 new store l apart)
+      ends (is_of o) IsList store o (written store None (set_items o 0 new (done nothing))) (block o 0 new store) nothing new all.answer_is all.made_is all.after_is (with_items store o items new listed same) (λ l apart. block_apart o 0 new store l apart)
 
   pub reverse_does : Does (effect store answers (reverse_method (object o ∷ []))) (reverse_is items)
   reverse_does =
       let set_all = λ (found : List Contents). writes (set_items o 0 (turned found []) (done nothing)) in
       by_kind (when_list (walk (object o) set_all)) (reverse_is items)
-      (does_same IsList store o (effect store answers (walk (object o) set_all)) (effect store answers (set_all items)) (reverse_is items) (λ s. list_walked store answers o items set_all s listed)
+      (does_same (is_of o) IsList store o (effect store answers (walk (object o) set_all)) (effect store answers (set_all items)) (reverse_is items) (λ s. list_walked store answers o items set_all s listed)
       (all_set (reverse items) (omega (arith, length_turned items []))))
 
   pub sort_does : refused_to deepest items ≡ None → Does (effect store answers (sort_method (object o ∷ []))) (sort_is items)
@@ -337,5 +337,5 @@ module _ (store : RunStore) (answers : Answers) (o : ℕ) (items : List Contents
       let set_all = λ (sorted : List Contents). writes (set_items o 0 sorted (done nothing)) in
       let go = λ (found : List Contents). with_sorted found set_all in
       by_kind (when_list (walk (object o) go)) (sort_is items)
-      (does_same IsList store o (effect store answers (walk (object o) go)) (effect store answers (go items)) (sort_is items) (λ s. list_walked store answers o items go s listed)
+      (does_same (is_of o) IsList store o (effect store answers (walk (object o) go)) (effect store answers (go items)) (sort_is items) (λ s. list_walked store answers o items go s listed)
       (subst (λ (refused : Option Plan). Does (effect store answers (sorted_by set_all items refused)) (sort_is items)) (sym in_kind) (all_set (in_order items) (length_in_order items))))

@@ -1,6 +1,7 @@
 pub mod Reading
 pub mod Results
 pub mod TableDicts
+pub mod TableFiles
 pub mod TableLists
 pub mod TableNumbers
 pub mod TableSequences

@@ -1,13 +1,15 @@
 -- What objects of a store are as values (The Python Language Reference 3, section 3.2): a list is its items, a dictionary its
--- pairs of key and value in order, an instance its attributes.
+-- pairs of key and value in order, an instance its attributes, a file its bytes and its offset.
+use Rattle.py_value.specs.declared.access.Mode.{Mode}
+use Rattle.std.specs.Str.{bytes_eq}
 use Rattle.std.specs.Prelude.{◌≡◌, ◌<◌, ⊤, ℕ, zero, suc, Bool, true, false, ◌==◌, List, [], ◌∷◌, map, length, slice_get, Option, Some, None, if◌then◌else◌, is_some, unwrap_or}
 use Rattle.py_value.specs.Contents.{Contents, nothing, text, tuple, range, object}
-use Rattle.py_value.specs.Seen.{SeenLocation, a_list, a_dict, an_instance, len_at, item_at, entry_at, order_at, offset_at, closed_at}
+use Rattle.py_value.specs.Seen.{SeenLocation, a_list, a_dict, an_instance, len_at, item_at, entry_at, order_at, offset_at, closed_at, a_file, file_at}
 use Rattle.py_value.specs.KeyOf.{normal}
 use Rattle.py_value.specs.Same.{same_value}
 use Rattle.py_model.specs.Orderly.{HasKeysApart}
 use Rattle.py_model.specs.Numbers.{range_count}
-use Rattle.py_model.specs.Store.{RunStore, len_of, item_of, entry_of, order_of}
+use Rattle.py_model.specs.Store.{RunStore, len_of, item_of, entry_of, order_of, file_of, offset_of, closed_of}
 use Rattle.py_model.specs.Texts.{characters}
 use Rattle.py_model.specs.Walks.{items_of, numbers_from}
 
@@ -77,3 +79,23 @@ HasItems store (tuple parts) items = items ≡ items_of parts
 HasItems store (range start end step) items = items ≡ numbers_from (range_count start end step) start step
 HasItems store (text bytes) items = items ≡ map text (characters bytes)
 HasItems store other items = ⊥
+
+-- a file that was opened: its path and mode, the bytes at the path, how many of them were read, and whether it is closed
+pub record FileValue : Type 0 where
+  pub path : List ℕ
+  pub mode : Mode
+  pub bytes : List ℕ
+  pub offset : ℕ
+  pub is_closed : Bool
+
+-- the object is this file; at a path where nothing stands there are no bytes
+pub record IsFile (store : RunStore) (o : ℕ) (file : FileValue) : Type 0 where
+  pub kind_is : slice_get store.kinds o ≡ Some (a_file file.path file.mode)
+  pub bytes_are : unwrap_or (file_of store file.path) [] ≡ file.bytes
+  pub offset_is : offset_of store o ≡ file.offset
+  pub closed_is : closed_of store o ≡ file.is_closed
+
+-- the location belongs to the file with this path
+abbrev pub is_of_file : ℕ → List ℕ → SeenLocation → Bool
+is_of_file o path (file_at other) = bytes_eq path other
+is_of_file o path l = is_of o l

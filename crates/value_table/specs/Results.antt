@@ -1,11 +1,11 @@
 -- What the table says of an operation, and when an effect does that (this project's profile).
-use Rattle.std.specs.Prelude.{◌≡◌, ℕ, false, List, length, Some, None}
+use Rattle.std.specs.Prelude.{◌≡◌, ℕ, false, List, length, Some, None, Bool}
 use Rattle.py_value.specs.Contents.{Contents, exception_class, object}
 use Rattle.py_value.specs.Seen.{SeenLocation, a_list}
 use Rattle.py_model.specs.Effect.{Effect, answered, after, thrown}
 use Rattle.py_model.specs.Plan.{value}
 use Rattle.py_model.specs.Store.{RunStore}
-use Rattle.value_table.specs.Reading.{IsList, is_of}
+use Rattle.value_table.specs.Reading.{IsList, is_of, IsFile, FileValue, is_of_file}
 
 -- It answers a value and leaves the object as this; or makes a list of these items, the answer, and leaves the object as it is; or raises
 -- an exception of a class of the language with these arguments, and leaves the object as it is.
@@ -14,11 +14,11 @@ pub data Result (A : Type 0) : Type 0 where
   makes_list : List Contents → Result A
   throws : ℕ → List Contents → Result A
 
--- it answers a value, makes nothing, and changes nothing but the object
-pub record Leaves (store : RunStore) (o : ℕ) (e : Effect) (answer : Contents) : Type 0 where
+-- it answers a value, makes nothing, and changes nothing but the object, to which these locations belong
+pub record Leaves (store : RunStore) (belongs : SeenLocation → Bool) (e : Effect) (answer : Contents) : Type 0 where
   pub answer_is : e.outcome ≡ answered (value answer)
   pub made_is : e.made ≡ None
-  pub elsewhere : (l : SeenLocation) → is_of o l ≡ false → (after e store).at l ≡ store.at l
+  pub elsewhere : (l : SeenLocation) → belongs l ≡ false → (after e store).at l ≡ store.at l
 
 -- it makes a list of these items and answers it, and changes nothing else
 pub record MakesList (store : RunStore) (e : Effect) (items : List Contents) : Type 0 where
@@ -33,11 +33,19 @@ pub record Throws (store : RunStore) (e : Effect) (number : ℕ) (arguments : Li
   pub made_is : e.made ≡ (thrown store (exception_class number) arguments).made
   pub after_is : after e store ≡ after (thrown store (exception_class number) arguments) store
 
--- the effect of an operation on an object does what the table says, where this is what the object is as a value
+-- the effect of an operation on an object, to which these locations belong, does what the table says, where this is what the object is as a
+-- value
+abbrev pub DoesIn : {A : Type 0} → (SeenLocation → Bool) → (RunStore → ℕ → A → Type 0) → RunStore → ℕ → Effect → Result A → Type 0
+DoesIn belongs Is store o e (leaves answer is) = Leaves store belongs e answer × Is (after e store) o is
+DoesIn belongs Is store o e (makes_list items) = MakesList store e items
+DoesIn belongs Is store o e (throws number arguments) = Throws store e number arguments
+
 abbrev pub Does : {A : Type 0} → (RunStore → ℕ → A → Type 0) → RunStore → ℕ → Effect → Result A → Type 0
-Does Is store o e (leaves answer is) = Leaves store o e answer × Is (after e store) o is
-Does Is store o e (makes_list items) = MakesList store e items
-Does Is store o e (throws number arguments) = Throws store e number arguments
+Does Is store o = DoesIn (is_of o) Is store o
+
+-- so of an operation on a file with this path
+abbrev pub DoesToFile : List ℕ → RunStore → ℕ → Effect → Result FileValue → Type 0
+DoesToFile path store o = DoesIn (is_of_file o path) IsFile store o
 
 -- what an operation answers that leaves no object but those it makes
 abbrev pub gives : Contents → Result (Unit {0})

@@ -1,4 +1,5 @@
 // Laws of the table in terms of values, each a function without a body that says it.
+ghost use Rattle.py_model.specs.Files.{read_plan, readline_plan, write_plan, close_plan};
 ghost use Rattle.std.specs.Prelude.{◌≡◌, ℕ, ℤ, List, [], ◌∷◌, Option, Some, None, map, length};
 ghost use Rattle.py_value.specs.Contents.{Contents, Parts, nothing, object, range, text, tuple};
 ghost use Rattle.py_value.specs.KeyOf.{key_fault};
@@ -12,11 +13,12 @@ ghost use Rattle.py_model.specs.Operands.{number_in};
 ghost use Rattle.py_model.specs.Sorting.{refused_to};
 ghost use Rattle.py_model.specs.Store.{RunStore};
 ghost use Rattle.py_model.specs.Walks.{deepest, items_of};
-ghost use Rattle.value_table.specs.Reading.{HasPairs, IsDict, IsInstance, IsList, pair_of, pairs_at, HasItems, IsPlainList, items_at};
+ghost use Rattle.value_table.specs.Reading.{HasPairs, IsDict, IsInstance, IsList, pair_of, pairs_at, HasItems, IsPlainList, items_at, FileValue, IsFile};
 ghost use Rattle.value_table.specs.TableDicts.{Pairs, getitem_is as dict_getitem_is, setitem_is as dict_setitem_is, delitem_is as dict_delitem_is, in_is, len_is as dict_len_is, get_is, items_is, keys_is, values_is, setattr_is, getattr_is};
-ghost use Rattle.value_table.specs.Results.{Does, DoesAlone};
+ghost use Rattle.value_table.specs.Results.{Does, DoesAlone, DoesToFile};
 ghost use Rattle.value_table.specs.TableLists.{append_is, getitem_is, setitem_is, delitem_is, pop_is, pop_last_is, insert_is, len_is, extend_is, iadd_is, add_is, slice_is, mul_is, reverse_is, sort_is, bound_in};
 ghost use Rattle.py_model.specs.TextMethods.{strip_plan, lstrip_plan, rstrip_plan, split_plan, join_plan, replace_plan, find_plan, startswith_plan, endswith_plan, upper_plan, lower_plan, isdigit_plan, ljust_plan, rjust_plan};
+ghost use Rattle.value_table.specs.TableFiles as files;
 ghost use Rattle.value_table.specs.TableNumbers as numbers;
 ghost use Rattle.value_table.specs.TableSequences as sequences;
 ghost use Rattle.value_table.specs.TableTexts as texts;
@@ -202,3 +204,17 @@ pub fn numbers_do_as_the_table()
     ensures add { (store : RunStore) (answers : Answers) (v w : Contents) (i j : ℤ) → number_in v ≡ Some i → number_in w ≡ Some j
         → DoesAlone store (effect store answers (add_plan (v ∷ (w ∷ [])))) (numbers.add_is i j) }
 {}
+
+/// The law of files: where an object is a file, each operation does what the table says of its bytes and its offset.
+pub fn files_do_as_the_table()
+    ensures read { (store : RunStore) (answers : Answers) (o : ℕ) (file : FileValue) → IsFile store o file
+        → DoesToFile file.path store o (effect store answers (read_plan (object o ∷ []))) (files.read_is file) }
+    ensures readline { (store : RunStore) (answers : Answers) (o : ℕ) (file : FileValue) → IsFile store o file
+        → DoesToFile file.path store o (effect store answers (readline_plan (object o ∷ []))) (files.readline_is file) }
+    ensures write { (store : RunStore) (answers : Answers) (o : ℕ) (file : FileValue) (more : List ℕ) → IsFile store o file
+        → DoesToFile file.path store o (effect store answers (write_plan (object o ∷ (text more ∷ [])))) (files.write_is file more) }
+    ensures close { (store : RunStore) (answers : Answers) (o : ℕ) (file : FileValue) → IsFile store o file
+        → DoesToFile file.path store o (effect store answers (close_plan (object o ∷ []))) (files.close_is file) }
+{
+    tests_are_equality();
+}
