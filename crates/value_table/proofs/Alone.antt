@@ -3,7 +3,7 @@ use Rattle.std.proofs.Common.{◌≡◌, ◌<◌, ◌≤◌, ℕ, zero, suc, ◌
 use Rattle.std.specs.Prelude.{neg_ℤ}
 use Rattle.std.specs.Ordering.{int_eq}
 use Rattle.py_value.specs.Contents.{Contents, Parts, nothing, truth, int, text, tuple, range, object}
-use Rattle.py_value.specs.Seen.{SeenLocation}
+use Rattle.py_value.specs.Seen.{SeenLocation, a_list}
 use Rattle.py_model.specs.Arithmetic.{neg_plan, pos_plan, abs_plan, add_plan, added, sub_plan, mul_plan, multiplied, repeats, divided, floor_div_plan, mod_plan, in_plan, len_plan, repeated}
 use Rattle.py_model.specs.Dicts.{paired}
 use Rattle.py_model.specs.Effect.{Effect, Answers, effect, after, parts_of}
@@ -65,6 +65,7 @@ module _ (store : RunStore) (answers : Answers) where
     made_is = (same store).made_is ∙ does.made_is;
     is_list = subst (λ (s : RunStore). IsList s (length store.kinds) items) (sym (after_same store e f same)) does.is_list;
     elsewhere = subst (λ (s : RunStore). (l : SeenLocation) → is_of (length store.kinds) l ≡ false → s.at l ≡ store.at l) (sym (after_same store e f same)) does.elsewhere;
+    rest_stays = subst (λ (s : RunStore). s ≡ record store { at = s.at; kinds = store.kinds ++ a_list ∷ [] }) (sym (after_same store e f same)) does.rest_stays;
   }
   alone_same e f (throws number arguments) same does = record {
     outcome_is = (same store).answer_is ∙ does.outcome_is;
@@ -125,14 +126,14 @@ module _ (store : RunStore) (answers : Answers) where
   text_words bytes = counted (size bytes) (texts_made (words_of bytes))
     where
       counted : (n : ℕ) → DoesIt (gives_texts (words_of bytes)) (texts.split_is bytes) → DoesIt (counts n (gives_texts (words_of bytes))) (texts.split_is bytes)
-      counted n does = record { answer_is = does.answer_is; made_is = does.made_is; is_list = does.is_list; elsewhere = does.elsewhere }
+      counted n does = record { answer_is = does.answer_is; made_is = does.made_is; is_list = does.is_list; elsewhere = does.elsewhere; rest_stays = does.rest_stays }
 
       texts_made : (all : List (List ℕ)) → DoesIt (gives_texts all) (makes_list (map text all))
-      texts_made all = let does = list_made store answers (map text all) in record { answer_is = does.answer_is; made_is = does.made_is; is_list = does.is_list; elsewhere = does.elsewhere }
+      texts_made all = let does = list_made store answers (map text all) in record { answer_is = does.answer_is; made_is = does.made_is; is_list = does.is_list; elsewhere = does.elsewhere; rest_stays = does.rest_stays }
 
   pub text_pieces : (bytes separator : List ℕ) → DoesIt (split_plan (text bytes ∷ (text separator ∷ []))) (texts.split_by_is bytes separator)
   text_pieces bytes [] = record { outcome_is = refl; made_is = refl; after_is = refl }
-  text_pieces bytes (byte ∷ more) = let does = list_made store answers (map text (pieces (byte ∷ more) bytes)) in record { answer_is = does.answer_is; made_is = does.made_is; is_list = does.is_list; elsewhere = does.elsewhere }
+  text_pieces bytes (byte ∷ more) = let does = list_made store answers (map text (pieces (byte ∷ more) bytes)) in record { answer_is = does.answer_is; made_is = does.made_is; is_list = does.is_list; elsewhere = does.elsewhere; rest_stays = does.rest_stays }
 
   all_texts : (all : List (List ℕ)) (go : List (List ℕ) → Plan) → texts_in (map text all) go ≡ go all
   all_texts [] go = refl

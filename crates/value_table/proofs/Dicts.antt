@@ -173,9 +173,9 @@ module _ (tested : ValuesTested) (Is : RunStore → ℕ → Pairs → Type 0) (s
   puts k item = by_entry k (put_entry o item k) (leaves nothing (with_pair k item pairs)) (by_found (pair_of k pairs) refl)
     where
       by_found : (found : Option (Contents × Contents)) → pair_of k pairs ≡ found → DoesThis (effect store answers (put_entry o item k found)) (leaves nothing (with_pair k item pairs))
-      by_found (Some pair) found = ends (is_of o) Is store o (effect store answers (put_entry o item k (Some pair))) (with_entry o k (Some (pair.0, item)) store) nothing (with_pair k item pairs) refl refl refl
+      by_found (Some pair) found = ends (is_of o) Is store o (effect store answers (put_entry o item k (Some pair))) (with_entry o k (Some (pair.0, item)) store) nothing (with_pair k item pairs) refl refl refl refl
           (again (with_entry o k (Some (pair.0, item)) store) (with_pair k item pairs) refl (value_set tested store o pairs has k item pair found)) (λ l apart. entry_apart store o k (Some (pair.0, item)) l apart)
-      by_found None found = ends (is_of o) Is store o (effect store answers (put_entry o item k None)) (put_store tested store o pairs has k item) nothing (with_pair k item pairs) refl refl refl
+      by_found None found = ends (is_of o) Is store o (effect store answers (put_entry o item k None)) (put_store tested store o pairs has k item) nothing (with_pair k item pairs) refl refl refl refl
           (again (put_store tested store o pairs has k item) (with_pair k item pairs) refl (pair_put tested store o pairs has k item found))
           (λ l apart. order_apart (with_entry o k (Some (k, item)) store) o (changed (key_inserted k) (store.at (order_at o))) l apart ∙ entry_apart store o k (Some (k, item)) l apart)
 
@@ -183,7 +183,7 @@ module _ (tested : ValuesTested) (Is : RunStore → ℕ → Pairs → Type 0) (s
   takes k = by_entry k (take_entry o k) (delitem_is pairs k) (by_found (pair_of k pairs) refl)
     where
       by_found : (found : Option (Contents × Contents)) → pair_of k pairs ≡ found → DoesThis (effect store answers (take_entry o k found)) (elim found [ None ↦ throws key_error (k ∷ []) | Some pair ↦ leaves nothing (without_pair k pairs) ])
-      by_found (Some pair) found = ends (is_of o) Is store o (effect store answers (take_entry o k (Some pair))) (taken_store tested store o pairs has k pair.0) nothing (without_pair k pairs) refl refl refl
+      by_found (Some pair) found = ends (is_of o) Is store o (effect store answers (take_entry o k (Some pair))) (taken_store tested store o pairs has k pair.0) nothing (without_pair k pairs) refl refl refl refl
           (again (taken_store tested store o pairs has k pair.0) (without_pair k pairs) refl (pair_taken tested store o pairs has k pair found))
           (λ l apart. order_apart (with_entry o k None store) o (changed (key_deleted pair.0) (store.at (order_at o))) l apart ∙ entry_apart store o k None l apart)
       by_found None found = record { outcome_is = refl; made_is = refl; after_is = refl }

@@ -1,5 +1,5 @@
 -- Effects that come to the same, and what writes make of a store.
-use Rattle.std.proofs.Common.{◌≡◌, ℕ, suc, ℤ, false, List, [], ◌∷◌, length, slice_get, Option, Some, None, unwrap_or, refl, sym, ap, subst, ◌∙◌, Bool}
+use Rattle.std.proofs.Common.{◌≡◌, ℕ, suc, ℤ, false, List, [], ◌∷◌, ◌++◌, length, slice_get, Option, Some, None, unwrap_or, refl, sym, ap, subst, ◌∙◌, Bool}
 use Rattle.py_value.specs.Contents.{Contents, nothing, truth, int, text, tuple, range, object, no_parts}
 use Rattle.py_value.specs.Seen.{SeenLocation, SeenKind, a_list, item_at, len_at, item_is, reads}
 use Rattle.py_model.specs.Effect.{Effect, Answers, accessed, touching, answered, effect, written, after, after_touches, with_made}
@@ -39,6 +39,7 @@ module _ {A : Type 0} (belongs : SeenLocation → Bool) (Is : RunStore → ℕ �
       answer_is = outcome_is ∙ does.0.answer_is;
       made_is = made ∙ does.0.made_is;
       elsewhere = subst (λ (s : RunStore). (l : SeenLocation) → belongs l ≡ false → s.at l ≡ store.at l) (sym after_is) does.0.elsewhere;
+      rest_stays = subst (λ (s : RunStore). s ≡ record store { at = s.at }) (sym after_is) does.0.rest_stays;
     },
     subst (λ (s : RunStore). Is s o is) (sym after_is) does.1,
   )
@@ -47,6 +48,7 @@ module _ {A : Type 0} (belongs : SeenLocation → Bool) (Is : RunStore → ℕ �
     made_is = made ∙ does.made_is;
     is_list = subst (λ (s : RunStore). IsList s (length store.kinds) items) (sym after_is) does.is_list;
     elsewhere = subst (λ (s : RunStore). (l : SeenLocation) → is_of (length store.kinds) l ≡ false → s.at l ≡ store.at l) (sym after_is) does.elsewhere;
+    rest_stays = subst (λ (s : RunStore). s ≡ record store { at = s.at; kinds = store.kinds ++ a_list ∷ [] }) (sym after_is) does.rest_stays;
   }
   does_as e f (throws number arguments) answer_is made after_is does = record {
     outcome_is = answer_is ∙ does.outcome_is;
@@ -59,17 +61,17 @@ module _ {A : Type 0} (belongs : SeenLocation → Bool) (Is : RunStore → ℕ �
 
   -- an effect that ends in a store
   pub ends : (e : Effect) (t : RunStore) (answer : Contents) (new : A) → e.outcome ≡ answered (value answer) → e.made ≡ None → after_touches e.touches store ≡ t
-      → Is t o new → ((l : SeenLocation) → belongs l ≡ false → t.at l ≡ store.at l) → DoesIn belongs Is store o e (leaves answer new)
-  ends e t answer new answer_is made after_is is elsewhere =
+      → t ≡ record store { at = t.at } → Is t o new → ((l : SeenLocation) → belongs l ≡ false → t.at l ≡ store.at l) → DoesIn belongs Is store o e (leaves answer new)
+  ends e t answer new answer_is made after_is rest is elsewhere =
       let same : after e store ≡ t = ap (λ made. after_touches e.touches (with_made made store)) made ∙ after_is in (
-        record { answer_is = answer_is; made_is = made; elsewhere = subst (λ (s : RunStore). (l : SeenLocation) → belongs l ≡ false → s.at l ≡ store.at l) (sym same) elsewhere },
+        record { answer_is = answer_is; made_is = made; elsewhere = subst (λ (s : RunStore). (l : SeenLocation) → belongs l ≡ false → s.at l ≡ store.at l) (sym same) elsewhere; rest_stays = subst (λ (s : RunStore). s ≡ record store { at = s.at }) (sym same) rest },
         subst (λ (s : RunStore). Is s o new) (sym same) is,
       )
 
   -- nothing is changed
   pub stays : (e : Effect) (answer : Contents) (old : A) → e.outcome ≡ answered (value answer) → e.made ≡ None → after_touches e.touches store ≡ store → Is store o old
       → DoesIn belongs Is store o e (leaves answer old)
-  stays e answer old answer_is made after_is is = ends e store answer old answer_is made after_is is (λ l apart. refl)
+  stays e answer old answer_is made after_is is = ends e store answer old answer_is made after_is refl is (λ l apart. refl)
 
 -- writes of items
 module _ (store : RunStore) (made : Option SeenKind) (o : ℕ) where

@@ -102,7 +102,7 @@ module _ (tested : PlacesTested) (store : RunStore) (answers : Answers) (o : ℕ
 
       by_test : (b : Bool) → DoesIt (if b then counts (size bytes) (writes (write (offset_at o) (offset_is at) (done (text bytes)))) else not_utf8)
           (if b then leaves (text bytes) (record file { offset = at }) else throws value_error (text (codes "not UTF-8") ∷ []))
-      by_test true = ends (is_of_file o file.path) IsFile store o (effect store answers (counts (size bytes) (writes (write (offset_at o) (offset_is at) (done (text bytes)))))) t (text bytes) (record file { offset = at }) refl refl refl
+      by_test true = ends (is_of_file o file.path) IsFile store o (effect store answers (counts (size bytes) (writes (write (offset_at o) (offset_is at) (done (text bytes)))))) t (text bytes) (record file { offset = at }) refl refl refl refl
           (record {
             kind_is = is.kind_is;
             bytes_are = is.bytes_are;
@@ -153,7 +153,7 @@ module _ (tested : PlacesTested) (store : RunStore) (answers : Answers) (o : ℕ
       elsewhere l apart = refl
 
       written_does : DoesIt (appended file.path more) (leaves (int (pos (size more))) new)
-      written_does = ends (is_of_file o file.path) IsFile store o (effect store answers (appended file.path more)) t (int (pos (size more))) new refl refl refl
+      written_does = ends (is_of_file o file.path) IsFile store o (effect store answers (appended file.path more)) t (int (pos (size more))) new refl refl refl refl
           (record {
             kind_is = is.kind_is;
             bytes_are = ap (λ b. unwrap_or (file_in (if b then Some c else store.at (file_at file.path))) []) ((tested (file_at file.path) (file_at file.path)).1 refl) ∙ appended_is (store.at (file_at file.path)) more
@@ -173,7 +173,7 @@ module _ (tested : PlacesTested) (store : RunStore) (answers : Answers) (o : ℕ
 
   pub close_does : DoesIt (close_plan (object o ∷ [])) (close_is file)
   close_does = by_file (close_by_kind o) (close_is file)
-      (ends (is_of_file o file.path) IsFile store o (effect store answers (writes (write (closed_at o) (closed_is true) (done nothing)))) (set (closed_at o) (closed_is true) store) nothing (record file { is_closed = true }) refl refl refl
+      (ends (is_of_file o file.path) IsFile store o (effect store answers (writes (write (closed_at o) (closed_is true) (done nothing)))) (set (closed_at o) (closed_is true) store) nothing (record file { is_closed = true }) refl refl refl refl
       (record {
         kind_is = is.kind_is;
         bytes_are = is.bytes_are;

@@ -18,7 +18,7 @@ use Rattle.py_model.specs.Walks.{read_value, read_items, walk, if_walked, deepes
 use Rattle.value_table.specs.Reading.{Stand, IsList, HasItems, is_of}
 use Rattle.value_table.specs.Results.{Result, leaves, makes_list, throws, Does as DoesTo, MakesList}
 use Rattle.value_table.specs.TableLists.{item_in, at_place, without, append_is, getitem_is, setitem_is, delitem_is, pop_is, pop_last_is, insert_is, len_is as length_answer, extend_is, iadd_is, add_is, slice_is, mul_is, reverse_is, sort_is, bound_in, number_or_overflow}
-use Rattle.value_table.proofs.Standing.{set, block, stand_at, stand_taken, stand_dropped, stand_put, front_kept, blocked, with_length, taken_length, length_without, length_exchanged, length_inserted, block_apart, length_apart, item_apart, block_kinds, with_items, block_elsewhere, block_stands, length_in, length_set}
+use Rattle.value_table.proofs.Standing.{set, block, stand_at, stand_taken, stand_dropped, stand_put, front_kept, blocked, with_length, taken_length, length_without, length_exchanged, length_inserted, block_apart, length_apart, item_apart, block_kinds, with_items, block_elsewhere, block_rest, only_map, block_stands, length_in, length_set}
 use Rattle.value_table.proofs.Effects.{Same, does_as, items_set, moved_down, moved_up, ends, stays, same_then, does_same, items_read, list_walked, walked, tested, index_goes, bound_goes}
 
 abbrev pub placed : (ℕ → Plan) → Option ℕ → Plan
@@ -132,6 +132,7 @@ list_made store answers items =
         items_stand = block_stands o 0 items s;
       });
       elsewhere = subst (λ (t : RunStore). (l : SeenLocation) → is_of o l ≡ false → t.at l ≡ store.at l) (sym same) (λ l apart. block_apart o 0 items s l apart ∙ length_apart begun o (length items) l apart);
+      rest_stays = subst (λ (t : RunStore). t ≡ record store { at = t.at; kinds = store.kinds ++ a_list ∷ [] }) (sym same) (block_rest o 0 items s);
     }
 
 module _ (store : RunStore) (answers : Answers) (o : ℕ) (items : List Contents) (listed : IsList store o items) where
@@ -168,7 +169,7 @@ module _ (store : RunStore) (answers : Answers) (o : ℕ) (items : List Contents
       let n = length items in
       let t = set (len_at o) (len_is (suc n)) (block o n (item ∷ []) store) in
       by_kind (when_list (read_len o (append_writes o item))) (append_is items item) (by_length (append_writes o item) (append_is items item)
-      (ends (is_of o) IsList store o (effect store answers (append_writes o item n)) t nothing (items ++ item ∷ []) refl refl refl
+      (ends (is_of o) IsList store o (effect store answers (append_writes o item n)) t nothing (items ++ item ∷ []) refl refl refl refl
       (with_length (block o n (item ∷ []) store) o (suc n) (items ++ item ∷ []) listed.kind_is (omega (arith, length-append items (item ∷ []))) (blocked store o items (item ∷ []) listed.items_stand n refl))
       (λ l apart. length_apart (block o n (item ∷ []) store) o (suc n) l apart ∙ block_apart o n (item ∷ []) store l apart)))
 
@@ -183,7 +184,7 @@ module _ (store : RunStore) (answers : Answers) (o : ℕ) (items : List Contents
       each : (p : ℕ) → p < length items → Does (effect store answers (writes (write (item_at o p) (item_is item) (done nothing)))) (leaves nothing (take p items ++ item ∷ drop (suc p) items))
       each p below =
           let t = set (item_at o p) (item_is item) store in
-          ends (is_of o) IsList store o (effect store answers (set_at o item p)) t nothing (take p items ++ item ∷ drop (suc p) items) refl refl refl
+          ends (is_of o) IsList store o (effect store answers (set_at o item p)) t nothing (take p items ++ item ∷ drop (suc p) items) refl refl refl refl
           (record {
             kind_is = listed.kind_is;
             length_is = listed.length_is ∙ length_exchanged p items item below;
@@ -200,7 +201,7 @@ module _ (store : RunStore) (answers : Answers) (o : ℕ) (items : List Contents
       let rest = write (len_at o) (len_is (n - 1)) (done answer) in
       let same = moved_down store None o p ys rest store (subst (λ (k : ℕ). Stand store o k ys) (omega arith) (stand_dropped store o 0 (suc p) items listed.items_stand)) in
       subst (λ (m : ℕ). Does (written store None (move_down m o p rest)) (leaves answer (without p items))) (length-drop (suc p) items)
-      (ends (is_of o) IsList store o (written store None (move_down (length ys) o p rest)) (set (len_at o) (len_is (n - 1)) (block o p ys store)) answer (without p items) same.answer_is same.made_is same.after_is
+      (ends (is_of o) IsList store o (written store None (move_down (length ys) o p rest)) (set (len_at o) (len_is (n - 1)) (block o p ys store)) answer (without p items) same.answer_is same.made_is same.after_is (only_map (block o p ys store) store (set (len_at o) (len_is (n - 1)) (block o p ys store)).at (block_rest o p ys store))
       (with_length (block o p ys store) o (n - 1) (without p items) (ap (λ (kinds : List SeenKind). slice_get kinds o) (block_kinds o p ys store) ∙ listed.kind_is) (length_without p items below)
       (blocked store o xs ys (stand_taken store o 0 p items listed.items_stand) p (taken_length p items (omega (arith, below)))))
       (λ l apart. length_apart (block o p ys store) o (n - 1) l apart ∙ block_apart o p ys store l apart))
@@ -235,7 +236,7 @@ module _ (store : RunStore) (answers : Answers) (o : ℕ) (items : List Contents
           let t = set (item_at o p) (item_is item) s in
           let length_is = taken_length p items within in
           subst (λ (m : ℕ). Does (written store None (move_up m o p rest)) (leaves nothing (xs ++ item ∷ ys))) (length-drop p items)
-          (ends (is_of o) IsList store o (written store None (move_up (length ys) o p rest)) (set (len_at o) (len_is (suc n)) t) nothing (xs ++ item ∷ ys) same.answer_is same.made_is same.after_is
+          (ends (is_of o) IsList store o (written store None (move_up (length ys) o p rest)) (set (len_at o) (len_is (suc n)) t) nothing (xs ++ item ∷ ys) same.answer_is same.made_is same.after_is (only_map s store (set (len_at o) (len_is (suc n)) t).at (block_rest o (suc p) ys store))
           (with_length t o (suc n) (xs ++ item ∷ ys) (ap (λ (kinds : List SeenKind). slice_get kinds o) (block_kinds o (suc p) ys store) ∙ listed.kind_is) (length_inserted p items item within)
           (stand_put s o p xs ys item length_is (front_kept store o xs ys (stand_taken store o 0 p items listed.items_stand) (suc p) (omega (arith, length_is))) (block_stands o (suc p) ys store)))
           (λ l apart. length_apart t o (suc n) l apart ∙ item_apart s o p item l apart ∙ block_apart o (suc p) ys store l apart))
@@ -259,7 +260,7 @@ module _ (store : RunStore) (answers : Answers) (o : ℕ) (items : List Contents
     longer =
         let n = length items in
         let same = items_set store None o n more (write (len_at o) (len_is (n + length more)) (done answer)) store in
-        ends (is_of o) IsList store o (written store None (extended o answer n more)) (set (len_at o) (len_is (n + length more)) (block o n more store)) answer (items ++ more) same.answer_is same.made_is same.after_is
+        ends (is_of o) IsList store o (written store None (extended o answer n more)) (set (len_at o) (len_is (n + length more)) (block o n more store)) answer (items ++ more) same.answer_is same.made_is same.after_is (only_map (block o n more store) store (set (len_at o) (len_is (n + length more)) (block o n more store)).at (block_rest o n more store))
         (with_length (block o n more store) o (n + length more) (items ++ more) (ap (λ (kinds : List SeenKind). slice_get kinds o) (block_kinds o n more store) ∙ listed.kind_is) (sym (length-append items more))
         (blocked store o items more listed.items_stand n refl))
         (λ l apart. length_apart (block o n more store) o (n + length more) l apart ∙ block_apart o n more store l apart)
@@ -323,7 +324,7 @@ module _ (store : RunStore) (answers : Answers) (o : ℕ) (items : List Contents
   all_set : (new : List Contents) → length new ≡ length items → Does (effect store answers (writes (set_items o 0 new (done nothing)))) (leaves nothing new)
   all_set new same =
       let all = items_set store None o 0 new (done nothing) store in
-      ends (is_of o) IsList store o (written store None (set_items o 0 new (done nothing))) (block o 0 new store) nothing new all.answer_is all.made_is all.after_is (with_items store o items new listed same) (λ l apart. block_apart o 0 new store l apart)
+      ends (is_of o) IsList store o (written store None (set_items o 0 new (done nothing))) (block o 0 new store) nothing new all.answer_is all.made_is all.after_is (block_rest o 0 new store) (with_items store o items new listed same) (λ l apart. block_apart o 0 new store l apart)
 
   pub reverse_does : Does (effect store answers (reverse_method (object o ∷ []))) (reverse_is items)
   reverse_does =

@@ -163,3 +163,11 @@ with_items s o xs ys listed same = record {
   length_is = ap length_in (block_elsewhere o 0 ys s (len_at o) (λ k later. refl)) ∙ listed.length_is ∙ sym same;
   items_stand = block_stands o 0 ys s;
 }
+
+-- besides the map nothing changes
+pub block_rest : (o i : ℕ) (items : List Contents) (s : RunStore) → block o i items s ≡ record s { at = (block o i items s).at }
+block_rest o i [] s = refl
+block_rest o i (item ∷ items) s = block_rest o (suc i) items (set (item_at o i) (item_is item) s)
+
+pub only_map : (s t : RunStore) (map : SeenLocation → Option SeenContent) → s ≡ record t { at = s.at } → record s { at = map } ≡ record t { at = map }
+only_map s t map is = ap (λ (u : RunStore). record u { at = map }) is

@@ -1,5 +1,5 @@
 -- What the table says of an operation, and when an effect does that (this project's profile).
-use Rattle.std.specs.Prelude.{◌≡◌, ℕ, false, List, length, Some, None, Bool}
+use Rattle.std.specs.Prelude.{◌≡◌, ℕ, false, List, [], ◌∷◌, ◌++◌, length, Some, None, Bool}
 use Rattle.py_value.specs.Contents.{Contents, exception_class, object}
 use Rattle.py_value.specs.Seen.{SeenLocation, a_list}
 use Rattle.py_model.specs.Effect.{Effect, answered, after, thrown}
@@ -14,18 +14,21 @@ pub data Result (A : Type 0) : Type 0 where
   makes_list : List Contents → Result A
   throws : ℕ → List Contents → Result A
 
--- it answers a value, makes nothing, and changes nothing but the object, to which these locations belong
+-- It answers a value, makes nothing, and changes nothing but the object, to which these locations belong: all other locations stay, and so do
+-- the kinds, what was printed, the paths that were opened and the names.
 pub record Leaves (store : RunStore) (belongs : SeenLocation → Bool) (e : Effect) (answer : Contents) : Type 0 where
   pub answer_is : e.outcome ≡ answered (value answer)
   pub made_is : e.made ≡ None
   pub elsewhere : (l : SeenLocation) → belongs l ≡ false → (after e store).at l ≡ store.at l
+  pub rest_stays : after e store ≡ record store { at = (after e store).at }
 
--- it makes a list of these items and answers it, and changes nothing else
+-- it makes a list of these items, the next object, and answers it, and changes nothing else
 pub record MakesList (store : RunStore) (e : Effect) (items : List Contents) : Type 0 where
   pub answer_is : e.outcome ≡ answered (value (object (length store.kinds)))
   pub made_is : e.made ≡ Some a_list
   pub is_list : IsList (after e store) (length store.kinds) items
   pub elsewhere : (l : SeenLocation) → is_of (length store.kinds) l ≡ false → (after e store).at l ≡ store.at l
+  pub rest_stays : after e store ≡ record store { at = (after e store).at; kinds = store.kinds ++ a_list ∷ [] }
 
 -- it raises an exception of this class with these arguments, and does nothing else
 pub record Throws (store : RunStore) (e : Effect) (number : ℕ) (arguments : List Contents) : Type 0 where
