@@ -124,7 +124,7 @@ keyed_by go key (Some other) = not_there
 key_goes : (key : Contents) (go : Contents → Plan) → key_fault deepest key ≡ None → with_key_of key go ≡ go key
 key_goes key go is = ap (keyed_by go key) is
 
-abbrev contained_by : ℕ → Contents → (Bool → Plan) → Option SeenKind → Plan
+abbrev pub contained_by : ℕ → Contents → (Bool → Plan) → Option SeenKind → Plan
 contained_by o v go (Some a_list) = read_len o (λ n. among_items n o 0 v go)
 contained_by o v go (Some a_dict) = with_key_of v (λ key. read_entry o key (λ entry. go (is_some entry)))
 contained_by o v go other = wrong_kind

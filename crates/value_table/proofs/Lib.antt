@@ -10,3 +10,4 @@ pub mod Alone
 pub mod WorkedTexts
 pub mod Files
 pub mod WorkedFiles
+pub mod Members

@@ -145,7 +145,7 @@ module _ (store : RunStore) (answers : Answers) (o : ℕ) (items : List Contents
   by_index : (index : Contents) (i : ℤ) (go : ℤ → Plan) (result : Result (List Contents)) → number_in index ≡ Some i → Does (effect store answers (go i)) result → Does (effect store answers (with_index index go)) result
   by_index index i go result is does = subst (λ (p : Plan). Does (effect store answers p) result) (sym (index_goes index i go is)) does
 
-  by_length : (go : ℕ → Plan) (result : Result (List Contents)) → Does (effect store answers (go (length items))) result → Does (effect store answers (read_len o go)) result
+  pub by_length : (go : ℕ → Plan) (result : Result (List Contents)) → Does (effect store answers (go (length items))) result → Does (effect store answers (read_len o go)) result
   by_length go result does = does_as (is_of o) IsList store o (touching (accessed (reads (len_at o))) (effect store answers (go (len_of store o)))) (effect store answers (go (len_of store o))) result refl refl refl
       (subst (λ (n : ℕ). Does (effect store answers (go n)) result) (sym listed.length_is) does)
 

@@ -1,3 +1,4 @@
+pub mod Equality
 pub mod Reading
 pub mod Results
 pub mod TableDicts

@@ -1,13 +1,15 @@
 // Laws of the table in terms of values, each a function without a body that says it.
+ghost use Rattle.value_table.specs.Equality.{IsEqual, StandsAt};
+ghost use Rattle.std.specs.Str.{bytes_eq};
 ghost use Rattle.py_model.specs.Files.{read_plan, readline_plan, write_plan, close_plan};
-ghost use Rattle.std.specs.Prelude.{◌≡◌, ℕ, ℤ, List, [], ◌∷◌, Option, Some, None, map, length};
+ghost use Rattle.std.specs.Prelude.{◌≡◌, ℕ, ℤ, List, [], ◌∷◌, Option, Some, None, map, length, true, false};
 ghost use Rattle.py_value.specs.Contents.{Contents, Parts, nothing, object, range, text, tuple};
 ghost use Rattle.py_value.specs.KeyOf.{key_fault};
 ghost use Rattle.py_model.specs.Arithmetic.{add_plan, in_plan, iadd_plan, len_plan, mul_plan, neg_plan, pos_plan, abs_plan, sub_plan, floor_div_plan, mod_plan};
 ghost use Rattle.py_model.specs.Classes.{find, getattr, setattr};
 ghost use Rattle.py_model.specs.Dicts.{get_method, items_method, keys_method, values_method};
 ghost use Rattle.py_model.specs.Effect.{Answers, effect};
-ghost use Rattle.py_model.specs.Lists.{append, extend, insert, pop, getitem, setitem, delitem, slice, reverse_method, sort_method, list_builtin, tuple_builtin, sorted_builtin, enumerate, zip_builtin};
+ghost use Rattle.py_model.specs.Lists.{append, extend, insert, pop, getitem, setitem, delitem, slice, reverse_method, sort_method, list_builtin, tuple_builtin, sorted_builtin, enumerate, zip_builtin, index_method};
 ghost use Rattle.py_model.specs.Numbers.{times, range_count};
 ghost use Rattle.py_model.specs.Operands.{number_in};
 ghost use Rattle.py_model.specs.Sorting.{refused_to};
@@ -18,6 +20,7 @@ ghost use Rattle.value_table.specs.TableDicts.{Pairs, getitem_is as dict_getitem
 ghost use Rattle.value_table.specs.Results.{Does, DoesAlone, DoesToFile};
 ghost use Rattle.value_table.specs.TableLists.{append_is, getitem_is, setitem_is, delitem_is, pop_is, pop_last_is, insert_is, len_is, extend_is, iadd_is, add_is, slice_is, mul_is, reverse_is, sort_is, bound_in};
 ghost use Rattle.py_model.specs.TextMethods.{strip_plan, lstrip_plan, rstrip_plan, split_plan, join_plan, replace_plan, find_plan, startswith_plan, endswith_plan, upper_plan, lower_plan, isdigit_plan, ljust_plan, rjust_plan};
+ghost use Rattle.value_table.specs.Equality as members;
 ghost use Rattle.value_table.specs.TableFiles as files;
 ghost use Rattle.value_table.specs.TableNumbers as numbers;
 ghost use Rattle.value_table.specs.TableSequences as sequences;
@@ -218,3 +221,19 @@ pub fn files_do_as_the_table()
 {
     tests_are_equality();
 }
+
+/// The law of members: whether a value stands in a list, and where, is what the table says of the first item that is equal to it. Numbers and texts
+/// are equal where they are the same, and an object is equal to itself; containers are as the walk of the comparison finds them.
+pub fn members_are_found()
+    ensures contains { (store : RunStore) (answers : Answers) (o : ℕ) (items : List Contents) (v : Contents) (place : Option ℕ) → IsList store o items
+        → StandsAt store answers v items place → Does IsList store o (effect store answers (in_plan (v ∷ (object o ∷ [])))) (members.in_is items place) }
+    ensures index { (store : RunStore) (answers : Answers) (o : ℕ) (items : List Contents) (v : Contents) (place : Option ℕ) → IsList store o items
+        → StandsAt store answers v items place
+        → Does IsList store o (effect store answers (index_method (object o ∷ (v ∷ [])))) (members.index_is items place) }
+    ensures same_number { (store : RunStore) (answers : Answers) (v w : Contents) (i : ℤ) → number_in v ≡ Some i → number_in w ≡ Some i
+        → IsEqual store answers v w true }
+    ensures other_number { (store : RunStore) (answers : Answers) (v w : Contents) (i j : ℤ) → number_in v ≡ Some i → number_in w ≡ Some j → (i ≡ j → ⊥)
+        → IsEqual store answers v w false }
+    ensures texts { (store : RunStore) (answers : Answers) (one other : List ℕ) → IsEqual store answers (text one) (text other) (bytes_eq one other) }
+    ensures itself { (store : RunStore) (answers : Answers) (o : ℕ) → IsEqual store answers (object o) (object o) true }
+{}

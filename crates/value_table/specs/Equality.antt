@@ -1,0 +1,36 @@
+-- When two values are equal in a store, and where a value stands among items (The Python Language Reference 3, section 6.10). The walk of the
+-- comparison is the plan's (`specs/Walks.antt` of `py_model`): what it comes to is all that is said here.
+use Rattle.std.specs.Prelude.{◌≡◌, ⊤, ℕ, zero, suc, pos, Bool, true, false, List, [], ◌∷◌, Option, Some, None, is_some, codes}
+use Rattle.py_value.specs.Contents.{Contents, truth, int, text}
+use Rattle.py_model.specs.Effect.{Effect, Answers, effect, after}
+use Rattle.py_model.specs.Faults.{value_error}
+use Rattle.py_model.specs.Plan.{Plan}
+use Rattle.py_model.specs.Store.{RunStore}
+use Rattle.py_model.specs.Walks.{equals}
+use Rattle.value_table.specs.Results.{Result, leaves, throws}
+
+-- two effects come to the same: the answer, what is made, and the store afterwards
+pub record ComesTo (store : RunStore) (e f : Effect) : Type 0 where
+  pub answer_is : e.outcome ≡ f.outcome
+  pub made_is : e.made ≡ f.made
+  pub after_is : after e store ≡ after f store
+
+-- the comparison of two values finds them equal, or not: a plan that compares them goes on with that, and changes nothing by it
+abbrev pub IsEqual : RunStore → Answers → Contents → Contents → Bool → Type 0
+IsEqual store answers v w b = (go : Bool → Plan) → ComesTo store (effect store answers (equals v w go)) (effect store answers (go b))
+
+-- the first place among items at which a value that is equal to this one stands, where there is one
+abbrev pub StandsAt : RunStore → Answers → Contents → List Contents → Option ℕ → Type 0
+StandsAt store answers v [] place = place ≡ None
+StandsAt store answers v (item ∷ items) (Some zero) = IsEqual store answers v item true
+StandsAt store answers v (item ∷ items) (Some (suc p)) = IsEqual store answers v item false × StandsAt store answers v items (Some p)
+StandsAt store answers v (item ∷ items) None = IsEqual store answers v item false × StandsAt store answers v items None
+
+-- 18 in (R Len, then R Item and compare walk up to the hit): whether the value stands in the list; 19 not in answers the other truth value
+abbrev pub in_is : List Contents → Option ℕ → Result (List Contents)
+in_is items place = leaves (truth (is_some place)) items
+
+-- 84 index (as in): the first place at which it stands
+abbrev pub index_is : List Contents → Option ℕ → Result (List Contents)
+index_is items (Some p) = leaves (int (pos p)) items
+index_is items None = throws value_error (text (codes "not found") ∷ [])
