@@ -1,32 +1,33 @@
 -- Operations that change no object do what the table says: on texts, tuples, ranges and numbers, and those that walk a sequence.
-use Rattle.std.proofs.Common.{◌≡◌, ◌<◌, ◌≤◌, ℕ, zero, suc, ◌+◌, ◌-◌, ℤ, pos, negsuc, ◌+ℤ◌, ◌-ℤ◌, ◌*ℤ◌, Bool, true, false, if◌then◌else◌, List, [], ◌∷◌, ◌++◌, map, length, slice_get, take, drop, Option, Some, None, unwrap_or, refl, sym, ap, subst, ◌∙◌, arith, codes}
+use Rattle.py_model.specs.Files.{next_line}
+use Rattle.std.proofs.Common.{◌≡◌, ℕ, zero, suc, ◌-◌, ℤ, pos, negsuc, ◌+ℤ◌, ◌-ℤ◌, ◌*ℤ◌, Bool, true, false, if◌then◌else◌, List, [], ◌∷◌, ◌++◌, map, length, slice_get, take, drop, Option, Some, None, unwrap_or, refl, sym, ap, subst, ◌∙◌, codes, ◌==◌, nat_lt}
 use Rattle.std.specs.Prelude.{neg_ℤ}
 use Rattle.std.specs.Ordering.{int_eq}
-use Rattle.py_value.specs.Contents.{Contents, Parts, nothing, truth, int, text, tuple, range, object}
+use Rattle.py_value.specs.Contents.{Contents, Parts, truth, int, text, tuple, range}
 use Rattle.py_value.specs.Seen.{SeenLocation, a_list}
-use Rattle.py_model.specs.Arithmetic.{neg_plan, pos_plan, abs_plan, add_plan, added, sub_plan, mul_plan, multiplied, repeats, divided, floor_div_plan, mod_plan, in_plan, len_plan, repeated}
+use Rattle.py_model.specs.Arithmetic.{neg_plan, pos_plan, abs_plan, add_plan, sub_plan, mul_plan, repeats, divided, floor_div_plan, mod_plan, len_plan}
 use Rattle.py_model.specs.Dicts.{paired}
-use Rattle.py_model.specs.Effect.{Effect, Answers, effect, after, parts_of}
-use Rattle.py_model.specs.Faults.{bad_index, wrong_kind, out_of_range, overflow, zero_division, fault, index_error}
-use Rattle.py_model.specs.Lists.{getitem, slice, with_place, with_part, with_bounds, number_at, numbered, list_builtin, tuple_builtin, sorted_builtin, enumerate, zip_builtin, tuple_display}
+use Rattle.py_model.specs.Effect.{Effect, Answers, effect, parts_of}
+use Rattle.py_model.specs.Faults.{wrong_kind, out_of_range, overflow, zero_division, fault, value_error}
+use Rattle.py_model.specs.Lists.{getitem, slice, with_place, with_part, with_bounds, number_at, numbered, list_builtin, tuple_builtin, sorted_builtin, enumerate, zip_builtin, tuple_display, unpack, list_display, wrong_count, next}
 use Rattle.py_model.specs.Making.{new_list}
 use Rattle.py_model.specs.Numbers.{is_int, floor_div, floor_mod, absolute, times, range_count}
-use Rattle.py_model.specs.Operands.{number_in, with_number, gives_int, gives_text, gives_tuple}
+use Rattle.py_model.specs.Operands.{number_in, with_number, gives_int, gives_text}
 use Rattle.py_model.specs.Places.{with_index, with_bound, place_in, part_from, low_bound, high_bound}
-use Rattle.py_model.specs.Plan.{Plan, done, looks, counts, writes}
+use Rattle.py_model.specs.Plan.{Plan, done, looks, counts, writes, ends}
 use Rattle.py_model.specs.Sorting.{refused_to, in_order, with_sorted}
 use Rattle.py_model.specs.Store.{RunStore}
 use Rattle.py_model.specs.TextMethods.{split_plan, join_plan, texts_in, replace_plan, find_plan, ljust_plan, rjust_plan, gives_texts}
 use Rattle.py_model.specs.Texts.{characters, size, joined, joined_by, pieces, words_of, place_of, spaces}
 use Rattle.py_model.specs.Walks.{walk, if_walked, items_of, deepest}
 use Rattle.value_table.specs.Reading.{HasItems, IsList, is_of}
-use Rattle.value_table.specs.Results.{Result, leaves, makes_list, throws, gives, Gives, DoesAlone}
-use Rattle.value_table.specs.TableLists.{at_place, item_in, number_or_overflow, bound_in}
+use Rattle.value_table.specs.Results.{Result, leaves, makes_list, throws, gives, DoesAlone, reaches_end}
+use Rattle.value_table.specs.TableLists.{at_place, item_in, bound_in, item_or_end}
 use Rattle.value_table.specs.TableNumbers.{number}
 use Rattle.value_table.specs.TableTexts as texts
 use Rattle.value_table.specs.TableSequences as sequences
 use Rattle.value_table.specs.TableNumbers as numbers
-use Rattle.value_table.proofs.Effects.{Same, same_then, after_same, walked, tested, index_goes, bound_goes}
+use Rattle.value_table.proofs.Effects.{Same, after_same, walked, tested, index_goes, bound_goes}
 use Rattle.value_table.proofs.Lists.{list_made, placed, sorted_by}
 
 abbrev numbered_by : (ℤ → Plan) → Option ℤ → Plan
@@ -50,6 +51,10 @@ products v w (Some i) None = repeats w (times i)
 products v w None (Some j) = repeats v (times j)
 products v w None None = wrong_kind
 
+abbrev item_or : (Contents → Plan) → Option Contents → Plan
+item_or go (Some item) = go item
+item_or go None = ends
+
 module _ (store : RunStore) (answers : Answers) where
   abbrev DoesIt : Plan → Result (Unit {0}) → Type 0
   DoesIt p result = DoesAlone store (effect store answers p) result
@@ -72,6 +77,7 @@ module _ (store : RunStore) (answers : Answers) where
     made_is = (same store).made_is ∙ does.made_is;
     after_is = after_same store e f same ∙ does.after_is;
   }
+  alone_same e f reaches_end same does = record { answer_is = (same store).answer_is ∙ does.answer_is; made_is = (same store).made_is ∙ does.made_is; after_is = after_same store e f same ∙ does.after_is }
 
   by_plan : (p q : Plan) (result : Result (Unit {0})) → p ≡ q → DoesIt q result → DoesIt p result
   by_plan p q result is does = subst (λ (plan : Plan). DoesIt plan result) (sym is) does
@@ -194,6 +200,35 @@ module _ (store : RunStore) (answers : Answers) where
   pub range_length : (start end step : ℤ) → DoesIt (len_plan (range start end step ∷ [])) (sequences.len_is (range_count start end step))
   range_length start end step = number_given (pos (range_count start end step))
 
+  pub tuple_unpacked : (targets : ℕ) (parts : Parts) → DoesIt (unpack targets (tuple parts ∷ [])) (sequences.unpack_is targets (items_of parts))
+  tuple_unpacked targets parts = by_test (length (items_of parts) == targets)
+    where
+      by_test : (b : Bool) → DoesIt (if b then looks targets (tuple_display (items_of parts)) else wrong_count)
+          (if b then gives (tuple (parts_of (items_of parts))) else throws value_error (text (codes "wrong number of values") ∷ []))
+      by_test true = record { answer_is = refl; made_is = refl; after_is = refl }
+      by_test false = record { outcome_is = refl; made_is = refl; after_is = refl }
+
+  pub list_displayed : (items : List Contents) → DoesIt (list_display items) (sequences.list_display_is items)
+  list_displayed items = list_made store answers items
+
+  -- turns of a `for`
+  answered_or_end : (found : Option Contents) (go : Contents → Plan) → ((item : Contents) → DoesIt (go item) (gives item)) → DoesIt (item_or go found) (item_or_end found tt)
+  answered_or_end (Some item) go each = each item
+  answered_or_end None go each = record { answer_is = refl; made_is = refl; after_is = refl }
+
+  pub tuple_next : (parts : Parts) (turn : ℕ) (begun : Contents) → DoesIt (next next_line (tuple parts ∷ (int (pos turn) ∷ (begun ∷ [])))) (sequences.next_is (items_of parts) turn)
+  tuple_next parts turn begun = answered_or_end (slice_get (items_of parts) turn) (λ item. looks 1 (writes (done item))) (λ item. record { answer_is = refl; made_is = refl; after_is = refl })
+
+  pub text_next : (bytes : List ℕ) (turn : ℕ) (begun : Contents) → DoesIt (next next_line (text bytes ∷ (int (pos turn) ∷ (begun ∷ [])))) (sequences.next_is (map text (characters bytes)) turn)
+  text_next bytes turn begun = answered_or_end (slice_get (map text (characters bytes)) turn) (λ item. counts 1 (writes (done item))) (λ item. record { answer_is = refl; made_is = refl; after_is = refl })
+
+  pub range_next : (start end step : ℤ) (turn : ℕ) (begun : Contents) → DoesIt (next next_line (range start end step ∷ (int (pos turn) ∷ (begun ∷ [])))) (sequences.next_of_range_is start end step turn)
+  range_next start end step turn begun = by_test (nat_lt turn (range_count start end step))
+    where
+      by_test : (b : Bool) → DoesIt (if b then looks 1 (writes (done (number_at start step turn))) else ends) (if b then gives (number_at start step turn) else reaches_end)
+      by_test true = record { answer_is = refl; made_is = refl; after_is = refl }
+      by_test false = record { answer_is = refl; made_is = refl; after_is = refl }
+
   -- sequences that are walked
   module _ (v : Contents) (items : List Contents) (has : HasItems store v items) where
     by_walk : (go : List Contents → Plan) (result : Result (Unit {0})) → DoesIt (go items) result → DoesIt (walk v go) result
@@ -214,11 +249,11 @@ module _ (store : RunStore) (answers : Answers) where
 
     pub zipped : (w : Contents) (more : List Contents) → HasItems store w more → DoesIt (zip_builtin (v ∷ (w ∷ []))) (sequences.zip_is items more)
     zipped w more other =
-        let ends = λ (lefts rights : List Contents). new_list (paired lefts rights) in
-        let both = walk v (λ lefts. walk w (ends lefts)) in
+        let zips = λ (lefts rights : List Contents). new_list (paired lefts rights) in
+        let both = walk v (λ lefts. walk w (zips lefts)) in
         subst (λ (e : Effect). DoesAlone store e (sequences.zip_is items more)) (sym (tested store answers v items (if_walked w both) has ∙ tested store answers w more both other))
-        (by_walk (λ lefts. walk w (ends lefts)) (sequences.zip_is items more)
-        (alone_same (effect store answers (walk w (ends items))) (effect store answers (ends items more)) (sequences.zip_is items more) (λ s. walked store answers w more (ends items) s other)
+        (by_walk (λ lefts. walk w (zips lefts)) (sequences.zip_is items more)
+        (alone_same (effect store answers (walk w (zips items))) (effect store answers (zips items more)) (sequences.zip_is items more) (λ s. walked store answers w more (zips items) s other)
         (list_made store answers (paired items more))))
 
   -- numbers

@@ -1,5 +1,7 @@
 -- Operations on dictionaries, and on attributes of instances, do what the table says.
-use Rattle.std.proofs.Common.{◌≡◌, ℕ, suc, ℤ, pos, Bool, true, false, ◌&&◌, if◌then◌else◌, List, [], ◌∷◌, map, length, slice_get, Option, Some, None, is_some, unwrap_or, refl, sym, ap, subst, ◌∙◌, eq-eqb, codes}
+use Rattle.py_model.specs.Files.{next_line}
+use Rattle.std.specs.Ordering.{int_eq}
+use Rattle.std.proofs.Common.{◌≡◌, ℕ, suc, ℤ, pos, Bool, true, false, ◌&&◌, if◌then◌else◌, List, [], ◌∷◌, map, length, slice_get, Option, Some, None, is_some, unwrap_or, refl, sym, ap, subst, ◌∙◌, eq-eqb, codes, not, ◌==◌}
 use Rattle.std.specs.Option.{option_map}
 use Rattle.py_value.specs.Changes.{with_key, without_key, changed}
 use Rattle.py_value.specs.Contents.{Contents, nothing, truth, int, text, tuple, object, no_parts, part}
@@ -8,26 +10,26 @@ use Rattle.py_value.specs.declared.key.KeyFault.TheVariants.{NoKey, TooDeep}
 use Rattle.py_value.specs.KeyOf.{normal, key_fault}
 use Rattle.py_value.specs.Same.{same_value}
 use Rattle.py_value.specs.Seen.{SeenLocation, SeenContent, SeenKind, a_list, a_dict, an_instance, entry_at, order_at, entry_is, order_is, key_inserted, key_deleted, reads}
-use Rattle.py_model.specs.Arithmetic.{in_plan, len_plan, among_items}
+use Rattle.py_model.specs.Arithmetic.{in_plan, len_plan, among_items, truth_of, truth_plan, not_plan}
 use Rattle.py_model.specs.Classes.{getattr, setattr, find, setattr_of_object, getattr_of_object, find_of_object, no_method_value, class_attribute, method_found}
 use Rattle.py_model.specs.Dicts.{with_pair, when_dict, value_or, read_entries, paired, get_method, items_method, keys_method, values_method}
 use Rattle.py_model.specs.Effect.{Effect, Answers, accessed, touching, effect}
-use Rattle.py_model.specs.Faults.{wrong_kind, out_of_range, overflow, key_error, too_deep, not_there}
+use Rattle.py_model.specs.Faults.{wrong_kind, out_of_range, overflow, key_error, too_deep, not_there, runtime_error}
 use Rattle.py_model.specs.Keys.{with_key_of, lacks_key, no_key_of}
-use Rattle.py_model.specs.Lists.{getitem, setitem, delitem, get_of, set_of, del_of}
+use Rattle.py_model.specs.Lists.{getitem, setitem, delitem, get_of, set_of, del_of, iter, iter_of, next, next_of, changed_size}
 use Rattle.py_model.specs.Making.{new_list}
 use Rattle.py_model.specs.Numbers.{is_int}
 use Rattle.py_model.specs.Operands.{gives, gives_int, gives_truth}
-use Rattle.py_model.specs.Plan.{Plan, write, change, done, kind_of, read_entry, read_len, read_order, writes}
+use Rattle.py_model.specs.Plan.{Plan, write, change, done, kind_of, read_entry, read_len, read_order, writes, ends as ends_here}
 use Rattle.py_model.specs.Store.{RunStore, entry_of, order_of}
 use Rattle.py_model.specs.Walks.{deepest}
 use Rattle.value_table.specs.Reading.{pair_of, pairs_at, HasPairs, IsDict, IsInstance, is_of}
 use Rattle.value_table.specs.Results.{Result, leaves, makes_list, throws, Does}
-use Rattle.value_table.specs.TableLists.{number_or_overflow}
-use Rattle.value_table.specs.TableDicts.{Pairs, without_pair, getitem_is, setitem_is, delitem_is, in_is, len_is, get_is, items_is, keys_is, values_is, setattr_is, getattr_is}
+use Rattle.value_table.specs.TableLists.{number_or_overflow, item_or_end}
+use Rattle.value_table.specs.TableDicts.{Pairs, without_pair, getitem_is, setitem_is, delitem_is, in_is, len_is, get_is, items_is, keys_is, values_is, setattr_is, getattr_is, truth_is, not_is, iter_is, next_is}
 use Rattle.value_table.proofs.Effects.{Same, does_as, does_same, ends, stays, behind_read}
 use Rattle.value_table.proofs.Keys.{ValuesTested, keys_in, found_form, set_there, put_behind, set_behind, keys_stay, key_put, apart_set, apart_behind, taken_out, key_taken, apart_taken, AreFound, each_found}
-use Rattle.value_table.proofs.Lists.{list_made, length_by}
+use Rattle.value_table.proofs.Lists.{list_made, length_by, truth_by}
 use Rattle.value_table.proofs.Standing.{set}
 
 abbrev entry_in : Option SeenContent → Option (Contents × Contents)
@@ -135,6 +137,10 @@ second_or instead entry = unwrap_or (option_map (λ (pair : Contents × Contents
 abbrev attribute_by : Plan → Option (Contents × Contents) → Plan
 attribute_by otherwise None = otherwise
 attribute_by otherwise (Some pair) = writes (done pair.1)
+
+abbrev key_or_end : Option Contents → Plan
+key_or_end (Some key) = writes (done key)
+key_or_end None = ends_here
 
 pub pairs_read : (tested : ValuesTested) (store : RunStore) (o : ℕ) (pairs : Pairs) → HasPairs store o pairs → pairs ≡ pairs_at store o
 pairs_read tested store o pairs has = each pairs (each_found tested pairs has.apart) ∙ ap (map (λ key. unwrap_or (entry_of store o key) (key, nothing))) (sym has.order_is)
@@ -247,6 +253,39 @@ module _ (tested : ValuesTested) (store : RunStore) (answers : Answers) (o : ℕ
   pub len_does : DoesToDict (effect store answers (len_plan (object o ∷ []))) (len_is pairs)
   len_does = by_dict (length_by o (λ n. gives_int (pos n))) (len_is pairs) (by_order tested IsDict store answers o pairs is is.has_pairs dict_again (λ keys. gives_int (pos (length keys))) (len_is pairs)
       (subst (λ (n : ℕ). DoesToDict (effect store answers (gives_int (pos n))) (len_is pairs)) (sym (many_keys pairs)) (number_given (pos (length pairs)))))
+
+  truth_does : (go : Bool → Plan) (result : Result Pairs) → DoesToDict (effect store answers (go (not (length pairs == 0)))) result → DoesToDict (effect store answers (truth_of (object o) go)) result
+  truth_does go result does = by_dict (truth_by o go) result (by_order tested IsDict store answers o pairs is is.has_pairs dict_again (λ keys. go (not (length keys == 0))) result
+      (subst (λ (n : ℕ). DoesToDict (effect store answers (go (not (n == 0)))) result) (sym (many_keys pairs)) does))
+
+  pub dict_truth : DoesToDict (effect store answers (truth_plan (object o ∷ []))) (truth_is pairs)
+  dict_truth = truth_does gives_truth (truth_is pairs) (same_here (truth (not (length pairs == 0))))
+
+  pub dict_not : DoesToDict (effect store answers (not_plan (object o ∷ []))) (not_is pairs)
+  dict_not = truth_does (λ b. gives_truth (not b)) (not_is pairs) (by_test (length pairs == 0))
+    where
+      by_test : (b : Bool) → DoesToDict (effect store answers (gives_truth (not (not b)))) (leaves (truth b) pairs)
+      by_test true = same_here (truth true)
+      by_test false = same_here (truth false)
+
+  pub dict_iter : DoesToDict (effect store answers (iter (object o ∷ []))) (iter_is pairs)
+  dict_iter = by_dict (iter_of o) (iter_is pairs) (by_order tested IsDict store answers o pairs is is.has_pairs dict_again (λ keys. writes (done (int (pos (length keys))))) (iter_is pairs)
+      (subst (λ (n : ℕ). DoesToDict (effect store answers (writes (done (int (pos n))))) (iter_is pairs)) (sym (many_keys pairs)) (same_here (int (pos (length pairs))))))
+
+  pub dict_next : (turn begun : ℕ) → DoesToDict (effect store answers (next next_line (object o ∷ (int (pos turn) ∷ (int (pos begun) ∷ []))))) (next_is pairs turn begun)
+  dict_next turn begun = by_dict (next_of next_line o turn (int (pos begun))) (next_is pairs turn begun) (by_order tested IsDict store answers o pairs is is.has_pairs dict_again
+      (λ keys. if int_eq (pos begun) (pos (length keys)) then key_or_end (slice_get keys turn) else changed_size) (next_is pairs turn begun)
+      (subst (λ (n : ℕ). DoesToDict (effect store answers (if int_eq (pos begun) (pos n) then key_or_end (slice_get (keys_in pairs) turn) else changed_size)) (next_is pairs turn begun)) (sym (many_keys pairs))
+      (by_test (int_eq (pos begun) (pos (length pairs))))))
+    where
+      by_key_there : (found : Option Contents) → DoesToDict (effect store answers (key_or_end found)) (item_or_end found pairs)
+      by_key_there (Some key) = same_here key
+      by_key_there None = record { answer_is = refl; made_is = refl; after_is = refl }
+
+      by_test : (b : Bool) → DoesToDict (effect store answers (if b then key_or_end (slice_get (keys_in pairs) turn) else changed_size))
+          (if b then item_or_end (slice_get (keys_in pairs) turn) pairs else throws runtime_error (text (codes "dictionary changed size") ∷ []))
+      by_test true = by_key_there (slice_get (keys_in pairs) turn)
+      by_test false = record { outcome_is = refl; made_is = refl; after_is = refl }
 
   pub keys_does : DoesToDict (effect store answers (keys_method (object o ∷ []))) (keys_is pairs)
   keys_does = by_dict (when_dict (read_order o new_list)) (keys_is pairs) (by_order tested IsDict store answers o pairs is is.has_pairs dict_again new_list (keys_is pairs) (list_made store answers (keys_in pairs)))

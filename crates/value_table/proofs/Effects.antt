@@ -11,7 +11,7 @@ use Rattle.py_model.specs.Plan.{Plan, Writes, value, kind_of}
 use Rattle.py_model.specs.Store.{RunStore, item_of, len_of}
 use Rattle.py_model.specs.Walks.{read_items, walk, walk_object, if_walked, when_walked}
 use Rattle.value_table.specs.Reading.{Stand, IsList, HasItems, is_of}
-use Rattle.value_table.specs.Results.{Result, leaves, makes_list, throws, DoesIn}
+use Rattle.value_table.specs.Results.{Result, leaves, makes_list, throws, DoesIn, reaches_end}
 use Rattle.value_table.specs.TableLists.{bound_in}
 use Rattle.value_table.proofs.Standing.{set, block}
 
@@ -55,6 +55,7 @@ module _ {A : Type 0} (belongs : SeenLocation → Bool) (Is : RunStore → ℕ �
     made_is = made ∙ does.made_is;
     after_is = after_is ∙ does.after_is;
   }
+  does_as e f reaches_end answer_is made after_is does = record { answer_is = answer_is ∙ does.answer_is; made_is = made ∙ does.made_is; after_is = after_is ∙ does.after_is }
 
   pub does_same : (e f : Effect) (result : Result A) → ((s : RunStore) → Same e f s s) → DoesIn belongs Is store o f result → DoesIn belongs Is store o e result
   does_same e f result same does = does_as e f result (same store).answer_is (same store).made_is (after_same store e f same) does

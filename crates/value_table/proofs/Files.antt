@@ -1,23 +1,23 @@
 -- Operations on files do what the table says.
-use Rattle.std.proofs.Common.{◌≡◌, ◌↔◌, ℕ, ◌+◌, pos, Bool, true, false, ◌==◌, if◌then◌else◌, List, [], ◌∷◌, ◌++◌, length, slice_get, drop, Option, Some, None, unwrap_or, refl, sym, ap, subst, ◌∙◌, eq-eqb, codes}
+use Rattle.std.proofs.Common.{◌≡◌, ◌↔◌, ℕ, ◌+◌, pos, Bool, true, false, if◌then◌else◌, List, [], ◌∷◌, ◌++◌, length, drop, Option, Some, None, unwrap_or, refl, sym, ap, subst, ◌∙◌, eq-eqb, codes}
 use Rattle.std.specs.Str.{is_utf8}
 use Rattle.py_value.specs.declared.access.Mode.{Mode}
 use Rattle.py_value.specs.declared.access.Mode.TheVariants.{Read, Write, Append}
 use Rattle.py_value.specs.Changes.{changed}
-use Rattle.py_value.specs.Contents.{Contents, nothing, int, text, object}
-use Rattle.py_value.specs.Same.{same_location, put}
+use Rattle.py_value.specs.Contents.{nothing, int, text, object}
+use Rattle.py_value.specs.Same.{same_location}
 use Rattle.py_value.specs.Seen.{SeenLocation, SeenContent, SeenKind, a_file, offset_at, closed_at, file_at, offset_is, closed_is, file_is, bytes_appended, reads}
-use Rattle.py_model.specs.Effect.{Effect, Answers, accessed, touching, effect}
+use Rattle.py_model.specs.Effect.{Answers, accessed, touching, effect}
 use Rattle.py_model.specs.Faults.{wrong_kind, value_error}
 use Rattle.py_model.specs.Files.{to_be_read, taken, first_line, read_plan, readline_plan, write_plan, close_plan, is_closed_fault, wrong_mode, not_utf8}
 use Rattle.py_model.specs.Plan.{Plan, write, change, done, kind_of, read_closed, read_offset, read_file, counts, writes}
 use Rattle.py_model.specs.Store.{RunStore, file_of, offset_of, closed_of}
 use Rattle.py_model.specs.Texts.{size}
-use Rattle.value_table.specs.Reading.{FileValue, IsFile, is_of, is_of_file}
+use Rattle.value_table.specs.Reading.{FileValue, IsFile, is_of_file}
 use Rattle.value_table.specs.Results.{Result, leaves, throws, DoesToFile}
 use Rattle.value_table.specs.TableFiles.{if_read, if_written, taken_is, read_is, readline_is, write_is, close_is}
 use Rattle.value_table.proofs.Effects.{does_as, ends}
-use Rattle.value_table.proofs.Standing.{set, set_elsewhere}
+use Rattle.value_table.proofs.Standing.{set}
 
 abbrev pub PlacesTested : Type 0
 PlacesTested = (l m : SeenLocation) → (same_location l m ≡ true) ↔ (l ≡ m)

@@ -1,5 +1,5 @@
 -- Operations on lists do what the table says.
-use Rattle.std.proofs.Common.{◌≡◌, ◌<◌, ◌≤◌, ℕ, suc, ◌+◌, ◌-◌, ℤ, pos, negsuc, Bool, true, false, nat_lt, if◌then◌else◌, List, [], ◌∷◌, ◌++◌, length, slice_get, take, drop, reverse, Option, Some, None, unwrap_or, refl, sym, ap, subst, ◌∙◌, arith, leb-true, codes}
+use Rattle.std.proofs.Common.{◌≡◌, ◌<◌, ◌≤◌, ℕ, suc, ◌+◌, ◌-◌, ℤ, pos, negsuc, Bool, true, false, nat_lt, if◌then◌else◌, List, [], ◌∷◌, ◌++◌, length, slice_get, take, drop, reverse, Option, Some, None, unwrap_or, refl, sym, ap, subst, ◌∙◌, arith, leb-true, codes, not, ◌==◌}
 use Rattle.std.proofs.lemmas.List.{length-append, length-drop, length-take-le}
 use Rattle.py_value.specs.Contents.{Contents, nothing, int, text, object}
 use Rattle.py_value.specs.Seen.{SeenLocation, SeenKind, a_list, a_dict, item_at, len_at, item_is, len_is, reads}
@@ -76,6 +76,11 @@ abbrev pub length_by : ℕ → (ℕ → Plan) → Option SeenKind → Plan
 length_by o go (Some a_list) = read_len o go
 length_by o go (Some a_dict) = read_order o (λ keys. go (length keys))
 length_by o go other = wrong_kind
+
+abbrev pub truth_by : ℕ → (Bool → Plan) → Option SeenKind → Plan
+truth_by o go (Some a_list) = read_len o (λ n. go (not (n == 0)))
+truth_by o go (Some a_dict) = read_order o (λ keys. go (not (length keys == 0)))
+truth_by o go other = go true
 
 abbrev extended : ℕ → Contents → ℕ → List Contents → Writes
 extended o answer n found = set_items o n found (write (len_at o) (len_is (n + length found)) (done answer))

@@ -1,24 +1,34 @@
 -- Values that are equal, and a value among the items of a list.
-use Rattle.std.proofs.Common.{◌≡◌, ◌<◌, ◌≤◌, ℕ, zero, suc, ◌+◌, ℤ, pos, negsuc, Bool, true, false, not, ◌==◌, nat_lt, nat_le, if◌then◌else◌, List, [], ◌∷◌, length, slice_get, Option, Some, None, is_some, unwrap_or, refl, sym, ap, subst, ◌∙◌, arith, leb-true, leb-false, eq-eqb}
+use Rattle.value_table.proofs.Standing.{stand_at}
+use Rattle.py_model.specs.Files.{next_line}
+use Rattle.std.proofs.lemmas.Option.{slice_get_past}
+use Rattle.value_table.specs.TableLists.{truth_is, not_is, unpack_is, iter_is, next_is, item_or_end, item_in}
+use Rattle.std.proofs.Common.{◌≡◌, ◌<◌, ◌≤◌, ℕ, zero, suc, ◌+◌, ℤ, pos, negsuc, Bool, true, false, not, ◌==◌, nat_lt, if◌then◌else◌, List, [], ◌∷◌, length, slice_get, Option, Some, None, is_some, unwrap_or, refl, sym, ap, subst, ◌∙◌, arith, leb-true, leb-false, eq-eqb, codes}
 use Rattle.std.specs.Str.{bytes_eq}
-use Rattle.py_value.specs.Contents.{Contents, nothing, truth, int, text, object}
-use Rattle.py_value.specs.Seen.{SeenKind, a_list, a_dict, item_at, reads}
-use Rattle.py_model.specs.Arithmetic.{in_plan, among_items}
-use Rattle.py_model.specs.Effect.{Effect, Answers, accessed, touching, effect}
-use Rattle.py_model.specs.Faults.{wrong_kind}
-use Rattle.py_model.specs.Keys.{with_key_of}
-use Rattle.py_model.specs.Lists.{when_list, seek, answer_place, index_method}
-use Rattle.py_model.specs.Numbers.{less}
+use Rattle.py_value.specs.Contents.{Contents, nothing, truth, int, text, object, tuple}
+use Rattle.py_value.specs.Seen.{SeenKind, a_list, item_at, reads}
+use Rattle.py_model.specs.Arithmetic.{in_plan, among_items, truth_of, truth_plan, not_plan}
+use Rattle.py_model.specs.Effect.{Answers, accessed, touching, effect, parts_of}
+use Rattle.py_model.specs.Faults.{value_error}
+use Rattle.py_model.specs.Lists.{when_list, seek, answer_place, index_method, unpack, tuple_display, wrong_count, iter, iter_of, next, next_of}
 use Rattle.py_model.specs.Operands.{number_in, gives_truth}
-use Rattle.py_model.specs.Plan.{Plan, done, kind_of, read_len, read_entry, writes}
+use Rattle.py_model.specs.Plan.{Plan, done, kind_of, read_len, writes, ends}
 use Rattle.py_model.specs.Store.{RunStore, item_of}
-use Rattle.py_model.specs.Walks.{equals, Comparison, is_alike, by_number, number_of, alike, before, behind, apart}
+use Rattle.py_model.specs.Walks.{equals, is_alike, by_number, number_of, alike, before, behind, read_items, read_value}
 use Rattle.value_table.specs.Equality.{ComesTo, IsEqual, StandsAt, in_is, index_is}
 use Rattle.value_table.specs.Reading.{Stand, IsList, is_of}
 use Rattle.value_table.specs.Results.{Result, leaves, throws, Does}
 use Rattle.value_table.proofs.Dicts.{contained_by}
-use Rattle.value_table.proofs.Effects.{does_as, stays}
-use Rattle.value_table.proofs.Lists.{by_length}
+use Rattle.value_table.proofs.Effects.{does_as, stays, does_same, items_read}
+use Rattle.value_table.proofs.Lists.{by_length, truth_by}
+
+abbrev unpack_by : ℕ → ℕ → ℕ → Plan
+unpack_by targets o n = if n == targets then read_items n o 0 tuple_display else wrong_count
+
+slice_get-unwrap : (xs : List Contents) (p : ℕ) → p < length xs → slice_get xs p ≡ Some (item_in xs p)
+slice_get-unwrap [] p below = absurd (omega (arith, below))
+slice_get-unwrap (x ∷ xs) zero below = refl
+slice_get-unwrap (x ∷ xs) (suc p) below = slice_get-unwrap xs p (omega (arith, below))
 
 -- what a walk does once a pair was compared
 abbrev hit_or : Plan → Plan → Bool → Plan
@@ -88,6 +98,44 @@ module _ (store : RunStore) (answers : Answers) (o : ℕ) (items : List Contents
       answered_at : (some : Option ℕ) → DoesIt (answer_place (behind_by 0 some)) (index_is items some)
       answered_at (Some p) = subst (λ (k : ℕ). DoesIt (answer_place (Some k)) (leaves (int (pos p)) items)) (omega arith) (same_here (int (pos p)))
       answered_at None = record { outcome_is = refl; made_is = refl; after_is = refl }
+
+  truth_does : (go : Bool → Plan) (result : Result (List Contents)) → DoesIt (go (not (length items == 0))) result → DoesIt (truth_of (object o) go) result
+  truth_does go result does = by_list (truth_by o go) result (by_length store answers o items listed (λ n. go (not (n == 0))) result does)
+
+  pub list_truth : DoesIt (truth_plan (object o ∷ [])) (truth_is items)
+  list_truth = truth_does gives_truth (truth_is items) (same_here (truth (not (length items == 0))))
+
+  pub list_not : DoesIt (not_plan (object o ∷ [])) (not_is items)
+  list_not = truth_does (λ b. gives_truth (not b)) (not_is items) (by_test (length items == 0))
+    where
+      by_test : (b : Bool) → DoesIt (gives_truth (not (not b))) (leaves (truth b) items)
+      by_test true = same_here (truth true)
+      by_test false = same_here (truth false)
+
+  pub list_unpacked : (targets : ℕ) → DoesIt (unpack targets (object o ∷ [])) (unpack_is targets items)
+  list_unpacked targets = by_list (when_list (read_len o (unpack_by targets o))) (unpack_is targets items) (by_length store answers o items listed (unpack_by targets o) (unpack_is targets items) (by_test (length items == targets)))
+    where
+      by_test : (b : Bool) → DoesIt (if b then read_items (length items) o 0 tuple_display else wrong_count) (if b then leaves (tuple (parts_of items)) items else throws value_error (text (codes "wrong number of values") ∷ []))
+      by_test true = does_same (is_of o) IsList store o (effect store answers (read_items (length items) o 0 tuple_display)) (effect store answers (tuple_display items)) (leaves (tuple (parts_of items)) items)
+          (λ s. items_read store answers o 0 items tuple_display s listed.items_stand) (same_here (tuple (parts_of items)))
+      by_test false = record { outcome_is = refl; made_is = refl; after_is = refl }
+
+  pub list_iter : DoesIt (iter (object o ∷ [])) (iter_is items)
+  list_iter = by_list (iter_of o) (iter_is items) (same_here nothing)
+
+  past_none : (turn : ℕ) (xs : List Contents) → nat_lt turn (length xs) ≡ false → slice_get xs turn ≡ None
+  past_none turn xs is = slice_get_past xs turn (omega (arith, leb-false (suc turn) (length xs) is))
+
+  pub list_next : (turn : ℕ) (begun : Contents) → DoesIt (next next_line (object o ∷ (int (pos turn) ∷ (begun ∷ [])))) (next_is items turn)
+  list_next turn begun = by_list (next_of next_line o turn begun) (next_is items turn) (by_length store answers o items listed (λ n. if nat_lt turn n then read_value o turn (λ item. writes (done item)) else ends) (next_is items turn) (by_test (nat_lt turn (length items)) refl))
+    where
+      by_test : (b : Bool) → nat_lt turn (length items) ≡ b → DoesIt (if b then read_value o turn (λ item. writes (done item)) else ends) (item_or_end (slice_get items turn) items)
+      by_test true is =
+          let below : turn < length items = leb-true (suc turn) (length items) is in
+          let there : slice_get items turn ≡ Some (item_in items turn) = slice_get-unwrap items turn below in
+          subst (λ (found : Option Contents). DoesIt (read_value o turn (λ item. writes (done item))) (item_or_end found items)) (sym there)
+          (read_one turn (item_in items turn) (λ item. writes (done item)) (leaves (item_in items turn) items) (subst (λ (k : ℕ). item_of store o k ≡ Some (item_in items turn)) (omega arith) (stand_at store o 0 turn items listed.items_stand below)) (same_here (item_in items turn)))
+      by_test false is = subst (λ (found : Option Contents). DoesIt ends (item_or_end found items)) (sym (past_none turn items is)) (record { answer_is = refl; made_is = refl; after_is = refl })
 
 -- atoms that are equal
 not_less : (n : ℕ) → nat_lt n n ≡ false

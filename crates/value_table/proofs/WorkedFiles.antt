@@ -1,5 +1,5 @@
 -- Rows of the table of files, each found by computation.
-use Rattle.std.proofs.Common.{◌≡◌, refl, ℕ, true, false, List, [], ◌∷◌, ◌++◌, codes}
+use Rattle.std.proofs.Common.{◌≡◌, refl, ℕ, true, false, [], ◌∷◌, ◌++◌, codes}
 use Rattle.std.specs.Str.{chars, is_utf8}
 use Rattle.py_value.specs.declared.access.Mode.{Mode}
 use Rattle.py_value.specs.declared.access.Mode.TheVariants.{Read, Write}
@@ -7,7 +7,7 @@ use Rattle.py_value.specs.Contents.{text}
 use Rattle.py_model.specs.Faults.{value_error, os_error}
 use Rattle.value_table.specs.Reading.{FileValue}
 use Rattle.value_table.specs.Results.{leaves, throws}
-use Rattle.value_table.specs.TableFiles.{read_is, readline_is, write_is, close_is}
+use Rattle.value_table.specs.TableFiles.{read_is, readline_is, write_is}
 use Rattle.value_table.proofs.WorkedLists.{n}
 
 -- a file of two lines, of which so many bytes were read

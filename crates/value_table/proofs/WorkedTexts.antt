@@ -1,6 +1,6 @@
 -- Rows of the tables of texts, sequences and numbers, each found by computation.
 use Rattle.std.proofs.Common.{◌≡◌, refl, ℕ, pos, negsuc, List, [], ◌∷◌, None, Some, codes}
-use Rattle.py_value.specs.Contents.{Contents, int, text, tuple, range, no_parts, part}
+use Rattle.py_value.specs.Contents.{int, text}
 use Rattle.py_model.specs.Faults.{index_error, value_error, zero_division, overflow}
 use Rattle.value_table.specs.Results.{gives, makes_list, throws}
 use Rattle.value_table.specs.TableTexts as texts

@@ -1,6 +1,6 @@
 -- When two values are equal in a store, and where a value stands among items (The Python Language Reference 3, section 6.10). The walk of the
 -- comparison is the plan's (`specs/Walks.antt` of `py_model`): what it comes to is all that is said here.
-use Rattle.std.specs.Prelude.{◌≡◌, ⊤, ℕ, zero, suc, pos, Bool, true, false, List, [], ◌∷◌, Option, Some, None, is_some, codes}
+use Rattle.std.specs.Prelude.{◌≡◌, ℕ, zero, suc, pos, Bool, true, false, List, [], ◌∷◌, Option, Some, None, is_some, codes}
 use Rattle.py_value.specs.Contents.{Contents, truth, int, text}
 use Rattle.py_model.specs.Effect.{Effect, Answers, effect, after}
 use Rattle.py_model.specs.Faults.{value_error}

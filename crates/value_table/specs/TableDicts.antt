@@ -1,15 +1,16 @@
 -- The table of operations on dictionaries and on attributes of instances (The Python Language Reference 3, sections 3.2, 6.2.7 and 6.3, and
 -- The Python Standard Library, "Mapping Types"): each over the pairs of key and value in order. The key is one that is usable as a key.
-use Rattle.std.specs.Prelude.{ℕ, pos, List, [], ◌∷◌, map, length, Option, Some, None, is_some, if◌then◌else◌, unwrap_or}
+use Rattle.std.specs.Ordering.{int_eq}
+use Rattle.std.specs.Prelude.{ℕ, pos, List, [], ◌∷◌, map, length, Option, Some, None, is_some, if◌then◌else◌, unwrap_or, not, ◌==◌, slice_get, codes}
 use Rattle.std.specs.Option.{option_map}
-use Rattle.py_value.specs.Contents.{Contents, nothing, truth, tuple, text, no_parts, part}
+use Rattle.py_value.specs.Contents.{Contents, nothing, truth, tuple, text, no_parts, part, int}
 use Rattle.py_value.specs.KeyOf.{normal}
 use Rattle.py_value.specs.Same.{same_value}
 use Rattle.py_model.specs.Dicts.{with_pair}
-use Rattle.py_model.specs.Faults.{key_error}
+use Rattle.py_model.specs.Faults.{key_error, runtime_error}
 use Rattle.value_table.specs.Reading.{pair_of}
 use Rattle.value_table.specs.Results.{Result, leaves, makes_list, throws}
-use Rattle.value_table.specs.TableLists.{number_or_overflow}
+use Rattle.value_table.specs.TableLists.{number_or_overflow, item_or_end}
 
 abbrev pub Pairs : Type 0
 Pairs = List (Contents × Contents)
@@ -26,6 +27,13 @@ at_key key pairs does = by_pair (pair_of key pairs)
 abbrev pub without_pair : Contents → Pairs → Pairs
 without_pair key [] = []
 without_pair key (pair ∷ pairs) = if same_value (normal key) (normal pair.0) then pairs else pair ∷ without_pair key pairs
+
+-- 3 truth, 51 bool (R Order): whether there are pairs; 4 not: whether there are none
+abbrev pub truth_is : Pairs → Result Pairs
+truth_is pairs = leaves (truth (not (length pairs == 0))) pairs
+
+abbrev pub not_is : Pairs → Result Pairs
+not_is pairs = leaves (truth (length pairs == 0)) pairs
 
 -- 26 getitem (R Entry): the value of the key
 abbrev pub getitem_is : Pairs → Contents → Result Pairs
@@ -47,6 +55,16 @@ in_is pairs key = leaves (truth (is_some (pair_of key pairs))) pairs
 -- 58 len (R Order): how many pairs
 abbrev pub len_is : Pairs → Result Pairs
 len_is pairs = number_or_overflow (pos (length pairs)) pairs
+
+-- 36 iter (R Order): how many pairs
+abbrev pub iter_is : Pairs → Result Pairs
+iter_is pairs = leaves (int (pos (length pairs))) pairs
+
+-- 37 next (R Order): the key of the turn, or the end; where there are no longer as many pairs as at the start it raises
+abbrev pub next_is : Pairs → ℕ → ℕ → Result Pairs
+next_is pairs turn begun =
+    if int_eq (pos begun) (pos (length pairs)) then item_or_end (slice_get (map (λ (pair : Contents × Contents). pair.0) pairs) turn) pairs
+    else throws runtime_error (text (codes "dictionary changed size") ∷ [])
 
 -- 87 get (R Entry): the value of the key, or what is given instead, None where nothing is
 abbrev pub get_is : Pairs → Contents → Contents → Result Pairs

@@ -3,7 +3,7 @@
 use Rattle.std.specs.Prelude.{ℕ, ◌+◌, pos, Bool, true, false, List, [], ◌∷◌, ◌++◌, length, drop, codes, if◌then◌else◌}
 use Rattle.std.specs.Str.{is_utf8}
 use Rattle.py_value.specs.declared.access.Mode.{Mode}
-use Rattle.py_value.specs.declared.access.Mode.TheVariants.{Read, Write, Append}
+use Rattle.py_value.specs.declared.access.Mode.TheVariants.{Read}
 use Rattle.py_value.specs.Contents.{nothing, int, text}
 use Rattle.py_model.specs.Faults.{value_error, os_error}
 use Rattle.py_model.specs.Files.{first_line}

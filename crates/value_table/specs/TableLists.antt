@@ -1,14 +1,15 @@
 -- The table of operations on lists (The Python Language Reference 3, sections 6.3, 6.7 and 7.2, and The Python Standard Library, "Sequence
 -- Types"): each over the items of the list. Indexes below 0 count from the end, and the bounds of a slice are clipped.
-use Rattle.std.specs.Prelude.{ℕ, suc, ◌-◌, ℤ, pos, negsuc, List, [], ◌∷◌, ◌++◌, length, slice_get, take, drop, reverse, Option, Some, None, codes, unwrap_or, if◌then◌else◌}
-use Rattle.py_value.specs.Contents.{Contents, nothing, truth, int, text, object}
+use Rattle.py_model.specs.Effect.{parts_of}
+use Rattle.std.specs.Prelude.{ℕ, suc, ◌-◌, ℤ, pos, negsuc, List, [], ◌∷◌, ◌++◌, length, slice_get, take, drop, reverse, Option, Some, None, codes, unwrap_or, if◌then◌else◌, not, ◌==◌}
+use Rattle.py_value.specs.Contents.{Contents, nothing, truth, int, text, object, tuple}
 use Rattle.py_model.specs.Arithmetic.{repeated}
-use Rattle.py_model.specs.Faults.{index_error, overflow}
+use Rattle.py_model.specs.Faults.{index_error, overflow, value_error}
 use Rattle.py_model.specs.Numbers.{is_int}
 use Rattle.py_model.specs.Places.{place_in, clipped, low_bound, high_bound}
 use Rattle.py_model.specs.Sorting.{in_order}
 use Rattle.py_model.specs.Walks.{number_of}
-use Rattle.value_table.specs.Results.{Result, leaves, makes_list, throws}
+use Rattle.value_table.specs.Results.{Result, leaves, makes_list, throws, reaches_end}
 
 -- the item at a place
 abbrev pub item_in : List Contents → ℕ → Contents
@@ -26,6 +27,28 @@ without p items = take p items ++ drop (suc p) items
 -- it answers a number, which has 64 bits
 abbrev pub number_or_overflow : {A : Type 0} → ℤ → A → Result A
 number_or_overflow i left = if is_int i then leaves (int i) left else throws overflow (text (codes "integer out of range") ∷ [])
+
+-- 3 truth, 51 bool (R Len): whether there are items; 4 not: whether there are none
+abbrev pub truth_is : List Contents → Result (List Contents)
+truth_is items = leaves (truth (not (length items == 0))) items
+
+abbrev pub not_is : List Contents → Result (List Contents)
+not_is items = leaves (truth (length items == 0)) items
+
+-- 35 unpack (R Len, R Items): the tuple of the items, where there are so many
+abbrev pub unpack_is : ℕ → List Contents → Result (List Contents)
+unpack_is targets items = if length items == targets then leaves (tuple (parts_of items)) items else throws value_error (text (codes "wrong number of values") ∷ [])
+
+-- 36 iter: None; 37 next (R Len, R Item): the item of the turn, or the end
+abbrev pub iter_is : List Contents → Result (List Contents)
+iter_is items = leaves nothing items
+
+abbrev pub item_or_end : {A : Type 0} → Option Contents → A → Result A
+item_or_end (Some item) left = leaves item left
+item_or_end None left = reaches_end
+
+abbrev pub next_is : List Contents → ℕ → Result (List Contents)
+next_is items turn = item_or_end (slice_get items turn) items
 
 -- 80 append (R Len, S Item, S Len): the items and then the value
 abbrev pub append_is : List Contents → Contents → Result (List Contents)

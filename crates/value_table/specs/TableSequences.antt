@@ -1,7 +1,8 @@
 -- The table of operations on tuples and ranges, and of those that walk a sequence (The Python Language Reference 3, sections 6.2.3 and 6.3,
 -- and The Python Standard Library, "Sequence Types" and "Built-in Functions"): each over the items, or the numbers of a range.
-use Rattle.std.specs.Prelude.{ℕ, ◌-◌, ℤ, pos, List, [], ◌∷◌, ◌++◌, length, take, drop, Option}
-use Rattle.py_value.specs.Contents.{Contents, tuple}
+use Rattle.py_model.specs.Faults.{value_error}
+use Rattle.std.specs.Prelude.{ℕ, ◌-◌, ℤ, pos, List, [], ◌∷◌, ◌++◌, length, take, drop, Option, ◌==◌, if◌then◌else◌, codes, slice_get, nat_lt}
+use Rattle.py_value.specs.Contents.{Contents, tuple, text}
 use Rattle.py_model.specs.Arithmetic.{repeated}
 use Rattle.py_model.specs.Dicts.{paired}
 use Rattle.py_model.specs.Effect.{parts_of}
@@ -9,12 +10,23 @@ use Rattle.py_model.specs.Lists.{number_at, numbered}
 use Rattle.py_model.specs.Numbers.{range_count}
 use Rattle.py_model.specs.Places.{place_in, low_bound, high_bound}
 use Rattle.py_model.specs.Sorting.{in_order}
-use Rattle.value_table.specs.Results.{Result, gives, makes_list}
-use Rattle.value_table.specs.TableLists.{item_in, at_place, number_or_overflow}
+use Rattle.value_table.specs.Results.{Result, gives, makes_list, throws, reaches_end}
+use Rattle.value_table.specs.TableLists.{item_in, at_place, number_or_overflow, item_or_end}
 
 -- the tuple of items
 abbrev pub tuple_of : List Contents → Result (Unit {0})
 tuple_of items = gives (tuple (parts_of items))
+
+-- 23 list (S Len, S Items): a new list of the operands; 25 tuple: their tuple
+abbrev pub list_display_is : List Contents → Result (Unit {0})
+list_display_is items = makes_list items
+
+abbrev pub tuple_display_is : List Contents → Result (Unit {0})
+tuple_display_is items = tuple_of items
+
+-- 35 unpack of a tuple: the tuple itself, where it has so many items
+abbrev pub unpack_is : ℕ → List Contents → Result (Unit {0})
+unpack_is targets items = if length items == targets then tuple_of items else throws value_error (text (codes "wrong number of values") ∷ [])
 
 -- 26 getitem of a tuple: the item at the place
 abbrev pub getitem_is : List Contents → ℤ → Result (Unit {0})
@@ -37,6 +49,13 @@ add_is items more = tuple_of (items ++ more)
 -- 9 mul of a tuple: the tuple of the items so many times
 abbrev pub mul_is : List Contents → ℕ → Result (Unit {0})
 mul_is items n = tuple_of (repeated n items)
+
+-- 37 next of a tuple, or of a text with its characters: the item of the turn, or the end; of a range the number
+abbrev pub next_is : List Contents → ℕ → Result (Unit {0})
+next_is items turn = item_or_end (slice_get items turn) tt
+
+abbrev pub next_of_range_is : ℤ → ℤ → ℤ → ℕ → Result (Unit {0})
+next_of_range_is start end step turn = if nat_lt turn (range_count start end step) then gives (number_at start step turn) else reaches_end
 
 -- 58 len of a tuple, and of a range
 abbrev pub len_is : ℕ → Result (Unit {0})

@@ -1,7 +1,7 @@
 -- The table of operations on texts (The Python Standard Library, "Text Sequence Type", in this project's profile): each over the characters
 -- of the text, or its bytes where these say the same. White space, letters and digits are those of ASCII.
-use Rattle.std.specs.Prelude.{ℕ, ◌-◌, ℤ, pos, negsuc, List, [], ◌∷◌, ◌++◌, map, length, slice_get, take, drop, Option, Some, None, is_some, codes, unwrap_or}
-use Rattle.py_value.specs.Contents.{Contents, truth, int, text}
+use Rattle.std.specs.Prelude.{ℕ, ◌-◌, ℤ, pos, negsuc, List, [], ◌∷◌, ◌++◌, map, slice_get, take, drop, Option, Some, None, is_some, codes, unwrap_or}
+use Rattle.py_value.specs.Contents.{truth, int, text}
 use Rattle.py_model.specs.Arithmetic.{repeated}
 use Rattle.py_model.specs.Faults.{value_error, not_implemented}
 use Rattle.py_model.specs.Numbers.{times}

@@ -1,24 +1,25 @@
 // Laws of the table in terms of values, each a function without a body that says it.
+ghost use Rattle.py_model.specs.Texts.{characters};
 ghost use Rattle.value_table.specs.Equality.{IsEqual, StandsAt};
 ghost use Rattle.std.specs.Str.{bytes_eq};
-ghost use Rattle.py_model.specs.Files.{read_plan, readline_plan, write_plan, close_plan};
-ghost use Rattle.std.specs.Prelude.{◌≡◌, ℕ, ℤ, List, [], ◌∷◌, Option, Some, None, map, length, true, false};
-ghost use Rattle.py_value.specs.Contents.{Contents, Parts, nothing, object, range, text, tuple};
+ghost use Rattle.py_model.specs.Files.{read_plan, readline_plan, write_plan, close_plan, next_line};
+ghost use Rattle.std.specs.Prelude.{◌≡◌, ℕ, ℤ, List, [], ◌∷◌, Option, Some, None, map, length, true, false, pos};
+ghost use Rattle.py_value.specs.Contents.{Contents, Parts, nothing, object, range, text, tuple, int};
 ghost use Rattle.py_value.specs.KeyOf.{key_fault};
-ghost use Rattle.py_model.specs.Arithmetic.{add_plan, in_plan, iadd_plan, len_plan, mul_plan, neg_plan, pos_plan, abs_plan, sub_plan, floor_div_plan, mod_plan};
+ghost use Rattle.py_model.specs.Arithmetic.{add_plan, in_plan, iadd_plan, len_plan, mul_plan, neg_plan, pos_plan, abs_plan, sub_plan, floor_div_plan, mod_plan, truth_plan, not_plan};
 ghost use Rattle.py_model.specs.Classes.{find, getattr, setattr};
 ghost use Rattle.py_model.specs.Dicts.{get_method, items_method, keys_method, values_method};
 ghost use Rattle.py_model.specs.Effect.{Answers, effect};
-ghost use Rattle.py_model.specs.Lists.{append, extend, insert, pop, getitem, setitem, delitem, slice, reverse_method, sort_method, list_builtin, tuple_builtin, sorted_builtin, enumerate, zip_builtin, index_method};
+ghost use Rattle.py_model.specs.Lists.{append, extend, insert, pop, getitem, setitem, delitem, slice, reverse_method, sort_method, list_builtin, tuple_builtin, sorted_builtin, enumerate, zip_builtin, index_method, unpack, list_display, tuple_display, iter, next};
 ghost use Rattle.py_model.specs.Numbers.{times, range_count};
 ghost use Rattle.py_model.specs.Operands.{number_in};
 ghost use Rattle.py_model.specs.Sorting.{refused_to};
 ghost use Rattle.py_model.specs.Store.{RunStore};
 ghost use Rattle.py_model.specs.Walks.{deepest, items_of};
 ghost use Rattle.value_table.specs.Reading.{HasPairs, IsDict, IsInstance, IsList, pair_of, pairs_at, HasItems, IsPlainList, items_at, FileValue, IsFile};
-ghost use Rattle.value_table.specs.TableDicts.{Pairs, getitem_is as dict_getitem_is, setitem_is as dict_setitem_is, delitem_is as dict_delitem_is, in_is, len_is as dict_len_is, get_is, items_is, keys_is, values_is, setattr_is, getattr_is};
+ghost use Rattle.value_table.specs.TableDicts.{Pairs, getitem_is as dict_getitem_is, setitem_is as dict_setitem_is, delitem_is as dict_delitem_is, in_is, len_is as dict_len_is, get_is, items_is, keys_is, values_is, setattr_is, getattr_is, truth_is as dict_truth_is, not_is as dict_not_is, iter_is as dict_iter_is, next_is as dict_next_is};
 ghost use Rattle.value_table.specs.Results.{Does, DoesAlone, DoesToFile};
-ghost use Rattle.value_table.specs.TableLists.{append_is, getitem_is, setitem_is, delitem_is, pop_is, pop_last_is, insert_is, len_is, extend_is, iadd_is, add_is, slice_is, mul_is, reverse_is, sort_is, bound_in};
+ghost use Rattle.value_table.specs.TableLists.{append_is, getitem_is, setitem_is, delitem_is, pop_is, pop_last_is, insert_is, len_is, extend_is, iadd_is, add_is, slice_is, mul_is, reverse_is, sort_is, bound_in, truth_is, not_is, unpack_is, iter_is, next_is};
 ghost use Rattle.py_model.specs.TextMethods.{strip_plan, lstrip_plan, rstrip_plan, split_plan, join_plan, replace_plan, find_plan, startswith_plan, endswith_plan, upper_plan, lower_plan, isdigit_plan, ljust_plan, rjust_plan};
 ghost use Rattle.value_table.specs.Equality as members;
 ghost use Rattle.value_table.specs.TableFiles as files;
@@ -36,6 +37,16 @@ pub fn plain_lists_have_items()
 
 /// The law of lists: where an object is the list of some items, each operation does what the table says of these items.
 pub fn lists_do_as_the_table()
+    ensures truth { (store : RunStore) (answers : Answers) (o : ℕ) (items : List Contents) → IsList store o items
+        → Does IsList store o (effect store answers (truth_plan (object o ∷ []))) (truth_is items) }
+    ensures negation { (store : RunStore) (answers : Answers) (o : ℕ) (items : List Contents) → IsList store o items
+        → Does IsList store o (effect store answers (not_plan (object o ∷ []))) (not_is items) }
+    ensures iter { (store : RunStore) (answers : Answers) (o : ℕ) (items : List Contents) → IsList store o items
+        → Does IsList store o (effect store answers (iter (object o ∷ []))) (iter_is items) }
+    ensures next { (store : RunStore) (answers : Answers) (o : ℕ) (items : List Contents) (turn : ℕ) (begun : Contents) → IsList store o items
+        → Does IsList store o (effect store answers (next next_line (object o ∷ (int (pos turn) ∷ (begun ∷ []))))) (next_is items turn) }
+    ensures unpack { (store : RunStore) (answers : Answers) (o : ℕ) (items : List Contents) (targets : ℕ) → IsList store o items
+        → Does IsList store o (effect store answers (unpack targets (object o ∷ []))) (unpack_is targets items) }
     ensures append { (store : RunStore) (answers : Answers) (o : ℕ) (items : List Contents) (item : Contents) → IsList store o items
         → Does IsList store o (effect store answers (append (object o ∷ (item ∷ [])))) (append_is items item) }
     ensures getitem { (store : RunStore) (answers : Answers) (o : ℕ) (items : List Contents) (index : Contents) (i : ℤ) → IsList store o items
@@ -74,6 +85,14 @@ pub fn lists_do_as_the_table()
 /// The law of dictionaries: where an object is the dictionary of some pairs, each operation does with a usable key what the table says of these
 /// pairs. They are those that are read.
 pub fn dicts_do_as_the_table()
+    ensures truth { (store : RunStore) (answers : Answers) (o : ℕ) (pairs : Pairs) → IsDict store o pairs
+        → Does IsDict store o (effect store answers (truth_plan (object o ∷ []))) (dict_truth_is pairs) }
+    ensures negation { (store : RunStore) (answers : Answers) (o : ℕ) (pairs : Pairs) → IsDict store o pairs
+        → Does IsDict store o (effect store answers (not_plan (object o ∷ []))) (dict_not_is pairs) }
+    ensures iter { (store : RunStore) (answers : Answers) (o : ℕ) (pairs : Pairs) → IsDict store o pairs
+        → Does IsDict store o (effect store answers (iter (object o ∷ []))) (dict_iter_is pairs) }
+    ensures next { (store : RunStore) (answers : Answers) (o : ℕ) (pairs : Pairs) (turn begun : ℕ) → IsDict store o pairs
+        → Does IsDict store o (effect store answers (next next_line (object o ∷ (int (pos turn) ∷ (int (pos begun) ∷ []))))) (dict_next_is pairs turn begun) }
     ensures getitem { (store : RunStore) (answers : Answers) (o : ℕ) (pairs : Pairs) (key : Contents) → IsDict store o pairs → key_fault deepest key ≡ None
         → Does IsDict store o (effect store answers (getitem (object o ∷ (key ∷ [])))) (dict_getitem_is pairs key) }
     ensures setitem { (store : RunStore) (answers : Answers) (o : ℕ) (pairs : Pairs) (key item : Contents) → IsDict store o pairs → key_fault deepest key ≡ None
@@ -162,6 +181,19 @@ pub fn texts_do_as_the_table()
 
 /// The law of sequences: each operation on tuples and ranges, and each that walks a sequence, does what the table says of the items.
 pub fn sequences_do_as_the_table()
+    ensures list_display { (store : RunStore) (answers : Answers) (items : List Contents)
+        → DoesAlone store (effect store answers (list_display items)) (sequences.list_display_is items) }
+    ensures tuple_display { (store : RunStore) (answers : Answers) (items : List Contents)
+        → DoesAlone store (effect store answers (tuple_display items)) (sequences.tuple_display_is items) }
+    ensures unpack { (store : RunStore) (answers : Answers) (targets : ℕ) (parts : Parts)
+        → DoesAlone store (effect store answers (unpack targets (tuple parts ∷ []))) (sequences.unpack_is targets (items_of parts)) }
+    ensures next_of_tuple { (store : RunStore) (answers : Answers) (parts : Parts) (turn : ℕ) (begun : Contents)
+        → DoesAlone store (effect store answers (next next_line (tuple parts ∷ (int (pos turn) ∷ (begun ∷ []))))) (sequences.next_is (items_of parts) turn) }
+    ensures next_of_text { (store : RunStore) (answers : Answers) (bytes : List ℕ) (turn : ℕ) (begun : Contents)
+        → DoesAlone store (effect store answers (next next_line (text bytes ∷ (int (pos turn) ∷ (begun ∷ []))))) (sequences.next_is (map text (characters bytes)) turn) }
+    ensures next_of_range { (store : RunStore) (answers : Answers) (start end step : ℤ) (turn : ℕ) (begun : Contents)
+        → DoesAlone store (effect store answers (next next_line (range start end step ∷ (int (pos turn) ∷ (begun ∷ [])))))
+        (sequences.next_of_range_is start end step turn) }
     ensures getitem { (store : RunStore) (answers : Answers) (parts : Parts) (index : Contents) (i : ℤ) → number_in index ≡ Some i
         → DoesAlone store (effect store answers (getitem (tuple parts ∷ (index ∷ [])))) (sequences.getitem_is (items_of parts) i) }
     ensures getitem_of_range { (store : RunStore) (answers : Answers) (start end step : ℤ) (index : Contents) (i : ℤ) → number_in index ≡ Some i

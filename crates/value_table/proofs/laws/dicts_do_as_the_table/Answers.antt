@@ -1,5 +1,5 @@
 use Rattle.value_table.proofs.laws.dicts_do_as_the_table.Goals as goal
-use Rattle.value_table.proofs.Dicts.{getitem_does, setitem_does, delitem_does, in_does, get_does, get_none_does, len_does, items_does, keys_does, values_does, pairs_read}
+use Rattle.value_table.proofs.Dicts.{getitem_does, setitem_does, delitem_does, in_does, get_does, get_none_does, len_does, items_does, keys_does, values_does, pairs_read, dict_truth, dict_not, dict_iter, dict_next}
 
 pub returns-clause-getitem : goal.returns-clause-getitem
 returns-clause-getitem c = λ store answers o pairs key is usable. getitem_does c.tests_are_equality.ensures.values store answers o pairs is key usable
@@ -33,3 +33,15 @@ returns-clause-values c = λ store answers o pairs is. values_does c.tests_are_e
 
 pub returns-clause-read : goal.returns-clause-read
 returns-clause-read c = pairs_read c.tests_are_equality.ensures.values
+
+pub returns-clause-truth : goal.returns-clause-truth
+returns-clause-truth c = dict_truth c.tests_are_equality.ensures.values
+
+pub returns-clause-negation : goal.returns-clause-negation
+returns-clause-negation c = dict_not c.tests_are_equality.ensures.values
+
+pub returns-clause-iter : goal.returns-clause-iter
+returns-clause-iter c = dict_iter c.tests_are_equality.ensures.values
+
+pub returns-clause-next : goal.returns-clause-next
+returns-clause-next c = λ store answers o pairs turn begun is. dict_next c.tests_are_equality.ensures.values store answers o pairs is turn begun

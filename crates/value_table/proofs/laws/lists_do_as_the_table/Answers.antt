@@ -1,3 +1,4 @@
+use Rattle.value_table.proofs.Members.{list_truth, list_not, list_unpacked, list_iter, list_next}
 use Rattle.value_table.proofs.laws.lists_do_as_the_table.Goals as goal
 use Rattle.value_table.proofs.Lists.{append_does, getitem_does, setitem_does, delitem_does, pop_does, pop_last_does, insert_does, len_does, extend_does, iadd_does, add_does, slice_does, mul_does, reverse_does, sort_does}
 
@@ -45,3 +46,18 @@ returns-clause-reverse c = λ store answers o items listed. reverse_does store a
 
 pub returns-clause-sort : goal.returns-clause-sort
 returns-clause-sort c = λ store answers o items listed in_kind. sort_does store answers o items listed in_kind
+
+pub returns-clause-truth : goal.returns-clause-truth
+returns-clause-truth c = list_truth
+
+pub returns-clause-negation : goal.returns-clause-negation
+returns-clause-negation c = list_not
+
+pub returns-clause-unpack : goal.returns-clause-unpack
+returns-clause-unpack c = λ store answers o items targets listed. list_unpacked store answers o items listed targets
+
+pub returns-clause-iter : goal.returns-clause-iter
+returns-clause-iter c = list_iter
+
+pub returns-clause-next : goal.returns-clause-next
+returns-clause-next c = λ store answers o items turn begun listed. list_next store answers o items listed turn begun

@@ -1,4 +1,3 @@
-use Rattle.std.proofs.Common.{refl}
 use Rattle.value_table.proofs.laws.numbers_do_as_the_table.Goals as goal
 use Rattle.value_table.proofs.Alone.{negated, positive, without_sign, subtracted, multiplied_does, floor_divided, remaining, summed}
 

@@ -1,6 +1,6 @@
 use Rattle.std.proofs.Common.{refl}
 use Rattle.value_table.proofs.laws.sequences_do_as_the_table.Goals as goal
-use Rattle.value_table.proofs.Alone.{tuple_item, range_item, tuple_slice, tuple_times, tuple_length, range_length, listed, tupled, sorted_does, enumerated, zipped}
+use Rattle.value_table.proofs.Alone.{tuple_item, range_item, tuple_slice, tuple_times, tuple_length, range_length, listed, tupled, sorted_does, enumerated, zipped, tuple_unpacked, list_displayed, tuple_next, text_next, range_next}
 
 pub returns-clause-getitem : goal.returns-clause-getitem
 returns-clause-getitem c = λ store answers parts index i is. tuple_item store answers parts index i is
@@ -37,3 +37,21 @@ returns-clause-enumerate c = enumerated
 
 pub returns-clause-zip : goal.returns-clause-zip
 returns-clause-zip c = λ store answers v w items more has other. zipped store answers v items has w more other
+
+pub returns-clause-list_display : goal.returns-clause-list_display
+returns-clause-list_display c = list_displayed
+
+pub returns-clause-tuple_display : goal.returns-clause-tuple_display
+returns-clause-tuple_display c = λ store answers items. record { answer_is = refl; made_is = refl; after_is = refl }
+
+pub returns-clause-unpack : goal.returns-clause-unpack
+returns-clause-unpack c = tuple_unpacked
+
+pub returns-clause-next_of_tuple : goal.returns-clause-next_of_tuple
+returns-clause-next_of_tuple c = tuple_next
+
+pub returns-clause-next_of_text : goal.returns-clause-next_of_text
+returns-clause-next_of_text c = text_next
+
+pub returns-clause-next_of_range : goal.returns-clause-next_of_range
+returns-clause-next_of_range c = range_next
