@@ -5,3 +5,5 @@ mod Objects
 mod Outsides
 mod Every
 mod Stores
+mod Rules
+mod Runs

@@ -21,7 +21,7 @@ module _ (known : Pos → Bool) where
   KnownTouches (touch ∷ touches) = KnownTouches touches
 
   -- maps
-  put_known : (l : SeenLocation) (content : SeenContent) (map : SeenLocation → Option SeenContent) → KnownContent known content → ((m : SeenLocation) → KnownFound known (map m))
+  pub put_known : (l : SeenLocation) (content : SeenContent) (map : SeenLocation → Option SeenContent) → KnownContent known content → ((m : SeenLocation) → KnownFound known (map m))
       → (m : SeenLocation) → KnownFound known (put l content map m)
   put_known l content map is all m = by_test (same_location l m)
     where
@@ -115,7 +115,7 @@ module _ (known : Pos → Bool) where
         each (Some (order_is keys)) so = so
         each (Some else_is) so = tt
 
-    method_read : (place : Pos) (name : List ℕ) → KnownPlace known (method_of store place name)
+    pub method_read : (place : Pos) (name : List ℕ) → KnownPlace known (method_of store place name)
     method_read place name = each (store.at (method_at place name)) (is.at (method_at place name))
       where
         each : (c : Option SeenContent) → KnownFound known c → KnownPlace known (method_of (holding c) place [])

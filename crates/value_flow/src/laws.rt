@@ -6,6 +6,12 @@ ghost use Rattle.py_model.specs.Operations.{Op, plan};
 ghost use Rattle.py_model.specs.Effect.{Answers, effect, after};
 ghost use Rattle.py_model.specs.Plan.{Plan};
 ghost use Rattle.py_model.specs.Store.{RunStore};
+ghost use Rattle.std.specs.Prelude.{ℕ};
+ghost use Rattle.py_tree.specs.Tree.{ScriptTree};
+ghost use Rattle.py_model.specs.Capture.{Capture};
+ghost use Rattle.py_model.specs.Meaning.{meaning, starting};
+ghost use Rattle.py_model.specs.Running.{outcome, state_in};
+ghost use Rattle.value_flow.specs.Defined.{defines};
 ghost use Rattle.value_flow.specs.Flow.{KnownValue, KnownAll, KeepsKnown, KnownStore, KnownOutcome};
 
 /// The law that no operation makes a function or class of the script from nothing. Where those in its operands and in all that it reads stand at
@@ -18,4 +24,11 @@ pub fn operations_pass_functions_on()
 pub fn effects_keep_stores_known()
     ensures store { (known : Pos → Bool) (store : RunStore) (answers : Answers) (p : Plan) → KeepsKnown known p → KnownStore known store → KnownStore known (after (effect store answers p) store) }
     ensures answer { (known : Pos → Bool) (store : RunStore) (answers : Answers) (p : Plan) → KeepsKnown known p → KnownStore known store → KnownOutcome known (effect store answers p).outcome }
+{}
+
+/// The law of definitions: in every run, each function and class of the script that stands anywhere in the store, or is the class of an object,
+/// stands at a place where the script has a `def` or a `class`.
+pub fn runs_know_definitions_alone()
+    ensures { (script : ScriptTree) (capture : Capture) (path : List ℕ) (arguments : List (List ℕ)) (steps : ℕ)
+        → KnownStore (defines script) (state_in (outcome capture (meaning script steps) (starting capture path arguments steps))).store }
 {}
