@@ -32,23 +32,23 @@ use Rattle.value_table.proofs.Keys.{ValuesTested, keys_in, found_form, set_there
 use Rattle.value_table.proofs.Lists.{list_made, length_by, truth_by}
 use Rattle.value_table.proofs.Standing.{set}
 
-abbrev entry_in : Option SeenContent → Option (Contents × Contents)
+abbrev pub entry_in : Option SeenContent → Option (Contents × Contents)
 entry_in (Some (entry_is entry)) = entry
 entry_in other = None
 
-abbrev order_in : Option SeenContent → List Contents
+abbrev pub order_in : Option SeenContent → List Contents
 order_in (Some (order_is keys)) = keys
 order_in other = []
 
 -- the store with an entry set
-abbrev with_entry : ℕ → Contents → Option (Contents × Contents) → RunStore → RunStore
+abbrev pub with_entry : ℕ → Contents → Option (Contents × Contents) → RunStore → RunStore
 with_entry o k entry s = set (entry_at o (normal k)) (entry_is entry) s
 
 -- the store with a key put into an order, or taken out of it
-abbrev with_order : ℕ → SeenContent → RunStore → RunStore
+abbrev pub with_order : ℕ → SeenContent → RunStore → RunStore
 with_order o keys s = set (order_at o) keys s
 
-entry_set : (s : RunStore) (o : ℕ) (k l : Contents) (entry : Option (Contents × Contents))
+pub entry_set : (s : RunStore) (o : ℕ) (k l : Contents) (entry : Option (Contents × Contents))
     → entry_of (with_entry o k entry s) o l ≡ (if same_value (normal k) (normal l) then entry else entry_of s o l)
 entry_set s o k l entry = ap (λ b. entry_in (if b && same_value (normal k) (normal l) then Some (entry_is entry) else s.at (entry_at o (normal l)))) (eq-eqb o o refl) ∙ by_test (same_value (normal k) (normal l))
   where
@@ -56,7 +56,7 @@ entry_set s o k l entry = ap (λ b. entry_in (if b && same_value (normal k) (nor
     by_test true = refl
     by_test false = refl
 
-order_set : (s : RunStore) (o : ℕ) (keys : SeenContent) → order_of (with_order o keys s) o ≡ order_in (Some keys)
+pub order_set : (s : RunStore) (o : ℕ) (keys : SeenContent) → order_of (with_order o keys s) o ≡ order_in (Some keys)
 order_set s o keys = ap (λ b. order_in (if b then Some keys else s.at (order_at o))) (eq-eqb o o refl)
 
 key_inserted_is : (key : Contents) (old : Option SeenContent) → order_in (Some (changed (key_inserted key) old)) ≡ with_key key (order_in old)
@@ -67,11 +67,11 @@ key_deleted_is : (key : Contents) (old : Option SeenContent) → order_in (Some 
 key_deleted_is key (Some (order_is keys)) = refl
 key_deleted_is key other = refl
 
-entry_apart : (s : RunStore) (o : ℕ) (k : Contents) (entry : Option (Contents × Contents)) (l : SeenLocation) → is_of o l ≡ false → (with_entry o k entry s).at l ≡ s.at l
+pub entry_apart : (s : RunStore) (o : ℕ) (k : Contents) (entry : Option (Contents × Contents)) (l : SeenLocation) → is_of o l ≡ false → (with_entry o k entry s).at l ≡ s.at l
 entry_apart s o k entry (entry_at p form) apart = ap (λ b. if b && same_value (normal k) form then Some (entry_is entry) else s.at (entry_at p form)) apart
 entry_apart s o k entry l apart = refl
 
-order_apart : (s : RunStore) (o : ℕ) (keys : SeenContent) (l : SeenLocation) → is_of o l ≡ false → (with_order o keys s).at l ≡ s.at l
+pub order_apart : (s : RunStore) (o : ℕ) (keys : SeenContent) (l : SeenLocation) → is_of o l ≡ false → (with_order o keys s).at l ≡ s.at l
 order_apart s o keys (order_at p) apart = ap (λ b. if b then Some keys else s.at (order_at p)) apart
 order_apart s o keys l apart = refl
 
@@ -123,7 +123,7 @@ keyed_by go key (Some (NoKey o)) = kind_of o no_key_of
 keyed_by go key (Some TooDeep) = too_deep
 keyed_by go key (Some other) = not_there
 
-key_goes : (key : Contents) (go : Contents → Plan) → key_fault deepest key ≡ None → with_key_of key go ≡ go key
+pub key_goes : (key : Contents) (go : Contents → Plan) → key_fault deepest key ≡ None → with_key_of key go ≡ go key
 key_goes key go is = ap (keyed_by go key) is
 
 abbrev pub contained_by : ℕ → Contents → (Bool → Plan) → Option SeenKind → Plan

@@ -156,7 +156,7 @@ module _ (tested : ValuesTested) where
       (no_key_behind first.0 k v pairs each.0 apart.0, apart_behind k v pairs each.1 apart.1)
 
   -- a pair is taken out
-  absent : (k l : Contents) (pairs : Pairs) → HasNoKey k pairs → one_key l k ≡ true → pair_of l pairs ≡ None
+  pub absent : (k l : Contents) (pairs : Pairs) → HasNoKey k pairs → one_key l k ≡ true → pair_of l pairs ≡ None
   absent k l [] none is = refl
   absent k l (first ∷ pairs) none is =
       ap (λ b. if b then Some first else pair_of l pairs) (ap (λ form. same_value form (normal first.0)) ((tested (normal l) (normal k)).0 is) ∙ turned (normal k) (normal first.0) ∙ none.0)

@@ -11,3 +11,4 @@ pub mod WorkedTexts
 pub mod Files
 pub mod WorkedFiles
 pub mod Members
+pub mod NewDicts

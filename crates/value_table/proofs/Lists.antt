@@ -68,7 +68,7 @@ close_at o n answer p = writes (close_gap o n p answer)
 abbrev inserted : ℕ → Contents → ℕ → ℕ → Plan
 inserted o item n p = writes (move_up (n - p) o p (write (item_at o p) (item_is item) (write (len_at o) (len_is (suc n)) (done nothing))))
 
-last_is : {A : Type 0} (xs : List A) (x : A) → slice_get (xs ++ x ∷ []) (length xs) ≡ Some x
+pub last_is : {A : Type 0} (xs : List A) (x : A) → slice_get (xs ++ x ∷ []) (length xs) ≡ Some x
 last_is [] x = refl
 last_is (y ∷ ys) x = last_is ys x
 

@@ -1,14 +1,19 @@
 -- The table of operations on dictionaries and on attributes of instances (The Python Language Reference 3, sections 3.2, 6.2.7 and 6.3, and
 -- The Python Standard Library, "Mapping Types"): each over the pairs of key and value in order. The key is one that is usable as a key.
+use Rattle.py_model.specs.Walks.{deepest}
+use Rattle.py_model.specs.Store.{RunStore, entry_of}
+use Rattle.py_model.specs.Plan.{value}
+use Rattle.py_model.specs.Effect.{Effect, answered, after}
+use Rattle.py_value.specs.Seen.{SeenLocation, a_dict}
 use Rattle.std.specs.Ordering.{int_eq}
-use Rattle.std.specs.Prelude.{ℕ, pos, List, [], ◌∷◌, map, length, Option, Some, None, is_some, if◌then◌else◌, unwrap_or, not, ◌==◌, slice_get, codes}
+use Rattle.std.specs.Prelude.{ℕ, pos, List, [], ◌∷◌, map, length, Option, Some, None, is_some, if◌then◌else◌, unwrap_or, not, ◌==◌, slice_get, codes, ◌≡◌, ⊤, ◌++◌, false}
 use Rattle.std.specs.Option.{option_map}
-use Rattle.py_value.specs.Contents.{Contents, nothing, truth, tuple, text, no_parts, part, int}
-use Rattle.py_value.specs.KeyOf.{normal}
+use Rattle.py_value.specs.Contents.{Contents, nothing, truth, tuple, text, no_parts, part, int, object}
+use Rattle.py_value.specs.KeyOf.{normal, key_fault}
 use Rattle.py_value.specs.Same.{same_value}
 use Rattle.py_model.specs.Dicts.{with_pair}
 use Rattle.py_model.specs.Faults.{key_error, runtime_error}
-use Rattle.value_table.specs.Reading.{pair_of}
+use Rattle.value_table.specs.Reading.{pair_of, IsDict, is_of}
 use Rattle.value_table.specs.Results.{Result, leaves, makes_list, throws}
 use Rattle.value_table.specs.TableLists.{number_or_overflow, item_or_end}
 
@@ -89,3 +94,26 @@ setattr_is pairs name item = leaves nothing (with_pair (text name) item pairs)
 -- 30 getattr of an instance that has the attribute (R Entry): its value; where it has none the class is asked, as the plan says
 abbrev pub getattr_is : Pairs → Contents × Contents → Result Pairs
 getattr_is pairs pair = leaves pair.1 pairs
+
+-- 24 dict (S Order, S Entries of distinct keys): the pairs of keys and values in turn, equal keys as one: the first form and the last value
+abbrev pub display_pairs : List Contents → Pairs → Pairs
+display_pairs (key ∷ (item ∷ rest)) pairs = display_pairs rest (with_pair key item pairs)
+display_pairs other pairs = pairs
+
+-- each key of a display is usable as a key, and has its value
+abbrev pub HasUsableKeys : List Contents → Type 0
+HasUsableKeys [] = ⊤
+HasUsableKeys (key ∷ []) = ⊥
+HasUsableKeys (key ∷ (item ∷ rest)) = (key_fault deepest key ≡ None) × HasUsableKeys rest
+
+-- a new dictionary of these pairs is made, the next object, and is the answer; nothing else changes
+pub record MakesDict (store : RunStore) (e : Effect) (pairs : Pairs) : Type 0 where
+  pub answer_is : e.outcome ≡ answered (value (object (length store.kinds)))
+  pub made_is : e.made ≡ Some a_dict
+  pub is_dict : IsDict (after e store) (length store.kinds) pairs
+  pub elsewhere : (l : SeenLocation) → is_of (length store.kinds) l ≡ false → (after e store).at l ≡ store.at l
+  pub rest_stays : after e store ≡ record store { at = (after e store).at; kinds = store.kinds ++ a_dict ∷ [] }
+
+-- nothing stands under a key of the object that is made next
+abbrev pub HasNoNext : RunStore → Type 0
+HasNoNext store = (key : Contents) → entry_of store (length store.kinds) key ≡ None

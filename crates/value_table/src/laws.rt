@@ -8,7 +8,7 @@ ghost use Rattle.py_value.specs.Contents.{Contents, Parts, nothing, object, rang
 ghost use Rattle.py_value.specs.KeyOf.{key_fault};
 ghost use Rattle.py_model.specs.Arithmetic.{add_plan, in_plan, iadd_plan, len_plan, mul_plan, neg_plan, pos_plan, abs_plan, sub_plan, floor_div_plan, mod_plan, truth_plan, not_plan};
 ghost use Rattle.py_model.specs.Classes.{find, getattr, setattr};
-ghost use Rattle.py_model.specs.Dicts.{get_method, items_method, keys_method, values_method};
+ghost use Rattle.py_model.specs.Dicts.{get_method, items_method, keys_method, values_method, dict_display, dict_builtin};
 ghost use Rattle.py_model.specs.Effect.{Answers, effect};
 ghost use Rattle.py_model.specs.Lists.{append, extend, insert, pop, getitem, setitem, delitem, slice, reverse_method, sort_method, list_builtin, tuple_builtin, sorted_builtin, enumerate, zip_builtin, index_method, unpack, list_display, tuple_display, iter, next};
 ghost use Rattle.py_model.specs.Numbers.{times, range_count};
@@ -17,7 +17,7 @@ ghost use Rattle.py_model.specs.Sorting.{refused_to};
 ghost use Rattle.py_model.specs.Store.{RunStore};
 ghost use Rattle.py_model.specs.Walks.{deepest, items_of};
 ghost use Rattle.value_table.specs.Reading.{HasPairs, IsDict, IsInstance, IsList, pair_of, pairs_at, HasItems, IsPlainList, items_at, FileValue, IsFile};
-ghost use Rattle.value_table.specs.TableDicts.{Pairs, getitem_is as dict_getitem_is, setitem_is as dict_setitem_is, delitem_is as dict_delitem_is, in_is, len_is as dict_len_is, get_is, items_is, keys_is, values_is, setattr_is, getattr_is, truth_is as dict_truth_is, not_is as dict_not_is, iter_is as dict_iter_is, next_is as dict_next_is};
+ghost use Rattle.value_table.specs.TableDicts.{Pairs, getitem_is as dict_getitem_is, setitem_is as dict_setitem_is, delitem_is as dict_delitem_is, in_is, len_is as dict_len_is, get_is, items_is, keys_is, values_is, setattr_is, getattr_is, truth_is as dict_truth_is, not_is as dict_not_is, iter_is as dict_iter_is, next_is as dict_next_is, MakesDict, HasNoNext, HasUsableKeys, display_pairs};
 ghost use Rattle.value_table.specs.Results.{Does, DoesAlone, DoesToFile};
 ghost use Rattle.value_table.specs.TableLists.{append_is, getitem_is, setitem_is, delitem_is, pop_is, pop_last_is, insert_is, len_is, extend_is, iadd_is, add_is, slice_is, mul_is, reverse_is, sort_is, bound_in, truth_is, not_is, unpack_is, iter_is, next_is};
 ghost use Rattle.py_model.specs.TextMethods.{strip_plan, lstrip_plan, rstrip_plan, split_plan, join_plan, replace_plan, find_plan, startswith_plan, endswith_plan, upper_plan, lower_plan, isdigit_plan, ljust_plan, rjust_plan};
@@ -269,3 +269,12 @@ pub fn members_are_found()
     ensures texts { (store : RunStore) (answers : Answers) (one other : List ℕ) → IsEqual store answers (text one) (text other) (bytes_eq one other) }
     ensures itself { (store : RunStore) (answers : Answers) (o : ℕ) → IsEqual store answers (object o) (object o) true }
 {}
+
+/// The law of new dictionaries: a display of usable keys makes the dictionary of its pairs, whose keys are apart, and `dict()` an empty one.
+pub fn dicts_are_made()
+    ensures display { (store : RunStore) (answers : Answers) (items : List Contents) → HasNoNext store → HasUsableKeys items
+        → MakesDict store (effect store answers (dict_display items)) (display_pairs items []) }
+    ensures empty { (store : RunStore) (answers : Answers) → HasNoNext store → MakesDict store (effect store answers (dict_builtin [])) [] }
+{
+    tests_are_equality();
+}

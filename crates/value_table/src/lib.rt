@@ -8,7 +8,7 @@
 mod laws;
 
 pub use laws::{
-    attributes_do_as_the_table, dicts_do_as_the_table, files_do_as_the_table,
+    attributes_do_as_the_table, dicts_are_made, dicts_do_as_the_table, files_do_as_the_table,
     lists_do_as_the_table, numbers_do_as_the_table, plain_lists_have_items,
     sequences_do_as_the_table, texts_do_as_the_table,
 };
