@@ -1,16 +1,16 @@
 -- Effects that come to the same, and what writes make of a store.
-use Rattle.std.proofs.Common.{◌≡◌, ℕ, suc, ℤ, false, List, [], ◌∷◌, ◌++◌, length, slice_get, Option, Some, None, unwrap_or, refl, sym, ap, subst, ◌∙◌, Bool}
+use Rattle.std.proofs.Common.{◌≡◌, ℕ, suc, ℤ, false, List, [], ◌∷◌, ◌++◌, length, slice_get, Option, Some, None, unwrap_or, refl, sym, ap, subst, ◌∙◌, Bool, inl, inr}
 use Rattle.py_value.specs.Contents.{Contents, nothing, truth, int, text, tuple, range, object, no_parts}
-use Rattle.py_value.specs.Seen.{SeenLocation, SeenKind, a_list, item_at, len_at, item_is, reads}
+use Rattle.py_value.specs.Seen.{SeenLocation, SeenKind, a_list, item_at, len_at, item_is, reads, order_at}
 use Rattle.py_model.specs.Effect.{Effect, Answers, accessed, touching, answered, effect, written, after, after_touches, with_made}
 use Rattle.py_model.specs.Lists.{when_list, move_down, move_up}
 use Rattle.py_model.specs.Making.{set_items}
 use Rattle.py_model.specs.Operands.{number_in}
 use Rattle.py_model.specs.Places.{with_index, with_bound}
 use Rattle.py_model.specs.Plan.{Plan, Writes, value, kind_of}
-use Rattle.py_model.specs.Store.{RunStore, item_of, len_of}
+use Rattle.py_model.specs.Store.{RunStore, item_of, len_of, order_of}
 use Rattle.py_model.specs.Walks.{read_items, walk, walk_object, if_walked, when_walked}
-use Rattle.value_table.specs.Reading.{Stand, IsList, HasItems, is_of}
+use Rattle.value_table.specs.Reading.{Stand, IsList, HasItems, is_of, HasKeys}
 use Rattle.value_table.specs.Results.{Result, leaves, makes_list, throws, DoesIn, reaches_end}
 use Rattle.value_table.specs.TableLists.{bound_in}
 use Rattle.value_table.proofs.Standing.{set, block}
@@ -129,16 +129,25 @@ module _ (store : RunStore) (answers : Answers) where
       (subst (λ (n : ℕ). Same (effect store answers (read_items n o 0 go)) (effect store answers (go items)) s s) (sym listed.length_is)
       (items_read o 0 items go s listed.items_stand)))
 
+  keys_walked : (o : ℕ) (keys : List Contents) (go : List Contents → Plan) (s : RunStore) → HasKeys store o keys → Same (effect store answers (walk (object o) go)) (effect store answers (go keys)) s s
+  keys_walked o keys go s keyed =
+      subst (λ (kind : Option SeenKind). Same (effect store answers (walk_object o go kind)) (effect store answers (go keys)) s s) (sym keyed.1.0.kind_is)
+      (behind_read (order_at o) (effect store answers (go (order_of store o))) (effect store answers (go keys)) s s
+      (subst (λ (found : List Contents). Same (effect store answers (go found)) (effect store answers (go keys)) s s) (keyed.1.1 ∙ sym keyed.1.0.has_pairs.order_is)
+      (record { answer_is = refl; made_is = refl; after_is = refl })))
+
   pub walked : (v : Contents) (items : List Contents) (go : List Contents → Plan) (s : RunStore) → HasItems store v items
       → Same (effect store answers (walk v go)) (effect store answers (go items)) s s
-  walked (object o) items go s has = list_walked o items go s has
+  walked (object o) items go s (inl listed) = list_walked o items go s listed
+  walked (object o) items go s (inr keyed) = keys_walked o items go s keyed
   walked (tuple parts) items go s has = subst (λ (xs : List Contents). Same (effect store answers (walk (tuple parts) go)) (effect store answers (go xs)) s s) (sym has) (record { answer_is = refl; made_is = refl; after_is = refl })
   walked (range a b c) items go s has = subst (λ (xs : List Contents). Same (effect store answers (walk (range a b c) go)) (effect store answers (go xs)) s s) (sym has) (record { answer_is = refl; made_is = refl; after_is = refl })
   walked (text bytes) items go s has = subst (λ (xs : List Contents). Same (effect store answers (walk (text bytes) go)) (effect store answers (go xs)) s s) (sym has) (record { answer_is = refl; made_is = refl; after_is = refl })
   walked other items go s has = absurd has
 
   pub tested : (v : Contents) (items : List Contents) (go : Plan) → HasItems store v items → effect store answers (if_walked v go) ≡ effect store answers go
-  tested (object o) items go has = ap (λ kind. effect store answers (when_walked go kind)) has.kind_is
+  tested (object o) items go (inl listed) = ap (λ kind. effect store answers (when_walked go kind)) listed.kind_is
+  tested (object o) items go (inr keyed) = ap (λ kind. effect store answers (when_walked go kind)) keyed.1.0.kind_is
   tested (tuple parts) items go has = refl
   tested (range a b c) items go has = refl
   tested (text bytes) items go has = refl

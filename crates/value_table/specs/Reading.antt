@@ -2,7 +2,7 @@
 -- pairs of key and value in order, an instance its attributes, a file its bytes and its offset.
 use Rattle.py_value.specs.declared.access.Mode.{Mode}
 use Rattle.std.specs.Str.{bytes_eq}
-use Rattle.std.specs.Prelude.{◌≡◌, ◌<◌, ⊤, ℕ, zero, suc, Bool, true, false, ◌==◌, List, [], ◌∷◌, map, length, slice_get, Option, Some, None, if◌then◌else◌, is_some, unwrap_or}
+use Rattle.std.specs.Prelude.{◌≡◌, ◌<◌, ⊤, ℕ, zero, suc, Bool, true, false, ◌==◌, List, [], ◌∷◌, map, length, slice_get, Option, Some, None, if◌then◌else◌, is_some, unwrap_or, ◌⊎◌}
 use Rattle.py_value.specs.Contents.{Contents, nothing, text, tuple, range, object}
 use Rattle.py_value.specs.Seen.{SeenLocation, a_list, a_dict, an_instance, len_at, item_at, entry_at, order_at, offset_at, closed_at, a_file, file_at}
 use Rattle.py_value.specs.KeyOf.{normal}
@@ -72,9 +72,13 @@ is_of o (offset_at p) = o == p
 is_of o (closed_at p) = o == p
 is_of o l = false
 
--- the value is a sequence with these items: a list, a tuple, a range, or a text with its characters
+-- the object is a dictionary with these keys
+abbrev pub HasKeys : RunStore → ℕ → List Contents → Type 0
+HasKeys store o keys = (pairs : List (Contents × Contents)) × (IsDict store o pairs × (keys ≡ map (λ (pair : Contents × Contents). pair.0) pairs))
+
+-- the value is a sequence with these items: a list, a dictionary with its keys, a tuple, a range, or a text with its characters
 abbrev pub HasItems : RunStore → Contents → List Contents → Type 0
-HasItems store (object o) items = IsList store o items
+HasItems store (object o) items = IsList store o items ⊎ HasKeys store o items
 HasItems store (tuple parts) items = items ≡ items_of parts
 HasItems store (range start end step) items = items ≡ numbers_from (range_count start end step) start step
 HasItems store (text bytes) items = items ≡ map text (characters bytes)

@@ -2,7 +2,17 @@
 //! characters. Each operation is one short equation on these (`specs/Table*.antt`), and a law says that its plan in `py_model` does that.
 //!
 //! `specs/Reading.antt` says what an object of a store is as a value, and `specs/Results.antt` what it means that an effect does what the table
-//! says. Operands of a wrong kind raise as the plans say, and an operation whose equation would only repeat its plan has none here.
+//! says: the answer, what the object is afterwards as a value, and that nothing else changes. What is touched, in which order, the plans say.
+//!
+//! - [`lists_do_as_the_table`], [`members_are_found`], [`plain_lists_have_items`]: lists.
+//! - [`dicts_do_as_the_table`], [`dicts_are_made`], [`attributes_do_as_the_table`]: dictionaries, and attributes of instances.
+//! - [`texts_do_as_the_table`], [`sequences_do_as_the_table`], [`numbers_do_as_the_table`]: texts, tuples, ranges, walks and numbers.
+//! - [`files_do_as_the_table`]: files.
+//!
+//! Operands of a wrong kind raise as the plans say. An operation has no equation where that would only repeat its plan:
+//! - constants, names, binding, `give`, `is`, calls, classes and methods, exceptions, imports, `with` and `assert`;
+//! - comparisons, `max`, `min` and `sum`, whose walks are definitions already; `in` of a tuple and a range;
+//! - `chr`, `ord`, `int`, `range`, `isinstance`, `print`, `repr`, `str`; `open`, `input` and the next line of a file; the modules.
 #![tactic(auto)]
 
 mod laws;
