@@ -10,7 +10,7 @@ use Rattle.py_value.specs.declared.key.KeyFault.TheVariants.{NoKey, TooDeep}
 use Rattle.py_value.specs.KeyOf.{normal, key_fault}
 use Rattle.py_value.specs.Same.{same_value}
 use Rattle.py_value.specs.Seen.{SeenLocation, SeenContent, SeenKind, a_list, a_dict, an_instance, entry_at, order_at, entry_is, order_is, key_inserted, key_deleted, reads}
-use Rattle.py_model.specs.Arithmetic.{in_plan, len_plan, among_items, truth_of, truth_plan, not_plan}
+use Rattle.py_model.specs.Arithmetic.{in_plan, len_plan, among_items, truth_of, truth_plan, not_plan, not_in_plan}
 use Rattle.py_model.specs.Classes.{getattr, setattr, find, setattr_of_object, getattr_of_object, find_of_object, no_method_value, class_attribute, method_found}
 use Rattle.py_model.specs.Dicts.{with_pair, when_dict, value_or, read_entries, paired, get_method, items_method, keys_method, values_method}
 use Rattle.py_model.specs.Effect.{Effect, Answers, accessed, touching, effect}
@@ -26,7 +26,7 @@ use Rattle.py_model.specs.Walks.{deepest}
 use Rattle.value_table.specs.Reading.{pair_of, pairs_at, HasPairs, IsDict, IsInstance, is_of}
 use Rattle.value_table.specs.Results.{Result, leaves, makes_list, throws, Does}
 use Rattle.value_table.specs.TableLists.{number_or_overflow, item_or_end}
-use Rattle.value_table.specs.TableDicts.{Pairs, without_pair, getitem_is, setitem_is, delitem_is, in_is, len_is, get_is, items_is, keys_is, values_is, setattr_is, getattr_is, truth_is, not_is, iter_is, next_is}
+use Rattle.value_table.specs.TableDicts.{Pairs, without_pair, getitem_is, setitem_is, delitem_is, in_is, len_is, get_is, items_is, keys_is, values_is, setattr_is, getattr_is, truth_is, not_is, iter_is, next_is, not_in_is}
 use Rattle.value_table.proofs.Effects.{Same, does_as, does_same, ends, stays, behind_read}
 use Rattle.value_table.proofs.Keys.{ValuesTested, keys_in, found_form, set_there, put_behind, set_behind, keys_stay, key_put, apart_set, apart_behind, taken_out, key_taken, apart_taken, AreFound, each_found}
 use Rattle.value_table.proofs.Lists.{list_made, length_by, truth_by}
@@ -227,6 +227,10 @@ module _ (tested : ValuesTested) (store : RunStore) (answers : Answers) (o : ℕ
   pub in_does : (k : Contents) → key_fault deepest k ≡ None → DoesToDict (effect store answers (in_plan (k ∷ (object o ∷ [])))) (in_is pairs k)
   in_does k usable = by_dict (contained_by o k gives_truth) (in_is pairs k) (by_key k (λ key. read_entry o key (λ entry. gives_truth (is_some entry))) (in_is pairs k) usable
       (by_entry tested IsDict store answers o pairs is is.has_pairs dict_again k (λ entry. gives_truth (is_some entry)) (in_is pairs k) (same_here (truth (is_some (pair_of k pairs))))))
+
+  pub not_in_does : (k : Contents) → key_fault deepest k ≡ None → DoesToDict (effect store answers (not_in_plan (k ∷ (object o ∷ [])))) (not_in_is pairs k)
+  not_in_does k usable = by_dict (contained_by o k (λ b. gives_truth (not b))) (not_in_is pairs k) (by_key k (λ key. read_entry o key (λ entry. gives_truth (not (is_some entry)))) (not_in_is pairs k) usable
+      (by_entry tested IsDict store answers o pairs is is.has_pairs dict_again k (λ entry. gives_truth (not (is_some entry))) (not_in_is pairs k) (same_here (truth (not (is_some (pair_of k pairs)))))))
 
   pub get_does : (k instead : Contents) → key_fault deepest k ≡ None → DoesToDict (effect store answers (get_method (object o ∷ (k ∷ (instead ∷ []))))) (get_is pairs k instead)
   get_does k instead usable = by_dict (when_dict (value_or o k instead)) (get_is pairs k instead) (value_given k instead usable)

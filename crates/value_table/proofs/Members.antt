@@ -5,19 +5,19 @@ use Rattle.std.proofs.lemmas.Option.{slice_get_past}
 use Rattle.value_table.specs.TableLists.{truth_is, not_is, unpack_is, iter_is, next_is, item_or_end, item_in}
 use Rattle.std.proofs.Common.{◌≡◌, ◌<◌, ◌≤◌, ℕ, zero, suc, ◌+◌, ℤ, pos, negsuc, Bool, true, false, not, ◌==◌, nat_lt, if◌then◌else◌, List, [], ◌∷◌, length, slice_get, Option, Some, None, is_some, unwrap_or, refl, sym, ap, subst, ◌∙◌, arith, leb-true, leb-false, eq-eqb, codes}
 use Rattle.std.specs.Str.{bytes_eq}
-use Rattle.py_value.specs.Contents.{Contents, nothing, truth, int, text, object, tuple}
+use Rattle.py_value.specs.Contents.{Contents, nothing, truth, int, text, object, tuple, Parts, no_parts, part}
 use Rattle.py_value.specs.Seen.{SeenKind, a_list, item_at, reads}
-use Rattle.py_model.specs.Arithmetic.{in_plan, among_items, truth_of, truth_plan, not_plan}
+use Rattle.py_model.specs.Arithmetic.{in_plan, among_items, truth_of, truth_plan, not_plan, not_in_plan, among_parts}
 use Rattle.py_model.specs.Effect.{Answers, accessed, touching, effect, parts_of}
 use Rattle.py_model.specs.Faults.{value_error}
 use Rattle.py_model.specs.Lists.{when_list, seek, answer_place, index_method, unpack, tuple_display, wrong_count, iter, iter_of, next, next_of}
 use Rattle.py_model.specs.Operands.{number_in, gives_truth}
-use Rattle.py_model.specs.Plan.{Plan, done, kind_of, read_len, writes, ends}
+use Rattle.py_model.specs.Plan.{Plan, done, kind_of, read_len, writes, ends, looks}
 use Rattle.py_model.specs.Store.{RunStore, item_of}
-use Rattle.py_model.specs.Walks.{equals, is_alike, by_number, number_of, alike, before, behind, read_items, read_value}
-use Rattle.value_table.specs.Equality.{ComesTo, IsEqual, StandsAt, in_is, index_is}
+use Rattle.py_model.specs.Walks.{equals, is_alike, by_number, number_of, alike, before, behind, read_items, read_value, items_of}
+use Rattle.value_table.specs.Equality.{ComesTo, IsEqual, StandsAt, in_is, index_is, not_in_is}
 use Rattle.value_table.specs.Reading.{Stand, IsList, is_of}
-use Rattle.value_table.specs.Results.{Result, leaves, throws, Does}
+use Rattle.value_table.specs.Results.{Result, leaves, throws, Does, Gives, DoesAlone}
 use Rattle.value_table.proofs.Dicts.{contained_by}
 use Rattle.value_table.proofs.Effects.{does_as, stays, does_same, items_read}
 use Rattle.value_table.proofs.Lists.{by_length, truth_by}
@@ -91,6 +91,10 @@ module _ (store : RunStore) (answers : Answers) (o : ℕ) (items : List Contents
   in_does v place found = by_list (contained_by o v gives_truth) (in_is items place) (by_length store answers o items listed (λ n. among_items n o 0 v gives_truth) (in_is items place)
       (among_does v 0 items place gives_truth (in_is items place) listed.items_stand found (same_here (truth (is_some place)))))
 
+  pub not_in_does : (v : Contents) (place : Option ℕ) → StandsAt store answers v items place → DoesIt (not_in_plan (v ∷ (object o ∷ []))) (not_in_is items place)
+  not_in_does v place found = by_list (contained_by o v (λ b. gives_truth (not b))) (not_in_is items place) (by_length store answers o items listed (λ n. among_items n o 0 v (λ b. gives_truth (not b))) (not_in_is items place)
+      (among_does v 0 items place (λ b. gives_truth (not b)) (not_in_is items place) listed.items_stand found (same_here (truth (not (is_some place))))))
+
   pub index_does : (v : Contents) (place : Option ℕ) → StandsAt store answers v items place → DoesIt (index_method (object o ∷ (v ∷ []))) (index_is items place)
   index_does v place found = by_list (when_list (read_len o (λ n. seek n o 0 v answer_place))) (index_is items place) (by_length store answers o items listed (λ n. seek n o 0 v answer_place) (index_is items place)
       (seek_does v 0 items place answer_place (index_is items place) listed.items_stand found (answered_at place)))
@@ -136,6 +140,31 @@ module _ (store : RunStore) (answers : Answers) (o : ℕ) (items : List Contents
           subst (λ (found : Option Contents). DoesIt (read_value o turn (λ item. writes (done item))) (item_or_end found items)) (sym there)
           (read_one turn (item_in items turn) (λ item. writes (done item)) (leaves (item_in items turn) items) (subst (λ (k : ℕ). item_of store o k ≡ Some (item_in items turn)) (omega arith) (stand_at store o 0 turn items listed.items_stand below)) (same_here (item_in items turn)))
       by_test false is = subst (λ (found : Option Contents). DoesIt ends (item_or_end found items)) (sym (past_none turn items is)) (record { answer_is = refl; made_is = refl; after_is = refl })
+
+-- a value among the items of a tuple
+module _ (store : RunStore) (answers : Answers) where
+  abbrev AloneDoes : Plan → Contents → Type 0
+  AloneDoes p answer = Gives store (effect store answers p) answer
+
+  compared_alone : (v item : Contents) (b : Bool) (go : Bool → Plan) (answer : Contents) → IsEqual store answers v item b → AloneDoes (go b) answer → AloneDoes (looks 1 (equals v item go)) answer
+  compared_alone v item b go answer equal does =
+      let same = equal go in
+      record { answer_is = same.answer_is ∙ does.answer_is; made_is = same.made_is ∙ does.made_is; after_is = same.after_is ∙ does.after_is }
+
+  among_parts_does : (v : Contents) (parts : Parts) (place : Option ℕ) (go : Bool → Plan) (answer : Contents) → StandsAt store answers v (items_of parts) place → AloneDoes (go (is_some place)) answer
+      → AloneDoes (among_parts parts v go) answer
+  among_parts_does v no_parts place go answer found does = subst (λ (some : Option ℕ). AloneDoes (go (is_some some)) answer) found does
+  among_parts_does v (part item rest) (Some zero) go answer found does = compared_alone v item true (hit_or (go true) (among_parts rest v go)) answer found does
+  among_parts_does v (part item rest) (Some (suc p)) go answer found does =
+      compared_alone v item false (hit_or (go true) (among_parts rest v go)) answer found.0 (among_parts_does v rest (Some p) go answer found.1 does)
+  among_parts_does v (part item rest) None go answer found does =
+      compared_alone v item false (hit_or (go true) (among_parts rest v go)) answer found.0 (among_parts_does v rest None go answer found.1 does)
+
+  pub in_tuple : (v : Contents) (parts : Parts) (place : Option ℕ) → StandsAt store answers v (items_of parts) place → DoesAlone store (effect store answers (in_plan (v ∷ (tuple parts ∷ [])))) (in_is tt place)
+  in_tuple v parts place found = among_parts_does v parts place gives_truth (truth (is_some place)) found (record { answer_is = refl; made_is = refl; after_is = refl })
+
+  pub not_in_tuple : (v : Contents) (parts : Parts) (place : Option ℕ) → StandsAt store answers v (items_of parts) place → DoesAlone store (effect store answers (not_in_plan (v ∷ (tuple parts ∷ [])))) (not_in_is tt place)
+  not_in_tuple v parts place found = among_parts_does v parts place (λ b. gives_truth (not b)) (truth (not (is_some place))) found (record { answer_is = refl; made_is = refl; after_is = refl })
 
 -- atoms that are equal
 not_less : (n : ℕ) → nat_lt n n ≡ false

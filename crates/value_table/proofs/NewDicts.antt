@@ -1,17 +1,17 @@
 -- Dictionaries that are made.
-use Rattle.std.proofs.Common.{◌≡◌, ◌↔◌, ℕ, Bool, true, false, if◌then◌else◌, List, [], ◌∷◌, ◌++◌, map, length, slice_get, Option, Some, None, refl, sym, ap, subst, ◌∙◌}
+use Rattle.std.proofs.Common.{◌≡◌, ℕ, Bool, true, false, if◌then◌else◌, List, [], ◌∷◌, ◌++◌, length, slice_get, Option, Some, None, refl, sym, ap, subst, ◌∙◌}
 use Rattle.py_value.specs.Contents.{Contents, object}
-use Rattle.py_value.specs.KeyOf.{normal, key_fault}
+use Rattle.py_value.specs.KeyOf.{normal}
 use Rattle.py_value.specs.Same.{same_value}
-use Rattle.py_value.specs.Seen.{SeenLocation, SeenKind, a_dict, order_at, order_is}
-use Rattle.py_model.specs.Dicts.{with_pair, with_pairs, new_dict, set_entries, dict_display}
-use Rattle.py_model.specs.Effect.{Effect, Answers, effect, written, after, after_touches, with_made}
-use Rattle.py_model.specs.Orderly.{HasNoKey, HasKeysApart}
+use Rattle.py_value.specs.Seen.{SeenLocation, SeenKind, a_dict, order_is}
+use Rattle.py_model.specs.Dicts.{with_pair, with_pairs, new_dict, set_entries}
+use Rattle.py_model.specs.Effect.{Answers, effect, written, after, after_touches, with_made}
+use Rattle.py_model.specs.Orderly.{HasKeysApart}
 use Rattle.py_model.specs.Plan.{Plan, Writes, done}
 use Rattle.py_model.specs.Store.{RunStore, entry_of, order_of}
-use Rattle.value_table.specs.Reading.{pair_of, HasPairs, IsDict, is_of}
+use Rattle.value_table.specs.Reading.{pair_of, IsDict, is_of}
 use Rattle.value_table.specs.TableDicts.{Pairs, MakesDict, HasNoNext, HasUsableKeys, display_pairs}
-use Rattle.value_table.proofs.Dicts.{with_entry, with_order, order_in, entry_set, order_set, entry_apart, order_apart, key_goes}
+use Rattle.value_table.proofs.Dicts.{with_entry, with_order, entry_set, order_set, entry_apart, order_apart, key_goes}
 use Rattle.value_table.proofs.Effects.{Same}
 use Rattle.value_table.proofs.Keys.{ValuesTested, keys_in, absent, turned, put_behind, apart_set, apart_behind}
 use Rattle.value_table.proofs.Lists.{last_is}

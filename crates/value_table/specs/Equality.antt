@@ -1,6 +1,6 @@
 -- When two values are equal in a store, and where a value stands among items (The Python Language Reference 3, section 6.10). The walk of the
 -- comparison is the plan's (`specs/Walks.antt` of `py_model`): what it comes to is all that is said here.
-use Rattle.std.specs.Prelude.{◌≡◌, ℕ, zero, suc, pos, Bool, true, false, List, [], ◌∷◌, Option, Some, None, is_some, codes}
+use Rattle.std.specs.Prelude.{◌≡◌, ℕ, zero, suc, pos, Bool, true, false, List, [], ◌∷◌, Option, Some, None, is_some, codes, not}
 use Rattle.py_value.specs.Contents.{Contents, truth, int, text}
 use Rattle.py_model.specs.Effect.{Effect, Answers, effect, after}
 use Rattle.py_model.specs.Faults.{value_error}
@@ -26,9 +26,13 @@ StandsAt store answers v (item ∷ items) (Some zero) = IsEqual store answers v 
 StandsAt store answers v (item ∷ items) (Some (suc p)) = IsEqual store answers v item false × StandsAt store answers v items (Some p)
 StandsAt store answers v (item ∷ items) None = IsEqual store answers v item false × StandsAt store answers v items None
 
--- 18 in (R Len, then R Item and compare walk up to the hit): whether the value stands in the list; 19 not in answers the other truth value
-abbrev pub in_is : List Contents → Option ℕ → Result (List Contents)
-in_is items place = leaves (truth (is_some place)) items
+-- 18 in (R Len, then R Item and compare walk up to the hit): whether the value stands in the list; 19 not in: whether it
+-- does not
+abbrev pub in_is : {A : Type 0} → A → Option ℕ → Result A
+in_is left place = leaves (truth (is_some place)) left
+
+abbrev pub not_in_is : {A : Type 0} → A → Option ℕ → Result A
+not_in_is left place = leaves (truth (not (is_some place))) left
 
 -- 84 index (as in): the first place at which it stands
 abbrev pub index_is : List Contents → Option ℕ → Result (List Contents)

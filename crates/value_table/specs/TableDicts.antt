@@ -53,9 +53,13 @@ setitem_is pairs key item = leaves nothing (with_pair key item pairs)
 abbrev pub delitem_is : Pairs → Contents → Result Pairs
 delitem_is pairs key = at_key key pairs (λ pair. leaves nothing (without_pair key pairs))
 
--- 18 in (R Entry): whether there is a pair of the key; 19 not in answers the other truth value
+-- 18 in (R Entry): whether there is a pair of the key
 abbrev pub in_is : Pairs → Contents → Result Pairs
 in_is pairs key = leaves (truth (is_some (pair_of key pairs))) pairs
+
+-- 19 not in (R Entry): whether there is none
+abbrev pub not_in_is : Pairs → Contents → Result Pairs
+not_in_is pairs key = leaves (truth (not (is_some (pair_of key pairs)))) pairs
 
 -- 58 len (R Order): how many pairs
 abbrev pub len_is : Pairs → Result Pairs

@@ -6,7 +6,7 @@ ghost use Rattle.py_model.specs.Files.{read_plan, readline_plan, write_plan, clo
 ghost use Rattle.std.specs.Prelude.{◌≡◌, ℕ, ℤ, List, [], ◌∷◌, Option, Some, None, map, length, true, false, pos};
 ghost use Rattle.py_value.specs.Contents.{Contents, Parts, nothing, object, range, text, tuple, int};
 ghost use Rattle.py_value.specs.KeyOf.{key_fault};
-ghost use Rattle.py_model.specs.Arithmetic.{add_plan, in_plan, iadd_plan, len_plan, mul_plan, neg_plan, pos_plan, abs_plan, sub_plan, floor_div_plan, mod_plan, truth_plan, not_plan};
+ghost use Rattle.py_model.specs.Arithmetic.{add_plan, in_plan, iadd_plan, len_plan, mul_plan, neg_plan, pos_plan, abs_plan, sub_plan, floor_div_plan, mod_plan, truth_plan, not_plan, not_in_plan};
 ghost use Rattle.py_model.specs.Classes.{find, getattr, setattr};
 ghost use Rattle.py_model.specs.Dicts.{get_method, items_method, keys_method, values_method, dict_display, dict_builtin};
 ghost use Rattle.py_model.specs.Effect.{Answers, effect};
@@ -17,7 +17,7 @@ ghost use Rattle.py_model.specs.Sorting.{refused_to};
 ghost use Rattle.py_model.specs.Store.{RunStore};
 ghost use Rattle.py_model.specs.Walks.{deepest, items_of};
 ghost use Rattle.value_table.specs.Reading.{HasPairs, IsDict, IsInstance, IsList, pair_of, pairs_at, HasItems, IsPlainList, items_at, FileValue, IsFile};
-ghost use Rattle.value_table.specs.TableDicts.{Pairs, getitem_is as dict_getitem_is, setitem_is as dict_setitem_is, delitem_is as dict_delitem_is, in_is, len_is as dict_len_is, get_is, items_is, keys_is, values_is, setattr_is, getattr_is, truth_is as dict_truth_is, not_is as dict_not_is, iter_is as dict_iter_is, next_is as dict_next_is, MakesDict, HasNoNext, HasUsableKeys, display_pairs};
+ghost use Rattle.value_table.specs.TableDicts.{Pairs, getitem_is as dict_getitem_is, setitem_is as dict_setitem_is, delitem_is as dict_delitem_is, in_is, len_is as dict_len_is, get_is, items_is, keys_is, values_is, setattr_is, getattr_is, truth_is as dict_truth_is, not_is as dict_not_is, iter_is as dict_iter_is, next_is as dict_next_is, MakesDict, HasNoNext, HasUsableKeys, display_pairs, not_in_is as dict_not_in_is};
 ghost use Rattle.value_table.specs.Results.{Does, DoesAlone, DoesToFile};
 ghost use Rattle.value_table.specs.TableLists.{append_is, getitem_is, setitem_is, delitem_is, pop_is, pop_last_is, insert_is, len_is, extend_is, iadd_is, add_is, slice_is, mul_is, reverse_is, sort_is, bound_in, truth_is, not_is, unpack_is, iter_is, next_is};
 ghost use Rattle.py_model.specs.TextMethods.{strip_plan, lstrip_plan, rstrip_plan, split_plan, join_plan, replace_plan, find_plan, startswith_plan, endswith_plan, upper_plan, lower_plan, isdigit_plan, ljust_plan, rjust_plan};
@@ -101,6 +101,8 @@ pub fn dicts_do_as_the_table()
         → Does IsDict store o (effect store answers (delitem (object o ∷ (key ∷ [])))) (dict_delitem_is pairs key) }
     ensures contains { (store : RunStore) (answers : Answers) (o : ℕ) (pairs : Pairs) (key : Contents) → IsDict store o pairs → key_fault deepest key ≡ None
         → Does IsDict store o (effect store answers (in_plan (key ∷ (object o ∷ [])))) (in_is pairs key) }
+    ensures lacks { (store : RunStore) (answers : Answers) (o : ℕ) (pairs : Pairs) (key : Contents) → IsDict store o pairs → key_fault deepest key ≡ None
+        → Does IsDict store o (effect store answers (not_in_plan (key ∷ (object o ∷ [])))) (dict_not_in_is pairs key) }
     ensures get { (store : RunStore) (answers : Answers) (o : ℕ) (pairs : Pairs) (key instead : Contents) → IsDict store o pairs → key_fault deepest key ≡ None
         → Does IsDict store o (effect store answers (get_method (object o ∷ (key ∷ (instead ∷ []))))) (get_is pairs key instead) }
     ensures get_or_none { (store : RunStore) (answers : Answers) (o : ℕ) (pairs : Pairs) (key : Contents) → IsDict store o pairs → key_fault deepest key ≡ None
@@ -254,11 +256,20 @@ pub fn files_do_as_the_table()
     tests_are_equality();
 }
 
-/// The law of members: whether a value stands in a list, and where, is what the table says of the first item that is equal to it. Numbers and texts
+/// The law of members: whether a value stands in a list or a tuple, and where, is what the table says of the first item that is equal to it. Numbers and texts
 /// are equal where they are the same, and an object is equal to itself; containers are as the walk of the comparison finds them.
 pub fn members_are_found()
     ensures contains { (store : RunStore) (answers : Answers) (o : ℕ) (items : List Contents) (v : Contents) (place : Option ℕ) → IsList store o items
         → StandsAt store answers v items place → Does IsList store o (effect store answers (in_plan (v ∷ (object o ∷ [])))) (members.in_is items place) }
+    ensures lacks { (store : RunStore) (answers : Answers) (o : ℕ) (items : List Contents) (v : Contents) (place : Option ℕ) → IsList store o items
+        → StandsAt store answers v items place
+        → Does IsList store o (effect store answers (not_in_plan (v ∷ (object o ∷ [])))) (members.not_in_is items place) }
+    ensures tuple_contains { (store : RunStore) (answers : Answers) (v : Contents) (parts : Parts) (place : Option ℕ)
+        → StandsAt store answers v (items_of parts) place
+        → DoesAlone store (effect store answers (in_plan (v ∷ (tuple parts ∷ [])))) (members.in_is tt place) }
+    ensures tuple_lacks { (store : RunStore) (answers : Answers) (v : Contents) (parts : Parts) (place : Option ℕ)
+        → StandsAt store answers v (items_of parts) place
+        → DoesAlone store (effect store answers (not_in_plan (v ∷ (tuple parts ∷ [])))) (members.not_in_is tt place) }
     ensures index { (store : RunStore) (answers : Answers) (o : ℕ) (items : List Contents) (v : Contents) (place : Option ℕ) → IsList store o items
         → StandsAt store answers v items place
         → Does IsList store o (effect store answers (index_method (object o ∷ (v ∷ [])))) (members.index_is items place) }

@@ -11,7 +11,7 @@
 //!
 //! Operands of a wrong kind raise as the plans say. An operation has no equation where that would only repeat its plan:
 //! - constants, names, binding, `give`, `is`, calls, classes and methods, exceptions, imports, `with` and `assert`;
-//! - comparisons, `max`, `min` and `sum`, whose walks are definitions already; `in` of a tuple and a range;
+//! - comparisons, `max`, `min` and `sum`, whose walks are definitions already; `in` of a range;
 //! - `chr`, `ord`, `int`, `range`, `isinstance`, `print`, `repr`, `str`; `open`, `input` and the next line of a file; the modules.
 #![tactic(auto)]
 

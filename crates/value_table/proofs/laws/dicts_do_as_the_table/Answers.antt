@@ -1,5 +1,5 @@
 use Rattle.value_table.proofs.laws.dicts_do_as_the_table.Goals as goal
-use Rattle.value_table.proofs.Dicts.{getitem_does, setitem_does, delitem_does, in_does, get_does, get_none_does, len_does, items_does, keys_does, values_does, pairs_read, dict_truth, dict_not, dict_iter, dict_next}
+use Rattle.value_table.proofs.Dicts.{getitem_does, setitem_does, delitem_does, in_does, get_does, get_none_does, len_does, items_does, keys_does, values_does, pairs_read, dict_truth, dict_not, dict_iter, dict_next, not_in_does}
 
 pub returns-clause-getitem : goal.returns-clause-getitem
 returns-clause-getitem c = λ store answers o pairs key is usable. getitem_does c.tests_are_equality.ensures.values store answers o pairs is key usable
@@ -45,3 +45,6 @@ returns-clause-iter c = dict_iter c.tests_are_equality.ensures.values
 
 pub returns-clause-next : goal.returns-clause-next
 returns-clause-next c = λ store answers o pairs turn begun is. dict_next c.tests_are_equality.ensures.values store answers o pairs is turn begun
+
+pub returns-clause-lacks : goal.returns-clause-lacks
+returns-clause-lacks c = λ store answers o pairs key is usable. not_in_does c.tests_are_equality.ensures.values store answers o pairs is key usable

@@ -1,5 +1,5 @@
 use Rattle.value_table.proofs.laws.members_are_found.Goals as goal
-use Rattle.value_table.proofs.Members.{in_does, index_does, same_number_equal, other_number_differs, texts_compared, object_itself}
+use Rattle.value_table.proofs.Members.{in_does, index_does, same_number_equal, other_number_differs, texts_compared, object_itself, not_in_does, in_tuple, not_in_tuple}
 
 pub returns-clause-contains : goal.returns-clause-contains
 returns-clause-contains c = λ store answers o items v place listed found. in_does store answers o items listed v place found
@@ -18,3 +18,12 @@ returns-clause-texts c = texts_compared
 
 pub returns-clause-itself : goal.returns-clause-itself
 returns-clause-itself c = object_itself
+
+pub returns-clause-lacks : goal.returns-clause-lacks
+returns-clause-lacks c = λ store answers o items v place listed found. not_in_does store answers o items listed v place found
+
+pub returns-clause-tuple_contains : goal.returns-clause-tuple_contains
+returns-clause-tuple_contains c = in_tuple
+
+pub returns-clause-tuple_lacks : goal.returns-clause-tuple_lacks
+returns-clause-tuple_lacks c = not_in_tuple
