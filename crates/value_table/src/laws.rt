@@ -35,22 +35,10 @@ pub fn plain_lists_have_items()
     ensures one { (store : RunStore) (o : ℕ) (items : List Contents) → IsList store o items → IsPlainList store o × (items ≡ items_at store o) }
 {}
 
-/// The law of lists: where an object is the list of some items, each operation does what the table says of these items.
+/// The law of lists that are changed: where an object is the list of some items, each operation does what the table says of these items.
 pub fn lists_do_as_the_table()
-    ensures truth { (store : RunStore) (answers : Answers) (o : ℕ) (items : List Contents) → IsList store o items
-        → Does IsList store o (effect store answers (truth_plan (object o ∷ []))) (truth_is items) }
-    ensures negation { (store : RunStore) (answers : Answers) (o : ℕ) (items : List Contents) → IsList store o items
-        → Does IsList store o (effect store answers (not_plan (object o ∷ []))) (not_is items) }
-    ensures iter { (store : RunStore) (answers : Answers) (o : ℕ) (items : List Contents) → IsList store o items
-        → Does IsList store o (effect store answers (iter (object o ∷ []))) (iter_is items) }
-    ensures next { (store : RunStore) (answers : Answers) (o : ℕ) (items : List Contents) (turn : ℕ) (begun : Contents) → IsList store o items
-        → Does IsList store o (effect store answers (next next_line (object o ∷ (int (pos turn) ∷ (begun ∷ []))))) (next_is items turn) }
-    ensures unpack { (store : RunStore) (answers : Answers) (o : ℕ) (items : List Contents) (targets : ℕ) → IsList store o items
-        → Does IsList store o (effect store answers (unpack targets (object o ∷ []))) (unpack_is targets items) }
     ensures append { (store : RunStore) (answers : Answers) (o : ℕ) (items : List Contents) (item : Contents) → IsList store o items
         → Does IsList store o (effect store answers (append (object o ∷ (item ∷ [])))) (append_is items item) }
-    ensures getitem { (store : RunStore) (answers : Answers) (o : ℕ) (items : List Contents) (index : Contents) (i : ℤ) → IsList store o items
-        → number_in index ≡ Some i → Does IsList store o (effect store answers (getitem (object o ∷ (index ∷ [])))) (getitem_is items i) }
     ensures setitem { (store : RunStore) (answers : Answers) (o : ℕ) (items : List Contents) (index : Contents) (i : ℤ) (item : Contents)
         → IsList store o items → number_in index ≡ Some i
         → Does IsList store o (effect store answers (setitem (object o ∷ (index ∷ (item ∷ []))))) (setitem_is items i item) }
@@ -63,12 +51,32 @@ pub fn lists_do_as_the_table()
     ensures insert { (store : RunStore) (answers : Answers) (o : ℕ) (items : List Contents) (index : Contents) (i : ℤ) (item : Contents)
         → IsList store o items → number_in index ≡ Some i
         → Does IsList store o (effect store answers (insert (object o ∷ (index ∷ (item ∷ []))))) (insert_is items i item) }
-    ensures len { (store : RunStore) (answers : Answers) (o : ℕ) (items : List Contents) → IsList store o items
-        → Does IsList store o (effect store answers (len_plan (object o ∷ []))) (len_is items) }
     ensures extend { (store : RunStore) (answers : Answers) (o : ℕ) (items more : List Contents) (other : Contents) → IsList store o items
         → HasItems store other more → Does IsList store o (effect store answers (extend (object o ∷ (other ∷ [])))) (extend_is items more) }
     ensures iadd { (store : RunStore) (answers : Answers) (o : ℕ) (items more : List Contents) (other : Contents) → IsList store o items
         → HasItems store other more → Does IsList store o (effect store answers (iadd_plan (object o ∷ (other ∷ [])))) (iadd_is o items more) }
+    ensures reverse { (store : RunStore) (answers : Answers) (o : ℕ) (items : List Contents) → IsList store o items
+        → Does IsList store o (effect store answers (reverse_method (object o ∷ []))) (reverse_is items) }
+    ensures sort { (store : RunStore) (answers : Answers) (o : ℕ) (items : List Contents) → IsList store o items → refused_to deepest items ≡ None
+        → Does IsList store o (effect store answers (sort_method (object o ∷ []))) (sort_is items) }
+{}
+
+/// The law of lists that are read: so each operation does that answers an item, a number or the end, or makes a new list or a tuple.
+pub fn lists_are_read_as_the_table()
+    ensures truth { (store : RunStore) (answers : Answers) (o : ℕ) (items : List Contents) → IsList store o items
+        → Does IsList store o (effect store answers (truth_plan (object o ∷ []))) (truth_is items) }
+    ensures negation { (store : RunStore) (answers : Answers) (o : ℕ) (items : List Contents) → IsList store o items
+        → Does IsList store o (effect store answers (not_plan (object o ∷ []))) (not_is items) }
+    ensures iter { (store : RunStore) (answers : Answers) (o : ℕ) (items : List Contents) → IsList store o items
+        → Does IsList store o (effect store answers (iter (object o ∷ []))) (iter_is items) }
+    ensures next { (store : RunStore) (answers : Answers) (o : ℕ) (items : List Contents) (turn : ℕ) (begun : Contents) → IsList store o items
+        → Does IsList store o (effect store answers (next next_line (object o ∷ (int (pos turn) ∷ (begun ∷ []))))) (next_is items turn) }
+    ensures unpack { (store : RunStore) (answers : Answers) (o : ℕ) (items : List Contents) (targets : ℕ) → IsList store o items
+        → Does IsList store o (effect store answers (unpack targets (object o ∷ []))) (unpack_is targets items) }
+    ensures getitem { (store : RunStore) (answers : Answers) (o : ℕ) (items : List Contents) (index : Contents) (i : ℤ) → IsList store o items
+        → number_in index ≡ Some i → Does IsList store o (effect store answers (getitem (object o ∷ (index ∷ [])))) (getitem_is items i) }
+    ensures len { (store : RunStore) (answers : Answers) (o : ℕ) (items : List Contents) → IsList store o items
+        → Does IsList store o (effect store answers (len_plan (object o ∷ []))) (len_is items) }
     ensures add { (store : RunStore) (answers : Answers) (o p : ℕ) (items more : List Contents) → IsList store o items → IsList store p more
         → Does IsList store o (effect store answers (add_plan (object o ∷ (object p ∷ [])))) (add_is items more) }
     ensures slice { (store : RunStore) (answers : Answers) (o : ℕ) (items : List Contents) (low high : Contents) (l h : Option ℤ) → IsList store o items
@@ -76,10 +84,6 @@ pub fn lists_do_as_the_table()
         → Does IsList store o (effect store answers (slice (object o ∷ (low ∷ (high ∷ []))))) (slice_is items l h) }
     ensures mul { (store : RunStore) (answers : Answers) (o : ℕ) (items : List Contents) (number : Contents) (i : ℤ) → IsList store o items
         → number_in number ≡ Some i → Does IsList store o (effect store answers (mul_plan (object o ∷ (number ∷ [])))) (mul_is items (times i)) }
-    ensures reverse { (store : RunStore) (answers : Answers) (o : ℕ) (items : List Contents) → IsList store o items
-        → Does IsList store o (effect store answers (reverse_method (object o ∷ []))) (reverse_is items) }
-    ensures sort { (store : RunStore) (answers : Answers) (o : ℕ) (items : List Contents) → IsList store o items → refused_to deepest items ≡ None
-        → Does IsList store o (effect store answers (sort_method (object o ∷ []))) (sort_is items) }
 {}
 
 /// The law of dictionaries: where an object is the dictionary of some pairs, each operation does with a usable key what the table says of these
@@ -135,7 +139,7 @@ pub fn attributes_do_as_the_table()
     tests_are_equality();
 }
 
-/// The law of texts: each operation on texts does what the table says.
+/// The law of texts: each operator, and `len`, does with a text what the table says.
 pub fn texts_do_as_the_table()
     ensures getitem { (store : RunStore) (answers : Answers) (bytes : List ℕ) (index : Contents) (i : ℤ) → number_in index ≡ Some i
         → DoesAlone store (effect store answers (getitem (text bytes ∷ (index ∷ [])))) (texts.getitem_is bytes i) }
@@ -149,6 +153,10 @@ pub fn texts_do_as_the_table()
         → DoesAlone store (effect store answers (in_plan (text sought ∷ (text bytes ∷ [])))) (texts.in_is sought bytes) }
     ensures len { (store : RunStore) (answers : Answers) (bytes : List ℕ)
         → DoesAlone store (effect store answers (len_plan (text bytes ∷ []))) (texts.len_is bytes) }
+{}
+
+/// The law of the methods of texts: each does what the table says.
+pub fn text_methods_do_as_the_table()
     ensures strip { (store : RunStore) (answers : Answers) (bytes : List ℕ)
         → DoesAlone store (effect store answers (strip_plan (text bytes ∷ []))) (texts.strip_is bytes) }
     ensures lstrip { (store : RunStore) (answers : Answers) (bytes : List ℕ)
@@ -181,12 +189,8 @@ pub fn texts_do_as_the_table()
         → DoesAlone store (effect store answers (rjust_plan (text bytes ∷ (number ∷ [])))) (texts.rjust_is bytes i) }
 {}
 
-/// The law of sequences: each operation on tuples and ranges, and each that walks a sequence, does what the table says of the items.
+/// The law of sequences: each operation on tuples and ranges, and each turn over them and over texts, does what the table says of the items.
 pub fn sequences_do_as_the_table()
-    ensures list_display { (store : RunStore) (answers : Answers) (items : List Contents)
-        → DoesAlone store (effect store answers (list_display items)) (sequences.list_display_is items) }
-    ensures tuple_display { (store : RunStore) (answers : Answers) (items : List Contents)
-        → DoesAlone store (effect store answers (tuple_display items)) (sequences.tuple_display_is items) }
     ensures unpack { (store : RunStore) (answers : Answers) (targets : ℕ) (parts : Parts)
         → DoesAlone store (effect store answers (unpack targets (tuple parts ∷ []))) (sequences.unpack_is targets (items_of parts)) }
     ensures next_of_tuple { (store : RunStore) (answers : Answers) (parts : Parts) (turn : ℕ) (begun : Contents)
@@ -210,6 +214,14 @@ pub fn sequences_do_as_the_table()
         → DoesAlone store (effect store answers (len_plan (tuple parts ∷ []))) (sequences.len_is (length (items_of parts))) }
     ensures len_of_range { (store : RunStore) (answers : Answers) (start end step : ℤ)
         → DoesAlone store (effect store answers (len_plan (range start end step ∷ []))) (sequences.len_is (range_count start end step)) }
+{}
+
+/// The law of displays and walks: a display makes a list, or is a tuple, of its operands, and so each that walks a sequence, of the items.
+pub fn walks_do_as_the_table()
+    ensures list_display { (store : RunStore) (answers : Answers) (items : List Contents)
+        → DoesAlone store (effect store answers (list_display items)) (sequences.list_display_is items) }
+    ensures tuple_display { (store : RunStore) (answers : Answers) (items : List Contents)
+        → DoesAlone store (effect store answers (tuple_display items)) (sequences.tuple_display_is items) }
     ensures list { (store : RunStore) (answers : Answers) (v : Contents) (items : List Contents) → HasItems store v items
         → DoesAlone store (effect store answers (list_builtin (v ∷ []))) (sequences.list_is items) }
     ensures tuple { (store : RunStore) (answers : Answers) (v : Contents) (items : List Contents) → HasItems store v items

@@ -4,9 +4,10 @@
 //! `specs/Reading.antt` says what an object of a store is as a value, and `specs/Results.antt` what it means that an effect does what the table
 //! says: the answer, what the object is afterwards as a value, and that nothing else changes. What is touched, in which order, the plans say.
 //!
-//! - [`lists_do_as_the_table`], [`members_are_found`], [`plain_lists_have_items`]: lists.
+//! - [`lists_do_as_the_table`], [`lists_are_read_as_the_table`], [`members_are_found`], [`plain_lists_have_items`]: lists.
 //! - [`dicts_do_as_the_table`], [`dicts_are_made`], [`attributes_do_as_the_table`]: dictionaries, and attributes of instances.
-//! - [`texts_do_as_the_table`], [`sequences_do_as_the_table`], [`numbers_do_as_the_table`]: texts, tuples, ranges, walks and numbers.
+//! - [`texts_do_as_the_table`], [`text_methods_do_as_the_table`]: texts; [`numbers_do_as_the_table`]: numbers.
+//! - [`sequences_do_as_the_table`], [`walks_do_as_the_table`]: tuples, ranges, displays, and what walks a sequence.
 //! - [`files_do_as_the_table`]: files.
 //!
 //! Operands of a wrong kind raise as the plans say. An operation has no equation where that would only repeat its plan:
@@ -19,6 +20,7 @@ mod laws;
 
 pub use laws::{
     attributes_do_as_the_table, dicts_are_made, dicts_do_as_the_table, files_do_as_the_table,
-    lists_do_as_the_table, numbers_do_as_the_table, plain_lists_have_items,
-    sequences_do_as_the_table, texts_do_as_the_table,
+    lists_are_read_as_the_table, lists_do_as_the_table, members_are_found, numbers_do_as_the_table,
+    plain_lists_have_items, sequences_do_as_the_table, text_methods_do_as_the_table,
+    texts_do_as_the_table, walks_do_as_the_table,
 };

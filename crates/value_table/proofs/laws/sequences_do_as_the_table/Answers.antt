@@ -1,6 +1,6 @@
 use Rattle.std.proofs.Common.{refl}
 use Rattle.value_table.proofs.laws.sequences_do_as_the_table.Goals as goal
-use Rattle.value_table.proofs.Alone.{tuple_item, range_item, tuple_slice, tuple_times, tuple_length, range_length, listed, tupled, sorted_does, enumerated, zipped, tuple_unpacked, list_displayed, tuple_next, text_next, range_next}
+use Rattle.value_table.proofs.Alone.{tuple_item, range_item, tuple_slice, tuple_times, tuple_length, range_length, tuple_unpacked, tuple_next, text_next, range_next}
 
 pub returns-clause-getitem : goal.returns-clause-getitem
 returns-clause-getitem c = λ store answers parts index i is. tuple_item store answers parts index i is
@@ -22,27 +22,6 @@ returns-clause-len c = tuple_length
 
 pub returns-clause-len_of_range : goal.returns-clause-len_of_range
 returns-clause-len_of_range c = range_length
-
-pub returns-clause-list : goal.returns-clause-list
-returns-clause-list c = listed
-
-pub returns-clause-tuple : goal.returns-clause-tuple
-returns-clause-tuple c = tupled
-
-pub returns-clause-sorted : goal.returns-clause-sorted
-returns-clause-sorted c = sorted_does
-
-pub returns-clause-enumerate : goal.returns-clause-enumerate
-returns-clause-enumerate c = enumerated
-
-pub returns-clause-zip : goal.returns-clause-zip
-returns-clause-zip c = λ store answers v w items more has other. zipped store answers v items has w more other
-
-pub returns-clause-list_display : goal.returns-clause-list_display
-returns-clause-list_display c = list_displayed
-
-pub returns-clause-tuple_display : goal.returns-clause-tuple_display
-returns-clause-tuple_display c = λ store answers items. record { answer_is = refl; made_is = refl; after_is = refl }
 
 pub returns-clause-unpack : goal.returns-clause-unpack
 returns-clause-unpack c = tuple_unpacked
