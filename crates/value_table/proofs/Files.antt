@@ -1,4 +1,6 @@
 -- Operations on files do what the table says.
+use Rattle.value_table.proofs.Lists.{last_is}
+use Rattle.prov_base.specs.Path.{is_path}
 use Rattle.std.proofs.Common.{◌≡◌, ◌↔◌, ℕ, ◌+◌, pos, Bool, true, false, if◌then◌else◌, List, [], ◌∷◌, ◌++◌, length, drop, Option, Some, None, unwrap_or, refl, sym, ap, subst, ◌∙◌, eq-eqb, codes}
 use Rattle.std.specs.Str.{is_utf8}
 use Rattle.py_value.specs.declared.access.Mode.{Mode}
@@ -8,14 +10,14 @@ use Rattle.py_value.specs.Contents.{nothing, int, text, object}
 use Rattle.py_value.specs.Same.{same_location}
 use Rattle.py_value.specs.Seen.{SeenLocation, SeenContent, SeenKind, a_file, offset_at, closed_at, file_at, offset_is, closed_is, file_is, bytes_appended, reads}
 use Rattle.py_model.specs.Effect.{Answers, accessed, touching, effect}
-use Rattle.py_model.specs.Faults.{wrong_kind, value_error}
-use Rattle.py_model.specs.Files.{to_be_read, taken, first_line, read_plan, readline_plan, write_plan, close_plan, is_closed_fault, wrong_mode, not_utf8}
+use Rattle.py_model.specs.Faults.{wrong_kind, value_error, fault, os_error}
+use Rattle.py_model.specs.Files.{to_be_read, taken, first_line, read_plan, readline_plan, write_plan, close_plan, is_closed_fault, wrong_mode, not_utf8, open_plan, open_to_write}
 use Rattle.py_model.specs.Plan.{Plan, write, change, done, kind_of, read_closed, read_offset, read_file, counts, writes}
 use Rattle.py_model.specs.Store.{RunStore, file_of, offset_of, closed_of}
 use Rattle.py_model.specs.Texts.{size}
 use Rattle.value_table.specs.Reading.{FileValue, IsFile, is_of_file}
 use Rattle.value_table.specs.Results.{Result, leaves, throws, DoesToFile}
-use Rattle.value_table.specs.TableFiles.{if_read, if_written, taken_is, read_is, readline_is, write_is, close_is}
+use Rattle.value_table.specs.TableFiles.{if_read, if_written, taken_is, read_is, readline_is, write_is, close_is, MakesFile, emptied}
 use Rattle.value_table.proofs.Effects.{does_as, ends}
 use Rattle.value_table.proofs.Standing.{set}
 
@@ -185,3 +187,17 @@ module _ (tested : PlacesTested) (store : RunStore) (answers : Answers) (o : ℕ
       elsewhere : (l : SeenLocation) → is_of_file o file.path l ≡ false → (set (closed_at o) (closed_is true) store).at l ≡ store.at l
       elsewhere (closed_at p) apart = ap (λ b. if b then Some (closed_is true) else store.at (closed_at p)) apart
       elsewhere l apart = refl
+
+-- a file that is opened for writing
+module _ (tested : PlacesTested) (store : RunStore) (answers : Answers) where
+  pub opened_to_write : (path : List ℕ) → is_path path ≡ true → MakesFile store (effect store answers (open_plan (text path ∷ text (codes "w") ∷ []))) (emptied path)
+  opened_to_write path is = subst (λ (b : Bool). MakesFile store (effect store answers (if b then open_to_write path else fault os_error (codes "bad path"))) (emptied path)) (sym is) (record {
+    answer_is = refl;
+    made_is = refl;
+    is_file = record {
+      kind_is = last_is store.kinds (a_file path Write);
+      bytes_are = ap (λ b. unwrap_or (file_in (if b then Some (file_is []) else store.at (file_at path))) []) ((tested (file_at path) (file_at path)).1 refl);
+      offset_is = ap (λ b. offset_in (if b then Some (offset_is 0) else store.at (offset_at (length store.kinds)))) (eq-eqb (length store.kinds) (length store.kinds) refl);
+      closed_is = ap (λ b. closed_in (if b then Some (closed_is false) else store.at (closed_at (length store.kinds)))) (eq-eqb (length store.kinds) (length store.kinds) refl);
+    };
+  })

@@ -1,14 +1,19 @@
 -- The table of operations on files (The Python Standard Library, "io", in this project's profile): each over the bytes at the path and the
--- offset. Files are read in mode `'r'` and written in the others. `open`, and the next line in a `for`, are as their plans say.
-use Rattle.std.specs.Prelude.{ℕ, ◌+◌, pos, Bool, true, false, List, [], ◌∷◌, ◌++◌, length, drop, codes, if◌then◌else◌}
+-- offset. Files are read in mode `'r'` and written in the others. `open` with `'r'` and `'a'`, and the next line in a `for`, are as
+-- their plans say.
+use Rattle.py_model.specs.Store.{RunStore}
+use Rattle.py_model.specs.Plan.{value}
+use Rattle.py_model.specs.Effect.{Effect, answered, after}
+use Rattle.py_value.specs.Seen.{a_file}
+use Rattle.std.specs.Prelude.{ℕ, ◌+◌, pos, Bool, true, false, List, [], ◌∷◌, ◌++◌, length, drop, codes, if◌then◌else◌, ◌≡◌, Some}
 use Rattle.std.specs.Str.{is_utf8}
 use Rattle.py_value.specs.declared.access.Mode.{Mode}
-use Rattle.py_value.specs.declared.access.Mode.TheVariants.{Read}
-use Rattle.py_value.specs.Contents.{nothing, int, text}
+use Rattle.py_value.specs.declared.access.Mode.TheVariants.{Read, Write}
+use Rattle.py_value.specs.Contents.{nothing, int, text, object}
 use Rattle.py_model.specs.Faults.{value_error, os_error}
 use Rattle.py_model.specs.Files.{first_line}
 use Rattle.py_model.specs.Texts.{size}
-use Rattle.value_table.specs.Reading.{FileValue}
+use Rattle.value_table.specs.Reading.{FileValue, IsFile}
 use Rattle.value_table.specs.Results.{Result, leaves, throws}
 
 -- what a file that is closed, or was opened for the other, raises
@@ -49,3 +54,13 @@ write_is file more = if_written file.mode file.is_closed (leaves (int (pos (size
 -- 108 close (S Closed): it is closed
 abbrev pub close_is : FileValue → Result FileValue
 close_is file = leaves nothing (record file { is_closed = true })
+
+-- a file is made, the next object, and is the answer
+pub record MakesFile (store : RunStore) (e : Effect) (file : FileValue) : Type 0 where
+  pub answer_is : e.outcome ≡ answered (value (object (length store.kinds)))
+  pub made_is : e.made ≡ Some (a_file file.path file.mode)
+  pub is_file : IsFile (after e store) (length store.kinds) file
+
+-- 62 open with `'w'` (S File, S Offset, S Closed): an empty file
+abbrev pub emptied : List ℕ → FileValue
+emptied path = record { path = path; mode = Write; bytes = []; offset = 0; is_closed = false }

@@ -1,9 +1,11 @@
 // Laws of the table in terms of values, each a function without a body that says it.
+ghost use Rattle.value_table.specs.TableFiles.{MakesFile};
+ghost use Rattle.prov_base.specs.Path.{is_path};
 ghost use Rattle.py_model.specs.Texts.{characters};
 ghost use Rattle.value_table.specs.Equality.{IsEqual, StandsAt};
 ghost use Rattle.std.specs.Str.{bytes_eq};
-ghost use Rattle.py_model.specs.Files.{read_plan, readline_plan, write_plan, close_plan, next_line};
-ghost use Rattle.std.specs.Prelude.{◌≡◌, ℕ, ℤ, List, [], ◌∷◌, Option, Some, None, map, length, true, false, pos};
+ghost use Rattle.py_model.specs.Files.{read_plan, readline_plan, write_plan, close_plan, next_line, open_plan};
+ghost use Rattle.std.specs.Prelude.{◌≡◌, ℕ, ℤ, List, [], ◌∷◌, Option, Some, None, map, length, true, false, pos, codes};
 ghost use Rattle.py_value.specs.Contents.{Contents, Parts, nothing, object, range, text, tuple, int};
 ghost use Rattle.py_value.specs.KeyOf.{key_fault};
 ghost use Rattle.py_model.specs.Arithmetic.{add_plan, in_plan, iadd_plan, len_plan, mul_plan, neg_plan, pos_plan, abs_plan, sub_plan, floor_div_plan, mod_plan, truth_plan, not_plan, not_in_plan};
@@ -298,6 +300,14 @@ pub fn dicts_are_made()
     ensures display { (store : RunStore) (answers : Answers) (items : List Contents) → HasNoNext store → HasUsableKeys items
         → MakesDict store (effect store answers (dict_display items)) (display_pairs items []) }
     ensures empty { (store : RunStore) (answers : Answers) → HasNoNext store → MakesDict store (effect store answers (dict_builtin [])) [] }
+{
+    tests_are_equality();
+}
+
+/// The law of opened files: `open` for writing at a path makes an empty file that is not closed.
+pub fn files_are_opened()
+    ensures { (store : RunStore) (answers : Answers) (path : List ℕ) → is_path path ≡ true
+        → MakesFile store (effect store answers (open_plan (text path ∷ (text (codes "w") ∷ [])))) (files.emptied path) }
 {
     tests_are_equality();
 }

@@ -8,12 +8,12 @@
 //! - [`dicts_do_as_the_table`], [`dicts_are_made`], [`attributes_do_as_the_table`]: dictionaries, and attributes of instances.
 //! - [`texts_do_as_the_table`], [`text_methods_do_as_the_table`]: texts; [`numbers_do_as_the_table`]: numbers.
 //! - [`sequences_do_as_the_table`], [`walks_do_as_the_table`]: tuples, ranges, displays, and what walks a sequence.
-//! - [`files_do_as_the_table`]: files.
+//! - [`files_do_as_the_table`], [`files_are_opened`]: files.
 //!
 //! Operands of a wrong kind raise as the plans say. An operation has no equation where that would only repeat its plan:
 //! - constants, names, binding, `give`, `is`, calls, classes and methods, exceptions, imports, `with` and `assert`;
 //! - comparisons, `max`, `min` and `sum`, whose walks are definitions already; `in` of a range;
-//! - `chr`, `ord`, `int`, `range`, `isinstance`, `print`, `repr`, `str`; `open`, `input` and the next line of a file; the modules.
+//! - `chr`, `ord`, `int`, `range`, `isinstance`, `print`, `repr`, `str`; `open` but for writing, `input` and the next line of a file; the modules.
 #![tactic(auto)]
 
 mod laws;
