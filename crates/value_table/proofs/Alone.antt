@@ -1,10 +1,10 @@
 -- Operations that change no object do what the table says: on texts, tuples, ranges and numbers, and those that walk a sequence.
-use Rattle.py_model.specs.Files.{next_line}
 use Rattle.std.proofs.Common.{◌≡◌, ℕ, zero, suc, ◌-◌, ℤ, pos, negsuc, ◌+ℤ◌, ◌-ℤ◌, ◌*ℤ◌, Bool, true, false, if◌then◌else◌, List, [], ◌∷◌, ◌++◌, map, length, slice_get, take, drop, Option, Some, None, unwrap_or, refl, sym, ap, subst, ◌∙◌, codes, ◌==◌, nat_lt}
 use Rattle.std.specs.Prelude.{neg_ℤ}
 use Rattle.std.specs.Ordering.{int_eq}
 use Rattle.py_value.specs.Contents.{Contents, Parts, truth, int, text, tuple, range}
 use Rattle.py_value.specs.Seen.{SeenLocation, a_list}
+use Rattle.py_model.specs.Files.{next_line}
 use Rattle.py_model.specs.Arithmetic.{neg_plan, pos_plan, abs_plan, add_plan, sub_plan, mul_plan, repeats, divided, floor_div_plan, mod_plan, len_plan}
 use Rattle.py_model.specs.Dicts.{paired}
 use Rattle.py_model.specs.Effect.{Effect, Answers, effect, parts_of}

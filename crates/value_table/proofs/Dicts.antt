@@ -1,7 +1,6 @@
 -- Operations on dictionaries, and on attributes of instances, do what the table says.
-use Rattle.py_model.specs.Files.{next_line}
-use Rattle.std.specs.Ordering.{int_eq}
 use Rattle.std.proofs.Common.{◌≡◌, ℕ, suc, ℤ, pos, Bool, true, false, ◌&&◌, if◌then◌else◌, List, [], ◌∷◌, map, length, slice_get, Option, Some, None, is_some, unwrap_or, refl, sym, ap, subst, ◌∙◌, eq-eqb, codes, not, ◌==◌}
+use Rattle.std.specs.Ordering.{int_eq}
 use Rattle.std.specs.Option.{option_map}
 use Rattle.py_value.specs.Changes.{with_key, without_key, changed}
 use Rattle.py_value.specs.Contents.{Contents, nothing, truth, int, text, tuple, object, no_parts, part}
@@ -10,6 +9,7 @@ use Rattle.py_value.specs.declared.key.KeyFault.TheVariants.{NoKey, TooDeep}
 use Rattle.py_value.specs.KeyOf.{normal, key_fault}
 use Rattle.py_value.specs.Same.{same_value}
 use Rattle.py_value.specs.Seen.{SeenLocation, SeenContent, SeenKind, a_list, a_dict, an_instance, entry_at, order_at, entry_is, order_is, key_inserted, key_deleted, reads}
+use Rattle.py_model.specs.Files.{next_line}
 use Rattle.py_model.specs.Arithmetic.{in_plan, len_plan, among_items, truth_of, truth_plan, not_plan, not_in_plan}
 use Rattle.py_model.specs.Classes.{getattr, setattr, find, setattr_of_object, getattr_of_object, find_of_object, no_method_value, class_attribute, method_found}
 use Rattle.py_model.specs.Dicts.{with_pair, when_dict, value_or, read_entries, paired, get_method, items_method, keys_method, values_method}

@@ -1,8 +1,7 @@
 -- Operations on files do what the table says.
-use Rattle.value_table.proofs.Lists.{last_is}
-use Rattle.prov_base.specs.Path.{is_path}
 use Rattle.std.proofs.Common.{◌≡◌, ◌↔◌, ℕ, ◌+◌, pos, Bool, true, false, if◌then◌else◌, List, [], ◌∷◌, ◌++◌, length, drop, Option, Some, None, unwrap_or, refl, sym, ap, subst, ◌∙◌, eq-eqb, codes}
 use Rattle.std.specs.Str.{is_utf8}
+use Rattle.prov_base.specs.Path.{is_path}
 use Rattle.py_value.specs.declared.access.Mode.{Mode}
 use Rattle.py_value.specs.declared.access.Mode.TheVariants.{Read, Write, Append}
 use Rattle.py_value.specs.Changes.{changed}
@@ -18,6 +17,7 @@ use Rattle.py_model.specs.Texts.{size}
 use Rattle.value_table.specs.Reading.{FileValue, IsFile, is_of_file}
 use Rattle.value_table.specs.Results.{Result, leaves, throws, DoesToFile}
 use Rattle.value_table.specs.TableFiles.{if_read, if_written, taken_is, read_is, readline_is, write_is, close_is, MakesFile, emptied}
+use Rattle.value_table.proofs.Lists.{last_is}
 use Rattle.value_table.proofs.Effects.{does_as, ends}
 use Rattle.value_table.proofs.Standing.{set}
 

@@ -1,12 +1,10 @@
 -- Values that are equal, and a value among the items of a list.
-use Rattle.value_table.proofs.Standing.{stand_at}
-use Rattle.py_model.specs.Files.{next_line}
-use Rattle.std.proofs.lemmas.Option.{slice_get_past}
-use Rattle.value_table.specs.TableLists.{truth_is, not_is, unpack_is, iter_is, next_is, item_or_end, item_in}
 use Rattle.std.proofs.Common.{◌≡◌, ◌<◌, ◌≤◌, ℕ, zero, suc, ◌+◌, ℤ, pos, negsuc, Bool, true, false, not, ◌==◌, nat_lt, if◌then◌else◌, List, [], ◌∷◌, length, slice_get, Option, Some, None, is_some, unwrap_or, refl, sym, ap, subst, ◌∙◌, arith, leb-true, leb-false, eq-eqb, codes}
+use Rattle.std.proofs.lemmas.Option.{slice_get_past}
 use Rattle.std.specs.Str.{bytes_eq}
 use Rattle.py_value.specs.Contents.{Contents, nothing, truth, int, text, object, tuple, Parts, no_parts, part}
 use Rattle.py_value.specs.Seen.{SeenKind, a_list, item_at, reads}
+use Rattle.py_model.specs.Files.{next_line}
 use Rattle.py_model.specs.Arithmetic.{in_plan, among_items, truth_of, truth_plan, not_plan, not_in_plan, among_parts}
 use Rattle.py_model.specs.Effect.{Answers, accessed, touching, effect, parts_of}
 use Rattle.py_model.specs.Faults.{value_error}
@@ -15,9 +13,11 @@ use Rattle.py_model.specs.Operands.{number_in, gives_truth}
 use Rattle.py_model.specs.Plan.{Plan, done, kind_of, read_len, writes, ends, looks}
 use Rattle.py_model.specs.Store.{RunStore, item_of}
 use Rattle.py_model.specs.Walks.{equals, is_alike, by_number, number_of, alike, before, behind, read_items, read_value, items_of}
+use Rattle.value_table.specs.TableLists.{truth_is, not_is, unpack_is, iter_is, next_is, item_or_end, item_in}
 use Rattle.value_table.specs.Equality.{ComesTo, IsEqual, StandsAt, in_is, index_is, not_in_is}
 use Rattle.value_table.specs.Reading.{Stand, IsList, is_of}
 use Rattle.value_table.specs.Results.{Result, leaves, throws, Does, Gives, DoesAlone}
+use Rattle.value_table.proofs.Standing.{stand_at}
 use Rattle.value_table.proofs.Dicts.{contained_by}
 use Rattle.value_table.proofs.Effects.{does_as, stays, does_same, items_read}
 use Rattle.value_table.proofs.Lists.{by_length, truth_by}

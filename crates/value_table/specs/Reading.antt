@@ -1,8 +1,8 @@
 -- What objects of a store are as values (The Python Language Reference 3, section 3.2): a list is its items, a dictionary its
 -- pairs of key and value in order, an instance its attributes, a file its bytes and its offset.
-use Rattle.py_value.specs.declared.access.Mode.{Mode}
 use Rattle.std.specs.Str.{bytes_eq}
 use Rattle.std.specs.Prelude.{◌≡◌, ◌<◌, ⊤, ℕ, zero, suc, Bool, true, false, ◌==◌, List, [], ◌∷◌, map, length, slice_get, Option, Some, None, if◌then◌else◌, is_some, unwrap_or, ◌⊎◌}
+use Rattle.py_value.specs.declared.access.Mode.{Mode}
 use Rattle.py_value.specs.Contents.{Contents, nothing, text, tuple, range, object}
 use Rattle.py_value.specs.Seen.{SeenLocation, a_list, a_dict, an_instance, len_at, item_at, entry_at, order_at, offset_at, closed_at, a_file, file_at}
 use Rattle.py_value.specs.KeyOf.{normal}

@@ -1,16 +1,16 @@
 -- The table of operations on dictionaries and on attributes of instances (The Python Language Reference 3, sections 3.2, 6.2.7 and 6.3, and
 -- The Python Standard Library, "Mapping Types"): each over the pairs of key and value in order. The key is one that is usable as a key.
+use Rattle.std.specs.Ordering.{int_eq}
+use Rattle.std.specs.Prelude.{ℕ, pos, List, [], ◌∷◌, map, length, Option, Some, None, is_some, if◌then◌else◌, unwrap_or, not, ◌==◌, slice_get, codes, ◌≡◌, ⊤, ◌++◌, false}
+use Rattle.std.specs.Option.{option_map}
+use Rattle.py_value.specs.Seen.{SeenLocation, a_dict}
+use Rattle.py_value.specs.Contents.{Contents, nothing, truth, tuple, text, no_parts, part, int, object}
+use Rattle.py_value.specs.KeyOf.{normal, key_fault}
+use Rattle.py_value.specs.Same.{same_value}
 use Rattle.py_model.specs.Walks.{deepest}
 use Rattle.py_model.specs.Store.{RunStore, entry_of}
 use Rattle.py_model.specs.Plan.{value}
 use Rattle.py_model.specs.Effect.{Effect, answered, after}
-use Rattle.py_value.specs.Seen.{SeenLocation, a_dict}
-use Rattle.std.specs.Ordering.{int_eq}
-use Rattle.std.specs.Prelude.{ℕ, pos, List, [], ◌∷◌, map, length, Option, Some, None, is_some, if◌then◌else◌, unwrap_or, not, ◌==◌, slice_get, codes, ◌≡◌, ⊤, ◌++◌, false}
-use Rattle.std.specs.Option.{option_map}
-use Rattle.py_value.specs.Contents.{Contents, nothing, truth, tuple, text, no_parts, part, int, object}
-use Rattle.py_value.specs.KeyOf.{normal, key_fault}
-use Rattle.py_value.specs.Same.{same_value}
 use Rattle.py_model.specs.Dicts.{with_pair}
 use Rattle.py_model.specs.Faults.{key_error, runtime_error}
 use Rattle.value_table.specs.Reading.{pair_of, IsDict, is_of}

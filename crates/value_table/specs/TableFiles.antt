@@ -1,15 +1,15 @@
 -- The table of operations on files (The Python Standard Library, "io", in this project's profile): each over the bytes at the path and the
 -- offset. Files are read in mode `'r'` and written in the others. `open` with `'r'` and `'a'`, and the next line in a `for`, are as
 -- their plans say.
-use Rattle.py_model.specs.Store.{RunStore}
-use Rattle.py_model.specs.Plan.{value}
-use Rattle.py_model.specs.Effect.{Effect, answered, after}
-use Rattle.py_value.specs.Seen.{a_file}
 use Rattle.std.specs.Prelude.{ℕ, ◌+◌, pos, Bool, true, false, List, [], ◌∷◌, ◌++◌, length, drop, codes, if◌then◌else◌, ◌≡◌, Some}
 use Rattle.std.specs.Str.{is_utf8}
+use Rattle.py_value.specs.Seen.{a_file}
 use Rattle.py_value.specs.declared.access.Mode.{Mode}
 use Rattle.py_value.specs.declared.access.Mode.TheVariants.{Read, Write}
 use Rattle.py_value.specs.Contents.{nothing, int, text, object}
+use Rattle.py_model.specs.Store.{RunStore}
+use Rattle.py_model.specs.Plan.{value}
+use Rattle.py_model.specs.Effect.{Effect, answered, after}
 use Rattle.py_model.specs.Faults.{value_error, os_error}
 use Rattle.py_model.specs.Files.{first_line}
 use Rattle.py_model.specs.Texts.{size}

@@ -1,8 +1,8 @@
 -- The table of operations on lists (The Python Language Reference 3, sections 6.3, 6.7 and 7.2, and The Python Standard Library, "Sequence
 -- Types"): each over the items of the list. Indexes below 0 count from the end, and the bounds of a slice are clipped.
-use Rattle.py_model.specs.Effect.{parts_of}
 use Rattle.std.specs.Prelude.{ℕ, suc, ◌-◌, ℤ, pos, negsuc, List, [], ◌∷◌, ◌++◌, length, slice_get, take, drop, reverse, Option, Some, None, codes, unwrap_or, if◌then◌else◌, not, ◌==◌}
 use Rattle.py_value.specs.Contents.{Contents, nothing, truth, int, text, object, tuple}
+use Rattle.py_model.specs.Effect.{parts_of}
 use Rattle.py_model.specs.Arithmetic.{repeated}
 use Rattle.py_model.specs.Faults.{index_error, overflow, value_error}
 use Rattle.py_model.specs.Numbers.{is_int}

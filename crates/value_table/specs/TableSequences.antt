@@ -1,8 +1,8 @@
 -- The table of operations on tuples and ranges, and of those that walk a sequence (The Python Language Reference 3, sections 6.2.3 and 6.3,
 -- and The Python Standard Library, "Sequence Types" and "Built-in Functions"): each over the items, or the numbers of a range.
-use Rattle.py_model.specs.Faults.{value_error}
 use Rattle.std.specs.Prelude.{ℕ, ◌-◌, ℤ, pos, List, [], ◌∷◌, ◌++◌, length, take, drop, Option, ◌==◌, if◌then◌else◌, codes, slice_get, nat_lt}
 use Rattle.py_value.specs.Contents.{Contents, tuple, text}
+use Rattle.py_model.specs.Faults.{value_error}
 use Rattle.py_model.specs.Arithmetic.{repeated}
 use Rattle.py_model.specs.Dicts.{paired}
 use Rattle.py_model.specs.Effect.{parts_of}
