@@ -30,3 +30,4 @@ mod Values
 mod SilentRules
 mod Bareness
 mod Activations
+mod FunctionsLeft

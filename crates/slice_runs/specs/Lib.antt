@@ -5,3 +5,4 @@ pub mod Simulation
 pub mod Owned
 pub mod Atomic
 pub mod Bare
+pub mod Cut

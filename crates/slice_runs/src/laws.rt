@@ -36,6 +36,9 @@ ghost use Rattle.py_model.specs.Occurrences.{up_to_evaluation};
 ghost use Rattle.std.specs.Prelude.{[]};
 ghost use Rattle.py_model.specs.Graph.{names_in};
 ghost use Rattle.slice_runs.specs.Bare.{BareSuite};
+ghost use Rattle.py_tree.specs.Deletion.{deleted};
+ghost use Rattle.py_model.specs.Functions.{functions_in, function_at};
+ghost use Rattle.slice_runs.specs.Cut.{CutFunctions, FoundCut};
 
 use py_model::{
     corresponding_operands_have_alike_plans, few_operations_ask, few_operations_note,
@@ -193,3 +196,10 @@ pub fn slices_of_bare_scripts_reproduce()
     few_operations_note();
     values_are_reproduced();
 }
+
+/// The law of the functions of a slice: they are functions of the script, in their order, each with its parameters, its globals and what is kept
+/// of its suite. So the function at a place of the slice is the one at that place of the script, or there is none.
+pub fn slices_have_functions_of_the_script()
+    ensures functions { (script : ScriptTree) (keep : StmtSet) → CutFunctions keep (functions_in script.body) (functions_in (deleted keep script).body) }
+    ensures found { (script : ScriptTree) (keep : StmtSet) (place : Pos) → IsWellFormed script → FoundCut keep (function_at script place) (function_at (deleted keep script) place) }
+{}

@@ -15,6 +15,6 @@ mod laws;
 pub use laws::{
     accesses_keep_correspondence, atomic_values_are_reproduced, deleted_moments_keep_the_relation,
     kept_moments_are_done_again, objects_of_both_runs_correspond, renaming_keeps_equality,
-    slices_of_bare_scripts_reproduce, slices_reach_the_evaluation, slices_simulate,
-    values_are_reproduced,
+    slices_have_functions_of_the_script, slices_of_bare_scripts_reproduce,
+    slices_reach_the_evaluation, slices_simulate, values_are_reproduced,
 };
