@@ -31,3 +31,4 @@ mod SilentRules
 mod Bareness
 mod Activations
 mod FunctionsLeft
+mod KeptCalls
