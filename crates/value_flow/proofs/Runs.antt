@@ -19,8 +19,9 @@ use Rattle.py_model.specs.Plan.{Answer}
 use Rattle.py_model.specs.Running.{State, spent, lacking, state_in, Happened, did, too_dear, lacked, note, method_found, walked, performed, happened, effect_of, operation, outcome, beginning, entering, askings_at}
 use Rattle.py_model.specs.Store.{RunStore, method_of, opening, with_items, with_files, unset}
 use Rattle.value_flow.proofs.Every.{every_sound}
-use Rattle.value_flow.proofs.Rules.{IsAmong, AllPlaces, Knows, kn_ret, kn_stop, kn_perform, kn_begin, kn_close, kn_enter, kn_leave, suite_k, levels_k, found_known}
+use Rattle.value_flow.proofs.Rules.{IsAmong, AllPlaces, suite_k, levels_k, found_known}
 use Rattle.value_flow.proofs.Stores.{put_known, method_read, store_stays_known, answer_is_known}
+use Rattle.value_flow.specs.Knows.{Knows, kn_ret, kn_stop, kn_perform, kn_begin, kn_close, kn_enter, kn_leave}
 use Rattle.value_flow.specs.Defined.{defined_suite, defines}
 use Rattle.value_flow.specs.Flow.{KnownAll, KnownKind, KnownPlace, KnownFound, KnownStore, KnownAnswer, KnownOutcome}
 
@@ -164,12 +165,17 @@ module _ (known : Pos → Bool) where
       first_kind zero = tt
       first_kind (suc o) = tt
 
-pub run_defined : (script : ScriptTree) (capture : Capture) (path : List ℕ) (arguments : List (List ℕ)) (steps : ℕ)
-    → KnownStore (defines script) (state_in (outcome capture (meaning script steps) (starting capture path arguments steps))).store
-run_defined script capture path arguments steps =
-    run_known (defines script) capture
-    (suite_k (defines script) script (found_known (defines script) script every) (level script (suc steps)) (levels_k (defines script) script (found_known (defines script) script every) (suc steps)) at_start tt script.body every)
-    (starting capture path arguments steps) (opening_known (defines script) path arguments (with_bytes capture.files))
+pub meaning_knows : (script : ScriptTree) (steps : ℕ) → Knows (defines script) (meaning script steps)
+meaning_knows script steps =
+    suite_k (defines script) script (found_known (defines script) script every) (level script (suc steps)) (levels_k (defines script) script (found_known (defines script) script every) (suc steps)) at_start tt script.body every
   where
     every : AllPlaces (defines script) (defined_suite script.body)
     every = record { each = λ place there. among_any (defined_suite script.body) place there }
+
+pub run_defined : (script : ScriptTree) (capture : Capture) (path : List ℕ) (arguments : List (List ℕ)) (steps : ℕ)
+    → KnownStore (defines script) (state_in (outcome capture (meaning script steps) (starting capture path arguments steps))).store
+run_defined script capture path arguments steps =
+    run_known (defines script) capture (meaning_knows script steps) (starting capture path arguments steps) (opening_known (defines script) path arguments (with_bytes capture.files))
+
+pub methods_are_known : (known : Pos → Bool) (store : RunStore) (accesses : List SeenAccess) → KnownStore known store → KnownPlace known (method_found store accesses None)
+methods_are_known known store accesses is = method_known known store is accesses None tt

@@ -1,3 +1,4 @@
+use Rattle.value_flow.proofs.Runs.{methods_are_known}
 use Rattle.value_flow.proofs.Stores.{store_stays_known, answer_is_known}
 use Rattle.value_flow.proofs.laws.effects_keep_stores_known.Goals as goal
 
@@ -6,3 +7,6 @@ returns-clause-store c = store_stays_known
 
 pub returns-clause-answer : goal.returns-clause-answer
 returns-clause-answer c = answer_is_known
+
+pub returns-clause-method : goal.returns-clause-method
+returns-clause-method c = methods_are_known
