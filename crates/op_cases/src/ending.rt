@@ -61,6 +61,23 @@ fn closed<C: Console>(
     Ok(next)
 }
 
+/// What a doer holds, whose source is let go.
+fn held_of<S: Source + Drop>(parts: Parts<S>) -> Held {
+    let (held, _source) = parts.finish();
+    held
+}
+
+/// Writes the row that begins anew, if there is one, behind which the doer is let go.
+fn ended<C: Console, S: Source + Drop>(
+    alloc: Global,
+    console: &mut C,
+    parts: Parts<S>,
+    next: Result<Option<Bytes>, Trouble>,
+) -> Result<Option<Bytes>, Trouble> {
+    let held = held_of(parts);
+    closed(alloc, console, &held, next)
+}
+
 /// Answers rows, and writes the one that begins anew, which it gives back.
 fn over<C: Console, S: Source + Drop>(
     alloc: Global,
@@ -68,8 +85,7 @@ fn over<C: Console, S: Source + Drop>(
     mut parts: Parts<S>,
 ) -> Result<Option<Bytes>, Trouble> {
     let next = answer_rows(alloc, console, &mut parts);
-    let (held, _source) = parts.finish();
-    closed(alloc, console, &held, next)
+    ended(alloc, console, parts, next)
 }
 
 /// Answers rows with a doer over a source.
