@@ -18,7 +18,7 @@ use Rattle.py_tree.specs.declared.stmt.Form.TheFolds.{fold-roll-Form}
 use Rattle.py_tree.specs.Erasure.{form_of, form_step, branches_step, handlers_step, stmt_step, suite_step, stmt_of, suite_of, suite_list}
 use Rattle.py_tree.specs.Tree.{StmtTree, FormTree, SuiteTree, BranchesTree, HandlersTree, one_stmt, def_form, class_form, end_suite, more_suite}
 use Rattle.py_tree.proofs.StmtTrees.{def_tree}
-use Rattle.py_model.specs.Functions.{Function, functions_in, functions_of, functions_at, first_placed}
+use Rattle.py_tree.specs.Functions.{Function, functions_in, functions_of, functions_at, first_placed}
 use Rattle.local_names.specs.Scopes.{numbered_in, numbered_by, numbered_at}
 use Rattle.called_functions.specs.Finding.{Def, defs_in, defs_of, defs_at, first_def}
 

@@ -4,7 +4,7 @@ use Rattle.prov_base.specs.declared.place.Pos.{Pos}
 use Rattle.prov_base.specs.contracts.place.PosPartialEq.TheImpl.{ghosts as places}
 use Rattle.py_tree.specs.Erasure.{suite_of}
 use Rattle.py_tree.specs.Tree.{StmtTree, FormTree, SuiteTree, ScriptTree, one_stmt, def_form, class_form, end_suite, more_suite}
-use Rattle.py_model.specs.Functions.{Function, function_at}
+use Rattle.py_tree.specs.Functions.{Function, function_at}
 use Rattle.local_names.specs.Scopes.{function_in}
 use Rattle.called_functions.specs.declared.finding.Found.{Found}
 use Rattle.called_functions.specs.declared.finding.Key.{Key}

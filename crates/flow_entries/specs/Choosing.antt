@@ -5,7 +5,7 @@ use Rattle.py_tree.specs.Tree.{ScriptTree}
 use Rattle.py_value.specs.Contents.{Contents, int}
 use Rattle.py_model.specs.Act.{Act}
 use Rattle.py_model.specs.Expressions.{Here, Task, calling_function, failing}
-use Rattle.py_model.specs.Functions.{function_at}
+use Rattle.py_tree.specs.Functions.{function_at}
 use Rattle.local_names.specs.Scopes.{function_in}
 use Rattle.called_functions.specs.Finding.{found_function}
 use Rattle.called_functions.specs.declared.finding.Found.{Found}

@@ -8,7 +8,7 @@ use Rattle.py_tree.specs.Tree.{ExprTree, FormTree, SuiteTree, BranchesTree, Hand
 use Rattle.py_value.specs.Contents.{Contents, Parts, nothing, function, object}
 use Rattle.py_model.specs.Act.{Act, How, ret, close, to, ending, normal, broke, returned, threw}
 use Rattle.py_model.specs.Expressions.{Here, Task, while_again, for_again, by_truth, doing, walking, failing, wrong_arguments, op, op_named, op_scoped, left_with, calling_function, eval}
-use Rattle.py_model.specs.Functions.{expr_place, function_at}
+use Rattle.py_tree.specs.Functions.{expr_place, function_at}
 use Rattle.py_model.specs.Operations.{Op}
 use Rattle.py_model.specs.Statements.{suite, augmented_number, parts_in, rest_of, store, store_all, choose, otherwise, handle, caught, turned, then_so, binding, unbinding, handling, in_class_of, failed_assert, while_turn, for_turn, class_body}
 use Rattle.interp_eval.specs.Machine.{Machine, Want, wanted_op, machine, node, gives_one, node_for, remains}

@@ -10,7 +10,7 @@ use Rattle.py_tree.specs.Tree.{SuiteTree}
 use Rattle.py_value.specs.Contents.{Contents, truth}
 use Rattle.py_model.specs.Act.{Act, ret, normal}
 use Rattle.py_model.specs.Expressions.{Here, Task, by_truth, doing, op, eval}
-use Rattle.py_model.specs.Functions.{expr_place}
+use Rattle.py_tree.specs.Functions.{expr_place}
 use Rattle.py_model.specs.Statements.{rule, choose, otherwise, suite}
 use Rattle.interp_eval.specs.Machine.{is_true}
 use Rattle.flow_parts.specs.Machine.{Stage, Part, part, valued, tested, then_act, from_test, branches_from, first_test, first_suite, others, test_act, answered, test_of, when_true, when_false}

@@ -7,7 +7,7 @@ ghost use Rattle.py_value.specs.Contents.{contents};
 ghost use Rattle.py_value.specs.Values.{ValuesView};
 ghost use Rattle.py_model.specs.Act.{Act};
 ghost use Rattle.py_model.specs.Expressions.{Here, Task};
-ghost use Rattle.py_model.specs.Functions.{expr_place};
+ghost use Rattle.py_tree.specs.Functions.{expr_place};
 ghost use Rattle.py_model.specs.Statements.{defining, otherwise, raised_value, rule, unset};
 ghost use Rattle.interp_eval.specs.declared.frames.Scope.{Scope as OneScope};
 ghost use Rattle.flow_parts.specs.Held.{IsHeldClass, IsHeldNow};

@@ -8,7 +8,7 @@ use Rattle.py_tree.specs.declared.expr.LogicOp.TheVariants.{And as Both, Or as E
 use Rattle.py_value.specs.Contents.{Contents, Parts, nothing, truth, int, text, tuple, range, function, class, exception_class, builtin, object}
 use Rattle.py_model.specs.Act.{Act, How, Walked, ret, perform, enter, leave, to, normal, broke, continued, returned, threw}
 use Rattle.py_model.specs.Expressions.{Here, Task, body_of, by_answer, by_truth, doing, walking, failing, asking_truth, op, op_named, takes_so_many, function_arities, method_arities, not_callable, wrong_arguments, too_many_open, left_with, inside, running, calling_function, giving, without_init, initialising, calling_class, calling_builtin, calling_method, calling, with_receiver, calling_attribute, eval, eval_maybe, eval_all, eval_pairs}
-use Rattle.py_model.specs.Functions.{Function, expr_place, function_at}
+use Rattle.py_tree.specs.Functions.{Function, expr_place, function_at}
 use Rattle.py_model.specs.Operations.{Op}
 use Rattle.py_model.specs.Plan.{Answer, value, raised, at_end}
 use Rattle.py_model.specs.Statements.{first_of, parts_in, rest_of, store, store_all}

@@ -7,7 +7,7 @@ use Rattle.py_tree.specs.declared.expr.LogicOp.TheVariants.{And as Both, Or as E
 use Rattle.py_value.specs.Contents.{Contents, nothing, truth, int, function, class, exception_class, builtin, object}
 use Rattle.py_model.specs.Act.{Act, Walked, perform, ret, normal}
 use Rattle.py_model.specs.Expressions.{Here, Task, op, op_named, op_scoped, op_of, by_answer, by_truth, doing, walking, unary_number, binary_number, compare_number, constant, failing, not_callable, takes_so_many, function_arities, method_arities, giving, calling, calling_method, calling_attribute, eval, eval_maybe, eval_all}
-use Rattle.py_model.specs.Functions.{expr_place}
+use Rattle.py_tree.specs.Functions.{expr_place}
 use Rattle.py_model.specs.Operations.{Op}
 
 -- what an operation names beside its number: nothing, a text, a text that may be a local name, or a value

@@ -1,7 +1,7 @@
 // Nodes that wait for operands.
 ghost use Rattle.std.specs.Prelude.{◌≡◌};
 ghost use Rattle.py_tree.specs.Erasure.{expr_of};
-ghost use Rattle.py_model.specs.Functions.{expr_place};
+ghost use Rattle.py_tree.specs.Functions.{expr_place};
 ghost use Rattle.std.specs.Prelude.{map, ◌∷◌, option_map};
 ghost use Rattle.py_tree.specs.Erasure.{exprs_list, maybe_tree};
 ghost use Rattle.py_tree.specs.Tree.{logic_expr};

@@ -15,7 +15,7 @@ use Rattle.py_model.specs.Act.{Act, How, ret, to}
 use Rattle.py_model.specs.Capture.{Capture}
 use Rattle.py_model.specs.Doing.{standing, Fits, Stands}
 use Rattle.py_model.specs.Expressions.{Here, Task, body_of, calling_function, failing, inside, left_with, running, too_many_open, wrong_arguments}
-use Rattle.py_model.specs.Functions.{Function as OneFunction, function_at}
+use Rattle.py_tree.specs.Functions.{Function as OneFunction, function_at}
 use Rattle.py_model.specs.Meaning.{level}
 use Rattle.py_model.specs.Moment.{Moment, enters, parameters_set}
 use Rattle.py_model.specs.Running.{State, entering, outcome, spent}

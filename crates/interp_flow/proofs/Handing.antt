@@ -11,7 +11,7 @@ use Rattle.py_value.specs.declared.value.Value.{Value}
 use Rattle.py_value.specs.declared.value.Value.TheVariants.{None as NoneValue, Bool as TruthValue, Int as IntValue, Text as TextValue, Tuple as TupleValue, Range as RangeValue, Fn as FnValue, Class as ClassValue, Exc as ExcValue, Builtin as BuiltinValue, Object as ObjectValue}
 use Rattle.py_model.specs.Act.{Act, Walked, perform}
 use Rattle.py_model.specs.Expressions.{Here, Task, calling, calling_class, calling_function, giving, initialising, op, walking, without_init}
-use Rattle.py_model.specs.Functions.{function_at}
+use Rattle.py_tree.specs.Functions.{function_at}
 use Rattle.py_model.specs.Plan.{value}
 use Rattle.interp_eval.specs.Machine.{Machine, remains}
 use Rattle.interp_eval.specs.Seen.{machine_seen}

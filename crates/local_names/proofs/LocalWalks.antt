@@ -21,7 +21,7 @@ use Rattle.py_tree.proofs.StmtTrees.{def_tree}
 use Rattle.py_tree.specs.Erasure.{form_of, form_step, branches_step, handlers_step, stmt_step, suite_step, stmt_of, suite_of, suite_list, branches_list, handlers_list}
 use Rattle.py_tree.specs.Tree.{StmtTree, FormTree, SuiteTree, BranchesTree, HandlersTree}
 use Rattle.py_tree.proofs.OwnersWays.{next_left}
-use Rattle.py_model.specs.Functions.{suite_binds, branches_bind, handler_suites_bind, inner_binds, is_local}
+use Rattle.py_tree.specs.Functions.{suite_binds, branches_bind, handler_suites_bind, inner_binds, is_local}
 use Rattle.local_names.specs.Scopes.{local_in, local_by, local_at, numbered_in, numbered_by}
 
 -- what is left of a walk

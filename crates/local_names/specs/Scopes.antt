@@ -3,7 +3,7 @@ use Rattle.std.specs.Prelude.{◌==◌, ℕ, Bool, List, Option, Some, None, if�
 use Rattle.std.specs.Option.{option_map, option_or}
 use Rattle.prov_base.specs.declared.place.Pos.{Pos}
 use Rattle.py_tree.specs.Tree.{StmtTree, FormTree, SuiteTree, ScriptTree, one_stmt, def_form, class_form, end_suite, more_suite}
-use Rattle.py_model.specs.Functions.{Function, is_local}
+use Rattle.py_tree.specs.Functions.{Function, is_local}
 
 -- The function with a number: the first `def` with it that stands at module level or directly in a class there.
 abbrev mutual

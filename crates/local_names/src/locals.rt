@@ -5,7 +5,7 @@ ghost use Rattle.std.specs.Option.{option_map};
 ghost use Rattle.std.specs.Str.{bytes_eq};
 ghost use Rattle.py_tree.specs.Binds.{bound_is, form_binds, handlers_bind, target_binds, targets_bind};
 ghost use Rattle.py_tree.specs.Erasure.{branches_of, else_tree, form_of, handlers_of, script_of, stmt_of, suite_of, target_of, targets_of};
-ghost use Rattle.py_model.specs.Functions.{is_local, branches_bind, else_binds, handler_suites_bind, inner_binds, stmt_binds, suite_binds};
+ghost use Rattle.py_tree.specs.Functions.{is_local, branches_bind, else_binds, handler_suites_bind, inner_binds, stmt_binds, suite_binds};
 ghost use Rattle.local_names.specs.Scopes.{activation_by, function_in, local_in, local_by, local_at};
 ghost use Rattle.prov_base.specs.declared.place.Pos.{Pos};
 

@@ -16,12 +16,13 @@ use Rattle.py_tree.specs.Tree.{ExprTree, MaybeTree, ExprsTree, PairsTree, Target
 use Rattle.py_value.specs.Contents.{Contents, Parts, nothing, truth, int, text, tuple, range, function, class, exception_class, builtin, object}
 use Rattle.py_model.specs.Act.{Act, How, Walked, ret, to, normal, broke, continued, returned, threw}
 use Rattle.py_model.specs.Expressions.{Here, Task, body_of, while_again, for_again, scope_of, op, op_named, op_scoped, by_answer, doing, doing_or, walking, by_truth, asking_truth, eval, eval_maybe, eval_all, eval_pairs, failing, giving, running, left_with, inside, calling_function, without_init, initialising, calling_class, calling_builtin, calling_method, calling, with_receiver, calling_attribute, takes_so_many, function_arities, method_arities, not_callable, wrong_arguments, too_many_open}
-use Rattle.py_model.specs.Functions.{Function, expr_place, functions_in, functions_of, functions_at, first_placed, function_at, suite_binds, stmt_binds, inner_binds, branches_bind, else_binds, handler_suites_bind, is_local}
+use Rattle.py_tree.specs.Functions.{Function, expr_place, functions_in, functions_of, functions_at, first_placed, function_at, suite_binds, stmt_binds, inner_binds, branches_bind, else_binds, handler_suites_bind, is_local}
 use Rattle.py_model.specs.Going.{Open, an_activation, Goes, unreached, both_ret, both_stop, both_perform, both_begin, both_close, both_enter, both_leave}
 use Rattle.py_model.specs.Operations.{Op}
 use Rattle.py_model.specs.Plan.{Answer, value, raised, at_end}
 use Rattle.py_model.specs.Statements.{op_whole, module_of, on_line, handling, in_class_of, parts_in, first_of, rest_of, binding, unbinding, turned, then_so, raised_value, store, store_all, augment, unset, while_turn, for_turn, clause, caught, matching, with_body, class_body, failed_assert, defining, suite, stmt, rule, choose, otherwise, handle, task}
-use Rattle.py_model.specs.Spans.{moved_suite, moved_stmt, moved_form, moved_branches, moved_else, moved_handlers, moved, moved_function, moved_here, moved_task}
+use Rattle.py_tree.specs.Spans.{moved_suite, moved_stmt, moved_form, moved_branches, moved_else, moved_handlers, moved, moved_function}
+use Rattle.py_model.specs.Spans.{moved_here, moved_task}
 
 -- The same trees go as far as one likes to speak of, and less far too.
 pub less : (k : ℕ) {from onto : List Open} {a b : Act} → Goes (suc k) from onto a b → Goes k from onto a b

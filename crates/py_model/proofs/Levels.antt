@@ -8,12 +8,13 @@ use Rattle.py_model.proofs.Goings.{TasksGo, task_goes}
 use Rattle.py_model.proofs.Histories.{same_outcome, nests}
 use Rattle.py_model.specs.Capture.{Capture}
 use Rattle.py_model.specs.Expressions.{Here, Task, body_of, while_again, for_again}
-use Rattle.py_model.specs.Functions.{Function}
+use Rattle.py_tree.specs.Functions.{Function}
 use Rattle.py_model.specs.Going.{Open, Goes, unreached}
 use Rattle.py_model.specs.History.{Nests, GoesOn}
 use Rattle.py_model.specs.Meaning.{level, at_start, meaning, starting, run, run_of}
 use Rattle.py_model.specs.Running.{State, outcome}
-use Rattle.py_model.specs.Spans.{moved_suite, moved_stmt, moved_form, moved_branches, moved_else, moved_handlers, moved, moved_function, moved_here, moved_task}
+use Rattle.py_tree.specs.Spans.{moved_suite, moved_stmt, moved_form, moved_branches, moved_else, moved_handlers, moved, moved_function}
+use Rattle.py_model.specs.Spans.{moved_here, moved_task}
 use Rattle.py_model.specs.Statements.{suite, task}
 
 module _ (m : Span → Span) (script : ScriptTree) where

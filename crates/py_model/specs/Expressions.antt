@@ -14,7 +14,7 @@ use Rattle.py_tree.specs.declared.expr.CmpOp.TheVariants.{Eq, Ne, Lt, Le, Gt, Ge
 use Rattle.py_tree.specs.Tree.{ExprTree, MaybeTree, ExprsTree, PairsTree, SuiteTree, TargetTree, ScriptTree, const_expr, var_expr, unary_expr, binary_expr, compare_expr, logic_expr, choose_expr, call_expr, attr_expr, part_expr, range_expr, list_expr, dict_expr, tuple_expr, no_expr, some_expr, end_exprs, more_exprs, end_pairs, more_pairs}
 use Rattle.py_value.specs.Contents.{Contents, nothing, truth, int, text, function, class, exception_class, builtin, object}
 use Rattle.py_model.specs.Act.{Act, How, Walked, ret, perform, enter, leave, to, normal, returned, threw}
-use Rattle.py_model.specs.Functions.{Function, expr_place, function_at, is_local}
+use Rattle.py_tree.specs.Functions.{Function, expr_place, function_at, is_local}
 use Rattle.py_model.specs.Operations.{Op}
 use Rattle.py_model.specs.Plan.{Answer, value, raised, at_end}
 

@@ -10,7 +10,6 @@ pub mod Effect
 pub mod Expressions
 pub mod Faults
 pub mod Files
-pub mod Functions
 pub mod Going
 pub mod Graph
 pub mod History

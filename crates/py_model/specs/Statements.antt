@@ -12,7 +12,7 @@ use Rattle.py_value.specs.Seen.{number_by}
 use Rattle.py_model.specs.Act.{Act, How, ret, begin, close, to, ending, normal, broke, continued, returned, threw}
 use Rattle.py_model.specs.Classes.{sys_module}
 use Rattle.py_model.specs.Expressions.{Here, Task, body_of, while_again, for_again, scope_of, op, op_named, op_scoped, op_of, doing, doing_or, by_truth, asking_truth, binary_number, eval}
-use Rattle.py_model.specs.Functions.{expr_place}
+use Rattle.py_tree.specs.Functions.{expr_place}
 use Rattle.py_model.specs.Operations.{Op}
 
 -- an operation with a name, its scope and a value

@@ -26,7 +26,7 @@ ghost use Rattle.py_model.specs.Meaning.{level, meaning, starting, run};
 ghost use Rattle.py_model.specs.Running.{State, outcome, state_in, operation, note, method_found, sets_an_entry, effect_of, did, too_dear, spent, IsPaid};
 ghost use Rattle.prov_base.specs.declared.place.Pos.{Pos};
 ghost use Rattle.py_model.specs.SameGraph.{Setting, HaveSameGraph};
-ghost use Rattle.py_model.specs.Spans.{moved};
+ghost use Rattle.py_tree.specs.Spans.{moved};
 ghost use Rattle.py_model.specs.Statements.{task};
 ghost use Rattle.py_model.specs.Tidy.{IsTidy};
 ghost use Rattle.py_model.specs.Touches.{prefixed, cost_so_far};

@@ -4,12 +4,14 @@ pub mod Deletion
 pub mod Descent
 pub mod Erasure
 pub mod Found
+pub mod Functions
 pub mod Numbered
 pub mod Numbering
 pub mod Owners
 pub mod Parts
 pub mod Places
 pub mod Renumbering
+pub mod Spans
 pub mod StmtSet
 pub mod Tree
 pub mod Unplaced

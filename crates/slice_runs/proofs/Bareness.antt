@@ -6,7 +6,7 @@ use Rattle.py_value.specs.Contents.{Contents}
 use Rattle.py_model.specs.Act.{Act, Walked}
 use Rattle.py_model.specs.Capture.{Capture}
 use Rattle.py_model.specs.Effect.{Answers, effect, after}
-use Rattle.py_model.specs.Functions.{Function, functions_in, functions_of, functions_at, first_placed, function_at}
+use Rattle.py_tree.specs.Functions.{Function, functions_in, functions_of, functions_at, first_placed, function_at}
 use Rattle.py_model.specs.Graph.{names_in, names_of, names_at}
 use Rattle.py_model.specs.Meaning.{level, at_start, starting}
 use Rattle.py_model.specs.Operations.{Op, plan}

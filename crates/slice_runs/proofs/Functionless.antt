@@ -4,7 +4,7 @@ use Rattle.prov_base.specs.declared.place.Pos.{Pos}
 use Rattle.py_tree.specs.Deletion.{or_pass, kept_suite, kept_stmt, kept_form, deleted}
 use Rattle.py_tree.specs.Numbering.{size_stmt, numbered_suite, numbered_stmt, numbered_form}
 use Rattle.py_tree.specs.Tree.{number_of, StmtTree, FormTree, SuiteTree, ScriptTree, one_stmt, do_form, assign_form, aug_form, del_form, pass_form, break_form, continue_form, return_form, raise_form, assert_form, import_form, if_form, while_form, for_form, try_form, with_form, def_form, class_form, end_suite, more_suite}
-use Rattle.py_model.specs.Functions.{Function, functions_in, functions_of, functions_at, first_placed, function_at}
+use Rattle.py_tree.specs.Functions.{Function, functions_in, functions_of, functions_at, first_placed, function_at}
 use Rattle.slice_law.specs.Closed.{StmtSet}
 
 both_empty : (xs ys : List Function) → xs ++ ys ≡ [] → (xs ≡ []) × (ys ≡ [])

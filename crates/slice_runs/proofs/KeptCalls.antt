@@ -5,7 +5,7 @@ use Rattle.py_tree.specs.Tree.{ScriptTree}
 use Rattle.py_value.specs.Contents.{Contents, nothing}
 use Rattle.py_model.specs.Act.{Act, How, enter, to}
 use Rattle.py_model.specs.Expressions.{Here, Task, body_of, left_with, inside, running}
-use Rattle.py_model.specs.Functions.{Function}
+use Rattle.py_tree.specs.Functions.{Function}
 use Rattle.py_model.specs.Going.{Open, a_statement, an_activation}
 use Rattle.py_model.specs.Moment.{Moment}
 use Rattle.slice_law.specs.Closed.{StmtSet}

@@ -9,7 +9,7 @@ use Rattle.py_tree.specs.Tree.{ExprTree, MaybeTree, ExprsTree, PairsTree, Target
 use Rattle.py_value.specs.Contents.{Contents, Parts, nothing, truth, int, text, tuple, range, function, class, exception_class, builtin, object, no_parts, part}
 use Rattle.py_model.specs.Act.{Act, How, Walked, ret, normal, threw}
 use Rattle.py_model.specs.Expressions.{Here, Task, scope_of, op, op_named, op_scoped, op_of, doing, doing_or, walking, by_truth, asking_truth, eval, eval_maybe, eval_all, eval_pairs, failing, giving, calling_function, without_init, initialising, calling_class, calling_builtin, calling_method, calling, with_receiver, calling_attribute, takes_so_many, function_arities, method_arities, not_callable, wrong_arguments, constant, unary_number, binary_number, compare_number}
-use Rattle.py_model.specs.Functions.{Function, expr_place, function_at}
+use Rattle.py_tree.specs.Functions.{Function, expr_place, function_at}
 use Rattle.py_model.specs.Going.{Open, a_statement}
 use Rattle.py_model.specs.Operations.{Op}
 use Rattle.py_model.specs.Statements.{op_whole, module_of, parts_in, first_of, rest_of, store, store_all, augment, unset, augmented_number}

@@ -7,7 +7,7 @@ use Rattle.py_tree.specs.Tree.{number_of, ExprTree, TargetTree, StmtTree, FormTr
 use Rattle.py_value.specs.Contents.{Contents, object}
 use Rattle.py_model.specs.Act.{Act, How, ret, begin, close, to, ending, normal, broke, continued, returned, threw}
 use Rattle.py_model.specs.Expressions.{Here, Task, while_again, for_again}
-use Rattle.py_model.specs.Functions.{expr_place, function_at}
+use Rattle.py_tree.specs.Functions.{expr_place, function_at}
 use Rattle.py_model.specs.Going.{Open, a_statement}
 use Rattle.py_model.specs.Statements.{on_line, handling, in_class_of, binding, unbinding, turned, then_so, raised_value, store, while_turn, for_turn, clause, caught, matching, class_body, failed_assert, defining, suite, stmt, rule, choose, otherwise, handle, task}
 use Rattle.slice_law.specs.Closed.{StmtSet}

@@ -10,7 +10,7 @@ use Rattle.py_tree.specs.Places.{suite_places, are_distinct}
 use Rattle.py_tree.specs.Tree.{ScriptTree}
 use Rattle.py_model.specs.Act.{Act, Walked, close, leave}
 use Rattle.py_model.specs.Capture.{Capture, opening_in}
-use Rattle.py_model.specs.Functions.{function_at}
+use Rattle.py_tree.specs.Functions.{function_at}
 use Rattle.py_model.specs.Going.{Open, a_statement, an_activation}
 use Rattle.py_model.specs.Meaning.{level, meaning, at_start, starting}
 use Rattle.py_model.specs.Moment.{Moment, begins, does, leaves, ends}

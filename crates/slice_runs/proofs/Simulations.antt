@@ -16,7 +16,7 @@ use Rattle.slice_law.specs.Closed.{StmtSet, IsClosed, IsIn}
 use Rattle.slice_law.specs.Slices.{told_by}
 use Rattle.slice_runs.proofs.Beside.{Beside}
 use Rattle.slice_runs.proofs.Closedness.{reach_in, reads_kept, jumps_kept, calls_kept, body_under}
-use Rattle.py_model.specs.Functions.{functions_in}
+use Rattle.py_tree.specs.Functions.{functions_in}
 use Rattle.slice_runs.proofs.Functionless.{none_in, none_left}
 use Rattle.slice_runs.proofs.Happenings.{Laws}
 use Rattle.slice_runs.proofs.KeptExpressions.{BothHere, no_class, none_handled}

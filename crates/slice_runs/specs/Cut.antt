@@ -2,7 +2,7 @@
 use Rattle.std.specs.Prelude.{◌≡◌, ℕ, List, [], ◌∷◌, Option, Some, None, ⊤}
 use Rattle.py_tree.specs.Deletion.{or_pass, kept_suite}
 use Rattle.py_tree.specs.Numbering.{numbered_suite}
-use Rattle.py_model.specs.Functions.{Function, first_placed}
+use Rattle.py_tree.specs.Functions.{Function, first_placed}
 use Rattle.slice_law.specs.Closed.{StmtSet}
 
 -- the same function, with what is kept of its suite

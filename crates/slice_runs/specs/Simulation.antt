@@ -6,7 +6,7 @@ use Rattle.py_tree.specs.Deletion.{deleted}
 use Rattle.py_tree.specs.Tree.{ScriptTree}
 use Rattle.py_value.specs.Seen.{SeenLocation}
 use Rattle.py_model.specs.Capture.{Capture, opening_in}
-use Rattle.py_model.specs.Functions.{functions_in}
+use Rattle.py_tree.specs.Functions.{functions_in}
 use Rattle.py_model.specs.History.{held, kinds_after, spent_on}
 use Rattle.py_model.specs.Meaning.{meaning, starting}
 use Rattle.py_model.specs.Moment.{Moment, does}

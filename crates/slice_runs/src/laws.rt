@@ -37,7 +37,7 @@ ghost use Rattle.std.specs.Prelude.{[]};
 ghost use Rattle.py_model.specs.Graph.{names_in};
 ghost use Rattle.slice_runs.specs.Bare.{BareSuite};
 ghost use Rattle.py_tree.specs.Deletion.{deleted};
-ghost use Rattle.py_model.specs.Functions.{functions_in, function_at};
+ghost use Rattle.py_tree.specs.Functions.{functions_in, function_at};
 ghost use Rattle.slice_runs.specs.Cut.{CutFunctions, FoundCut};
 
 use py_model::{

@@ -1,6 +1,6 @@
 use Rattle.std.proofs.Common.{ap, sym, ◌∙◌}
 use Rattle.py_tree.proofs.StmtTrees.{suite_tree, branches_tree, handlers_tree}
-use Rattle.py_model.specs.Functions.{suite_binds, branches_bind, handler_suites_bind}
+use Rattle.py_tree.specs.Functions.{suite_binds, branches_bind, handler_suites_bind}
 use Rattle.local_names.proofs.LocalWalks.{stmts_left, branches_left, handlers_left, leaf_binds_none}
 use Rattle.local_names.proofs.locals.+suite_binds.Goals as goal
 

@@ -1,6 +1,6 @@
 use Rattle.std.proofs.Common.{◌≡◌, drop}
 use Rattle.py_tree.specs.Erasure.{suite_of, branches_of, handlers_of}
-use Rattle.py_model.specs.Functions.{suite_binds, branches_bind, handler_suites_bind}
+use Rattle.py_tree.specs.Functions.{suite_binds, branches_bind, handler_suites_bind}
 use Rattle.local_names.proofs.LocalWalks.{stmts_left, branches_left, handlers_left}
 use Rattle.local_names.proofs.locals.+suite_binds.Given as goal
 
