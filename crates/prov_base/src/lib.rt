@@ -2,11 +2,13 @@
 //! ways in which a call can fail without being wrong, and the decimal text of a number. Nothing here takes memory.
 #![tactic(auto)]
 
+mod laws;
 mod number;
 mod place;
 mod refusal;
 mod text;
 
+pub use laws::equal_texts_are_the_same;
 pub use number::decimal;
 pub use place::{Digest, Pos, Span};
 pub use refusal::{Failed, Memory};

@@ -47,7 +47,7 @@ values_decide = pointwise_decides (λ a b. (value_same a b, λ same. subst (λ c
 key_same : (a b : Key) → keys.eq a b ≡ true → a ≡ b
 key_same a b is = ap (λ v. record { value = v }) (value_same a.value b.value is)
 
-both_true : (a b : Bool) → (a && b) ≡ true → (a ≡ true) × (b ≡ true)
+pub both_true : (a b : Bool) → (a && b) ≡ true → (a ≡ true) × (b ≡ true)
 both_true true b is = (refl, is)
 both_true false b is = absurd (false≢true is)
 

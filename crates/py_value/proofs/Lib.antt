@@ -1,4 +1,5 @@
 pub mod AddedForms
+pub mod EqualAccesses
 pub mod Equality
 pub mod Interning
 pub mod KeyFaults

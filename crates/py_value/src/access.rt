@@ -2,8 +2,12 @@
 ghost use Rattle.std.specs.Prelude.{◌≡◌, ◌↔◌, Some, true};
 ghost use Rattle.py_value.specs.Seen.{SeenLocation, IsNamedLocation, location_seen, location_at};
 ghost use Rattle.py_value.specs.Values.{ValuesView, AreInterned};
+ghost use Rattle.py_value.specs.contracts.access.AccessPartialEq.TheImpl.{ghosts as accesses};
+ghost use Rattle.py_value.specs.contracts.access.ContentPartialEq.TheImpl.{ghosts as contents_eq};
 ghost use Rattle.py_value.specs.contracts.access.LocationPartialEq.TheImpl.{ghosts as locations};
 ghost use Rattle.py_value.specs.contracts.value.ValuePartialEq.TheImpl.{ghosts as values_eq};
+ghost use Rattle.py_value.specs.declared.access.Access.{Access as OneAccess};
+ghost use Rattle.py_value.specs.declared.access.Content.{Content as OneContent};
 ghost use Rattle.py_value.specs.declared.access.Location.{Location as OneLocation};
 ghost use Rattle.py_value.specs.declared.value.Value.{Value as OneValue};
 
@@ -61,7 +65,7 @@ pub enum Location {
 }
 
 /// What stands at a location of the same name.
-#[derive(Drop, Debug)]
+#[derive(Drop, Debug, PartialEq)]
 pub enum Content {
     /// The value of a variable, where it is bound.
     Var(Option<Value>),
@@ -97,7 +101,7 @@ pub enum Change {
 }
 
 /// One thing that is done to the store.
-#[derive(Drop, Debug)]
+#[derive(Drop, Debug, PartialEq)]
 pub enum Access {
     /// A location is read.
     Read(Location),
@@ -138,10 +142,12 @@ impl Accesses {
     }
 }
 
-/// The law that `==` of values and of locations is equality.
+/// The law that `==` of values, locations, contents and accesses is equality.
 pub fn equality_is_same()
     ensures values { (v w : OneValue) → (values_eq.eq v w ≡ true) ↔ (v ≡ w) }
     ensures locations { (l m : OneLocation) → (locations.eq l m ≡ true) ↔ (l ≡ m) }
+    ensures contents { (a b : OneContent) → (contents_eq.eq a b ≡ true) ↔ (a ≡ b) }
+    ensures accesses { (a b : OneAccess) → (accesses.eq a b ≡ true) ↔ (a ≡ b) }
 {}
 
 /// The law that locations are told apart by what they are without numbers of texts and tuples: that leads back to the

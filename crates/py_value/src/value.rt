@@ -61,3 +61,17 @@ impl Keys {
         self.values.as_slice()
     }
 }
+
+impl PartialEq for Keys {
+    ghost use Rattle.std.specs.Cmp.Lexicographic.{pointwise, lists_per};
+    ghost use Rattle.py_value.specs.contracts.value.ValuePartialEq.TheImpl.{ghosts};
+    ghost use Rattle.py_value.specs.contracts.value.ValuePartialEq.TheImpl.Laws.{laws-law};
+
+    ghost eq = { pointwise ghosts.eq };
+
+    ghost laws = { lists_per laws-law };
+
+    fn eq(&self, other: &Self) -> bool {
+        self.values == other.values
+    }
+}
