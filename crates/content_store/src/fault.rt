@@ -6,7 +6,7 @@ use keeper::KeepFault;
 use prov_base::Digest;
 
 /// Why a content was not put.
-#[derive(Clone, Copy, Debug, PartialEq, Eq)]
+#[derive(Clone, Copy, Debug)]
 pub enum ContentFault {
     /// Other bytes stand under the digest.
     Collision {

@@ -9,7 +9,7 @@ use std::error::Error;
 use std::fmt;
 
 /// Why a keeper refused a call: it failed and has counted that, or memory ran out.
-#[derive(Clone, Copy, Debug, PartialEq, Eq)]
+#[derive(Clone, Copy, Debug)]
 pub enum KeepFault {
     /// The keeper failed, and has counted that.
     Failed,

@@ -8,7 +8,7 @@ use std::error::Error;
 use std::fmt;
 
 /// Why a device refused a call: it failed and has counted that, or memory ran out.
-#[derive(Clone, Copy, Debug, PartialEq, Eq)]
+#[derive(Clone, Copy, Debug)]
 pub enum Trouble {
     /// The device failed, and has counted that.
     Failed,

@@ -7,7 +7,7 @@ use prov_base::Pos;
 use std::alloc::{AllocError, AllocFailed};
 
 /// Why the tokens of a line were not read.
-#[derive(Clone, Copy, Debug, PartialEq, Eq)]
+#[derive(Clone, Copy, Debug)]
 pub enum Fault {
     /// No line that may stand there goes on with a token: how many tokens stand behind it on the line.
     Unexpected(usize),
@@ -20,7 +20,7 @@ pub enum Fault {
 }
 
 /// Why the tokens of a line were not read: a fault, or that the line ends too early.
-#[derive(Clone, Copy, Debug, PartialEq, Eq)]
+#[derive(Clone, Copy, Debug)]
 pub enum Stop {
     Here(Fault),
     End,

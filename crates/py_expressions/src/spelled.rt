@@ -17,7 +17,7 @@ use py_tree::Expr;
 use std::alloc::Global;
 
 /// What tokens spell as a whole, seen as a target.
-#[derive(Clone, Copy, Debug, PartialEq, Eq)]
+#[derive(Clone, Copy, Debug)]
 pub enum Spelled {
     /// Nothing that is asked for within the limit of depth.
     Nothing,

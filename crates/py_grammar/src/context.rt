@@ -33,7 +33,7 @@ pub struct Context {
 }
 
 /// The limit that a statement behind the `:` would pass.
-#[derive(Clone, Copy, PartialEq, Eq)]
+#[derive(Clone, Copy)]
 pub enum Limit {
     /// It would be one too many.
     Number,

@@ -6,7 +6,7 @@ use prov_base::Pos;
 use std::alloc::{AllocError, AllocFailed};
 
 /// Why a text was not read as logical lines.
-#[derive(Clone, Copy, Debug, PartialEq, Eq)]
+#[derive(Clone, Copy, Debug)]
 pub enum LineFault {
     /// The text is not UTF-8: the place of the first byte of the first ill-formed sequence.
     NotUtf8(Pos),

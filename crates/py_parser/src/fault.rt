@@ -6,7 +6,7 @@ use prov_base::Pos;
 use std::alloc::{AllocError, AllocFailed};
 
 /// Why lines were not read as a script. A place is that of a token, from line 1 and column 1.
-#[derive(Clone, Copy, Debug, PartialEq, Eq)]
+#[derive(Clone, Copy, Debug)]
 pub enum ParseFault {
     /// The token where the grammar has none, or the last one of a line that ends too early.
     Unexpected(Pos),
@@ -24,7 +24,7 @@ pub enum ParseFault {
 }
 
 /// Where lines stop being those of a script.
-#[derive(Clone, Copy, PartialEq, Eq)]
+#[derive(Clone, Copy)]
 pub(crate) enum Halt {
     /// At a token: how many lines stand behind its line, and how many tokens behind it there.
     AtToken(usize, usize),

@@ -15,7 +15,7 @@ pub struct Key {
 }
 
 /// Why a value is no key.
-#[derive(Clone, Copy, Debug, PartialEq, Eq)]
+#[derive(Clone, Copy, Debug)]
 pub enum KeyFault {
     /// It is this object, or a tuple with this object as its first part that is no key.
     NoKey(u32),

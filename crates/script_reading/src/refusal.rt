@@ -7,7 +7,7 @@ use py_lines::LineFault;
 use py_parser::ParseFault;
 
 /// Why a text was not read as a script.
-#[derive(Clone, Copy, Debug, PartialEq, Eq)]
+#[derive(Clone, Copy, Debug)]
 pub enum Refusal {
     /// The place of the first fault, from line 1 and column 1.
     At(Pos),

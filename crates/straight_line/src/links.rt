@@ -6,7 +6,7 @@ use std::alloc::{AllocError, Global};
 
 /// A line of a script: empty, or a binding with the lines that bound the names that it reads last, at most two, counted
 /// from 0. A literal needs none.
-#[derive(Clone, Copy, Debug, PartialEq, Eq)]
+#[derive(Clone, Copy, Debug)]
 pub enum Link {
     /// The line has no text.
     Empty,

@@ -15,7 +15,7 @@ use crate::pieces::split_once;
 use std::alloc::{AllocError, AllocFailed, Global};
 
 /// Why a text was not read as a script.
-#[derive(Clone, Copy, Debug, PartialEq, Eq)]
+#[derive(Clone, Copy, Debug)]
 pub enum ScriptFault {
     /// The first lines of the text, this many, are a script, and the next one is none of it.
     Refused(u32),
