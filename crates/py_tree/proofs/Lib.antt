@@ -14,6 +14,7 @@ pub mod OwnersNumbered
 pub mod OwnersRows
 pub mod OwnersWays
 pub mod PlaceLaws
+pub mod SpanLaws
 pub mod StmtTrees
 pub mod TargetTrees
 pub mod TwiceLaws

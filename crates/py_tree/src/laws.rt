@@ -1,6 +1,12 @@
-// Laws of deletion, each as the clause of a function that does nothing.
-ghost use Rattle.std.specs.Prelude.{ℕ, Bool, ◌≡◌, ◌<◌, IsTrue};
-ghost use Rattle.py_tree.specs.Tree.{ScriptTree};
+// Laws of scripts and of deletion, each as the clause of a function that does nothing.
+ghost use Rattle.std.specs.Prelude.{ℕ, Bool, ◌≡◌, ◌<◌, IsTrue, List, map, option_map};
+ghost use Rattle.prov_base.specs.declared.place.Pos.{Pos};
+ghost use Rattle.prov_base.specs.declared.place.Span.{Span};
+ghost use Rattle.py_tree.specs.Binds.{binds};
+ghost use Rattle.py_tree.specs.Functions.{Function, functions_in, function_at, is_local};
+ghost use Rattle.py_tree.specs.Owners.{statements, parent_of, function_of};
+ghost use Rattle.py_tree.specs.Spans.{moved, moved_standing, moved_function, moved_suite};
+ghost use Rattle.py_tree.specs.Tree.{ScriptTree, SuiteTree};
 ghost use Rattle.py_tree.specs.Numbering.{IsNumbered};
 ghost use Rattle.py_tree.specs.Deletion.{deleted};
 ghost use Rattle.py_tree.specs.Places.{suite_places, suite_starts};
@@ -34,4 +40,17 @@ pub fn deletion_is_well_formed()
 pub fn deletion_twice()
     ensures { (first second : ℕ → Bool) (script : ScriptTree) → IsNumbered script
         → unplaced (deleted second (deleted first script)) ≡ unplaced (deleted (both first (new_number first script) second) script) }
+{}
+
+/// The law that nothing here looks at byte spans: with other spans the script has the same statements, owners, names and
+/// functions, but for the spans in them, and deletion gives the same.
+pub fn spans_are_not_looked_at()
+    ensures statements { (m : Span → Span) (script : ScriptTree) → statements (moved m script) ≡ map (moved_standing m) (statements script) }
+    ensures parents { (m : Span → Span) (script : ScriptTree) (s : ℕ) → parent_of (moved m script) s ≡ parent_of script s }
+    ensures owners { (m : Span → Span) (script : ScriptTree) (s : ℕ) → function_of (moved m script) s ≡ function_of script s }
+    ensures bound { (m : Span → Span) (script : ScriptTree) (s : ℕ) (name : List ℕ) → binds (moved m script) s name ≡ binds script s name }
+    ensures functions { (m : Span → Span) (body : SuiteTree) → functions_in (moved_suite m body) ≡ map (moved_function m) (functions_in body) }
+    ensures places { (m : Span → Span) (script : ScriptTree) (at : Pos) → function_at (moved m script) at ≡ option_map (moved_function m) (function_at script at) }
+    ensures local { (m : Span → Span) (f : Function) (name : List ℕ) → is_local (moved_function m f) name ≡ is_local f name }
+    ensures deletion { (m : Span → Span) (keep : ℕ → Bool) (script : ScriptTree) → deleted keep (moved m script) ≡ moved m (deleted keep script) }
 {}

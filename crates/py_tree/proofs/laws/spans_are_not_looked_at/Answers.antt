@@ -1,0 +1,14 @@
+use Rattle.py_tree.proofs.SpanLaws.{statements_move, parents_stay, owners_stay, binding_stays, functions_move, function_moves, local_same, deletion_moves}
+use Rattle.py_tree.proofs.laws.spans_are_not_looked_at.Goals as goal
+
+pub returns : goal.returns
+returns c = record {
+  statements = statements_move;
+  parents = parents_stay;
+  owners = owners_stay;
+  bound = binding_stays;
+  functions = functions_move;
+  places = function_moves;
+  local = local_same;
+  deletion = deletion_moves;
+}
