@@ -5,6 +5,8 @@ pub mod DeletionLaws
 pub mod DeletionWalks
 pub mod Deletions
 pub mod ExprTrees
+pub mod Finding
+pub mod FunctionLaws
 pub mod NewNumbers
 pub mod OwnersFinds
 pub mod OwnersHalves

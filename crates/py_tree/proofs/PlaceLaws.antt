@@ -73,7 +73,7 @@ module _ {A : Type 0} where
   part_any p (leaves {x} {xs} {ys} q) h = part_any p q ((or_none (p x) (list_any p ys) h).1)
   part_any p (takes {x} {xs} {ys} q) h = or_false (p x) (list_any p xs) ((or_none (p x) (list_any p ys) h).0) (part_any p q ((or_none (p x) (list_any p ys) h).1))
 
-part_ascending : {xs ys : List Pos} → IsPartOf xs ys → IsTrue (are_ascending ys) → IsTrue (are_ascending xs)
+pub part_ascending : {xs ys : List Pos} → IsPartOf xs ys → IsTrue (are_ascending ys) → IsTrue (are_ascending xs)
 part_ascending no_more h = h
 part_ascending (leaves {x} {xs} {ys} q) h = part_ascending q (and_right (list_all (is_before x) ys) (are_ascending ys) h)
 part_ascending (takes {x} {xs} {ys} q) h =

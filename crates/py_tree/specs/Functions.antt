@@ -1,7 +1,7 @@
 -- Words of the syntax tree that the meaning of a run needs: the place of an expression, functions by their place, the names that a
 -- function binds, and which classes have which methods.
 use Rattle.std.specs.Prelude.{ℕ, Bool, false, not, ◌&&◌, ◌||◌, List, [], ◌∷◌, ◌++◌, Option, Some, None, if◌then◌else◌}
-use Rattle.std.specs.List.{list_any}
+use Rattle.std.specs.List.{find, list_any}
 use Rattle.std.specs.Str.{bytes_eq}
 use Rattle.prov_base.specs.declared.place.Pos.{Pos}
 use Rattle.prov_base.specs.contracts.place.PosPartialEq.TheImpl.{ghosts as places}
@@ -54,6 +54,29 @@ first_placed at (f ∷ fs) = if places.eq f.place at then Some f else first_plac
 -- the function at a place
 abbrev pub function_at : ScriptTree → Pos → Option Function
 function_at script at = first_placed at (functions_in script.body)
+
+-- a class: its place, its name, the class that it derives from, and its suite
+pub record Class : Type 0 where
+  pub place : Pos
+  pub name : List ℕ
+  pub base : Option ExprTree
+  pub body : SuiteTree
+
+-- the classes that stand in a suite, in the order of the text; the grammar has classes at module level alone
+abbrev pub classes_at : Pos → FormTree → List Class
+classes_at at (class_form name base body) = record { place = at; name = name; base = base; body = body } ∷ []
+classes_at at form = []
+
+abbrev pub classes_of : StmtTree → List Class
+classes_of (one_stmt number at span form) = classes_at at form
+
+abbrev pub classes_in : SuiteTree → List Class
+classes_in end_suite = []
+classes_in (more_suite stmt rest) = classes_of stmt ++ classes_in rest
+
+-- the class at a place
+abbrev pub class_at : ScriptTree → Pos → Option Class
+class_at script at = find (λ c. places.eq c.place at) (classes_in script.body)
 
 -- the names that the statements of a suite bind, with those in their suites
 abbrev mutual

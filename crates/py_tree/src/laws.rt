@@ -1,15 +1,15 @@
 // Laws of scripts and of deletion, each as the clause of a function that does nothing.
-ghost use Rattle.std.specs.Prelude.{ℕ, Bool, ◌≡◌, ◌<◌, IsTrue, List, map, option_map};
+ghost use Rattle.std.specs.Prelude.{ℕ, Bool, ◌≡◌, ◌<◌, ◌↔◌, IsTrue, List, Contains, map, Some, option_map};
 ghost use Rattle.prov_base.specs.declared.place.Pos.{Pos};
 ghost use Rattle.prov_base.specs.declared.place.Span.{Span};
 ghost use Rattle.py_tree.specs.Binds.{binds};
-ghost use Rattle.py_tree.specs.Functions.{Function, functions_in, function_at, is_local};
+ghost use Rattle.py_tree.specs.Functions.{Function, Class, functions_in, function_at, classes_in, class_at, is_local};
 ghost use Rattle.py_tree.specs.Owners.{statements, parent_of, function_of};
 ghost use Rattle.py_tree.specs.Spans.{moved, moved_standing, moved_function, moved_suite};
 ghost use Rattle.py_tree.specs.Tree.{ScriptTree, SuiteTree};
 ghost use Rattle.py_tree.specs.Numbering.{IsNumbered};
 ghost use Rattle.py_tree.specs.Deletion.{deleted};
-ghost use Rattle.py_tree.specs.Places.{suite_places, suite_starts};
+ghost use Rattle.py_tree.specs.Places.{suite_places, suite_starts, are_ascending};
 ghost use Rattle.py_tree.specs.Parts.{IsPartOf};
 ghost use Rattle.py_tree.specs.Renumbering.{new_number, both};
 ghost use Rattle.py_tree.specs.Unplaced.{unplaced};
@@ -53,4 +53,14 @@ pub fn spans_are_not_looked_at()
     ensures places { (m : Span → Span) (script : ScriptTree) (at : Pos) → function_at (moved m script) at ≡ option_map (moved_function m) (function_at script at) }
     ensures local { (m : Span → Span) (f : Function) (name : List ℕ) → is_local (moved_function m f) name ≡ is_local f name }
     ensures deletion { (m : Span → Span) (keep : ℕ → Bool) (script : ScriptTree) → deleted keep (moved m script) ≡ moved m (deleted keep script) }
+{}
+
+/// The law that in a well-formed script no two functions stand at one place, no two classes, and no function at the place
+/// of a class. So what is looked up by its place is exactly what stands there.
+pub fn functions_stand_apart()
+    ensures function { (script : ScriptTree) → IsWellFormed script → (at : Pos) (f : Function) → (function_at script at ≡ Some f) ↔ (Contains (functions_in script.body) f × (f.place ≡ at)) }
+    ensures class { (script : ScriptTree) → IsWellFormed script → (at : Pos) (c : Class) → (class_at script at ≡ Some c) ↔ (Contains (classes_in script.body) c × (c.place ≡ at)) }
+    ensures function_places { (script : ScriptTree) → IsWellFormed script → IsTrue (are_ascending (map (λ f. f.place) (functions_in script.body))) }
+    ensures class_places { (script : ScriptTree) → IsWellFormed script → IsTrue (are_ascending (map (λ c. c.place) (classes_in script.body))) }
+    ensures apart { (script : ScriptTree) → IsWellFormed script → (f : Function) (c : Class) → Contains (functions_in script.body) f → Contains (classes_in script.body) c → f.place ≡ c.place → ⊥ }
 {}
