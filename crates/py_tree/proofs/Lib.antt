@@ -16,6 +16,7 @@ pub mod OwnersNumbered
 pub mod OwnersRows
 pub mod OwnersWays
 pub mod PlaceLaws
+pub mod PlacedLaws
 pub mod SpanLaws
 pub mod StmtTrees
 pub mod TargetTrees

@@ -24,7 +24,7 @@ and_both : (a b : Bool) → IsTrue a → IsTrue b → IsTrue (a && b)
 and_both true b h k = k
 and_both false b h k = h
 
-not_false : (b : Bool) → IsTrue (not b) → b ≡ false
+pub not_false : (b : Bool) → IsTrue (not b) → b ≡ false
 not_false false h = refl
 not_false true h = cc
 
@@ -51,7 +51,7 @@ module _ {A : Type 0} where
   part_all p (leaves {x} {xs} {ys} q) h = part_all p q (and_right (p x) (list_all p ys) h)
   part_all p (takes {x} {xs} {ys} q) h = and_both (p x) (list_all p xs) (and_left (p x) (list_all p ys) h) (part_all p q (and_right (p x) (list_all p ys) h))
 
-or_none : (a b : Bool) → (a || b) ≡ false → (a ≡ false) × (b ≡ false)
+pub or_none : (a b : Bool) → (a || b) ≡ false → (a ≡ false) × (b ≡ false)
 or_none false false h = (refl, refl)
 or_none false true h = cc
 or_none true b h = cc

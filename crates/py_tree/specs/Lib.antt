@@ -9,6 +9,7 @@ pub mod Numbered
 pub mod Numbering
 pub mod Owners
 pub mod Parts
+pub mod Placed
 pub mod Places
 pub mod Renumbering
 pub mod Spans

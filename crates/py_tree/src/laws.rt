@@ -4,7 +4,8 @@ ghost use Rattle.prov_base.specs.declared.place.Pos.{Pos};
 ghost use Rattle.prov_base.specs.declared.place.Span.{Span};
 ghost use Rattle.py_tree.specs.Binds.{binds};
 ghost use Rattle.py_tree.specs.Functions.{Function, Class, functions_in, function_at, classes_in, class_at, is_local};
-ghost use Rattle.py_tree.specs.Owners.{statements, parent_of, function_of};
+ghost use Rattle.py_tree.specs.Owners.{Standing, form_in, number_at, statements, standing_at, parent_of, function_of};
+ghost use Rattle.py_tree.specs.Placed.{place_of, place_at, standing_on, number_on, own_places, owner_of};
 ghost use Rattle.py_tree.specs.Spans.{moved, moved_standing, moved_function, moved_suite};
 ghost use Rattle.py_tree.specs.Tree.{ScriptTree, SuiteTree};
 ghost use Rattle.py_tree.specs.Numbering.{IsNumbered};
@@ -63,4 +64,14 @@ pub fn functions_stand_apart()
     ensures function_places { (script : ScriptTree) → IsWellFormed script → IsTrue (are_ascending (map (λ f. f.place) (functions_in script.body))) }
     ensures class_places { (script : ScriptTree) → IsWellFormed script → IsTrue (are_ascending (map (λ c. c.place) (classes_in script.body))) }
     ensures apart { (script : ScriptTree) → IsWellFormed script → (f : Function) (c : Class) → Contains (functions_in script.body) f → Contains (classes_in script.body) c → f.place ≡ c.place → ⊥ }
+{}
+
+/// The law that in a well-formed script a statement has one number and one place, and each tells the other. A place of a
+/// node belongs to one statement, the innermost whose nodes it is of.
+pub fn numbers_and_places()
+    ensures numbers { (script : ScriptTree) → IsWellFormed script → (s : ℕ) (x : Standing) → (standing_at script s ≡ Some x) ↔ (Contains (statements script) x × (number_at x ≡ s)) }
+    ensures places { (script : ScriptTree) → IsWellFormed script → (at : Pos) (x : Standing) → (standing_on script at ≡ Some x) ↔ (Contains (statements script) x × (place_of x ≡ at)) }
+    ensures inverse { (script : ScriptTree) → IsWellFormed script → (s : ℕ) (at : Pos) → (place_at script s ≡ Some at) ↔ (number_on script at ≡ Some s) }
+    ensures owner { (script : ScriptTree) → IsWellFormed script → (at : Pos) (s : ℕ) → (owner_of script at ≡ Some s) ↔ ((x : Standing) × Contains (statements script) x × (number_at x ≡ s) × Contains (own_places (form_in x.stmt)) at) }
+    ensures owned { (script : ScriptTree) → IsWellFormed script → (at : Pos) → Contains (suite_places script.body) at ↔ ((s : ℕ) × (owner_of script at ≡ Some s)) }
 {}
