@@ -17,6 +17,7 @@ pub mod OwnersRows
 pub mod OwnersWays
 pub mod PlaceLaws
 pub mod PlacedLaws
+pub mod RemainingLaws
 pub mod SpanLaws
 pub mod StmtTrees
 pub mod TargetTrees

@@ -242,7 +242,7 @@ mutual
   handlers_gives r n end_handlers h = refl
   handlers_gives r n (more_handlers kind bound body rest) h = ap (λ u. more_handlers kind bound u (renamed_handlers r rest)) (suite_gives r n body (runs_first r n (suite_numbers body) (handlers_numbers rest) h)) ∙ ap (more_handlers kind bound (numbered_suite n body)) (handlers_gives r (n + size_suite body) rest (runs_last r n (n + size_suite body) (suite_numbers body) (handlers_numbers rest) (ap (λ m. n + m) (sym (suite_count body))) h))
 
-gives_new_numbers : (keep : ℕ → Bool) (script : ScriptTree) → IsNumbered script → GivesNewNumbers keep script (new_number keep script)
+pub gives_new_numbers : (keep : ℕ → Bool) (script : ScriptTree) → IsNumbered script → GivesNewNumbers keep script (new_number keep script)
 gives_new_numbers keep script is =
     let kept = kept_suite keep script.body in
     suite_gives (rank (suite_numbers kept)) 0 kept

@@ -7,6 +7,7 @@ use Rattle.std.specs.Prelude.{◌==◌, if◌then◌else◌}
 use Rattle.std.specs.Option.{option_map}
 use Rattle.std.specs.List.{list_any}
 use Rattle.prov_base.specs.declared.place.Pos.{Pos}
+use Rattle.py_tree.specs.Numbering.{IsNumbered}
 use Rattle.py_tree.specs.Owners.{Around, Standing, at_module_level, form_in, number_at, within, listed_stmt, listed_form, listed_suite, listed_branches, listed_else, listed_handlers, statements, standing_at}
 use Rattle.py_tree.specs.Placed.{place_of, place_at, standing_on, number_on, test_places, head_places, own_places, owns, owner_of}
 use Rattle.py_tree.specs.Places.{expr_places, target_places, option_places, bound_places, suite_places, stmt_places, form_places, branches_places, else_places, handlers_places, suite_starts, stmt_starts, form_starts, branches_starts, else_starts, handlers_starts, is_same, are_ascending, are_distinct}
@@ -56,24 +57,24 @@ places_listed script = suite_listed at_module_level script.body
 
 -- ## Numbers and places
 
+-- a statement is found by its number
+pub by_number : (script : ScriptTree) → IsNumbered script → (x : Standing) → IsIn (statements script) x → standing_at script (number_at x) ≡ Some x
+by_number script numbered x there =
+    find_only (λ y. number_at y == number_at x) (statements script) x there (eq-eqb (number_at x) (number_at x) refl)
+    (λ y other same. number_once number_at 0 (statements script) y x (numbers_rise script numbered) other there (eqb-true (number_at y) (number_at x) same))
+
+pub number_finds : (script : ScriptTree) (s : ℕ) (x : Standing) → standing_at script s ≡ Some x → IsIn (statements script) x × (number_at x ≡ s)
+number_finds script s x found = let is = find_in (λ y. number_at y == s) (statements script) x found in (is.0, eqb-true (number_at x) s is.1)
+
 module _ (script : ScriptTree) (well : IsWellFormed script) where
   ascending : are_ascending (map place_of (statements script)) ≡ true
   ascending = ap are_ascending (places_listed script) ∙ well.ascending
 
-  -- a statement is found by its number
-  pub by_number : (x : Standing) → IsIn (statements script) x → standing_at script (number_at x) ≡ Some x
-  by_number x there =
-      find_only (λ y. number_at y == number_at x) (statements script) x there (eq-eqb (number_at x) (number_at x) refl)
-      (λ y other same. number_once number_at 0 (statements script) y x (numbers_rise script well.numbered) other there (eqb-true (number_at y) (number_at x) same))
-
-  -- and by its place
+  -- a statement is found by its place
   pub by_place : (x : Standing) → IsIn (statements script) x → standing_on script (place_of x) ≡ Some x
   by_place x there =
       find_only (λ y. is_same (place_of y) (place_of x)) (statements script) x there (same_itself (place_of x))
       (λ y other same. place_once place_of (statements script) y x ascending other there (same_place (place_of y) (place_of x) same))
-
-  pub number_finds : (s : ℕ) (x : Standing) → standing_at script s ≡ Some x → IsIn (statements script) x × (number_at x ≡ s)
-  number_finds s x found = let is = find_in (λ y. number_at y == s) (statements script) x found in (is.0, eqb-true (number_at x) s is.1)
 
   pub place_finds : (at : Pos) (x : Standing) → standing_on script at ≡ Some x → IsIn (statements script) x × (place_of x ≡ at)
   place_finds at x found = let is = find_in (λ y. is_same (place_of y) at) (statements script) x found in (is.0, same_place (place_of x) at is.1)
@@ -81,14 +82,14 @@ module _ (script : ScriptTree) (well : IsWellFormed script) where
   number_of_place : (s : ℕ) (at : Pos) (o : Option Standing) → standing_at script s ≡ o → option_map place_of o ≡ Some at → number_on script at ≡ Some s
   number_of_place s at None found is = absurd (none-some _ is)
   number_of_place s at (Some x) found is =
-      let here = number_finds s x found in
+      let here = number_finds script s x found in
       ap (λ p. number_on script p) (sym (same_Some (place_of x) at is)) ∙ (ap (option_map number_at) (by_place x here.0) ∙ ap Some here.1)
 
   place_of_number : (s : ℕ) (at : Pos) (o : Option Standing) → standing_on script at ≡ o → option_map number_at o ≡ Some s → place_at script s ≡ Some at
   place_of_number s at None found is = absurd (none-some _ is)
   place_of_number s at (Some x) found is =
       let here = place_finds at x found in
-      ap (λ n. place_at script n) (sym (same_Some (number_at x) s is)) ∙ (ap (option_map place_of) (by_number x here.0) ∙ ap Some here.1)
+      ap (λ n. place_at script n) (sym (same_Some (number_at x) s is)) ∙ (ap (option_map place_of) (by_number script well.numbered x here.0) ∙ ap Some here.1)
 
   number_and_place : (s : ℕ) (at : Pos) → (place_at script s ≡ Some at) ↔ (number_on script at ≡ Some s)
   number_and_place s at = (number_of_place s at (standing_at script s) refl, place_of_number s at (standing_on script at) refl)
@@ -282,8 +283,8 @@ all_have_owners script well at = (is_owned at script well, λ is. has_place at s
 
 pub stands_at : (script : ScriptTree) → IsWellFormed script → (s : ℕ) (x : Standing) → (standing_at script s ≡ Some x) ↔ (Contains (statements script) x × (number_at x ≡ s))
 stands_at script well s x = (
-  λ found. let is = number_finds script well s x found in (to_contains (statements script) x is.0, is.1),
-  λ is. ap (standing_at script) (sym is.1) ∙ by_number script well x (from_contains (statements script) x is.0),
+  λ found. let is = number_finds script s x found in (to_contains (statements script) x is.0, is.1),
+  λ is. ap (standing_at script) (sym is.1) ∙ by_number script well.numbered x (from_contains (statements script) x is.0),
 )
 
 pub stands_on : (script : ScriptTree) → IsWellFormed script → (at : Pos) (x : Standing) → (standing_on script at ≡ Some x) ↔ (Contains (statements script) x × (place_of x ≡ at))

@@ -40,7 +40,7 @@ abbrev mutual
   bare_handlers end_handlers = end_handlers
   bare_handlers (more_handlers kind bound body rest) = more_handlers kind bound (bare_suite body) (bare_handlers rest)
 
-pass_kept : (keep : ℕ → Bool) (f : FormTree) → is_pass (kept_form keep f) ≡ is_pass f
+pub pass_kept : (keep : ℕ → Bool) (f : FormTree) → is_pass (kept_form keep f) ≡ is_pass f
 pass_kept keep (do_form e) = refl
 pass_kept keep (assign_form t e) = refl
 pass_kept keep (aug_form t op at e) = refl

@@ -11,6 +11,7 @@ pub mod Owners
 pub mod Parts
 pub mod Placed
 pub mod Places
+pub mod Remaining
 pub mod Renumbering
 pub mod Spans
 pub mod StmtSet

@@ -12,6 +12,7 @@ ghost use Rattle.py_tree.specs.Numbering.{IsNumbered};
 ghost use Rattle.py_tree.specs.Deletion.{deleted};
 ghost use Rattle.py_tree.specs.Places.{suite_places, suite_starts, are_ascending};
 ghost use Rattle.py_tree.specs.Parts.{IsPartOf};
+ghost use Rattle.py_tree.specs.Remaining.{IsClosed, those_in, remaining, AddsPass};
 ghost use Rattle.py_tree.specs.Renumbering.{new_number, both};
 ghost use Rattle.py_tree.specs.Unplaced.{unplaced};
 ghost use Rattle.py_tree.specs.WellFormed.{IsWellFormed};
@@ -74,4 +75,20 @@ pub fn numbers_and_places()
     ensures inverse { (script : ScriptTree) → IsWellFormed script → (s : ℕ) (at : Pos) → (place_at script s ≡ Some at) ↔ (number_on script at ≡ Some s) }
     ensures owner { (script : ScriptTree) → IsWellFormed script → (at : Pos) (s : ℕ) → (owner_of script at ≡ Some s) ↔ ((x : Standing) × Contains (statements script) x × (number_at x ≡ s) × Contains (own_places (form_in x.stmt)) at) }
     ensures owned { (script : ScriptTree) → IsWellFormed script → (at : Pos) → Contains (suite_places script.body) at ↔ ((s : ℕ) × (owner_of script at ≡ Some s)) }
+{}
+
+/// The law of what a deletion leaves, for a set that has the parent of each of its statements: exactly the statements of
+/// the set, in their order, and `pass` where a suite would be empty. Each has its new number, its old place, and its
+/// parent's new number.
+pub fn statements_of_a_deletion()
+    ensures statements { (keep : ℕ → Bool) (script : ScriptTree) → IsNumbered script → IsClosed keep script
+        → AddsPass (map (remaining keep (new_number keep script)) (those_in keep (statements script))) (statements (deleted keep script)) }
+    ensures found { (keep : ℕ → Bool) (script : ScriptTree) → IsNumbered script → IsClosed keep script → (s : ℕ) (x : Standing) → standing_at script s ≡ Some x → IsTrue (keep s)
+        → standing_at (deleted keep script) (new_number keep script s) ≡ Some (remaining keep (new_number keep script) x) }
+    ensures parents { (keep : ℕ → Bool) (script : ScriptTree) → IsNumbered script → IsClosed keep script → (s : ℕ) (x : Standing) → standing_at script s ≡ Some x → IsTrue (keep s)
+        → parent_of (deleted keep script) (new_number keep script s) ≡ option_map (new_number keep script) (parent_of script s) }
+    ensures functions { (keep : ℕ → Bool) (script : ScriptTree) → IsNumbered script → IsClosed keep script → (s : ℕ) (x : Standing) → standing_at script s ≡ Some x → IsTrue (keep s)
+        → function_of (deleted keep script) (new_number keep script s) ≡ option_map (new_number keep script) (function_of script s) }
+    ensures places { (keep : ℕ → Bool) (script : ScriptTree) → IsNumbered script → IsClosed keep script → (s : ℕ) (x : Standing) → standing_at script s ≡ Some x → IsTrue (keep s)
+        → place_at (deleted keep script) (new_number keep script s) ≡ place_at script s }
 {}
