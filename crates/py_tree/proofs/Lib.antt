@@ -18,6 +18,7 @@ pub mod OwnersWays
 pub mod PlaceLaws
 pub mod PlacedLaws
 pub mod RemainingLaws
+pub mod ScopeLaws
 pub mod SpanLaws
 pub mod StmtTrees
 pub mod TargetTrees

@@ -13,6 +13,7 @@ pub mod Placed
 pub mod Places
 pub mod Remaining
 pub mod Renumbering
+pub mod Scope
 pub mod Spans
 pub mod StmtSet
 pub mod Tree

@@ -1,15 +1,17 @@
 // Laws of scripts and of deletion, each as the clause of a function that does nothing.
 ghost use Rattle.std.specs.Prelude.{ℕ, Bool, ◌≡◌, ◌<◌, ◌↔◌, IsTrue, List, Contains, map, Some, option_map};
+ghost use Rattle.std.specs.List.{list_any, list_all};
 ghost use Rattle.prov_base.specs.declared.place.Pos.{Pos};
 ghost use Rattle.prov_base.specs.declared.place.Span.{Span};
-ghost use Rattle.py_tree.specs.Binds.{binds};
-ghost use Rattle.py_tree.specs.Functions.{Function, Class, functions_in, function_at, classes_in, class_at, is_local};
-ghost use Rattle.py_tree.specs.Owners.{Standing, form_in, number_at, statements, standing_at, parent_of, function_of};
+ghost use Rattle.py_tree.specs.Binds.{form_binds, binds};
+ghost use Rattle.py_tree.specs.Functions.{Function, Class, functions_in, function_at, classes_in, class_at, suite_binds, is_local};
+ghost use Rattle.py_tree.specs.Owners.{Around, Standing, form_in, number_at, listed_suite, statements, standing_at, parent_of, function_of};
 ghost use Rattle.py_tree.specs.Placed.{place_of, place_at, standing_on, number_on, own_places, owner_of};
+ghost use Rattle.py_tree.specs.Scope.{scope_suite, is_no_definition};
 ghost use Rattle.py_tree.specs.Spans.{moved, moved_standing, moved_function, moved_suite};
 ghost use Rattle.py_tree.specs.Tree.{ScriptTree, SuiteTree};
-ghost use Rattle.py_tree.specs.Numbering.{IsNumbered};
-ghost use Rattle.py_tree.specs.Deletion.{deleted};
+ghost use Rattle.py_tree.specs.Numbering.{IsNumbered, numbered_suite};
+ghost use Rattle.py_tree.specs.Deletion.{or_pass, kept_suite, deleted};
 ghost use Rattle.py_tree.specs.Places.{suite_places, suite_starts, are_ascending};
 ghost use Rattle.py_tree.specs.Parts.{IsPartOf};
 ghost use Rattle.py_tree.specs.Remaining.{IsClosed, those_in, remaining, AddsPass};
@@ -91,4 +93,14 @@ pub fn statements_of_a_deletion()
         → function_of (deleted keep script) (new_number keep script s) ≡ option_map (new_number keep script) (function_of script s) }
     ensures places { (keep : ℕ → Bool) (script : ScriptTree) → IsNumbered script → IsClosed keep script → (s : ℕ) (x : Standing) → standing_at script s ≡ Some x → IsTrue (keep s)
         → place_at (deleted keep script) (new_number keep script s) ≡ place_at script s }
+{}
+
+/// The law of local names. A suite binds exactly the names that some statement of its scope binds itself; where it has no
+/// `def` and no `class`, its scope is all its statements. Numbers do not matter, and a deletion makes no name local.
+pub fn names_are_local()
+    ensures bound { (body : SuiteTree) (name : List ℕ) → suite_binds body name ≡ list_any (λ s. form_binds (form_in s) name) (scope_suite body) }
+    ensures scope { (around : Around) (body : SuiteTree) → IsTrue (list_all is_no_definition (listed_suite around body)) → map (λ x. x.stmt) (listed_suite around body) ≡ scope_suite body }
+    ensures numbers { (n : ℕ) (body : SuiteTree) (name : List ℕ) → suite_binds (numbered_suite n body) name ≡ suite_binds body name }
+    ensures deletion { (keep : ℕ → Bool) (body : SuiteTree) (name : List ℕ) → IsTrue (suite_binds (kept_suite keep body) name) → IsTrue (suite_binds body name) }
+    ensures local { (keep : ℕ → Bool) (n : ℕ) (f : Function) (name : List ℕ) → IsTrue (is_local (record f { body = numbered_suite n (or_pass f.body (kept_suite keep f.body)) }) name) → IsTrue (is_local f name) }
 {}

@@ -18,7 +18,8 @@ pub use deletion::delete;
 pub use expr::{Atom, BinOp, CmpOp, Expr, Exprs, LogicOp, Pairs, Target, Targets, UnOp};
 pub use laws::{
     deletion_is_well_formed, deletion_keeps_places, deletion_of_nothing, deletion_twice,
-    functions_stand_apart, numbers_and_places, spans_are_not_looked_at, statements_of_a_deletion,
+    functions_stand_apart, names_are_local, numbers_and_places, spans_are_not_looked_at,
+    statements_of_a_deletion,
 };
 pub use stmt::{
     Bound, Branches, Form, Globals, Handlers, Params, Script, Stmt, Suite, drop_script,
