@@ -5,7 +5,7 @@
 use prov_base::{Name, Pos};
 
 /// An operator before its operand: `unary = ("-" | "+") unary`, `not = "not" not`, as in `-x`, `+x`, `not x`.
-#[derive(Clone, Copy, Debug, PartialEq, Eq)]
+#[derive(Clone, Copy, Debug)]
 pub enum UnOp {
     /// `-x`
     Minus,
@@ -16,7 +16,7 @@ pub enum UnOp {
 }
 
 /// An operator that may leave its right operand alone: `or = and { "or" and }`, `and = not { "and" not }`.
-#[derive(Clone, Copy, Debug, PartialEq, Eq)]
+#[derive(Clone, Copy, Debug)]
 pub enum LogicOp {
     /// `a and b`
     And,
@@ -26,7 +26,7 @@ pub enum LogicOp {
 
 /// An operator of arithmetic: `sum = term { ("+" | "-") term }`, `term = unary { ("*" | "//" | "%") unary }`. It is
 /// also the operator of an augmented assignment, as in `x += 1`.
-#[derive(Clone, Copy, Debug, PartialEq, Eq)]
+#[derive(Clone, Copy, Debug)]
 pub enum BinOp {
     /// `a + b`
     Add,
@@ -41,7 +41,7 @@ pub enum BinOp {
 }
 
 /// A comparison: `cmp = sum [cmpop sum]`.
-#[derive(Clone, Copy, Debug, PartialEq, Eq)]
+#[derive(Clone, Copy, Debug)]
 pub enum CmpOp {
     /// `a == b`
     Eq,
