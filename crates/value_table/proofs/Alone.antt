@@ -59,7 +59,7 @@ module _ (store : RunStore) (answers : Answers) where
   abbrev DoesIt : Plan → Result (Unit {0}) → Type 0
   DoesIt p result = DoesAlone store (effect store answers p) result
 
-  alone_same : (e f : Effect) (result : Result (Unit {0})) → ((s : RunStore) → Same e f s s) → DoesAlone store f result → DoesAlone store e result
+  pub alone_same : (e f : Effect) (result : Result (Unit {0})) → ((s : RunStore) → Same e f s s) → DoesAlone store f result → DoesAlone store e result
   alone_same e f (leaves answer left) same does = record {
     answer_is = (same store).answer_is ∙ does.answer_is;
     made_is = (same store).made_is ∙ does.made_is;
@@ -243,9 +243,13 @@ module _ (store : RunStore) (answers : Answers) where
     pub enumerated : DoesIt (enumerate (v ∷ [])) (sequences.enumerate_is items)
     enumerated = by_walk (λ found. new_list (numbered 0 found)) (sequences.enumerate_is items) (list_made store answers (numbered 0 items))
 
-    pub sorted_does : refused_to deepest items ≡ None → DoesIt (sorted_builtin (v ∷ [])) (sequences.sorted_is items)
-    sorted_does in_kind = by_walk (λ found. with_sorted found new_list) (sequences.sorted_is items)
-        (subst (λ (refused : Option Plan). DoesIt (sorted_by new_list items refused) (sequences.sorted_is items)) (sym in_kind) (list_made store answers (in_order items)))
+    pub sorted_does : refused_to deepest items ≡ None → DoesIt (sorted_builtin (v ∷ [])) (sequences.sorted_is (in_order items))
+    sorted_does in_kind = by_walk (λ found. with_sorted found new_list) (sequences.sorted_is (in_order items))
+        (subst (λ (refused : Option Plan). DoesIt (sorted_by new_list items refused) (sequences.sorted_is (in_order items))) (sym in_kind) (list_made store answers (in_order items)))
+
+    pub sorted_refused : (number : ℕ) (words : List ℕ) → refused_to deepest items ≡ Some (fault number words) → DoesIt (sorted_builtin (v ∷ [])) (throws number (text words ∷ []))
+    sorted_refused number words is = by_walk (λ found. with_sorted found new_list) (throws number (text words ∷ []))
+        (subst (λ (refused : Option Plan). DoesIt (sorted_by new_list items refused) (throws number (text words ∷ []))) (sym is) (record { outcome_is = refl; made_is = refl; after_is = refl }))
 
     pub zipped : (w : Contents) (more : List Contents) → HasItems store w more → DoesIt (zip_builtin (v ∷ (w ∷ []))) (sequences.zip_is items more)
     zipped w more other =

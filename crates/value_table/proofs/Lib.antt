@@ -12,3 +12,10 @@ pub mod Files
 pub mod WorkedFiles
 pub mod Members
 pub mod NewDicts
+pub mod Comparing
+pub mod Kin
+pub mod Ranks
+pub mod Sorting
+pub mod Comparisons
+pub mod Bests
+pub mod WorkedOrders

@@ -5,7 +5,7 @@ use Rattle.py_value.specs.Contents.{Contents, nothing, int, text, object}
 use Rattle.py_value.specs.Seen.{SeenLocation, SeenKind, a_list, a_dict, item_at, len_at, item_is, len_is, reads}
 use Rattle.py_model.specs.Arithmetic.{len_plan, add_plan, added, repeated, repeats, mul_plan, iadd_plan}
 use Rattle.py_model.specs.Effect.{Effect, Answers, accessed, touching, effect, written, after, after_touches, with_made}
-use Rattle.py_model.specs.Faults.{bad_index, wrong_kind, out_of_range, overflow}
+use Rattle.py_model.specs.Faults.{bad_index, wrong_kind, out_of_range, overflow, fault}
 use Rattle.py_model.specs.Lists.{append, insert, pop, getitem, setitem, delitem, slice, when_list, get_of, get_item, set_of, set_item, del_of, del_item, close_gap, move_down, move_up, pop_item, insert_item, slice_of, with_bounds, with_place, extend, extend_list, reverse_method, sort_method, turned}
 use Rattle.py_model.specs.Making.{new_list, set_items}
 use Rattle.py_model.specs.Operands.{number_in, gives, gives_int, when_lists}
@@ -338,10 +338,17 @@ module _ (store : RunStore) (answers : Answers) (o : ℕ) (items : List Contents
       (does_same (is_of o) IsList store o (effect store answers (walk (object o) set_all)) (effect store answers (set_all items)) (reverse_is items) (λ s. list_walked store answers o items set_all s listed)
       (all_set (reverse items) (omega (arith, length_turned items []))))
 
-  pub sort_does : refused_to deepest items ≡ None → Does (effect store answers (sort_method (object o ∷ []))) (sort_is items)
-  sort_does in_kind =
-      let set_all = λ (sorted : List Contents). writes (set_items o 0 sorted (done nothing)) in
-      let go = λ (found : List Contents). with_sorted found set_all in
-      by_kind (when_list (walk (object o) go)) (sort_is items)
-      (does_same (is_of o) IsList store o (effect store answers (walk (object o) go)) (effect store answers (go items)) (sort_is items) (λ s. list_walked store answers o items go s listed)
-      (subst (λ (refused : Option Plan). Does (effect store answers (sorted_by set_all items refused)) (sort_is items)) (sym in_kind) (all_set (in_order items) (length_in_order items))))
+  sort_goes : (go : List Contents → Plan) (result : Result (List Contents)) → Does (effect store answers (go items)) result → Does (effect store answers (kind_of o (when_list (walk (object o) go)))) result
+  sort_goes go result does = by_kind (when_list (walk (object o) go)) result
+      (does_same (is_of o) IsList store o (effect store answers (walk (object o) go)) (effect store answers (go items)) result (λ s. list_walked store answers o items go s listed) does)
+
+  abbrev set_sorted : List Contents → Plan
+  set_sorted sorted = writes (set_items o 0 sorted (done nothing))
+
+  pub sort_does : refused_to deepest items ≡ None → Does (effect store answers (sort_method (object o ∷ []))) (sort_is (in_order items))
+  sort_does in_kind = sort_goes (λ found. with_sorted found set_sorted) (sort_is (in_order items))
+      (subst (λ (refused : Option Plan). Does (effect store answers (sorted_by set_sorted items refused)) (sort_is (in_order items))) (sym in_kind) (all_set (in_order items) (length_in_order items)))
+
+  pub sort_refused : (number : ℕ) (words : List ℕ) → refused_to deepest items ≡ Some (fault number words) → Does (effect store answers (sort_method (object o ∷ []))) (throws number (text words ∷ []))
+  sort_refused number words is = sort_goes (λ found. with_sorted found set_sorted) (throws number (text words ∷ []))
+      (subst (λ (refused : Option Plan). Does (effect store answers (sorted_by set_sorted items refused)) (throws number (text words ∷ []))) (sym is) (record { outcome_is = refl; made_is = refl; after_is = refl }))

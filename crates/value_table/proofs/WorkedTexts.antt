@@ -40,9 +40,6 @@ in_range = refl
 past_range : sequences.getitem_of_range_is (pos 5) (pos 0) (negsuc 1) (pos 3) ≡ throws index_error (text (codes "index out of range") ∷ [])
 past_range = refl
 
-in_order : sequences.sorted_is (n 9 ∷ n 7 ∷ n 8 ∷ []) ≡ makes_list (n 7 ∷ n 8 ∷ n 9 ∷ [])
-in_order = refl
-
 -- `-7 // 2`, `-7 % 2`, `1 // 0`, and one more than the greatest integer
 rounded : numbers.floordiv_is (negsuc 6) (pos 2) ≡ gives (int (negsuc 3))
 rounded = refl

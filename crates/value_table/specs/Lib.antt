@@ -1,6 +1,9 @@
+pub mod Comparing
 pub mod Equality
+pub mod InOrder
 pub mod Reading
 pub mod Results
+pub mod TableComparisons
 pub mod TableDicts
 pub mod TableFiles
 pub mod TableLists

@@ -7,7 +7,6 @@ use Rattle.py_model.specs.Arithmetic.{repeated}
 use Rattle.py_model.specs.Faults.{index_error, overflow, value_error}
 use Rattle.py_model.specs.Numbers.{is_int}
 use Rattle.py_model.specs.Places.{place_in, clipped, low_bound, high_bound}
-use Rattle.py_model.specs.Sorting.{in_order}
 use Rattle.py_model.specs.Walks.{number_of}
 use Rattle.value_table.specs.Results.{Result, leaves, makes_list, throws, reaches_end}
 
@@ -115,6 +114,6 @@ bound_in other = None
 abbrev pub reverse_is : List Contents → Result (List Contents)
 reverse_is items = leaves nothing (reverse items)
 
--- 86 sort (walk, S Items): the items in order, equal ones as they stood (`specs/Sorting.antt` of `py_model` has the order, and what is refused)
+-- 86 sort (walk, S Items): the items sorted (`InOrder.antt`)
 abbrev pub sort_is : List Contents → Result (List Contents)
-sort_is items = leaves nothing (in_order items)
+sort_is sorted = leaves nothing sorted

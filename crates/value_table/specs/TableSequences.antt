@@ -9,7 +9,6 @@ use Rattle.py_model.specs.Effect.{parts_of}
 use Rattle.py_model.specs.Lists.{number_at, numbered}
 use Rattle.py_model.specs.Numbers.{range_count}
 use Rattle.py_model.specs.Places.{place_in, low_bound, high_bound}
-use Rattle.py_model.specs.Sorting.{in_order}
 use Rattle.value_table.specs.Results.{Result, gives, makes_list, throws, reaches_end}
 use Rattle.value_table.specs.TableLists.{item_in, at_place, number_or_overflow, item_or_end}
 
@@ -68,9 +67,9 @@ list_is items = makes_list items
 abbrev pub tuple_is : List Contents → Result (Unit {0})
 tuple_is items = tuple_of items
 
--- 67 sorted (walk, S Len, S Items): a new list of the items in order
+-- 67 sorted (walk, S Len, S Items): a new list of the items sorted (`InOrder.antt`)
 abbrev pub sorted_is : List Contents → Result (Unit {0})
-sorted_is items = makes_list (in_order items)
+sorted_is sorted = makes_list sorted
 
 -- 54 enumerate (walk, S Len, S Items): a new list of the items, each in a tuple with its number from 0 on
 abbrev pub enumerate_is : List Contents → Result (Unit {0})

@@ -10,10 +10,9 @@ ghost use Rattle.py_model.specs.Arithmetic.{add_plan, in_plan, iadd_plan, len_pl
 ghost use Rattle.py_model.specs.Classes.{find, getattr, setattr};
 ghost use Rattle.py_model.specs.Dicts.{get_method, items_method, keys_method, values_method, dict_display, dict_builtin};
 ghost use Rattle.py_model.specs.Effect.{Answers, effect};
-ghost use Rattle.py_model.specs.Lists.{append, extend, insert, pop, getitem, setitem, delitem, slice, reverse_method, sort_method, list_builtin, tuple_builtin, sorted_builtin, enumerate, zip_builtin, index_method, unpack, list_display, tuple_display, iter, next};
+ghost use Rattle.py_model.specs.Lists.{append, extend, insert, pop, getitem, setitem, delitem, slice, reverse_method, list_builtin, tuple_builtin, enumerate, zip_builtin, index_method, unpack, list_display, tuple_display, iter, next};
 ghost use Rattle.py_model.specs.Numbers.{times, range_count};
 ghost use Rattle.py_model.specs.Operands.{number_in};
-ghost use Rattle.py_model.specs.Sorting.{refused_to};
 ghost use Rattle.py_model.specs.Store.{RunStore};
 ghost use Rattle.py_model.specs.Walks.{deepest, items_of};
 ghost use Rattle.py_model.specs.TextMethods.{strip_plan, lstrip_plan, rstrip_plan, split_plan, join_plan, replace_plan, find_plan, startswith_plan, endswith_plan, upper_plan, lower_plan, isdigit_plan, ljust_plan, rjust_plan};
@@ -22,7 +21,7 @@ ghost use Rattle.value_table.specs.Equality.{IsEqual, StandsAt};
 ghost use Rattle.value_table.specs.Reading.{HasPairs, IsDict, IsInstance, IsList, pair_of, pairs_at, HasItems, IsPlainList, items_at, FileValue, IsFile};
 ghost use Rattle.value_table.specs.TableDicts.{Pairs, getitem_is as dict_getitem_is, setitem_is as dict_setitem_is, delitem_is as dict_delitem_is, in_is, len_is as dict_len_is, get_is, items_is, keys_is, values_is, setattr_is, getattr_is, truth_is as dict_truth_is, not_is as dict_not_is, iter_is as dict_iter_is, next_is as dict_next_is, MakesDict, HasNoNext, HasUsableKeys, display_pairs, not_in_is as dict_not_in_is};
 ghost use Rattle.value_table.specs.Results.{Does, DoesAlone, DoesToFile};
-ghost use Rattle.value_table.specs.TableLists.{append_is, getitem_is, setitem_is, delitem_is, pop_is, pop_last_is, insert_is, len_is, extend_is, iadd_is, add_is, slice_is, mul_is, reverse_is, sort_is, bound_in, truth_is, not_is, unpack_is, iter_is, next_is};
+ghost use Rattle.value_table.specs.TableLists.{append_is, getitem_is, setitem_is, delitem_is, pop_is, pop_last_is, insert_is, len_is, extend_is, iadd_is, add_is, slice_is, mul_is, reverse_is, bound_in, truth_is, not_is, unpack_is, iter_is, next_is};
 ghost use Rattle.value_table.specs.Equality as members;
 ghost use Rattle.value_table.specs.TableFiles as files;
 ghost use Rattle.value_table.specs.TableNumbers as numbers;
@@ -59,8 +58,6 @@ pub fn lists_do_as_the_table()
         → HasItems store other more → Does IsList store o (effect store answers (iadd_plan (object o ∷ (other ∷ [])))) (iadd_is o items more) }
     ensures reverse { (store : RunStore) (answers : Answers) (o : ℕ) (items : List Contents) → IsList store o items
         → Does IsList store o (effect store answers (reverse_method (object o ∷ []))) (reverse_is items) }
-    ensures sort { (store : RunStore) (answers : Answers) (o : ℕ) (items : List Contents) → IsList store o items → refused_to deepest items ≡ None
-        → Does IsList store o (effect store answers (sort_method (object o ∷ []))) (sort_is items) }
 {}
 
 /// The law of lists that are read: so each operation does that answers an item, a number or the end, or makes a new list or a tuple.
@@ -228,8 +225,6 @@ pub fn walks_do_as_the_table()
         → DoesAlone store (effect store answers (list_builtin (v ∷ []))) (sequences.list_is items) }
     ensures tuple { (store : RunStore) (answers : Answers) (v : Contents) (items : List Contents) → HasItems store v items
         → DoesAlone store (effect store answers (tuple_builtin (v ∷ []))) (sequences.tuple_is items) }
-    ensures sorted { (store : RunStore) (answers : Answers) (v : Contents) (items : List Contents) → HasItems store v items → refused_to deepest items ≡ None
-        → DoesAlone store (effect store answers (sorted_builtin (v ∷ []))) (sequences.sorted_is items) }
     ensures enumerate { (store : RunStore) (answers : Answers) (v : Contents) (items : List Contents) → HasItems store v items
         → DoesAlone store (effect store answers (enumerate (v ∷ []))) (sequences.enumerate_is items) }
     ensures zip { (store : RunStore) (answers : Answers) (v w : Contents) (items more : List Contents) → HasItems store v items → HasItems store w more

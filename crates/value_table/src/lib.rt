@@ -17,6 +17,7 @@
 #![tactic(auto)]
 
 mod laws;
+mod orders;
 
 pub use laws::{
     attributes_do_as_the_table, dicts_are_made, dicts_do_as_the_table, files_do_as_the_table,
@@ -24,3 +25,4 @@ pub use laws::{
     plain_lists_have_items, sequences_do_as_the_table, text_methods_do_as_the_table,
     texts_do_as_the_table, walks_do_as_the_table,
 };
+pub use orders::{best_items_are_found, comparisons_do_as_the_table, items_are_sorted};

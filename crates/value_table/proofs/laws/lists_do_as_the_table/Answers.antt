@@ -1,5 +1,5 @@
 use Rattle.value_table.proofs.laws.lists_do_as_the_table.Goals as goal
-use Rattle.value_table.proofs.Lists.{append_does, setitem_does, delitem_does, pop_does, pop_last_does, insert_does, extend_does, iadd_does, reverse_does, sort_does}
+use Rattle.value_table.proofs.Lists.{append_does, setitem_does, delitem_does, pop_does, pop_last_does, insert_does, extend_does, iadd_does, reverse_does}
 
 pub returns-clause-append : goal.returns-clause-append
 returns-clause-append c = λ store answers o items item listed. append_does store answers o items listed item
@@ -27,6 +27,3 @@ returns-clause-iadd c = λ store answers o items more other listed has. iadd_doe
 
 pub returns-clause-reverse : goal.returns-clause-reverse
 returns-clause-reverse c = λ store answers o items listed. reverse_does store answers o items listed
-
-pub returns-clause-sort : goal.returns-clause-sort
-returns-clause-sort c = λ store answers o items listed in_kind. sort_does store answers o items listed in_kind

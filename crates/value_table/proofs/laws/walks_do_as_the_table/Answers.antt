@@ -1,15 +1,12 @@
 use Rattle.std.proofs.Common.{refl}
 use Rattle.value_table.proofs.laws.walks_do_as_the_table.Goals as goal
-use Rattle.value_table.proofs.Alone.{listed, tupled, sorted_does, enumerated, zipped, list_displayed}
+use Rattle.value_table.proofs.Alone.{listed, tupled, enumerated, zipped, list_displayed}
 
 pub returns-clause-list : goal.returns-clause-list
 returns-clause-list c = listed
 
 pub returns-clause-tuple : goal.returns-clause-tuple
 returns-clause-tuple c = tupled
-
-pub returns-clause-sorted : goal.returns-clause-sorted
-returns-clause-sorted c = sorted_does
 
 pub returns-clause-enumerate : goal.returns-clause-enumerate
 returns-clause-enumerate c = enumerated

@@ -1,0 +1,96 @@
+-- Comparisons do what the table says.
+use Rattle.std.proofs.Common.{◌≡◌, refl, subst, ℕ, Bool, true, false, not, if◌then◌else◌, List, [], ◌∷◌, slice_get, Option, Some}
+use Rattle.std.specs.Str.{bytes_eq}
+use Rattle.py_value.specs.Contents.{Contents, truth, int, text, tuple, object}
+use Rattle.py_value.specs.Seen.{SeenKind, a_list}
+use Rattle.py_model.specs.Arithmetic.{eq_plan, ne_plan, lt_plan, le_plan, gt_plan, ge_plan, in_order, unless_apart, is_less, is_more}
+use Rattle.py_model.specs.Effect.{Answers, effect}
+use Rattle.py_model.specs.Operands.{gives_truth, when_lists}
+use Rattle.py_model.specs.Plan.{Plan, counts}
+use Rattle.py_model.specs.Store.{RunStore}
+use Rattle.py_model.specs.Texts.{is_before}
+use Rattle.py_model.specs.Walks.{Comparison, alike, before, behind, apart, compare_to, deepest, is_alike, shorter, order_of_texts, equals}
+use Rattle.value_table.specs.Comparing.{Compared, comes, lies_too_deep, compared, HasDicts}
+use Rattle.value_table.specs.Equality.{IsEqual}
+use Rattle.value_table.specs.Results.{Result, gives, DoesAlone}
+use Rattle.value_table.specs.TableComparisons.{answers_by, eq_is, ne_is, if_ordered, are_lists, ordered_is, wrong_kinds, lt_is, le_is, gt_is, ge_is}
+use Rattle.value_table.proofs.Alone.{alone_same}
+use Rattle.value_table.proofs.Comparing.{goes_on, within_does}
+use Rattle.value_table.proofs.Effects.{Same, after_same}
+use Rattle.value_table.proofs.Keys.{ValuesTested}
+
+module _ (tested : ValuesTested) (store : RunStore) (answers : Answers) (dicts : HasDicts store) where
+  abbrev DoesIt : Plan → Result (Unit {0}) → Type 0
+  DoesIt p result = DoesAlone store (effect store answers p) result
+
+  by_walk : (ordered : Bool) (v w : Contents) (go : Comparison → Plan) (result : Result (Unit {0})) → DoesIt (goes_on go (compared store ordered v w)) result → DoesIt (compare_to ordered deepest v w go) result
+  by_walk ordered v w go result does =
+      alone_same store answers (effect store answers (compare_to ordered deepest v w go)) (effect store answers (goes_on go (compared store ordered v w))) result
+      (within_does store answers tested dicts deepest ordered v w go) does
+
+  answered : (test : Comparison → Bool) (how : Compared) → DoesIt (goes_on (λ c. gives_truth (test c)) how) (answers_by (λ c. gives (truth (test c))) how)
+  answered test (comes how) = record { answer_is = refl; made_is = refl; after_is = refl }
+  answered test lies_too_deep = record { outcome_is = refl; made_is = refl; after_is = refl }
+
+  pub equal_does : (v w : Contents) → DoesIt (eq_plan (v ∷ (w ∷ []))) (eq_is store v w)
+  equal_does v w = by_walk false v w (λ how. gives_truth (is_alike how)) (eq_is store v w) (answered is_alike (compared store false v w))
+
+  pub unequal_does : (v w : Contents) → DoesIt (ne_plan (v ∷ (w ∷ []))) (ne_is store v w)
+  unequal_does v w = by_walk false v w (λ how. gives_truth (not (is_alike how))) (ne_is store v w) (answered (λ how. not (is_alike how)) (compared store false v w))
+
+  -- what a comparison comes to, `in` and `index` go on with
+  pub equals_as : (v w : Contents) (how : Comparison) → compared store false v w ≡ comes how → IsEqual store answers v w (is_alike how)
+  equals_as v w how is go =
+      let same = within_does store answers tested dicts deepest false v w (λ c. go (is_alike c)) in
+      let more : (s : RunStore) → Same (effect store answers (equals v w go)) (effect store answers (go (is_alike how))) s s
+      = λ s. subst (λ (c : Compared). Same (effect store answers (equals v w go)) (effect store answers (goes_on (λ c. go (is_alike c)) c)) s s) is (same s) in
+      record { answer_is = (more store).answer_is; made_is = (more store).made_is; after_is = after_same store (effect store answers (equals v w go)) (effect store answers (go (is_alike how))) more }
+
+  module _ (test : Comparison → Bool) where
+    abbrev tells : Comparison → Plan
+    tells how = gives_truth (test how)
+
+    ordered : (how : Compared) → DoesIt (goes_on (unless_apart tells) how) (answers_by (if_ordered test) how)
+    ordered (comes alike) = record { answer_is = refl; made_is = refl; after_is = refl }
+    ordered (comes before) = record { answer_is = refl; made_is = refl; after_is = refl }
+    ordered (comes behind) = record { answer_is = refl; made_is = refl; after_is = refl }
+    ordered (comes apart) = record { outcome_is = refl; made_is = refl; after_is = refl }
+    ordered lies_too_deep = record { outcome_is = refl; made_is = refl; after_is = refl }
+
+    both : (v w : Contents) → DoesIt (compare_to true deepest v w (unless_apart tells)) (answers_by (if_ordered test) (compared store true v w))
+    both v w = by_walk true v w (unless_apart tells) (answers_by (if_ordered test) (compared store true v w)) (ordered (compared store true v w))
+
+    by_texts : (one other : List ℕ) → DoesIt (counts (shorter one other) (tells (order_of_texts one other))) (if_ordered test (order_of_texts one other))
+    by_texts one other = by_tests (bytes_eq one other) (is_before one other)
+      where
+        by_tests : (b c : Bool) → DoesIt (counts (shorter one other) (tells (if b then alike else if c then before else behind))) (if_ordered test (if b then alike else if c then before else behind))
+        by_tests true c = record { answer_is = refl; made_is = refl; after_is = refl }
+        by_tests false true = record { answer_is = refl; made_is = refl; after_is = refl }
+        by_tests false false = record { answer_is = refl; made_is = refl; after_is = refl }
+
+    by_kinds : (p : Plan) (result : Result (Unit {0})) → DoesIt p result → (left right : Option SeenKind) → DoesIt (when_lists p left right) (if are_lists left right then result else wrong_kinds)
+    by_kinds p result does (Some a_list) (Some a_list) = does
+    by_kinds p result does left right = record { outcome_is = refl; made_is = refl; after_is = refl }
+
+    pub order_does : (v w : Contents) → DoesIt (in_order v w tells) (ordered_is test store v w)
+    order_does (text one) (text other) = by_texts one other
+    order_does (tuple ps) (tuple qs) = both (tuple ps) (tuple qs)
+    order_does (object o) (object p) = by_kinds (compare_to true deepest (object o) (object p) (unless_apart tells)) (answers_by (if_ordered test) (compared store true (object o) (object p))) (both (object o) (object p))
+        (slice_get store.kinds o) (slice_get store.kinds p)
+    order_does (int i) (int j) = both (int i) (int j)
+    order_does (int i) (truth b) = both (int i) (truth b)
+    order_does (truth a) (int j) = both (truth a) (int j)
+    order_does (truth a) (truth b) = both (truth a) (truth b)
+    order_does v w = record { outcome_is = refl; made_is = refl; after_is = refl }
+
+  pub lt_does : (v w : Contents) → DoesIt (lt_plan (v ∷ (w ∷ []))) (lt_is store v w)
+  lt_does v w = order_does is_less v w
+
+  pub le_does : (v w : Contents) → DoesIt (le_plan (v ∷ (w ∷ []))) (le_is store v w)
+  le_does v w = order_does (λ how. not (is_more how)) v w
+
+  pub gt_does : (v w : Contents) → DoesIt (gt_plan (v ∷ (w ∷ []))) (gt_is store v w)
+  gt_does v w = order_does is_more v w
+
+  pub ge_does : (v w : Contents) → DoesIt (ge_plan (v ∷ (w ∷ []))) (ge_is store v w)
+  ge_does v w = order_does (λ how. not (is_less how)) v w

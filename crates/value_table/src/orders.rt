@@ -1,0 +1,69 @@
+// Laws of comparisons, and of what is in order: sorted items, and the first best one.
+ghost use Rattle.std.specs.Prelude.{◌≡◌, ℕ, false, List, [], ◌∷◌, Some, None};
+ghost use Rattle.py_value.specs.Contents.{Contents, object, text};
+ghost use Rattle.py_model.specs.Arithmetic.{eq_plan, ne_plan, lt_plan, le_plan, gt_plan, ge_plan, max_plan, min_plan};
+ghost use Rattle.py_model.specs.Effect.{Answers, effect};
+ghost use Rattle.py_model.specs.Faults.{fault};
+ghost use Rattle.py_model.specs.Lists.{sort_method, sorted_builtin};
+ghost use Rattle.py_model.specs.Sorting.{refused_to};
+ghost use Rattle.py_model.specs.Store.{RunStore};
+ghost use Rattle.py_model.specs.Walks.{Comparison, deepest, is_alike};
+ghost use Rattle.value_table.specs.Comparing.{HasDicts, comes, compared, exceeds, precedes};
+ghost use Rattle.value_table.specs.Equality.{IsEqual};
+ghost use Rattle.value_table.specs.InOrder.{IsFirstBest, IsSortedOf};
+ghost use Rattle.value_table.specs.Reading.{HasItems, IsList};
+ghost use Rattle.value_table.specs.Results.{Does, DoesAlone, throws};
+ghost use Rattle.value_table.specs.TableComparisons.{eq_is, ne_is, lt_is, le_is, gt_is, ge_is, best_is, no_best_is};
+ghost use Rattle.value_table.specs.TableLists.{sort_is};
+ghost use Rattle.value_table.specs.TableSequences.{sorted_is};
+
+use py_value::tests_are_equality;
+
+/// The law of comparisons: each does with any two values what the table says of how they compare as they are read in the store, whatever lies in
+/// them. `in` and `index` compare so too.
+pub fn comparisons_do_as_the_table()
+    ensures eq { (store : RunStore) (answers : Answers) (v w : Contents) → HasDicts store → DoesAlone store (effect store answers (eq_plan (v ∷ (w ∷ [])))) (eq_is store v w) }
+    ensures ne { (store : RunStore) (answers : Answers) (v w : Contents) → HasDicts store → DoesAlone store (effect store answers (ne_plan (v ∷ (w ∷ [])))) (ne_is store v w) }
+    ensures lt { (store : RunStore) (answers : Answers) (v w : Contents) → HasDicts store → DoesAlone store (effect store answers (lt_plan (v ∷ (w ∷ [])))) (lt_is store v w) }
+    ensures le { (store : RunStore) (answers : Answers) (v w : Contents) → HasDicts store → DoesAlone store (effect store answers (le_plan (v ∷ (w ∷ [])))) (le_is store v w) }
+    ensures gt { (store : RunStore) (answers : Answers) (v w : Contents) → HasDicts store → DoesAlone store (effect store answers (gt_plan (v ∷ (w ∷ [])))) (gt_is store v w) }
+    ensures ge { (store : RunStore) (answers : Answers) (v w : Contents) → HasDicts store → DoesAlone store (effect store answers (ge_plan (v ∷ (w ∷ [])))) (ge_is store v w) }
+    ensures members { (store : RunStore) (answers : Answers) (v w : Contents) (how : Comparison) → HasDicts store → compared store false v w ≡ comes how
+        → IsEqual store answers v w (is_alike how) }
+{
+    tests_are_equality();
+}
+
+/// The law of sorting: where nothing is refused of the items, a list is sorted in place, and a sorted list is made of what a sequence has. Items that are
+/// refused raise.
+pub fn items_are_sorted()
+    ensures sort { (store : RunStore) (answers : Answers) (o : ℕ) (items : List Contents) → IsList store o items → refused_to deepest items ≡ None
+        → (sorted : List Contents) × (IsSortedOf store items sorted × Does IsList store o (effect store answers (sort_method (object o ∷ []))) (sort_is sorted)) }
+    ensures sort_refused { (store : RunStore) (answers : Answers) (o : ℕ) (items : List Contents) (number : ℕ) (words : List ℕ) → IsList store o items
+        → refused_to deepest items ≡ Some (fault number words) → Does IsList store o (effect store answers (sort_method (object o ∷ []))) (throws number (text words ∷ [])) }
+    ensures sorted { (store : RunStore) (answers : Answers) (v : Contents) (items : List Contents) → HasItems store v items → refused_to deepest items ≡ None
+        → (sorted : List Contents) × (IsSortedOf store items sorted × DoesAlone store (effect store answers (sorted_builtin (v ∷ []))) (sorted_is sorted)) }
+    ensures sorted_refused { (store : RunStore) (answers : Answers) (v : Contents) (items : List Contents) (number : ℕ) (words : List ℕ) → HasItems store v items
+        → refused_to deepest items ≡ Some (fault number words) → DoesAlone store (effect store answers (sorted_builtin (v ∷ []))) (throws number (text words ∷ [])) }
+{}
+
+/// The law of `max` and `min`: of items of which a sort refuses nothing, the answer is the first of the greatest, or of the least. The items are those of one
+/// sequence, or the operands, of which there are two or more.
+pub fn best_items_are_found()
+    ensures greatest { (store : RunStore) (answers : Answers) (v item : Contents) (items : List Contents) → HasDicts store → HasItems store v (item ∷ items)
+        → refused_to deepest (item ∷ items) ≡ None
+        → (best : Contents) × (IsFirstBest (exceeds store) (item ∷ items) best × DoesAlone store (effect store answers (max_plan (v ∷ []))) (best_is best)) }
+    ensures greatest_of { (store : RunStore) (answers : Answers) (v w : Contents) (more : List Contents) → HasDicts store → refused_to deepest (v ∷ (w ∷ more)) ≡ None
+        → (best : Contents) × (IsFirstBest (exceeds store) (v ∷ (w ∷ more)) best × DoesAlone store (effect store answers (max_plan (v ∷ (w ∷ more)))) (best_is best)) }
+    ensures greatest_of_none { (store : RunStore) (answers : Answers) (v : Contents) → HasDicts store → HasItems store v []
+        → DoesAlone store (effect store answers (max_plan (v ∷ []))) no_best_is }
+    ensures least { (store : RunStore) (answers : Answers) (v item : Contents) (items : List Contents) → HasDicts store → HasItems store v (item ∷ items)
+        → refused_to deepest (item ∷ items) ≡ None
+        → (best : Contents) × (IsFirstBest (precedes store) (item ∷ items) best × DoesAlone store (effect store answers (min_plan (v ∷ []))) (best_is best)) }
+    ensures least_of { (store : RunStore) (answers : Answers) (v w : Contents) (more : List Contents) → HasDicts store → refused_to deepest (v ∷ (w ∷ more)) ≡ None
+        → (best : Contents) × (IsFirstBest (precedes store) (v ∷ (w ∷ more)) best × DoesAlone store (effect store answers (min_plan (v ∷ (w ∷ more)))) (best_is best)) }
+    ensures least_of_none { (store : RunStore) (answers : Answers) (v : Contents) → HasDicts store → HasItems store v []
+        → DoesAlone store (effect store answers (min_plan (v ∷ []))) no_best_is }
+{
+    tests_are_equality();
+}
