@@ -19,3 +19,6 @@ pub mod Sorting
 pub mod Comparisons
 pub mod Bests
 pub mod WorkedOrders
+pub mod Ranges
+pub mod Sums
+pub mod WorkedNumbers

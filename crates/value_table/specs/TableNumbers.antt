@@ -1,11 +1,12 @@
 -- The table of operations on numbers (The Python Language Reference 3, sections 6.5 to 6.7, in this project's profile): each over the integers
 -- that the operands are, where a truth value is 0 or 1. An answer that has no 64 bits raises OverflowError.
-use Rattle.std.specs.Prelude.{ℤ, pos, ◌+ℤ◌, ◌-ℤ◌, ◌*ℤ◌, neg_ℤ, [], ◌∷◌, if◌then◌else◌, codes}
+use Rattle.std.specs.Prelude.{ℤ, pos, ◌+ℤ◌, ◌-ℤ◌, ◌*ℤ◌, neg_ℤ, List, [], ◌∷◌, if◌then◌else◌, codes}
 use Rattle.std.specs.Ordering.{int_eq}
-use Rattle.py_value.specs.Contents.{text}
-use Rattle.py_model.specs.Faults.{zero_division}
-use Rattle.py_model.specs.Numbers.{floor_div, floor_mod, absolute}
-use Rattle.value_table.specs.Results.{Result, throws}
+use Rattle.py_value.specs.Contents.{int, text}
+use Rattle.py_model.specs.Faults.{zero_division, overflow}
+use Rattle.py_model.specs.Numbers.{is_int, floor_div, floor_mod, absolute}
+use Rattle.py_model.specs.Sorting.{all_are}
+use Rattle.value_table.specs.Results.{Result, gives, throws}
 use Rattle.value_table.specs.TableLists.{number_or_overflow}
 
 abbrev pub number : ℤ → Result (Unit {0})
@@ -40,3 +41,16 @@ floordiv_is i j = divided_is floor_div i j
 
 abbrev pub mod_is : ℤ → ℤ → Result (Unit {0})
 mod_is i j = divided_is floor_mod i j
+
+-- the sums of the first number, the first two, and so on; and the sum of all
+abbrev pub partial_sums : ℤ → List ℤ → List ℤ
+partial_sums so_far [] = []
+partial_sums so_far (i ∷ more) = (so_far +ℤ i) ∷ partial_sums (so_far +ℤ i) more
+
+abbrev pub total : List ℤ → ℤ
+total [] = pos 0
+total (i ∷ more) = i +ℤ total more
+
+-- 69 sum (walk; numbers): the sum of the numbers, added from the left; each sum on the way has 64 bits
+abbrev pub sum_is : List ℤ → Result (Unit {0})
+sum_is numbers = if all_are is_int (partial_sums (pos 0) numbers) then gives (int (total numbers)) else throws overflow (text (codes "integer out of range") ∷ [])

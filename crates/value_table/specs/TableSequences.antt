@@ -1,7 +1,7 @@
 -- The table of operations on tuples and ranges, and of those that walk a sequence (The Python Language Reference 3, sections 6.2.3 and 6.3,
 -- and The Python Standard Library, "Sequence Types" and "Built-in Functions"): each over the items, or the numbers of a range.
-use Rattle.std.specs.Prelude.{ℕ, ◌-◌, ℤ, pos, List, [], ◌∷◌, ◌++◌, length, take, drop, Option, ◌==◌, if◌then◌else◌, codes, slice_get, nat_lt}
-use Rattle.py_value.specs.Contents.{Contents, tuple, text}
+use Rattle.std.specs.Prelude.{◌≡◌, ℕ, zero, suc, ◌-◌, ℤ, pos, negsuc, ◌+ℤ◌, ◌*ℤ◌, ◌<ℤ◌, Bool, not, List, [], ◌∷◌, ◌++◌, length, take, drop, Option, ◌==◌, if◌then◌else◌, codes, slice_get, nat_lt}
+use Rattle.py_value.specs.Contents.{Contents, truth, tuple, text}
 use Rattle.py_model.specs.Faults.{value_error}
 use Rattle.py_model.specs.Arithmetic.{repeated}
 use Rattle.py_model.specs.Dicts.{paired}
@@ -78,3 +78,19 @@ enumerate_is items = makes_list (numbered 0 items)
 -- 71 zip (walk each, S Len, S Items): a new list of the pairs, up to the end of the shorter sequence
 abbrev pub zip_is : List Contents → List Contents → Result (Unit {0})
 zip_is lefts rights = makes_list (paired lefts rights)
+
+-- a number stands in a range: it is some whole steps from the start, and before the end
+abbrev pub IsBeforeEnd : ℤ → ℤ → ℤ → Type 0
+IsBeforeEnd i end (pos zero) = ⊥
+IsBeforeEnd i end (pos (suc step)) = i <ℤ end
+IsBeforeEnd i end (negsuc step) = end <ℤ i
+
+abbrev pub StandsInRange : ℤ → ℤ → ℤ → ℤ → Type 0
+StandsInRange start end step i = (k : ℕ) × ((i ≡ start +ℤ (pos k *ℤ step)) × IsBeforeEnd i end step)
+
+-- 18 in, 19 not in, of a range: whether a value is a number that stands in it
+abbrev pub in_range_is : Bool → Result (Unit {0})
+in_range_is is_there = gives (truth is_there)
+
+abbrev pub not_in_range_is : Bool → Result (Unit {0})
+not_in_range_is is_there = gives (truth (not is_there))

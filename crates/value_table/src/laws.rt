@@ -1,18 +1,19 @@
 // Laws of the table in terms of values, each a function without a body that says it.
 ghost use Rattle.std.specs.Str.{bytes_eq};
-ghost use Rattle.std.specs.Prelude.{◌≡◌, ℕ, ℤ, List, [], ◌∷◌, Option, Some, None, map, length, true, false, pos, codes};
+ghost use Rattle.std.specs.Prelude.{◌≡◌, ◌↔◌, ℕ, ℤ, Bool, List, [], ◌∷◌, Option, Some, None, map, length, true, false, pos, codes};
 ghost use Rattle.prov_base.specs.Path.{is_path};
 ghost use Rattle.py_value.specs.Contents.{Contents, Parts, nothing, object, range, text, tuple, int};
 ghost use Rattle.py_value.specs.KeyOf.{key_fault};
 ghost use Rattle.py_model.specs.Texts.{characters};
 ghost use Rattle.py_model.specs.Files.{read_plan, readline_plan, write_plan, close_plan, next_line, open_plan};
-ghost use Rattle.py_model.specs.Arithmetic.{add_plan, in_plan, iadd_plan, len_plan, mul_plan, neg_plan, pos_plan, abs_plan, sub_plan, floor_div_plan, mod_plan, truth_plan, not_plan, not_in_plan};
+ghost use Rattle.py_model.specs.Arithmetic.{add_plan, in_plan, iadd_plan, len_plan, mul_plan, neg_plan, pos_plan, abs_plan, sub_plan, floor_div_plan, mod_plan, truth_plan, not_plan, not_in_plan, sum_plan};
 ghost use Rattle.py_model.specs.Classes.{find, getattr, setattr};
 ghost use Rattle.py_model.specs.Dicts.{get_method, items_method, keys_method, values_method, dict_display, dict_builtin};
 ghost use Rattle.py_model.specs.Effect.{Answers, effect};
 ghost use Rattle.py_model.specs.Lists.{append, extend, insert, pop, getitem, setitem, delitem, slice, reverse_method, list_builtin, tuple_builtin, enumerate, zip_builtin, index_method, unpack, list_display, tuple_display, iter, next};
 ghost use Rattle.py_model.specs.Numbers.{times, range_count};
 ghost use Rattle.py_model.specs.Operands.{number_in};
+ghost use Rattle.py_model.specs.Sorting.{all_are, is_number};
 ghost use Rattle.py_model.specs.Store.{RunStore};
 ghost use Rattle.py_model.specs.Walks.{deepest, items_of};
 ghost use Rattle.py_model.specs.TextMethods.{strip_plan, lstrip_plan, rstrip_plan, split_plan, join_plan, replace_plan, find_plan, startswith_plan, endswith_plan, upper_plan, lower_plan, isdigit_plan, ljust_plan, rjust_plan};
@@ -22,6 +23,8 @@ ghost use Rattle.value_table.specs.Reading.{HasPairs, IsDict, IsInstance, IsList
 ghost use Rattle.value_table.specs.TableDicts.{Pairs, getitem_is as dict_getitem_is, setitem_is as dict_setitem_is, delitem_is as dict_delitem_is, in_is, len_is as dict_len_is, get_is, items_is, keys_is, values_is, setattr_is, getattr_is, truth_is as dict_truth_is, not_is as dict_not_is, iter_is as dict_iter_is, next_is as dict_next_is, MakesDict, HasNoNext, HasUsableKeys, display_pairs, not_in_is as dict_not_in_is};
 ghost use Rattle.value_table.specs.Results.{Does, DoesAlone, DoesToFile};
 ghost use Rattle.value_table.specs.TableLists.{append_is, getitem_is, setitem_is, delitem_is, pop_is, pop_last_is, insert_is, len_is, extend_is, iadd_is, add_is, slice_is, mul_is, reverse_is, bound_in, truth_is, not_is, unpack_is, iter_is, next_is};
+ghost use Rattle.value_table.specs.TableComparisons.{wrong_kinds};
+ghost use Rattle.value_table.specs.TableSequences.{StandsInRange};
 ghost use Rattle.value_table.specs.Equality as members;
 ghost use Rattle.value_table.specs.TableFiles as files;
 ghost use Rattle.value_table.specs.TableNumbers as numbers;
@@ -213,6 +216,16 @@ pub fn sequences_do_as_the_table()
         → DoesAlone store (effect store answers (len_plan (tuple parts ∷ []))) (sequences.len_is (length (items_of parts))) }
     ensures len_of_range { (store : RunStore) (answers : Answers) (start end step : ℤ)
         → DoesAlone store (effect store answers (len_plan (range start end step ∷ []))) (sequences.len_is (range_count start end step)) }
+    ensures in_range { (store : RunStore) (answers : Answers) (v : Contents) (start end step i : ℤ) → number_in v ≡ Some i
+        → (is_there : Bool) × (((is_there ≡ true) ↔ StandsInRange start end step i)
+        × DoesAlone store (effect store answers (in_plan (v ∷ (range start end step ∷ [])))) (sequences.in_range_is is_there)) }
+    ensures not_in_range { (store : RunStore) (answers : Answers) (v : Contents) (start end step i : ℤ) → number_in v ≡ Some i
+        → (is_there : Bool) × (((is_there ≡ true) ↔ StandsInRange start end step i)
+        × DoesAlone store (effect store answers (not_in_plan (v ∷ (range start end step ∷ [])))) (sequences.not_in_range_is is_there)) }
+    ensures other_in_range { (store : RunStore) (answers : Answers) (v : Contents) (start end step : ℤ) → number_in v ≡ None
+        → DoesAlone store (effect store answers (in_plan (v ∷ (range start end step ∷ [])))) (sequences.in_range_is false) }
+    ensures other_not_in_range { (store : RunStore) (answers : Answers) (v : Contents) (start end step : ℤ) → number_in v ≡ None
+        → DoesAlone store (effect store answers (not_in_plan (v ∷ (range start end step ∷ [])))) (sequences.not_in_range_is false) }
 {}
 
 /// The law of displays and walks: a display makes a list, or is a tuple, of its operands, and so each that walks a sequence, of the items.
@@ -229,6 +242,10 @@ pub fn walks_do_as_the_table()
         → DoesAlone store (effect store answers (enumerate (v ∷ []))) (sequences.enumerate_is items) }
     ensures zip { (store : RunStore) (answers : Answers) (v w : Contents) (items more : List Contents) → HasItems store v items → HasItems store w more
         → DoesAlone store (effect store answers (zip_builtin (v ∷ (w ∷ [])))) (sequences.zip_is items more) }
+    ensures sum { (store : RunStore) (answers : Answers) (v : Contents) (items : List Contents) (all : List ℤ) → HasItems store v items
+        → map number_in items ≡ map Some all → DoesAlone store (effect store answers (sum_plan (v ∷ []))) (numbers.sum_is all) }
+    ensures sum_refused { (store : RunStore) (answers : Answers) (v : Contents) (items : List Contents) → HasItems store v items → all_are is_number items ≡ false
+        → DoesAlone store (effect store answers (sum_plan (v ∷ []))) wrong_kinds }
 {}
 
 /// The law of numbers: each operation on operands that are numbers does what the table says of these.

@@ -1,5 +1,6 @@
 use Rattle.std.proofs.Common.{refl}
 use Rattle.value_table.proofs.laws.sequences_do_as_the_table.Goals as goal
+use Rattle.value_table.proofs.Ranges.{in_range_does, not_in_range_does, other_in_range, other_not_in_range}
 use Rattle.value_table.proofs.Alone.{tuple_item, range_item, tuple_slice, tuple_times, tuple_length, range_length, tuple_unpacked, tuple_next, text_next, range_next}
 
 pub returns-clause-getitem : goal.returns-clause-getitem
@@ -34,3 +35,15 @@ returns-clause-next_of_text c = text_next
 
 pub returns-clause-next_of_range : goal.returns-clause-next_of_range
 returns-clause-next_of_range c = range_next
+
+pub returns-clause-in_range : goal.returns-clause-in_range
+returns-clause-in_range c = in_range_does
+
+pub returns-clause-not_in_range : goal.returns-clause-not_in_range
+returns-clause-not_in_range c = not_in_range_does
+
+pub returns-clause-other_in_range : goal.returns-clause-other_in_range
+returns-clause-other_in_range c = other_in_range
+
+pub returns-clause-other_not_in_range : goal.returns-clause-other_not_in_range
+returns-clause-other_not_in_range c = other_not_in_range

@@ -1,5 +1,6 @@
 use Rattle.std.proofs.Common.{refl}
 use Rattle.value_table.proofs.laws.walks_do_as_the_table.Goals as goal
+use Rattle.value_table.proofs.Sums.{sum_does, sum_refused}
 use Rattle.value_table.proofs.Alone.{listed, tupled, enumerated, zipped, list_displayed}
 
 pub returns-clause-list : goal.returns-clause-list
@@ -19,3 +20,9 @@ returns-clause-list_display c = list_displayed
 
 pub returns-clause-tuple_display : goal.returns-clause-tuple_display
 returns-clause-tuple_display c = λ store answers items. record { answer_is = refl; made_is = refl; after_is = refl }
+
+pub returns-clause-sum : goal.returns-clause-sum
+returns-clause-sum c = λ store answers v items all has is. sum_does store answers v items has all is
+
+pub returns-clause-sum_refused : goal.returns-clause-sum_refused
+returns-clause-sum_refused c = sum_refused

@@ -1,5 +1,6 @@
 use Rattle.value_table.proofs.orders.comparisons_do_as_the_table.Goals as goal
 use Rattle.value_table.proofs.Comparisons.{equal_does, unequal_does, lt_does, le_does, gt_does, ge_does, equals_as}
+use Rattle.value_table.proofs.Sums.{ranges_same}
 
 pub returns-clause-eq : goal.returns-clause-eq
 returns-clause-eq c = λ store answers v w dicts. equal_does c.tests_are_equality.ensures.values store answers dicts v w
@@ -21,3 +22,6 @@ returns-clause-ge c = λ store answers v w dicts. ge_does c.tests_are_equality.e
 
 pub returns-clause-members : goal.returns-clause-members
 returns-clause-members c = λ store answers v w how dicts is. equals_as c.tests_are_equality.ensures.values store answers dicts v w how is
+
+pub returns-clause-ranges : goal.returns-clause-ranges
+returns-clause-ranges c = ranges_same
