@@ -21,7 +21,7 @@ use Rattle.py_model.specs.TextMethods.{split_plan, join_plan, texts_in, replace_
 use Rattle.py_model.specs.Texts.{characters, size, joined, joined_by, pieces, words_of, place_of, spaces}
 use Rattle.py_model.specs.Walks.{walk, if_walked, items_of, deepest}
 use Rattle.value_table.specs.Reading.{HasItems, IsList, is_of}
-use Rattle.value_table.specs.Results.{Result, leaves, makes_list, throws, gives, DoesAlone, reaches_end}
+use Rattle.value_table.specs.Results.{Result, leaves, makes_list, throws, gives, DoesAlone, reaches_end, ends_with}
 use Rattle.value_table.specs.TableLists.{at_place, item_in, bound_in, item_or_end}
 use Rattle.value_table.specs.TableNumbers.{number}
 use Rattle.value_table.specs.TableTexts as texts
@@ -77,6 +77,7 @@ module _ (store : RunStore) (answers : Answers) where
     made_is = (same store).made_is ∙ does.made_is;
     after_is = after_same store e f same ∙ does.after_is;
   }
+  alone_same e f (ends_with left) same does = record { answer_is = (same store).answer_is ∙ does.answer_is; made_is = (same store).made_is ∙ does.made_is; after_is = after_same store e f same ∙ does.after_is }
   alone_same e f reaches_end same does = record { answer_is = (same store).answer_is ∙ does.answer_is; made_is = (same store).made_is ∙ does.made_is; after_is = after_same store e f same ∙ does.after_is }
 
   by_plan : (p q : Plan) (result : Result (Unit {0})) → p ≡ q → DoesIt q result → DoesIt p result

@@ -11,7 +11,7 @@ use Rattle.py_model.specs.Plan.{Plan, Writes, value, kind_of}
 use Rattle.py_model.specs.Store.{RunStore, item_of, len_of, order_of}
 use Rattle.py_model.specs.Walks.{read_items, walk, walk_object, if_walked, when_walked}
 use Rattle.value_table.specs.Reading.{Stand, IsList, HasItems, is_of, HasKeys}
-use Rattle.value_table.specs.Results.{Result, leaves, makes_list, throws, DoesIn, reaches_end}
+use Rattle.value_table.specs.Results.{Result, leaves, makes_list, throws, DoesIn, reaches_end, ends_with}
 use Rattle.value_table.specs.TableLists.{bound_in}
 use Rattle.value_table.proofs.Standing.{set, block}
 
@@ -55,6 +55,15 @@ module _ {A : Type 0} (belongs : SeenLocation → Bool) (Is : RunStore → ℕ �
     made_is = made ∙ does.made_is;
     after_is = after_is ∙ does.after_is;
   }
+  does_as e f (ends_with is) outcome_is made after_is does = (
+    record {
+      answer_is = outcome_is ∙ does.0.answer_is;
+      made_is = made ∙ does.0.made_is;
+      elsewhere = subst (λ (s : RunStore). (l : SeenLocation) → belongs l ≡ false → s.at l ≡ store.at l) (sym after_is) does.0.elsewhere;
+      rest_stays = subst (λ (s : RunStore). s ≡ record store { at = s.at }) (sym after_is) does.0.rest_stays;
+    },
+    subst (λ (s : RunStore). Is s o is) (sym after_is) does.1,
+  )
   does_as e f reaches_end answer_is made after_is does = record { answer_is = answer_is ∙ does.answer_is; made_is = made ∙ does.made_is; after_is = after_is ∙ does.after_is }
 
   pub does_same : (e f : Effect) (result : Result A) → ((s : RunStore) → Same e f s s) → DoesIn belongs Is store o f result → DoesIn belongs Is store o e result

@@ -1,24 +1,23 @@
 -- Operations on files do what the table says.
 use Rattle.std.proofs.Common.{◌≡◌, ◌↔◌, ℕ, ◌+◌, pos, Bool, true, false, if◌then◌else◌, List, [], ◌∷◌, ◌++◌, length, drop, Option, Some, None, unwrap_or, refl, sym, ap, subst, ◌∙◌, eq-eqb, codes}
 use Rattle.std.specs.Str.{is_utf8}
-use Rattle.prov_base.specs.Path.{is_path}
 use Rattle.py_value.specs.declared.access.Mode.{Mode}
 use Rattle.py_value.specs.declared.access.Mode.TheVariants.{Read, Write, Append}
 use Rattle.py_value.specs.Changes.{changed}
-use Rattle.py_value.specs.Contents.{nothing, int, text, object}
+use Rattle.py_value.specs.Contents.{Contents, nothing, int, text, object}
 use Rattle.py_value.specs.Same.{same_location}
 use Rattle.py_value.specs.Seen.{SeenLocation, SeenContent, SeenKind, a_file, offset_at, closed_at, file_at, offset_is, closed_is, file_is, bytes_appended, reads}
 use Rattle.py_model.specs.Effect.{Answers, accessed, touching, effect}
-use Rattle.py_model.specs.Faults.{wrong_kind, value_error, fault, os_error}
-use Rattle.py_model.specs.Files.{to_be_read, taken, first_line, read_plan, readline_plan, write_plan, close_plan, is_closed_fault, wrong_mode, not_utf8, open_plan, open_to_write}
-use Rattle.py_model.specs.Plan.{Plan, write, change, done, kind_of, read_closed, read_offset, read_file, counts, writes}
+use Rattle.py_model.specs.Faults.{wrong_kind, value_error}
+use Rattle.py_model.specs.Lists.{iter, iter_of, next, next_of}
+use Rattle.py_model.specs.Files.{next_line, to_be_read, taken, first_line, read_plan, readline_plan, write_plan, close_plan, is_closed_fault, wrong_mode, not_utf8}
+use Rattle.py_model.specs.Plan.{Plan, write, change, done, done_at_end, kind_of, read_closed, read_offset, read_file, counts, writes}
 use Rattle.py_model.specs.Store.{RunStore, file_of, offset_of, closed_of}
 use Rattle.py_model.specs.Texts.{size}
 use Rattle.value_table.specs.Reading.{FileValue, IsFile, is_of_file}
 use Rattle.value_table.specs.Results.{Result, leaves, throws, DoesToFile}
-use Rattle.value_table.specs.TableFiles.{if_read, if_written, taken_is, read_is, readline_is, write_is, close_is, MakesFile, emptied}
-use Rattle.value_table.proofs.Lists.{last_is}
-use Rattle.value_table.proofs.Effects.{does_as, ends}
+use Rattle.value_table.specs.TableFiles.{if_read, if_written, taken_is, read_is, readline_is, write_is, close_is, iter_is, line_is, next_is}
+use Rattle.value_table.proofs.Effects.{does_as, ends, stays}
 use Rattle.value_table.proofs.Standing.{set}
 
 abbrev pub PlacesTested : Type 0
@@ -54,15 +53,15 @@ abbrev close_by_kind : ℕ → Option SeenKind → Plan
 close_by_kind o (Some (a_file path mode)) = writes (write (closed_at o) (closed_is true) (done nothing))
 close_by_kind o other = wrong_kind
 
-abbrev offset_in : Option SeenContent → ℕ
+abbrev pub offset_in : Option SeenContent → ℕ
 offset_in (Some (offset_is offset)) = offset
 offset_in other = 0
 
-abbrev closed_in : Option SeenContent → Bool
+abbrev pub closed_in : Option SeenContent → Bool
 closed_in (Some (closed_is is_closed)) = is_closed
 closed_in other = false
 
-abbrev file_in : Option SeenContent → Option (List ℕ)
+abbrev pub file_in : Option SeenContent → Option (List ℕ)
 file_in (Some (file_is bytes)) = Some bytes
 file_in other = None
 
@@ -188,16 +187,38 @@ module _ (tested : PlacesTested) (store : RunStore) (answers : Answers) (o : ℕ
       elsewhere (closed_at p) apart = ap (λ b. if b then Some (closed_is true) else store.at (closed_at p)) apart
       elsewhere l apart = refl
 
--- a file that is opened for writing
-module _ (tested : PlacesTested) (store : RunStore) (answers : Answers) where
-  pub opened_to_write : (path : List ℕ) → is_path path ≡ true → MakesFile store (effect store answers (open_plan (text path ∷ text (codes "w") ∷ []))) (emptied path)
-  opened_to_write path is = subst (λ (b : Bool). MakesFile store (effect store answers (if b then open_to_write path else fault os_error (codes "bad path"))) (emptied path)) (sym is) (record {
-    answer_is = refl;
-    made_is = refl;
-    is_file = record {
-      kind_is = last_is store.kinds (a_file path Write);
-      bytes_are = ap (λ b. unwrap_or (file_in (if b then Some (file_is []) else store.at (file_at path))) []) ((tested (file_at path) (file_at path)).1 refl);
-      offset_is = ap (λ b. offset_in (if b then Some (offset_is 0) else store.at (offset_at (length store.kinds)))) (eq-eqb (length store.kinds) (length store.kinds) refl);
-      closed_is = ap (λ b. closed_in (if b then Some (closed_is false) else store.at (closed_at (length store.kinds)))) (eq-eqb (length store.kinds) (length store.kinds) refl);
-    };
-  })
+  -- the next line in a `for`
+  abbrev line_by : ℕ → List ℕ → Plan
+  line_by offset [] = writes (write (offset_at o) (offset_is offset) done_at_end)
+  line_by offset (byte ∷ bytes) = taken o offset (first_line (byte ∷ bytes))
+
+  line_does : (bytes : List ℕ) → DoesIt (line_by file.offset bytes) (line_is file bytes)
+  line_does [] = (
+    record { answer_is = refl; made_is = refl; elsewhere = elsewhere; rest_stays = refl },
+    record {
+      kind_is = is.kind_is;
+      bytes_are = is.bytes_are;
+      offset_is = ap (λ b. offset_in (if b then Some (offset_is file.offset) else store.at (offset_at o))) (eq-eqb o o refl);
+      closed_is = is.closed_is;
+    },
+  )
+    where
+      elsewhere : (l : SeenLocation) → is_of_file o file.path l ≡ false → (set (offset_at o) (offset_is file.offset) store).at l ≡ store.at l
+      elsewhere (offset_at p) apart = ap (λ b. if b then Some (offset_is file.offset) else store.at (offset_at p)) apart
+      elsewhere l apart = refl
+  line_does (byte ∷ bytes) = taken_does (first_line (byte ∷ bytes))
+
+  pub next_line_does : (turn : ℕ) (begun : Contents) → DoesIt (next next_line (object o ∷ (int (pos turn) ∷ (begun ∷ [])))) (next_is file)
+  next_line_does turn begun = by_file (next_of next_line o turn begun) (next_is file)
+      (by_file (read_by_kind o (λ path offset bytes. line_by offset bytes)) (next_is file) (by_closed (read_by_closed o (λ path offset bytes. line_by offset bytes) file.path file.mode) (next_is file) (by_case file.mode file.is_closed)))
+    where
+      by_case : (mode : Mode) (b : Bool) → DoesIt (read_by_closed o (λ path offset bytes. line_by offset bytes) file.path mode b) (if_read mode b (line_is file (drop file.offset file.bytes)))
+      by_case Read true = record { outcome_is = refl; made_is = refl; after_is = refl }
+      by_case Write true = record { outcome_is = refl; made_is = refl; after_is = refl }
+      by_case Append true = record { outcome_is = refl; made_is = refl; after_is = refl }
+      by_case Read false = by_rest line_by (line_is file (drop file.offset file.bytes)) (line_does (drop file.offset file.bytes))
+      by_case Write false = record { outcome_is = refl; made_is = refl; after_is = refl }
+      by_case Append false = record { outcome_is = refl; made_is = refl; after_is = refl }
+
+  pub iter_does : DoesIt (iter (object o ∷ [])) (iter_is file)
+  iter_does = by_file (iter_of o) (iter_is file) (stays (is_of_file o file.path) IsFile store o (effect store answers (writes (done nothing))) nothing file refl refl refl is)

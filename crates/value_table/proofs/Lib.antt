@@ -22,3 +22,4 @@ pub mod WorkedOrders
 pub mod Ranges
 pub mod Sums
 pub mod WorkedNumbers
+pub mod Opening

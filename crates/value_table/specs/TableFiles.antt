@@ -1,20 +1,20 @@
 -- The table of operations on files (The Python Standard Library, "io", in this project's profile): each over the bytes at the path and the
--- offset. Files are read in mode `'r'` and written in the others. `open` with `'r'` and `'a'`, and the next line in a `for`, are as
--- their plans say.
-use Rattle.std.specs.Prelude.{ℕ, ◌+◌, pos, Bool, true, false, List, [], ◌∷◌, ◌++◌, length, drop, codes, if◌then◌else◌, ◌≡◌, Some}
-use Rattle.std.specs.Str.{is_utf8}
-use Rattle.py_value.specs.Seen.{a_file}
+-- offset. Files are read in mode `'r'` and written in the others.
+use Rattle.std.specs.Prelude.{ℕ, ◌+◌, pos, Bool, true, false, List, [], ◌∷◌, ◌++◌, length, drop, codes, if◌then◌else◌, ◌≡◌, ◌⊎◌, ◌||◌, Option, Some, unwrap_or}
+use Rattle.std.specs.Str.{bytes_eq, is_utf8}
+use Rattle.py_value.specs.Seen.{SeenLocation, a_file}
 use Rattle.py_value.specs.declared.access.Mode.{Mode}
-use Rattle.py_value.specs.declared.access.Mode.TheVariants.{Read, Write}
+use Rattle.py_value.specs.declared.access.Mode.TheVariants.{Read, Write, Append}
 use Rattle.py_value.specs.Contents.{nothing, int, text, object}
-use Rattle.py_model.specs.Store.{RunStore}
-use Rattle.py_model.specs.Plan.{value}
-use Rattle.py_model.specs.Effect.{Effect, answered, after}
-use Rattle.py_model.specs.Faults.{value_error, os_error}
+use Rattle.py_model.specs.Store.{RunStore, has_path, with_path}
+use Rattle.py_model.specs.Plan.{Found, value}
+use Rattle.py_model.specs.Effect.{Effect, Answers, answered, after}
+use Rattle.py_model.specs.Faults.{value_error, os_error, file_not_found}
 use Rattle.py_model.specs.Files.{first_line}
 use Rattle.py_model.specs.Texts.{size}
-use Rattle.value_table.specs.Reading.{FileValue, IsFile}
-use Rattle.value_table.specs.Results.{Result, leaves, throws}
+use Rattle.py_model.specs.Tidy.{is_there}
+use Rattle.value_table.specs.Reading.{FileValue, IsFile, is_of_file}
+use Rattle.value_table.specs.Results.{Result, leaves, throws, ends_with}
 
 -- what a file that is closed, or was opened for the other, raises
 abbrev pub closed_fault : Result FileValue
@@ -55,12 +55,69 @@ write_is file more = if_written file.mode file.is_closed (leaves (int (pos (size
 abbrev pub close_is : FileValue → Result FileValue
 close_is file = leaves nothing (record file { is_closed = true })
 
--- a file is made, the next object, and is the answer
+-- 36 iter: nothing
+abbrev pub iter_is : FileValue → Result FileValue
+iter_is file = leaves nothing file
+
+-- 37 next (as readline): the next line, or the end where no bytes are left
+abbrev pub line_is : FileValue → List ℕ → Result FileValue
+line_is file [] = ends_with file
+line_is file (byte ∷ bytes) = taken_is file (first_line (byte ∷ bytes))
+
+abbrev pub next_is : FileValue → Result FileValue
+next_is file = if_read file.mode file.is_closed (line_is file (drop file.offset file.bytes))
+
+-- the paths that were opened for writing, once this one is opened in a mode
+abbrev pub then_opened : Mode → List ℕ → List (List ℕ) → List (List ℕ)
+then_opened Read path opened = opened
+then_opened mode path opened = with_path path opened
+
+-- a file is made, the next object, and is the answer; its path is noted where it is opened for writing, and nothing else changes
 pub record MakesFile (store : RunStore) (e : Effect) (file : FileValue) : Type 0 where
   pub answer_is : e.outcome ≡ answered (value (object (length store.kinds)))
   pub made_is : e.made ≡ Some (a_file file.path file.mode)
   pub is_file : IsFile (after e store) (length store.kinds) file
+  pub elsewhere : (l : SeenLocation) → is_of_file (length store.kinds) file.path l ≡ false → (after e store).at l ≡ store.at l
+  pub rest_stays : after e store
+      ≡ record store { at = (after e store).at; kinds = store.kinds ++ a_file file.path file.mode ∷ []; opened = then_opened file.mode file.path store.opened }
+
+-- a file that was just opened
+abbrev pub opened_file : Mode → List ℕ → List ℕ → FileValue
+opened_file mode path bytes = record { path = path; mode = mode; bytes = bytes; offset = 0; is_closed = false }
+
+-- What stands at the path is known to the run: it was opened for writing before, or a file was found there, or none.
+abbrev pub IsKnown : RunStore → Answers → List ℕ → Type 0
+IsKnown store answers path = (has_path path store.opened ≡ true) ⊎ ((found : Found) × ((answers.found path ≡ Some found) × (is_there found ≡ true)))
+
+-- The path was not opened, and what was found there is too large, or could not be got.
+abbrev pub IsUnreadable : RunStore → Answers → List ℕ → Type 0
+IsUnreadable store answers path = (has_path path store.opened ≡ false) × ((found : Found) × ((answers.found path ≡ Some found) × (is_there found ≡ false)))
 
 -- 62 open with `'w'` (S File, S Offset, S Closed): an empty file
 abbrev pub emptied : List ℕ → FileValue
-emptied path = record { path = path; mode = Write; bytes = []; offset = 0; is_closed = false }
+emptied path = opened_file Write path []
+
+-- 62 open with `'r'` (R File, S Offset, S Closed): the file that stands there
+abbrev pub opened_to_read : List ℕ → List ℕ → FileValue
+opened_to_read path bytes = opened_file Read path bytes
+
+-- 62 open with `'a'` (R File, S File where absent, S Offset, S Closed): the file that stands there, or an empty one
+abbrev pub opened_to_append : List ℕ → Option (List ℕ) → FileValue
+opened_to_append path content = opened_file Append path (unwrap_or content [])
+
+-- the texts that are modes
+abbrev pub is_mode : List ℕ → Bool
+is_mode mode = bytes_eq mode (codes "r") || (bytes_eq mode (codes "w") || bytes_eq mode (codes "a"))
+
+-- what `open` raises
+abbrev pub no_file_is : {A : Type 0} → Result A
+no_file_is = throws file_not_found (text (codes "no such file") ∷ [])
+
+abbrev pub unreadable_is : {A : Type 0} → Result A
+unreadable_is = throws os_error (text (codes "file cannot be read") ∷ [])
+
+abbrev pub bad_path_is : {A : Type 0} → Result A
+bad_path_is = throws os_error (text (codes "bad path") ∷ [])
+
+abbrev pub bad_mode_is : {A : Type 0} → Result A
+bad_mode_is = throws value_error (text (codes "bad mode") ∷ [])

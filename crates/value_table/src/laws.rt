@@ -14,10 +14,10 @@ ghost use Rattle.py_model.specs.Lists.{append, extend, insert, pop, getitem, set
 ghost use Rattle.py_model.specs.Numbers.{times, range_count};
 ghost use Rattle.py_model.specs.Operands.{number_in};
 ghost use Rattle.py_model.specs.Sorting.{all_are, is_number};
-ghost use Rattle.py_model.specs.Store.{RunStore};
+ghost use Rattle.py_model.specs.Store.{RunStore, file_of};
 ghost use Rattle.py_model.specs.Walks.{deepest, items_of};
 ghost use Rattle.py_model.specs.TextMethods.{strip_plan, lstrip_plan, rstrip_plan, split_plan, join_plan, replace_plan, find_plan, startswith_plan, endswith_plan, upper_plan, lower_plan, isdigit_plan, ljust_plan, rjust_plan};
-ghost use Rattle.value_table.specs.TableFiles.{MakesFile};
+ghost use Rattle.value_table.specs.TableFiles.{IsKnown, IsUnreadable, MakesFile};
 ghost use Rattle.value_table.specs.Equality.{IsEqual, StandsAt};
 ghost use Rattle.value_table.specs.Reading.{HasPairs, IsDict, IsInstance, IsList, pair_of, pairs_at, HasItems, IsPlainList, items_at, FileValue, IsFile};
 ghost use Rattle.value_table.specs.TableDicts.{Pairs, getitem_is as dict_getitem_is, setitem_is as dict_setitem_is, delitem_is as dict_delitem_is, in_is, len_is as dict_len_is, get_is, items_is, keys_is, values_is, setattr_is, getattr_is, truth_is as dict_truth_is, not_is as dict_not_is, iter_is as dict_iter_is, next_is as dict_next_is, MakesDict, HasNoNext, HasUsableKeys, display_pairs, not_in_is as dict_not_in_is};
@@ -278,6 +278,10 @@ pub fn files_do_as_the_table()
         → DoesToFile file.path store o (effect store answers (write_plan (object o ∷ (text more ∷ [])))) (files.write_is file more) }
     ensures close { (store : RunStore) (answers : Answers) (o : ℕ) (file : FileValue) → IsFile store o file
         → DoesToFile file.path store o (effect store answers (close_plan (object o ∷ []))) (files.close_is file) }
+    ensures iter { (store : RunStore) (answers : Answers) (o : ℕ) (file : FileValue) → IsFile store o file
+        → DoesToFile file.path store o (effect store answers (iter (object o ∷ []))) (files.iter_is file) }
+    ensures next { (store : RunStore) (answers : Answers) (o : ℕ) (file : FileValue) (turn : ℕ) (begun : Contents) → IsFile store o file
+        → DoesToFile file.path store o (effect store answers (next next_line (object o ∷ (int (pos turn) ∷ (begun ∷ []))))) (files.next_is file) }
 {
     tests_are_equality();
 }
@@ -316,10 +320,27 @@ pub fn dicts_are_made()
     tests_are_equality();
 }
 
-/// The law of opened files: `open` for writing at a path makes an empty file that is not closed.
+/// The law of opened files: where what stands at the path is known, `open` makes a file with it, or with nothing for writing, that is not closed. Each other
+/// case raises.
 pub fn files_are_opened()
-    ensures { (store : RunStore) (answers : Answers) (path : List ℕ) → is_path path ≡ true
+    ensures write { (store : RunStore) (answers : Answers) (path : List ℕ) → is_path path ≡ true
         → MakesFile store (effect store answers (open_plan (text path ∷ (text (codes "w") ∷ [])))) (files.emptied path) }
+    ensures append { (store : RunStore) (answers : Answers) (path : List ℕ) → is_path path ≡ true → IsKnown store answers path
+        → MakesFile store (effect store answers (open_plan (text path ∷ (text (codes "a") ∷ [])))) (files.opened_to_append path (file_of store path)) }
+    ensures read { (store : RunStore) (answers : Answers) (path bytes : List ℕ) → is_path path ≡ true → IsKnown store answers path → file_of store path ≡ Some bytes
+        → MakesFile store (effect store answers (open_plan (text path ∷ (text (codes "r") ∷ [])))) (files.opened_to_read path bytes) }
+    ensures no_mode { (store : RunStore) (answers : Answers) (path : List ℕ)
+        → effect store answers (open_plan (text path ∷ [])) ≡ effect store answers (open_plan (text path ∷ (text (codes "r") ∷ []))) }
+    ensures absent { (store : RunStore) (answers : Answers) (path : List ℕ) → is_path path ≡ true → IsKnown store answers path → file_of store path ≡ None
+        → DoesAlone store (effect store answers (open_plan (text path ∷ (text (codes "r") ∷ [])))) files.no_file_is }
+    ensures read_unreadable { (store : RunStore) (answers : Answers) (path : List ℕ) → is_path path ≡ true → IsUnreadable store answers path
+        → DoesAlone store (effect store answers (open_plan (text path ∷ (text (codes "r") ∷ [])))) files.unreadable_is }
+    ensures append_unreadable { (store : RunStore) (answers : Answers) (path : List ℕ) → is_path path ≡ true → IsUnreadable store answers path
+        → DoesAlone store (effect store answers (open_plan (text path ∷ (text (codes "a") ∷ [])))) files.unreadable_is }
+    ensures bad_path { (store : RunStore) (answers : Answers) (path mode : List ℕ) → is_path path ≡ false → files.is_mode mode ≡ true
+        → DoesAlone store (effect store answers (open_plan (text path ∷ (text mode ∷ [])))) files.bad_path_is }
+    ensures bad_mode { (store : RunStore) (answers : Answers) (path mode : List ℕ) → files.is_mode mode ≡ false
+        → DoesAlone store (effect store answers (open_plan (text path ∷ (text mode ∷ [])))) files.bad_mode_is }
 {
     tests_are_equality();
 }

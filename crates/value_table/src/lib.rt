@@ -5,6 +5,7 @@
 //! says: the answer, what the object is afterwards as a value, and that nothing else changes. What is touched, in which order, the plans say.
 //!
 //! - [`lists_do_as_the_table`], [`lists_are_read_as_the_table`], [`members_are_found`], [`plain_lists_have_items`]: lists.
+//! - [`comparisons_do_as_the_table`]: comparisons of any values; [`items_are_sorted`], [`best_items_are_found`]: sorts, `max` and `min`.
 //! - [`dicts_do_as_the_table`], [`dicts_are_made`], [`attributes_do_as_the_table`]: dictionaries, and attributes of instances.
 //! - [`texts_do_as_the_table`], [`text_methods_do_as_the_table`]: texts; [`numbers_do_as_the_table`]: numbers.
 //! - [`sequences_do_as_the_table`], [`walks_do_as_the_table`]: tuples, ranges, displays, and what walks a sequence.
@@ -12,8 +13,9 @@
 //!
 //! Operands of a wrong kind raise as the plans say. An operation has no equation where that would only repeat its plan:
 //! - constants, names, binding, `give`, `is`, calls, classes and methods, exceptions, imports, `with` and `assert`;
-//! - comparisons, `max`, `min` and `sum`, whose walks are definitions already; `in` of a range;
-//! - `chr`, `ord`, `int`, `range`, `isinstance`, `print`, `repr`, `str`; `open` but for writing, `input` and the next line of a file; the modules.
+//! - the truth of values that are no list and no dictionary, and `+=` of values that are no list, which is `+`;
+//! - `chr`, `ord`, `int`, `range`, `isinstance`, `print`, `repr`, `str`; `input`, and the modules;
+//! - of what `sort` and `sorted` refuse, and in which order, `refused_to` of `py_model` is the definition.
 #![tactic(auto)]
 
 mod laws;
