@@ -300,3 +300,8 @@ module _ (store : RunStore) (answers : Answers) where
   summed (int a) w i j is other = by_both (int a) i is w j other (λ a b. gives_int (a +ℤ b)) (numbers.add_is i j) (number_given (i +ℤ j))
   summed (truth a) w i j is other = by_both (truth a) i is w j other (λ a b. gives_int (a +ℤ b)) (numbers.add_is i j) (number_given (i +ℤ j))
   summed v w i j is other = absurd cc
+
+  pub turned : (v w : Contents) (i : ℤ) → number_in v ≡ Some i → number_in w ≡ None → effect store answers (mul_plan (v ∷ (w ∷ []))) ≡ effect store answers (mul_plan (w ∷ (v ∷ [])))
+  turned v w i is none = ap (λ (p : Plan). effect store answers p)
+      (ap (λ (a : Option ℤ). products v w a (number_in w)) is ∙ ap (λ (b : Option ℤ). products v w (Some i) b) none
+      ∙ sym (ap (λ (a : Option ℤ). products w v a (number_in v)) none ∙ ap (λ (b : Option ℤ). products w v None b) is))

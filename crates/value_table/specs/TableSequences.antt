@@ -1,7 +1,7 @@
 -- The table of operations on tuples and ranges, and of those that walk a sequence (The Python Language Reference 3, sections 6.2.3 and 6.3,
 -- and The Python Standard Library, "Sequence Types" and "Built-in Functions"): each over the items, or the numbers of a range.
 use Rattle.std.specs.Prelude.{◌≡◌, ℕ, zero, suc, ◌-◌, ℤ, pos, negsuc, ◌+ℤ◌, ◌*ℤ◌, ◌<ℤ◌, Bool, not, List, [], ◌∷◌, ◌++◌, length, take, drop, Option, ◌==◌, if◌then◌else◌, codes, slice_get, nat_lt}
-use Rattle.py_value.specs.Contents.{Contents, truth, tuple, text}
+use Rattle.py_value.specs.Contents.{Contents, nothing, truth, tuple, text}
 use Rattle.py_model.specs.Faults.{value_error}
 use Rattle.py_model.specs.Arithmetic.{repeated}
 use Rattle.py_model.specs.Dicts.{paired}
@@ -48,6 +48,10 @@ add_is items more = tuple_of (items ++ more)
 -- 9 mul of a tuple: the tuple of the items so many times
 abbrev pub mul_is : List Contents → ℕ → Result (Unit {0})
 mul_is items n = tuple_of (repeated n items)
+
+-- 36 iter of a tuple, a range or a text: nothing
+abbrev pub iter_is : Result (Unit {0})
+iter_is = gives nothing
 
 -- 37 next of a tuple, or of a text with its characters: the item of the turn, or the end; of a range the number
 abbrev pub next_is : List Contents → ℕ → Result (Unit {0})

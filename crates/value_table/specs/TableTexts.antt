@@ -1,6 +1,6 @@
 -- The table of operations on texts (The Python Standard Library, "Text Sequence Type", in this project's profile): each over the characters
 -- of the text, or its bytes where these say the same. White space, letters and digits are those of ASCII.
-use Rattle.std.specs.Prelude.{ℕ, ◌-◌, ℤ, pos, negsuc, List, [], ◌∷◌, ◌++◌, map, slice_get, take, drop, Option, Some, None, is_some, codes, unwrap_or}
+use Rattle.std.specs.Prelude.{ℕ, ◌-◌, ℤ, pos, negsuc, List, [], ◌∷◌, ◌++◌, map, slice_get, take, drop, Option, Some, None, is_some, codes, not, unwrap_or}
 use Rattle.py_value.specs.Contents.{truth, int, text}
 use Rattle.py_model.specs.Arithmetic.{repeated}
 use Rattle.py_model.specs.Faults.{value_error, not_implemented}
@@ -31,6 +31,10 @@ mul_is bytes n = gives (text (repeated n bytes))
 -- 18 in: whether the one stands in the other
 abbrev pub in_is : List ℕ → List ℕ → Result (Unit {0})
 in_is sought bytes = gives (truth (is_some (place_of bytes sought)))
+
+-- 19 not in: whether it does not
+abbrev pub not_in_is : List ℕ → List ℕ → Result (Unit {0})
+not_in_is sought bytes = gives (truth (not (is_some (place_of bytes sought))))
 
 -- 58 len: how many characters
 abbrev pub len_is : List ℕ → Result (Unit {0})

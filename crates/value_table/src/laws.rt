@@ -153,6 +153,8 @@ pub fn texts_do_as_the_table()
         → DoesAlone store (effect store answers (mul_plan (text bytes ∷ (number ∷ [])))) (texts.mul_is bytes (times i)) }
     ensures contains { (store : RunStore) (answers : Answers) (sought bytes : List ℕ)
         → DoesAlone store (effect store answers (in_plan (text sought ∷ (text bytes ∷ [])))) (texts.in_is sought bytes) }
+    ensures lacks { (store : RunStore) (answers : Answers) (sought bytes : List ℕ)
+        → DoesAlone store (effect store answers (not_in_plan (text sought ∷ (text bytes ∷ [])))) (texts.not_in_is sought bytes) }
     ensures len { (store : RunStore) (answers : Answers) (bytes : List ℕ)
         → DoesAlone store (effect store answers (len_plan (text bytes ∷ []))) (texts.len_is bytes) }
 {}
@@ -195,6 +197,10 @@ pub fn text_methods_do_as_the_table()
 pub fn sequences_do_as_the_table()
     ensures unpack { (store : RunStore) (answers : Answers) (targets : ℕ) (parts : Parts)
         → DoesAlone store (effect store answers (unpack targets (tuple parts ∷ []))) (sequences.unpack_is targets (items_of parts)) }
+    ensures iter_of_tuple { (store : RunStore) (answers : Answers) (parts : Parts) → DoesAlone store (effect store answers (iter (tuple parts ∷ []))) sequences.iter_is }
+    ensures iter_of_range { (store : RunStore) (answers : Answers) (start end step : ℤ)
+        → DoesAlone store (effect store answers (iter (range start end step ∷ []))) sequences.iter_is }
+    ensures iter_of_text { (store : RunStore) (answers : Answers) (bytes : List ℕ) → DoesAlone store (effect store answers (iter (text bytes ∷ []))) sequences.iter_is }
     ensures next_of_tuple { (store : RunStore) (answers : Answers) (parts : Parts) (turn : ℕ) (begun : Contents)
         → DoesAlone store (effect store answers (next next_line (tuple parts ∷ (int (pos turn) ∷ (begun ∷ []))))) (sequences.next_is (items_of parts) turn) }
     ensures next_of_text { (store : RunStore) (answers : Answers) (bytes : List ℕ) (turn : ℕ) (begun : Contents)
@@ -248,7 +254,8 @@ pub fn walks_do_as_the_table()
         → DoesAlone store (effect store answers (sum_plan (v ∷ []))) wrong_kinds }
 {}
 
-/// The law of numbers: each operation on operands that are numbers does what the table says of these.
+/// The law of numbers: each operation on operands that are numbers does what the table says of these. A number and what it repeats may stand on either
+/// side.
 pub fn numbers_do_as_the_table()
     ensures neg { (store : RunStore) (answers : Answers) (v : Contents) (i : ℤ) → number_in v ≡ Some i
         → DoesAlone store (effect store answers (neg_plan (v ∷ []))) (numbers.neg_is i) }
@@ -266,6 +273,8 @@ pub fn numbers_do_as_the_table()
         → DoesAlone store (effect store answers (mod_plan (v ∷ (w ∷ [])))) (numbers.mod_is i j) }
     ensures add { (store : RunStore) (answers : Answers) (v w : Contents) (i j : ℤ) → number_in v ≡ Some i → number_in w ≡ Some j
         → DoesAlone store (effect store answers (add_plan (v ∷ (w ∷ [])))) (numbers.add_is i j) }
+    ensures repeats { (store : RunStore) (answers : Answers) (v w : Contents) (i : ℤ) → number_in v ≡ Some i → number_in w ≡ None
+        → effect store answers (mul_plan (v ∷ (w ∷ []))) ≡ effect store answers (mul_plan (w ∷ (v ∷ []))) }
 {}
 
 /// The law of files: where an object is a file, each operation does what the table says of its bytes and its offset.

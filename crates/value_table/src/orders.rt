@@ -10,7 +10,7 @@ ghost use Rattle.py_model.specs.Sorting.{refused_to};
 ghost use Rattle.py_model.specs.Store.{RunStore};
 ghost use Rattle.py_model.specs.Walks.{Comparison, deepest, is_alike, numbers_from, same_range};
 ghost use Rattle.value_table.specs.Comparing.{HasDicts, comes, compared, exceeds, precedes};
-ghost use Rattle.value_table.specs.Equality.{IsEqual};
+ghost use Rattle.value_table.specs.Equality.{AreShallow, IsEqual, StandsAt, first_equal};
 ghost use Rattle.value_table.specs.InOrder.{IsFirstBest, IsSortedOf};
 ghost use Rattle.value_table.specs.Reading.{HasItems, IsList};
 ghost use Rattle.value_table.specs.Results.{Does, DoesAlone, throws};
@@ -31,6 +31,8 @@ pub fn comparisons_do_as_the_table()
     ensures ge { (store : RunStore) (answers : Answers) (v w : Contents) → HasDicts store → DoesAlone store (effect store answers (ge_plan (v ∷ (w ∷ [])))) (ge_is store v w) }
     ensures members { (store : RunStore) (answers : Answers) (v w : Contents) (how : Comparison) → HasDicts store → compared store false v w ≡ comes how
         → IsEqual store answers v w (is_alike how) }
+    ensures places { (store : RunStore) (answers : Answers) (v : Contents) (items : List Contents) → HasDicts store → AreShallow store v items
+        → StandsAt store answers v items (first_equal store v items) }
     ensures ranges { (a b c d e f : ℤ) → (same_range a b c d e f ≡ true) ↔ (numbers_from (range_count a b c) a c ≡ numbers_from (range_count d e f) d f) }
 {
     tests_are_equality();

@@ -1,5 +1,5 @@
 use Rattle.value_table.proofs.laws.numbers_do_as_the_table.Goals as goal
-use Rattle.value_table.proofs.Alone.{negated, positive, without_sign, subtracted, multiplied_does, floor_divided, remaining, summed}
+use Rattle.value_table.proofs.Alone.{negated, positive, without_sign, subtracted, multiplied_does, floor_divided, remaining, summed, turned}
 
 pub returns-clause-neg : goal.returns-clause-neg
 returns-clause-neg c = negated
@@ -24,3 +24,6 @@ returns-clause-remainder c = λ store answers v w i j is other. remaining store 
 
 pub returns-clause-add : goal.returns-clause-add
 returns-clause-add c = summed
+
+pub returns-clause-repeats : goal.returns-clause-repeats
+returns-clause-repeats c = turned

@@ -47,3 +47,12 @@ returns-clause-other_in_range c = other_in_range
 
 pub returns-clause-other_not_in_range : goal.returns-clause-other_not_in_range
 returns-clause-other_not_in_range c = other_not_in_range
+
+pub returns-clause-iter_of_tuple : goal.returns-clause-iter_of_tuple
+returns-clause-iter_of_tuple c = λ store answers parts. record { answer_is = refl; made_is = refl; after_is = refl }
+
+pub returns-clause-iter_of_range : goal.returns-clause-iter_of_range
+returns-clause-iter_of_range c = λ store answers start end step. record { answer_is = refl; made_is = refl; after_is = refl }
+
+pub returns-clause-iter_of_text : goal.returns-clause-iter_of_text
+returns-clause-iter_of_text c = λ store answers bytes. record { answer_is = refl; made_is = refl; after_is = refl }

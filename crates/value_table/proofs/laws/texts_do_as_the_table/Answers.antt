@@ -19,3 +19,6 @@ returns-clause-contains c = λ store answers sought bytes. record { answer_is = 
 
 pub returns-clause-len : goal.returns-clause-len
 returns-clause-len c = text_length
+
+pub returns-clause-lacks : goal.returns-clause-lacks
+returns-clause-lacks c = λ store answers sought bytes. record { answer_is = refl; made_is = refl; after_is = refl }
