@@ -23,3 +23,4 @@ pub mod Ranges
 pub mod Sums
 pub mod WorkedNumbers
 pub mod Opening
+pub mod CodePoints

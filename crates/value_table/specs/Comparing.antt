@@ -1,7 +1,7 @@
 -- How two values compare, as they are read in a store (The Python Language Reference 3, section 6.10, in this project's profile): numbers and
 -- truth values by number, texts by code points, lists and tuples item by item, dictionaries by their pairs in whatever order, ranges by their
 -- numbers. Other values are equal only where they are the same.
-use Rattle.std.specs.Prelude.{◌≡◌, ℕ, zero, suc, ◌==◌, Bool, true, false, ◌&&◌, not, List, [], ◌∷◌, length, slice_get, Option, Some, None, if◌then◌else◌}
+use Rattle.std.specs.Prelude.{◌≡◌, ℕ, zero, suc, ◌==◌, nat_lt, Bool, true, false, ◌&&◌, not, List, [], ◌∷◌, length, slice_get, Option, Some, None, if◌then◌else◌}
 use Rattle.std.specs.Str.{bytes_eq}
 use Rattle.py_value.specs.Contents.{Contents, truth, int, text, tuple, range, object}
 use Rattle.py_value.specs.Same.{same_value}
@@ -14,6 +14,13 @@ use Rattle.value_table.specs.Reading.{IsDict, items_at, pairs_at, pair_of}
 pub data Compared : Type 0 where
   comes : Comparison → Compared
   lies_too_deep : Compared
+
+-- code points one after the other: the first two that differ decide, and where there are none, the shorter comes first
+abbrev pub codes_compared : List ℕ → List ℕ → Comparison
+codes_compared [] [] = alike
+codes_compared [] (d ∷ ds) = before
+codes_compared (c ∷ cs) [] = behind
+codes_compared (c ∷ cs) (d ∷ ds) = if nat_lt c d then before else if nat_lt d c then behind else codes_compared cs ds
 
 -- how the values inside a container compare: with an order, or for equality alone
 abbrev pub Inside : Type 0

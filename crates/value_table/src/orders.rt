@@ -1,5 +1,6 @@
 // Laws of comparisons, and of what is in order: sorted items, and the first best one.
 ghost use Rattle.std.specs.Prelude.{◌≡◌, ◌↔◌, ℕ, ℤ, true, false, List, [], ◌∷◌, Some, None};
+ghost use Rattle.std.specs.Str.{IsUtf8, chars};
 ghost use Rattle.py_value.specs.Contents.{Contents, object, text};
 ghost use Rattle.py_model.specs.Arithmetic.{eq_plan, ne_plan, lt_plan, le_plan, gt_plan, ge_plan, max_plan, min_plan};
 ghost use Rattle.py_model.specs.Effect.{Answers, effect};
@@ -8,8 +9,8 @@ ghost use Rattle.py_model.specs.Lists.{sort_method, sorted_builtin};
 ghost use Rattle.py_model.specs.Numbers.{range_count};
 ghost use Rattle.py_model.specs.Sorting.{refused_to};
 ghost use Rattle.py_model.specs.Store.{RunStore};
-ghost use Rattle.py_model.specs.Walks.{Comparison, deepest, is_alike, numbers_from, same_range};
-ghost use Rattle.value_table.specs.Comparing.{HasDicts, comes, compared, exceeds, precedes};
+ghost use Rattle.py_model.specs.Walks.{Comparison, deepest, is_alike, numbers_from, order_of_texts, same_range};
+ghost use Rattle.value_table.specs.Comparing.{HasDicts, codes_compared, comes, compared, exceeds, precedes};
 ghost use Rattle.value_table.specs.Equality.{AreShallow, IsEqual, StandsAt, first_equal};
 ghost use Rattle.value_table.specs.InOrder.{IsFirstBest, IsSortedOf};
 ghost use Rattle.value_table.specs.Reading.{HasItems, IsList};
@@ -21,7 +22,8 @@ ghost use Rattle.value_table.specs.TableSequences.{sorted_is};
 use py_value::tests_are_equality;
 
 /// The law of comparisons: each does with any two values what the table says of how they compare as they are read in the store, whatever lies in
-/// them. `in` and `index` compare so too. Two ranges are equal exactly where they have the same numbers.
+/// them. `in` and `index` compare so too. Texts come first by their code points. Two ranges are
+/// equal exactly where they have the same numbers.
 pub fn comparisons_do_as_the_table()
     ensures eq { (store : RunStore) (answers : Answers) (v w : Contents) → HasDicts store → DoesAlone store (effect store answers (eq_plan (v ∷ (w ∷ [])))) (eq_is store v w) }
     ensures ne { (store : RunStore) (answers : Answers) (v w : Contents) → HasDicts store → DoesAlone store (effect store answers (ne_plan (v ∷ (w ∷ [])))) (ne_is store v w) }
@@ -33,6 +35,7 @@ pub fn comparisons_do_as_the_table()
         → IsEqual store answers v w (is_alike how) }
     ensures places { (store : RunStore) (answers : Answers) (v : Contents) (items : List Contents) → HasDicts store → AreShallow store v items
         → StandsAt store answers v items (first_equal store v items) }
+    ensures code_points { (one other : List ℕ) → IsUtf8 one → IsUtf8 other → order_of_texts one other ≡ codes_compared (chars one) (chars other) }
     ensures ranges { (a b c d e f : ℤ) → (same_range a b c d e f ≡ true) ↔ (numbers_from (range_count a b c) a c ≡ numbers_from (range_count d e f) d f) }
 {
     tests_are_equality();
