@@ -10,10 +10,12 @@ use Rattle.prov_base.specs.declared.place.Span.{Span}
 use Rattle.prov_base.specs.contracts.place.PosPartialEq.TheImpl.{ghosts as places}
 use Rattle.py_tree.specs.Binds.{bound_is, handlers_bind, form_binds, is_class, is_method, binds}
 use Rattle.py_tree.specs.Deletion.{pass_at, or_pass, kept_suite, kept_stmt, kept_form, kept_branches, kept_else, kept_handlers, deleted}
-use Rattle.py_tree.specs.Functions.{Function, functions_in, functions_of, functions_at, first_placed, function_at, suite_binds, stmt_binds, inner_binds, branches_bind, else_binds, handler_suites_bind, is_local}
+use Rattle.py_tree.specs.Functions.{Function, classes_in, classes_of, classes_at, functions_in, functions_of, functions_at, first_placed, function_at, suite_binds, stmt_binds, inner_binds, branches_bind, else_binds, handler_suites_bind, is_local}
 use Rattle.py_tree.specs.Numbering.{size_stmt, size_form, size_suite, size_branches, size_else, size_handlers, numbered_stmt, numbered_form, numbered_suite, numbered_branches, numbered_else, numbered_handlers}
 use Rattle.py_tree.specs.Owners.{Around, Standing, at_module_level, form_in, is_def, within, listed_stmt, listed_form, listed_suite, listed_branches, listed_else, listed_handlers, statements, number_at, standing_at, parent_of, function_of}
-use Rattle.py_tree.specs.Spans.{moved_suite, moved_stmt, moved_form, moved_branches, moved_else, moved_handlers, moved, moved_function, moved_standing}
+use Rattle.py_tree.specs.Placed.{place_in, place_of, place_at, standing_on, number_on, test_places, head_places, own_places, owns, owner_of}
+use Rattle.py_tree.specs.Places.{expr_places, option_places, bound_places, is_same}
+use Rattle.py_tree.specs.Spans.{moved_suite, moved_stmt, moved_form, moved_branches, moved_else, moved_handlers, moved, moved_function, moved_class, moved_standing}
 use Rattle.py_tree.specs.Tree.{number_of, StmtTree, FormTree, SuiteTree, BranchesTree, ElseTree, HandlersTree, ScriptTree, one_stmt, if_form, while_form, for_form, try_form, with_form, def_form, class_form, end_suite, more_suite, end_branches, more_branches, no_else, else_suite, end_handlers, more_handlers}
 
 either_map : {A B : Type 0} (f : A → B) (b : Bool) (x : A) (o : Option A) (p : Option B) → p ≡ option_map f o → cond b (Some (f x)) p ≡ option_map f (cond b (Some x) o)
@@ -109,6 +111,50 @@ module _ (m : Span → Span) where
   pub owners_stay : (script : ScriptTree) (s : ℕ) → function_of (moved m script) s ≡ function_of script s
   owners_stay script s = ap (option_and_then (λ x. x.around.function)) (standing_moves script s) ∙ function_stays (standing_at script s)
 
+  -- ## Places
+
+  place_stays : (s : StmtTree) → place_in (moved_stmt m s) ≡ place_in s
+  place_stays (one_stmt number at span form) = refl
+
+  placed_stays : (o : Option Standing) → option_map place_of (option_map (moved_standing m) o) ≡ option_map place_of o
+  placed_stays None = refl
+  placed_stays (Some x) = ap Some (place_stays x.stmt)
+
+  numbered_stays : (o : Option Standing) → option_map number_at (option_map (moved_standing m) o) ≡ option_map number_at o
+  numbered_stays None = refl
+  numbered_stays (Some x) = ap Some (number_stays x.stmt)
+
+  pub places_stay : (script : ScriptTree) (s : ℕ) → place_at (moved m script) s ≡ place_at script s
+  places_stay script s = ap (option_map place_of) (standing_moves script s) ∙ placed_stays (standing_at script s)
+
+  pub numbers_stay : (script : ScriptTree) (at : Pos) → number_on (moved m script) at ≡ number_on script at
+  numbers_stay script at =
+      ap (λ xs. option_map number_at (find (λ x. is_same (place_of x) at) xs)) (statements_move script)
+      ∙ ap (option_map number_at) (find_map (moved_standing m) (λ x. is_same (place_of x) at) (λ x. is_same (place_of x) at) (λ x. ap (λ p. is_same p at) (place_stays x.stmt)) (statements script))
+      ∙ numbered_stays (standing_on script at)
+
+  tests_stay : (branches : BranchesTree) → test_places (moved_branches m branches) ≡ test_places branches
+  tests_stay end_branches = refl
+  tests_stay (more_branches test body rest) = ap (λ ps. expr_places test ++ ps) (tests_stay rest)
+
+  heads_stay : (handlers : HandlersTree) → head_places (moved_handlers m handlers) ≡ head_places handlers
+  heads_stay end_handlers = refl
+  heads_stay (more_handlers kind bound body rest) = ap (λ ps. option_places kind ++ (bound_places bound ++ ps)) (heads_stay rest)
+
+  own_stay : (form : FormTree) → own_places (moved_form m form) ≡ own_places form
+  own_stay (if_form branches _) = tests_stay branches
+  own_stay (try_form body handlers) = heads_stay handlers
+  own_stay form = refl
+
+  owns_stays : (at : Pos) (x : Standing) → owns at (moved_standing m x) ≡ owns at x
+  owns_stays at x = ap (λ form. list_any (λ p. is_same p at) (own_places form)) (form_moves x.stmt) ∙ ap (list_any (λ p. is_same p at)) (own_stay (form_in x.stmt))
+
+  pub place_owners_stay : (script : ScriptTree) (at : Pos) → owner_of (moved m script) at ≡ owner_of script at
+  place_owners_stay script at =
+      ap (λ xs. option_map number_at (find (owns at) xs)) (statements_move script)
+      ∙ ap (option_map number_at) (find_map (moved_standing m) (owns at) (owns at) (owns_stays at) (statements script))
+      ∙ numbered_stays (find (owns at) (statements script))
+
   -- ## Names
 
   handlers_same : (handlers : HandlersTree) (name : List ℕ) → handlers_bind (moved_handlers m handlers) name ≡ handlers_bind handlers name
@@ -187,6 +233,17 @@ module _ (m : Span → Span) where
 
   pub function_moves : (script : ScriptTree) (at : Pos) → function_at (moved m script) at ≡ option_map (moved_function m) (function_at script at)
   function_moves script at = ap (first_placed at) (functions_move script.body) ∙ first_moves at (functions_in script.body)
+
+  stmt_classes : (s : StmtTree) → classes_of (moved_stmt m s) ≡ map (moved_class m) (classes_of s)
+  stmt_classes (one_stmt number at span form) = form_classes form
+    where
+      form_classes : (form : FormTree) → classes_at at (moved_form m form) ≡ map (moved_class m) (classes_at at form)
+      form_classes (class_form name base body) = refl
+      form_classes form = refl
+
+  pub classes_move : (body : SuiteTree) → classes_in (moved_suite m body) ≡ map (moved_class m) (classes_in body)
+  classes_move end_suite = refl
+  classes_move (more_suite s rest) = ap₂ ◌++◌ (stmt_classes s) (classes_move rest) ∙ sym (map-append (moved_class m) (classes_of s) (classes_in rest))
 
   -- ## Deletion
 

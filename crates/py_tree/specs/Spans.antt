@@ -1,7 +1,7 @@
 -- A script with other byte spans, and nothing else changed.
 use Rattle.std.specs.Option.{option_map}
 use Rattle.prov_base.specs.declared.place.Span.{Span}
-use Rattle.py_tree.specs.Functions.{Function}
+use Rattle.py_tree.specs.Functions.{Function, Class}
 use Rattle.py_tree.specs.Owners.{Standing}
 use Rattle.py_tree.specs.Tree.{StmtTree, FormTree, SuiteTree, BranchesTree, ElseTree, HandlersTree, ScriptTree, one_stmt, if_form, while_form, for_form, try_form, with_form, def_form, class_form, end_suite, more_suite, end_branches, more_branches, no_else, else_suite, end_handlers, more_handlers}
 
@@ -44,3 +44,6 @@ module _ (m : Span → Span) where
 
   abbrev pub moved_standing : Standing → Standing
   moved_standing x = record { stmt = moved_stmt x.stmt; around = record { owner = option_map moved_stmt x.around.owner; function = x.around.function } }
+
+  abbrev pub moved_class : Class → Class
+  moved_class c = record c { body = moved_suite c.body }

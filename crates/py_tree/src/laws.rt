@@ -8,7 +8,7 @@ ghost use Rattle.py_tree.specs.Functions.{Function, Class, functions_in, functio
 ghost use Rattle.py_tree.specs.Owners.{Around, Standing, form_in, number_at, listed_suite, statements, standing_at, parent_of, function_of};
 ghost use Rattle.py_tree.specs.Placed.{place_of, place_at, standing_on, number_on, own_places, owner_of};
 ghost use Rattle.py_tree.specs.Scope.{scope_suite, is_no_definition};
-ghost use Rattle.py_tree.specs.Spans.{moved, moved_standing, moved_function, moved_suite};
+ghost use Rattle.py_tree.specs.Spans.{moved, moved_standing, moved_function, moved_class, moved_suite};
 ghost use Rattle.py_tree.specs.Tree.{ScriptTree, SuiteTree};
 ghost use Rattle.py_tree.specs.Numbering.{IsNumbered, numbered_suite};
 ghost use Rattle.py_tree.specs.Deletion.{or_pass, kept_suite, deleted};
@@ -46,15 +46,19 @@ pub fn deletion_twice()
         → unplaced (deleted second (deleted first script)) ≡ unplaced (deleted (both first (new_number first script) second) script) }
 {}
 
-/// The law that nothing here looks at byte spans: with other spans the script has the same statements, owners, names and
-/// functions, but for the spans in them, and deletion gives the same.
+/// The law that nothing here looks at byte spans: with other spans the script has the same statements, places, owners,
+/// names, functions and classes, but for the spans in them, and deletion gives the same.
 pub fn spans_are_not_looked_at()
     ensures statements { (m : Span → Span) (script : ScriptTree) → statements (moved m script) ≡ map (moved_standing m) (statements script) }
     ensures parents { (m : Span → Span) (script : ScriptTree) (s : ℕ) → parent_of (moved m script) s ≡ parent_of script s }
     ensures owners { (m : Span → Span) (script : ScriptTree) (s : ℕ) → function_of (moved m script) s ≡ function_of script s }
+    ensures placed { (m : Span → Span) (script : ScriptTree) (s : ℕ) → place_at (moved m script) s ≡ place_at script s }
+    ensures numbers { (m : Span → Span) (script : ScriptTree) (at : Pos) → number_on (moved m script) at ≡ number_on script at }
+    ensures node_owners { (m : Span → Span) (script : ScriptTree) (at : Pos) → owner_of (moved m script) at ≡ owner_of script at }
     ensures bound { (m : Span → Span) (script : ScriptTree) (s : ℕ) (name : List ℕ) → binds (moved m script) s name ≡ binds script s name }
     ensures functions { (m : Span → Span) (body : SuiteTree) → functions_in (moved_suite m body) ≡ map (moved_function m) (functions_in body) }
     ensures places { (m : Span → Span) (script : ScriptTree) (at : Pos) → function_at (moved m script) at ≡ option_map (moved_function m) (function_at script at) }
+    ensures classes { (m : Span → Span) (body : SuiteTree) → classes_in (moved_suite m body) ≡ map (moved_class m) (classes_in body) }
     ensures local { (m : Span → Span) (f : Function) (name : List ℕ) → is_local (moved_function m f) name ≡ is_local f name }
     ensures deletion { (m : Span → Span) (keep : ℕ → Bool) (script : ScriptTree) → deleted keep (moved m script) ≡ moved m (deleted keep script) }
 {}
