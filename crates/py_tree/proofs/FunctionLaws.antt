@@ -1,5 +1,5 @@
 -- Laws of functions and classes by their places.
-use Rattle.std.proofs.Common.{◌≡◌, Bool, true, cond, List, [], ◌∷◌, ◌++◌, map, Contains, find, Option, Some, ◌⊎◌, ◌↔◌, IsTrue, inl, inr, refl, sym, ap, subst, ◌∙◌}
+use Rattle.std.proofs.Common.{◌≡◌, true, cond, List, [], ◌∷◌, ◌++◌, map, Contains, find, Some, ◌⊎◌, ◌↔◌, IsTrue, inl, inr, refl, sym, ap, subst, ◌∙◌}
 use Rattle.std.proofs.lemmas.List.{map-append}
 use Rattle.prov_base.specs.declared.place.Pos.{Pos}
 use Rattle.prov_base.specs.contracts.place.PosPartialEq.TheImpl.{ghosts as places}
@@ -8,8 +8,8 @@ use Rattle.py_tree.specs.Parts.{IsPartOf, no_more, leaves, takes}
 use Rattle.py_tree.specs.Places.{suite_starts, stmt_starts, form_starts, are_ascending}
 use Rattle.py_tree.specs.Tree.{StmtTree, FormTree, SuiteTree, ScriptTree, one_stmt, def_form, class_form, end_suite, more_suite}
 use Rattle.py_tree.specs.WellFormed.{IsWellFormed}
-use Rattle.py_tree.proofs.Finding.{place_same, place_own, IsIn, from_contains, to_contains, in_front, in_behind, in_either, find_in, find_only, place_once, places_apart, ascending_behind}
-use Rattle.py_tree.proofs.PlaceLaws.{part_none, part_append, part_behind, part_ascending}
+use Rattle.py_tree.proofs.Finding.{place_same, place_own, IsIn, from_contains, to_contains, in_either, find_in, find_only, place_once, places_apart, ascending_behind}
+use Rattle.py_tree.proofs.PlaceLaws.{part_none, part_append, part_ascending}
 
 abbrev places_of : List Function → List Pos
 places_of fs = map (λ f. f.place) fs

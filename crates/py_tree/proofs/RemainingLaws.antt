@@ -1,13 +1,11 @@
 -- Laws of the statements of a deletion.
-use Rattle.std.proofs.Common.{◌≡◌, ℕ, Bool, true, false, cond, List, [], ◌∷◌, ◌++◌, map, filter, Option, None, Some, IsTrue, inl, inr, refl, sym, ap, ap₂, subst, ◌∙◌}
+use Rattle.std.proofs.Common.{◌≡◌, ℕ, Bool, true, false, cond, List, [], ◌∷◌, ◌++◌, map, Option, None, Some, IsTrue, inl, inr, refl, sym, ap, ap₂, subst, ◌∙◌}
 use Rattle.std.proofs.lemmas.Bool.{false≢true}
 use Rattle.std.proofs.lemmas.List.{map-append}
 use Rattle.std.proofs.lemmas.List.Elements.{filter-append}
 use Rattle.std.specs.Prelude.{if◌then◌else◌}
 use Rattle.std.specs.Option.{option_map, option_and_then}
-use Rattle.prov_base.specs.declared.place.Pos.{Pos}
-use Rattle.prov_base.specs.declared.place.Span.{Span}
-use Rattle.py_tree.specs.Deletion.{pass_at, or_pass, kept_suite, kept_stmt, kept_form, kept_branches, kept_else, kept_handlers, deleted}
+use Rattle.py_tree.specs.Deletion.{or_pass, kept_suite, kept_stmt, kept_form, kept_branches, kept_else, kept_handlers, deleted}
 use Rattle.py_tree.specs.Numbering.{IsNumbered}
 use Rattle.py_tree.specs.Owners.{Around, Standing, at_module_level, form_in, is_def, within, listed_stmt, listed_form, listed_suite, listed_branches, listed_else, listed_handlers, number_at, statements, standing_at, parent_of, function_of}
 use Rattle.py_tree.specs.Placed.{place_in, place_of, place_at}
@@ -19,7 +17,6 @@ use Rattle.py_tree.proofs.DeletionLaws.{deleted_is_numbered}
 use Rattle.py_tree.proofs.Finding.{IsIn, in_front, in_behind}
 use Rattle.py_tree.proofs.NewNumbers.{gives_new_numbers}
 use Rattle.py_tree.proofs.PlacedLaws.{by_number, number_finds}
-use Rattle.py_tree.proofs.TwiceLaws.{pass_kept}
 
 -- ## Lists with `pass` statements put in
 
