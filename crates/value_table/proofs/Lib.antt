@@ -24,3 +24,4 @@ pub mod Sums
 pub mod WorkedNumbers
 pub mod Opening
 pub mod CodePoints
+pub mod OneOrder

@@ -11,10 +11,10 @@ use Rattle.value_table.specs.InOrder.{NoneLess, InOrder, IsSortedOf}
 use Rattle.value_table.proofs.Kin.{In, AreAllRanked, all_ranked}
 use Rattle.value_table.proofs.Ranks.{Joins, values_join, none_joins, rank_itself}
 
-abbrev first_rank : Contents → Contents → Bool
+abbrev pub first_rank : Contents → Contents → Bool
 first_rank v w = is_first (ranked v w)
 
-abbrev level_rank : Contents → Contents → Bool
+abbrev pub level_rank : Contents → Contents → Bool
 level_rank v w = is_alike (ranked v w)
 
 no_less : true ≡ false → ⊥
@@ -83,16 +83,16 @@ order_inside (x ∷ items) v i = by (put_inside x (in_order items) v i) (order_i
     by (inl is) more = inl is
     by (inr i) more = inr (more i)
 
-abbrev Within : List Contents → List Contents → Type 0
+abbrev pub Within : List Contents → List Contents → Type 0
 Within all items = (v : Contents) → In v items → In v all
 
-contained : (items : List Contents) (v : Contents) (k : ℕ) → k < length items → slice_index_or items k v ≡ v → In v items
+pub contained : (items : List Contents) (v : Contents) (k : ℕ) → k < length items → slice_index_or items k v ≡ v → In v items
 contained [] v k below is = absurd (omega (arith, below))
 contained (x ∷ items) v zero below is = inl (sym is)
 contained (x ∷ items) v (suc k) below is = inr (contained items v k (omega (arith, below)) is)
 
 module _ (store : RunStore) (all : List Contents) (so : AreAllRanked store deepest all) where
-  first_is : (v w : Contents) → In v all → In w all → precedes store v w ≡ first_rank v w
+  pub first_is : (v w : Contents) → In v all → In w all → precedes store v w ≡ first_rank v w
   first_is v w one other = ap comes_first (so v w one other).1 ∙ by_rank (ranked v w)
     where
       by_rank : (how : Comparison) → comes_first (comes how) ≡ is_first how
@@ -101,7 +101,7 @@ module _ (store : RunStore) (all : List Contents) (so : AreAllRanked store deepe
       by_rank behind = refl
       by_rank apart = refl
 
-  level_is : (v w : Contents) → In v all → In w all → as_great store v w ≡ level_rank v w
+  pub level_is : (v w : Contents) → In v all → In w all → as_great store v w ≡ level_rank v w
   level_is v w one other = ap are_level (so v w one other).1 ∙ by_rank (ranked v w)
     where
       by_rank : (how : Comparison) → are_level (comes how) ≡ is_alike how

@@ -42,7 +42,7 @@ pub fn comparisons_do_as_the_table()
 }
 
 /// The law of sorting: where nothing is refused of the items, a list is sorted in place, and a sorted list is made of what a sequence has. Items that are
-/// refused raise.
+/// refused raise. Of given items only one list is sorted.
 pub fn items_are_sorted()
     ensures sort { (store : RunStore) (answers : Answers) (o : ℕ) (items : List Contents) → IsList store o items → refused_to deepest items ≡ None
         → (sorted : List Contents) × (IsSortedOf store items sorted × Does IsList store o (effect store answers (sort_method (object o ∷ []))) (sort_is sorted)) }
@@ -52,6 +52,8 @@ pub fn items_are_sorted()
         → (sorted : List Contents) × (IsSortedOf store items sorted × DoesAlone store (effect store answers (sorted_builtin (v ∷ []))) (sorted_is sorted)) }
     ensures sorted_refused { (store : RunStore) (answers : Answers) (v : Contents) (items : List Contents) (number : ℕ) (words : List ℕ) → HasItems store v items
         → refused_to deepest items ≡ Some (fault number words) → DoesAlone store (effect store answers (sorted_builtin (v ∷ []))) (throws number (text words ∷ [])) }
+    ensures one { (store : RunStore) (items sorted also : List Contents) → refused_to deepest items ≡ None → IsSortedOf store items sorted
+        → IsSortedOf store items also → sorted ≡ also }
 {}
 
 /// The law of `max` and `min`: of items of which a sort refuses nothing, the answer is the first of the greatest, or of the least. The items are those of one

@@ -2,6 +2,7 @@ use Rattle.py_model.specs.Sorting.{in_order}
 use Rattle.value_table.proofs.orders.items_are_sorted.Goals as goal
 use Rattle.value_table.proofs.Alone.{sorted_does, sorted_refused}
 use Rattle.value_table.proofs.Lists.{sort_does, sort_refused}
+use Rattle.value_table.proofs.OneOrder.{one_sorted}
 use Rattle.value_table.proofs.Sorting.{sorted_of}
 
 pub returns-clause-sort : goal.returns-clause-sort
@@ -15,3 +16,6 @@ returns-clause-sorted c = λ store answers v items has none. (in_order items, (s
 
 pub returns-clause-sorted_refused : goal.returns-clause-sorted_refused
 returns-clause-sorted_refused c = λ store answers v items number words has refused. sorted_refused store answers v items has number words refused
+
+pub returns-clause-one : goal.returns-clause-one
+returns-clause-one c = one_sorted
