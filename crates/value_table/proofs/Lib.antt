@@ -25,3 +25,4 @@ pub mod WorkedNumbers
 pub mod Opening
 pub mod CodePoints
 pub mod OneOrder
+pub mod Written

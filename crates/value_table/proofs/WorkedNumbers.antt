@@ -2,9 +2,9 @@
 use Rattle.std.proofs.Common.{◌≡◌, refl, pos, negsuc, true, false, [], ◌∷◌, Some, codes}
 use Rattle.py_value.specs.Contents.{truth, int, text, tuple, range, exception_class, no_parts, part}
 use Rattle.py_value.specs.Seen.{an_instance}
-use Rattle.py_model.specs.Arithmetic.{sum_plan, in_plan, not_in_plan}
+use Rattle.py_model.specs.Arithmetic.{sum_plan, in_plan, not_in_plan, int_plan}
 use Rattle.py_model.specs.Effect.{effect, answered}
-use Rattle.py_model.specs.Faults.{overflow, type_error}
+use Rattle.py_model.specs.Faults.{overflow, type_error, value_error}
 use Rattle.py_model.specs.Plan.{value}
 use Rattle.py_model.specs.Store.{empty}
 use Rattle.value_table.specs.Results.{gives, throws}
@@ -42,3 +42,10 @@ below = refl
 
 no_number : (effect empty devices (in_plan (text (codes "a") ∷ range (pos 0) (pos 9) (pos 1) ∷ []))).outcome ≡ answered (value (truth false))
 no_number = refl
+
+-- `int('-12')`, and of what writes no integer
+read_number : (effect empty devices (int_plan (text (codes "-12") ∷ []))).outcome ≡ answered (value (int (negsuc 11)))
+read_number = refl
+
+no_integer : (effect empty devices (int_plan (text (codes "x") ∷ []))).made ≡ Some (an_instance (exception_class value_error))
+no_integer = refl

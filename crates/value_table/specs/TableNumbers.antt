@@ -4,7 +4,7 @@ use Rattle.std.specs.Prelude.{ℤ, pos, ◌+ℤ◌, ◌-ℤ◌, ◌*ℤ◌, neg_
 use Rattle.std.specs.Ordering.{int_eq}
 use Rattle.py_value.specs.Contents.{int, text}
 use Rattle.py_model.specs.Faults.{zero_division, overflow}
-use Rattle.py_model.specs.Numbers.{is_int, floor_div, floor_mod, absolute}
+use Rattle.py_model.specs.Numbers.{is_int, int_text, floor_div, floor_mod, absolute}
 use Rattle.py_model.specs.Sorting.{all_are}
 use Rattle.value_table.specs.Results.{Result, gives, throws}
 use Rattle.value_table.specs.TableLists.{number_or_overflow}
@@ -54,3 +54,10 @@ total (i ∷ more) = i +ℤ total more
 -- 69 sum (walk; numbers): the sum of the numbers, added from the left; each sum on the way has 64 bits
 abbrev pub sum_is : List ℤ → Result (Unit {0})
 sum_is numbers = if all_are is_int (partial_sums (pos 0) numbers) then gives (int (total numbers)) else throws overflow (text (codes "integer out of range") ∷ [])
+
+-- 68 str, 66 repr (print walk): the text of the number's digits; 56 int of that text: the number
+abbrev pub str_is : ℤ → Result (Unit {0})
+str_is i = gives (text (int_text i))
+
+abbrev pub int_is : ℤ → Result (Unit {0})
+int_is i = gives (int i)

@@ -1,6 +1,6 @@
 -- The table of operations on texts (The Python Standard Library, "Text Sequence Type", in this project's profile): each over the characters
 -- of the text, or its bytes where these say the same. White space, letters and digits are those of ASCII.
-use Rattle.std.specs.Prelude.{ℕ, ◌-◌, ℤ, pos, negsuc, List, [], ◌∷◌, ◌++◌, map, slice_get, take, drop, Option, Some, None, is_some, codes, not, unwrap_or}
+use Rattle.std.specs.Prelude.{ℕ, ◌-◌, ℤ, pos, negsuc, List, [], ◌∷◌, ◌++◌, map, slice_get, take, drop, Option, Some, None, is_some, codes, not, encode_utf8, unwrap_or}
 use Rattle.py_value.specs.Contents.{truth, int, text}
 use Rattle.py_model.specs.Arithmetic.{repeated}
 use Rattle.py_model.specs.Faults.{value_error, not_implemented}
@@ -99,3 +99,10 @@ ljust_is bytes width = gives (text (bytes ++ spaces (times width - size bytes)))
 
 abbrev pub rjust_is : List ℕ → ℤ → Result (Unit {0})
 rjust_is bytes width = gives (text (spaces (times width - size bytes) ++ bytes))
+
+-- 52 chr: the character with this code; 63 ord of that text: the code
+abbrev pub chr_is : ℕ → Result (Unit {0})
+chr_is code = gives (text (encode_utf8 code))
+
+abbrev pub ord_is : ℕ → Result (Unit {0})
+ord_is code = gives (int (pos code))

@@ -1,18 +1,19 @@
 // Laws of the table in terms of values, each a function without a body that says it.
 ghost use Rattle.std.specs.Str.{bytes_eq};
-ghost use Rattle.std.specs.Prelude.{◌≡◌, ◌↔◌, ℕ, ℤ, Bool, List, [], ◌∷◌, Option, Some, None, map, length, true, false, pos, codes};
+ghost use Rattle.std.specs.Prelude.{◌≡◌, ◌↔◌, ℕ, ℤ, Bool, List, [], ◌∷◌, Option, Some, None, map, length, true, false, pos, codes, encode_utf8};
 ghost use Rattle.prov_base.specs.Path.{is_path};
 ghost use Rattle.py_value.specs.Contents.{Contents, Parts, nothing, object, range, text, tuple, int};
 ghost use Rattle.py_value.specs.KeyOf.{key_fault};
-ghost use Rattle.py_model.specs.Texts.{characters};
+ghost use Rattle.py_model.specs.Texts.{characters, is_scalar};
 ghost use Rattle.py_model.specs.Files.{read_plan, readline_plan, write_plan, close_plan, next_line, open_plan};
-ghost use Rattle.py_model.specs.Arithmetic.{add_plan, in_plan, iadd_plan, len_plan, mul_plan, neg_plan, pos_plan, abs_plan, sub_plan, floor_div_plan, mod_plan, truth_plan, not_plan, not_in_plan, sum_plan};
+ghost use Rattle.py_model.specs.Arithmetic.{add_plan, in_plan, iadd_plan, len_plan, mul_plan, neg_plan, pos_plan, abs_plan, sub_plan, floor_div_plan, mod_plan, truth_plan, not_plan, not_in_plan, sum_plan, chr_plan, ord_plan, int_plan};
 ghost use Rattle.py_model.specs.Classes.{find, getattr, setattr};
 ghost use Rattle.py_model.specs.Dicts.{get_method, items_method, keys_method, values_method, dict_display, dict_builtin};
 ghost use Rattle.py_model.specs.Effect.{Answers, effect};
 ghost use Rattle.py_model.specs.Lists.{append, extend, insert, pop, getitem, setitem, delitem, slice, reverse_method, list_builtin, tuple_builtin, enumerate, zip_builtin, index_method, unpack, list_display, tuple_display, iter, next};
-ghost use Rattle.py_model.specs.Numbers.{times, range_count};
+ghost use Rattle.py_model.specs.Numbers.{times, range_count, is_int, int_text};
 ghost use Rattle.py_model.specs.Operands.{number_in};
+ghost use Rattle.py_model.specs.Printing.{repr_of, str_of};
 ghost use Rattle.py_model.specs.Sorting.{all_are, is_number};
 ghost use Rattle.py_model.specs.Store.{RunStore, file_of};
 ghost use Rattle.py_model.specs.Walks.{deepest, items_of};
@@ -141,7 +142,7 @@ pub fn attributes_do_as_the_table()
     tests_are_equality();
 }
 
-/// The law of texts: each operator, and `len`, does with a text what the table says.
+/// The law of texts: each operator, and `len`, does with a text what the table says. `ord` undoes `chr`.
 pub fn texts_do_as_the_table()
     ensures getitem { (store : RunStore) (answers : Answers) (bytes : List ℕ) (index : Contents) (i : ℤ) → number_in index ≡ Some i
         → DoesAlone store (effect store answers (getitem (text bytes ∷ (index ∷ [])))) (texts.getitem_is bytes i) }
@@ -157,6 +158,10 @@ pub fn texts_do_as_the_table()
         → DoesAlone store (effect store answers (not_in_plan (text sought ∷ (text bytes ∷ [])))) (texts.not_in_is sought bytes) }
     ensures len { (store : RunStore) (answers : Answers) (bytes : List ℕ)
         → DoesAlone store (effect store answers (len_plan (text bytes ∷ []))) (texts.len_is bytes) }
+    ensures chr { (store : RunStore) (answers : Answers) (code : ℕ) → is_scalar code ≡ true
+        → DoesAlone store (effect store answers (chr_plan (int (pos code) ∷ []))) (texts.chr_is code) }
+    ensures ord { (store : RunStore) (answers : Answers) (code : ℕ) → is_scalar code ≡ true
+        → DoesAlone store (effect store answers (ord_plan (text (encode_utf8 code) ∷ []))) (texts.ord_is code) }
 {}
 
 /// The law of the methods of texts: each does what the table says.
@@ -255,7 +260,7 @@ pub fn walks_do_as_the_table()
 {}
 
 /// The law of numbers: each operation on operands that are numbers does what the table says of these. A number and what it repeats may stand on either
-/// side.
+/// side. `int` undoes `str`.
 pub fn numbers_do_as_the_table()
     ensures neg { (store : RunStore) (answers : Answers) (v : Contents) (i : ℤ) → number_in v ≡ Some i
         → DoesAlone store (effect store answers (neg_plan (v ∷ []))) (numbers.neg_is i) }
@@ -275,6 +280,10 @@ pub fn numbers_do_as_the_table()
         → DoesAlone store (effect store answers (add_plan (v ∷ (w ∷ [])))) (numbers.add_is i j) }
     ensures repeats { (store : RunStore) (answers : Answers) (v w : Contents) (i : ℤ) → number_in v ≡ Some i → number_in w ≡ None
         → effect store answers (mul_plan (v ∷ (w ∷ []))) ≡ effect store answers (mul_plan (w ∷ (v ∷ []))) }
+    ensures str { (store : RunStore) (answers : Answers) (i : ℤ) → DoesAlone store (effect store answers (str_of (int i))) (numbers.str_is i) }
+    ensures repr { (store : RunStore) (answers : Answers) (i : ℤ) → DoesAlone store (effect store answers (repr_of (int i))) (numbers.str_is i) }
+    ensures int { (store : RunStore) (answers : Answers) (i : ℤ) → is_int i ≡ true
+        → DoesAlone store (effect store answers (int_plan (text (int_text i) ∷ []))) (numbers.int_is i) }
 {}
 
 /// The law of files: where an object is a file, each operation does what the table says of its bytes and its offset.

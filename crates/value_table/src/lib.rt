@@ -14,7 +14,7 @@
 //! Operands of a wrong kind raise as the plans say. An operation has no equation where that would only repeat its plan:
 //! - constants, names, binding, `give`, `is`, calls, classes and methods, exceptions, imports, `with` and `assert`;
 //! - the truth of values that are no list and no dictionary, and `+=` of values that are no list, which is `+`;
-//! - `chr`, `ord`, `int`, `range`, `isinstance`, `print`, `repr`, `str`; `input`, and the modules;
+//! - `range`, `isinstance`, `print`; `repr` and `str` but of numbers, and `int` of other texts than theirs; `input`, and the modules;
 //! - of what `sort` and `sorted` refuse, and in which order, `refused_to` of `py_model` is the definition.
 #![tactic(auto)]
 

@@ -1,4 +1,6 @@
 use Rattle.value_table.proofs.laws.numbers_do_as_the_table.Goals as goal
+use Rattle.std.proofs.Common.{refl}
+use Rattle.value_table.proofs.Written.{text_of_number, number_of_text}
 use Rattle.value_table.proofs.Alone.{negated, positive, without_sign, subtracted, multiplied_does, floor_divided, remaining, summed, turned}
 
 pub returns-clause-neg : goal.returns-clause-neg
@@ -27,3 +29,12 @@ returns-clause-add c = summed
 
 pub returns-clause-repeats : goal.returns-clause-repeats
 returns-clause-repeats c = turned
+
+pub returns-clause-str : goal.returns-clause-str
+returns-clause-str c = text_of_number
+
+pub returns-clause-repr : goal.returns-clause-repr
+returns-clause-repr c = λ store answers i. record { answer_is = refl; made_is = refl; after_is = refl }
+
+pub returns-clause-int : goal.returns-clause-int
+returns-clause-int c = number_of_text

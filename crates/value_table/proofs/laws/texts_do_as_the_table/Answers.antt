@@ -1,5 +1,6 @@
 use Rattle.std.proofs.Common.{refl}
 use Rattle.value_table.proofs.laws.texts_do_as_the_table.Goals as goal
+use Rattle.value_table.proofs.Written.{character_of_code, code_of_character}
 use Rattle.value_table.proofs.Alone.{text_item, text_slice, text_times, text_length}
 
 pub returns-clause-getitem : goal.returns-clause-getitem
@@ -22,3 +23,9 @@ returns-clause-len c = text_length
 
 pub returns-clause-lacks : goal.returns-clause-lacks
 returns-clause-lacks c = λ store answers sought bytes. record { answer_is = refl; made_is = refl; after_is = refl }
+
+pub returns-clause-chr : goal.returns-clause-chr
+returns-clause-chr c = character_of_code
+
+pub returns-clause-ord : goal.returns-clause-ord
+returns-clause-ord c = code_of_character
