@@ -1,22 +1,14 @@
 -- `max` and `min` give the first of the best items.
 use Rattle.std.proofs.Common.{◌≡◌, ◌∙◌, refl, sym, ap, subst, inl, inr, Bool, true, false, List, [], ◌∷◌, ◌++◌, if◌then◌else◌, None}
 use Rattle.py_value.specs.Contents.{Contents, truth, int, text, tuple}
-use Rattle.py_model.specs.Arithmetic.{max_plan, min_plan, best_of, best_from, in_order, unless_apart, is_less, is_more}
-use Rattle.py_model.specs.Effect.{Answers, effect}
-use Rattle.py_model.specs.Operands.{gives as gives_plan}
-use Rattle.py_model.specs.Plan.{Plan}
+use Rattle.py_model.specs.Arithmetic.{is_less, is_more}
 use Rattle.py_model.specs.Sorting.{ranked, refused_to}
 use Rattle.py_model.specs.Store.{RunStore}
-use Rattle.py_model.specs.Walks.{Comparison, alike, before, behind, apart, compare_to, deepest, walk}
-use Rattle.value_table.specs.Comparing.{comes, compared, HasDicts, comes_first, comes_last, precedes, exceeds}
+use Rattle.py_model.specs.Walks.{Comparison, alike, before, behind, apart, deepest}
+use Rattle.value_table.specs.Comparing.{comes, compared, comes_first, comes_last, precedes, exceeds}
 use Rattle.value_table.specs.InOrder.{IsFirstBest, BetterThanEach, NoneBetter}
-use Rattle.value_table.specs.Reading.{HasItems}
-use Rattle.value_table.specs.Results.{Result, DoesAlone}
-use Rattle.value_table.specs.TableComparisons.{best_is, no_best_is}
-use Rattle.value_table.proofs.Alone.{alone_same}
-use Rattle.value_table.proofs.Comparing.{goes_on, within_does, agree_then, agree, Agrees}
-use Rattle.value_table.proofs.Effects.{walked}
-use Rattle.value_table.proofs.Keys.{ValuesTested}
+use Rattle.value_table.specs.Results.{Result, gives}
+use Rattle.value_table.specs.TableComparisons.{answers_by, unless_apart, by_order, have_order, wrong_kinds, best_from_is, best_is, max_is, min_is}
 use Rattle.value_table.proofs.Kin.{In, AreKin, AreRanked, AreAllRanked, all_ranked, IsOrdered, rank_ordered}
 use Rattle.value_table.proofs.Ranks.{Joins, values_join}
 
@@ -194,62 +186,56 @@ module _ (one other : Contents → Contents → Bool) (all : List Contents) (sam
       here : In b all
       here = subst (λ (row : List Contents). In b row) (sym is.items_are) (inside is.front is.back b)
 
-module _ (tested : ValuesTested) (store : RunStore) (answers : Answers) (dicts : HasDicts store) where
-  abbrev DoesIt : Plan → Result (Unit {0}) → Type 0
-  DoesIt p result = DoesAlone store (effect store answers p) result
+module _ (store : RunStore) where
+  never_apart : (answer : Comparison → Result (Unit {0})) (how : Comparison) → IsOrdered how → unless_apart answer how ≡ answer how
+  never_apart answer alike is = refl
+  never_apart answer before is = refl
+  never_apart answer behind is = refl
+  never_apart answer apart is = absurd is
 
-  never_apart : (go : Comparison → Plan) (how : Comparison) → IsOrdered how → unless_apart go how ≡ go how
-  never_apart go alike is = refl
-  never_apart go before is = refl
-  never_apart go behind is = refl
-  never_apart go apart is = absurd is
+  has_order : (v w : Contents) → AreKin v w → have_order store v w ≡ true
+  has_order (int i) (int j) kin = refl
+  has_order (int i) (truth b) kin = refl
+  has_order (truth a) (int j) kin = refl
+  has_order (truth a) (truth b) kin = refl
+  has_order (text one) (text other) kin = refl
+  has_order (tuple ps) (tuple qs) kin = refl
+  has_order (int i) w kin = absurd cc
+  has_order (truth a) w kin = absurd cc
+  has_order (text one) w kin = absurd cc
+  has_order (tuple ps) w kin = absurd kin
+  has_order v w kin = absurd kin
 
   -- the order of two values of one kind goes on with their rank
-  rank_goes : (v w : Contents) (go : Comparison → Plan) → AreRanked store deepest v w → Agrees store answers (in_order v w go) (go (ranked v w))
-  rank_goes v w go so = by_kinds v w so.0 (agree_then store answers (compare_to true deepest v w (unless_apart go)) (goes_on (unless_apart go) (compared store true v w)) (go (ranked v w))
-      (within_does store answers tested dicts deepest true v w (unless_apart go))
-      (agree store answers (goes_on (unless_apart go) (compared store true v w)) (go (ranked v w)) (ap (goes_on (unless_apart go)) so.1 ∙ never_apart go (ranked v w) (rank_ordered v w))))
-    where
-      by_kinds : (a b : Contents) → AreKin a b → Agrees store answers (compare_to true deepest a b (unless_apart go)) (go (ranked a b)) → Agrees store answers (in_order a b go) (go (ranked a b))
-      by_kinds (int i) (int j) kin walks = walks
-      by_kinds (int i) (truth b) kin walks = walks
-      by_kinds (truth a) (int j) kin walks = walks
-      by_kinds (truth a) (truth b) kin walks = walks
-      by_kinds (text one) (text other) kin walks = λ s. record { answer_is = refl; made_is = refl; after_is = refl }
-      by_kinds (tuple ps) (tuple qs) kin walks = walks
-      by_kinds (int i) b kin walks = absurd cc
-      by_kinds (truth a) b kin walks = absurd cc
-      by_kinds (text one) b kin walks = absurd cc
-      by_kinds (tuple ps) b kin walks = absurd kin
-      by_kinds a b kin walks = absurd kin
+  rank_is : (v w : Contents) (answer : Comparison → Result (Unit {0})) → AreRanked store deepest v w → by_order store v w answer ≡ answer (ranked v w)
+  rank_is v w answer so = ap (λ (b : Bool). if b then answers_by (unless_apart answer) (compared store true v w) else wrong_kinds) (has_order v w so.0)
+      ∙ (ap (answers_by (unless_apart answer)) so.1 ∙ never_apart answer (ranked v w) (rank_ordered v w))
 
   best_goes : (better : Comparison → Bool) (all : List Contents) → AreAllRanked store deepest all → (best : Contents) (items : List Contents) → In best all → ((v : Contents) → In v items → In v all)
-      → Agrees store answers (best_from better best items) (gives_plan (best_in better best items))
-  best_goes better all so best [] ibest within = λ s. record { answer_is = refl; made_is = refl; after_is = refl }
+      → best_from_is better store best items ≡ gives (best_in better best items)
+  best_goes better all so best [] ibest within = refl
   best_goes better all so best (item ∷ items) ibest within =
-      let go = λ (how : Comparison). elim (better how) as (λ b. Plan) [ true ↦ best_from better item items | false ↦ best_from better best items ] in
-      agree_then store answers (in_order item best go) (go (ranked item best)) (gives_plan (best_in better best (item ∷ items))) (rank_goes item best go (so item best (within item (inl refl)) ibest))
-      (by_test (better (ranked item best)) (best_goes better all so item items (within item (inl refl)) (λ v i. within v (inr i))) (best_goes better all so best items ibest (λ v i. within v (inr i))))
+      rank_is item best (λ how. elim (better how) as (λ b. Result (Unit {0})) [ true ↦ best_from_is better store item items | false ↦ best_from_is better store best items ]) (so item best (within item (inl refl)) ibest)
+      ∙ by_test (better (ranked item best)) (best_goes better all so item items (within item (inl refl)) (λ v i. within v (inr i))) (best_goes better all so best items ibest (λ v i. within v (inr i)))
     where
-      by_test : (t : Bool) → Agrees store answers (best_from better item items) (gives_plan (best_in better item items)) → Agrees store answers (best_from better best items) (gives_plan (best_in better best items))
-          → Agrees store answers (elim t as (λ b. Plan) [ true ↦ best_from better item items | false ↦ best_from better best items ]) (gives_plan (if t then best_in better item items else best_in better best items))
+      by_test : (t : Bool) → best_from_is better store item items ≡ gives (best_in better item items) → best_from_is better store best items ≡ gives (best_in better best items)
+          → (elim t as (λ b. Result (Unit {0})) [ true ↦ best_from_is better store item items | false ↦ best_from_is better store best items ]) ≡ gives (if t then best_in better item items else best_in better best items)
       by_test true one other = one
       by_test false one other = other
 
   abbrev HasBest : (Comparison → Bool) → (Contents → Contents → Bool) → Contents → List Contents → Type 0
-  HasBest better beats item items = (best : Contents) × (IsFirstBest beats (item ∷ items) best × DoesIt (best_of better (item ∷ items)) (best_is best))
+  HasBest better beats item items = (best : Contents) × (IsFirstBest beats (item ∷ items) best × (best_is better store (item ∷ items) ≡ gives best))
 
-  best_does : (better : Comparison → Bool) (beats : Contents → Contents → Bool) → IsBetter better → ((v w : Contents) (how : Comparison) → compared store true v w ≡ comes how → better how ≡ beats v w)
+  first_best : (better : Comparison → Bool) (beats : Contents → Contents → Bool) → IsBetter better → ((v w : Contents) (how : Comparison) → compared store true v w ≡ comes how → better how ≡ beats v w)
       → (item : Contents) (items : List Contents) → refused_to deepest (item ∷ items) ≡ None → HasBest better beats item items
-  best_does better beats law agrees item items none =
+  first_best better beats law agrees item items none =
       let so = all_ranked store deepest (item ∷ items) none in
       let best = best_in better item items in (
         best,
         (
           best_same (λ v w. better (ranked v w)) beats (item ∷ items) (λ v w iv iw. agrees v w (ranked v w) (so v w iv iw).1) best
               (found_best better law (item ∷ items) (λ v w iv iw. (so v w iv iw).0) item items (λ v i. i)),
-          alone_same store answers (effect store answers (best_from better item items)) (effect store answers (gives_plan best)) (best_is best)
-              (best_goes better (item ∷ items) so item items (inl refl) (λ v i. inr i)) (record { answer_is = refl; made_is = refl; after_is = refl }),
+          best_goes better (item ∷ items) so item items (inl refl) (λ v i. inr i),
         ),
       )
 
@@ -271,32 +257,10 @@ module _ (tested : ValuesTested) (store : RunStore) (answers : Answers) (dicts :
       by_how behind = refl
       by_how apart = refl
 
-  pub greatest_of : (v w : Contents) (more : List Contents) → refused_to deepest (v ∷ (w ∷ more)) ≡ None
-      → (best : Contents) × (IsFirstBest (exceeds store) (v ∷ (w ∷ more)) best × DoesIt (max_plan (v ∷ (w ∷ more))) (best_is best))
-  greatest_of v w more none = best_does is_more (exceeds store) more_is_better more_agrees v (w ∷ more) none
+  pub greatest : (item : Contents) (items : List Contents) → refused_to deepest (item ∷ items) ≡ None
+      → (best : Contents) × (IsFirstBest (exceeds store) (item ∷ items) best × (max_is store (item ∷ items) ≡ gives best))
+  greatest item items none = first_best is_more (exceeds store) more_is_better more_agrees item items none
 
-  pub least_of : (v w : Contents) (more : List Contents) → refused_to deepest (v ∷ (w ∷ more)) ≡ None
-      → (best : Contents) × (IsFirstBest (precedes store) (v ∷ (w ∷ more)) best × DoesIt (min_plan (v ∷ (w ∷ more))) (best_is best))
-  least_of v w more none = best_does is_less (precedes store) less_is_better less_agrees v (w ∷ more) none
-
-  by_walk : (better : Comparison → Bool) (v : Contents) (items : List Contents) (result : Result (Unit {0})) → HasItems store v items → DoesIt (best_of better items) result → DoesIt (walk v (best_of better)) result
-  by_walk better v items result has does =
-      alone_same store answers (effect store answers (walk v (best_of better))) (effect store answers (best_of better items)) result (λ s. walked store answers v items (best_of better) s has) does
-
-  pub greatest_in : (v item : Contents) (items : List Contents) → HasItems store v (item ∷ items) → refused_to deepest (item ∷ items) ≡ None
-      → (best : Contents) × (IsFirstBest (exceeds store) (item ∷ items) best × DoesIt (max_plan (v ∷ [])) (best_is best))
-  greatest_in v item items has none =
-      let found = best_does is_more (exceeds store) more_is_better more_agrees item items none in
-      (found.0, (found.1.0, by_walk is_more v (item ∷ items) (best_is found.0) has found.1.1))
-
-  pub least_in : (v item : Contents) (items : List Contents) → HasItems store v (item ∷ items) → refused_to deepest (item ∷ items) ≡ None
-      → (best : Contents) × (IsFirstBest (precedes store) (item ∷ items) best × DoesIt (min_plan (v ∷ [])) (best_is best))
-  least_in v item items has none =
-      let found = best_does is_less (precedes store) less_is_better less_agrees item items none in
-      (found.0, (found.1.0, by_walk is_less v (item ∷ items) (best_is found.0) has found.1.1))
-
-  pub greatest_none : (v : Contents) → HasItems store v [] → DoesIt (max_plan (v ∷ [])) no_best_is
-  greatest_none v has = by_walk is_more v [] no_best_is has (record { outcome_is = refl; made_is = refl; after_is = refl })
-
-  pub least_none : (v : Contents) → HasItems store v [] → DoesIt (min_plan (v ∷ [])) no_best_is
-  least_none v has = by_walk is_less v [] no_best_is has (record { outcome_is = refl; made_is = refl; after_is = refl })
+  pub least : (item : Contents) (items : List Contents) → refused_to deepest (item ∷ items) ≡ None
+      → (best : Contents) × (IsFirstBest (precedes store) (item ∷ items) best × (min_is store (item ∷ items) ≡ gives best))
+  least item items none = first_best is_less (precedes store) less_is_better less_agrees item items none

@@ -4,7 +4,7 @@ use Rattle.py_value.specs.Contents.{Contents, truth, text, tuple, object, no_par
 use Rattle.py_model.specs.Arithmetic.{max_plan, min_plan}
 use Rattle.py_model.specs.Dicts.{dict_display}
 use Rattle.py_model.specs.Effect.{effect, answered}
-use Rattle.py_model.specs.Faults.{type_error, recursion, wrong_kind}
+use Rattle.py_model.specs.Faults.{type_error, value_error, recursion, wrong_kind}
 use Rattle.py_model.specs.Lists.{list_display, append, sort_method, sorted_builtin}
 use Rattle.py_model.specs.Plan.{value}
 use Rattle.py_model.specs.Sorting.{refused_to}
@@ -12,7 +12,7 @@ use Rattle.py_model.specs.Store.{RunStore, empty}
 use Rattle.py_model.specs.Walks.{deepest}
 use Rattle.value_table.specs.Reading.{items_at}
 use Rattle.value_table.specs.Results.{gives, throws}
-use Rattle.value_table.specs.TableComparisons.{eq_is, ne_is, lt_is, ge_is}
+use Rattle.value_table.specs.TableComparisons.{eq_is, ne_is, lt_is, ge_is, max_is, min_is}
 use Rattle.value_table.proofs.WorkedLists.{n, then_store, devices}
 
 abbrev pair : Contents → Contents → Contents
@@ -87,3 +87,16 @@ greatest = refl
 
 least : (effect unsorted devices (min_plan (object 0 ∷ []))).outcome ≡ answered (value (truth true))
 least = refl
+
+greatest_is : max_is unsorted (n 1 ∷ truth true ∷ n 0 ∷ []) ≡ gives (n 1)
+greatest_is = refl
+
+-- lists have a greatest too, and of an empty sequence there is none
+greatest_list : max_is lists (object 1 ∷ object 5 ∷ []) ≡ gives (object 5)
+greatest_list = refl
+
+no_greatest : max_is unsorted [] ≡ throws value_error (text (codes "empty or zero") ∷ [])
+no_greatest = refl
+
+no_least : min_is unsorted (n 1 ∷ text (codes "a") ∷ []) ≡ throws type_error (text (codes "wrong kind of value") ∷ [])
+no_least = refl

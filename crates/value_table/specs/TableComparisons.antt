@@ -1,6 +1,6 @@
 -- The table of comparisons, and of `max` and `min` (The Python Language Reference 3, section 6.10, and The Python Standard Library, "Built-in
 -- Functions", in this project's profile): each by how the values compare, as they are read in the store.
-use Rattle.std.specs.Prelude.{Bool, true, false, ◌&&◌, not, [], ◌∷◌, slice_get, Option, Some, if◌then◌else◌, codes}
+use Rattle.std.specs.Prelude.{Bool, true, false, ◌&&◌, not, List, [], ◌∷◌, slice_get, Option, Some, if◌then◌else◌, codes}
 use Rattle.py_value.specs.Contents.{Contents, truth, text, tuple, object}
 use Rattle.py_value.specs.Seen.{SeenKind, a_list}
 use Rattle.py_model.specs.Arithmetic.{is_less, is_more}
@@ -37,13 +37,17 @@ have_order store (tuple ps) (tuple qs) = true
 have_order store (object o) (object p) = are_lists (slice_get store.kinds o) (slice_get store.kinds p)
 have_order store v w = is_number v && is_number w
 
--- an order answers by which value comes first; where the items that decide are apart, it raises
-abbrev pub if_ordered : (Comparison → Bool) → Comparison → Result (Unit {0})
-if_ordered test apart = wrong_kinds
-if_ordered test how = gives (truth (test how))
+-- It goes on with which value comes first. It raises where the values have no order, where the items that decide have none, and where the values lie too
+-- deep in one another.
+abbrev pub unless_apart : (Comparison → Result (Unit {0})) → Comparison → Result (Unit {0})
+unless_apart answer apart = wrong_kinds
+unless_apart answer how = answer how
+
+abbrev pub by_order : RunStore → Contents → Contents → (Comparison → Result (Unit {0})) → Result (Unit {0})
+by_order store v w answer = if have_order store v w then answers_by (unless_apart answer) (compared store true v w) else wrong_kinds
 
 abbrev pub ordered_is : (Comparison → Bool) → RunStore → Contents → Contents → Result (Unit {0})
-ordered_is test store v w = if have_order store v w then answers_by (if_ordered test) (compared store true v w) else wrong_kinds
+ordered_is test store v w = by_order store v w (λ how. gives (truth (test how)))
 
 -- 14 lt, 15 le, 16 gt, 17 ge (compare walk)
 abbrev pub lt_is : RunStore → Contents → Contents → Result (Unit {0})
@@ -58,10 +62,19 @@ gt_is store v w = ordered_is is_more store v w
 abbrev pub ge_is : RunStore → Contents → Contents → Result (Unit {0})
 ge_is store v w = ordered_is (λ how. not (is_less how)) store v w
 
--- 60 max, 61 min (one sequence: walk; compare walk of each with the best so far): the first of the greatest, or least, items; of an empty sequence
--- there is none
-abbrev pub best_is : Contents → Result (Unit {0})
-best_is best = gives best
+-- 60 max, 61 min (one sequence: walk; compare walk of each with the best so far): an item takes the place of the best so far where it is greater, or
+-- less. Of an empty sequence there is none.
+abbrev pub best_from_is : (Comparison → Bool) → RunStore → Contents → List Contents → Result (Unit {0})
+best_from_is better store best [] = gives best
+best_from_is better store best (item ∷ items) =
+    by_order store item best (λ how. elim (better how) as (λ b. Result (Unit {0})) [ true ↦ best_from_is better store item items | false ↦ best_from_is better store best items ])
 
-abbrev pub no_best_is : Result (Unit {0})
-no_best_is = throws value_error (text (codes "empty or zero") ∷ [])
+abbrev pub best_is : (Comparison → Bool) → RunStore → List Contents → Result (Unit {0})
+best_is better store [] = throws value_error (text (codes "empty or zero") ∷ [])
+best_is better store (item ∷ items) = best_from_is better store item items
+
+abbrev pub max_is : RunStore → List Contents → Result (Unit {0})
+max_is store items = best_is is_more store items
+
+abbrev pub min_is : RunStore → List Contents → Result (Unit {0})
+min_is store items = best_is is_less store items

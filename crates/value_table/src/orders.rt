@@ -14,8 +14,8 @@ ghost use Rattle.value_table.specs.Comparing.{HasDicts, codes_compared, comes, c
 ghost use Rattle.value_table.specs.Equality.{AreShallow, IsEqual, StandsAt, first_equal};
 ghost use Rattle.value_table.specs.InOrder.{IsFirstBest, IsSortedOf};
 ghost use Rattle.value_table.specs.Reading.{HasItems, IsList};
-ghost use Rattle.value_table.specs.Results.{Does, DoesAlone, throws};
-ghost use Rattle.value_table.specs.TableComparisons.{eq_is, ne_is, lt_is, le_is, gt_is, ge_is, best_is, no_best_is};
+ghost use Rattle.value_table.specs.Results.{Does, DoesAlone, gives, throws};
+ghost use Rattle.value_table.specs.TableComparisons.{eq_is, ne_is, lt_is, le_is, gt_is, ge_is, max_is, min_is};
 ghost use Rattle.value_table.specs.TableLists.{sort_is};
 ghost use Rattle.value_table.specs.TableSequences.{sorted_is};
 
@@ -56,23 +56,21 @@ pub fn items_are_sorted()
         → IsSortedOf store items also → sorted ≡ also }
 {}
 
-/// The law of `max` and `min`: of items of which a sort refuses nothing, the answer is the first of the greatest, or of the least. The items are those of one
-/// sequence, or the operands, of which there are two or more.
+/// The law of `max` and `min`: each does what the table says of the items of one sequence, or of two operands and more. Of items of which a sort refuses nothing, the
+/// answer is the first of the greatest, or of the least.
 pub fn best_items_are_found()
-    ensures greatest { (store : RunStore) (answers : Answers) (v item : Contents) (items : List Contents) → HasDicts store → HasItems store v (item ∷ items)
-        → refused_to deepest (item ∷ items) ≡ None
-        → (best : Contents) × (IsFirstBest (exceeds store) (item ∷ items) best × DoesAlone store (effect store answers (max_plan (v ∷ []))) (best_is best)) }
-    ensures greatest_of { (store : RunStore) (answers : Answers) (v w : Contents) (more : List Contents) → HasDicts store → refused_to deepest (v ∷ (w ∷ more)) ≡ None
-        → (best : Contents) × (IsFirstBest (exceeds store) (v ∷ (w ∷ more)) best × DoesAlone store (effect store answers (max_plan (v ∷ (w ∷ more)))) (best_is best)) }
-    ensures greatest_of_none { (store : RunStore) (answers : Answers) (v : Contents) → HasDicts store → HasItems store v []
-        → DoesAlone store (effect store answers (max_plan (v ∷ []))) no_best_is }
-    ensures least { (store : RunStore) (answers : Answers) (v item : Contents) (items : List Contents) → HasDicts store → HasItems store v (item ∷ items)
-        → refused_to deepest (item ∷ items) ≡ None
-        → (best : Contents) × (IsFirstBest (precedes store) (item ∷ items) best × DoesAlone store (effect store answers (min_plan (v ∷ []))) (best_is best)) }
-    ensures least_of { (store : RunStore) (answers : Answers) (v w : Contents) (more : List Contents) → HasDicts store → refused_to deepest (v ∷ (w ∷ more)) ≡ None
-        → (best : Contents) × (IsFirstBest (precedes store) (v ∷ (w ∷ more)) best × DoesAlone store (effect store answers (min_plan (v ∷ (w ∷ more)))) (best_is best)) }
-    ensures least_of_none { (store : RunStore) (answers : Answers) (v : Contents) → HasDicts store → HasItems store v []
-        → DoesAlone store (effect store answers (min_plan (v ∷ []))) no_best_is }
+    ensures max { (store : RunStore) (answers : Answers) (v : Contents) (items : List Contents) → HasDicts store → HasItems store v items
+        → DoesAlone store (effect store answers (max_plan (v ∷ []))) (max_is store items) }
+    ensures max_of { (store : RunStore) (answers : Answers) (v w : Contents) (more : List Contents) → HasDicts store
+        → DoesAlone store (effect store answers (max_plan (v ∷ (w ∷ more)))) (max_is store (v ∷ (w ∷ more))) }
+    ensures greatest { (store : RunStore) (item : Contents) (items : List Contents) → refused_to deepest (item ∷ items) ≡ None
+        → (best : Contents) × (IsFirstBest (exceeds store) (item ∷ items) best × (max_is store (item ∷ items) ≡ gives best)) }
+    ensures min { (store : RunStore) (answers : Answers) (v : Contents) (items : List Contents) → HasDicts store → HasItems store v items
+        → DoesAlone store (effect store answers (min_plan (v ∷ []))) (min_is store items) }
+    ensures min_of { (store : RunStore) (answers : Answers) (v w : Contents) (more : List Contents) → HasDicts store
+        → DoesAlone store (effect store answers (min_plan (v ∷ (w ∷ more)))) (min_is store (v ∷ (w ∷ more))) }
+    ensures least { (store : RunStore) (item : Contents) (items : List Contents) → refused_to deepest (item ∷ items) ≡ None
+        → (best : Contents) × (IsFirstBest (precedes store) (item ∷ items) best × (min_is store (item ∷ items) ≡ gives best)) }
 {
     tests_are_equality();
 }
