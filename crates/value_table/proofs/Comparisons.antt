@@ -1,5 +1,5 @@
 -- Comparisons do what the table says.
-use Rattle.std.proofs.Common.{◌≡◌, refl, subst, ℕ, Bool, true, false, not, if◌then◌else◌, List, [], ◌∷◌, slice_get, Option, Some, None}
+use Rattle.std.proofs.Common.{◌≡◌, refl, subst, ℕ, Bool, true, false, not, if◌then◌else◌, List, [], ◌∷◌, slice_get, Option, Some}
 use Rattle.std.specs.Str.{bytes_eq}
 use Rattle.py_value.specs.Contents.{Contents, truth, int, text, tuple, object}
 use Rattle.py_value.specs.Seen.{SeenKind, a_list}
@@ -10,8 +10,8 @@ use Rattle.py_model.specs.Plan.{Plan, counts}
 use Rattle.py_model.specs.Store.{RunStore}
 use Rattle.py_model.specs.Texts.{is_before}
 use Rattle.py_model.specs.Walks.{Comparison, alike, before, behind, apart, compare_to, deepest, is_alike, shorter, order_of_texts, equals, walk}
-use Rattle.value_table.specs.Comparing.{Compared, comes, lies_too_deep, compared, are_level, HasDicts}
-use Rattle.value_table.specs.Equality.{IsEqual, StandsAt, AreShallow, first_equal, one_further}
+use Rattle.value_table.specs.Comparing.{Compared, comes, lies_too_deep, compared, HasDicts}
+use Rattle.value_table.specs.Equality.{IsEqual}
 use Rattle.value_table.specs.Reading.{HasItems}
 use Rattle.value_table.specs.Results.{Result, gives, DoesAlone}
 use Rattle.value_table.specs.TableComparisons.{answers_by, eq_is, ne_is, unless_apart, by_order, are_lists, ordered_is, wrong_kinds, best_from_is, best_is, max_is, min_is, lt_is, le_is, gt_is, ge_is}
@@ -46,22 +46,6 @@ module _ (tested : ValuesTested) (store : RunStore) (answers : Answers) (dicts :
       let more : (s : RunStore) → Same (effect store answers (equals v w go)) (effect store answers (go (is_alike how))) s s
       = λ s. subst (λ (c : Compared). Same (effect store answers (equals v w go)) (effect store answers (goes_on (λ c. go (is_alike c)) c)) s s) is (same s) in
       record { answer_is = (more store).answer_is; made_is = (more store).made_is; after_is = after_same store (effect store answers (equals v w go)) (effect store answers (go (is_alike how))) more }
-
-  pub stands_first : (v : Contents) (items : List Contents) → AreShallow store v items → StandsAt store answers v items (first_equal store v items)
-  stands_first v [] shallow = refl
-  stands_first v (item ∷ items) shallow = by_compared (compared store false v item) refl (stands_first v items shallow.1)
-    where
-      missed : IsEqual store answers v item false → (place : Option ℕ) → StandsAt store answers v items place → StandsAt store answers v (item ∷ items) (one_further place)
-      missed apart_here (Some p) rest = (apart_here, rest)
-      missed apart_here None rest = (apart_here, rest)
-
-      by_compared : (how : Compared) → compared store false v item ≡ how → StandsAt store answers v items (first_equal store v items)
-          → StandsAt store answers v (item ∷ items) (if are_level how then Some 0 else one_further (first_equal store v items))
-      by_compared (comes alike) is rest = equals_as v item alike is
-      by_compared (comes before) is rest = missed (equals_as v item before is) (first_equal store v items) rest
-      by_compared (comes behind) is rest = missed (equals_as v item behind is) (first_equal store v items) rest
-      by_compared (comes apart) is rest = missed (equals_as v item apart is) (first_equal store v items) rest
-      by_compared lies_too_deep is rest = absurd (shallow.0 is)
 
   -- an order goes on, with a plan and with what the table says
   module _ (tells : Comparison → Plan) (says : Comparison → Result (Unit {0})) (each : (how : Comparison) → DoesIt (tells how) (says how)) where

@@ -26,3 +26,4 @@ pub mod Opening
 pub mod CodePoints
 pub mod OneOrder
 pub mod Written
+pub mod Seeking

@@ -31,7 +31,7 @@ slice_get-unwrap (x ∷ xs) zero below = refl
 slice_get-unwrap (x ∷ xs) (suc p) below = slice_get-unwrap xs p (omega (arith, below))
 
 -- what a walk does once a pair was compared
-abbrev hit_or : Plan → Plan → Bool → Plan
+abbrev pub hit_or : Plan → Plan → Bool → Plan
 hit_or hit next true = hit
 hit_or hit next false = next
 

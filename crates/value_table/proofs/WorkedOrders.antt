@@ -1,5 +1,5 @@
 -- Rows of comparisons, sorts, `max` and `min`, each found by computation.
-use Rattle.std.proofs.Common.{◌≡◌, refl, true, false, [], ◌∷◌, Some, codes}
+use Rattle.std.proofs.Common.{◌≡◌, refl, true, false, [], ◌∷◌, Some, None, codes}
 use Rattle.py_value.specs.Contents.{Contents, truth, text, tuple, object, no_parts, part}
 use Rattle.py_model.specs.Arithmetic.{max_plan, min_plan}
 use Rattle.py_model.specs.Dicts.{dict_display}
@@ -10,6 +10,7 @@ use Rattle.py_model.specs.Plan.{value}
 use Rattle.py_model.specs.Sorting.{refused_to}
 use Rattle.py_model.specs.Store.{RunStore, empty}
 use Rattle.py_model.specs.Walks.{deepest}
+use Rattle.value_table.specs.Equality.{if_sought, index_is, sought}
 use Rattle.value_table.specs.Reading.{items_at}
 use Rattle.value_table.specs.Results.{gives, throws}
 use Rattle.value_table.specs.TableComparisons.{eq_is, ne_is, lt_is, ge_is, max_is, min_is}
@@ -100,3 +101,13 @@ no_greatest = refl
 
 no_least : min_is unsorted (n 1 ∷ text (codes "a") ∷ []) ≡ throws type_error (text (codes "wrong kind of value") ∷ [])
 no_least = refl
+
+-- `[1, [2]]` is the second item of a list, `[1, [3]]` is none
+second : sought lists (object 1) (n 4 ∷ object 3 ∷ []) ≡ Some (Some 1)
+second = refl
+
+nowhere : sought lists (object 5) (n 4 ∷ object 3 ∷ []) ≡ Some None
+nowhere = refl
+
+too_deep_to_seek : if_sought (index_is (object 1 ∷ [])) (sought loops (object 0) (object 1 ∷ [])) ≡ throws recursion (text (codes "nested too deep") ∷ [])
+too_deep_to_seek = refl

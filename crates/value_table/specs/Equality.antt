@@ -1,13 +1,14 @@
 -- When two values are equal in a store, and where a value stands among items (The Python Language Reference 3, section 6.10). What the walk of a
 -- comparison comes to is said here of any plan that goes on with it; `Comparing.antt` says what that is.
-use Rattle.std.specs.Prelude.{◌≡◌, ⊤, if◌then◌else◌, ℕ, zero, suc, pos, Bool, true, false, List, [], ◌∷◌, Option, Some, None, is_some, codes, not}
+use Rattle.std.specs.Prelude.{◌≡◌, ℕ, zero, suc, pos, Bool, true, false, List, [], ◌∷◌, Option, Some, None, is_some, codes, not}
+use Rattle.std.specs.Option.{option_map}
 use Rattle.py_value.specs.Contents.{Contents, truth, int, text}
 use Rattle.py_model.specs.Effect.{Effect, Answers, effect, after}
-use Rattle.py_model.specs.Faults.{value_error}
+use Rattle.py_model.specs.Faults.{value_error, recursion}
 use Rattle.py_model.specs.Plan.{Plan}
 use Rattle.py_model.specs.Store.{RunStore}
-use Rattle.py_model.specs.Walks.{equals}
-use Rattle.value_table.specs.Comparing.{compared, are_level, lies_too_deep}
+use Rattle.py_model.specs.Walks.{alike, equals}
+use Rattle.value_table.specs.Comparing.{Compared, comes, compared, lies_too_deep}
 use Rattle.value_table.specs.Results.{Result, leaves, throws}
 
 -- two effects come to the same: the answer, what is made, and the store afterwards
@@ -27,22 +28,25 @@ StandsAt store answers v (item ∷ items) (Some zero) = IsEqual store answers v 
 StandsAt store answers v (item ∷ items) (Some (suc p)) = IsEqual store answers v item false × StandsAt store answers v items (Some p)
 StandsAt store answers v (item ∷ items) None = IsEqual store answers v item false × StandsAt store answers v items None
 
--- the first place at which an equal value stands, by how the values compare as they are read in the store
-abbrev pub are_equal : RunStore → Contents → Contents → Bool
-are_equal store v w = are_level (compared store false v w)
-
+-- The first place among items at which an equal value stands, where there is one, by how the values compare as they are read in the store. There is no
+-- answer where an item before it lies too deep to be compared.
 abbrev pub one_further : Option ℕ → Option ℕ
 one_further (Some p) = Some (suc p)
 one_further None = None
 
-abbrev pub first_equal : RunStore → Contents → List Contents → Option ℕ
-first_equal store v [] = None
-first_equal store v (item ∷ items) = if are_equal store v item then Some 0 else one_further (first_equal store v items)
+abbrev pub further_sought : Compared → Option (Option ℕ) → Option (Option ℕ)
+further_sought (comes alike) rest = Some (Some 0)
+further_sought (comes how) rest = option_map one_further rest
+further_sought lies_too_deep rest = None
 
--- no item lies too deep to be compared with the value
-abbrev pub AreShallow : RunStore → Contents → List Contents → Type 0
-AreShallow store v [] = ⊤
-AreShallow store v (item ∷ items) = (compared store false v item ≡ lies_too_deep → ⊥) × AreShallow store v items
+abbrev pub sought : RunStore → Contents → List Contents → Option (Option ℕ)
+sought store v [] = Some None
+sought store v (item ∷ items) = further_sought (compared store false v item) (sought store v items)
+
+-- it does something with the place, and raises where there is no answer
+abbrev pub if_sought : {A : Type 0} → (Option ℕ → Result A) → Option (Option ℕ) → Result A
+if_sought does (Some place) = does place
+if_sought does None = throws recursion (text (codes "nested too deep") ∷ [])
 
 -- 18 in (R Len, then R Item and compare walk up to the hit): whether the value stands in the list; 19 not in: whether it
 -- does not

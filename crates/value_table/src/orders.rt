@@ -1,17 +1,17 @@
 // Laws of comparisons, and of what is in order: sorted items, and the first best one.
 ghost use Rattle.std.specs.Prelude.{◌≡◌, ◌↔◌, ℕ, ℤ, true, false, List, [], ◌∷◌, Some, None};
 ghost use Rattle.std.specs.Str.{IsUtf8, chars};
-ghost use Rattle.py_value.specs.Contents.{Contents, object, text};
-ghost use Rattle.py_model.specs.Arithmetic.{eq_plan, ne_plan, lt_plan, le_plan, gt_plan, ge_plan, max_plan, min_plan};
+ghost use Rattle.py_value.specs.Contents.{Contents, Parts, object, text, tuple};
+ghost use Rattle.py_model.specs.Arithmetic.{eq_plan, ne_plan, lt_plan, le_plan, gt_plan, ge_plan, max_plan, min_plan, in_plan, not_in_plan};
 ghost use Rattle.py_model.specs.Effect.{Answers, effect};
 ghost use Rattle.py_model.specs.Faults.{fault};
-ghost use Rattle.py_model.specs.Lists.{sort_method, sorted_builtin};
+ghost use Rattle.py_model.specs.Lists.{index_method, sort_method, sorted_builtin};
 ghost use Rattle.py_model.specs.Numbers.{range_count};
 ghost use Rattle.py_model.specs.Sorting.{refused_to};
 ghost use Rattle.py_model.specs.Store.{RunStore};
-ghost use Rattle.py_model.specs.Walks.{Comparison, deepest, is_alike, numbers_from, order_of_texts, same_range};
+ghost use Rattle.py_model.specs.Walks.{Comparison, deepest, is_alike, items_of, numbers_from, order_of_texts, same_range};
 ghost use Rattle.value_table.specs.Comparing.{HasDicts, codes_compared, comes, compared, exceeds, precedes};
-ghost use Rattle.value_table.specs.Equality.{AreShallow, IsEqual, StandsAt, first_equal};
+ghost use Rattle.value_table.specs.Equality.{IsEqual, if_sought, in_is, index_is, not_in_is, sought};
 ghost use Rattle.value_table.specs.InOrder.{IsFirstBest, IsSortedOf};
 ghost use Rattle.value_table.specs.Reading.{HasItems, IsList};
 ghost use Rattle.value_table.specs.Results.{Does, DoesAlone, gives, throws};
@@ -33,10 +33,24 @@ pub fn comparisons_do_as_the_table()
     ensures ge { (store : RunStore) (answers : Answers) (v w : Contents) → HasDicts store → DoesAlone store (effect store answers (ge_plan (v ∷ (w ∷ [])))) (ge_is store v w) }
     ensures members { (store : RunStore) (answers : Answers) (v w : Contents) (how : Comparison) → HasDicts store → compared store false v w ≡ comes how
         → IsEqual store answers v w (is_alike how) }
-    ensures places { (store : RunStore) (answers : Answers) (v : Contents) (items : List Contents) → HasDicts store → AreShallow store v items
-        → StandsAt store answers v items (first_equal store v items) }
     ensures code_points { (one other : List ℕ) → IsUtf8 one → IsUtf8 other → order_of_texts one other ≡ codes_compared (chars one) (chars other) }
     ensures ranges { (a b c d e f : ℤ) → (same_range a b c d e f ≡ true) ↔ (numbers_from (range_count a b c) a c ≡ numbers_from (range_count d e f) d f) }
+{
+    tests_are_equality();
+}
+
+/// The law of values that are sought: `in`, `not in` and `index` answer by the first item of a list or a tuple that is equal, as the values are read in the store.
+pub fn members_are_sought()
+    ensures contains { (store : RunStore) (answers : Answers) (o : ℕ) (items : List Contents) (v : Contents) → HasDicts store → IsList store o items
+        → Does IsList store o (effect store answers (in_plan (v ∷ (object o ∷ [])))) (if_sought (in_is items) (sought store v items)) }
+    ensures lacks { (store : RunStore) (answers : Answers) (o : ℕ) (items : List Contents) (v : Contents) → HasDicts store → IsList store o items
+        → Does IsList store o (effect store answers (not_in_plan (v ∷ (object o ∷ [])))) (if_sought (not_in_is items) (sought store v items)) }
+    ensures index { (store : RunStore) (answers : Answers) (o : ℕ) (items : List Contents) (v : Contents) → HasDicts store → IsList store o items
+        → Does IsList store o (effect store answers (index_method (object o ∷ (v ∷ [])))) (if_sought (index_is items) (sought store v items)) }
+    ensures tuple_contains { (store : RunStore) (answers : Answers) (v : Contents) (parts : Parts) → HasDicts store
+        → DoesAlone store (effect store answers (in_plan (v ∷ (tuple parts ∷ [])))) (if_sought (in_is tt) (sought store v (items_of parts))) }
+    ensures tuple_lacks { (store : RunStore) (answers : Answers) (v : Contents) (parts : Parts) → HasDicts store
+        → DoesAlone store (effect store answers (not_in_plan (v ∷ (tuple parts ∷ [])))) (if_sought (not_in_is tt) (sought store v (items_of parts))) }
 {
     tests_are_equality();
 }

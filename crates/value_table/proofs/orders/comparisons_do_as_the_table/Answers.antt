@@ -1,5 +1,5 @@
 use Rattle.value_table.proofs.orders.comparisons_do_as_the_table.Goals as goal
-use Rattle.value_table.proofs.Comparisons.{equal_does, unequal_does, lt_does, le_does, gt_does, ge_does, equals_as, stands_first}
+use Rattle.value_table.proofs.Comparisons.{equal_does, unequal_does, lt_does, le_does, gt_does, ge_does, equals_as}
 use Rattle.value_table.proofs.CodePoints.{by_code_points}
 use Rattle.value_table.proofs.Sums.{ranges_same}
 
@@ -26,9 +26,6 @@ returns-clause-members c = λ store answers v w how dicts is. equals_as c.tests_
 
 pub returns-clause-ranges : goal.returns-clause-ranges
 returns-clause-ranges c = ranges_same
-
-pub returns-clause-places : goal.returns-clause-places
-returns-clause-places c = λ store answers v items dicts shallow. stands_first c.tests_are_equality.ensures.values store answers dicts v items shallow
 
 pub returns-clause-code_points : goal.returns-clause-code_points
 returns-clause-code_points c = by_code_points
