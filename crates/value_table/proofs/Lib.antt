@@ -27,3 +27,4 @@ pub mod CodePoints
 pub mod OneOrder
 pub mod Written
 pub mod Seeking
+pub mod Maps

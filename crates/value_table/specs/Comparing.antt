@@ -1,7 +1,7 @@
 -- How two values compare, as they are read in a store (The Python Language Reference 3, section 6.10, in this project's profile): numbers and
 -- truth values by number, texts by code points, lists and tuples item by item, dictionaries by their pairs in whatever order, ranges by their
 -- numbers. Other values are equal only where they are the same.
-use Rattle.std.specs.Prelude.{◌≡◌, ℕ, zero, suc, ◌==◌, nat_lt, Bool, true, false, ◌&&◌, not, List, [], ◌∷◌, length, slice_get, Option, Some, None, if◌then◌else◌}
+use Rattle.std.specs.Prelude.{⊤, ◌≡◌, ℕ, zero, suc, ◌==◌, nat_lt, Bool, true, false, ◌&&◌, not, List, [], ◌∷◌, length, slice_get, Option, Some, None, if◌then◌else◌}
 use Rattle.std.specs.Str.{bytes_eq}
 use Rattle.py_value.specs.Contents.{Contents, truth, int, text, tuple, range, object}
 use Rattle.py_value.specs.Same.{same_value}
@@ -58,6 +58,15 @@ pairs_compared inside (pair ∷ pairs) others = values_compared inside pair.1 (p
 
 abbrev pub dicts_compared : Inside → List (Contents × Contents) → List (Contents × Contents) → Compared
 dicts_compared inside pairs others = if length pairs == length others then pairs_compared inside pairs others else comes apart
+
+-- two dictionaries as maps: they have the same keys, each with equal values
+abbrev pub AreEqualEntries : Inside → Option (Contents × Contents) → Option (Contents × Contents) → Type 0
+AreEqualEntries inside None None = ⊤
+AreEqualEntries inside (Some pair) (Some other) = inside false pair.1 other.1 ≡ comes alike
+AreEqualEntries inside left right = ⊥
+
+abbrev pub AreEqualMaps : Inside → List (Contents × Contents) → List (Contents × Contents) → Type 0
+AreEqualMaps inside pairs others = (key : Contents) → AreEqualEntries inside (pair_of key pairs) (pair_of key others)
 
 -- Two objects by what they are: two lists, or two dictionaries. Others are apart.
 abbrev pub objects_compared : RunStore → Option Inside → Bool → ℕ → ℕ → Option SeenKind → Option SeenKind → Compared

@@ -5,7 +5,7 @@
 //! says: the answer, what the object is afterwards as a value, and that nothing else changes. What is touched, in which order, the plans say.
 //!
 //! - [`lists_do_as_the_table`], [`lists_are_read_as_the_table`], [`members_are_found`], [`plain_lists_have_items`]: lists.
-//! - [`comparisons_do_as_the_table`], [`members_are_sought`]: comparisons of any values, and values among items; [`items_are_sorted`], [`best_items_are_found`]: sorts, `max` and `min`.
+//! - [`comparisons_do_as_the_table`], [`maps_texts_and_ranges_compare`], [`members_are_sought`]: comparisons, and values among items; [`items_are_sorted`], [`best_items_are_found`]: sorts, `max` and `min`.
 //! - [`dicts_do_as_the_table`], [`dicts_are_made`], [`attributes_do_as_the_table`]: dictionaries, and attributes of instances.
 //! - [`texts_do_as_the_table`], [`text_methods_do_as_the_table`]: texts; [`numbers_do_as_the_table`]: numbers.
 //! - [`sequences_do_as_the_table`], [`walks_do_as_the_table`]: tuples, ranges, displays, and what walks a sequence.
@@ -28,5 +28,6 @@ pub use laws::{
     texts_do_as_the_table, walks_do_as_the_table,
 };
 pub use orders::{
-    best_items_are_found, comparisons_do_as_the_table, items_are_sorted, members_are_sought,
+    best_items_are_found, comparisons_do_as_the_table, items_are_sorted,
+    maps_texts_and_ranges_compare, members_are_sought,
 };

@@ -7,10 +7,11 @@ ghost use Rattle.py_model.specs.Effect.{Answers, effect};
 ghost use Rattle.py_model.specs.Faults.{fault};
 ghost use Rattle.py_model.specs.Lists.{index_method, sort_method, sorted_builtin};
 ghost use Rattle.py_model.specs.Numbers.{range_count};
+ghost use Rattle.py_model.specs.Orderly.{HasKeysApart};
 ghost use Rattle.py_model.specs.Sorting.{refused_to};
 ghost use Rattle.py_model.specs.Store.{RunStore};
-ghost use Rattle.py_model.specs.Walks.{Comparison, deepest, is_alike, items_of, numbers_from, order_of_texts, same_range};
-ghost use Rattle.value_table.specs.Comparing.{HasDicts, codes_compared, comes, compared, exceeds, precedes};
+ghost use Rattle.py_model.specs.Walks.{Comparison, alike, deepest, is_alike, items_of, numbers_from, order_of_texts, same_range};
+ghost use Rattle.value_table.specs.Comparing.{AreEqualMaps, HasDicts, Inside, codes_compared, comes, compared, dicts_compared, exceeds, precedes};
 ghost use Rattle.value_table.specs.Equality.{IsEqual, if_sought, in_is, index_is, not_in_is, sought};
 ghost use Rattle.value_table.specs.InOrder.{IsFirstBest, IsSortedOf};
 ghost use Rattle.value_table.specs.Reading.{HasItems, IsList};
@@ -22,8 +23,7 @@ ghost use Rattle.value_table.specs.TableSequences.{sorted_is};
 use py_value::tests_are_equality;
 
 /// The law of comparisons: each does with any two values what the table says of how they compare as they are read in the store, whatever lies in
-/// them. `in` and `index` compare so too. Texts come first by their code points. Two ranges are
-/// equal exactly where they have the same numbers.
+/// them.
 pub fn comparisons_do_as_the_table()
     ensures eq { (store : RunStore) (answers : Answers) (v w : Contents) → HasDicts store → DoesAlone store (effect store answers (eq_plan (v ∷ (w ∷ [])))) (eq_is store v w) }
     ensures ne { (store : RunStore) (answers : Answers) (v w : Contents) → HasDicts store → DoesAlone store (effect store answers (ne_plan (v ∷ (w ∷ [])))) (ne_is store v w) }
@@ -33,6 +33,15 @@ pub fn comparisons_do_as_the_table()
     ensures ge { (store : RunStore) (answers : Answers) (v w : Contents) → HasDicts store → DoesAlone store (effect store answers (ge_plan (v ∷ (w ∷ [])))) (ge_is store v w) }
     ensures members { (store : RunStore) (answers : Answers) (v w : Contents) (how : Comparison) → HasDicts store → compared store false v w ≡ comes how
         → IsEqual store answers v w (is_alike how) }
+{
+    tests_are_equality();
+}
+
+/// The law of what is compared: dictionaries are equal exactly where they have the same keys, each with equal values; texts come first by their code
+/// points; two ranges are equal exactly where they have the same numbers.
+pub fn maps_texts_and_ranges_compare()
+    ensures maps { (inside : Inside) (pairs others : List (Contents × Contents)) → HasKeysApart pairs → HasKeysApart others
+        → (dicts_compared inside pairs others ≡ comes alike) ↔ AreEqualMaps inside pairs others }
     ensures code_points { (one other : List ℕ) → IsUtf8 one → IsUtf8 other → order_of_texts one other ≡ codes_compared (chars one) (chars other) }
     ensures ranges { (a b c d e f : ℤ) → (same_range a b c d e f ≡ true) ↔ (numbers_from (range_count a b c) a c ≡ numbers_from (range_count d e f) d f) }
 {

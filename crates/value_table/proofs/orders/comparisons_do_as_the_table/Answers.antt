@@ -1,7 +1,5 @@
 use Rattle.value_table.proofs.orders.comparisons_do_as_the_table.Goals as goal
 use Rattle.value_table.proofs.Comparisons.{equal_does, unequal_does, lt_does, le_does, gt_does, ge_does, equals_as}
-use Rattle.value_table.proofs.CodePoints.{by_code_points}
-use Rattle.value_table.proofs.Sums.{ranges_same}
 
 pub returns-clause-eq : goal.returns-clause-eq
 returns-clause-eq c = λ store answers v w dicts. equal_does c.tests_are_equality.ensures.values store answers dicts v w
@@ -23,9 +21,3 @@ returns-clause-ge c = λ store answers v w dicts. ge_does c.tests_are_equality.e
 
 pub returns-clause-members : goal.returns-clause-members
 returns-clause-members c = λ store answers v w how dicts is. equals_as c.tests_are_equality.ensures.values store answers dicts v w how is
-
-pub returns-clause-ranges : goal.returns-clause-ranges
-returns-clause-ranges c = ranges_same
-
-pub returns-clause-code_points : goal.returns-clause-code_points
-returns-clause-code_points c = by_code_points
