@@ -77,7 +77,7 @@ order_apart s o keys l apart = refl
 
 -- what an object with pairs becomes
 module _ (tested : ValuesTested) (store : RunStore) (o : ℕ) (pairs : Pairs) (has : HasPairs store o pairs) (k : Contents) where
-  value_set : (v : Contents) (pair : Contents × Contents) → pair_of k pairs ≡ Some pair → HasPairs (with_entry o k (Some (pair.0, v)) store) o (with_pair k v pairs)
+  pub value_set : (v : Contents) (pair : Contents × Contents) → pair_of k pairs ≡ Some pair → HasPairs (with_entry o k (Some (pair.0, v)) store) o (with_pair k v pairs)
   value_set v pair is = record {
     order_is = has.order_is ∙ sym (keys_stay tested k v pairs pair is);
     entries_are = λ l. entry_set store o k l (Some (pair.0, v)) ∙ ap (λ (found : Option (Contents × Contents)). if same_value (normal k) (normal l) then Some (pair.0, v) else found) (has.entries_are l) ∙ sym (set_there tested k v pairs pair is l);
@@ -87,7 +87,7 @@ module _ (tested : ValuesTested) (store : RunStore) (o : ℕ) (pairs : Pairs) (h
   abbrev put_store : Contents → RunStore
   put_store v = with_order o (changed (key_inserted k) (store.at (order_at o))) (with_entry o k (Some (k, v)) store)
 
-  pair_put : (v : Contents) → pair_of k pairs ≡ None → HasPairs (put_store v) o (with_pair k v pairs)
+  pub pair_put : (v : Contents) → pair_of k pairs ≡ None → HasPairs (put_store v) o (with_pair k v pairs)
   pair_put v is = subst (λ (new : Pairs). HasPairs (put_store v) o new) (sym (put_behind tested k v pairs is)) (record {
     order_is = order_set (with_entry o k (Some (k, v)) store) o (changed (key_inserted k) (store.at (order_at o))) ∙ key_inserted_is k (store.at (order_at o)) ∙ ap (with_key k) has.order_is ∙ key_put tested k v pairs is;
     entries_are = λ l. entry_set store o k l (Some (k, v)) ∙ ap (λ (found : Option (Contents × Contents)). if same_value (normal k) (normal l) then Some (k, v) else found) (has.entries_are l) ∙ sym (set_behind tested k v pairs is l);
@@ -97,7 +97,7 @@ module _ (tested : ValuesTested) (store : RunStore) (o : ℕ) (pairs : Pairs) (h
   abbrev taken_store : Contents → RunStore
   taken_store m = with_order o (changed (key_deleted m) (store.at (order_at o))) (with_entry o k None store)
 
-  pair_taken : (pair : Contents × Contents) → pair_of k pairs ≡ Some pair → HasPairs (taken_store pair.0) o (without_pair k pairs)
+  pub pair_taken : (pair : Contents × Contents) → pair_of k pairs ≡ Some pair → HasPairs (taken_store pair.0) o (without_pair k pairs)
   pair_taken pair is = record {
     order_is = order_set (with_entry o k None store) o (changed (key_deleted pair.0) (store.at (order_at o))) ∙ key_deleted_is pair.0 (store.at (order_at o)) ∙ ap (without_key pair.0) has.order_is
         ∙ key_taken tested k pair.0 pairs (found_form tested k pairs pair is);

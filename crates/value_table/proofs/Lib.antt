@@ -28,3 +28,4 @@ pub mod OneOrder
 pub mod Written
 pub mod Seeking
 pub mod Maps
+pub mod Keeping

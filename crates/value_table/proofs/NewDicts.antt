@@ -17,11 +17,11 @@ use Rattle.value_table.proofs.Keys.{ValuesTested, keys_in, absent, turned, put_b
 use Rattle.value_table.proofs.Lists.{last_is}
 
 -- these entries are set, one after the other
-abbrev entries_block : ℕ → Pairs → RunStore → RunStore
+abbrev pub entries_block : ℕ → Pairs → RunStore → RunStore
 entries_block o [] s = s
 entries_block o (pair ∷ pairs) s = entries_block o pairs (with_entry o pair.0 (Some pair) s)
 
-abbrev or_else : Option (Contents × Contents) → Option (Contents × Contents) → Option (Contents × Contents)
+abbrev pub or_else : Option (Contents × Contents) → Option (Contents × Contents) → Option (Contents × Contents)
 or_else (Some pair) other = Some pair
 or_else None other = other
 
@@ -32,11 +32,11 @@ entries_set store made o (pair ∷ pairs) rest s =
     let more = entries_set store made o pairs rest (with_entry o pair.0 (Some pair) s) in
     record { answer_is = more.answer_is; made_is = more.made_is; after_is = more.after_is }
 
-block_order : (o : ℕ) (pairs : Pairs) (s : RunStore) → order_of (entries_block o pairs s) o ≡ order_of s o
+pub block_order : (o : ℕ) (pairs : Pairs) (s : RunStore) → order_of (entries_block o pairs s) o ≡ order_of s o
 block_order o [] s = refl
 block_order o (pair ∷ pairs) s = block_order o pairs (with_entry o pair.0 (Some pair) s)
 
-block_apart : (o : ℕ) (pairs : Pairs) (s : RunStore) (l : SeenLocation) → is_of o l ≡ false → (entries_block o pairs s).at l ≡ s.at l
+pub block_apart : (o : ℕ) (pairs : Pairs) (s : RunStore) (l : SeenLocation) → is_of o l ≡ false → (entries_block o pairs s).at l ≡ s.at l
 block_apart o [] s l apart = refl
 block_apart o (pair ∷ pairs) s l apart = block_apart o pairs (with_entry o pair.0 (Some pair) s) l apart ∙ entry_apart s o pair.0 (Some pair) l apart
 
@@ -45,7 +45,7 @@ block_rest o [] s = refl
 block_rest o (pair ∷ pairs) s = block_rest o pairs (with_entry o pair.0 (Some pair) s)
 
 module _ (tested : ValuesTested) where
-  block_entries : (o : ℕ) (pairs : Pairs) (s : RunStore) (key : Contents) → HasKeysApart pairs → entry_of (entries_block o pairs s) o key ≡ or_else (pair_of key pairs) (entry_of s o key)
+  pub block_entries : (o : ℕ) (pairs : Pairs) (s : RunStore) (key : Contents) → HasKeysApart pairs → entry_of (entries_block o pairs s) o key ≡ or_else (pair_of key pairs) (entry_of s o key)
   block_entries o [] s key apart = refl
   block_entries o (pair ∷ pairs) s key apart =
       block_entries o pairs (with_entry o pair.0 (Some pair) s) key apart.1 ∙ ap (or_else (pair_of key pairs)) (entry_set s o pair.0 key (Some pair) ∙ ap (λ b. if b then Some pair else entry_of s o key) (turned tested (normal pair.0) (normal key)))
@@ -56,7 +56,7 @@ module _ (tested : ValuesTested) where
       by_test true is = ap (λ (found : Option (Contents × Contents)). or_else found (Some pair)) (absent tested pair.0 key pairs apart.0 is)
       by_test false is = refl
 
-  pair_alone : (found : Option (Contents × Contents)) → or_else found None ≡ found
+  pub pair_alone : (found : Option (Contents × Contents)) → or_else found None ≡ found
   pair_alone (Some pair) = refl
   pair_alone None = refl
 

@@ -49,6 +49,10 @@ pub record HasPairs (store : RunStore) (o : ℕ) (pairs : List (Contents × Cont
   pub entries_are : (key : Contents) → entry_of store o key ≡ pair_of key pairs
   pub apart : HasKeysApart pairs
 
+-- each object has pairs: those of its order, and no others are there
+abbrev pub HasAllPairs : RunStore → Type 0
+HasAllPairs store = (o : ℕ) → (pairs : List (Contents × Contents)) × HasPairs store o pairs
+
 -- the pairs that are read of an object, in order
 abbrev pub pairs_at : RunStore → ℕ → List (Contents × Contents)
 pairs_at store o = map (λ key. unwrap_or (entry_of store o key) (key, nothing)) (order_of store o)

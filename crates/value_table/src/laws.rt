@@ -9,18 +9,20 @@ ghost use Rattle.py_model.specs.Files.{read_plan, readline_plan, write_plan, clo
 ghost use Rattle.py_model.specs.Arithmetic.{add_plan, in_plan, iadd_plan, len_plan, mul_plan, neg_plan, pos_plan, abs_plan, sub_plan, floor_div_plan, mod_plan, truth_plan, not_plan, not_in_plan, sum_plan, chr_plan, ord_plan, int_plan};
 ghost use Rattle.py_model.specs.Classes.{find, getattr, setattr};
 ghost use Rattle.py_model.specs.Dicts.{get_method, items_method, keys_method, values_method, dict_display, dict_builtin};
-ghost use Rattle.py_model.specs.Effect.{Answers, effect};
+ghost use Rattle.py_model.specs.Effect.{Answers, after, effect};
 ghost use Rattle.py_model.specs.Lists.{append, extend, insert, pop, getitem, setitem, delitem, slice, reverse_method, list_builtin, tuple_builtin, enumerate, zip_builtin, index_method, unpack, list_display, tuple_display, iter, next};
 ghost use Rattle.py_model.specs.Numbers.{times, range_count, is_int, int_text};
 ghost use Rattle.py_model.specs.Operands.{number_in};
+ghost use Rattle.py_model.specs.Operations.{Op, plan};
 ghost use Rattle.py_model.specs.Printing.{repr_of, str_of};
 ghost use Rattle.py_model.specs.Sorting.{all_are, is_number};
-ghost use Rattle.py_model.specs.Store.{RunStore, file_of};
+ghost use Rattle.py_model.specs.Store.{RunStore, file_of, opening};
 ghost use Rattle.py_model.specs.Walks.{deepest, items_of};
 ghost use Rattle.py_model.specs.TextMethods.{strip_plan, lstrip_plan, rstrip_plan, split_plan, join_plan, replace_plan, find_plan, startswith_plan, endswith_plan, upper_plan, lower_plan, isdigit_plan, ljust_plan, rjust_plan};
+ghost use Rattle.value_table.specs.Comparing.{HasDicts};
 ghost use Rattle.value_table.specs.TableFiles.{IsKnown, IsUnreadable, MakesFile};
 ghost use Rattle.value_table.specs.Equality.{IsEqual, StandsAt};
-ghost use Rattle.value_table.specs.Reading.{HasPairs, IsDict, IsInstance, IsList, pair_of, pairs_at, HasItems, IsPlainList, items_at, FileValue, IsFile};
+ghost use Rattle.value_table.specs.Reading.{HasAllPairs, HasPairs, IsDict, IsInstance, IsList, pair_of, pairs_at, HasItems, IsPlainList, items_at, FileValue, IsFile};
 ghost use Rattle.value_table.specs.TableDicts.{Pairs, getitem_is as dict_getitem_is, setitem_is as dict_setitem_is, delitem_is as dict_delitem_is, in_is, len_is as dict_len_is, get_is, items_is, keys_is, values_is, setattr_is, getattr_is, truth_is as dict_truth_is, not_is as dict_not_is, iter_is as dict_iter_is, next_is as dict_next_is, MakesDict, HasNoNext, HasUsableKeys, display_pairs, not_in_is as dict_not_in_is};
 ghost use Rattle.value_table.specs.Results.{Does, DoesAlone, DoesToFile};
 ghost use Rattle.value_table.specs.TableLists.{append_is, getitem_is, setitem_is, delitem_is, pop_is, pop_last_is, insert_is, len_is, extend_is, iadd_is, add_is, slice_is, mul_is, reverse_is, bound_in, truth_is, not_is, unpack_is, iter_is, next_is};
@@ -32,6 +34,7 @@ ghost use Rattle.value_table.specs.TableNumbers as numbers;
 ghost use Rattle.value_table.specs.TableSequences as sequences;
 ghost use Rattle.value_table.specs.TableTexts as texts;
 
+use py_model::{map_changes_by_accesses, operations_are_orderly};
 use py_value::tests_are_equality;
 
 /// The law that a plain list is the list of the items that are read of it, and of no others; and a list of items is plain.
@@ -361,4 +364,17 @@ pub fn files_are_opened()
         → DoesAlone store (effect store answers (open_plan (text path ∷ (text mode ∷ [])))) files.bad_mode_is }
 {
     tests_are_equality();
+}
+
+/// The law of pairs: a run begins with objects that each have the pairs of their order and no others. Each operation keeps that, where the next object has no
+/// entries. So each dictionary is one.
+pub fn operations_keep_pairs()
+    ensures begins { (path : List ℕ) (arguments : List (List ℕ)) (files : List (List ℕ × List ℕ)) → HasAllPairs (opening path arguments files) }
+    ensures keeps { (store : RunStore) (answers : Answers) (op : Op) (values : List Contents) → HasAllPairs store → HasNoNext store
+        → HasAllPairs (after (effect store answers (plan op values)) store) }
+    ensures dicts { (store : RunStore) → HasAllPairs store → HasDicts store }
+{
+    tests_are_equality();
+    operations_are_orderly();
+    map_changes_by_accesses();
 }

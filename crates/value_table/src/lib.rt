@@ -5,8 +5,10 @@
 //! says: the answer, what the object is afterwards as a value, and that nothing else changes. What is touched, in which order, the plans say.
 //!
 //! - [`lists_do_as_the_table`], [`lists_are_read_as_the_table`], [`members_are_found`], [`plain_lists_have_items`]: lists.
-//! - [`comparisons_do_as_the_table`], [`maps_texts_and_ranges_compare`], [`members_are_sought`]: comparisons, and values among items; [`items_are_sorted`], [`best_items_are_found`]: sorts, `max` and `min`.
+//! - [`comparisons_do_as_the_table`], [`maps_texts_and_ranges_compare`], [`members_are_sought`]: comparisons, and values among items.
+//! - [`items_are_sorted`], [`best_items_are_found`]: sorts, `max` and `min`.
 //! - [`dicts_do_as_the_table`], [`dicts_are_made`], [`attributes_do_as_the_table`]: dictionaries, and attributes of instances.
+//!   [`operations_keep_pairs`]: that each dictionary is one, which comparisons ask, holds at the start of a run, and operations keep it.
 //! - [`texts_do_as_the_table`], [`text_methods_do_as_the_table`]: texts; [`numbers_do_as_the_table`]: numbers.
 //! - [`sequences_do_as_the_table`], [`walks_do_as_the_table`]: tuples, ranges, displays, and what walks a sequence.
 //! - [`files_do_as_the_table`], [`files_are_opened`]: files.
@@ -24,8 +26,8 @@ mod orders;
 pub use laws::{
     attributes_do_as_the_table, dicts_are_made, dicts_do_as_the_table, files_do_as_the_table,
     lists_are_read_as_the_table, lists_do_as_the_table, members_are_found, numbers_do_as_the_table,
-    plain_lists_have_items, sequences_do_as_the_table, text_methods_do_as_the_table,
-    texts_do_as_the_table, walks_do_as_the_table,
+    operations_keep_pairs, plain_lists_have_items, sequences_do_as_the_table,
+    text_methods_do_as_the_table, texts_do_as_the_table, walks_do_as_the_table,
 };
 pub use orders::{
     best_items_are_found, comparisons_do_as_the_table, items_are_sorted,
