@@ -119,7 +119,7 @@ comes_last how = false
 abbrev pub exceeds : RunStore → Contents → Contents → Bool
 exceeds store v w = comes_last (compared store true v w)
 
--- neither is less than the other, and both have an order
+-- they are alike where an order is asked, so neither is less than the other
 abbrev pub are_level : Compared → Bool
 are_level (comes alike) = true
 are_level how = false
