@@ -21,7 +21,7 @@ in_filter test (item ∷ items) v i = by_test (test item) i (in_filter test item
     by_test true (inr i) more = inr (more i)
     by_test false i more = inr (more i)
 
-contains : (items : List Contents) (v : Contents) → In v items → Contains items v
+pub contains : (items : List Contents) (v : Contents) → In v items → Contains items v
 contains [] v i = absurd i
 contains (item ∷ items) v (inl is) = (zero, omega arith, sym is)
 contains (item ∷ items) v (inr i) = let place = contains items v i in (suc place.0, omega (arith, place.1), place.2)

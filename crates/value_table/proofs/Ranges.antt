@@ -1,10 +1,14 @@
 -- Which numbers stand in a range.
-use Rattle.std.proofs.Common.{◌≡◌, ◌∙◌, ◌↔◌, refl, sym, ap, subst, arith, ltb-true, ltb-false, ℕ, zero, suc, ◌*◌, ◌/◌, ◌<◌, ◌≤◌, ℤ, pos, negsuc, ◌+ℤ◌, ◌-ℤ◌, ◌*ℤ◌, neg_ℤ, Bool, true, false, not, nat_lt, if◌then◌else◌, Option, Some, None, is_some, le-div_iff_mul-le, mul-div_cancel}
-use Rattle.std.specs.Prelude.{◌<ℤ◌, [], ◌∷◌}
+use Rattle.std.proofs.Common.{inl, inr, ◌≡◌, ◌∙◌, ◌↔◌, refl, sym, ap, subst, arith, ltb-true, ltb-false, ℕ, zero, suc, ◌*◌, ◌/◌, ◌<◌, ◌≤◌, ℤ, pos, negsuc, ◌+ℤ◌, ◌-ℤ◌, ◌*ℤ◌, neg_ℤ, Bool, true, false, not, nat_lt, if◌then◌else◌, Option, Some, None, is_some, le-div_iff_mul-le, mul-div_cancel}
+use Rattle.std.specs.Prelude.{Contains, ◌<ℤ◌, [], ◌∷◌}
 use Rattle.std.proofs.lemmas.Bool.Decides.{Decides-int_eq}
 use Rattle.std.proofs.lemmas.Int.{ints}
 use Rattle.std.specs.Ordering.{int_eq}
-use Rattle.py_value.specs.Contents.{Contents, truth, range}
+use Rattle.py_model.specs.Walks.{numbers_from}
+use Rattle.value_table.proofs.Kin.{In}
+use Rattle.value_table.proofs.OneOrder.{contains}
+use Rattle.value_table.proofs.Sorting.{contained}
+use Rattle.py_value.specs.Contents.{int, Contents, truth, range}
 use Rattle.py_model.specs.Arithmetic.{in_plan, not_in_plan}
 use Rattle.py_model.specs.Effect.{Answers, effect}
 use Rattle.py_model.specs.Numbers.{floor_div, floor_mod, range_count, place_at}
@@ -183,3 +187,51 @@ module _ (store : RunStore) (answers : Answers) (v : Contents) (start end step :
 
   pub other_not_in_range : number_in v ≡ None → DoesIt (not_in_plan (v ∷ (range start end step ∷ []))) (gives (truth true))
   other_not_in_range is = other_does not is
+
+-- the numbers of a range, one after the other, are those that stand in it
+no_times : (step : ℤ) → pos 0 *ℤ step ≡ pos 0
+no_times (pos n) = omega (arith, ints)
+no_times (negsuc n) = omega (arith, ints)
+
+one_times : (step : ℤ) (k : ℕ) → step +ℤ (pos k *ℤ step) ≡ pos (suc k) *ℤ step
+one_times (pos n) k = omega (arith, ints)
+one_times (negsuc n) k = omega (arith, ints)
+
+first_number : (start step : ℤ) → start ≡ start +ℤ (pos 0 *ℤ step)
+first_number start step = from_none (no_times step)
+  where
+    from_none : pos 0 *ℤ step ≡ pos 0 → start ≡ start +ℤ (pos 0 *ℤ step)
+    from_none is = omega (arith, ints, is)
+
+next_number : (start step : ℤ) (k : ℕ) → (start +ℤ step) +ℤ (pos k *ℤ step) ≡ start +ℤ (pos (suc k) *ℤ step)
+next_number start step k = around (pos k *ℤ step) (pos (suc k) *ℤ step) (one_times step k)
+  where
+    around : (x y : ℤ) → step +ℤ x ≡ y → (start +ℤ step) +ℤ x ≡ start +ℤ y
+    around x y is = omega (arith, ints, is)
+
+int_same : (i j : ℤ) → int i ≡ int j → i ≡ j
+int_same i j is = cc
+
+number_placed : (n : ℕ) (start step i : ℤ) → In (int i) (numbers_from n start step) → (k : ℕ) × ((i ≡ start +ℤ (pos k *ℤ step)) × (k < n))
+number_placed zero start step i there = absurd there
+number_placed (suc n) start step i (inl is) = (0, (int_same i start is ∙ first_number start step, omega arith))
+number_placed (suc n) start step i (inr there) = let place = number_placed n (start +ℤ step) step i there in (suc place.0, (place.1.0 ∙ next_number start step place.0, omega (arith, place.1.1)))
+
+number_at_place : (n k : ℕ) (start step : ℤ) → k < n → In (int (start +ℤ (pos k *ℤ step))) (numbers_from n start step)
+number_at_place zero k start step below = absurd (omega (arith, below))
+number_at_place (suc n) zero start step below = inl (ap int (sym (first_number start step)))
+number_at_place (suc n) (suc k) start step below = inr (subst (λ (i : ℤ). In (int i) (numbers_from n (start +ℤ step) step)) (next_number start step k) (number_at_place n k (start +ℤ step) step (omega (arith, below))))
+
+pub range_numbers : (start end step i : ℤ) → Contains (numbers_from (range_count start end step) start step) (int i) ↔ StandsInRange start end step i
+range_numbers start end step i = (stands, there)
+  where
+    stands : Contains (numbers_from (range_count start end step) start step) (int i) → StandsInRange start end step i
+    stands at =
+        let place = number_placed (range_count start end step) start step i (contained (numbers_from (range_count start end step) start step) (int i) at.0 at.1 at.2) in
+        (place.0, (place.1.0, subst (λ (j : ℤ). IsBeforeEnd j end step) (sym place.1.0) (counted start end step place.0 place.1.1)))
+
+    there : StandsInRange start end step i → Contains (numbers_from (range_count start end step) start step) (int i)
+    there at =
+        let before : IsBeforeEnd (start +ℤ (pos at.0 *ℤ step)) end step = subst (λ (j : ℤ). IsBeforeEnd j end step) at.1.0 at.1.1 in
+        contains (numbers_from (range_count start end step) start step) (int i)
+        (subst (λ (j : ℤ). In (int j) (numbers_from (range_count start end step) start step)) (sym at.1.0) (number_at_place (range_count start end step) at.0 start step (counts_up_to start end step at.0 before)))

@@ -1,6 +1,6 @@
 // Laws of the table in terms of values, each a function without a body that says it.
 ghost use Rattle.std.specs.Str.{bytes_eq};
-ghost use Rattle.std.specs.Prelude.{◌≡◌, ◌↔◌, ℕ, ℤ, Bool, List, [], ◌∷◌, Option, Some, None, map, length, true, false, pos, codes, encode_utf8};
+ghost use Rattle.std.specs.Prelude.{Contains, ◌≡◌, ◌↔◌, ℕ, ℤ, Bool, List, [], ◌∷◌, Option, Some, None, map, length, true, false, pos, codes, encode_utf8};
 ghost use Rattle.prov_base.specs.Path.{is_path};
 ghost use Rattle.py_value.specs.Contents.{Contents, Parts, nothing, object, range, text, tuple, int};
 ghost use Rattle.py_value.specs.KeyOf.{key_fault};
@@ -17,7 +17,7 @@ ghost use Rattle.py_model.specs.Operations.{Op, plan};
 ghost use Rattle.py_model.specs.Printing.{repr_of, str_of};
 ghost use Rattle.py_model.specs.Sorting.{all_are, is_number};
 ghost use Rattle.py_model.specs.Store.{RunStore, file_of, opening};
-ghost use Rattle.py_model.specs.Walks.{deepest, items_of};
+ghost use Rattle.py_model.specs.Walks.{deepest, items_of, numbers_from};
 ghost use Rattle.py_model.specs.TextMethods.{strip_plan, lstrip_plan, rstrip_plan, split_plan, join_plan, replace_plan, find_plan, startswith_plan, endswith_plan, upper_plan, lower_plan, isdigit_plan, ljust_plan, rjust_plan};
 ghost use Rattle.value_table.specs.Comparing.{HasDicts};
 ghost use Rattle.value_table.specs.TableFiles.{IsKnown, IsUnreadable, MakesFile};
@@ -201,7 +201,8 @@ pub fn text_methods_do_as_the_table()
         → DoesAlone store (effect store answers (rjust_plan (text bytes ∷ (number ∷ [])))) (texts.rjust_is bytes i) }
 {}
 
-/// The law of sequences: each operation on tuples and ranges, and each turn over them and over texts, does what the table says of the items.
+/// The law of sequences: each operation on tuples and ranges, and each turn over them and over texts, does what the table says of the items. The numbers
+/// of a range are those that stand in it: some whole steps from the start, and before the end.
 pub fn sequences_do_as_the_table()
     ensures unpack { (store : RunStore) (answers : Answers) (targets : ℕ) (parts : Parts)
         → DoesAlone store (effect store answers (unpack targets (tuple parts ∷ []))) (sequences.unpack_is targets (items_of parts)) }
@@ -230,6 +231,7 @@ pub fn sequences_do_as_the_table()
         → DoesAlone store (effect store answers (len_plan (tuple parts ∷ []))) (sequences.len_is (length (items_of parts))) }
     ensures len_of_range { (store : RunStore) (answers : Answers) (start end step : ℤ)
         → DoesAlone store (effect store answers (len_plan (range start end step ∷ []))) (sequences.len_is (range_count start end step)) }
+    ensures range { (start end step i : ℤ) → Contains (numbers_from (range_count start end step) start step) (int i) ↔ StandsInRange start end step i }
     ensures in_range { (store : RunStore) (answers : Answers) (v : Contents) (start end step i : ℤ) → number_in v ≡ Some i
         → (is_there : Bool) × (((is_there ≡ true) ↔ StandsInRange start end step i)
         × DoesAlone store (effect store answers (in_plan (v ∷ (range start end step ∷ [])))) (sequences.in_range_is is_there)) }

@@ -1,6 +1,6 @@
 use Rattle.std.proofs.Common.{refl}
 use Rattle.value_table.proofs.laws.sequences_do_as_the_table.Goals as goal
-use Rattle.value_table.proofs.Ranges.{in_range_does, not_in_range_does, other_in_range, other_not_in_range}
+use Rattle.value_table.proofs.Ranges.{in_range_does, not_in_range_does, other_in_range, other_not_in_range, range_numbers}
 use Rattle.value_table.proofs.Alone.{tuple_item, range_item, tuple_slice, tuple_times, tuple_length, range_length, tuple_unpacked, tuple_next, text_next, range_next}
 
 pub returns-clause-getitem : goal.returns-clause-getitem
@@ -56,3 +56,6 @@ returns-clause-iter_of_range c = λ store answers start end step. record { answe
 
 pub returns-clause-iter_of_text : goal.returns-clause-iter_of_text
 returns-clause-iter_of_text c = λ store answers bytes. record { answer_is = refl; made_is = refl; after_is = refl }
+
+pub returns-clause-range : goal.returns-clause-range
+returns-clause-range c = range_numbers
