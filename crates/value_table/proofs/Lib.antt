@@ -29,3 +29,5 @@ pub mod Written
 pub mod Seeking
 pub mod Maps
 pub mod Keeping
+pub mod Printing
+pub mod WorkedPrinting

@@ -20,7 +20,7 @@ abbrev pair : Contents → Contents → Contents
 pair v w = tuple (part v (part w no_parts))
 
 -- the lists `[1, [2]]`, `[True, [2]]` and `[1, [3]]`: objects 1, 3 and 5
-abbrev lists : RunStore
+abbrev pub lists : RunStore
 lists = then_store (then_store (then_store (then_store (then_store (then_store empty (list_display (n 2 ∷ []))) (list_display (n 1 ∷ object 0 ∷ []))) (list_display (n 2 ∷ []))) (list_display (truth true ∷ object 2 ∷ [])))
     (list_display (n 3 ∷ []))) (list_display (n 1 ∷ object 4 ∷ []))
 
@@ -47,7 +47,7 @@ equal_before_that : lt_is lists (pair (n 1) (text (codes "a"))) (pair (n 2) (n 1
 equal_before_that = refl
 
 -- the dictionaries `{1: 'a', 2: 'b'}`, `{2: 'b', True: 'a'}` and `{1: 'a'}`
-abbrev dicts : RunStore
+abbrev pub dicts : RunStore
 dicts = then_store (then_store (then_store empty (dict_display (n 1 ∷ text (codes "a") ∷ n 2 ∷ text (codes "b") ∷ []))) (dict_display (n 2 ∷ text (codes "b") ∷ truth true ∷ text (codes "a") ∷ []))) (dict_display (n 1 ∷ text (codes "a") ∷ []))
 
 equal_dicts : eq_is dicts (object 0) (object 1) ≡ gives (truth true)
@@ -60,7 +60,7 @@ dicts_have_no_order : lt_is dicts (object 0) (object 1) ≡ throws type_error (t
 dicts_have_no_order = refl
 
 -- two lists, each of which holds itself, and the one compared with itself
-abbrev loops : RunStore
+abbrev pub loops : RunStore
 loops = then_store (then_store (then_store (then_store empty (list_display [])) (append (object 0 ∷ (object 0 ∷ [])))) (list_display [])) (append (object 1 ∷ (object 1 ∷ [])))
 
 too_deep : eq_is loops (object 0) (object 1) ≡ throws recursion (text (codes "nested too deep") ∷ [])

@@ -8,5 +8,6 @@ pub mod TableDicts
 pub mod TableFiles
 pub mod TableLists
 pub mod TableNumbers
+pub mod TablePrinting
 pub mod TableSequences
 pub mod TableTexts

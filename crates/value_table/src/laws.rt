@@ -14,7 +14,7 @@ ghost use Rattle.py_model.specs.Lists.{append, extend, insert, pop, getitem, set
 ghost use Rattle.py_model.specs.Numbers.{times, range_count, is_int, int_text};
 ghost use Rattle.py_model.specs.Operands.{number_in};
 ghost use Rattle.py_model.specs.Operations.{Op, plan};
-ghost use Rattle.py_model.specs.Printing.{repr_of, str_of};
+ghost use Rattle.py_model.specs.Printing.{print_values, repr_of, str_of};
 ghost use Rattle.py_model.specs.Sorting.{all_are, is_number};
 ghost use Rattle.py_model.specs.Store.{RunStore, file_of, opening};
 ghost use Rattle.py_model.specs.Walks.{deepest, items_of, numbers_from};
@@ -24,8 +24,9 @@ ghost use Rattle.value_table.specs.TableFiles.{IsKnown, IsUnreadable, MakesFile}
 ghost use Rattle.value_table.specs.Equality.{IsEqual, StandsAt};
 ghost use Rattle.value_table.specs.Reading.{HasAllPairs, HasPairs, IsDict, IsInstance, IsList, pair_of, pairs_at, HasItems, IsPlainList, items_at, FileValue, IsFile};
 ghost use Rattle.value_table.specs.TableDicts.{Pairs, getitem_is as dict_getitem_is, setitem_is as dict_setitem_is, delitem_is as dict_delitem_is, in_is, len_is as dict_len_is, get_is, items_is, keys_is, values_is, setattr_is, getattr_is, truth_is as dict_truth_is, not_is as dict_not_is, iter_is as dict_iter_is, next_is as dict_next_is, MakesDict, HasNoNext, HasUsableKeys, display_pairs, not_in_is as dict_not_in_is};
-ghost use Rattle.value_table.specs.Results.{Does, DoesAlone, DoesToFile};
+ghost use Rattle.value_table.specs.Results.{Does, DoesAlone, DoesToFile, gives};
 ghost use Rattle.value_table.specs.TableLists.{append_is, getitem_is, setitem_is, delitem_is, pop_is, pop_last_is, insert_is, len_is, extend_is, iadd_is, add_is, slice_is, mul_is, reverse_is, bound_in, truth_is, not_is, unpack_is, iter_is, next_is};
+ghost use Rattle.value_table.specs.TablePrinting.{PrintsLine, deep_is, forms_of, lies_deep, line_of, repr_form, str_form, told};
 ghost use Rattle.value_table.specs.TableComparisons.{wrong_kinds};
 ghost use Rattle.value_table.specs.TableSequences.{StandsInRange};
 ghost use Rattle.value_table.specs.Equality as members;
@@ -379,4 +380,23 @@ pub fn operations_keep_pairs()
     tests_are_equality();
     operations_are_orderly();
     map_changes_by_accesses();
+}
+
+/// The law of printing: `repr`, `str` and `print` use the printed form that the table tells of a value as it is read in the store. Of instances, and what holds
+/// one, the table tells none.
+pub fn values_are_printed_as_the_table()
+    ensures repr { (store : RunStore) (answers : Answers) (v : Contents) (bytes : List ℕ) → HasDicts store → repr_form store v ≡ told bytes
+        → DoesAlone store (effect store answers (repr_of v)) (gives (text bytes)) }
+    ensures repr_deep { (store : RunStore) (answers : Answers) (v : Contents) → HasDicts store → repr_form store v ≡ lies_deep
+        → DoesAlone store (effect store answers (repr_of v)) deep_is }
+    ensures str { (store : RunStore) (answers : Answers) (v : Contents) (bytes : List ℕ) → HasDicts store → str_form store v ≡ told bytes
+        → DoesAlone store (effect store answers (str_of v)) (gives (text bytes)) }
+    ensures str_deep { (store : RunStore) (answers : Answers) (v : Contents) → HasDicts store → str_form store v ≡ lies_deep
+        → DoesAlone store (effect store answers (str_of v)) deep_is }
+    ensures print { (store : RunStore) (answers : Answers) (values : List Contents) (lines : List (List ℕ)) → HasDicts store → forms_of (str_form store) values ≡ told lines
+        → PrintsLine store (effect store answers (print_values values)) (line_of lines) }
+    ensures print_deep { (store : RunStore) (answers : Answers) (values : List Contents) → HasDicts store → forms_of (str_form store) values ≡ lies_deep
+        → DoesAlone store (effect store answers (print_values values)) deep_is }
+{
+    tests_are_equality();
 }

@@ -11,12 +11,12 @@
 //!   [`operations_keep_pairs`]: that each dictionary is one, which comparisons ask, holds at the start of a run, and operations keep it.
 //! - [`texts_do_as_the_table`], [`text_methods_do_as_the_table`]: texts; [`numbers_do_as_the_table`]: numbers.
 //! - [`sequences_do_as_the_table`], [`walks_do_as_the_table`]: tuples, ranges, displays, and what walks a sequence.
-//! - [`files_do_as_the_table`], [`files_are_opened`]: files.
+//! - [`files_do_as_the_table`], [`files_are_opened`]: files; [`values_are_printed_as_the_table`]: `repr`, `str` and `print`.
 //!
 //! Operands of a wrong kind raise as the plans say. An operation has no equation where that would only repeat its plan:
 //! - constants, names, binding, `give`, `is`, calls, classes and methods, exceptions, imports, `with` and `assert`;
 //! - the truth of values that are no list and no dictionary, and `+=` of values that are no list, which is `+`;
-//! - `range`, `isinstance`, `print`; `repr` and `str` but of numbers, and `int` of other texts than theirs; `input`, and the modules;
+//! - `range`, `isinstance`, `int` of texts that `str` does not write, the printed form of instances, `input`, and the modules;
 //! - of what `sort` and `sorted` refuse, and in which order, `refused_to` of `py_model` is the definition.
 #![tactic(auto)]
 
@@ -27,7 +27,8 @@ pub use laws::{
     attributes_do_as_the_table, dicts_are_made, dicts_do_as_the_table, files_do_as_the_table,
     lists_are_read_as_the_table, lists_do_as_the_table, members_are_found, numbers_do_as_the_table,
     operations_keep_pairs, plain_lists_have_items, sequences_do_as_the_table,
-    text_methods_do_as_the_table, texts_do_as_the_table, walks_do_as_the_table,
+    text_methods_do_as_the_table, texts_do_as_the_table, values_are_printed_as_the_table,
+    walks_do_as_the_table,
 };
 pub use orders::{
     best_items_are_found, comparisons_do_as_the_table, items_are_sorted,
