@@ -311,7 +311,7 @@ pub fn files_do_as_the_table()
 }
 
 /// The law of members: whether a value stands in a list or a tuple, and where, is what the table says of the first item that is equal to it. Numbers and texts
-/// are equal where they are the same, and an object is equal to itself; containers are as the walk of the comparison finds them.
+/// are equal where they are the same, and an object is equal to itself. `members_are_sought` says it of containers too.
 pub fn members_are_found()
     ensures contains { (store : RunStore) (answers : Answers) (o : ℕ) (items : List Contents) (v : Contents) (place : Option ℕ) → IsList store o items
         → StandsAt store answers v items place → Does IsList store o (effect store answers (in_plan (v ∷ (object o ∷ [])))) (members.in_is items place) }

@@ -8,7 +8,8 @@
 //! - [`comparisons_do_as_the_table`], [`maps_texts_and_ranges_compare`], [`members_are_sought`]: comparisons, and values among items.
 //! - [`items_are_sorted`], [`best_items_are_found`]: sorts, `max` and `min`.
 //! - [`dicts_do_as_the_table`], [`dicts_are_made`], [`attributes_do_as_the_table`]: dictionaries, and attributes of instances.
-//!   [`operations_keep_pairs`]: that each dictionary is one, which comparisons ask, holds at the start of a run, and operations keep it.
+//!   [`operations_keep_pairs`]: that each dictionary is one, which comparisons ask, holds at the start of a run. Operations keep it, where the
+//!   next object has no entries.
 //! - [`texts_do_as_the_table`], [`text_methods_do_as_the_table`]: texts; [`numbers_do_as_the_table`]: numbers.
 //! - [`sequences_do_as_the_table`], [`walks_do_as_the_table`]: tuples, ranges, displays, and what walks a sequence.
 //! - [`files_do_as_the_table`], [`files_are_opened`]: files; [`values_are_printed_as_the_table`]: `repr`, `str` and `print`.
