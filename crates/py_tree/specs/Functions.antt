@@ -1,5 +1,5 @@
--- Words of the syntax tree that the meaning of a run needs: the place of an expression, functions by their place, the names that a
--- function binds, and which classes have which methods.
+-- Words of the syntax tree that the meaning of a run needs: the place of an expression, functions and classes by their
+-- place, and the names that a function binds.
 use Rattle.std.specs.Prelude.{ℕ, Bool, false, not, ◌&&◌, ◌||◌, List, [], ◌∷◌, ◌++◌, Option, Some, None, if◌then◌else◌}
 use Rattle.std.specs.List.{find, list_any}
 use Rattle.std.specs.Str.{bytes_eq}

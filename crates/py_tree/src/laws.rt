@@ -14,7 +14,7 @@ ghost use Rattle.py_tree.specs.Numbering.{IsNumbered, numbered_suite};
 ghost use Rattle.py_tree.specs.Deletion.{or_pass, kept_suite, deleted};
 ghost use Rattle.py_tree.specs.Places.{suite_places, suite_starts, are_ascending};
 ghost use Rattle.py_tree.specs.Parts.{IsPartOf};
-ghost use Rattle.py_tree.specs.Remaining.{IsClosed, those_in, remaining, AddsPass};
+ghost use Rattle.py_tree.specs.Remaining.{staying, IsClosed, those_in, remaining, AddsPass};
 ghost use Rattle.py_tree.specs.Renumbering.{new_number, both};
 ghost use Rattle.py_tree.specs.Unplaced.{unplaced};
 ghost use Rattle.py_tree.specs.WellFormed.{IsWellFormed};
@@ -83,20 +83,21 @@ pub fn numbers_and_places()
     ensures owned { (script : ScriptTree) → IsWellFormed script → (at : Pos) → Contains (suite_places script.body) at ↔ ((s : ℕ) × (owner_of script at ≡ Some s)) }
 {}
 
-/// The law of what a deletion leaves, for a set that has the parent of each of its statements: exactly the statements of
-/// the set, in their order, and `pass` where a suite would be empty. Each has its new number, its old place, and its
-/// parent's new number.
+/// The law of what a deletion leaves: exactly the statements that are in the set together with all that they stand in, in
+/// their order, and `pass` where a suite would be empty. Each has its new number, its old place, and its parent's new
+/// number. Where the set has the parent of each of its statements, all of them stay.
 pub fn statements_of_a_deletion()
-    ensures statements { (keep : ℕ → Bool) (script : ScriptTree) → IsNumbered script → IsClosed keep script
-        → AddsPass (map (remaining keep (new_number keep script)) (those_in keep (statements script))) (statements (deleted keep script)) }
-    ensures found { (keep : ℕ → Bool) (script : ScriptTree) → IsNumbered script → IsClosed keep script → (s : ℕ) (x : Standing) → standing_at script s ≡ Some x → IsTrue (keep s)
-        → standing_at (deleted keep script) (new_number keep script s) ≡ Some (remaining keep (new_number keep script) x) }
-    ensures parents { (keep : ℕ → Bool) (script : ScriptTree) → IsNumbered script → IsClosed keep script → (s : ℕ) (x : Standing) → standing_at script s ≡ Some x → IsTrue (keep s)
-        → parent_of (deleted keep script) (new_number keep script s) ≡ option_map (new_number keep script) (parent_of script s) }
-    ensures functions { (keep : ℕ → Bool) (script : ScriptTree) → IsNumbered script → IsClosed keep script → (s : ℕ) (x : Standing) → standing_at script s ≡ Some x → IsTrue (keep s)
-        → function_of (deleted keep script) (new_number keep script s) ≡ option_map (new_number keep script) (function_of script s) }
-    ensures places { (keep : ℕ → Bool) (script : ScriptTree) → IsNumbered script → IsClosed keep script → (s : ℕ) (x : Standing) → standing_at script s ≡ Some x → IsTrue (keep s)
-        → place_at (deleted keep script) (new_number keep script s) ≡ place_at script s }
+    ensures statements { (keep : ℕ → Bool) (script : ScriptTree) → IsNumbered script
+        → AddsPass (map (remaining keep (new_number keep script)) (staying keep script)) (statements (deleted keep script)) }
+    ensures closed { (keep : ℕ → Bool) (script : ScriptTree) → IsNumbered script → IsClosed keep script → staying keep script ≡ those_in keep (statements script) }
+    ensures found { (keep : ℕ → Bool) (script : ScriptTree) → IsNumbered script → (x : Standing) → Contains (staying keep script) x
+        → standing_at (deleted keep script) (new_number keep script (number_at x)) ≡ Some (remaining keep (new_number keep script) x) }
+    ensures parents { (keep : ℕ → Bool) (script : ScriptTree) → IsNumbered script → (x : Standing) → Contains (staying keep script) x
+        → parent_of (deleted keep script) (new_number keep script (number_at x)) ≡ option_map (new_number keep script) (parent_of script (number_at x)) }
+    ensures functions { (keep : ℕ → Bool) (script : ScriptTree) → IsNumbered script → (x : Standing) → Contains (staying keep script) x
+        → function_of (deleted keep script) (new_number keep script (number_at x)) ≡ option_map (new_number keep script) (function_of script (number_at x)) }
+    ensures places { (keep : ℕ → Bool) (script : ScriptTree) → IsNumbered script → (x : Standing) → Contains (staying keep script) x
+        → place_at (deleted keep script) (new_number keep script (number_at x)) ≡ place_at script (number_at x) }
 {}
 
 /// The law of local names. A suite binds exactly the names that some statement of its scope binds itself; where it has no
