@@ -8,4 +8,5 @@ pub mod OverContents
 pub mod Planning
 pub mod Reserving
 pub mod Rooming
+pub mod Sparing
 pub mod Writing

@@ -1,6 +1,7 @@
 pub mod Below
 pub mod Cell
 pub mod File
+pub mod Frugal
 pub mod Keyed
 pub mod Named
 pub mod Object

@@ -1,9 +1,10 @@
 // The content of one file of a run. It may be absent and have room already, for an append that comes.
-ghost use Rattle.std.specs.Prelude.{◌≡◌, ◌≤◌, ◌+◌, [], ◌++◌, Some, None, OnOk, IfOk, length, unwrap_or};
+ghost use Rattle.std.specs.Prelude.{◌≡◌, ◌≤◌, ◌+◌, max, [], ◌++◌, Some, None, OnOk, IfOk, length, unwrap_or};
 ghost use Rattle.std.specs.Option.{option_copied};
 
 use prov_base::Memory;
 use std::alloc::Global;
+use std::cmp::max;
 use std::marker::Model;
 
 /// A file. Contracts see its bytes, where it is there, and for how many more there is room.
@@ -25,7 +26,8 @@ impl Model for File {
 impl File {
     /// An absent file with no room.
     pub fn absent(alloc: Global) -> File
-        ensures { result.content ≡ None }
+        ensures content { result.content ≡ None }
+        ensures spare { result.spare ≡ 0 }
     {
         File {
             is_there: false,
@@ -85,13 +87,18 @@ impl File {
         self.bytes.capacity() - self.bytes.len()
     }
 
-    /// Makes room for so many more bytes.
+    /// Makes room for so many more bytes, or for as many as there are, so that small appends take memory seldom.
     pub fn reserve(&mut self, count: usize) -> Result<(), Memory>
         ensures room { OnOk result (count ≤ self.new.spare) }
         ensures content { self.new.content ≡ self.old.content }
         ensures grows { self.old.spare ≤ self.new.spare }
+        ensures few { self.new.spare ≤ max self.old.spare (max count (length (unwrap_or self.old.content []))) }
     {
-        self.bytes.reserve(count)?;
+        if count <= self.room() {
+            return Ok(());
+        }
+        let more = if self.is_there { max(count, self.bytes.len()) } else { count };
+        self.bytes.reserve_exact(more)?;
         Ok(())
     }
 }

@@ -8,8 +8,8 @@
 //! - `make` adds one object of its kind, of which nothing is set.
 //! - After `reserve_for`, and the `make` of the object that the plan makes, each write of the plan in its order has its room,
 //!   whatever the earlier ones used, and none is refused. Taken or refused, every location, kind and name is as before, and no room
-//!   is lost. Where all the room is there already, it takes nothing and is not refused; of objects and cells it takes no more than
-//!   about twice the need. How much more it takes for items, keys and bytes is not said.
+//!   is lost. Where all the room is there already, it takes nothing and is not refused; of objects, cells, keys and bytes it takes no
+//!   more than about twice the need, and places for items as many as are needed (`specs/Frugal.antt`).
 //! - `perform` does all writes of a reserved plan. Over contents the map is then what the plan's accesses make of it, where each suits
 //!   the map in its turn (`specs/Performing.antt`).
 //! - `place_file` and `name_place` are done or leave all as it was, and a reserved plan stays so.

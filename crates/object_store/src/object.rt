@@ -1,6 +1,6 @@
 // One object of a run: its kind, its items where it is a list, and its keys in their order where it has keys.
 // It stands on a `Vec` and an `IndexSet`, and says for how many items and keys there is room.
-ghost use Rattle.std.specs.Prelude.{◌≡◌, ℕ, ◌+◌, ◌<◌, ◌≤◌, ◌↔◌, [], Some, IsTrue, OnOk, slice_get, slice_set, length};
+ghost use Rattle.std.specs.Prelude.{◌≡◌, ℕ, ◌+◌, ◌*◌, ◌<◌, ◌≤◌, max, ◌↔◌, [], Some, IsTrue, OnOk, slice_get, slice_set, length};
 ghost use Rattle.py_value.specs.declared.access.Kind.TheVariants.{List as ListKind};
 ghost use Rattle.object_store.specs.Object.{item_in, item_of, with_key, with_keys, without_key};
 
@@ -10,6 +10,9 @@ use py_value::{Kind, Value};
 use std::alloc::Global;
 use std::cmp::min;
 use std::marker::Model;
+
+// The keys may take room for so many more than twice what is needed.
+const MOST_KEYS_MORE: usize = 64;
 
 /// An object. Contracts see its kind, its places for items, its keys in order, and for how many more keys there is room.
 #[derive(Drop)]
@@ -105,6 +108,7 @@ impl Object {
         ensures kind { self.new.kind ≡ self.old.kind }
         ensures keys { self.new.keys ≡ self.old.keys }
         ensures spare { self.new.spare ≡ self.old.spare }
+        ensures few { OnOk result (length self.new.items ≤ max (length self.old.items) (i + 1)) }
     {
         reach(&mut self.items, i as usize)
     }
@@ -178,18 +182,24 @@ impl Object {
         min(self.keys.capacity() - len, u32::MAX as usize - len)
     }
 
-    /// Makes room for so many more keys.
+    /// Makes room for so many more keys. The set of keys promises no bound on the room that it takes: it is tested.
     pub fn reserve_keys(&mut self, count: usize) -> Result<(), Memory>
         ensures room { OnOk result (count ≤ self.new.spare) }
         ensures items { self.new.items ≡ self.old.items }
         ensures kind { self.new.kind ≡ self.old.kind }
         ensures keys { self.new.keys ≡ self.old.keys }
         ensures grows { self.old.spare ≤ self.new.spare }
+        ensures few { OnOk result (self.new.spare ≤ max self.old.spare (length self.old.keys + 2 * count + 64)) }
     {
         if u32::MAX as usize - self.keys.len() < count {
             return Err(Memory);
         }
         self.keys.reserve(count)?;
+        let needed = self.keys.len().saturating_add(count);
+        let more = self.key_room() - count;
+        if more.saturating_sub(MOST_KEYS_MORE) > needed {
+            return Err(Memory);
+        }
         Ok(())
     }
 }
@@ -199,6 +209,7 @@ fn reach(items: &mut Vec<Option<Value>>, at: usize) -> Result<(), Memory>
     ensures within { OnOk result (at < length items.new.items) }
     ensures same { (k : ℕ) → item_in items.new.items k ≡ item_in items.old.items k }
     ensures grows { length items.old.items ≤ length items.new.items }
+    ensures few { OnOk result (length items.new.items ≤ max (length items.old.items) (at + 1)) }
 {
     if at < items.len() {
         return Ok(());

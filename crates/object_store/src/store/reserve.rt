@@ -1,9 +1,13 @@
 // Memory for a plan of writes, taken before the first of them. Whether it is had or refused, all that stands in the
 // store is as before.
-ghost use Rattle.std.specs.Prelude.{◌≡◌, ◌*◌, ℕ, ◌+◌, ◌<◌, ◌≤◌, length, slice_set, slice_get, Some, IsSome, IsOk, IfSome, OnOk};
+ghost use Rattle.std.specs.Prelude.{◌≡◌, ◌==◌, ◌*◌, ℕ, suc, ◌+◌, ◌<◌, ◌≤◌, max, false, if◌then◌else◌, length, slice_set, slice_get, Some, IsSome, IsOk, IfSome, OnOk};
 ghost use Rattle.py_value.specs.declared.access.Access.{Access as OneAccess};
+ghost use Rattle.py_value.specs.declared.access.Access.TheVariants.{Set, Update};
+ghost use Rattle.py_value.specs.declared.access.Change.{Change as OneChange};
+ghost use Rattle.py_value.specs.declared.access.Content.{Content as OneContent};
+ghost use Rattle.object_store.specs.Frugal.{bytes_most, TakesFew, TakesFewFor, TakesUpTo};
 ghost use Rattle.object_store.specs.Object.{Grows};
-ghost use Rattle.object_store.specs.Room.{cells_in, object_in, slot_in, bytes_in, AreNamedAccesses, AreWithin, IsAccessWithin, Takes, HasPlaceFor, HasPlaces};
+ghost use Rattle.object_store.specs.Room.{bytes_in_all, cells_in, keys_in, object_in, slot_in, bytes_in, AreNamedAccesses, AreWithin, IsAccessWithin, IsWithin, Takes, HasPlaceFor, HasPlaces};
 ghost use Rattle.object_store.specs.Store.{object_at, room_of, room_with_next, count_with, file_at, Keeps, FewCells, FewObjects, HasRoomForAll, IsReservedFor};
 
 use super::Store;
@@ -37,10 +41,12 @@ impl Store {
         ensures had_room { HasRoomForAll values.now self.old made plan.now → IsOk result }
         ensures no_more { HasRoomForAll values.now self.old made plan.now → self.new ≡ self.old }
 
-        // Room never shrinks, also after a refusal. Of objects and cells less than about twice what is needed in all is taken.
+        // Room never shrinks, also after a refusal. Of objects, cells, keys and bytes less than about twice what is needed in all is taken, and of places
+        // for items as many as are needed.
         ensures grows { Takes (room_with_next self.old) (room_with_next self.new) 0 0 0 }
         ensures objects { (self.old.spare_objects ≤ self.new.spare_objects) × FewObjects self.old self.new }
         ensures frugal { OnOk result (FewCells self.old self.new (cells_in plan.now)) }
+        ensures few { OnOk result (TakesFew (room_with_next self.old) (room_with_next self.new) plan.now (keys_in plan.now) (bytes_in_all values.now plan.now)) }
     {
         let need = Need::of(plan, values)?;
         self.make_object_room(alloc, made)?;
@@ -98,6 +104,7 @@ impl Store {
         ensures spare { self.new.spare_objects ≡ self.old.spare_objects }
         ensures count { length self.new.objects ≡ length self.old.objects }
         ensures cells { self.new.spare_cells ≡ self.old.spare_cells }
+        ensures few { OnOk result (TakesFew (room_with_next self.old) (room_with_next self.new) plan.now need.keys need.bytes) }
     {
         for access in plan {
             self.make_place(alloc, access, need)?;
@@ -114,20 +121,53 @@ impl Store {
         ensures spare { self.new.spare_objects ≡ self.old.spare_objects }
         ensures count { length self.new.objects ≡ length self.old.objects }
         ensures cells { self.new.spare_cells ≡ self.old.spare_cells }
+        ensures few { OnOk result (TakesFewFor (room_with_next self.old) (room_with_next self.new) access.now need.keys need.bytes) }
     {
         match access {
-            Access::Set(Location::Item(o, i), _) => {
-                self.make_item(*o, *i)?;
-                Ok(())
-            }
-            Access::Set(Location::Order(o), _) | Access::Update(Location::Order(o), _) => {
-                self.make_keys(*o, need.keys)?;
-                Ok(())
-            }
-            Access::Set(Location::File(path), _) | Access::Update(Location::File(path), _) => {
-                self.make_file(alloc, *path, need.bytes)?;
-                Ok(())
-            }
+            Access::Read(_) => Ok(()),
+            Access::Set(l, _) => self.make_place_to_set(alloc, *l, need),
+            Access::Update(l, _) => self.make_place_to_update(alloc, *l, need),
+        }
+    }
+
+    // Makes the place that a content needs that is set.
+    fn make_place_to_set(&mut self, alloc: Global, l: Location, need: Need) -> Result<(), Memory>
+        requires { IsWithin (length self.old.objects + 1) l }
+        ensures place { OnOk result ((content : OneContent) → HasPlaceFor (room_with_next self.new) need.keys need.bytes (Set l content)) }
+        ensures keeps { Keeps self.old self.new }
+        ensures left { Takes (room_with_next self.old) (room_with_next self.new) 0 0 0 }
+        ensures spare { self.new.spare_objects ≡ self.old.spare_objects }
+        ensures count { length self.new.objects ≡ length self.old.objects }
+        ensures cells { self.new.spare_cells ≡ self.old.spare_cells }
+        ensures few { OnOk result ((content : OneContent) → TakesFewFor (room_with_next self.old) (room_with_next self.new) (Set l content) need.keys need.bytes) }
+    {
+        match l {
+            Location::Item(o, i) => self.make_item(o, i),
+            Location::Order(o) => self.make_keys(o, need.keys),
+            Location::File(path) => self.make_file(alloc, path, need.bytes),
+            _ => Ok(()),
+        }
+    }
+
+    // Makes the place that a change needs.
+    fn make_place_to_update(
+        &mut self,
+        alloc: Global,
+        l: Location,
+        need: Need,
+    ) -> Result<(), Memory>
+        requires { IsWithin (length self.old.objects + 1) l }
+        ensures place { OnOk result ((change : OneChange) → HasPlaceFor (room_with_next self.new) need.keys need.bytes (Update l change)) }
+        ensures keeps { Keeps self.old self.new }
+        ensures left { Takes (room_with_next self.old) (room_with_next self.new) 0 0 0 }
+        ensures spare { self.new.spare_objects ≡ self.old.spare_objects }
+        ensures count { length self.new.objects ≡ length self.old.objects }
+        ensures cells { self.new.spare_cells ≡ self.old.spare_cells }
+        ensures few { OnOk result ((change : OneChange) → TakesFewFor (room_with_next self.old) (room_with_next self.new) (Update l change) need.keys need.bytes) }
+    {
+        match l {
+            Location::Order(o) => self.make_keys(o, need.keys),
+            Location::File(path) => self.make_file(alloc, path, need.bytes),
             _ => Ok(()),
         }
     }
@@ -141,6 +181,7 @@ impl Store {
         ensures spare { self.new.spare_objects ≡ self.old.spare_objects }
         ensures count { length self.new.objects ≡ length self.old.objects }
         ensures cells { self.new.spare_cells ≡ self.old.spare_cells }
+        ensures few { OnOk result ((keys bytes : ℕ) → TakesUpTo (room_with_next self.old) (room_with_next self.new) (λ p. if p == o then suc i else 0) (λ p. false) (λ path. false) keys bytes) }
     {
         if o < self.objects.len() {
             self.make_item_of(o, i)?;
@@ -155,6 +196,8 @@ impl Store {
         ensures place { OnOk result (i < length (object_at self.new o).items) }
         ensures same { self.new ≡ record self.old { objects = slice_set self.old.objects o (object_at self.new o) } }
         ensures grows { Grows (object_at self.old o) (object_at self.new o) }
+        ensures few { OnOk result (length (object_at self.new o).items ≤ max (length (object_at self.old o).items) (i + 1)) }
+        ensures spare { (object_at self.new o).spare ≡ (object_at self.old o).spare }
     {
         self.objects.get_mut(o).reserve_item(i)
     }
@@ -163,6 +206,8 @@ impl Store {
         ensures place { OnOk result (i < length self.new.next_object.items) }
         ensures same { self.new ≡ record self.old { next_object = self.new.next_object } }
         ensures grows { Grows self.old.next_object self.new.next_object }
+        ensures few { OnOk result (length self.new.next_object.items ≤ max (length self.old.next_object.items) (i + 1)) }
+        ensures spare { self.new.next_object.spare ≡ self.old.next_object.spare }
     {
         self.next_object.reserve_item(i)
     }
@@ -176,6 +221,7 @@ impl Store {
         ensures spare { self.new.spare_objects ≡ self.old.spare_objects }
         ensures count { length self.new.objects ≡ length self.old.objects }
         ensures cells { self.new.spare_cells ≡ self.old.spare_cells }
+        ensures few { OnOk result ((bytes : ℕ) → TakesUpTo (room_with_next self.old) (room_with_next self.new) (λ p. 0) (λ p. p == o) (λ path. false) count bytes) }
     {
         if o < self.objects.len() {
             self.make_keys_of(o, count)?;
@@ -190,6 +236,8 @@ impl Store {
         ensures place { OnOk result (count ≤ (object_at self.new o).spare) }
         ensures same { self.new ≡ record self.old { objects = slice_set self.old.objects o (object_at self.new o) } }
         ensures grows { Grows (object_at self.old o) (object_at self.new o) }
+        ensures few { OnOk result ((object_at self.new o).spare ≤ max (object_at self.old o).spare (length (object_at self.old o).keys + 2 * count + 64)) }
+        ensures places { length (object_at self.new o).items ≡ length (object_at self.old o).items }
     {
         self.objects.get_mut(o).reserve_keys(count)
     }
@@ -198,6 +246,8 @@ impl Store {
         ensures place { OnOk result (count ≤ self.new.next_object.spare) }
         ensures same { self.new ≡ record self.old { next_object = self.new.next_object } }
         ensures grows { Grows self.old.next_object self.new.next_object }
+        ensures few { OnOk result (self.new.next_object.spare ≤ max self.old.next_object.spare (length self.old.next_object.keys + 2 * count + 64)) }
+        ensures places { length self.new.next_object.items ≡ length self.old.next_object.items }
     {
         self.next_object.reserve_keys(count)
     }
@@ -210,12 +260,25 @@ impl Store {
         ensures same { self.new ≡ record self.old { files = self.new.files } }
         ensures slots_left { (p : ℕ) → IsSome (slot_in (room_of self.old) p) → IsSome (slot_in (room_of self.new) p) }
         ensures bytes_left { (p : ℕ) → bytes_in (room_of self.old) p ≤ bytes_in (room_of self.new) p }
+        ensures few { OnOk result ((keys : ℕ) → TakesUpTo (room_with_next self.old) (room_with_next self.new) (λ o. 0) (λ o. false) (λ p. p == path) keys bytes) }
     {
         self.make_slot(alloc, path)?;
-        if let Some(file) = self.files.get_mut(&path) {
-            file.reserve(bytes)?;
+        self.make_bytes(path, bytes)
+    }
+
+    // Makes room for so many more bytes of a file, where it has its place.
+    fn make_bytes(&mut self, path: u32, bytes: usize) -> Result<(), Memory>
+        ensures room { OnOk result (IsSome (slot_in (room_of self.old) path) → bytes ≤ bytes_in (room_of self.new) path) }
+        ensures files { (p : ℕ) → file_at self.new p ≡ file_at self.old p }
+        ensures same { self.new ≡ record self.old { files = self.new.files } }
+        ensures slots_left { (p : ℕ) → IsSome (slot_in (room_of self.old) p) → IsSome (slot_in (room_of self.new) p) }
+        ensures bytes_left { (p : ℕ) → bytes_in (room_of self.old) p ≤ bytes_in (room_of self.new) p }
+        ensures few { (p : ℕ) → bytes_in (room_of self.new) p ≤ max (bytes_in (room_of self.old) p) (bytes_most (room_of self.old) bytes p (p == path)) }
+    {
+        match self.files.get_mut(&path) {
+            Some(file) => file.reserve(bytes),
+            None => Ok(()),
         }
-        Ok(())
     }
 
     fn make_slot(&mut self, alloc: Global, path: u32) -> Result<(), Memory>
@@ -224,6 +287,7 @@ impl Store {
         ensures same { self.new ≡ record self.old { files = self.new.files } }
         ensures slots_left { (p : ℕ) → IsSome (slot_in (room_of self.old) p) → IsSome (slot_in (room_of self.new) p) }
         ensures bytes_left { (p : ℕ) → bytes_in (room_of self.old) p ≤ bytes_in (room_of self.new) p }
+        ensures few { (p : ℕ) → bytes_in (room_of self.new) p ≤ bytes_in (room_of self.old) p }
     {
         if !self.files.contains_key(&path) {
             self.files.insert(path, File::absent(alloc))?;
