@@ -47,6 +47,16 @@ fn take_said(work: &Work, opened: &mut Vec<u32>, output: &mut Vec<u8>)
     ensures opened { opened.new.items ≡ with_numbers work.now.opens opened.old.items }
     ensures named { AreNamedSayings work.now.values work.now.note work.now.opens }
 {
-    let _ = output.extend_from_slice(work.printed());
+    put_behind(output, work.printed());
     add_all(opened, work.opened());
+}
+
+// Bytes go behind those that are there. Most operations print none.
+fn put_behind(output: &mut Vec<u8>, bytes: &[u8])
+    requires { length output.old.items + length bytes.now ≤ output.old.cap }
+    ensures { output.new.items ≡ output.old.items ++ bytes.now }
+{
+    if !bytes.is_empty() {
+        let _ = output.extend_from_slice(bytes);
+    }
 }
