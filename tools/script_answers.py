@@ -4,7 +4,7 @@
     python3 tools/script_answers.py crates/language_cases          prints each answer that differs
     python3 tools/script_answers.py --write crates/language_cases  puts Python's answers into `stdout`
 
-It knows the sections `tree`, `delete`, `cut` (the statements, not the text that is left) and `owners`. All other answers
+It knows the sections `tree`, `delete`, `thin`, `cut` (the statements, not the text that is left) and `owners`. All other answers
 were worked out by hand and stay as they are. It wants Python 3.11.
 """
 import ast, io, sys, tokenize
@@ -221,6 +221,13 @@ def deleted(raw, keep):
     return '\n'.join([f'{count} statements'] + list(rows_of(body, 0)))
 
 
+def thinned(raw, step):
+    """How many are left where the multiples of `step` stay, and the first and the last that stand in no other."""
+    rows = deleted(raw, set(range(0, Reader(raw).count, step)) if step else set()).split('\n')
+    ends = [row.split(' ')[:2] for row in rows[1:] if row[:1].isdigit()]
+    return rows[0] + ''.join(f', {no} at {place}' for no, place in ends[:1] + ends[-1:])
+
+
 def standings(raw):
     """Of each statement: its parent, its function, and the names that it binds."""
     found = {}
@@ -293,11 +300,15 @@ class Asked:
             self.whole = True
             if self.section in (['tree'], ['delete'], ['cut']):
                 return tree(self.raw)
+            if self.section == ['thin']:
+                return f'{Reader(self.raw).count} statements'
             return owners(self.raw) if self.section == ['owners'] else was
         elif mark == '=':
             words = rest.split()
             if self.section == ['delete']:
                 return deleted(self.raw, {int(w) for w in words})
+            if self.section == ['thin']:
+                return thinned(self.raw, int(words[0]))
             if self.section == ['owners']:
                 return bindings(self.raw, words)
             if self.section == ['cut'] and was:

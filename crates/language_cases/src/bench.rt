@@ -33,6 +33,8 @@ enum Section {
     Delete(Style),
     /// The same, what is left of the text, and its statements.
     Cut,
+    /// How many statements a script has, and what is left of it where only each so manieth stays.
+    Thin,
     /// What each statement stands in, and which of some names it binds.
     Owners,
     /// A set of so many statements.
@@ -68,6 +70,7 @@ fn section_of(words: &str) -> Section {
         "tree" => Section::Tree(style_of(first)),
         "delete" => Section::Delete(style_of(first)),
         "cut" => Section::Cut,
+        "thin" => Section::Thin,
         "owners" => Section::Owners,
         "set" => Section::Set,
         _ => Section::Nothing,
@@ -162,7 +165,7 @@ impl Bench {
                 show_first_line(alloc, &mut out, text, standing, limit)?;
             }
             Section::Spelled => show_spelled_text(alloc, &mut out, text)?,
-            Section::Count => show_script(alloc, &mut out, text, Asked::Count)?,
+            Section::Count | Section::Thin => show_script(alloc, &mut out, text, Asked::Count)?,
             Section::Tree(style) | Section::Delete(style) => {
                 show_script(alloc, &mut out, text, Asked::Tree(style))?;
             }
@@ -181,6 +184,7 @@ impl Bench {
                 show_script(alloc, &mut out, text, Asked::Deleted(style, words))?;
             }
             Section::Cut => show_script(alloc, &mut out, text, Asked::Cut(words))?,
+            Section::Thin => show_script(alloc, &mut out, text, Asked::Thinned(number(words)))?,
             Section::Owners => show_script(alloc, &mut out, text, Asked::Binds(words))?,
             Section::Refused => show_refused(alloc, &mut out, text, number(words))?,
             Section::Set => show_set(alloc, &mut out, words)?,

@@ -3,12 +3,12 @@ ghost use Rattle.py_tree.specs.Erasure.{script_of};
 ghost use Rattle.py_tree.specs.Numbering.{IsNumbered};
 
 use crate::printing::{Style, show_fault, show_suite};
-use crate::tables::add_all;
+use crate::tables::{add_all, add_every};
 use crate::texts::show_text;
 use prov_base::Bytes;
 use py_lines::lines;
 use py_parser::parse;
-use py_tree::{Script, StmtSet, delete};
+use py_tree::{Script, Stmt, StmtSet, delete};
 use slice_text::cut;
 use std::alloc::{AllocError, Global};
 
@@ -23,6 +23,8 @@ pub enum Asked<'a> {
     Deleted(Style, &'a str),
     /// The text that is left then, and its statements.
     Cut(&'a str),
+    /// How many statements are left where those stay whose numbers are multiples of this, and the first and the last in a row.
+    Thinned(u32),
     /// What each statement stands in, and one more.
     Owners,
     /// Which of these names each statement binds.
@@ -62,6 +64,7 @@ fn show_asked(
         Asked::Tree(style) => show_tree(alloc, out, style, script),
         Asked::Deleted(style, words) => show_deleted(alloc, out, style, script, words),
         Asked::Cut(words) => show_cut(alloc, out, text, script, words),
+        Asked::Thinned(step) => show_thinned(alloc, out, script, step),
         Asked::Owners => show_owners(alloc, out, script),
         Asked::Binds(words) => show_bindings(alloc, out, script, words),
     }
@@ -96,6 +99,38 @@ fn show_deleted(
     match delete(alloc, script, &keep) {
         Ok(rest) => show_tree(alloc, out, style, &rest),
         Err(_) => out.push_str("no memory"),
+    }
+}
+
+fn show_thinned(
+    alloc: Global,
+    out: &mut String,
+    script: &Script,
+    step: u32,
+) -> Result<(), AllocError> {
+    let Ok(mut keep) = StmtSet::new(alloc, script.count) else {
+        return out.push_str("no memory");
+    };
+    add_every(&mut keep, step);
+    match delete(alloc, script, &keep) {
+        Ok(rest) => show_ends(alloc, out, &rest),
+        Err(_) => out.push_str("no memory"),
+    }
+}
+
+fn show_ends(alloc: Global, out: &mut String, script: &Script) -> Result<(), AllocError> {
+    show_count(alloc, out, script)?;
+    show_end(alloc, out, script.body.list.as_slice().first())?;
+    show_end(alloc, out, script.body.list.as_slice().last())
+}
+
+fn show_end(alloc: Global, out: &mut String, stmt: Option<&Stmt>) -> Result<(), AllocError> {
+    match stmt {
+        None => Ok(()),
+        Some(stmt) => {
+            let shown = format!(in alloc; ", {} at {}:{}", stmt.no, stmt.pos.line, stmt.pos.col)?;
+            out.push_str(shown.as_str())
+        }
     }
 }
 

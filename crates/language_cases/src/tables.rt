@@ -96,6 +96,15 @@ pub fn add_all(set: &mut StmtSet, words: &str) {
     }
 }
 
+/// Adds the statements whose numbers are multiples of the step, and none where that is 0.
+pub fn add_every(set: &mut StmtSet, step: u32) {
+    for s in 0..set.bound() {
+        if step != 0 && s % step == 0 && s < set.bound() {
+            set.add(s);
+        }
+    }
+}
+
 // Each number that is added, and whether it is new.
 fn show_added(
     alloc: Global,
