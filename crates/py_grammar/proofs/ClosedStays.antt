@@ -10,7 +10,8 @@ use Rattle.py_tree.specs.Descent.{RiseFrom}
 use Rattle.py_tree.specs.Owners.{Around, Standing, at_module_level, within, listed_stmt, listed_form, listed_suite, listed_branches, listed_else, listed_handlers, number_at, first_at, parent_of}
 use Rattle.py_tree.specs.Renumbering.{suite_numbers, stmt_numbers, form_numbers, branches_numbers, else_numbers, handlers_numbers}
 use Rattle.py_tree.proofs.OwnersNumbered.{numbers_rise}
-use Rattle.py_grammar.specs.ClosedSets.{IsClosed, is_among, is_statement, stays}
+use Rattle.py_tree.specs.Remaining.{IsClosed}
+use Rattle.py_grammar.specs.ClosedSets.{is_among, is_statement, stays}
 
 -- ---- a number in two lists
 

@@ -1,14 +1,9 @@
--- Sets of statements that are closed under parents.
-use Rattle.std.specs.Prelude.{◌≡◌, ℕ, ◌==◌, Bool, IsTrue, List, Some}
+-- Which statements a script has, and which stay in a deletion.
+use Rattle.std.specs.Prelude.{ℕ, ◌==◌, Bool, List}
 use Rattle.std.specs.List.{list_any}
 use Rattle.py_tree.specs.Tree.{ScriptTree}
 use Rattle.py_tree.specs.Deletion.{kept_suite}
-use Rattle.py_tree.specs.Owners.{parent_of}
 use Rattle.py_tree.specs.Renumbering.{suite_numbers}
-
--- with each of its statements the set has that one's parent
-abbrev pub IsClosed : (ℕ → Bool) → ScriptTree → Type 0
-IsClosed keep script = (s p : ℕ) → IsTrue (keep s) → parent_of script s ≡ Some p → IsTrue (keep p)
 
 abbrev pub is_among : ℕ → List ℕ → Bool
 is_among s numbers = list_any (λ number. number == s) numbers
