@@ -26,14 +26,14 @@ pub known_entry : (def : Pos) (names : List (List ℕ)) (left : ℕ) (fits : Fit
 known_entry def names left fits before after vs ws d e same is known =
     subst (λ e. Enters {E = Memory} def names vs left fits before after (Ok e)) is (subst (λ vs. Enters {E = Memory} def names vs left fits before after (Ok d)) same known)
 
-module _ (first mid last : Fits) (before between after : Stands) (number : ℕ) (word : IsWordFor number mid before between []) (knew : Knew first mid) (kept : Knew mid last) (at def : Pos) (names : List (List ℕ)) (values : List Value)
+module _ (first mid last : Fits) (before between after : Stands) (number : ℕ) (word : IsWordFor number mid before between) (knew : Knew first mid) (kept : Knew mid last) (at def : Pos) (names : List (List ℕ)) (values : List Value)
     (left : ℕ) where
   pub dear_entry : (was : Option (List SeenMoment)) → Enters {E = Memory} def names values left last between after (Ok TooDear)
       → HasEntered {E = Memory} at def names values left left last before after was was (Ok None)
-  dear_entry was known = (known.0, (refl, (refl, λ table capture fit s stands. known.1 table capture fit s (word table capture (kept table capture fit) s stands).1.1)))
+  dear_entry was known = (known.0, (refl, (refl, λ table capture fit s stands. known.1 table capture fit s (word table capture (kept table capture fit) s stands).1)))
 
   pub refused_entry : (want : Memory) (was : Option (List SeenMoment)) → Enters def names values left last between after (Err want) → HasEntered at def names values left left last before after was was (Err want)
-  refused_entry want was known table capture fit s stands steps = not_entered (known table capture fit s (word table capture (kept table capture fit) s stands).1.1) refl
+  refused_entry want was known table capture fit s stands steps = not_entered (known table capture fit s (word table capture (kept table capture fit) s stands).1) refl
 
   module _ (activation : ℕ) (accesses : List Access) (entered : Enters {E = Memory} def names values left last between after (Ok (In activation accesses))) where
     -- the moment is as the meaning has it
@@ -49,7 +49,7 @@ module _ (first mid last : Fits) (before between after : Stands) (number : ℕ) 
         → ((table : ValuesView) (capture : Capture) → last table capture → TellsOn was is (λ told more. more ≡ moment_seen table (Enter at def values accesses) ∷ told))
         → HasEntered {E = Memory} at def names values left rest last before after was is (Ok (Some activation))
     has_entered rest was is paid tells table capture fit s stands steps =
-        let e = entered.1 table capture fit s (word table capture (kept table capture fit) s stands).1.1 in
+        let e = entered.1 table capture fit s (word table capture (kept table capture fit) s stands).1 in
         record {
           next_is = e.next_is;
           pays = omega (arith, entered.0, steps);
@@ -61,11 +61,11 @@ module _ (first mid last : Fits) (before between after : Stands) (number : ℕ) 
     pub untold_entry : (want : Memory) (rest : ℕ) (was is : Option (List SeenMoment)) → ((table : ValuesView) (capture : Capture) → last table capture → TellsOn was is (λ told more. more ≡ told))
         → HasEntered at def names values left rest last before after was is (Err want)
     untold_entry want rest was is tells table capture fit s stands steps =
-        let e = entered.1 table capture fit s (word table capture (kept table capture fit) s stands).1.1 in
+        let e = entered.1 table capture fit s (word table capture (kept table capture fit) s stands).1 in
         not_told (omega (arith, entered.0, steps)) (e.stands at) (tells table capture fit)
 
     pub can_tell_entry : HasState first before → AreGivenValues first values → (table : ValuesView) (capture : Capture) → last table capture → IsTellable table (Enter at def values accesses)
     can_tell_entry state given table capture fit =
         let s = state table capture (knew table capture (kept table capture fit)) in
-        let e = entered.1 table capture fit (state_of s.0 left) (word table capture (kept table capture fit) (state_of s.0 left) s.1).1.1 in
+        let e = entered.1 table capture fit (state_of s.0 left) (word table capture (kept table capture fit) (state_of s.0 left) s.1).1 in
         (given table capture (knew table capture (kept table capture fit)), e.named)

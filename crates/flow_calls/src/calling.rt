@@ -6,7 +6,7 @@ ghost use Rattle.py_model.specs.Doing.{AreGivenValues, Knew};
 ghost use Rattle.interp_eval.specs.Performing.{HasState};
 ghost use Rattle.flow_calls.specs.Calling.{HasEntered, HasLeft};
 
-use interp_eval::tell;
+use interp_eval::{some_word, tell};
 use prov_base::{Memory, Name, Pos};
 use py_model::{Args, Doer, Entered, Moment, Watch};
 use py_value::Value;
@@ -30,7 +30,7 @@ pub fn enter<D: Doer, W: Watch>(
     ensures knew { Knew (D.fits doer.old) (D.fits doer.new) }
     ensures entered { HasEntered at def names.now values left.old left.new (D.fits doer.new) (D.stands doer.old) (D.stands doer.new) (W.history watch.old) (W.history watch.new) result }
 {
-    let word = doer.word(alloc, "")?;
+    let word = some_word(alloc, doer)?;
     let count = values.as_slice().len();
     let entered = match doer.enter(alloc, def, names, values.as_slice(), *left) {
         Ok(entered) => entered,
@@ -60,7 +60,7 @@ pub fn leave<D: Doer, W: Watch>(
     ensures knew { Knew (D.fits doer.old) (D.fits doer.new) }
     ensures left { HasLeft value (D.fits doer.new) (D.stands doer.old) (D.stands doer.new) (W.history watch.old) (W.history watch.new) result }
 {
-    let word = doer.word(alloc, "")?;
+    let word = some_word(alloc, doer)?;
     let moment = Moment::Leave(value);
     match tell(alloc, doer, watch, word, &moment) {
         Ok(()) => Ok(()),

@@ -86,7 +86,7 @@ module _ (capture : Capture) (at : Pos) (op : SeenOp) (values : List Contents) w
           (did_so (effect_of capture at op values s) (effect_of capture at op values s).outcome _ answer came next is) told
       by_left false is = absurd cc
 
-module _ (first mid last : Fits) (before between after : Stands) (number : ℕ) (text : List ℕ) (word : IsWordFor number mid before between text) (kept : Knew mid last) (at : Pos) (op : Op) (values : List Value) (left : ℕ)
+module _ (first mid last : Fits) (before between after : Stands) (number : ℕ) (word : IsWordFor number mid before between) (kept : Knew mid last) (at : Pos) (op : Op) (values : List Value) (left : ℕ)
     (deed : Deed) (done : ForEach last between (λ table capture s. s.left ≡ left → IsDone at op values deed (after table capture) table capture s)) where
   paid : (table : ValuesView) (capture : Capture) (s : State) → (d : IsDone at op values deed (after table capture) table capture s) → IsPaidBy (1 + length deed.accesses + deed.weight) s d.next
   paid table capture s d = subst (λ n. IsPaidBy (1 + n + deed.weight) s d.next) (length-map deed.accesses (access_seen table))
@@ -98,7 +98,7 @@ module _ (first mid last : Fits) (before between after : Stands) (number : ℕ) 
       → TellsOn was is (λ told more. more ≡ moment_seen table (Do at op.no args deed.answer deed.made deed.accesses deed.weight) ∷ told))
       → ForEach last before (λ table capture s. s.left ≡ left → WalkedSo at op values deed.answer deed.method has_set rest (after table capture) was is table capture s)
   has_walked args same rest was is has_set sets paid_is tells table capture fit s stands steps =
-      let d = done table capture fit s (word table capture (kept table capture fit) s stands).1.1 steps in
+      let d = done table capture fit s (word table capture (kept table capture fit) s stands).1 steps in
       record {
         next = d.next;
         came = d.walked;

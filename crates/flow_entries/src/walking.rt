@@ -8,7 +8,7 @@ ghost use Rattle.py_model.specs.Told.{is_operation};
 ghost use Rattle.interp_eval.specs.Performing.{HasState, AreNamedBy};
 ghost use Rattle.flow_entries.specs.Walking.{HasWalked, is_attribute, sets_attribute};
 
-use interp_eval::tell;
+use interp_eval::{some_word, tell};
 use prov_base::{Memory, Pos};
 use py_model::{Answer, Args, Deed, Doer, Done, Moment, Op, Watch};
 use py_value::{Access, Location, Value};
@@ -86,7 +86,7 @@ pub fn perform_walk<D: Doer, W: Watch>(
     ensures knew { Knew (D.fits doer.old) (D.fits doer.new) }
     ensures walked { HasWalked at op values.items left.old left.new (D.fits doer.new) (D.stands doer.old) (D.stands doer.new) (W.history watch.old) (W.history watch.new) result }
 {
-    let number = doer.word(alloc, "")?;
+    let number = some_word(alloc, doer)?;
     let deed = match doer.perform(alloc, at, op, values.as_slice(), *left)? {
         Done::Did(deed) => deed,
         Done::TooDear => return Ok(Walk::TooDear),

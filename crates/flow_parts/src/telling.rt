@@ -9,7 +9,7 @@ ghost use Rattle.flow_parts.specs.Seen.{end_seen};
 ghost use Rattle.flow_parts.specs.Telling.{HasBegun, HasClosed};
 
 use crate::control::End;
-use interp_eval::tell;
+use interp_eval::{some_word, tell};
 use prov_base::Memory;
 use py_model::{Doer, How, Moment, Watch};
 use std::alloc::Global;
@@ -26,7 +26,7 @@ pub fn begin<D: Doer, W: Watch>(
     ensures knew { Knew (D.fits doer.old) (D.fits doer.new) }
     ensures begun { HasBegun number left.old left.new (D.fits doer.new) (D.stands doer.old) (D.stands doer.new) (W.history watch.old) (W.history watch.new) result }
 {
-    let word = doer.word(alloc, "")?;
+    let word = some_word(alloc, doer)?;
     if *left == 0 {
         return Ok(false);
     }
@@ -63,7 +63,7 @@ pub fn close<D: Doer, W: Watch>(
     ensures knew { Knew (D.fits doer.old) (D.fits doer.new) }
     ensures closed { (table : ValuesView) → HasClosed number (ending (end_seen table end)) (D.fits doer.new) (D.stands doer.old) (D.stands doer.new) (W.history watch.old) (W.history watch.new) result }
 {
-    let word = doer.word(alloc, "")?;
+    let word = some_word(alloc, doer)?;
     let moment = Moment::End(number, how_of(end));
     match tell(alloc, doer, watch, word, &moment) {
         Ok(()) => Ok(()),

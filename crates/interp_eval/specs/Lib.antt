@@ -5,6 +5,7 @@ pub mod Delivery
 pub mod Turns
 pub mod Scopes
 pub mod Performing
+pub mod SomeWord
 pub mod Step
 pub mod Values
 pub mod Weight

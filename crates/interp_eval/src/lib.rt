@@ -26,6 +26,6 @@ mod turn;
 
 pub use frames::{EvalFrames, EvalNext, Scope};
 pub use node::place_of;
-pub use performing::{Came, make_op, perform, tell};
+pub use performing::{Came, make_op, perform, some_word, tell};
 pub use step::eval_step;
 pub use turn::Want;

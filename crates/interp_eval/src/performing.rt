@@ -6,6 +6,7 @@ ghost use Rattle.py_model.specs.Capture.{Capture};
 ghost use Rattle.py_model.specs.Doing.{Knew};
 ghost use Rattle.py_model.specs.Told.{moment_seen, is_operation, IsTellable, IsToldNow, TellsOn};
 ghost use Rattle.interp_eval.specs.Performing.{HasState, AreNamedBy, MakesOp, HasPerformed};
+ghost use Rattle.interp_eval.specs.SomeWord.{IsSomeWord};
 ghost use Rattle.interp_eval.specs.Turns.{IsWanted};
 
 use crate::frames::Scope;
@@ -79,6 +80,17 @@ fn pay<D: Doer>(doer: &D, deed: &Deed, left: u32) -> u32
     left - 1 - deed.accesses.as_slice().len() as u32 - deed.weight
 }
 
+/// The number of some text: of the first one, and else of the empty text, which gets it.
+pub fn some_word<D: Doer>(alloc: Global, doer: &mut D) -> Result<u32, Memory>
+    ensures knew { Knew (D.fits doer.old) (D.fits doer.new) }
+    ensures named { IsSomeWord (D.fits doer.new) (D.stands doer.old) (D.stands doer.new) result }
+{
+    if doer.values().has(Value::Text(0)) {
+        return Ok(0);
+    }
+    doer.word(alloc, "")
+}
+
 /// The watch is told a moment. Some text has a number, so the doer's texts and tuples are known to have one each.
 pub fn tell<D: Doer, W: Watch>(
     alloc: Global,
@@ -114,7 +126,7 @@ pub fn perform<D: Doer, W: Watch>(
     ensures knew { Knew (D.fits doer.old) (D.fits doer.new) }
     ensures performed { HasPerformed at op values.items left.old left.new (D.fits doer.new) (D.stands doer.old) (D.stands doer.new) (W.history watch.old) (W.history watch.new) result }
 {
-    let number = doer.word(alloc, "")?;
+    let number = some_word(alloc, doer)?;
     let deed = match doer.perform(alloc, at, op, values.as_slice(), *left)? {
         Done::Did(deed) => deed,
         Done::TooDear => return Ok(Came::TooDear),

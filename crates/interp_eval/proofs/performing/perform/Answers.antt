@@ -5,45 +5,45 @@ use Rattle.interp_eval.proofs.performing.perform.Goals as goal
 
 pub returns-in-Unanswered-clause-performed : goal.returns-in-Unanswered-clause-performed
 returns-in-Unanswered-clause-performed g c =
-    was_lacking (g.D.Doer.fits c.args.doer.now) (g.D.Doer.fits c.word.new.self) (g.D.Doer.fits c.perform.new.self) (g.D.Doer.stands c.args.doer.now) (g.D.Doer.stands c.word.new.self) (g.D.Doer.stands c.perform.new.self)
-    c.in_ok-number.number [] c.in_ok-number.ensures.named c.in_ok-number.ensures.knew c.in_ok-deed.ensures.knew c.args.at c.args.op c.args.values.items c.args.left.now (g.W.Watch.history c.args.watch.now)
-    (known_done c.args.at c.args.op c.args.left.now (g.D.Doer.fits c.perform.new.self) (g.D.Doer.stands c.word.new.self) (g.D.Doer.stands c.perform.new.self) c.args.values.items c.as_slice.result.now c.in_ok-deed.field-0 Unanswered c.as_slice.ensures.value c.in-Unanswered.is c.in_ok-deed.ensures.performed)
+    was_lacking (g.D.Doer.fits c.args.doer.now) (g.D.Doer.fits c.some_word.new.doer) (g.D.Doer.fits c.perform.new.self) (g.D.Doer.stands c.args.doer.now) (g.D.Doer.stands c.some_word.new.doer) (g.D.Doer.stands c.perform.new.self)
+    c.in_ok-number.number c.in_ok-number.ensures.named c.in_ok-number.ensures.knew c.in_ok-deed.ensures.knew c.args.at c.args.op c.args.values.items c.args.left.now (g.W.Watch.history c.args.watch.now)
+    (known_done c.args.at c.args.op c.args.left.now (g.D.Doer.fits c.perform.new.self) (g.D.Doer.stands c.some_word.new.doer) (g.D.Doer.stands c.perform.new.self) c.args.values.items c.as_slice.result.now c.in_ok-deed.field-0 Unanswered c.as_slice.ensures.value c.in-Unanswered.is c.in_ok-deed.ensures.performed)
 
 pub pay-requires : goal.pay-requires
 pay-requires g c =
-    can_pay (g.D.Doer.fits c.args.doer.now) (g.D.Doer.fits c.word.new.self) (g.D.Doer.fits c.perform.new.self) (g.D.Doer.stands c.args.doer.now) (g.D.Doer.stands c.word.new.self) (g.D.Doer.stands c.perform.new.self)
-    c.in_ok-number.number [] c.in_ok-number.ensures.named c.in_ok-number.ensures.knew c.in_ok-deed.ensures.knew c.args.at c.args.op c.args.values.items c.args.left.now c.in-Did.deed
-    (known_done c.args.at c.args.op c.args.left.now (g.D.Doer.fits c.perform.new.self) (g.D.Doer.stands c.word.new.self) (g.D.Doer.stands c.perform.new.self) c.args.values.items c.as_slice.result.now c.in_ok-deed.field-0 (Did c.in-Did.deed) c.as_slice.ensures.value c.in-Did.is c.in_ok-deed.ensures.performed)
+    can_pay (g.D.Doer.fits c.args.doer.now) (g.D.Doer.fits c.some_word.new.doer) (g.D.Doer.fits c.perform.new.self) (g.D.Doer.stands c.args.doer.now) (g.D.Doer.stands c.some_word.new.doer) (g.D.Doer.stands c.perform.new.self)
+    c.in_ok-number.number c.in_ok-number.ensures.named c.in_ok-number.ensures.knew c.in_ok-deed.ensures.knew c.args.at c.args.op c.args.values.items c.args.left.now c.in-Did.deed
+    (known_done c.args.at c.args.op c.args.left.now (g.D.Doer.fits c.perform.new.self) (g.D.Doer.stands c.some_word.new.doer) (g.D.Doer.stands c.perform.new.self) c.args.values.items c.as_slice.result.now c.in_ok-deed.field-0 (Did c.in-Did.deed) c.as_slice.ensures.value c.in-Did.is c.in_ok-deed.ensures.performed)
     c.requires.state
 
 pub tell-requires-clause-number : goal.tell-requires-clause-number
 tell-requires-clause-number g c =
-    word_known (g.D.Doer.fits c.args.doer.now) (g.D.Doer.fits c.word.new.self) (g.D.Doer.fits c.perform.new.self) (g.D.Doer.stands c.args.doer.now) (g.D.Doer.stands c.word.new.self) (g.D.Doer.stands c.perform.new.self)
-    c.in_ok-number.number [] c.in_ok-number.ensures.named c.in_ok-number.ensures.knew c.in_ok-deed.ensures.knew c.requires.state c.args.left.now
+    word_known (g.D.Doer.fits c.args.doer.now) (g.D.Doer.fits c.some_word.new.doer) (g.D.Doer.fits c.perform.new.self) (g.D.Doer.stands c.args.doer.now) (g.D.Doer.stands c.some_word.new.doer) (g.D.Doer.stands c.perform.new.self)
+    c.in_ok-number.number c.in_ok-number.ensures.named c.in_ok-number.ensures.knew c.in_ok-deed.ensures.knew c.requires.state c.args.left.now
 
 pub tell-requires-clause-tellable : goal.tell-requires-clause-tellable
 tell-requires-clause-tellable g c =
-    can_tell (g.D.Doer.fits c.args.doer.now) (g.D.Doer.fits c.word.new.self) (g.D.Doer.fits c.perform.new.self) (g.D.Doer.stands c.args.doer.now) (g.D.Doer.stands c.word.new.self) (g.D.Doer.stands c.perform.new.self)
-    c.in_ok-number.number [] c.in_ok-number.ensures.named c.in_ok-number.ensures.knew c.in_ok-deed.ensures.knew c.args.at c.args.op c.args.values.items c.args.left.now c.in-Did.deed
-    (known_done c.args.at c.args.op c.args.left.now (g.D.Doer.fits c.perform.new.self) (g.D.Doer.stands c.word.new.self) (g.D.Doer.stands c.perform.new.self) c.args.values.items c.as_slice.result.now c.in_ok-deed.field-0 (Did c.in-Did.deed) c.as_slice.ensures.value c.in-Did.is c.in_ok-deed.ensures.performed)
+    can_tell (g.D.Doer.fits c.args.doer.now) (g.D.Doer.fits c.some_word.new.doer) (g.D.Doer.fits c.perform.new.self) (g.D.Doer.stands c.args.doer.now) (g.D.Doer.stands c.some_word.new.doer) (g.D.Doer.stands c.perform.new.self)
+    c.in_ok-number.number c.in_ok-number.ensures.named c.in_ok-number.ensures.knew c.in_ok-deed.ensures.knew c.args.at c.args.op c.args.values.items c.args.left.now c.in-Did.deed
+    (known_done c.args.at c.args.op c.args.left.now (g.D.Doer.fits c.perform.new.self) (g.D.Doer.stands c.some_word.new.doer) (g.D.Doer.stands c.perform.new.self) c.args.values.items c.as_slice.result.now c.in_ok-deed.field-0 (Did c.in-Did.deed) c.as_slice.ensures.value c.in-Did.is c.in_ok-deed.ensures.performed)
     c.of.result c.of.ensures c.requires.state c.requires.operation c.requires.named
 
 pub returns-in-Ok-clause-performed : goal.returns-in-Ok-clause-performed
 returns-in-Ok-clause-performed g c =
-    has_happened (g.D.Doer.fits c.args.doer.now) (g.D.Doer.fits c.word.new.self) (g.D.Doer.fits c.perform.new.self) (g.D.Doer.stands c.args.doer.now) (g.D.Doer.stands c.word.new.self) (g.D.Doer.stands c.perform.new.self)
-    c.in_ok-number.number [] c.in_ok-number.ensures.named c.in_ok-number.ensures.knew c.in_ok-deed.ensures.knew c.args.at c.args.op c.args.values.items c.args.left.now c.in-Did.deed
-    (known_done c.args.at c.args.op c.args.left.now (g.D.Doer.fits c.perform.new.self) (g.D.Doer.stands c.word.new.self) (g.D.Doer.stands c.perform.new.self) c.args.values.items c.as_slice.result.now c.in_ok-deed.field-0 (Did c.in-Did.deed) c.as_slice.ensures.value c.in-Did.is c.in_ok-deed.ensures.performed)
+    has_happened (g.D.Doer.fits c.args.doer.now) (g.D.Doer.fits c.some_word.new.doer) (g.D.Doer.fits c.perform.new.self) (g.D.Doer.stands c.args.doer.now) (g.D.Doer.stands c.some_word.new.doer) (g.D.Doer.stands c.perform.new.self)
+    c.in_ok-number.number c.in_ok-number.ensures.named c.in_ok-number.ensures.knew c.in_ok-deed.ensures.knew c.args.at c.args.op c.args.values.items c.args.left.now c.in-Did.deed
+    (known_done c.args.at c.args.op c.args.left.now (g.D.Doer.fits c.perform.new.self) (g.D.Doer.stands c.some_word.new.doer) (g.D.Doer.stands c.perform.new.self) c.args.values.items c.as_slice.result.now c.in_ok-deed.field-0 (Did c.in-Did.deed) c.as_slice.ensures.value c.in-Did.is c.in_ok-deed.ensures.performed)
     c.of.result c.of.ensures c.pay.result (g.W.Watch.history c.args.watch.now) (g.W.Watch.history c.tell.new.watch) c.pay.ensures c.in-Ok.ensures
 
 pub returns-clause-performed : goal.returns-clause-performed
 returns-clause-performed g c =
-    was_not_told (g.D.Doer.fits c.args.doer.now) (g.D.Doer.fits c.word.new.self) (g.D.Doer.fits c.perform.new.self) (g.D.Doer.stands c.args.doer.now) (g.D.Doer.stands c.word.new.self) (g.D.Doer.stands c.perform.new.self)
-    c.in_ok-number.number [] c.in_ok-number.ensures.named c.in_ok-number.ensures.knew c.in_ok-deed.ensures.knew c.args.at c.args.op c.args.values.items c.args.left.now c.in-Did.deed
-    (known_done c.args.at c.args.op c.args.left.now (g.D.Doer.fits c.perform.new.self) (g.D.Doer.stands c.word.new.self) (g.D.Doer.stands c.perform.new.self) c.args.values.items c.as_slice.result.now c.in_ok-deed.field-0 (Did c.in-Did.deed) c.as_slice.ensures.value c.in-Did.is c.in_ok-deed.ensures.performed)
+    was_not_told (g.D.Doer.fits c.args.doer.now) (g.D.Doer.fits c.some_word.new.doer) (g.D.Doer.fits c.perform.new.self) (g.D.Doer.stands c.args.doer.now) (g.D.Doer.stands c.some_word.new.doer) (g.D.Doer.stands c.perform.new.self)
+    c.in_ok-number.number c.in_ok-number.ensures.named c.in_ok-number.ensures.knew c.in_ok-deed.ensures.knew c.args.at c.args.op c.args.values.items c.args.left.now c.in-Did.deed
+    (known_done c.args.at c.args.op c.args.left.now (g.D.Doer.fits c.perform.new.self) (g.D.Doer.stands c.some_word.new.doer) (g.D.Doer.stands c.perform.new.self) c.args.values.items c.as_slice.result.now c.in_ok-deed.field-0 (Did c.in-Did.deed) c.as_slice.ensures.value c.in-Did.is c.in_ok-deed.ensures.performed)
     c.of.result c.of.ensures (g.W.Watch.history c.args.watch.now) (g.W.Watch.history c.tell.new.watch) c.in-Err.ensures
 
 pub returns-in-TooDear-clause-performed : goal.returns-in-TooDear-clause-performed
 returns-in-TooDear-clause-performed g c =
-    was_too_dear (g.D.Doer.fits c.args.doer.now) (g.D.Doer.fits c.word.new.self) (g.D.Doer.fits c.perform.new.self) (g.D.Doer.stands c.args.doer.now) (g.D.Doer.stands c.word.new.self) (g.D.Doer.stands c.perform.new.self)
-    c.in_ok-number.number [] c.in_ok-number.ensures.named c.in_ok-number.ensures.knew c.in_ok-deed.ensures.knew c.args.at c.args.op c.args.values.items c.args.left.now (g.W.Watch.history c.args.watch.now)
-    (known_done c.args.at c.args.op c.args.left.now (g.D.Doer.fits c.perform.new.self) (g.D.Doer.stands c.word.new.self) (g.D.Doer.stands c.perform.new.self) c.args.values.items c.as_slice.result.now c.in_ok-deed.field-0 TooDear c.as_slice.ensures.value c.in-TooDear.is c.in_ok-deed.ensures.performed)
+    was_too_dear (g.D.Doer.fits c.args.doer.now) (g.D.Doer.fits c.some_word.new.doer) (g.D.Doer.fits c.perform.new.self) (g.D.Doer.stands c.args.doer.now) (g.D.Doer.stands c.some_word.new.doer) (g.D.Doer.stands c.perform.new.self)
+    c.in_ok-number.number c.in_ok-number.ensures.named c.in_ok-number.ensures.knew c.in_ok-deed.ensures.knew c.args.at c.args.op c.args.values.items c.args.left.now (g.W.Watch.history c.args.watch.now)
+    (known_done c.args.at c.args.op c.args.left.now (g.D.Doer.fits c.perform.new.self) (g.D.Doer.stands c.some_word.new.doer) (g.D.Doer.stands c.perform.new.self) c.args.values.items c.as_slice.result.now c.in_ok-deed.field-0 TooDear c.as_slice.ensures.value c.in-TooDear.is c.in_ok-deed.ensures.performed)
