@@ -14,6 +14,7 @@ ghost use Rattle.flow_parts.specs.Machine.{now_act, test_act, test_of, then_act,
 ghost use Rattle.flow_parts.specs.Seen.{now_seen, stage_seen};
 
 use crate::handling::{entered, matched};
+use flow_openings::test_in;
 use flow_parts::{
     Code, End, Goal, Now, Part, Stage, branch_at, is_true, on_none, on_one, on_two, start,
 };
@@ -60,35 +61,15 @@ fn valued<'a>(alloc: Global, part: Part<'a>, value: Value, scope: Scope) -> Resu
 }
 
 /// The value of a test is asked whether it is true.
-#[tactic(auto, using(py_tree::proofs::StmtTrees::form_trees))]
 fn tested<'a>(alloc: Global, part: Part<'a>, number: usize, value: Value) -> Result<Now<'a>, Memory>
     ensures means { IfOk result (λ now. (script : ScriptTree) (next : Task → Act) (here : Here) (table : ValuesView)
         → now_act script next here (now_seen table now) ≡ test_act script next here part.entry.at (form_of part.entry.form.now) number (test_of (form_of part.entry.form.now) number) (contents table value)) }
     ensures held { IfOk result (λ now. (table : ValuesView) (scope : OneScope) → IsNamed table value → IsHeldNow table scope now) }
 {
     let next = part.to(Stage::Answered(number));
-    match part.form {
-        Form::If(branches, _) => match branch_at(branches.list.as_slice(), number) {
-            None => Ok(Now::Ended(End::Normal)),
-            Some(branch) => on_one(alloc, place_of(&branch.0), Code::Truth, value, next),
-        },
-        Form::While(test, _) => on_one(alloc, place_of(test), Code::Truth, value, next),
-        Form::Assert(test, _) => on_one(alloc, place_of(test), Code::Truth, value, next),
-        Form::Do(_) => Ok(Now::Ended(End::Normal)),
-        Form::Assign(_, _) => Ok(Now::Ended(End::Normal)),
-        Form::Aug(_, _, _, _) => Ok(Now::Ended(End::Normal)),
-        Form::Del(_) => Ok(Now::Ended(End::Normal)),
-        Form::Pass => Ok(Now::Ended(End::Normal)),
-        Form::Break => Ok(Now::Ended(End::Normal)),
-        Form::Continue => Ok(Now::Ended(End::Normal)),
-        Form::Return(_) => Ok(Now::Ended(End::Normal)),
-        Form::Raise(_) => Ok(Now::Ended(End::Normal)),
-        Form::Import(_) => Ok(Now::Ended(End::Normal)),
-        Form::For(_, _, _) => Ok(Now::Ended(End::Normal)),
-        Form::Try(_, _) => Ok(Now::Ended(End::Normal)),
-        Form::With(_, _, _) => Ok(Now::Ended(End::Normal)),
-        Form::Def(_, _, _, _) => Ok(Now::Ended(End::Normal)),
-        Form::Class(_, _, _) => Ok(Now::Ended(End::Normal)),
+    match test_in(part.form, number) {
+        None => Ok(Now::Ended(End::Normal)),
+        Some(test) => on_one(alloc, place_of(test), Code::Truth, value, next),
     }
 }
 

@@ -13,7 +13,7 @@ ghost use Rattle.flow_parts.specs.Held.{IsHeldNow};
 ghost use Rattle.flow_parts.specs.Machine.{clause_act, entered_act, handler_in, handlers_from, handlers_in, match_act, now_act};
 ghost use Rattle.flow_parts.specs.Seen.{now_seen};
 
-use crate::forms::{bound_in, handler_in};
+use flow_openings::{bound_in, handler_in};
 use flow_parts::{Code, End, Now, Part, Stage, is_true, on_one, on_two, start};
 use interp_eval::Scope;
 use prov_base::Memory;
@@ -55,7 +55,7 @@ fn claused<'a>(alloc: Global, part: Part<'a>, number: usize, o: u32) -> Result<N
 }
 
 /// A handler is next: it begins with its class where it has one, and where there is no handler the exception goes on.
-pub(crate) fn handled<'a>(
+pub fn handled<'a>(
     alloc: Global,
     part: Part<'a>,
     number: usize,

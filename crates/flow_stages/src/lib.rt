@@ -1,19 +1,13 @@
-//! What a statement does next at each of its stages: how it is opened, what follows a value, and what follows the end of a suite. It stands on
-//! the parts of statements of `flow_parts`.
+//! What a statement does next at each of its stages, with the value that it waits for. It stands on the parts of statements of `flow_parts`, and on
+//! how they are opened (`flow_openings`); what follows the end of a suite is in `flow_suites`.
 //!
-//! Each function says that what is done afterwards means what the stage means. `specs/Opening.antt` says how statements begin.
+//! Each function says that what is done afterwards means what the stage means.
 #![tactic(auto)]
 
-mod ending;
 mod following;
-mod forms;
 mod handling;
 mod moving;
-mod opening;
-mod running;
 
-pub use ending::part_ended;
 pub use following::after;
+pub use handling::handled;
 pub use moving::rest_after;
-pub use opening::opened;
-pub use running::{Opened, Way, part_opened};

@@ -17,11 +17,11 @@ use Rattle.flow_parts.specs.declared.control.End.{End}
 use Rattle.flow_parts.specs.declared.control.Part.{Part}
 use Rattle.flow_parts.specs.declared.frames.FlowFrames.{FlowFrames}
 use Rattle.flow_parts.specs.declared.frames.Waits.TheVariants.{Part as PartWaits}
-use Rattle.interp_flow.specs.declared.next.FlowNext.TheVariants.{More}
-use Rattle.interp_flow.specs.Step.{Before, StepsFrom, handed, meant}
-use Rattle.interp_flow.proofs.Levels.{Unfolds, ended_so}
-use Rattle.interp_flow.proofs.Outcomes.{same_behind}
-use Rattle.interp_flow.proofs.Stepping.{steps_on}
+use Rattle.flow_values.specs.declared.next.FlowNext.TheVariants.{More}
+use Rattle.flow_values.specs.Step.{Before, StepsFrom, handed, meant}
+use Rattle.flow_values.proofs.Levels.{Unfolds, ended_so}
+use Rattle.flow_values.proofs.Outcomes.{same_behind}
+use Rattle.flow_values.proofs.Stepping.{steps_on}
 
 pub part_on : Unfolds → (script : ScriptTree) (b : Before) (popped after : FlowFrames) (p : Part) (end : End) (left : ℕ) (fits : Fits) (stood : Stands) (was : Option (List Moment))
     → ((table : ValuesView) (next : Task → Act) → b table next ≡ handed script popped (PartWaits None p) end table next)

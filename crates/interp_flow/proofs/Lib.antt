@@ -1,13 +1,3 @@
-pub mod Outcomes
-pub mod Levels
-pub mod Stepping
-pub mod Handing
-pub mod Fronts
 pub mod Endings
-pub mod Operating
-pub mod Evaluating
-pub mod Flowing
-pub mod Expressions
 pub mod Returns
-pub mod Bodies
 pub mod Making

@@ -30,13 +30,13 @@ use Rattle.flow_parts.specs.declared.control.Callee.TheVariants.{Function, Class
 use Rattle.flow_parts.specs.declared.control.Caller.{Caller}
 use Rattle.flow_parts.specs.declared.control.Part.{Part}
 use Rattle.flow_parts.specs.declared.frames.FlowFrames.{FlowFrames}
-use Rattle.interp_flow.specs.Calls.{alone_so, calling_so, failing_so, gives_object, made_so, making_so, may_be_made}
-use Rattle.interp_flow.specs.Step.{Before, IsCut, StepsFrom}
-use Rattle.interp_flow.specs.Value.{GoesOnFrom, answering, evaluating}
-use Rattle.interp_flow.specs.declared.next.FlowNext.{FlowNext}
-use Rattle.interp_flow.specs.declared.next.FlowNext.TheVariants.{More, Finished, Raised, Spent, Unanswered}
-use Rattle.interp_flow.proofs.Operating.{came_out, told_still}
-use Rattle.interp_flow.proofs.Stepping.{told_weaker, unasked}
+use Rattle.flow_values.specs.Calls.{alone_so, calling_so, failing_so, gives_object, made_so, making_so, may_be_made}
+use Rattle.flow_values.specs.Step.{Before, IsCut, StepsFrom}
+use Rattle.flow_values.specs.Value.{GoesOnFrom, answering, evaluating}
+use Rattle.flow_values.specs.declared.next.FlowNext.{FlowNext}
+use Rattle.flow_values.specs.declared.next.FlowNext.TheVariants.{More, Finished, Raised, Spent, Unanswered}
+use Rattle.flow_values.proofs.Operating.{came_out, told_still}
+use Rattle.flow_values.proofs.Stepping.{told_weaker, unasked}
 
 -- one act in place of an equal one
 pub goes_same : (b c : ScriptTree → Before) (after : FlowFrames) (r : Result FlowNext Memory) → ((script : ScriptTree) (table : ValuesView) (next : Task → Act) → b script table next ≡ c script table next) → GoesOnFrom c after r → GoesOnFrom b after r

@@ -29,12 +29,12 @@ use Rattle.flow_parts.specs.declared.control.Now.TheVariants.{Ended}
 use Rattle.flow_parts.specs.declared.control.Part.{Part}
 use Rattle.flow_parts.specs.declared.frames.FlowFrames.{FlowFrames}
 use Rattle.flow_calls.specs.Calling.{HasLeft}
-use Rattle.interp_flow.specs.declared.next.FlowNext.{FlowNext}
-use Rattle.interp_flow.specs.declared.next.FlowNext.TheVariants.{More, Finished, Raised, Spent, Unanswered}
-use Rattle.interp_flow.specs.Step.{IsOn, IsCut, Before, StepsFrom, meant}
-use Rattle.interp_flow.specs.Value.{GoesOnFrom, evaluating, resuming, returning, throwing}
-use Rattle.interp_flow.proofs.Fronts.{goes_on}
-use Rattle.interp_flow.proofs.Stepping.{not_told, told_weaker, unasked}
+use Rattle.flow_values.specs.declared.next.FlowNext.{FlowNext}
+use Rattle.flow_values.specs.declared.next.FlowNext.TheVariants.{More, Finished, Raised, Spent, Unanswered}
+use Rattle.flow_values.specs.Step.{IsOn, IsCut, Before, StepsFrom, meant}
+use Rattle.flow_values.specs.Value.{GoesOnFrom, evaluating, resuming, returning, throwing}
+use Rattle.flow_values.proofs.Fronts.{goes_on}
+use Rattle.flow_values.proofs.Stepping.{not_told, told_weaker, unasked}
 
 module _ (capture : Capture) (before after : Act) (s : State) (left : ℕ) (stands : Standing → Type 0) (was is : Option (List Moment)) (v : Contents) (same : before ≡ leave v after) (told : WasTold (leaves v) stands was is s) where
   left_on : s.left ≡ left → (later : Act) → after ≡ later → IsOn capture before later s left stands was is

@@ -11,17 +11,17 @@ ghost use Rattle.interp_eval.specs.Performing.{HasState};
 ghost use Rattle.flow_entries.specs.Choosing.{MayRun};
 ghost use Rattle.flow_parts.specs.Held.{IsHeldBy, IsHeldCaller, IsHeldFlow, IsHeldStage};
 ghost use Rattle.flow_parts.specs.declared.control.Callee.TheVariants.{Class, Function};
-ghost use Rattle.interp_flow.specs.Calls.{IsHeldCalleeBy, IsHeldCallerBy, alone_so, calling_so, failing_so, made_so, making_so, may_be_made};
-ghost use Rattle.interp_flow.specs.Step.{HoldsNext, IsHeldNext, StepsFrom};
-ghost use Rattle.interp_flow.specs.Value.{AreHeldStages, AreHeldValues, GoesOnFrom, IsNamedBy};
+ghost use Rattle.flow_values.specs.Calls.{IsHeldCalleeBy, IsHeldCallerBy, alone_so, calling_so, failing_so, made_so, making_so, may_be_made};
+ghost use Rattle.flow_values.specs.Step.{HoldsNext, IsHeldNext, StepsFrom};
+ghost use Rattle.flow_values.specs.Value.{AreHeldStages, AreHeldValues, GoesOnFrom, IsNamedBy};
 
-use crate::entering::{fail_call, run_body, wait_call};
-use crate::expression::{finish, keep, let_arguments_go, let_go};
-use crate::next::FlowNext;
 use called_functions::Found;
 use flow_calls::enter;
 use flow_entries::{Called, Walk, called_by, in_front, perform_walk};
 use flow_parts::{Callee, Caller, FlowFrames, Part};
+use flow_values::{
+    FlowNext, fail_call, finish, keep, let_arguments_go, let_go, run_body, wait_call,
+};
 use interp_eval::EvalFrames;
 use prov_base::{Memory, Pos};
 use py_model::{Answer, Args, Doer, Op, Watch, meaning_unfolds};

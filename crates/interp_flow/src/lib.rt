@@ -1,16 +1,13 @@
 //! The statements of a script, performed one moment at a time, over any [`Doer`](py_model::Doer) of operations and any
-//! [`Watch`](py_model::Watch). It stands on the meaning of `py_model` and on the parts of statements of `flow_parts` and `flow_stages`.
+//! [`Watch`](py_model::Watch). It stands on the meaning of `py_model`, on the parts of statements of `flow_parts`, and on what gives their values
+//! (`flow_values`).
 #![tactic(auto)]
 
 mod calling;
-mod entering;
-mod expression;
 mod moving;
-mod next;
 mod returning;
 mod step;
-mod value;
 
 pub use flow_parts::FlowFrames;
-pub use next::FlowNext;
+pub use flow_values::FlowNext;
 pub use step::flow_step;

@@ -11,10 +11,12 @@ ghost use Rattle.flow_parts.specs.Held.{IsHeldEnd, IsHeldFlow, IsHeldStage};
 ghost use Rattle.flow_parts.specs.Machine.{flow, in_suite, remaining, resumes, suite_ended};
 ghost use Rattle.flow_parts.specs.Seen.{end_seen, flow_seen, frame_seen, here_seen, stage_seen, stmts_seen};
 ghost use Rattle.flow_parts.specs.declared.control.Now.TheVariants.{Opens};
-ghost use Rattle.interp_flow.specs.Step.{doing_now, meant};
+ghost use Rattle.flow_values.specs.Step.{doing_now, meant};
 
 use flow_parts::{End, FlowFrames, Now, Part, Spot, Waits};
-use flow_stages::{Way, opened, part_ended, part_opened};
+use flow_endings::part_ended;
+use flow_openings::opened;
+use flow_suites::{Way, part_opened};
 use prov_base::Memory;
 use py_tree::Stmt;
 use py_value::Values;

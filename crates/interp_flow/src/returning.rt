@@ -9,13 +9,12 @@ ghost use Rattle.interp_eval.specs.Performing.{HasState};
 ghost use Rattle.interp_eval.specs.Step.{AreHeldBy};
 ghost use Rattle.flow_parts.specs.Held.{IsHeldBy, IsHeldEnd};
 ghost use Rattle.flow_parts.specs.Seen.{end_seen};
-ghost use Rattle.interp_flow.specs.Step.{HoldsNext, IsHeldEndBy, StepsFrom};
-ghost use Rattle.interp_flow.specs.Value.{AreHeldStages, IsHeldMadeBy, IsInScope, IsNamedBy, resuming, returning, throwing};
+ghost use Rattle.flow_values.specs.Step.{HoldsNext, IsHeldEndBy, StepsFrom};
+ghost use Rattle.flow_values.specs.Value.{AreHeldStages, IsHeldMadeBy, IsInScope, IsNamedBy, resuming, returning, throwing};
 
-use crate::expression::{keep, let_go};
-use crate::next::FlowNext;
 use flow_calls::leave;
 use flow_parts::{End, FlowFrames, Now, Part};
+use flow_values::{FlowNext, keep, let_go};
 use interp_eval::EvalFrames;
 use prov_base::Memory;
 use py_model::{Doer, Watch};

@@ -1,9 +1,9 @@
 -- Steps one behind the other.
 use Rattle.std.proofs.Common.{◌≡◌, refl, sym, ap, subst, ◌∙◌, append_assoc, inl, inr, ◌⊎◌, ℕ, List, [], ◌++◌, Option, Some, None, Result, Ok, Err}
 use Rattle.flow_parts.specs.declared.frames.FlowFrames.{FlowFrames}
-use Rattle.interp_flow.specs.Step.{IsOn, IsOver, IsStep}
-use Rattle.interp_flow.specs.declared.next.FlowNext.{FlowNext}
-use Rattle.interp_flow.specs.declared.next.FlowNext.TheVariants.{More, Finished, Raised, Spent, Unanswered}
+use Rattle.flow_values.specs.Step.{IsOn, IsOver, IsStep}
+use Rattle.flow_values.specs.declared.next.FlowNext.{FlowNext}
+use Rattle.flow_values.specs.declared.next.FlowNext.TheVariants.{More, Finished, Raised, Spent, Unanswered}
 use Rattle.prov_base.specs.declared.refusal.Memory.{Memory}
 use Rattle.py_model.specs.Act.{Act}
 use Rattle.py_model.specs.Capture.{Capture}

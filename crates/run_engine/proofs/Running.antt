@@ -5,10 +5,10 @@ use Rattle.flow_parts.specs.Machine.{remaining}
 use Rattle.flow_parts.specs.Seen.{flow_seen}
 use Rattle.flow_parts.specs.declared.frames.FlowFrames.{FlowFrames}
 use Rattle.interp_eval.specs.Performing.{HasState}
-use Rattle.interp_flow.proofs.Outcomes.{and_then, outcome_to}
-use Rattle.interp_flow.specs.Step.{IsOn, Steps, HoldsNext, meant}
-use Rattle.interp_flow.specs.declared.next.FlowNext.{FlowNext}
-use Rattle.interp_flow.specs.declared.next.FlowNext.TheVariants.{More}
+use Rattle.flow_values.proofs.Outcomes.{and_then, outcome_to}
+use Rattle.flow_values.specs.Step.{IsOn, Steps, HoldsNext, meant}
+use Rattle.flow_values.specs.declared.next.FlowNext.{FlowNext}
+use Rattle.flow_values.specs.declared.next.FlowNext.TheVariants.{More}
 use Rattle.prov_base.specs.declared.refusal.Memory.{Memory}
 use Rattle.py_model.specs.Act.{Act, ret, to}
 use Rattle.py_model.specs.Capture.{Capture}

@@ -3,8 +3,8 @@ use Rattle.std.specs.Prelude.{◌≡◌, ℕ, ⊤, map, Result, Ok, Err}
 use Rattle.capture.specs.declared.ended.Ended.{Ended as EndedRun}
 use Rattle.capture.specs.declared.ended.RunEnd.{RunEnd as EndTold}
 use Rattle.capture.specs.declared.ended.RunEnd.TheVariants.{Finished as FinishedTold, Raised as RaisedTold, Spent as SpentTold}
-use Rattle.interp_flow.specs.declared.next.FlowNext.{FlowNext}
-use Rattle.interp_flow.specs.declared.next.FlowNext.TheVariants.{Finished, Raised, Spent}
+use Rattle.flow_values.specs.declared.next.FlowNext.{FlowNext}
+use Rattle.flow_values.specs.declared.next.FlowNext.TheVariants.{Finished, Raised, Spent}
 use Rattle.op_done.specs.Holding.{Found}
 use Rattle.op_held.specs.Finals.{file_out}
 use Rattle.op_held.specs.Held.{HeldView, StandsHeld}

@@ -1,7 +1,7 @@
 -- How a whole run comes out (this project's profile), by what its last step came to.
 use Rattle.std.specs.Prelude.{◌≡◌, ◌⊎◌, ℕ, suc, List, ◌++◌, Option, Result, Ok, Err}
-use Rattle.interp_flow.specs.declared.next.FlowNext.{FlowNext}
-use Rattle.interp_flow.specs.declared.next.FlowNext.TheVariants.{More, Finished, Raised, Spent, Unanswered}
+use Rattle.flow_values.specs.declared.next.FlowNext.{FlowNext}
+use Rattle.flow_values.specs.declared.next.FlowNext.TheVariants.{More, Finished, Raised, Spent, Unanswered}
 use Rattle.py_model.specs.Act.{Act, How}
 use Rattle.py_model.specs.Capture.{Capture}
 use Rattle.py_model.specs.Doing.{Fits, Stands, Standing, standing, ForEach, IsRefused}

@@ -1,6 +1,6 @@
 // The loop of a run.
 ghost use Rattle.std.specs.Prelude.{◌≡◌, false, IsTrue};
-ghost use Rattle.interp_flow.specs.declared.next.FlowNext.TheVariants.{More};
+ghost use Rattle.flow_values.specs.declared.next.FlowNext.TheVariants.{More};
 ghost use Rattle.interp_eval.specs.Performing.{HasState};
 ghost use Rattle.py_model.specs.Doing.{Knew};
 ghost use Rattle.py_tree.specs.Erasure.{script_of};

@@ -2,8 +2,8 @@ use Rattle.std.proofs.Common.{ap, subst}
 use Rattle.py_tree.specs.Erasure.{script_of}
 use Rattle.flow_parts.specs.Held.{IsHeldCallee}
 use Rattle.flow_parts.specs.declared.control.Callee.TheVariants.{Class, Function}
-use Rattle.interp_flow.specs.Calls.{calling_so}
-use Rattle.interp_flow.proofs.Stepping.{steps_same}
+use Rattle.flow_values.specs.Calls.{calling_so}
+use Rattle.flow_values.proofs.Stepping.{steps_same}
 use Rattle.interp_flow.proofs.calling.call_step.Goals as goal
 
 pub returns-in-Function-clause-step : goal.returns-in-Function-clause-step

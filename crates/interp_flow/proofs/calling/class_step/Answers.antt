@@ -4,9 +4,9 @@ use Rattle.flow_entries.proofs.Walks.{known_walk}
 use Rattle.flow_entries.specs.declared.walking.Walk.TheVariants.{Did, TooDear, Unanswered}
 use Rattle.interp_eval.specs.Held.{AreAllNamed}
 use Rattle.interp_eval.proofs.Steps.{all_named}
-use Rattle.interp_flow.specs.Calls.{calling_so}
+use Rattle.flow_values.specs.Calls.{calling_so}
 use Rattle.interp_flow.proofs.Making.{class_op, cut_made, did_made, too_dear_made, unanswered_made, walk_named}
-use Rattle.interp_flow.proofs.Stepping.{cut_from}
+use Rattle.flow_values.proofs.Stepping.{cut_from}
 use Rattle.interp_flow.proofs.calling.class_step.Goals as goal
 
 pub returns-in-Err-clause-step : goal.returns-in-Err-clause-step

@@ -2,7 +2,7 @@ use Rattle.std.proofs.Common.{length, Ok, ap, sym, subst, ◌∙◌}
 use Rattle.prov_base.specs.declared.refusal.Memory.{Memory}
 use Rattle.interp_eval.proofs.Steps.{all_named}
 use Rattle.flow_calls.specs.Calling.{HasEntered}
-use Rattle.interp_flow.proofs.Bodies.{entered_cut, entered_on, none_entered, refused_entry}
+use Rattle.flow_values.proofs.Bodies.{entered_cut, entered_on, none_entered, refused_entry}
 use Rattle.interp_flow.proofs.calling.enter_step.Goals as goal
 
 pub enter-requires-clause-counted : goal.enter-requires-clause-counted

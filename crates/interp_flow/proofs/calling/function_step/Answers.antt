@@ -2,9 +2,9 @@ use Rattle.std.proofs.Common.{length, ap, sym, subst, ◌∙◌}
 use Rattle.py_tree.specs.Erasure.{script_of}
 use Rattle.flow_entries.specs.Choosing.{IsCalledBy, MayRun}
 use Rattle.flow_parts.specs.declared.control.Callee.TheVariants.{Function}
-use Rattle.interp_flow.specs.Calls.{calling_so}
-use Rattle.interp_flow.proofs.Bodies.{fails_on}
-use Rattle.interp_flow.proofs.Stepping.{cut_from}
+use Rattle.flow_values.specs.Calls.{calling_so}
+use Rattle.flow_values.proofs.Bodies.{fails_on}
+use Rattle.flow_values.proofs.Stepping.{cut_from}
 use Rattle.interp_flow.proofs.calling.function_step.Goals as goal
 
 pub returns-in-Err-clause-step : goal.returns-in-Err-clause-step

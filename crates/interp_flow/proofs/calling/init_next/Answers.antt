@@ -4,7 +4,7 @@ use Rattle.interp_eval.specs.Held.{AreAllNamed}
 use Rattle.flow_parts.specs.Held.{IsHeldCaller}
 use Rattle.flow_parts.specs.declared.control.Callee.TheVariants.{Function}
 use Rattle.flow_parts.specs.declared.control.Caller.{Caller}
-use Rattle.interp_flow.specs.Calls.{calling_so}
+use Rattle.flow_values.specs.Calls.{calling_so}
 use Rattle.interp_flow.proofs.Making.{goes_same}
 use Rattle.interp_flow.proofs.calling.init_next.Goals as goal
 

@@ -1,6 +1,6 @@
 use Rattle.std.proofs.Common.{refl}
 use Rattle.flow_parts.specs.Seen.{here_seen}
-use Rattle.interp_flow.proofs.Fronts.{goes_on}
+use Rattle.flow_values.proofs.Fronts.{goes_on}
 use Rattle.interp_flow.proofs.moving.end_part.Goals as goal
 
 pub returns-clause-means : goal.returns-clause-means

@@ -2,7 +2,7 @@ use Rattle.std.proofs.Common.{ap, sym, subst, ◌∙◌}
 use Rattle.py_value.specs.Values.{IsNamed}
 use Rattle.interp_eval.specs.Step.{given}
 use Rattle.interp_eval.specs.declared.frames.EvalFrames.{EvalFrames}
-use Rattle.interp_flow.specs.Value.{resuming}
+use Rattle.flow_values.specs.Value.{resuming}
 use Rattle.interp_flow.proofs.Returns.{call_named, resumed_from, untold_from}
 use Rattle.interp_flow.proofs.returning.resume_step.Goals as goal
 

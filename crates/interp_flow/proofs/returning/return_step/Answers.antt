@@ -1,9 +1,9 @@
 use Rattle.std.proofs.Common.{ap}
 use Rattle.flow_parts.specs.declared.control.End.TheVariants.{Normal, Broke, Continued, Returned}
 use Rattle.flow_parts.specs.declared.control.End.{End}
-use Rattle.interp_flow.specs.Value.{resuming, returning, throwing}
+use Rattle.flow_values.specs.Value.{resuming, returning, throwing}
 use Rattle.interp_flow.proofs.Returns.{resumes_so}
-use Rattle.interp_flow.proofs.Stepping.{steps_same}
+use Rattle.flow_values.proofs.Stepping.{steps_same}
 use Rattle.interp_flow.proofs.returning.return_step.Goals as goal
 
 pub returns-in-Threw-clause-step : goal.returns-in-Threw-clause-step

@@ -3,9 +3,9 @@ use Rattle.py_model.specs.Act.{close, ending}
 use Rattle.py_model.specs.Meaning.{level}
 use Rattle.flow_parts.specs.Seen.{end_seen, here_seen}
 use Rattle.flow_parts.specs.declared.frames.Waits.TheVariants.{Stmt as StmtWaits}
-use Rattle.interp_flow.specs.Step.{handed}
-use Rattle.interp_flow.proofs.Fronts.{goes_on}
-use Rattle.interp_flow.proofs.Stepping.{closed_on, not_told}
+use Rattle.flow_values.specs.Step.{handed}
+use Rattle.flow_values.proofs.Fronts.{goes_on}
+use Rattle.flow_values.proofs.Stepping.{closed_on, not_told}
 use Rattle.interp_flow.proofs.step.close_step.Goals as goal
 
 pub returns-in-Err-clause-step : goal.returns-in-Err-clause-step

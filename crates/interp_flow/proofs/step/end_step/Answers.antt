@@ -6,11 +6,11 @@ use Rattle.flow_parts.specs.declared.control.Now.TheVariants.{Ended}
 use Rattle.flow_parts.specs.declared.frames.Waits.TheVariants.{Stmt as StmtWaits, Part as PartWaits}
 use Rattle.py_model.specs.Meaning.{end_of}
 use Rattle.flow_parts.specs.declared.control.Caller.{Caller}
-use Rattle.interp_flow.specs.Step.{doing_now, handed}
-use Rattle.interp_flow.specs.Value.{returning}
-use Rattle.interp_flow.proofs.Fronts.{at_last}
+use Rattle.flow_values.specs.Step.{doing_now, handed}
+use Rattle.flow_values.specs.Value.{returning}
+use Rattle.flow_values.proofs.Fronts.{at_last}
 use Rattle.interp_flow.proofs.Endings.{part_on}
-use Rattle.interp_flow.proofs.Stepping.{cut_from, over_held, steps_over, steps_same}
+use Rattle.flow_values.proofs.Stepping.{cut_from, over_held, steps_over, steps_same}
 use Rattle.interp_flow.proofs.step.end_step.Goals as goal
 
 pub returns-in_default-clause-held : goal.returns-in_default-clause-held

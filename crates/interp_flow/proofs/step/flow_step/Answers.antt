@@ -1,9 +1,9 @@
 use Rattle.std.proofs.Common.{ap, sym, subst}
 use Rattle.py_tree.specs.Erasure.{script_of}
 use Rattle.flow_parts.specs.Held.{IsHeldNow}
-use Rattle.interp_flow.specs.Step.{doing_now, meant}
-use Rattle.interp_flow.proofs.Stepping.{steps_same}
-use Rattle.interp_flow.proofs.Flowing.{flow_state}
+use Rattle.flow_values.specs.Step.{doing_now, meant}
+use Rattle.flow_values.proofs.Stepping.{steps_same}
+use Rattle.flow_values.proofs.Flowing.{flow_state}
 use Rattle.interp_flow.proofs.step.flow_step.Goals as goal
 
 pub now_step-requires-clause-held : goal.now_step-requires-clause-held

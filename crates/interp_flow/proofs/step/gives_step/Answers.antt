@@ -3,10 +3,10 @@ use Rattle.py_tree.specs.Erasure.{script_of}
 use Rattle.flow_parts.specs.Held.{IsHeldStage, IsHeldWork}
 use Rattle.flow_parts.specs.declared.control.Giving.{Giving}
 use Rattle.flow_parts.specs.declared.control.Now.TheVariants.{Gives}
-use Rattle.interp_flow.specs.Step.{doing_now}
-use Rattle.interp_flow.specs.Value.{working}
-use Rattle.interp_flow.proofs.Stepping.{steps_same}
-use Rattle.interp_flow.proofs.Flowing.{gives_so}
+use Rattle.flow_values.specs.Step.{doing_now}
+use Rattle.flow_values.specs.Value.{working}
+use Rattle.flow_values.proofs.Stepping.{steps_same}
+use Rattle.flow_values.proofs.Flowing.{gives_so}
 use Rattle.interp_flow.proofs.step.gives_step.Goals as goal
 
 pub work_step-requires-clause-work : goal.work_step-requires-clause-work

@@ -2,8 +2,8 @@ use Rattle.std.proofs.Common.{ap, subst, ◌∙◌}
 use Rattle.py_tree.specs.Erasure.{script_of}
 use Rattle.flow_parts.specs.Held.{IsHeldNow}
 use Rattle.flow_parts.specs.declared.control.Now.TheVariants.{Ended, Gives, InSuite}
-use Rattle.interp_flow.specs.Step.{doing_now}
-use Rattle.interp_flow.proofs.Stepping.{cut_from, steps_fitting, steps_same}
+use Rattle.flow_values.specs.Step.{doing_now}
+use Rattle.flow_values.proofs.Stepping.{cut_from, steps_fitting, steps_same}
 use Rattle.interp_flow.proofs.step.now_step.Goals as goal
 
 pub returns-in-InSuite-clause-step : goal.returns-in-InSuite-clause-step

@@ -4,9 +4,9 @@ use Rattle.py_model.specs.Meaning.{level}
 use Rattle.flow_parts.specs.Machine.{remaining}
 use Rattle.flow_parts.specs.Seen.{flow_seen}
 use Rattle.flow_parts.specs.declared.control.Now.TheVariants.{InSuite}
-use Rattle.interp_flow.specs.Step.{doing_now}
-use Rattle.interp_flow.proofs.Fronts.{at_end, in_front, begins_first, behind_begin}
-use Rattle.interp_flow.proofs.Stepping.{begun_so, stood_on, not_told, begun_on, begun_cut, none_left}
+use Rattle.flow_values.specs.Step.{doing_now}
+use Rattle.flow_values.proofs.Fronts.{at_end, in_front, begins_first, behind_begin}
+use Rattle.flow_values.proofs.Stepping.{begun_so, stood_on, not_told, begun_on, begun_cut, none_left}
 use Rattle.interp_flow.proofs.step.suite_step.Goals as goal
 
 pub returns-in_default-clause-step : goal.returns-in_default-clause-step

@@ -1,10 +1,10 @@
 use Rattle.std.proofs.Common.{ap, subst}
 use Rattle.py_tree.specs.Erasure.{script_of}
 use Rattle.flow_parts.specs.Held.{IsHeldWork}
-use Rattle.interp_flow.specs.Calls.{calling_so}
-use Rattle.interp_flow.specs.Value.{evaluating, operating, working}
-use Rattle.interp_flow.proofs.Expressions.{goes_from}
-use Rattle.interp_flow.proofs.Stepping.{steps_same}
+use Rattle.flow_values.specs.Calls.{calling_so}
+use Rattle.flow_values.specs.Value.{evaluating, operating, working}
+use Rattle.flow_values.proofs.Expressions.{goes_from}
+use Rattle.flow_values.proofs.Stepping.{steps_same}
 use Rattle.interp_flow.proofs.step.work_step.Goals as goal
 
 pub operation_step-requires-clause-values : goal.operation_step-requires-clause-values

@@ -1,0 +1,4 @@
+pub mod Openings
+pub mod Handlers
+pub mod Beginnings
+pub mod Followings

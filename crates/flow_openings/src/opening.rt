@@ -1,0 +1,197 @@
+// How statements are opened, and their tests.
+ghost use Rattle.std.specs.Prelude.{◌≡◌, IfOk, Some as JustOne};
+ghost use Rattle.std.specs.Option.{option_map};
+ghost use Rattle.py_tree.specs.Erasure.{else_tree, form_of, suite_of, target_of};
+ghost use Rattle.py_tree.specs.Tree.{ScriptTree};
+ghost use Rattle.py_value.specs.Contents.{contents};
+ghost use Rattle.py_value.specs.Values.{ValuesView};
+ghost use Rattle.py_model.specs.Act.{Act};
+ghost use Rattle.py_model.specs.Expressions.{Here, Task};
+ghost use Rattle.py_tree.specs.Functions.{expr_place};
+ghost use Rattle.py_model.specs.Statements.{defining, otherwise, raised_value, rule, unset};
+ghost use Rattle.interp_eval.specs.declared.frames.Scope.{Scope as OneScope};
+ghost use Rattle.flow_parts.specs.Held.{IsHeldClass, IsHeldNow};
+ghost use Rattle.flow_parts.specs.Machine.{from_test, now_act};
+ghost use Rattle.flow_parts.specs.Seen.{now_seen};
+ghost use Rattle.flow_openings.specs.Opening.{StandsIn, deleting, plain_rule, raising};
+
+use crate::forms::first_in;
+use flow_parts::{Code, End, Now, Part, Spot, Stage, branch_at, on_none, on_one, start};
+use flow_stores::augmented;
+use interp_eval::Scope;
+use prov_base::{Memory, Name, Pos};
+use py_tree::{Form, Suite, Target};
+use py_value::Value;
+use std::alloc::Global;
+
+/// `del` of a name is an operation; that of an item begins with its container.
+#[tactic(auto, using(py_tree::proofs::TargetTrees::target_trees))]
+fn deleted<'a>(
+    alloc: Global,
+    target: &'a Target,
+    part: Part<'a>,
+    scope: Scope,
+) -> Result<Now<'a>, Memory>
+    ensures means { IfOk result (λ now. (script : ScriptTree) (next : Task → Act) (here : Here) (table : ValuesView)
+        → now_act script next here (now_seen table now) ≡ deleting script next here part.entry.at (form_of part.entry.form.now) (target_of target.entry.now)) }
+    ensures held { IfOk result (λ now. (table : ValuesView) → IsHeldNow table scope now) }
+{
+    match target {
+        Target::Var(at, name) => { on_none(alloc, *at, Code::Unbind(name), part.to(Stage::Done)) }
+        Target::Part(_, e, _) => start(alloc, e, scope, part.to(Stage::Owner)),
+        Target::Field(_, _, _) => Ok(Now::Ended(End::Normal)),
+        Target::Many(_) => Ok(Now::Ended(End::Normal)),
+    }
+}
+
+/// The exception that is handled is raised again.
+fn raised<'a>(alloc: Global, handled: Option<u32>, part: Part<'a>) -> Result<Now<'a>, Memory>
+    ensures means { IfOk result (λ now. (script : ScriptTree) (next : Task → Act) (here : Here) (table : ValuesView)
+        → now_act script next here (now_seen table now) ≡ raising here part.entry.at (raised_value handled)) }
+    ensures held { IfOk result (λ now. (table : ValuesView) (scope : OneScope) → IsHeldNow table scope now) }
+{
+    match handled {
+        None => on_none(alloc, part.at, Code::Raise, part.to(Stage::Done)),
+        Some(o) => on_one(
+            alloc,
+            part.at,
+            Code::Raise,
+            Value::Object(o),
+            part.to(Stage::Done),
+        ),
+    }
+}
+
+/// A function is made, in the class around it.
+fn defined<'a>(
+    alloc: Global,
+    name: &'a Name,
+    class: Option<Value>,
+    part: Part<'a>,
+) -> Result<Now<'a>, Memory>
+    ensures means { IfOk result (λ now. (script : ScriptTree) (next : Task → Act) (here : Here) (table : ValuesView)
+        → now_act script next here (now_seen table now) ≡ defining script next here part.entry.at name.entry.now (option_map (contents table) class)) }
+    ensures held { IfOk result (λ now. (table : ValuesView) (scope : OneScope) → IsHeldClass table class → IsHeldNow table scope now) }
+{
+    let code = Code::Function(name, part.at);
+    match class {
+        None => on_none(alloc, part.at, code, part.to(Stage::Done)),
+        Some(of) => on_one(alloc, part.at, code, of, part.to(Stage::Done)),
+    }
+}
+
+/// A whole statement is opened that does not begin with the value of an expression.
+#[tactic(auto, using(py_tree::proofs::StmtTrees::form_trees))]
+fn plainly<'a>(alloc: Global, at: Pos, form: &'a Form, spot: Spot) -> Result<Now<'a>, Memory>
+    ensures means { IfOk result (λ now. (script : ScriptTree) (next : Task → Act) (here : Here) (table : ValuesView) → StandsIn table spot here
+        → now_act script next here (now_seen table now) ≡ plain_rule script next here at (form_of form.entry.now)) }
+    ensures held { IfOk result (λ now. (table : ValuesView) → IsHeldClass table spot.in_class → IsHeldNow table spot.scope now) }
+{
+    let part = Part {
+        at,
+        form,
+        stage: Stage::Done,
+    };
+    match form {
+        Form::Aug(_, _, _, _) => augmented(alloc, part, spot.scope),
+        Form::Del(target) => deleted(alloc, target, part, spot.scope),
+        Form::Pass => Ok(Now::Ended(End::Normal)),
+        Form::Break => Ok(Now::Ended(End::Broke)),
+        Form::Continue => Ok(Now::Ended(End::Continued)),
+        Form::Return(e) => match e {
+            None => Ok(Now::Ended(End::Returned(Value::None))),
+            Some(_) => Ok(Now::Ended(End::Normal)),
+        },
+        Form::Raise(e) => match e {
+            None => raised(alloc, spot.handled, part),
+            Some(_) => Ok(Now::Ended(End::Normal)),
+        },
+        Form::Assert(test, _) => start(alloc, test, spot.scope, part.to(Stage::Tested(0))),
+        Form::Import(name) => on_none(alloc, at, Code::Import(name), part),
+        Form::If(_, _) => Ok(Now::Opens(part.to(Stage::Tested(0)))),
+        Form::While(_, _) => Ok(Now::Opens(part.to(Stage::Tested(0)))),
+        Form::Try(_, _) => Ok(Now::Opens(part.to(Stage::Body))),
+        Form::Def(name, _, _, _) => defined(alloc, name, spot.in_class, part),
+        Form::Class(name, base, _) => match base {
+            None => on_none(alloc, at, Code::Class(name, at), part.to(Stage::Entered)),
+            Some(_) => Ok(Now::Ended(End::Normal)),
+        },
+        Form::Do(_) => Ok(Now::Ended(End::Normal)),
+        Form::Assign(_, _) => Ok(Now::Ended(End::Normal)),
+        Form::For(_, _, _) => Ok(Now::Ended(End::Normal)),
+        Form::With(_, _, _) => Ok(Now::Ended(End::Normal)),
+    }
+}
+
+/// A whole statement is opened: what is done now means what the statement means.
+pub fn opened<'a>(alloc: Global, at: Pos, form: &'a Form, spot: Spot) -> Result<Now<'a>, Memory>
+    ensures means { IfOk result (λ now. (script : ScriptTree) (next : Task → Act) (here : Here) (table : ValuesView) → StandsIn table spot here
+        → now_act script next here (now_seen table now) ≡ rule script next here at (form_of form.entry.now)) }
+    ensures held { IfOk result (λ now. (table : ValuesView) → IsHeldClass table spot.in_class → IsHeldNow table spot.scope now) }
+{
+    match first_in(form) {
+        None => plainly(alloc, at, form, spot),
+        Some(e) => {
+            let part = Part {
+                at,
+                form,
+                stage: Stage::Valued,
+            };
+            start(alloc, e, spot.scope, part)
+        }
+    }
+}
+
+/// What follows the tests of an `if`.
+fn otherwise<'a>(orelse: &'a Option<Suite>) -> Now<'a>
+    ensures means { (script : ScriptTree) (next : Task → Act) (here : Here) (table : ValuesView) → now_act script next here (now_seen table result) ≡ otherwise script next here (else_tree (option_map suite_of orelse.entry.now)) }
+    ensures held { (table : ValuesView) (scope : OneScope) → IsHeldNow table scope result }
+{
+    match orelse {
+        None => Now::Ended(End::Normal),
+        Some(suite) => Now::InSuite(suite.list.as_slice()),
+    }
+}
+
+/// A statement goes on with its test with a number.
+#[tactic(auto, using(py_tree::proofs::StmtTrees::form_trees))]
+pub fn test_opened<'a>(
+    alloc: Global,
+    at: Pos,
+    form: &'a Form,
+    number: usize,
+    scope: Scope,
+) -> Result<Now<'a>, Memory>
+    ensures means { IfOk result (λ now. (script : ScriptTree) (next : Task → Act) (here : Here) (table : ValuesView)
+        → now_act script next here (now_seen table now) ≡ from_test script next here (form_of form.entry.now) number) }
+    ensures held { IfOk result (λ now. (table : ValuesView) → IsHeldNow table scope now) }
+{
+    let part = Part {
+        at,
+        form,
+        stage: Stage::Tested(number),
+    };
+    match form {
+        Form::If(branches, orelse) => match branch_at(branches.list.as_slice(), number) {
+            None => Ok(otherwise(orelse)),
+            Some(branch) => start(alloc, &branch.0, scope, part),
+        },
+        Form::While(test, _) => start(alloc, test, scope, part),
+        Form::Do(_) => Ok(Now::Ended(End::Normal)),
+        Form::Assign(_, _) => Ok(Now::Ended(End::Normal)),
+        Form::Aug(_, _, _, _) => Ok(Now::Ended(End::Normal)),
+        Form::Del(_) => Ok(Now::Ended(End::Normal)),
+        Form::Pass => Ok(Now::Ended(End::Normal)),
+        Form::Break => Ok(Now::Ended(End::Normal)),
+        Form::Continue => Ok(Now::Ended(End::Normal)),
+        Form::Return(_) => Ok(Now::Ended(End::Normal)),
+        Form::Raise(_) => Ok(Now::Ended(End::Normal)),
+        Form::Assert(_, _) => Ok(Now::Ended(End::Normal)),
+        Form::Import(_) => Ok(Now::Ended(End::Normal)),
+        Form::For(_, _, _) => Ok(Now::Ended(End::Normal)),
+        Form::Try(_, _) => Ok(Now::Ended(End::Normal)),
+        Form::With(_, _, _) => Ok(Now::Ended(End::Normal)),
+        Form::Def(_, _, _, _) => Ok(Now::Ended(End::Normal)),
+        Form::Class(_, _, _) => Ok(Now::Ended(End::Normal)),
+    }
+}

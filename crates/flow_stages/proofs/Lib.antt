@@ -1,5 +1,0 @@
-pub mod Openings
-pub mod Handlers
-pub mod Beginnings
-pub mod Followings
-pub mod Spreads

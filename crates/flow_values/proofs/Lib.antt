@@ -1,0 +1,10 @@
+pub mod Outcomes
+pub mod Levels
+pub mod Stepping
+pub mod Handing
+pub mod Fronts
+pub mod Operating
+pub mod Evaluating
+pub mod Flowing
+pub mod Expressions
+pub mod Bodies

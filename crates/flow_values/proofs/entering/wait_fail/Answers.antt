@@ -1,0 +1,14 @@
+use Rattle.std.proofs.Common.{map, pos, refl, ap}
+use Rattle.py_value.specs.Contents.{contents, int}
+use Rattle.py_model.specs.Expressions.{failing}
+use Rattle.flow_parts.specs.Machine.{gives, now_act}
+use Rattle.flow_parts.specs.Seen.{here_seen, part_seen, work_seen}
+use Rattle.flow_parts.specs.declared.control.Giving.{Giving}
+use Rattle.flow_parts.specs.declared.control.Now.TheVariants.{Gives}
+use Rattle.flow_values.proofs.Fronts.{goes_on}
+use Rattle.flow_values.proofs.entering.wait_fail.Goals as goal
+
+pub returns-clause-means : goal.returns-clause-means
+returns-clause-means c = λ script table next.
+    goes_on script next table c.args.frames.now (record c.args.frames.now { now = Gives c.in_ok-giving.giving }) (failing (here_seen script table c.args.frames.now.spot) c.args.at (int (pos c.args.reason)) (map (contents table) c.args.values.items))
+    (ap (λ (g : Giving). now_act script next (here_seen script table c.args.frames.now.spot) (gives (work_seen table g.work) (part_seen table g.part))) c.in_ok-giving.ensures.ok) refl
