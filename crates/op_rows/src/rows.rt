@@ -1,5 +1,5 @@
 // A row: an operation, its operands, and the steps that are left.
-use crate::texts::{halves, spelled};
+use op_words::{halves, number, plain_value, spelled};
 use prov_base::{Memory, Pos};
 use py_model::{Answer, Doer, Done, Op};
 use py_value::Value;
@@ -26,46 +26,6 @@ fn marked<'a>(words: &'a str, mark: char) -> Option<&'a str> {
     None
 }
 
-fn number(word: &str) -> u32 {
-    word.parse::<u32>().unwrap_or(0)
-}
-
-fn integer(word: &str) -> i64 {
-    word.parse::<i64>().unwrap_or(0)
-}
-
-fn place(word: &str) -> Pos {
-    let (line, col) = halves(word, ':');
-    Pos {
-        line: number(line),
-        col: number(col),
-    }
-}
-
-fn range(word: &str) -> Value {
-    let (start, rest) = halves(word, ':');
-    let (end, step) = halves(rest, ':');
-    Value::Range(integer(start), integer(end), integer(step))
-}
-
-/// The value of a word that is no text.
-fn plain(word: &str, last: Value) -> Value {
-    let rest = word.get(1..).unwrap_or("");
-    match word.as_bytes().first() {
-        Some(b'$') => last,
-        Some(b'N') => Value::None,
-        Some(b'T') => Value::Bool(true),
-        Some(b'F') => Value::Bool(false),
-        Some(b'r') => range(rest),
-        Some(b'f') => Value::Fn(place(rest)),
-        Some(b'c') => Value::Class(place(rest)),
-        Some(b'e') => Value::Exc(u64::from(number(rest))),
-        Some(b'b') => Value::Builtin(u64::from(number(rest))),
-        Some(b'#') => Value::Object(number(rest)),
-        _ => Value::Int(integer(word)),
-    }
-}
-
 /// The number of the text that a word spells.
 fn text<D: Doer>(alloc: Global, doing: &mut D, word: &str) -> Result<u32, Memory> {
     let bytes = spelled(alloc, word)?;
@@ -75,7 +35,7 @@ fn text<D: Doer>(alloc: Global, doing: &mut D, word: &str) -> Result<u32, Memory
 /// The value of a word.
 fn value<D: Doer>(alloc: Global, doing: &mut D, word: &str, last: Value) -> Result<Value, Memory> {
     let Some(rest) = word.strip_prefix('\'') else {
-        return Ok(plain(word, last));
+        return Ok(plain_value(word, last));
     };
     let inner = rest.strip_suffix('\'').unwrap_or(rest);
     Ok(Value::Text(text(alloc, doing, inner)?))

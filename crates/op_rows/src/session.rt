@@ -1,7 +1,6 @@
 // Rows that are answered, one after the other.
 use crate::rows::{PLACE, left_of, op_of, operands_of};
-use crate::spelling::write_done;
-use crate::texts::halves;
+use op_words::{halves, write_done};
 use prov_base::{Bytes, Memory};
 use prov_outside::{Console, Trouble};
 use py_model::{Answer, Doer, Done, Op};

@@ -1,6 +1,6 @@
 // Devices in memory, and the arguments of the script, as the words of a row have them.
-use crate::texts::{add_spelled, halves, spelled};
 use answer_source::Devices;
+use op_words::{add_spelled, halves, spelled};
 use prov_base::{Bytes, Name};
 use prov_outside::{MemoryConsole, MemoryFolder, MemoryMoments};
 use std::alloc::{AllocError, Global};
@@ -105,13 +105,23 @@ fn moments(alloc: Global, words: &str) -> Result<MemoryMoments, AllocError> {
     Ok(MemoryMoments::of(times(alloc, words)?, given, refused))
 }
 
-/// The devices that the words of a row have.
-pub fn devices_of(alloc: Global, words: &str) -> Result<RowDevices, AllocError> {
+/// The devices that the words of a row have, with these moments.
+fn devices_with(
+    alloc: Global,
+    words: &str,
+    moments: MemoryMoments,
+) -> Result<RowDevices, AllocError> {
+    let folder = folder(alloc, words)?;
     let console = console(alloc, words)?;
-    let moments = moments(alloc, words)?;
     Ok(Devices {
         console,
-        folder: folder(alloc, words)?,
+        folder,
         moments,
     })
+}
+
+/// The devices that the words of a row have.
+pub fn devices_of(alloc: Global, words: &str) -> Result<RowDevices, AllocError> {
+    let moments = moments(alloc, words)?;
+    devices_with(alloc, words, moments)
 }
