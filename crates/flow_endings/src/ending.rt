@@ -13,8 +13,8 @@ ghost use Rattle.flow_parts.specs.Machine.{body_ended, handled_end, handler_in, 
 ghost use Rattle.flow_parts.specs.Seen.{end_seen, goal_seen, now_seen, stage_seen};
 ghost use Rattle.flow_endings.specs.Ending.{class_ended};
 
-use flow_parts::{Code, End, Goal, Now, Part, Stage, on_none, on_one};
 use flow_openings::handler_in;
+use flow_parts::{Code, End, Goal, Now, Part, Stage, on_none, on_one};
 use prov_base::{Memory, Name};
 use py_tree::Form;
 use py_value::Value;

@@ -17,8 +17,8 @@ ghost use Rattle.flow_parts.specs.declared.control.Now.TheVariants.{Ended, InSui
 ghost use Rattle.flow_suites.specs.declared.running.Way.TheVariants.{Becomes, Runs};
 ghost use Rattle.flow_parts.specs.declared.control.Stage.TheVariants.{Spreads};
 
-use flow_parts::{Code, End, Goal, Now, Part, Spot, Stage, on_three};
 use flow_openings::{handler_in, suite_in, test_opened};
+use flow_parts::{Code, End, Goal, Now, Part, Spot, Stage, on_three};
 use flow_stages::handled;
 use flow_stores::{item_at, reached, several_in, stored, target_at};
 use prov_base::Memory;

@@ -13,9 +13,9 @@ ghost use Rattle.flow_parts.specs.Seen.{end_seen, flow_seen, frame_seen, here_se
 ghost use Rattle.flow_parts.specs.declared.control.Now.TheVariants.{Opens};
 ghost use Rattle.flow_values.specs.Step.{doing_now, meant};
 
-use flow_parts::{End, FlowFrames, Now, Part, Spot, Waits};
 use flow_endings::part_ended;
 use flow_openings::opened;
+use flow_parts::{End, FlowFrames, Now, Part, Spot, Waits};
 use flow_suites::{Way, part_opened};
 use prov_base::Memory;
 use py_tree::Stmt;

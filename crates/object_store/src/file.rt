@@ -97,7 +97,11 @@ impl File {
         if count <= self.room() {
             return Ok(());
         }
-        let more = if self.is_there { max(count, self.bytes.len()) } else { count };
+        let more = if self.is_there {
+            max(count, self.bytes.len())
+        } else {
+            count
+        };
         self.bytes.reserve_exact(more)?;
         Ok(())
     }

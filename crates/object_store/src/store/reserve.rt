@@ -150,12 +150,7 @@ impl Store {
     }
 
     // Makes the place that a change needs.
-    fn make_place_to_update(
-        &mut self,
-        alloc: Global,
-        l: Location,
-        need: Need,
-    ) -> Result<(), Memory>
+    fn make_place_to_update(&mut self, alloc: Global, l: Location, need: Need) -> Result<(), Memory>
         requires { IsWithin (length self.old.objects + 1) l }
         ensures place { OnOk result ((change : OneChange) → HasPlaceFor (room_with_next self.new) need.keys need.bytes (Update l change)) }
         ensures keeps { Keeps self.old self.new }
