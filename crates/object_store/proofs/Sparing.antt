@@ -1,14 +1,14 @@
 -- How much room is taken by one access, and by those of a plan, one after the other.
-use Rattle.std.proofs.Common.{◌≡◌, ℕ, zero, suc, ◌+◌, ◌*◌, ◌<◌, ◌≤◌, ◌==◌, ◌||◌, max, Bool, true, false, List, [], ◌∷◌, length, slice_get, Some, unwrap_or, Result, Ok, Err, refl, sym, ap, subst, ◌∙◌, arith, if◌then◌else◌}
+use Rattle.std.proofs.Common.{◌≡◌, ℕ, zero, suc, ◌+◌, ◌*◌, ◌<◌, ◌≤◌, ◌==◌, ◌||◌, max, Bool, true, false, List, [], ◌∷◌, ◌++◌, length, slice_get, slice_set, slice_index_or, Some, unwrap_or, Result, Ok, Err, refl, sym, ap, subst, ◌∙◌, arith, eq-eqb, if◌then◌else◌}
 use Rattle.std.specs.List.{list_any}
 use Rattle.std.specs.Prelude.{OnOk}
 use Rattle.std.proofs.lemmas.Bool.{false≢true}
 use Rattle.std.proofs.lemmas.Option.{same_Some}
 use Rattle.py_value.specs.declared.access.Access.{Access}
 use Rattle.object_store.specs.Frugal.{place_set, writes_order, writes_file, places_in, size_in, keys_most, bytes_most, TakesUpTo, TakesFewFor, TakesFew}
-use Rattle.object_store.specs.Object.{ObjectView}
+use Rattle.object_store.specs.Object.{ObjectView, no_object}
 use Rattle.object_store.specs.Room.{Room, object_in, bytes_in}
-use Rattle.object_store.specs.Store.{StoreView, file_at, room_of, room_with_next}
+use Rattle.object_store.specs.Store.{StoreView, file_at, object_at, room_of, room_with_next}
 
 pub on_more : {T E : Type 0} (r : Result T E) (P Q : Type 0) → (P → Q) → OnOk r P → OnOk r Q
 on_more (Ok x) P Q more holds = more holds
@@ -100,3 +100,122 @@ module _ (old mid new : StoreView) (path bytes keys : ℕ) (one : mid ≡ record
     keys_stay = λ o. ap (λ (ob : ObjectView). ob.keys) (object_same o);
     sizes_stay = λ p. ap (λ c. length (unwrap_or c [])) (second p ∙ first p);
   }
+
+-- The objects with one more behind them: the one at o, or that one more, is another now.
+le_if : (n : ℕ) (b : Bool) → b ≡ true → n ≤ (if b then n else 0)
+le_if n true is = omega arith
+le_if n false is = absurd (false≢true is)
+
+at_so : (n p o : ℕ) → p ≡ o → n ≤ (if p == o then n else 0)
+at_so n p o is = le_if n (p == o) (eq-eqb p o is)
+
+-- what an object has so many of: as many as before, or n where it is the one that changed
+module _ (f : ObjectView → ℕ) (n : ℕ) (object y : ObjectView) where
+  count_at : (xs : List ObjectView) (o : ℕ) → o < length xs → f object ≤ max (f (slice_index_or xs o no_object)) n
+      → (p m : ℕ) → (p ≡ o → n ≤ m) → f (slice_index_or (slice_set xs o object ++ y ∷ []) p no_object) ≤ max (f (slice_index_or (xs ++ y ∷ []) p no_object)) m
+  count_at [] o within few p m so = omega (arith, within)
+  count_at (x ∷ xs) zero within few zero m so = omega (arith, few, so refl)
+  count_at (x ∷ xs) zero within few (suc p) m so = omega arith
+  count_at (x ∷ xs) (suc o) within few zero m so = omega arith
+  count_at (x ∷ xs) (suc o) within few (suc p) m so = count_at xs o (omega (arith, within)) few p m (λ is. so (ap suc is))
+
+  count_next : (xs : List ObjectView) → f object ≤ max (f y) n
+      → (p m : ℕ) → (p ≡ length xs → n ≤ m) → f (slice_index_or (xs ++ object ∷ []) p no_object) ≤ max (f (slice_index_or (xs ++ y ∷ []) p no_object)) m
+  count_next [] few zero m so = omega (arith, few, so refl)
+  count_next [] few (suc p) m so = omega arith
+  count_next (x ∷ xs) few zero m so = omega arith
+  count_next (x ∷ xs) few (suc p) m so = count_next xs few p m (λ is. so (ap suc is))
+
+-- what stays of an object
+module _ {A : Type 0} (f : ObjectView → A) (object y : ObjectView) where
+  same_at : (xs : List ObjectView) (o : ℕ) → f object ≡ f (slice_index_or xs o no_object)
+      → (p : ℕ) → f (slice_index_or (slice_set xs o object ++ y ∷ []) p no_object) ≡ f (slice_index_or (xs ++ y ∷ []) p no_object)
+  same_at [] o same p = refl
+  same_at (x ∷ xs) zero same zero = same
+  same_at (x ∷ xs) zero same (suc p) = refl
+  same_at (x ∷ xs) (suc o) same zero = refl
+  same_at (x ∷ xs) (suc o) same (suc p) = same_at xs o same p
+
+  same_next : (xs : List ObjectView) → f object ≡ f y → (p : ℕ) → f (slice_index_or (xs ++ object ∷ []) p no_object) ≡ f (slice_index_or (xs ++ y ∷ []) p no_object)
+  same_next [] same zero = same
+  same_next [] same (suc p) = refl
+  same_next (x ∷ xs) same zero = refl
+  same_next (x ∷ xs) same (suc p) = same_next xs same p
+
+-- An object of the store, or the one that is ready, has more places, and all else stays.
+pub places_here : (old new : StoreView) (o : ℕ) (object : ObjectView) → o < length old.objects → new ≡ record old { objects = slice_set old.objects o object } → object.keys ≡ (object_at old o).keys
+    → object.spare ≡ (object_at old o).spare → (i : ℕ) → length object.items ≤ max (length (object_at old o).items) (i + 1) → (keys bytes : ℕ)
+    → TakesUpTo (room_with_next old) (room_with_next new) (λ p. if p == o then suc i else 0) (λ p. false) (λ path. false) keys bytes
+places_here old new o object within is stays same i few keys bytes =
+    subst (λ (s : StoreView). TakesUpTo (room_with_next old) (room_with_next s) (λ p. if p == o then suc i else 0) (λ p. false) (λ path. false) keys bytes) (sym is)
+    (record {
+      few_places = λ p. count_at (λ ob. length ob.items) (suc i) object old.next_object old.objects o within (omega (arith, few)) p (if p == o then suc i else 0) (at_so (suc i) p o);
+      few_keys = λ p. let s = same_at (λ ob. ob.spare) object old.next_object old.objects o same p in omega (arith, s);
+      few_bytes = λ path. omega arith;
+      keys_stay = same_at (λ ob. ob.keys) object old.next_object old.objects o stays;
+      sizes_stay = λ path. refl;
+    })
+
+pub places_next : (old new : StoreView) (o : ℕ) (object : ObjectView) → o ≡ length old.objects → new ≡ record old { next_object = object } → object.keys ≡ old.next_object.keys
+    → object.spare ≡ old.next_object.spare → (i : ℕ) → length object.items ≤ max (length old.next_object.items) (i + 1) → (keys bytes : ℕ)
+    → TakesUpTo (room_with_next old) (room_with_next new) (λ p. if p == o then suc i else 0) (λ p. false) (λ path. false) keys bytes
+places_next old new o object last is stays same i few keys bytes =
+    subst (λ (s : StoreView). TakesUpTo (room_with_next old) (room_with_next s) (λ p. if p == o then suc i else 0) (λ p. false) (λ path. false) keys bytes) (sym is)
+    (record {
+      few_places = λ p. count_next (λ ob. length ob.items) (suc i) object old.next_object old.objects (omega (arith, few)) p (if p == o then suc i else 0) (λ at. at_so (suc i) p o (at ∙ sym last));
+      few_keys = λ p. let s = same_next (λ ob. ob.spare) object old.next_object old.objects same p in omega (arith, s);
+      few_bytes = λ path. omega arith;
+      keys_stay = same_next (λ ob. ob.keys) object old.next_object old.objects stays;
+      sizes_stay = λ path. refl;
+    })
+
+-- so with room for keys
+keys_so_many : (room : Room) (count o p : ℕ) → p ≡ o → length (object_in room o).keys + 2 * count + 64 ≤ keys_most room count p (p == o)
+keys_so_many room count o p is = subst (λ q. length (object_in room q).keys + 2 * count + 64 ≤ keys_most room count p (p == o)) is (at_so (length (object_in room p).keys + 2 * count + 64) p o is)
+
+pub keys_here : (old new : StoreView) (o : ℕ) (object : ObjectView) → o < length old.objects → new ≡ record old { objects = slice_set old.objects o object } → object.keys ≡ (object_at old o).keys
+    → length object.items ≡ length (object_at old o).items → (count : ℕ) → object.spare ≤ max (object_at old o).spare (length (object_in (room_with_next old) o).keys + 2 * count + 64) → (bytes : ℕ)
+    → TakesUpTo (room_with_next old) (room_with_next new) (λ p. 0) (λ p. p == o) (λ path. false) count bytes
+keys_here old new o object within is stays same count few bytes =
+    subst (λ (s : StoreView). TakesUpTo (room_with_next old) (room_with_next s) (λ p. 0) (λ p. p == o) (λ path. false) count bytes) (sym is)
+    (record {
+      few_places = λ p. let s = same_at (λ ob. length ob.items) object old.next_object old.objects o same p in omega (arith, s);
+      few_keys = λ p. count_at (λ ob. ob.spare) (length (object_in (room_with_next old) o).keys + 2 * count + 64) object old.next_object old.objects o within few p (keys_most (room_with_next old) count p (p == o)) (keys_so_many (room_with_next old) count o p);
+      few_bytes = λ path. omega arith;
+      keys_stay = same_at (λ ob. ob.keys) object old.next_object old.objects o stays;
+      sizes_stay = λ path. refl;
+    })
+
+pub keys_next : (old new : StoreView) (o : ℕ) (object : ObjectView) → o ≡ length old.objects → new ≡ record old { next_object = object } → object.keys ≡ old.next_object.keys
+    → length object.items ≡ length old.next_object.items → (count : ℕ) → object.spare ≤ max old.next_object.spare (length (object_in (room_with_next old) o).keys + 2 * count + 64) → (bytes : ℕ)
+    → TakesUpTo (room_with_next old) (room_with_next new) (λ p. 0) (λ p. p == o) (λ path. false) count bytes
+keys_next old new o object last is stays same count few bytes =
+    subst (λ (s : StoreView). TakesUpTo (room_with_next old) (room_with_next s) (λ p. 0) (λ p. p == o) (λ path. false) count bytes) (sym is)
+    (record {
+      few_places = λ p. let s = same_next (λ ob. length ob.items) object old.next_object old.objects same p in omega (arith, s);
+      few_keys = λ p. count_next (λ ob. ob.spare) (length (object_in (room_with_next old) o).keys + 2 * count + 64) object old.next_object old.objects few p (keys_most (room_with_next old) count p (p == o)) (λ at. keys_so_many (room_with_next old) count o p (at ∙ sym last));
+      few_bytes = λ path. omega arith;
+      keys_stay = same_next (λ ob. ob.keys) object old.next_object old.objects stays;
+      sizes_stay = λ path. refl;
+    })
+
+-- which object is at o: one of those that are there, or the one that is ready
+pub there : (xs : List ObjectView) (y : ObjectView) (o : ℕ) → o < length xs → slice_index_or (xs ++ y ∷ []) o no_object ≡ slice_index_or xs o no_object
+there [] y o within = let no : ⊥ = omega (arith, within) in absurd no
+there (x ∷ xs) y zero within = refl
+there (x ∷ xs) y (suc o) within = there xs y o (omega (arith, within))
+
+pub ready : (xs : List ObjectView) (y : ObjectView) (o : ℕ) → o ≡ length xs → slice_index_or (xs ++ y ∷ []) o no_object ≡ y
+ready [] y zero is = refl
+ready [] y (suc o) is = let no : ⊥ = omega (arith, is) in absurd no
+ready (x ∷ xs) y zero is = let no : ⊥ = omega (arith, is) in absurd no
+ready (x ∷ xs) y (suc o) is = ready xs y o (omega (arith, is))
+
+-- room for objects and cells that came first changes nothing of it
+pub few_behind : (old mid new last : StoreView) (plan : List Access) (keys bytes : ℕ) → mid ≡ record old { spare_objects = mid.spare_objects } → new ≡ record mid { spare_cells = new.spare_cells }
+    → TakesFew (room_with_next new) (room_with_next last) plan keys bytes → TakesFew (room_with_next old) (room_with_next last) plan keys bytes
+few_behind old mid new last plan keys bytes one other few =
+    let few = subst (λ (s : StoreView). TakesFew (room_with_next s) (room_with_next last) plan keys bytes) other few in
+    let few : TakesFew (room_with_next mid) (room_with_next last) plan keys bytes =
+    record { few_places = few.few_places; few_keys = few.few_keys; few_bytes = few.few_bytes; keys_stay = few.keys_stay; sizes_stay = few.sizes_stay } in
+    subst (λ (s : StoreView). TakesFew (room_with_next s) (room_with_next last) plan keys bytes) one few
