@@ -1,10 +1,11 @@
 -- What is found in a capture that was kept is what the capture of a run has that has exactly the same.
-use Rattle.std.proofs.Common.{◌≡◌, refl, sym, ap, ◌∙◌, arith, ℕ, zero, suc, ◌+◌, Bool, true, false, ◌&&◌, nat_eq, List, [], ◌∷◌, map, slice_get, Option, Some, None, if◌then◌else◌}
+use Rattle.std.proofs.Common.{◌≡◌, refl, sym, ap, ◌∙◌, arith, ℕ, zero, suc, ◌+◌, Bool, true, false, ◌&&◌, nat_eq, List, [], ◌∷◌, map, slice_get, Option, Some, None, Result, Ok, Err, inr, IfOk, if◌then◌else◌}
 use Rattle.std.specs.Option.{option_map}
 use Rattle.std.specs.Str.{bytes_eq}
 use Rattle.std.proofs.lemmas.Bool.{eqb-true}
 use Rattle.prov_base.specs.declared.place.Pos.{Pos}
 use Rattle.prov_base.specs.contracts.place.PosPartialEq.TheImpl.{ghosts as places}
+use Rattle.prov_base.specs.declared.refusal.Memory.{Memory as Want}
 use Rattle.prov_outside.specs.declared.folder.Found.{Found as FoundThere}
 use Rattle.capture.specs.Answers.{given_at, given_if, answer_at, is_under, is_same, AreOnce}
 use Rattle.capture.specs.AnswersView.{noted_last}
@@ -20,7 +21,7 @@ use Rattle.py_model.specs.Plan.{Found}
 use Rattle.py_model.specs.Running.{Asking, askings_at}
 use Rattle.answer_source.specs.Kept.{IsExactly, AreCounted}
 use Rattle.answer_source.specs.Live.{kept_seen, file_seen}
-use Rattle.answer_source.specs.Sources.{ask_seen, given_seen, found_seen, next_asking}
+use Rattle.answer_source.specs.Sources.{Asks, ask_seen, given_seen, found_seen, next_asking}
 use Rattle.answer_source.proofs.Fitting.{both_true, turned_place, turned_number, not_kept}
 
 asked_same : (what other : Question) → same_ask (ask_seen other) (ask_seen what) ≡ is_same what other
@@ -119,6 +120,17 @@ given_next view entries what at k given capture askings once number is fit count
   where
     next : k ≡ suc (askings_at at askings)
     next = let here = counted at in omega (arith, number, here)
+
+-- What is asked counts, and what is kept of it is given.
+pub asks_kept : (view : CaptureView) (old new : List (Pos × ℕ)) (what : Question) (at : Pos) (k : ℕ) (result : Result (Option GivenThere) Want) → AreOnce view.answers → k ≡ noted_last old at + 1
+    → IfOk result (λ given. given ≡ given_at view.answers what at k)
+    → ((place : Pos) → noted_last new place ≡ (if places.eq at place then k else noted_last old place))
+    → Asks what at (IsExactly view) (λ askings fetches. AreCounted old askings) (λ askings fetches. AreCounted new askings) result
+asks_kept view old new what at k (Ok (Some given)) once number is noted = λ capture askings fetches fit counted.
+    (given_next view old what at k (Some given) capture askings once number is fit counted, counted_more old new at k what askings counted number noted)
+asks_kept view old new what at k (Ok None) once number is noted = λ capture askings fetches fit counted.
+    (given_next view old what at k None capture askings once number is fit counted, counted_more old new at k what askings counted number noted)
+asks_kept view old new what at k (Err want) once number is noted = λ askings fetches counted. inr (counted_more old new at k what askings counted number noted)
 
 pub found_kept_so : (view : CaptureView) (capture : Capture) (path : List ℕ) → IsExactly view capture → found_in capture.files path ≡ option_map found_seen (file_at view.files path)
 found_kept_so view capture path fit = ap (λ files. found_in files path) fit.files ∙ found_exactly view.files path

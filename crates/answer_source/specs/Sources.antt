@@ -47,13 +47,13 @@ Stays before after = (askings : List Asking) (fetches : List (List ℕ)) → bef
 abbrev pub next_asking : Pos → Ask → List Asking → List Asking
 next_asking at what askings = record { at = at; k = suc (askings_at at askings); what = what } ∷ askings
 
--- What was answered is what the capture has for the next time at the place, and it counts as asked. Where the capture has nothing, nothing
--- counts. After want of memory it may count as asked, or not.
+-- What was answered is what the capture has for the next time at the place, and none where it has nothing. Either counts as asked. After want
+-- of memory it may count as asked, or not.
 abbrev pub Asks : {E : Type 0} → Question → Pos → Fits → Stands → Stands → Result (Option GivenThere) E → Type 0
 Asks what at fits before after (Ok (Some given)) = (capture : Capture) (askings : List Asking) (fetches : List (List ℕ)) → fits capture → before askings fetches
     → (given_in capture.answers (ask_seen what) at (suc (askings_at at askings)) ≡ Some (given_seen given)) × after (next_asking at (ask_seen what) askings) fetches
 Asks what at fits before after (Ok None) = (capture : Capture) (askings : List Asking) (fetches : List (List ℕ)) → fits capture → before askings fetches
-    → (given_in capture.answers (ask_seen what) at (suc (askings_at at askings)) ≡ None) × after askings fetches
+    → (given_in capture.answers (ask_seen what) at (suc (askings_at at askings)) ≡ None) × after (next_asking at (ask_seen what) askings) fetches
 Asks what at fits before after (Err want) = (askings : List Asking) (fetches : List (List ℕ)) → before askings fetches
     → after askings fetches ⊎ after (next_asking at (ask_seen what) askings) fetches
 

@@ -64,11 +64,8 @@ impl<'a> Source for Kept<'a> {
             return Err(Memory);
         };
         let _ = self.capture.answers();
-        let Some(given) = self.capture.copy_kept(alloc, what, at, k)? else {
-            return Ok(None);
-        };
         note_asked(&mut self.last, at, k)?;
-        Ok(Some(given))
+        self.capture.copy_kept(alloc, what, at, k)
     }
 
     ghost has = { λ s path. Unit {0} };

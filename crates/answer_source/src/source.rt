@@ -26,8 +26,8 @@ pub trait Source {
     fn paths_once(&self)
         ensures { (capture : Capture) → fits self.now capture → PathsOnce capture.files };
 
-    /// What a device gives to a question that is asked at a place, for the next time there; none where nothing is kept of it, and then it
-    /// does not count as asked. After an `Err` it may count as asked: what was given is kept, and memory may lack for a copy of it.
+    /// What a device gives to a question that is asked at a place, for the next time there; none where nothing is kept of it. Either counts as
+    /// asked. After an `Err` it may count as asked, or not: memory may lack for a copy of what was given.
     fn ask(&mut self, alloc: Global, what: Ask, at: Pos) -> Result<Option<Given>, Memory>
         ensures knew { Knew (fits self.old) (fits self.new) }
         ensures asked { Asks what at (fits self.new) (stands self.old) (stands self.new) result };

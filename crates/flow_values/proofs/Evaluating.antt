@@ -115,8 +115,6 @@ module _ (script : ScriptTree) (frames : FlowFrames) (eval gone : EvalFrames) (p
   step_taken Unanswered result known taken =
       subst (IsStep script (level script n) {E = Memory} (to first beyond) after rest stands was is table capture s) (sym taken) (record {
         next = known.next;
-        askings = known.askings;
-        fetches = known.fetches;
         comes_out = outcome_to capture beyond first s ∙ ap (and_then capture beyond) known.comes_out;
         stands_so = known.stands_so;
         left_is = known.left_is;

@@ -20,6 +20,7 @@ use Rattle.py_model.specs.Told.{answer_seen, op_seen, TellsOn, IsNamedAnswer}
 use Rattle.py_model.specs.declared.moment.Answer.{Answer as OneAnswer}
 use Rattle.py_model.specs.declared.moment.Op.{Op as OneOp}
 use Rattle.interp_eval.specs.declared.frames.Scope.{Scope}
+use Rattle.interp_eval.proofs.Steps.{interrupted}
 use Rattle.interp_eval.specs.Performing.{HasState, HasPerformed, WasCut, nothing_happened, not_told}
 use Rattle.interp_eval.specs.declared.performing.Came.TheVariants.{Did, TooDear, Unanswered as UnansweredCame}
 use Rattle.flow_parts.specs.Machine.{resumes, then_act}
@@ -67,8 +68,6 @@ module _ (script : ScriptTree) (frames : FlowFrames) (at : Pos) (code : Code) (v
       let d = performed table capture fit s known.stands steps in
       record {
         next = d.next;
-        askings = d.askings;
-        fetches = d.fetches;
         comes_out = comes table capture s (level script n) (lacked d.next) known d.happened;
         stands_so = d.stands;
         left_is = d.left_is;
@@ -79,7 +78,7 @@ module _ (script : ScriptTree) (frames : FlowFrames) (at : Pos) (code : Code) (v
   cut_as : (table : ValuesView) (capture : Capture) (s : State) (n : ℕ) → IsCodeOp script frames.spot.scope code op (between table capture) table s → WasCut at op values (stands table capture) was is table capture s
       → IsCut capture (operating script frames at code values p table (level script n)) s (stands table capture) was is
   cut_as table capture s n known (nothing_happened refused same) =
-      record { rest = operating script frames at code values p table (level script n); next = s; news = []; comes_out = refl; told_is = refl; refused = refused; tells = told_still was is same }
+      record { rest = operating script frames at code values p table (level script n); next = s; news = []; comes_out = refl; told_is = refl; refused = interrupted capture at (op_seen table op) (map (contents table) values) (stands table capture) s refused; tells = told_still was is same }
   cut_as table capture s n known (not_told answer came next moment told happened holds same) = record {
     rest = answers table (level script n) (answer_seen table answer);
     next = next;

@@ -7,7 +7,7 @@ use Rattle.py_model.specs.Act.{Act, How, ret, begin, close}
 use Rattle.py_model.specs.Expressions.{Task}
 use Rattle.py_model.specs.Meaning.{RunEnd, end_of, level}
 use Rattle.py_model.specs.Capture.{Capture}
-use Rattle.py_model.specs.Doing.{Standing, standing, Fits, Stands, IsRefused}
+use Rattle.py_model.specs.Doing.{Standing, standing, Fits, Stands, IsInterrupted}
 use Rattle.py_model.specs.Moment.{Moment, begins, Ending, ends}
 use Rattle.py_model.specs.Running.{State, spent, outcome, beginning, tell}
 use Rattle.py_model.specs.Told.{TellsOn}
@@ -28,8 +28,8 @@ told_weaker was None P Q weaker tells = tt
 told_weaker None (Some more) P Q weaker tells = absurd tells
 told_weaker (Some told) (Some more) P Q weaker tells = weaker told more tells
 
-pub unasked : (stands : Standing → Type 0) (s : State) → stands (standing s) → IsRefused stands s
-unasked stands s holds = record { askings = s.askings; fetches = s.fetches; asked = inl refl; fetched = inl refl; stands = holds }
+pub unasked : {capture : Capture} (stands : Standing → Type 0) (s : State) → stands (standing s) → IsInterrupted capture stands s
+unasked stands s holds = record { next = s; asked = inl refl; stands = holds }
 
 module _ (capture : Capture) (before after : Act) (s : State) (left rest : ℕ) (stands : Standing → Type 0) (was is : Option (List Moment)) where
   -- nothing was performed
@@ -103,7 +103,7 @@ module _ (script : ScriptTree) (next : Task → Act) (a b : Act) (frames : FlowF
   step_same (Ok (Raised o line)) h = record { how = h.how; comes_out = same ∙ h.comes_out; end_is = h.end_is; stands_so = h.stands_so; left_is = h.left_is; tells = h.tells }
   step_same (Ok Spent) h = record { next = h.next; comes_out = same ∙ h.comes_out; stands_so = h.stands_so; left_is = h.left_is; told_is = h.told_is; tells = h.tells }
   step_same (Ok Unanswered) h =
-      record { next = h.next; askings = h.askings; fetches = h.fetches; comes_out = same ∙ h.comes_out; stands_so = h.stands_so; left_is = h.left_is; told_is = h.told_is; tells = h.tells }
+      record { next = h.next; comes_out = same ∙ h.comes_out; stands_so = h.stands_so; left_is = h.left_is; told_is = h.told_is; tells = h.tells }
   step_same (Err want) h = record { rest = h.rest; next = h.next; news = h.news; comes_out = same ∙ h.comes_out; told_is = h.told_is; refused = h.refused; tells = h.tells }
 
 module _ (script : ScriptTree) (b c : Before) (frames : FlowFrames) (left rest : ℕ) (fits : Fits) (stood stands : Stands) (was is : Option (List Moment)) (r : Result FlowNext Memory) where

@@ -4,11 +4,11 @@ use Rattle.py_tree.specs.Tree.{ScriptTree}
 use Rattle.py_value.specs.Values.{ValuesView}
 use Rattle.py_model.specs.Act.{Act, How, ret, to}
 use Rattle.py_model.specs.Capture.{Capture}
-use Rattle.py_model.specs.Doing.{Standing, standing, Fits, Stands, ForEach, IsRefused}
+use Rattle.py_model.specs.Doing.{Standing, standing, Fits, Stands, ForEach, IsInterrupted}
 use Rattle.py_model.specs.Expressions.{Task}
 use Rattle.py_model.specs.Meaning.{RunEnd, finished, uncaught, end_of, level}
 use Rattle.py_model.specs.Moment.{Moment}
-use Rattle.py_model.specs.Running.{State, Asking, outcome, over, spent, lacking}
+use Rattle.py_model.specs.Running.{State, outcome, over, spent, lacking}
 use Rattle.py_model.specs.Told.{TellsOn}
 use Rattle.flow_parts.specs.Held.{IsHeldEnd, IsHeldFlow, IsHeldNow}
 use Rattle.flow_parts.specs.Machine.{flow, remaining, resumes, waits_act}
@@ -42,10 +42,8 @@ pub record IsSpent (capture : Capture) (before : Act) (s : State) (left : ℕ) (
 -- What is first asks for what is not there: the same holds.
 pub record IsUnanswered (capture : Capture) (before : Act) (s : State) (left : ℕ) (stands : Standing → Type 0) (was is : Option (List Moment)) : Type 0 where
   pub next : State
-  pub askings : List Asking
-  pub fetches : List (List ℕ)
   pub comes_out : outcome capture before s ≡ lacking next
-  pub stands_so : stands (record (standing s) { askings = askings; fetches = fetches })
+  pub stands_so : stands (standing next)
   pub left_is : next.left ≡ left
   pub told_is : next.told ≡ s.told
   pub tells : is ≡ was
@@ -57,7 +55,7 @@ pub record IsCut (capture : Capture) (before : Act) (s : State) (stands : Standi
   pub news : List Moment
   pub comes_out : outcome capture before s ≡ outcome capture rest next
   pub told_is : next.told ≡ news ++ s.told
-  pub refused : IsRefused stands next
+  pub refused : IsInterrupted capture stands next
   pub tells : TellsOn was is (λ told more. (more ≡ told) ⊎ (more ≡ news ++ told))
 
 -- The run is at its end: nothing is done.

@@ -111,4 +111,4 @@ module _ (first mid last : Fits) (before between after : Stands) (number : ℕ) 
   was_lacking at op values left was known table capture fit s stands steps =
       let d = known table capture fit s (word table capture (kept table capture fit) s stands).1 steps in
       let keeps = lacking_keeps capture at (op_seen table op) (map (contents table) values) s d.next d.happened in
-      record { next = d.next; askings = d.askings; fetches = d.fetches; happened = d.happened; stands = d.stands; left_is = keeps.left_is ∙ steps; told_is = keeps.told_is; tells = refl }
+      record { next = d.next; happened = d.happened; stands = d.stands; left_is = keeps.left_is ∙ steps; told_is = keeps.told_is; tells = refl }

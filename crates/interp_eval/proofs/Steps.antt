@@ -5,7 +5,7 @@ use Rattle.prov_base.specs.declared.refusal.Memory.{Memory}
 use Rattle.py_tree.specs.Tree.{ExprTree, MaybeTree, ScriptTree, no_expr, some_expr}
 use Rattle.py_model.specs.Act.{Act, Walked, stop, ret, perform, normal, threw}
 use Rattle.py_model.specs.Capture.{Capture}
-use Rattle.py_model.specs.Doing.{Standing, standing, Fits, Stands, Knew, ForEach, IsRefused}
+use Rattle.py_model.specs.Doing.{Standing, standing, Fits, Stands, Knew, ForEach, IsRefused, IsInterrupted, WasAsked, asked_by}
 use Rattle.py_model.specs.Expressions.{Here, Task, by_answer, calling, giving}
 use Rattle.py_model.specs.Moment.{Moment}
 use Rattle.py_model.specs.Operations.{Op}
@@ -53,8 +53,15 @@ told_weaker was None P Q weaker tells = tt
 told_weaker None (Some more) P Q weaker tells = absurd tells
 told_weaker (Some told) (Some more) P Q weaker tells = weaker told more tells
 
-unasked : (stands : Standing → Type 0) (s : State) → stands (standing s) → IsRefused stands s
-unasked stands s holds = record { askings = s.askings; fetches = s.fetches; asked = inl refl; fetched = inl refl; stands = holds }
+unasked : {capture : Capture} (stands : Standing → Type 0) (s : State) → stands (standing s) → IsInterrupted capture stands s
+unasked stands s holds = record { next = s; asked = inl refl; stands = holds }
+
+pub interrupted : (capture : Capture) (at : Pos) (what : Op) (values : List Contents) (stands : Standing → Type 0) (s : State) → IsRefused capture at what values stands s → IsInterrupted capture stands s
+interrupted capture at what values stands s refused = record { next = refused.next; asked = by_asked refused.asked; stands = refused.stands }
+  where
+    by_asked : (refused.next ≡ s) ⊎ (refused.next ≡ asked_by capture at what values s) → (refused.next ≡ s) ⊎ WasAsked capture s refused.next
+    by_asked (inl same) = inl same
+    by_asked (inr more) = inr (record { at = at; what = what; values = values; next_is = more })
 
 -- A run comes out the same from what remains after a step.
 came_out : (capture : Capture) (at : Pos) (what : Op) (values : List Contents) (go : Answer → Walked → Act) (s : State) (h : Happened) → operation capture at what values s ≡ h
@@ -72,7 +79,7 @@ pub stood_on : (capture : Capture) (before after : Act) (s : State) (left : ℕ)
 stood_on capture before after s left stands was same holds steps = record { next = s; news = []; went = stayed same refl refl; comes_out = ap (λ a. outcome capture a s) (sym same); stands_so = holds; left_is = steps; tells = told_same was }
 
 -- want of memory before anything was performed
-pub cut_off : (capture : Capture) (before : Act) (s : State) (stands : Standing → Type 0) (was : Option (List Moment)) → IsRefused stands s → IsCut capture before s stands was was
+pub cut_off : (capture : Capture) (before : Act) (s : State) (stands : Standing → Type 0) (was : Option (List Moment)) → IsInterrupted capture stands s → IsCut capture before s stands was was
 cut_off capture before s stands was refused = record { rest = before; next = s; news = []; went = stayed refl refl refl; refused = refused; tells = told_either was [] }
 
 pub cut_here : (capture : Capture) (before : Act) (s : State) (stands : Standing → Type 0) (was : Option (List Moment)) → stands (standing s) → IsCut capture before s stands was was
@@ -227,8 +234,6 @@ module _ (script : ScriptTree) (next : Task → Act) (here : Here) (go : Content
       values = map (contents table) values;
       go = answers frames order;
       next = d.next;
-      askings = d.askings;
-      fetches = d.fetches;
       act_is = act;
       lacks = d.happened;
       comes_out = ap (λ a. outcome capture a s) act ∙ came_out capture order.at (op_seen table op) (map (contents table) values) (answers frames order) s (lacked d.next) d.happened;
@@ -240,7 +245,8 @@ module _ (script : ScriptTree) (next : Task → Act) (here : Here) (go : Content
 
     pub cut_step : WasCut order.at op values stands was is table capture s → IsCut capture (remaining script next here go table frames) s stands was is
     cut_step (nothing_happened refused same) =
-        subst (λ is. IsCut capture (remaining script next here go table frames) s stands was is) (sym same) (cut_off capture (remaining script next here go table frames) s stands was refused)
+        subst (λ is. IsCut capture (remaining script next here go table frames) s stands was is) (sym same) (cut_off capture (remaining script next here go table frames) s stands was
+        (interrupted capture order.at (op_seen table op) (map (contents table) values) stands s refused))
     cut_step (not_told answer came t moment told happened holds tells) = record {
       rest = answers frames order _ came;
       next = t;

@@ -10,7 +10,7 @@ use Rattle.py_model.specs.Capture.{Capture}
 use Rattle.py_model.specs.Doing.{Standing, standing, Fits, Stands, ForEach, IsRefused}
 use Rattle.py_model.specs.Expressions.{Here}
 use Rattle.py_model.specs.Moment.{Moment}
-use Rattle.py_model.specs.Running.{State, Asking, operation, did, too_dear, lacked}
+use Rattle.py_model.specs.Running.{State, operation, did, too_dear, lacked}
 use Rattle.py_model.specs.Told.{answer_seen, op_seen, TellsOn, IsNamedAnswer}
 use Rattle.py_model.specs.declared.moment.Answer.{Answer}
 use Rattle.py_model.specs.declared.moment.Op.{Op}
@@ -61,17 +61,15 @@ pub record WasTooDear (at : Pos) (op : Op) (values : List Value) (left : ℕ) (a
 
 pub record WasLacking (at : Pos) (op : Op) (values : List Value) (left : ℕ) (after : Standing → Type 0) (was is : Option (List Moment)) (table : ValuesView) (capture : Capture) (s : State) : Type 0 where
   pub next : State
-  pub askings : List Asking
-  pub fetches : List (List ℕ)
   pub happened : operation capture at (op_seen table op) (map (contents table) values) s ≡ lacked next
-  pub stands : after (record (standing s) { askings = askings; fetches = fetches })
+  pub stands : after (standing next)
   pub left_is : next.left ≡ left
   pub told_is : next.told ≡ s.told
   pub tells : is ≡ was
 
 -- Want of memory: nothing happened but what was asked, or the operation happened and the watch was not told.
 pub data WasCut (at : Pos) (op : Op) (values : List Value) (after : Standing → Type 0) (was is : Option (List Moment)) (table : ValuesView) (capture : Capture) (s : State) : Type 0 where
-  nothing_happened : IsRefused after s → is ≡ was → WasCut at op values after was is table capture s
+  nothing_happened : IsRefused capture at (op_seen table op) (map (contents table) values) after s → is ≡ was → WasCut at op values after was is table capture s
   not_told : (answer : Answer) (came : Walked) (next : State) (moment : Moment) → next.told ≡ moment ∷ s.told → operation capture at (op_seen table op) (map (contents table) values) s ≡ did (answer_seen table answer) came next
       → after (standing next) → TellsOn was is (λ told more. more ≡ told) → WasCut at op values after was is table capture s
 

@@ -7,12 +7,12 @@ use Rattle.py_value.specs.Values.{ValuesView, IsNamed}
 use Rattle.py_value.specs.declared.value.Value.{Value}
 use Rattle.py_model.specs.Act.{Act, Walked, ret, perform, normal, threw}
 use Rattle.py_model.specs.Capture.{Capture}
-use Rattle.py_model.specs.Doing.{Standing, standing, Fits, Stands, ForEach, IsRefused}
+use Rattle.py_model.specs.Doing.{Standing, standing, Fits, Stands, ForEach, IsInterrupted}
 use Rattle.py_model.specs.Expressions.{Here, Task, calling, giving}
 use Rattle.py_model.specs.Moment.{Moment}
 use Rattle.py_model.specs.Operations.{Op}
 use Rattle.py_model.specs.Plan.{Answer}
-use Rattle.py_model.specs.Running.{State, Asking, operation, did, too_dear, lacked, outcome, spent, lacking}
+use Rattle.py_model.specs.Running.{State, operation, did, too_dear, lacked, outcome, spent, lacking}
 use Rattle.py_model.specs.Told.{TellsOn}
 use Rattle.interp_eval.specs.declared.frames.EvalFrames.{EvalFrames}
 use Rattle.interp_eval.specs.declared.frames.EvalNext.{EvalNext}
@@ -65,12 +65,10 @@ pub record IsUnanswered (capture : Capture) (before : Act) (s : State) (left : �
   pub values : List Contents
   pub go : Answer → Walked → Act
   pub next : State
-  pub askings : List Asking
-  pub fetches : List (List ℕ)
   pub act_is : before ≡ perform at what values go
   pub lacks : operation capture at what values s ≡ lacked next
   pub comes_out : outcome capture before s ≡ lacking next
-  pub stands_so : stands (record (standing s) { askings = askings; fetches = fetches })
+  pub stands_so : stands (standing next)
   pub left_is : next.left ≡ left
   pub told_is : next.told ≡ s.told
   pub tells : is ≡ was
@@ -81,7 +79,7 @@ pub record IsCut (capture : Capture) (before : Act) (s : State) (stands : Standi
   pub next : State
   pub news : List Moment
   pub went : Went capture before s rest next news
-  pub refused : IsRefused stands next
+  pub refused : IsInterrupted capture stands next
   pub tells : TellsOn was is (λ told more. (more ≡ told) ⊎ (more ≡ news ++ told))
 
 -- frames whose call has this value: the next step performs `give` with it

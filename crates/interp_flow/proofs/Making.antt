@@ -19,6 +19,7 @@ use Rattle.py_model.specs.Told.{answer_seen, op_seen, IsNamedAnswer}
 use Rattle.py_model.specs.declared.moment.Answer.{Answer as OneAnswer}
 use Rattle.py_model.specs.declared.moment.Answer.TheVariants.{Value as ValueAnswer, Raised as RaisedAnswer, End as EndAnswer}
 use Rattle.py_model.specs.declared.moment.Op.{Op as OneOp}
+use Rattle.interp_eval.proofs.Steps.{interrupted}
 use Rattle.interp_eval.specs.Performing.{HasState, WasCut, nothing_happened, not_told}
 use Rattle.interp_eval.specs.Step.{given}
 use Rattle.interp_eval.specs.declared.frames.EvalFrames.{EvalFrames}
@@ -144,8 +145,6 @@ module _ (script : ScriptTree) (frames : FlowFrames) (caller : Caller) (at : Pos
       let d = walked table capture fit s stood_so steps in
       record {
         next = d.next;
-        askings = d.askings;
-        fetches = d.fetches;
         comes_out = comes table capture s (level script n) (lacked d.next) d.happened;
         stands_so = d.stands;
         left_is = d.left_is;
@@ -161,7 +160,7 @@ module _ (script : ScriptTree) (frames : FlowFrames) (caller : Caller) (at : Pos
     news = [];
     comes_out = refl;
     told_is = refl;
-    refused = refused;
+    refused = interrupted capture at (op_seen table class_op) (map (contents table) all) (stands table capture) s refused;
     tells = told_still was is same;
   }
   cut_as table capture s n (not_told answer came next moment told happened holds same) = record {

@@ -53,8 +53,6 @@ module _ (all : AnswersAll) (fits : FitsSource) (before source : StandsSource) (
       askings = s.askings;
       fetches = s.fetches;
       notes = notes;
-      asked = inl refl;
-      fetched = inl refl;
       stands = gives s.askings s.fetches stands;
       complete = all s.store (answers at op values table capture s) (own_plan at op values table capture s) first;
     },
@@ -66,8 +64,6 @@ module _ (all : AnswersAll) (fits : FitsSource) (before source : StandsSource) (
           askings = next_asking at (ask_seen what) s.askings;
           fetches = s.fetches;
           notes = notes;
-          asked = inr (record { at = at; k = here; what = ask_seen what }, refl);
-          fetched = inl refl;
           stands = came.1;
           complete = has_answer s.store (answers at op values table capture s) all (ask_seen what) (own_plan at op values table capture s) (given_seen given) first came.0;
         },
@@ -76,12 +72,10 @@ module _ (all : AnswersAll) (fits : FitsSource) (before source : StandsSource) (
   ready_by (Some what) None notes first gives fit stands = absurd gives
 
   lacks_by : (what : Question) → IsNoted (Some what) → AsksFirst s.store (Some what) (own_plan at op values table capture s)
-      → (given_in capture.answers (ask_seen what) at here ≡ None) × source s.askings s.fetches → (held : HeldView) (entered : ℕ) → StandsHeld (found_by capture) table held s.store → s.entered ≡ entered
+      → (given_in capture.answers (ask_seen what) at here ≡ None) × source (next_asking at (ask_seen what) s.askings) s.fetches → (held : HeldView) (entered : ℕ) → StandsHeld (found_by capture) table held s.store → s.entered ≡ entered
       → 0 < s.left → IsLacking at op values (λ t. IsStanding source held entered table capture t) table capture s
   lacks_by what notes first none held entered stands entered_is some_left = record {
     next = noted (next_asking at (ask_seen what) s.askings) s.fetches s;
-    askings = s.askings;
-    fetches = s.fetches;
     happened = lacks capture at op values table s (next_asking at (ask_seen what) s.askings) s.fetches some_left notes
         (lacks_answer s.store (answers at op values table capture s) (ask_seen what) (own_plan at op values table capture s) first none.0);
     stands = record { stands = stands; entered_is = entered_is; asked = none.1 };
@@ -138,25 +132,23 @@ module _ (unnoted : Unnoted) (all : AnswersAll) (fits : FitsSource) (before sour
       (lacking capture s.askings s.fetches fit.fits stands.asked) old entered stands.stands stands.entered_is (subst (λ n. 0 < n) (sym left_is) some)
 
   -- memory ran out as it was asked
-  pub asked_memory : (what : Question) (want : Want) → Asks what at fits before source (Err want) → (result : Result Done Want) → IsErr result
+  pub asked_memory : (what : Question) → asks op.no values ≡ Some what → (want : Want) → Asks what at fits before source (Err want) → (result : Result Done Want) → IsErr result
       → Performs at op values left (λ table capture. IsFitting fits old.work.values table capture) (λ table capture s. IsStanding before old entered table capture s)
       (λ table capture s. IsStanding source old entered table capture s) result
-  asked_memory what want lost (Ok done) is = absurd (false≢true is)
-  asked_memory what want lost (Err other) is = λ table capture fit s stands. by_lost table capture s stands (lost s.askings s.fetches stands.asked)
+  asked_memory what same want lost (Ok done) is = absurd (false≢true is)
+  asked_memory what same want lost (Err other) is = λ table capture fit s stands. by_lost table capture s stands (lost s.askings s.fetches stands.asked)
     where
       by_lost : (table : ValuesView) (capture : Capture) (s : State) → IsStanding before old entered table capture (standing s)
-          → source s.askings s.fetches ⊎ source (next_asking at (ask_seen what) s.askings) s.fetches → IsRefused (λ t. IsStanding source old entered table capture t) s
+          → source s.askings s.fetches ⊎ source (next_asking at (ask_seen what) s.askings) s.fetches
+          → IsRefused capture at (op_seen table op) (map (contents table) values) (λ t. IsStanding source old entered table capture t) s
       by_lost table capture s stands (inl as_before) = record {
-        askings = s.askings;
-        fetches = s.fetches;
+        next = s;
         asked = inl refl;
-        fetched = inl refl;
         stands = record { stands = stands.stands; entered_is = stands.entered_is; asked = as_before };
       }
       by_lost table capture s stands (inr one_more) = record {
-        askings = next_asking at (ask_seen what) s.askings;
-        fetches = s.fetches;
-        asked = inr (record { at = at; k = suc (askings_at at s.askings); what = ask_seen what }, refl);
-        fetched = inl refl;
+        next = noted (next_asking at (ask_seen what) s.askings) s.fetches s;
+        asked = inr (sym (subst (λ asked. note at (suc (askings_at at s.askings)) (own_effect at op values table capture s).touches s ≡ noted_as at (suc (askings_at at s.askings)) asked s) same
+            (first_noted s.store op values table unnoted (answers at op values table capture s) at (suc (askings_at at s.askings)) s may apart)));
         stands = record { stands = stands.stands; entered_is = stands.entered_is; asked = one_more };
       }

@@ -25,7 +25,7 @@ use Rattle.op_parts.proofs.FirstAsks.{AnswersAll}
 use Rattle.op_parts.proofs.FirstFetches.{FetchesFirst, FetchesIf, open_first, lacks_file, has_found, quiet_found}
 use Rattle.op_parts.proofs.Outcomes.{noted, lacks}
 use Rattle.op_parts.proofs.Performed.{Seen, Unnoted, began_stands}
-use Rattle.op_parts.proofs.Ready.{Ready, Came, Each, known, own_plan, answers, own_effect}
+use Rattle.op_parts.proofs.Ready.{Ready, Came, Each, known, own_plan, answers, own_effect, ready_err}
 use Rattle.op_table.specs.Table.{planned_at}
 use Rattle.op_work.specs.Work.{Extends, IsDear, AreNamedPaths}
 use Rattle.op_work.proofs.Going.{extends_then}
@@ -157,8 +157,6 @@ module _ (unnoted : Unnoted) (all : AnswersAll) (source : StandsSource) (at : Po
     askings = s.askings;
     fetches = s.fetches;
     notes = notes_open None is;
-    asked = inl refl;
-    fetched = inl refl;
     stands = stands;
     complete = quiet_found s.store (answers at op values table capture s) all (own_plan at op values table capture s) (first_open None is);
   }
@@ -178,8 +176,6 @@ module _ (unnoted : Unnoted) (all : AnswersAll) (source : StandsSource) (at : Po
       askings = s.askings;
       fetches = s.fetches;
       notes = notes_if true opened;
-      asked = inl refl;
-      fetched = inl refl;
       stands = stands;
       complete = quiet_found s.store (answers at op values table capture s) all (own_plan at op values table capture s) (fetches_if true opened);
     }
@@ -189,8 +185,6 @@ module _ (unnoted : Unnoted) (all : AnswersAll) (source : StandsSource) (at : Po
       askings = s.askings;
       fetches = path_text ∷ s.fetches;
       notes = notes_if false opened;
-      asked = inl refl;
-      fetched = inr (path_text, refl);
       stands = stands;
       complete = has_found s.store (answers at op values table capture s) all path_text (own_plan at op values table capture s) f (fetches_if false opened) found;
     }
@@ -199,8 +193,6 @@ module _ (unnoted : Unnoted) (all : AnswersAll) (source : StandsSource) (at : Po
         → s.entered ≡ entered → 0 < s.left → IsLacking at op values (λ t. IsStanding source held entered table capture t) table capture s
     lacks_found opened none asked held entered stands entered_is some_left = record {
       next = noted s.askings (path_text ∷ s.fetches) s;
-      askings = s.askings;
-      fetches = path_text ∷ s.fetches;
       happened = lacks capture at op values table s s.askings (path_text ∷ s.fetches) some_left (notes_if false opened)
           (lacks_file s.store (answers at op values table capture s) path_text (own_plan at op values table capture s) (fetches_if false opened) none);
       stands = record { stands = stands; entered_is = entered_is; asked = asked };
@@ -312,6 +304,12 @@ module _ (unnoted : Unnoted) (all : AnswersAll) (law : Seen) (fits : FitsSource)
         has_it table capture s more device stands (inl none) = free_file over (found_by capture) table placed.work.store s.store stands.holds path more (device ∙ none)
         has_it table capture s more device stands (inr there) = (law (found_by capture) table placed.work.store s.store stands.holds).files path more there
 
+        ready_here : (table : ValuesView) (capture : Capture) (s : State) → Extends old.work.values table → fits capture → IsStanding before old entered table capture (standing s) → Ready source at op values table capture s
+        ready_here table capture s to fit stands =
+            let same = text_on old.work.values table to path within ∙ text_is in
+            ready_found unnoted all source at op values number table capture s path (path_on old.work.values table to values named ∙ is) (was_not table capture s to stands.stands) (found_seen f)
+            (ap (found_in capture.files) same ∙ found_is capture fit) (subst (λ bytes. source s.askings (bytes ∷ s.fetches)) (sym same) (fetched s.askings s.fetches stands.asked))
+
         pub each_found : HasBytes f placed.work.store path → (result : Result (Option Deed) Want) → FinishesOpen values false (Some f) (record placed { work = begun left placed.work }) new result
             → Each fits before source old new entered at op values left some placed.work result
         each_found there result finishes table capture fit s stands =
@@ -325,8 +323,7 @@ module _ (unnoted : Unnoted) (all : AnswersAll) (law : Seen) (fits : FitsSource)
             let path_is = ap (λ v. path_in v values) values_are ∙ is in
             let own = subst (λ p. IsOpened (known at op values table capture s) old.work.values p false (Some f)) (sym is)
             (ap (λ bytes. has_path bytes s.store.opened) (sym on) ∙ was, ap (found_in capture.files) (sym on) ∙ found_here) in (
-              ready_found unnoted all source at op values number table capture s path (path_on old.work.values table to values named ∙ is) was (found_seen f) found_here
-                  (subst (λ bytes. source s.askings (bytes ∷ s.fetches)) (sym (on ∙ text_is)) (fetched s.askings s.fetches stands.asked)),
+              ready_here table capture s to fit.fits stands,
               came_open law fits placed new at op values number left false (Some f) table capture fit s then_stands
                   (subst (HasFile table s.store placed.work.store) (sym path_is) (has_it table capture s more device then_stands there))
                   (subst (λ (v : ValuesView). IsOpened (known at op values table capture s) v (path_in v values) false (Some f)) (sym values_are) own) result finishes,
@@ -339,14 +336,5 @@ module _ (unnoted : Unnoted) (all : AnswersAll) (law : Seen) (fits : FitsSource)
         place_want (Ok done) err = absurd (false≢true err)
         place_want (Err want) err = λ table capture fit s stands.
             let to = subst (λ (v : ValuesView). Extends v table) values_are fit.extends in
-            record {
-              askings = s.askings;
-              fetches = text ∷ s.fetches;
-              asked = inl refl;
-              fetched = inr (text, refl);
-              stands = record {
-                stands = goes (found_by capture) table s.store to (device_is table capture to fit.fits) stands.stands;
-                entered_is = stands.entered_is;
-                asked = fetched s.askings s.fetches stands.asked;
-              };
-            }
+            ready_err source placed entered at op values table capture s stands.entered_is (ready_here table capture s to fit.fits stands)
+            (goes (found_by capture) table s.store to (device_is table capture to fit.fits) stands.stands)

@@ -128,9 +128,7 @@ pub performs_err : (at : Pos) (op : Op) (values : List Value) (left : ℕ) (fits
     → ForEach fits before (λ table capture s. after table capture (standing s)) → Performs at op values left fits before after result
 performs_err at op values left fits before after (Ok done) is on = absurd (false≢true is)
 performs_err at op values left fits before after (Err want) is on = λ table capture fit s stands. record {
-  askings = s.askings;
-  fetches = s.fetches;
+  next = s;
   asked = inl refl;
-  fetched = inl refl;
   stands = on table capture fit s stands;
 }

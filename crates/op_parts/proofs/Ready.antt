@@ -1,5 +1,5 @@
 -- An operation whose askings are answered, over what is held of a run.
-use Rattle.std.proofs.Common.{◌≡◌, refl, sym, subst, ◌∙◌, ◌⊎◌, ℕ, suc, ◌<◌, List, ◌∷◌, map, Option, Some, None, Result, Ok, Err}
+use Rattle.std.proofs.Common.{◌≡◌, refl, sym, subst, ◌∙◌, inr, ℕ, suc, ◌<◌, List, map, Option, Some, None, Result, Ok, Err}
 use Rattle.std.specs.Result.{IsErr}
 use Rattle.std.proofs.lemmas.Bool.{false≢true}
 use Rattle.answer_source.specs.Sources.{Fits as FitsSource, Stands as StandsSource}
@@ -55,8 +55,6 @@ pub record Ready (source : StandsSource) (at : Pos) (op : Op) (values : List Val
   pub askings : List Asking
   pub fetches : List (List ℕ)
   pub notes : note at (k at op values table capture s) (own_effect at op values table capture s).touches s ≡ noted askings fetches s
-  pub asked : (askings ≡ s.askings) ⊎ ((one : Asking) × (askings ≡ one ∷ s.askings))
-  pub fetched : (fetches ≡ s.fetches) ⊎ ((one : List ℕ) × (fetches ≡ one ∷ s.fetches))
   pub stands : source askings fetches
   pub complete : (own_effect at op values table capture s).outcome ≡ unanswered → ⊥
 
@@ -108,12 +106,11 @@ module _ (source : StandsSource) (new : HeldView) (entered : ℕ) (at : Pos) (op
           stands = record { stands = came.1; entered_is = entered_is; asked = ready.stands };
         }
 
-  pub ready_err : s.entered ≡ entered → Ready source at op values table capture s → StandsHeld (found_by capture) table new s.store → IsRefused later s
+  pub ready_err : s.entered ≡ entered → Ready source at op values table capture s → StandsHeld (found_by capture) table new s.store
+      → IsRefused capture at (op_seen table op) (map (contents table) values) later s
   ready_err entered_is ready stands = record {
-    askings = ready.askings;
-    fetches = ready.fetches;
-    asked = ready.asked;
-    fetched = ready.fetched;
+    next = noted ready.askings ready.fetches s;
+    asked = inr (sym ready.notes);
     stands = record { stands = stands; entered_is = entered_is; asked = ready.stands };
   }
 

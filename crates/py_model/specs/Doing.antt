@@ -3,7 +3,7 @@
 use Rattle.std.specs.Prelude.{◌≡◌, ◌⊎◌, ℕ, suc, ◌<◌, List, ◌∷◌, map, length, Result, Ok, Err}
 use Rattle.std.specs.Option.{option_map}
 use Rattle.prov_base.specs.declared.place.Pos.{Pos}
-use Rattle.py_value.specs.Contents.{contents}
+use Rattle.py_value.specs.Contents.{Contents, contents}
 use Rattle.py_value.specs.Seen.{access_seen, kind_seen, bytes_of}
 use Rattle.py_value.specs.Values.{ValuesView, Keeps, AreNamed}
 use Rattle.py_value.specs.declared.access.Access.{Access}
@@ -17,7 +17,8 @@ use Rattle.py_model.specs.declared.moment.Op.{Op}
 use Rattle.py_model.specs.Act.{Walked}
 use Rattle.py_model.specs.Capture.{Capture}
 use Rattle.py_model.specs.Moment.{does, parameters_set}
-use Rattle.py_model.specs.Running.{Asking, State, did, too_dear, lacked, operation, entering}
+use Rattle.py_model.specs.Operations.{Op as SeenOp}
+use Rattle.py_model.specs.Running.{Asking, State, did, too_dear, lacked, note, askings_at, effect_of, operation, entering}
 use Rattle.py_model.specs.Store.{RunStore}
 use Rattle.py_model.specs.Told.{answer_seen, op_seen, IsNamedOp, IsNamedAnswer, IsNamedKind, AreNamedAccesses}
 
@@ -63,27 +64,41 @@ pub record IsTooDear (at : Pos) (op : Op) (values : List Value) (after : Standin
   pub happened : operation capture at (op_seen table op) (map (contents table) values) s ≡ too_dear next
   pub stands : after (standing next)
 
--- An answer is lacking: nothing is said of the askings then, since the run ends there.
+-- it does not happen, since an answer is lacking; what it asked and fetched counts
 pub record IsLacking (at : Pos) (op : Op) (values : List Value) (after : Standing → Type 0) (table : ValuesView) (capture : Capture) (s : State) : Type 0 where
   pub next : State
-  pub askings : List Asking
-  pub fetches : List (List ℕ)
   pub happened : operation capture at (op_seen table op) (map (contents table) values) s ≡ lacked next
-  pub stands : after (record (standing s) { askings = askings; fetches = fetches })
+  pub stands : after (standing next)
 
--- after want of memory the store is as before, and what was asked is kept: nothing, or the one asking or path of the operation
-pub record IsRefused (after : Standing → Type 0) (s : State) : Type 0 where
-  pub askings : List Asking
-  pub fetches : List (List ℕ)
-  pub asked : (askings ≡ s.askings) ⊎ ((one : Asking) × (askings ≡ one ∷ s.askings))
-  pub fetched : (fetches ≡ s.fetches) ⊎ ((one : List ℕ) × (fetches ≡ one ∷ s.fetches))
-  pub stands : after (record (standing s) { askings = askings; fetches = fetches })
+-- the state in which all that an operation asks and fetches was asked and fetched, and nothing else happened
+abbrev pub asked_by : Capture → Pos → SeenOp → List Contents → State → State
+asked_by capture at what values s = note at (suc (askings_at at s.askings)) (effect_of capture at what values s).touches s
+
+-- After want of memory the store is as before. What this operation asks and fetches was asked and fetched, or nothing was.
+pub record IsRefused (capture : Capture) (at : Pos) (what : SeenOp) (values : List Contents) (after : Standing → Type 0) (s : State) : Type 0 where
+  pub next : State
+  pub asked : (next ≡ s) ⊎ (next ≡ asked_by capture at what values s)
+  pub stands : after (standing next)
+
+-- some operation asked and fetched what it asks and fetches, and nothing else happened
+pub record WasAsked (capture : Capture) (s next : State) : Type 0 where
+  pub at : Pos
+  pub what : SeenOp
+  pub values : List Contents
+  pub next_is : next ≡ asked_by capture at what values s
+
+-- the same of a run: what one operation asks and fetches was asked and fetched, or nothing was
+pub record IsInterrupted (capture : Capture) (after : Standing → Type 0) (s : State) : Type 0 where
+  pub next : State
+  pub asked : (next ≡ s) ⊎ WasAsked capture s next
+  pub stands : after (standing next)
 
 abbrev pub Performs : {E : Type 0} → Pos → Op → List Value → ℕ → Fits → Stands → Stands → Result Done E → Type 0
 Performs at op values left fits before after (Ok (Did deed)) = ForEach fits before (λ table capture s. s.left ≡ left → IsDone at op values deed (after table capture) table capture s)
 Performs at op values left fits before after (Ok TooDear) = ForEach fits before (λ table capture s. s.left ≡ left → IsTooDear at op values (after table capture) table capture s)
 Performs at op values left fits before after (Ok Unanswered) = ForEach fits before (λ table capture s. s.left ≡ left → IsLacking at op values (after table capture) table capture s)
-Performs at op values left fits before after (Err want) = ForEach fits before (λ table capture s. IsRefused (after table capture) s)
+Performs at op values left fits before after (Err want) =
+    ForEach fits before (λ table capture s. IsRefused capture at (op_seen table op) (map (contents table) values) (after table capture) s)
 
 -- The next activation was entered: each parameter is set, in order. It is too dear exactly where its cost, 1 and 1 for each parameter, is
 -- more than is left, and then nothing has changed.

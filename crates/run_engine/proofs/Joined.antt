@@ -76,10 +76,9 @@ module _ (script : ScriptTree) (task : Task → Act) (capture : Capture) (before
   last_step frames left stands is table (Ok Unanswered) other second = record {
     next = second.next;
     news = first.news;
-    askings = second.askings;
-    fetches = second.fetches;
     comes_out = first.comes_out ∙ second.comes_out;
     told_is = second.told_is ∙ first.told_is;
+    stands_so = second.stands_so;
     left_is = second.left_is;
     tells = same_told was mid is _ second.tells first.tells;
   }
@@ -107,7 +106,7 @@ module _ (script : ScriptTree) (task : Task → Act) (capture : Capture) (before
     last = [];
     comes_out = first.comes_out;
     told_is = first.told_is;
-    refused = record { askings = first.next.askings; fetches = first.next.fetches; asked = inl refl; fetched = inl refl; stands = first.stands_so };
+    refused = record { next = first.next; asked = inl refl; stands = first.stands_so };
     tells = weaker was mid first.tells;
   }
     where

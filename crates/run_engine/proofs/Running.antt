@@ -112,7 +112,7 @@ not_begun script steps rest fits stands was want = λ table capture fit s st lef
   last = [];
   comes_out = refl;
   told_is = refl;
-  refused = record { askings = s.askings; fetches = s.fetches; asked = inl refl; fetched = inl refl; stands = st };
+  refused = record { next = s; asked = inl refl; stands = st };
   tells = none_told was;
 }
   where

@@ -4,11 +4,11 @@ use Rattle.flow_values.specs.declared.next.FlowNext.{FlowNext}
 use Rattle.flow_values.specs.declared.next.FlowNext.TheVariants.{More, Finished, Raised, Spent, Unanswered}
 use Rattle.py_model.specs.Act.{Act, How}
 use Rattle.py_model.specs.Capture.{Capture}
-use Rattle.py_model.specs.Doing.{Fits, Stands, Standing, standing, ForEach, IsRefused}
+use Rattle.py_model.specs.Doing.{Fits, Stands, Standing, standing, ForEach, IsInterrupted}
 use Rattle.py_model.specs.Expressions.{Task}
 use Rattle.py_model.specs.Meaning.{RunEnd, finished, uncaught, end_of, level, meaning}
 use Rattle.py_model.specs.Moment.{Moment}
-use Rattle.py_model.specs.Running.{Asking, State, over, spent, lacking, outcome}
+use Rattle.py_model.specs.Running.{State, over, spent, lacking, outcome}
 use Rattle.py_model.specs.Told.{TellsOn}
 use Rattle.py_tree.specs.Tree.{ScriptTree}
 
@@ -39,10 +39,9 @@ module _ (capture : Capture) (before : Act) (s : State) where
   pub record IsRunLacking (left : ℕ) (stands : Standing → Type 0) (was is : Option (List Moment)) : Type 0 where
     pub next : State
     pub news : List Moment
-    pub askings : List Asking
-    pub fetches : List (List ℕ)
     pub comes_out : outcome capture before s ≡ lacking next
     pub told_is : next.told ≡ news ++ s.told
+    pub stands_so : stands (standing next)
     pub left_is : next.left ≡ left
     pub tells : TellsOn was is (λ told more. more ≡ news ++ told)
 
@@ -54,7 +53,7 @@ module _ (capture : Capture) (before : Act) (s : State) where
     pub last : List Moment
     pub comes_out : outcome capture before s ≡ outcome capture rest next
     pub told_is : next.told ≡ last ++ (news ++ s.told)
-    pub refused : IsRefused stands next
+    pub refused : IsInterrupted capture stands next
     pub tells : TellsOn was is (λ told more. (more ≡ news ++ told) ⊎ (more ≡ last ++ (news ++ told)))
 
 abbrev pub RunsTo : {E : Type 0} → ScriptTree → (Task → Act) → Act → ℕ → (Standing → Type 0) → Option (List Moment) → Option (List Moment) → Capture → State → Result FlowNext E → Type 0
