@@ -194,6 +194,7 @@ impl<'a> Part<'a> {
 }
 
 /// An expression is begun, and a part of a statement follows its value.
+#[inline(always)]
 pub fn start<'a>(
     alloc: Global,
     expr: &'a Expr,
@@ -209,6 +210,7 @@ pub fn start<'a>(
 }
 
 /// An operation on some values, and the part that follows its answer.
+#[inline(always)]
 fn operates<'a>(
     alloc: Global,
     at: Pos,
@@ -239,6 +241,7 @@ pub fn on_none<'a>(
 }
 
 /// An operation on one value.
+#[inline(always)]
 pub fn on_one<'a>(
     alloc: Global,
     at: Pos,
@@ -256,6 +259,7 @@ pub fn on_one<'a>(
 }
 
 /// An operation on two values.
+#[inline(always)]
 pub fn on_two<'a>(
     alloc: Global,
     at: Pos,
@@ -275,6 +279,7 @@ pub fn on_two<'a>(
 }
 
 /// An operation on three values.
+#[inline(always)]
 pub fn on_three<'a>(
     alloc: Global,
     at: Pos,

@@ -88,6 +88,7 @@ impl<'a> FlowFrames<'a> {
     }
 
     /// Something is begun at a spot, and what waits for its end goes below it.
+    #[inline(always)]
     pub fn push(&mut self, waits: Waits<'a>, spot: Spot, now: Now<'a>) -> Result<(), Memory>
         ensures means { OnOk result ((script : ScriptTree) (next : Task → Act) (table : ValuesView) → remaining script next (flow_seen script table self.new)
             ≡ to (to (now_act script next (here_seen script table spot) (now_seen table now.entry)) (waits_act script next (here_seen script table self.old.spot) (waits_seen table waits.entry)))

@@ -30,6 +30,7 @@ pub enum Came {
 }
 
 /// An operation with what it names. Names and texts get their numbers from the doer.
+#[inline(always)]
 pub fn make_op<D: Doer>(
     alloc: Global,
     script: &Script,
@@ -111,6 +112,7 @@ pub fn tell<D: Doer, W: Watch>(
 }
 
 /// An operation is performed and paid for, and the watch is told.
+#[inline(always)]
 pub fn perform<D: Doer, W: Watch>(
     alloc: Global,
     doer: &mut D,
