@@ -119,6 +119,7 @@ module _ (script : ScriptTree) (frames : FlowFrames) (caller : Caller) (at place
             record {
               next = after_entry table s;
               news = enters at found.at (map (contents table) values) (parameters_set (suc s.entered) found.params.now.list.items (map (contents table) values)) ∷ [];
+              few = tt;
               comes_out =
                   comes table capture s n (omega (arith, steps, enough)) e.pays
                   ∙ ap (λ a. outcome capture a (after_entry table s)) (ap (in_body table (level script n)) (sym e.next_is) ∙ means table (level script n));
@@ -135,6 +136,7 @@ module _ (script : ScriptTree) (frames : FlowFrames) (caller : Caller) (at place
               rest = in_body table (level script n) (suc s.entered);
               next = after_entry table s;
               news = enters at found.at (map (contents table) values) (parameters_set (suc s.entered) found.params.now.list.items (map (contents table) values)) ∷ [];
+              few = tt;
               comes_out = comes table capture s n (omega (arith, steps, enough)) e.pays;
               told_is = refl;
               refused = unasked (stands table capture) (after_entry table s) e.stands;
@@ -166,6 +168,7 @@ module _ (script : ScriptTree) (frames : FlowFrames) (caller : Caller) (at place
         rest = calling_so script frames caller at (Function place) values p table (level script n);
         next = s;
         news = [];
+        few = tt;
         comes_out = refl;
         told_is = refl;
         refused = unasked (stands table capture) s holds;
@@ -175,6 +178,7 @@ module _ (script : ScriptTree) (frames : FlowFrames) (caller : Caller) (at place
         rest = in_body table (level script n) (suc s.entered);
         next = after_entry table s;
         news = enters at found.at (map (contents table) values) (parameters_set (suc s.entered) found.params.now.list.items (map (contents table) values)) ∷ [];
+        few = tt;
         comes_out = comes table capture s n enough pays;
         told_is = refl;
         refused = unasked (stands table capture) (after_entry table s) holds;

@@ -33,7 +33,7 @@ use Rattle.flow_parts.specs.declared.frames.FlowFrames.{FlowFrames}
 use Rattle.flow_values.specs.declared.next.FlowNext.{FlowNext}
 use Rattle.flow_values.specs.declared.next.FlowNext.TheVariants.{More as FlowMore, Finished, Raised as FlowRaised, Spent as FlowSpent, Unanswered as FlowUnanswered}
 use Rattle.flow_values.specs.Calls.{calling_so}
-use Rattle.flow_values.specs.Step.{Before, IsStep, StepsFrom}
+use Rattle.flow_values.specs.Step.{AtMostOne, Before, IsStep, StepsFrom}
 use Rattle.flow_values.specs.Value.{GoesOnFrom, IsInScope, IsTaken, answering, evaluating}
 use Rattle.flow_values.proofs.Outcomes.{and_then, outcome_to, same_behind}
 use Rattle.flow_values.proofs.Handing.{calls_so, gives_all}
@@ -47,6 +47,10 @@ went_same : (capture : Capture) (before : Act) (s : State) (after : Act) (t : St
 went_same capture before s after t news (stayed same state none) = ap (λ a. outcome capture a s) (sym same) ∙ ap (outcome capture after) (sym state)
 went_same capture before s after t news (went_on at what values go answer came moment act happened next told one) =
     ap (λ a. outcome capture a s) act ∙ came_out capture at what values go s (did answer came t) happened ∙ ap (λ a. outcome capture a t) (sym next)
+
+went_few : (capture : Capture) (before : Act) (s : State) (after : Act) (t : State) (news : List Moment) → Went capture before s after t news → AtMostOne news
+went_few capture before s after t news (stayed same state none) = subst AtMostOne (sym none) tt
+went_few capture before s after t news (went_on at what values go answer came moment act happened next told one) = subst AtMostOne (sym one) tt
 
 went_told : (capture : Capture) (before : Act) (s : State) (after : Act) (t : State) (news : List Moment) → Went capture before s after t news → t.told ≡ news ++ s.told
 went_told capture before s after t news (stayed same state none) = ap (λ (u : State). u.told) state ∙ ap (λ ms. ms ++ s.told) (sym none)
@@ -74,6 +78,7 @@ module _ (script : ScriptTree) (frames : FlowFrames) (eval gone : EvalFrames) (p
   on_from b later same d (Ok FlowMore) means = record {
     next = d.next;
     news = d.news;
+    few = went_few capture first s later d.next d.news d.went;
     comes_out = same_behind capture beyond first later s d.next d.comes_out ∙ ap (λ a. outcome capture a d.next) (same ∙ means script table (level script n));
     told_is = went_told capture first s later d.next d.news d.went;
     stands_so = d.stands_so;
@@ -84,6 +89,7 @@ module _ (script : ScriptTree) (frames : FlowFrames) (eval gone : EvalFrames) (p
     rest = to later beyond;
     next = d.next;
     news = d.news;
+    few = went_few capture first s later d.next d.news d.went;
     comes_out = same_behind capture beyond first later s d.next d.comes_out;
     told_is = went_told capture first s later d.next d.news d.went;
     refused = unasked stands d.next d.stands_so;
@@ -130,6 +136,7 @@ module _ (script : ScriptTree) (frames : FlowFrames) (eval gone : EvalFrames) (p
       (record {
         next = s;
         news = [];
+        few = tt;
         went = stayed (sym same) refl refl;
         comes_out = ap (λ a. outcome capture a s) same;
         stands_so = known.stands_so;
@@ -140,6 +147,7 @@ module _ (script : ScriptTree) (frames : FlowFrames) (eval gone : EvalFrames) (p
     rest = to first beyond;
     next = s;
     news = [];
+    few = tt;
     comes_out = refl;
     told_is = refl;
     refused = unasked stands s known.stands_so;
@@ -156,6 +164,7 @@ module _ (script : ScriptTree) (frames : FlowFrames) (eval gone : EvalFrames) (p
     rest = to known.rest beyond;
     next = known.next;
     news = known.news;
+    few = went_few capture first s known.rest known.next known.news known.went;
     comes_out = same_behind capture beyond first known.rest s known.next (went_same capture first s known.rest known.next known.news known.went);
     told_is = went_told capture first s known.rest known.next known.news known.went;
     refused = known.refused;

@@ -78,11 +78,12 @@ module _ (script : ScriptTree) (frames : FlowFrames) (at : Pos) (code : Code) (v
   cut_as : (table : ValuesView) (capture : Capture) (s : State) (n : ℕ) → IsCodeOp script frames.spot.scope code op (between table capture) table s → WasCut at op values (stands table capture) was is table capture s
       → IsCut capture (operating script frames at code values p table (level script n)) s (stands table capture) was is
   cut_as table capture s n known (nothing_happened refused same) =
-      record { rest = operating script frames at code values p table (level script n); next = s; news = []; comes_out = refl; told_is = refl; refused = interrupted capture at (op_seen table op) (map (contents table) values) (stands table capture) s refused; tells = told_still was is same }
+      record { rest = operating script frames at code values p table (level script n); next = s; news = []; few = tt; comes_out = refl; told_is = refl; refused = interrupted capture at (op_seen table op) (map (contents table) values) (stands table capture) s refused; tells = told_still was is same }
   cut_as table capture s n known (not_told answer came next moment told happened holds same) = record {
     rest = answers table (level script n) (answer_seen table answer);
     next = next;
     news = moment ∷ [];
+    few = tt;
     comes_out = comes table capture s (level script n) (did (answer_seen table answer) came next) known happened;
     told_is = told;
     refused = unasked (stands table capture) next holds;
@@ -105,6 +106,7 @@ module _ (script : ScriptTree) (frames : FlowFrames) (at : Pos) (code : Code) (v
         record {
           next = d.next;
           news = d.moment ∷ [];
+          few = tt;
           comes_out = comes table capture s (level script n) (did (answer_seen table answer) d.came d.next) known d.happened ∙ ap (λ a. outcome capture a d.next) (took script (level script n) table);
           told_is = d.told_is;
           stands_so = d.stands;
@@ -120,6 +122,7 @@ module _ (script : ScriptTree) (frames : FlowFrames) (at : Pos) (code : Code) (v
           rest = answers table (level script n) (answer_seen table answer);
           next = d.next;
           news = d.moment ∷ [];
+          few = tt;
           comes_out = comes table capture s (level script n) (did (answer_seen table answer) d.came d.next) known d.happened;
           told_is = d.told_is;
           refused = unasked (stands table capture) d.next d.stands;
@@ -140,7 +143,7 @@ code_state script scope code op first last stood between knew state made table c
 pub made_cut : (script : ScriptTree) (frames : FlowFrames) (at : Pos) (code : Code) (values : List Value) (p : Part) (table : ValuesView) (capture : Capture) (s : State) (n : ℕ) (stands : Standing → Type 0) (was : Option (List Moment))
     → stands (standing s) → IsCut capture (operating script frames at code values p table (level script n)) s stands was was
 made_cut script frames at code values p table capture s n stands was holds =
-    record { rest = operating script frames at code values p table (level script n); next = s; news = []; comes_out = refl; told_is = refl; refused = unasked stands s holds; tells = told_still was was refl }
+    record { rest = operating script frames at code values p table (level script n); next = s; news = []; few = tt; comes_out = refl; told_is = refl; refused = unasked stands s holds; tells = told_still was was refl }
 
 pub happened_named : (script : ScriptTree) (frames : FlowFrames) (at : Pos) (code : Code) (values : List Value) (p : Part) (op : OneOp) (after : FlowFrames) (first last : Fits) (stood between stands : Stands) (left rest : ℕ)
     (was is : Option (List Moment)) (knew : Knew first last) (made : ForEach first stood (λ table capture s. IsCodeOp script frames.spot.scope code op (between table capture) table s)) (answer : OneAnswer) (method : Option Pos)

@@ -35,15 +35,16 @@ module _ (capture : Capture) (before after : Act) (s : State) (left rest : ℕ) 
   -- nothing was performed
   pub stood_on : before ≡ after → stands (standing s) → s.left ≡ left → IsOn capture before after s left stands was was
   stood_on same holds steps =
-      record { next = s; news = []; comes_out = ap (λ a. outcome capture a s) same; told_is = refl; stands_so = holds; left_is = steps; tells = told_same was }
+      record { next = s; news = []; few = tt; comes_out = ap (λ a. outcome capture a s) same; told_is = refl; stands_so = holds; left_is = steps; tells = told_same was }
 
   pub not_told : WasNotTold stands was is s → IsCut capture before s stands was is
-  not_told holds = record { rest = before; next = s; news = []; comes_out = refl; told_is = refl; refused = unasked stands s holds.stands; tells = told_weaker was is _ _ (λ told more same. inl same) holds.tells }
+  not_told holds = record { rest = before; next = s; news = []; few = tt; comes_out = refl; told_is = refl; refused = unasked stands s holds.stands; tells = told_weaker was is _ _ (λ told more same. inl same) holds.tells }
 
   pub closed_on : (number : ℕ) (ended : Ending) → before ≡ close number ended after → s.left ≡ left → WasTold (ends number ended) stands was is s → IsOn capture before after s left stands was is
   closed_on number ended same steps told = record {
     next = tell (ends number ended) s;
     news = ends number ended ∷ [];
+    few = tt;
     comes_out = ap (λ a. outcome capture a s) same;
     told_is = refl;
     stands_so = told.stands;
@@ -61,6 +62,7 @@ module _ (capture : Capture) (before after : Act) (s : State) (left rest : ℕ) 
     begun_on paid told = record {
       next = beginning number s;
       news = begins number ∷ [];
+      few = tt;
       comes_out = begins_so paid;
       told_is = refl;
       stands_so = told.stands;
@@ -73,6 +75,7 @@ module _ (capture : Capture) (before after : Act) (s : State) (left rest : ℕ) 
       rest = after;
       next = beginning number s;
       news = begins number ∷ [];
+      few = tt;
       comes_out = begins_so paid;
       told_is = refl;
       refused = unasked stands (beginning number s) told.stands;
@@ -98,13 +101,13 @@ begun_so number left rest fits before after was is b found same known = subst (�
 module _ (script : ScriptTree) (next : Task → Act) (a b : Act) (frames : FlowFrames) (left : ℕ) (stands : Standing → Type 0) (was is : Option (List Moment)) (table : ValuesView) (capture : Capture) (s : State)
     (same : outcome capture a s ≡ outcome capture b s) where
   pub step_same : (r : Result FlowNext Memory) → IsStep script next b frames left stands was is table capture s r → IsStep script next a frames left stands was is table capture s r
-  step_same (Ok More) h = record { next = h.next; news = h.news; comes_out = same ∙ h.comes_out; told_is = h.told_is; stands_so = h.stands_so; left_is = h.left_is; tells = h.tells }
+  step_same (Ok More) h = record { next = h.next; news = h.news; few = h.few; comes_out = same ∙ h.comes_out; told_is = h.told_is; stands_so = h.stands_so; left_is = h.left_is; tells = h.tells }
   step_same (Ok Finished) h = record { how = h.how; comes_out = same ∙ h.comes_out; end_is = h.end_is; stands_so = h.stands_so; left_is = h.left_is; tells = h.tells }
   step_same (Ok (Raised o line)) h = record { how = h.how; comes_out = same ∙ h.comes_out; end_is = h.end_is; stands_so = h.stands_so; left_is = h.left_is; tells = h.tells }
   step_same (Ok Spent) h = record { next = h.next; comes_out = same ∙ h.comes_out; stands_so = h.stands_so; left_is = h.left_is; told_is = h.told_is; tells = h.tells }
   step_same (Ok Unanswered) h =
       record { next = h.next; comes_out = same ∙ h.comes_out; stands_so = h.stands_so; left_is = h.left_is; told_is = h.told_is; tells = h.tells }
-  step_same (Err want) h = record { rest = h.rest; next = h.next; news = h.news; comes_out = same ∙ h.comes_out; told_is = h.told_is; refused = h.refused; tells = h.tells }
+  step_same (Err want) h = record { rest = h.rest; next = h.next; news = h.news; few = h.few; comes_out = same ∙ h.comes_out; told_is = h.told_is; refused = h.refused; tells = h.tells }
 
 module _ (script : ScriptTree) (b c : Before) (frames : FlowFrames) (left rest : ℕ) (fits : Fits) (stood stands : Stands) (was is : Option (List Moment)) (r : Result FlowNext Memory) where
   pub steps_by : ((table : ValuesView) (capture : Capture) (s : State) (n : ℕ) → s.left < n → outcome capture (b table (level script n)) s ≡ outcome capture (c table (level script n)) s)
@@ -133,7 +136,7 @@ steps_fitting script b frames left fits stood was same = λ table capture fit s 
 
 pub cut_from : (script : ScriptTree) (b : Before) (frames : FlowFrames) (left : ℕ) (fits : Fits) (stood : Stands) (was : Option (List Moment)) → (want : Memory) → StepsFrom script b frames left left fits stood stood was was (Err want)
 cut_from script b frames left fits stood was want = λ table capture fit s stood_so steps n enough.
-    record { rest = b table (level script n); next = s; news = []; comes_out = refl; told_is = refl; refused = unasked (stood table capture) s stood_so; tells = told_weaker was was _ _ (λ told more same. inl same) (told_same was) }
+    record { rest = b table (level script n); next = s; news = []; few = tt; comes_out = refl; told_is = refl; refused = unasked (stood table capture) s stood_so; tells = told_weaker was was _ _ (λ told more same. inl same) (told_same was) }
 
 -- the run is at its end
 over_as : (script : ScriptTree) (next : Task → Act) (frames : FlowFrames) (left : ℕ) (stands : Standing → Type 0) (was : Option (List Moment)) (table : ValuesView) (capture : Capture) (s : State) (how : How)

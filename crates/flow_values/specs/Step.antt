@@ -1,5 +1,5 @@
 -- What one step of a script does: the run comes out from what is still to be done afterwards as from what was still to be done before.
-use Rattle.std.specs.Prelude.{◌≡◌, ◌⊎◌, ◌<◌, ◌++◌, ℕ, List, map, Option, Some, None, Result, Ok, Err, ⊤}
+use Rattle.std.specs.Prelude.{◌≡◌, ◌⊎◌, ◌<◌, ◌++◌, ℕ, List, [], ◌∷◌, ⊥, map, Option, Some, None, Result, Ok, Err, ⊤}
 use Rattle.py_tree.specs.Tree.{ScriptTree}
 use Rattle.py_value.specs.Values.{ValuesView}
 use Rattle.py_model.specs.Act.{Act, How, ret, to}
@@ -20,10 +20,17 @@ use Rattle.flow_parts.specs.declared.frames.FlowFrames.{FlowFrames}
 use Rattle.flow_values.specs.declared.next.FlowNext.{FlowNext}
 use Rattle.flow_values.specs.declared.next.FlowNext.TheVariants.{More, Finished, Raised, Spent, Unanswered}
 
--- The doer stands for a state, so many steps are left, and the watch was told the moments that it has more.
+-- one moment, or none
+abbrev pub AtMostOne : List Moment → Type 0
+AtMostOne [] = Unit {0}
+AtMostOne (moment ∷ []) = Unit {0}
+AtMostOne (moment ∷ other ∷ more) = ⊥
+
+-- The doer stands for a state, so many steps are left, and the watch was told the moment that it has more, where it has one.
 pub record IsOn (capture : Capture) (before after : Act) (s : State) (left : ℕ) (stands : Standing → Type 0) (was is : Option (List Moment)) : Type 0 where
   pub next : State
   pub news : List Moment
+  pub few : AtMostOne news
   pub comes_out : outcome capture before s ≡ outcome capture after next
   pub told_is : next.told ≡ news ++ s.told
   pub stands_so : stands (standing next)
@@ -53,6 +60,7 @@ pub record IsCut (capture : Capture) (before : Act) (s : State) (stands : Standi
   pub rest : Act
   pub next : State
   pub news : List Moment
+  pub few : AtMostOne news
   pub comes_out : outcome capture before s ≡ outcome capture rest next
   pub told_is : next.told ≡ news ++ s.told
   pub refused : IsInterrupted capture stands next

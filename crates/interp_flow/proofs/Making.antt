@@ -158,6 +158,7 @@ module _ (script : ScriptTree) (frames : FlowFrames) (caller : Caller) (at : Pos
     rest = calling_so script frames caller at (Class of) arguments p table (level script n);
     next = s;
     news = [];
+    few = tt;
     comes_out = refl;
     told_is = refl;
     refused = interrupted capture at (op_seen table class_op) (map (contents table) all) (stands table capture) s refused;
@@ -167,6 +168,7 @@ module _ (script : ScriptTree) (frames : FlowFrames) (caller : Caller) (at : Pos
     rest = made_then table (level script n) came.is_exception came.method (answer_seen table answer);
     next = next;
     news = moment ∷ [];
+    few = tt;
     comes_out = comes table capture s (level script n) (did (answer_seen table answer) came next) happened;
     told_is = told;
     refused = unasked (stands table capture) next holds;
@@ -184,6 +186,7 @@ module _ (script : ScriptTree) (frames : FlowFrames) (caller : Caller) (at : Pos
         record {
           next = d.next;
           news = d.moment ∷ [];
+          few = tt;
           comes_out =
               comes table capture s (level script n) (did (answer_seen table answer) d.came d.next) d.happened
               ∙ ap (λ e. outcome capture (made_then table (level script n) e d.came.method (answer_seen table answer)) d.next) d.exception_is
@@ -200,6 +203,7 @@ module _ (script : ScriptTree) (frames : FlowFrames) (caller : Caller) (at : Pos
           rest = made_then table (level script n) d.came.is_exception d.came.method (answer_seen table answer);
           next = d.next;
           news = d.moment ∷ [];
+          few = tt;
           comes_out = comes table capture s (level script n) (did (answer_seen table answer) d.came d.next) d.happened;
           told_is = d.told_is;
           refused = unasked (stands table capture) d.next d.stands;

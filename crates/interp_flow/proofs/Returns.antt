@@ -41,6 +41,7 @@ module _ (capture : Capture) (before after : Act) (s : State) (left : ℕ) (stan
   left_on steps later on = record {
     next = tell (leaves v) s;
     news = leaves v ∷ [];
+    few = tt;
     comes_out = ap (λ a. outcome capture a s) same ∙ ap (λ a. outcome capture a (tell (leaves v) s)) on;
     told_is = refl;
     stands_so = told.stands;
@@ -53,6 +54,7 @@ module _ (capture : Capture) (before after : Act) (s : State) (left : ℕ) (stan
     rest = after;
     next = tell (leaves v) s;
     news = leaves v ∷ [];
+    few = tt;
     comes_out = ap (λ a. outcome capture a s) same;
     told_is = refl;
     refused = unasked stands (tell (leaves v) s) told.stands;

@@ -7,11 +7,11 @@ use Rattle.flow_values.specs.declared.next.FlowNext.TheVariants.{More, Finished,
 use Rattle.prov_base.specs.declared.refusal.Memory.{Memory}
 use Rattle.py_model.specs.Act.{Act}
 use Rattle.py_model.specs.Capture.{Capture}
-use Rattle.py_model.specs.Doing.{Standing}
+use Rattle.py_model.specs.Doing.{Standing, standing}
 use Rattle.py_model.specs.Expressions.{Task}
 use Rattle.py_model.specs.Meaning.{RunEnd}
 use Rattle.py_model.specs.Moment.{Moment}
-use Rattle.py_model.specs.Running.{State}
+use Rattle.py_model.specs.Running.{State, outcome}
 use Rattle.py_model.specs.Told.{TellsOn}
 use Rattle.py_tree.specs.Tree.{ScriptTree}
 use Rattle.py_value.specs.Values.{ValuesView}
@@ -31,10 +31,20 @@ both_told first second told between more one other = other ∙ (ap (λ b. second
 same_told : (was mid is : Option (List Moment)) (P : List Moment → List Moment → Type 0) → is ≡ mid → TellsOn was mid P → TellsOn was is P
 same_told was mid is P same one = subst (λ x. TellsOn was x P) (sym same) one
 
+-- a run has gone on from here to there, by any number of moments
+pub record HasGone (capture : Capture) (before after : Act) (s : State) (left : ℕ) (stands : Standing → Type 0) (was is : Option (List Moment)) : Type 0 where
+  pub next : State
+  pub news : List Moment
+  pub comes_out : outcome capture before s ≡ outcome capture after next
+  pub told_is : next.told ≡ news ++ s.told
+  pub stands_so : stands (standing next)
+  pub left_is : next.left ≡ left
+  pub tells : TellsOn was is (λ told more. more ≡ news ++ told)
+
 module _ (script : ScriptTree) (task : Task → Act) (capture : Capture) (before middle : Act) (s : State) (reached : ℕ) (stood : Standing → Type 0) (was mid : Option (List Moment))
-    (first : IsOn capture before middle s reached stood was mid) where
+    (first : HasGone capture before middle s reached stood was mid) where
   -- one step more
-  pub on_more : (after : Act) (left : ℕ) (stands : Standing → Type 0) (is : Option (List Moment)) → IsOn capture middle after first.next left stands mid is → IsOn capture before after s left stands was is
+  pub on_more : (after : Act) (left : ℕ) (stands : Standing → Type 0) (is : Option (List Moment)) → IsOn capture middle after first.next left stands mid is → HasGone capture before after s left stands was is
   on_more after left stands is second = record {
     next = second.next;
     news = second.news ++ first.news;
@@ -87,6 +97,7 @@ module _ (script : ScriptTree) (task : Task → Act) (capture : Capture) (before
     next = second.next;
     news = first.news;
     last = second.news;
+    few = second.few;
     comes_out = first.comes_out ∙ second.comes_out;
     told_is = second.told_is ∙ ap (λ told. second.news ++ told) first.told_is;
     refused = second.refused;
@@ -104,6 +115,7 @@ module _ (script : ScriptTree) (task : Task → Act) (capture : Capture) (before
     next = first.next;
     news = first.news;
     last = [];
+    few = tt;
     comes_out = first.comes_out;
     told_is = first.told_is;
     refused = record { next = first.next; asked = inl refl; stands = first.stands_so };

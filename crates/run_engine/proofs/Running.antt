@@ -6,7 +6,7 @@ use Rattle.flow_parts.specs.Seen.{flow_seen}
 use Rattle.flow_parts.specs.declared.frames.FlowFrames.{FlowFrames}
 use Rattle.interp_eval.specs.Performing.{HasState}
 use Rattle.flow_values.proofs.Outcomes.{and_then, outcome_to}
-use Rattle.flow_values.specs.Step.{IsOn, Steps, HoldsNext, meant}
+use Rattle.flow_values.specs.Step.{Steps, HoldsNext, meant}
 use Rattle.flow_values.specs.declared.next.FlowNext.{FlowNext}
 use Rattle.flow_values.specs.declared.next.FlowNext.TheVariants.{More}
 use Rattle.prov_base.specs.declared.refusal.Memory.{Memory}
@@ -21,7 +21,7 @@ use Rattle.py_model.specs.Statements.{suite}
 use Rattle.py_model.specs.Told.{TellsOn}
 use Rattle.py_tree.specs.Tree.{ScriptTree}
 use Rattle.py_value.specs.Values.{ValuesView}
-use Rattle.run_engine.proofs.Joined.{on_more, last_step, cut_here}
+use Rattle.run_engine.proofs.Joined.{HasGone, on_more, last_step, cut_here}
 use Rattle.run_engine.specs.Run.{Runs}
 
 -- what comes out behind nothing
@@ -39,7 +39,7 @@ pub record IsSoFar (script : ScriptTree) (frames : FlowFrames) (steps left : ℕ
   pub knew : Knew began fits
   pub state : HasState fits stands
   pub held : IsHeldBy fits frames
-  pub so_far : ForEach fits stood (λ table capture s. s.left ≡ steps → IsOn capture (meaning script steps) (meant script frames table (level script (suc steps))) s left (stands table capture) was is)
+  pub so_far : ForEach fits stood (λ table capture s. s.left ≡ steps → HasGone capture (meaning script steps) (meant script frames table (level script (suc steps))) s left (stands table capture) was is)
 
 pub begun : (script : ScriptTree) (frames : FlowFrames) (steps : ℕ) (fits : Fits) (stands : Stands) (was : Option (List Moment)) → HasState fits stands
     → ((next : Task → Act) (table : ValuesView) → remaining script next (flow_seen script table frames) ≡ to (suite script next at_start script.body) (λ how. ret how))
@@ -110,6 +110,7 @@ not_begun script steps rest fits stands was want = λ table capture fit s st lef
   next = s;
   news = [];
   last = [];
+  few = tt;
   comes_out = refl;
   told_is = refl;
   refused = record { next = s; asked = inl refl; stands = st };

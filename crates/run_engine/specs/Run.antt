@@ -1,5 +1,6 @@
 -- How a whole run comes out (this project's profile), by what its last step came to.
 use Rattle.std.specs.Prelude.{◌≡◌, ◌⊎◌, ℕ, suc, List, ◌++◌, Option, Result, Ok, Err}
+use Rattle.flow_values.specs.Step.{AtMostOne}
 use Rattle.flow_values.specs.declared.next.FlowNext.{FlowNext}
 use Rattle.flow_values.specs.declared.next.FlowNext.TheVariants.{More, Finished, Raised, Spent, Unanswered}
 use Rattle.py_model.specs.Act.{Act, How}
@@ -45,12 +46,13 @@ module _ (capture : Capture) (before : Act) (s : State) where
     pub left_is : next.left ≡ left
     pub tells : TellsOn was is (λ told more. more ≡ news ++ told)
 
-  -- Memory ran out: behind some moments, of which the watch was told all, or all but the last step's.
+  -- Memory ran out: behind some moments, of which the watch was told all, or all but the last.
   pub record IsRunCut (stands : Standing → Type 0) (was is : Option (List Moment)) : Type 0 where
     pub rest : Act
     pub next : State
     pub news : List Moment
     pub last : List Moment
+    pub few : AtMostOne last
     pub comes_out : outcome capture before s ≡ outcome capture rest next
     pub told_is : next.told ≡ last ++ (news ++ s.told)
     pub refused : IsInterrupted capture stands next
