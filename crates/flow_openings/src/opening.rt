@@ -16,8 +16,8 @@ ghost use Rattle.flow_parts.specs.Seen.{now_seen};
 ghost use Rattle.flow_openings.specs.Opening.{StandsIn, deleting, plain_rule, raising};
 
 use crate::forms::first_in;
+use flow_changes::augmented;
 use flow_parts::{Code, End, Now, Part, Spot, Stage, branch_at, on_none, on_one, start};
-use flow_stores::augmented;
 use interp_eval::Scope;
 use prov_base::{Memory, Name, Pos};
 use py_tree::{Form, Suite, Target};

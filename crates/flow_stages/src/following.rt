@@ -14,13 +14,12 @@ ghost use Rattle.flow_parts.specs.Machine.{now_act, test_act, test_of, then_act,
 ghost use Rattle.flow_parts.specs.Seen.{now_seen, stage_seen};
 
 use crate::handling::{entered, matched};
+use flow_changes::{based, changed, loaded, sided, slotted};
 use flow_openings::test_in;
 use flow_parts::{
     Code, End, Goal, Now, Part, Stage, branch_at, is_true, on_none, on_one, on_two, start,
 };
-use flow_stores::{
-    based, changed, held, indexed, keyed, loaded, owned, reached, sided, slotted, stored,
-};
+use flow_stores::{held, indexed, keyed, owned, reached, stored};
 use interp_eval::{Scope, place_of};
 use prov_base::Memory;
 use py_tree::{Expr, Form};

@@ -1,4 +1,3 @@
 pub mod Starting
-pub mod Changes
 pub mod Breaking
 pub mod ItemsOf

@@ -1,6 +1,5 @@
--- What begins with an expression or an operation, and goes on with what follows a part of a statement.
-use Rattle.std.proofs.Common.{◌≡◌, ℕ, pos, List, [], ◌∷◌, Some, Result, Ok, Err, ap, sym, ◌∙◌}
-use Rattle.std.specs.Prelude.{IfOk}
+-- What a store or a deletion goes on with means what the stage means.
+use Rattle.std.proofs.Common.{◌≡◌, ℕ, pos, List, [], ◌∷◌, Some, ap, sym, ◌∙◌}
 use Rattle.prov_base.specs.declared.place.Pos.{Pos}
 use Rattle.py_tree.specs.Tree.{ExprTree, FormTree, TargetsTree, ScriptTree, part_target, field_target, many_target}
 use Rattle.py_value.specs.Contents.{Contents, int}
@@ -8,15 +7,7 @@ use Rattle.py_model.specs.Act.{Act}
 use Rattle.py_model.specs.Expressions.{Here, Task, doing, op_of, eval}
 use Rattle.py_model.specs.Statements.{count_targets}
 use Rattle.interp_eval.specs.Machine.{plain}
-use Rattle.flow_parts.specs.Machine.{Stage, Part, part, Goal, holder, at_index, key, unpacked, flow_op, goal_target, many_of, several_in, spread_act, then_act, target_in, stored_act, holder_act, index_act, owner_act, key_act}
-
-pub if_more : {T E : Type 0} (r : Result T E) (P Q : T → Type 0) → ((x : T) → P x → Q x) → IfOk r P → IfOk r Q
-if_more (Ok x) P Q more holds = more x holds
-if_more (Err e) P Q more holds = holds
-
-pub starts_as : (script : ScriptTree) (next : Task → Act) (here : Here) (a : Act) (K : (Contents → Act) → Act) (g : Act) (p : Part) (at : Pos) (form : FormTree) (stage : Stage)
-    → p ≡ part at form stage → K (then_act script next here at form stage) ≡ g → a ≡ K (then_act script next here p.at p.form p.stage) → a ≡ g
-starts_as script next here a K g p at form stage same opens means = means ∙ ap (λ p. K (then_act script next here p.at p.form p.stage)) same ∙ opens
+use Rattle.flow_parts.specs.Machine.{Goal, holder, at_index, key, unpacked, flow_op, goal_target, many_of, several_in, spread_act, then_act, target_in, stored_act, holder_act, index_act, owner_act, key_act}
 
 module _ (script : ScriptTree) (next : Task → Act) (here : Here) (at : Pos) (form : FormTree) where
   pub part_stored : (goal : Goal) (place : Pos) (e i : ExprTree) (v : Contents) → goal_target goal form ≡ Some (part_target place e i)

@@ -1,13 +1,11 @@
-//! How values are stored in the targets of statements: by an assignment or a turn of a `for`, by an augmented assignment; and how an item is
-//! deleted. It stands on the parts of statements of `flow_parts`.
+//! How values are stored in the targets of statements, by an assignment or a turn of a `for`, and how an item is deleted. It stands on the parts of
+//! statements of `flow_parts`.
 //!
-//! Each function says that what is done afterwards means what the stage means. `specs/Changing.antt` says how augmented assignments begin.
+//! Each function says that what is done afterwards means what the stage means.
 #![tactic(auto)]
 
-mod changing;
 mod spreading;
 mod storing;
 
-pub use changing::{augmented, based, changed, loaded, sided, slotted};
 pub use spreading::{item_at, several_in};
 pub use storing::{goal_target, held, indexed, keyed, owned, reached, stored, target_at};

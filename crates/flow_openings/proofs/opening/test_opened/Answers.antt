@@ -4,7 +4,7 @@ use Rattle.py_tree.specs.Erasure.{branches_of, else_tree, expr_of, form_of, suit
 use Rattle.py_tree.proofs.StmtTrees.{branches_tree, if_tree, while_tree}
 use Rattle.flow_parts.specs.Machine.{now_act}
 use Rattle.flow_parts.specs.Seen.{now_seen}
-use Rattle.flow_stores.proofs.Starting.{if_more}
+use Rattle.flow_parts.proofs.Starting.{if_more}
 use Rattle.flow_openings.proofs.Openings.{branches_seen, if_none, if_some, while_tested}
 use Rattle.flow_openings.proofs.opening.test_opened.Goals as goal
 

@@ -5,7 +5,7 @@ use Rattle.py_value.specs.Contents.{contents}
 use Rattle.py_model.specs.Act.{ret, normal}
 use Rattle.flow_parts.specs.Machine.{now_act}
 use Rattle.flow_parts.specs.Seen.{now_seen, part_seen}
-use Rattle.flow_stores.proofs.Starting.{if_more}
+use Rattle.flow_parts.proofs.Starting.{if_more}
 use Rattle.flow_openings.proofs.Openings.{no_test, a_test}
 use Rattle.flow_stages.proofs.following.tested.Goals as goal
 

@@ -6,7 +6,8 @@ use Rattle.py_value.specs.Contents.{contents}
 use Rattle.py_model.specs.Expressions.{eval}
 use Rattle.flow_parts.specs.Machine.{at_index, now_act, holder_act, goal_target}
 use Rattle.flow_parts.specs.Seen.{goal_seen, now_seen, part_seen}
-use Rattle.flow_stores.proofs.Starting.{if_more, part_held, starts_as}
+use Rattle.flow_parts.proofs.Starting.{if_more, starts_as}
+use Rattle.flow_stores.proofs.Starting.{part_held}
 use Rattle.flow_stores.proofs.storing.held.Goals as goal
 
 pub returns-in-Part-clause-means : goal.returns-in-Part-clause-means

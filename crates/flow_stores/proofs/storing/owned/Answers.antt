@@ -6,7 +6,8 @@ use Rattle.py_value.specs.Contents.{contents}
 use Rattle.py_model.specs.Expressions.{eval}
 use Rattle.flow_parts.specs.Machine.{key, now_act, owner_act, target_in}
 use Rattle.flow_parts.specs.Seen.{now_seen, part_seen}
-use Rattle.flow_stores.proofs.Starting.{if_more, part_owned, starts_as}
+use Rattle.flow_parts.proofs.Starting.{if_more, starts_as}
+use Rattle.flow_stores.proofs.Starting.{part_owned}
 use Rattle.flow_stores.proofs.storing.owned.Goals as goal
 
 pub returns-in-Part-clause-means : goal.returns-in-Part-clause-means

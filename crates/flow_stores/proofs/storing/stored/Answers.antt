@@ -6,7 +6,8 @@ use Rattle.py_value.specs.Contents.{contents}
 use Rattle.py_model.specs.Expressions.{eval}
 use Rattle.flow_parts.specs.Machine.{holder, now_act, stored_act, goal_target}
 use Rattle.flow_parts.specs.Seen.{goal_seen, now_seen, part_seen}
-use Rattle.flow_stores.proofs.Starting.{field_stored, if_more, part_stored, starts_as}
+use Rattle.flow_parts.proofs.Starting.{if_more, starts_as}
+use Rattle.flow_stores.proofs.Starting.{field_stored, part_stored}
 use Rattle.flow_stores.proofs.storing.stored.Goals as goal
 
 pub returns-in-Part-clause-means : goal.returns-in-Part-clause-means

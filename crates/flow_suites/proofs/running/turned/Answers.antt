@@ -9,7 +9,7 @@ use Rattle.flow_parts.specs.Held.{IsHeldStage}
 use Rattle.flow_parts.specs.declared.control.Part.{Part}
 use Rattle.flow_parts.specs.Machine.{flow_op, item, now_act, then_act, turn_act}
 use Rattle.flow_parts.specs.Seen.{now_seen, part_seen}
-use Rattle.flow_stores.proofs.Starting.{if_more}
+use Rattle.flow_parts.proofs.Starting.{if_more}
 use Rattle.flow_openings.proofs.Followings.{follows_as}
 use Rattle.flow_suites.proofs.running.turned.Goals as goal
 

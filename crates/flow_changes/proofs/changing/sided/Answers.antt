@@ -6,10 +6,10 @@ use Rattle.py_model.specs.Expressions.{doing, op}
 use Rattle.py_model.specs.Statements.{augmented_number}
 use Rattle.flow_parts.specs.Machine.{change_in, changed, now_act, sided_act}
 use Rattle.flow_parts.specs.Seen.{now_seen, part_seen}
-use Rattle.flow_stores.specs.Changing.{change_seen}
-use Rattle.flow_stores.proofs.Starting.{if_more, starts_as}
-use Rattle.flow_stores.proofs.Changes.{signs_so}
-use Rattle.flow_stores.proofs.changing.sided.Goals as goal
+use Rattle.flow_changes.specs.Changing.{change_seen}
+use Rattle.flow_parts.proofs.Starting.{if_more, starts_as}
+use Rattle.flow_changes.proofs.Changes.{signs_so}
+use Rattle.flow_changes.proofs.changing.sided.Goals as goal
 
 pub returns-clause-means : goal.returns-clause-means
 returns-clause-means c = if_more c.on_two.result _ _ (λ now means. λ script next here table.

@@ -7,10 +7,10 @@ use Rattle.py_value.specs.Contents.{contents}
 use Rattle.py_model.specs.Expressions.{eval}
 use Rattle.flow_parts.specs.Machine.{based_act, change, change_in, now_act, slotted}
 use Rattle.flow_parts.specs.Seen.{now_seen, part_seen}
-use Rattle.flow_stores.specs.Changing.{change_seen}
-use Rattle.flow_stores.proofs.Starting.{if_more, starts_as}
-use Rattle.flow_stores.proofs.Changes.{bases_so, field_so, indexes_so}
-use Rattle.flow_stores.proofs.changing.based.Goals as goal
+use Rattle.flow_changes.specs.Changing.{change_seen}
+use Rattle.flow_parts.proofs.Starting.{if_more, starts_as}
+use Rattle.flow_changes.proofs.Changes.{bases_so, field_so, indexes_so}
+use Rattle.flow_changes.proofs.changing.based.Goals as goal
 
 pub returns-in-Part-clause-means : goal.returns-in-Part-clause-means
 returns-in-Part-clause-means c = if_more c.start.result _ _ (λ now means. λ script next here table.

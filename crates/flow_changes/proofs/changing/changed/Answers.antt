@@ -8,10 +8,10 @@ use Rattle.interp_eval.specs.Machine.{a_name, a_variable, plain}
 use Rattle.py_tree.specs.Tree.{field_target, many_target, part_target, var_target}
 use Rattle.flow_parts.specs.Machine.{change, change_in, changed_act, done, flow_op, now_act}
 use Rattle.flow_parts.specs.Seen.{now_seen, part_seen}
-use Rattle.flow_stores.specs.Changing.{change_seen}
-use Rattle.flow_stores.proofs.Starting.{if_more, starts_as}
-use Rattle.flow_stores.proofs.Changes.{sets_so}
-use Rattle.flow_stores.proofs.changing.changed.Goals as goal
+use Rattle.flow_changes.specs.Changing.{change_seen}
+use Rattle.flow_parts.proofs.Starting.{if_more, starts_as}
+use Rattle.flow_changes.proofs.Changes.{sets_so}
+use Rattle.flow_changes.proofs.changing.changed.Goals as goal
 
 pub returns-in-Var-clause-means : goal.returns-in-Var-clause-means
 returns-in-Var-clause-means c = if_more c.on_one.result _ _ (λ now means. λ script next here table.

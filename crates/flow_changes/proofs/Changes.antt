@@ -8,7 +8,7 @@ use Rattle.py_model.specs.Act.{Act, ret, normal}
 use Rattle.py_model.specs.Expressions.{Here, Task, doing, op, eval}
 use Rattle.py_model.specs.Statements.{augmented_number}
 use Rattle.flow_parts.specs.Machine.{based, slotted, loaded, sided, changed, change, change_in, then_act, set_act, changed_act, sided_act, loaded_act, load_of, slotted_act, based_of, based_act}
-use Rattle.flow_stores.specs.Changing.{augmenting}
+use Rattle.flow_changes.specs.Changing.{augmenting}
 
 module _ (script : ScriptTree) (next : Task → Act) (here : Here) (at : Pos) (form : FormTree) (sign : BinOp) (place : Pos) (right : ExprTree) where
   -- a statement changes this target so

@@ -9,10 +9,10 @@ use Rattle.interp_eval.specs.Machine.{a_name, a_variable, plain}
 use Rattle.py_tree.specs.Tree.{field_target, many_target, part_target, var_target}
 use Rattle.flow_parts.specs.Machine.{change, change_in, flow_op, loaded, now_act, slotted_act}
 use Rattle.flow_parts.specs.Seen.{now_seen, part_seen}
-use Rattle.flow_stores.specs.Changing.{change_seen}
-use Rattle.flow_stores.proofs.Starting.{if_more, starts_as}
-use Rattle.flow_stores.proofs.Changes.{loads_so}
-use Rattle.flow_stores.proofs.changing.slotted.Goals as goal
+use Rattle.flow_changes.specs.Changing.{change_seen}
+use Rattle.flow_parts.proofs.Starting.{if_more, starts_as}
+use Rattle.flow_changes.proofs.Changes.{loads_so}
+use Rattle.flow_changes.proofs.changing.slotted.Goals as goal
 
 pub returns-in-Var-clause-means : goal.returns-in-Var-clause-means
 returns-in-Var-clause-means c = if_more c.on_none.result _ _ (λ now means. λ script next here table.

@@ -5,10 +5,10 @@ use Rattle.py_value.specs.Contents.{contents}
 use Rattle.py_model.specs.Expressions.{eval}
 use Rattle.flow_parts.specs.Machine.{change_in, loaded_act, now_act, sided}
 use Rattle.flow_parts.specs.Seen.{now_seen, part_seen}
-use Rattle.flow_stores.specs.Changing.{change_seen}
-use Rattle.flow_stores.proofs.Starting.{if_more, starts_as}
-use Rattle.flow_stores.proofs.Changes.{rights_so}
-use Rattle.flow_stores.proofs.changing.loaded.Goals as goal
+use Rattle.flow_changes.specs.Changing.{change_seen}
+use Rattle.flow_parts.proofs.Starting.{if_more, starts_as}
+use Rattle.flow_changes.proofs.Changes.{rights_so}
+use Rattle.flow_changes.proofs.changing.loaded.Goals as goal
 
 pub returns-clause-means : goal.returns-clause-means
 returns-clause-means c = if_more c.start.result _ _ (λ now means. λ script next here table.

@@ -5,10 +5,10 @@ use Rattle.py_tree.proofs.TargetTrees.{field_target_tree, many_target_tree, part
 use Rattle.py_model.specs.Expressions.{eval}
 use Rattle.flow_parts.specs.Machine.{based, change, change_in, now_act}
 use Rattle.flow_parts.specs.Seen.{now_seen, part_seen}
-use Rattle.flow_stores.specs.Changing.{augmenting, change_seen}
-use Rattle.flow_stores.proofs.Starting.{if_more, starts_as}
-use Rattle.flow_stores.proofs.Changes.{field_begins, many_begins, name_begins, part_begins}
-use Rattle.flow_stores.proofs.changing.augmented.Goals as goal
+use Rattle.flow_changes.specs.Changing.{augmenting, change_seen}
+use Rattle.flow_parts.proofs.Starting.{if_more, starts_as}
+use Rattle.flow_changes.proofs.Changes.{field_begins, many_begins, name_begins, part_begins}
+use Rattle.flow_changes.proofs.changing.augmented.Goals as goal
 
 pub returns-in-Var-clause-means : goal.returns-in-Var-clause-means
 returns-in-Var-clause-means c = if_more c.slotted.result _ _ (λ now means. λ script next here table.

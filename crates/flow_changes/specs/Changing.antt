@@ -6,7 +6,7 @@ use Rattle.py_model.specs.Act.{Act, ret, normal}
 use Rattle.py_model.specs.Expressions.{Here, Task}
 use Rattle.py_model.specs.Statements.{augment}
 use Rattle.flow_parts.specs.Machine.{Change, change}
-use Rattle.flow_stores.specs.declared.changing.Change.{Change as ChangeRefs}
+use Rattle.flow_changes.specs.declared.changing.Change.{Change as ChangeRefs}
 
 abbrev pub change_seen : ChangeRefs → Change
 change_seen c = change (target_of c.target.now) c.sign c.place (expr_of c.right.now)

@@ -12,7 +12,7 @@ ghost use Rattle.interp_eval.specs.declared.frames.Scope.{Scope as OneScope};
 ghost use Rattle.flow_parts.specs.Held.{IsHeldNow};
 ghost use Rattle.flow_parts.specs.Machine.{based_act, change_in, changed_act, loaded_act, now_act, sided_act, slotted_act};
 ghost use Rattle.flow_parts.specs.Seen.{now_seen};
-ghost use Rattle.flow_stores.specs.Changing.{augmenting, change_seen};
+ghost use Rattle.flow_changes.specs.Changing.{augmenting, change_seen};
 
 use flow_parts::{Code, End, Now, Part, Stage, on_none, on_one, on_three, on_two, start};
 use interp_eval::Scope;
