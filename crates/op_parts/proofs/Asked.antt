@@ -1,5 +1,5 @@
 -- Operations that ask a device, over what is held of a run and a source of answers.
-use Rattle.std.proofs.Common.{◌≡◌, refl, sym, subst, inl, inr, ◌⊎◌, ℕ, suc, ◌<◌, true, List, Option, Some, None, Result, Ok, Err}
+use Rattle.std.proofs.Common.{◌≡◌, refl, sym, subst, inl, inr, ◌⊎◌, ℕ, suc, ◌<◌, true, List, map, Option, Some, None, Result, Ok, Err}
 use Rattle.std.specs.Result.{IsErr}
 use Rattle.std.proofs.lemmas.Bool.{false≢true}
 use Rattle.answer_source.specs.Sources.{Fits as FitsSource, Stands as StandsSource, Asks, ask_seen, given_seen, next_asking}
@@ -21,10 +21,12 @@ use Rattle.py_model.specs.Capture.{Capture, given_in}
 use Rattle.py_model.specs.Doing.{standing, IsLacking, IsRefused, Performs}
 use Rattle.py_model.specs.Quiet.{may_ask}
 use Rattle.py_model.specs.Running.{Asking, State, note, askings_at}
+use Rattle.py_model.specs.Told.{op_seen}
 use Rattle.py_model.specs.declared.doer.Deed.{Deed}
 use Rattle.py_model.specs.declared.doer.Done.{Done}
 use Rattle.py_model.specs.declared.doer.Done.TheVariants.{Unanswered}
 use Rattle.py_model.specs.declared.moment.Op.{Op}
+use Rattle.py_value.specs.Contents.{contents}
 use Rattle.py_value.specs.Values.{ValuesView}
 use Rattle.py_value.specs.declared.value.Value.{Value}
 

@@ -37,7 +37,7 @@ use Rattle.prov_base.specs.declared.refusal.Memory.{Memory as Want}
 use Rattle.prov_outside.specs.declared.folder.Found.{Found as FoundThere}
 use Rattle.prov_outside.specs.declared.folder.Found.TheVariants.{Bytes, Absent, TooLarge as FoundTooLarge, Failed as Unfound}
 use Rattle.py_model.specs.Capture.{Capture, found_in, with_bytes}
-use Rattle.py_model.specs.Doing.{IsLacking, Performs}
+use Rattle.py_model.specs.Doing.{standing, IsLacking, Performs}
 use Rattle.py_model.specs.Effect.{Effect, effect, accesses_in, after}
 use Rattle.py_model.specs.Files.{open_plan}
 use Rattle.py_model.specs.Plan.{Found, found_bytes, absent, too_large, found_failed, Plan}

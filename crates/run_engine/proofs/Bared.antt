@@ -1,5 +1,5 @@
 -- A run over devices: what is held at its end tells what the run of the script came to.
-use Rattle.std.proofs.Common.{◌≡◌, refl, sym, ap, subst, ◌∙◌, ℕ, suc, ◌-◌, List, Option, Result, Ok, Err, IfOk, map, reverse}
+use Rattle.std.proofs.Common.{◌≡◌, refl, sym, ap, subst, ◌∙◌, ℕ, suc, ◌-◌, List, [], ◌++◌, append-nil, Option, Result, Ok, Err, IfOk, map, reverse}
 use Rattle.answer_source.proofs.Fitting.{own_fits}
 use Rattle.answer_source.specs.Live.{IsCaptureOf, asking_seen, capture_of, has_file}
 use Rattle.capture.specs.Capture.{CaptureView, is_among}
@@ -19,9 +19,10 @@ use Rattle.py_model.specs.Doing.{Standing, standing, Fits, Stands, Knew}
 use Rattle.py_model.specs.Meaning.{meaning, starting, run_of, level, finished, uncaught, end_of}
 use Rattle.py_model.specs.Moment.{Moment}
 use Rattle.py_model.specs.Running.{State, Ended, over, spent, state_in, outcome, Asking}
+use Rattle.py_model.specs.Told.{TellsOn}
 use Rattle.py_tree.specs.Tree.{ScriptTree}
 use Rattle.py_value.specs.Values.{ValuesView, AreInterned}
-use Rattle.run_engine.specs.Bare.{EndsAs, IsEnded, RunsBare, nothing_kept}
+use Rattle.run_engine.specs.Bare.{EndsAs, IsEnded, RunsBare, RunsTold, nothing_kept}
 use Rattle.run_engine.specs.Over.{IsEndTold, IsTold, IsOverOf}
 use Rattle.run_engine.specs.Run.{RunsTo, Runs}
 
@@ -70,6 +71,28 @@ module _ (script : ScriptTree) (path : List ℕ) (arguments : List (List ℕ)) (
   ended Unanswered is_told stands found holds was is r = absurd is_told.can_end
   ended More is_told stands found holds was is r = absurd is_told.can_end
 
+-- the watch was told the moments of the run
+module _ (script : ScriptTree) (path : List ℕ) (arguments : List (List ℕ)) (steps left : ℕ) (capture : Capture) (was is : Option (List Moment)) where
+  abbrev begins_so : State
+  begins_so = starting capture path arguments steps
+
+  abbrev TellsAll : Type 0
+  TellsAll = TellsOn was is (λ told more. more ≡ (state_in (outcome capture (meaning script steps) begins_so)).told ++ told)
+
+  tells_as : (was is : Option (List Moment)) (news all : List Moment) → all ≡ news → TellsOn was is (λ told more. more ≡ news ++ told) → TellsOn was is (λ told more. more ≡ all ++ told)
+  tells_as was is news all same tells = subst (λ ms. TellsOn was is (λ told more. more ≡ ms ++ told)) (sym same) tells
+
+  told_so : (e : Ended) (news : List Moment) → outcome capture (meaning script steps) begins_so ≡ e → (state_in e).told ≡ news ++ [] → TellsOn was is (λ told more. more ≡ news ++ told) → TellsAll
+  told_so e news same told_is tells = tells_as was is news (state_in (outcome capture (meaning script steps) begins_so)).told (ap (λ x. (state_in x).told) same ∙ (told_is ∙ append-nil news)) tells
+
+  pub told_whole : (held : HeldView) (told : EndedRun) (end : FlowNext) → IsTold held end (steps - left) told → (stands : Standing → Type 0)
+      → RunsTo {E = Memory} script (level script (suc steps)) (meaning script steps) left stands was is capture begins_so (Ok end) → TellsAll
+  told_whole held told Finished is_told stands r = told_so (over r.how r.next) r.news r.comes_out r.told_is r.tells
+  told_whole held told (Raised o line) is_told stands r = told_so (over r.how r.next) r.news r.comes_out r.told_is r.tells
+  told_whole held told Spent is_told stands r = told_so (spent r.next) r.news r.comes_out r.told_is r.tells
+  told_whole held told Unanswered is_told stands r = absurd is_told.can_end
+  told_whole held told More is_told stands r = absurd is_told.can_end
+
 -- the whole of a run over devices
 module _ (script : ScriptTree) (path : List ℕ) (arguments : List (List ℕ)) (steps left : ℕ) (before after : Telling) (view : CaptureView) (was is : Option (List Moment))
     (held_before held : HeldView) (began entered : ℕ) (source_before source : List Asking → List (List ℕ) → Type 0)
@@ -85,21 +108,30 @@ module _ (script : ScriptTree) (path : List ℕ) (arguments : List (List ℕ)) (
 
   one_told : (end : Result FlowNext Memory) → Runs script steps left (λ table capture. IsFitting (IsCaptureOf view after) held.work.values table capture)
       (λ table capture s. IsStanding source_before held_before began table capture s) (λ table capture s. IsStanding source held entered table capture s) was is end
-      → (told : EndedRun) → told.capture ≡ view → IsOverOf held end (steps - left) told → IsEnded script path arguments steps (capture_of view after) told
+      → (told : EndedRun) → told.capture ≡ view → IsOverOf held end (steps - left) told
+      → IsEnded script path arguments steps (capture_of view after) told × RunsTold script path arguments steps after was is (Ok told)
   one_told (Ok end) runs told kept is_told =
       let fit = fitting is_told.table is_told.interned is_told.extends in
       let earlier = knew is_told.table (capture_of view after) fit in
-      ended script path arguments steps left (capture_of view after) held told view kept end is_told (λ st. IsStanding source held entered is_told.table (capture_of view after) st) (found_by (capture_of view after))
-      (λ st so. (so.stands, asks st.askings st.fetches so.asked)) was is (runs is_told.table (capture_of view after) fit (starting (capture_of view after) path arguments steps) (starts is_told.table (capture_of view after) steps earlier) refl)
+      let ran_so = runs is_told.table (capture_of view after) fit (starting (capture_of view after) path arguments steps) (starts is_told.table (capture_of view after) steps earlier) refl in (
+        ended script path arguments steps left (capture_of view after) held told view kept end is_told (λ st. IsStanding source held entered is_told.table (capture_of view after) st) (found_by (capture_of view after))
+            (λ st so. (so.stands, asks st.askings st.fetches so.asked)) was is ran_so,
+        subst (λ v. TellsOn was is (λ told more. more ≡ (state_in (outcome (capture_of v after) (meaning script steps) (starting (capture_of v after) path arguments steps))).told ++ told)) (sym kept)
+            (told_whole script path arguments steps left (capture_of view after) was is held told end is_told (λ st. IsStanding source held entered is_told.table (capture_of view after) st) ran_so),
+      )
   one_told (Err want) runs told kept is_told = absurd is_told
 
   pub ran : (table : ValuesView) → AreInterned table → Extends held.work.values table → (end : Result FlowNext Memory)
       → Runs script steps left (λ table capture. IsFitting (IsCaptureOf view after) held.work.values table capture)
       (λ table capture s. IsStanding source_before held_before began table capture s) (λ table capture s. IsStanding source held entered table capture s) was is end
-      → (r : Result EndedRun Memory) → IfOk r (λ told. told.capture ≡ view) → IfOk r (λ told. IsOverOf held end (steps - left) told) → RunsBare script path arguments steps before after r
-  ran table interned extends end runs (Ok told) kept over_so = subst (λ v. IsCaptureOf nothing_kept before (capture_of v after) × IsEnded script path arguments steps (capture_of v after) told) (sym kept)
-      (gave table interned extends, one_told end runs told kept over_so)
-  ran table interned extends end runs (Err want) kept over_so = (view, gave table interned extends)
+      → (r : Result EndedRun Memory) → IfOk r (λ told. told.capture ≡ view) → IfOk r (λ told. IsOverOf held end (steps - left) told)
+      → RunsBare script path arguments steps before after r × RunsTold script path arguments steps after was is r
+  ran table interned extends end runs (Ok told) kept over_so =
+      let whole = one_told end runs told kept over_so in (
+        subst (λ v. IsCaptureOf nothing_kept before (capture_of v after) × IsEnded script path arguments steps (capture_of v after) told) (sym kept) (gave table interned extends, whole.0),
+        whole.1,
+      )
+  ran table interned extends end runs (Err want) kept over_so = ((view, gave table interned extends), tt)
 
 -- The same, by the parts of the doer at the start and at the end.
 abbrev Fit : CaptureView → Telling → HeldView → Fits
@@ -118,7 +150,8 @@ pub ran_by : {D : Type 0} (device₀ device device₁ given : D) (tell : D → T
     → ((askings : List Asking) (fetches : List (List ℕ)) → source askings fetches → AreAsked view₁ askings fetches) → view ≡ view₂ → IsCaptureOf view₂ (tell given) (capture_of view (tell given))
     → (table : ValuesView) → AreInterned table → Extends held₁.work.values table → (end : Result FlowNext Memory)
     → Runs script steps left (Fit view₁ (tell device₁) held₁) (Stand source_before held_before began) (Stand source held₁ entered) was is end
-    → (r : Result EndedRun Memory) → IfOk r (λ told. told.capture ≡ view) → IfOk r (λ told. IsOverOf held end taken told) → RunsBare script path arguments steps (tell device) (tell given) r
+    → (r : Result EndedRun Memory) → IfOk r (λ told. told.capture ≡ view) → IfOk r (λ told. IsOverOf held end taken told)
+    → RunsBare script path arguments steps (tell device) (tell given) r × RunsTold script path arguments steps (tell given) was is r
 ran_by device₀ device device₁ given tell script path arguments steps left taken was is held_before held₁ held began entered source_before source view₀ view₁ view view₂ empty same₀ kept same₁ at_end count knew starts asks one fits
     table interned extends end runs r kept_too over_so =
     ran script path arguments steps left (tell device) (tell given) view was is held_before held began entered source_before source

@@ -1,5 +1,5 @@
--- A run over devices (this project's profile): it is the run of the script in what the devices gave.
-use Rattle.std.specs.Prelude.{◌≡◌, ℕ, List, [], map, Result, Ok, Err}
+-- A run over devices (this project's profile): it is the run of the script in what the devices gave, and a watch is told its moments.
+use Rattle.std.specs.Prelude.{◌≡◌, ℕ, List, [], ◌++◌, map, Option, Result, Ok, Err}
 use Rattle.answer_source.specs.Live.{IsCaptureOf, asking_seen, capture_of, has_file}
 use Rattle.capture.specs.Capture.{CaptureView, is_among}
 use Rattle.prov_base.specs.declared.refusal.Memory.{Memory}
@@ -10,7 +10,9 @@ use Rattle.op_held.specs.Finals.{file_out}
 use Rattle.op_held.specs.Uncaught.{class_raised, text_raised}
 use Rattle.py_model.specs.Capture.{Capture, Telling}
 use Rattle.py_model.specs.Meaning.{run, meaning, starting, end_in, finished, uncaught, out_of_steps}
+use Rattle.py_model.specs.Moment.{Moment}
 use Rattle.py_model.specs.Running.{Ended, state_in, outcome}
+use Rattle.py_model.specs.Told.{TellsOn}
 use Rattle.py_tree.specs.Tree.{ScriptTree}
 
 -- nothing is kept yet
@@ -40,3 +42,9 @@ abbrev pub RunsBare : ScriptTree → List ℕ → List (List ℕ) → ℕ → Te
 RunsBare script path arguments steps before after (Ok over) =
     IsCaptureOf nothing_kept before (capture_of over.capture after) × IsEnded script path arguments steps (capture_of over.capture after) over
 RunsBare script path arguments steps before after (Err want) = (view : CaptureView) × IsCaptureOf nothing_kept before (capture_of view after)
+
+-- Where the watch tells what it was told, that has grown by exactly the moments of the run in the capture that is answered, the latest first.
+abbrev pub RunsTold : ScriptTree → List ℕ → List (List ℕ) → ℕ → Telling → Option (List Moment) → Option (List Moment) → Result EndedRun Memory → Type 0
+RunsTold script path arguments steps after was is (Ok over) =
+    TellsOn was is (λ told more. more ≡ (state_in (outcome (capture_of over.capture after) (meaning script steps) (starting (capture_of over.capture after) path arguments steps))).told ++ told)
+RunsTold script path arguments steps after was is (Err want) = Unit {0}

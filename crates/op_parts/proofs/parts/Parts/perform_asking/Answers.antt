@@ -1,7 +1,7 @@
 use Rattle.std.proofs.Common.{sym, subst, ◌∙◌, Ok, Some, None}
 use Rattle.answer_source.specs.Sources.{Asks}
 use Rattle.op_parts.specs.Parts.{IsFitting, IsStanding}
-use Rattle.op_parts.proofs.Asked.{Gives, asked_done, asked_want, asked_lacks}
+use Rattle.op_parts.proofs.Asked.{Gives, asked_done, asked_want, asked_lacks, asked_memory}
 use Rattle.prov_base.specs.declared.refusal.Memory.{Memory as Want}
 use Rattle.py_model.specs.Doing.{Performs}
 use Rattle.op_parts.proofs.parts.Parts.perform_asking.Goals as goal
@@ -33,6 +33,14 @@ returns-in_default-2-clause-performed g c =
     asked_lacks c.few_operations_ask.ensures.unnoted c.few_operations_ask.ensures.answered (g.S.Source.fits c.ask.new.self) before (g.S.Source.stands c.ask.new.self) old old c.args.self.now.entered c.args.at c.args.op c.args.values.now c.args.left c.requires.some
     c.requires.asks c.requires.apart
     c.in-Some.what (sym c.asking.ensures ∙ c.in-Some.is) (subst (λ o. Asks {E = Want} c.in-Some.what c.args.at (g.S.Source.fits c.ask.new.self) before (g.S.Source.stands c.ask.new.self) (Ok o)) c.in_default-2.is c.in_ok-given.ensures.asked)
+
+pub returns-in_err-given-clause-performed : goal.returns-in_err-given-clause-performed
+returns-in_err-given-clause-performed g c =
+    let before = g.S.Source.stands c.args.self.now.source in
+    let old = c.args.self.now.held in
+    asked_memory c.few_operations_ask.ensures.unnoted c.few_operations_ask.ensures.answered (g.S.Source.fits c.ask.new.self) before (g.S.Source.stands c.ask.new.self) old old c.args.self.now.entered c.args.at c.args.op c.args.values.now c.args.left c.requires.some
+    c.requires.asks c.requires.apart
+    c.in-Some.what (sym c.asking.ensures ∙ c.in-Some.is) c.in_err-given.field-0.0 c.in_err-given.ensures.asked c.from_residual-in_err-given.result c.from_residual-in_err-given.ensures.0
 
 pub returns-in_err-deed-2-clause-performed : goal.returns-in_err-deed-2-clause-performed
 returns-in_err-deed-2-clause-performed g c =
