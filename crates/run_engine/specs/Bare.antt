@@ -48,3 +48,7 @@ abbrev pub RunsTold : ScriptTree → List ℕ → List (List ℕ) → ℕ → Te
 RunsTold script path arguments steps after was is (Ok over) =
     TellsOn was is (λ told more. more ≡ (state_in (outcome (capture_of over.capture after) (meaning script steps) (starting (capture_of over.capture after) path arguments steps))).told ++ told)
 RunsTold script path arguments steps after was is (Err want) = Unit {0}
+
+-- a run over devices of which a watch is told
+abbrev pub RunsRecorded : ScriptTree → List ℕ → List (List ℕ) → ℕ → Telling → Telling → Option (List Moment) → Option (List Moment) → Result EndedRun Memory → Type 0
+RunsRecorded script path arguments steps before after was is result = RunsBare script path arguments steps before after result × RunsTold script path arguments steps after was is result

@@ -1,7 +1,7 @@
-// A run over devices.
+// A run over devices, with a watch or none.
 ghost use Rattle.answer_source.specs.Live.{telling};
 ghost use Rattle.py_tree.specs.Erasure.{script_of};
-ghost use Rattle.run_engine.specs.Bare.{RunsBare};
+ghost use Rattle.run_engine.specs.Bare.{RunsBare, RunsRecorded};
 
 use crate::ending::over;
 use crate::engine::run;
@@ -10,7 +10,7 @@ use capture::{Capture, Ended};
 use op_parts::Parts;
 use prov_base::{Memory, Name};
 use prov_outside::{Console, Folder, Moments};
-use py_model::{Doer, NoWatch};
+use py_model::{Doer, NoWatch, Watch};
 use py_tree::Script;
 use py_value::Value;
 use std::alloc::Global;
@@ -43,6 +43,47 @@ pub fn run_bare<C: Console + Drop, F: Folder + Drop, M: Moments + Drop>(
       word = M.word_faults result.1.moments;
     })) result.0 }
 {
+    run_recorded(
+        alloc,
+        script,
+        path,
+        arguments,
+        budget,
+        devices,
+        &mut NoWatch,
+    )
+}
+
+/// Runs the script at a path, with these arguments and so many steps, over devices, which it gives back, and tells the watch each moment of the run
+/// before the next. Its answer is the run in the capture that it answers, as that of [`run_bare`] is, whatever the watch. Where the watch tells what it
+/// was told, that has grown by exactly the moments of that run.
+pub fn run_recorded<C: Console + Drop, F: Folder + Drop, M: Moments + Drop, W: Watch>(
+    alloc: Global,
+    script: &Script,
+    path: &str,
+    arguments: &[Name],
+    budget: u32,
+    devices: Devices<C, F, M>,
+    watch: &mut W,
+) -> (Result<Ended, Memory>, Devices<C, F, M>)
+    ensures { RunsRecorded (script_of script.now) path.now arguments.now budget (telling (C.told devices.console) (F.told devices.folder) (M.told devices.moments) (record {
+      line = C.in_faults devices.console;
+      write = C.out_faults devices.console;
+      file = F.get_faults devices.folder;
+      source = F.source_faults devices.folder;
+      put = F.put_faults devices.folder;
+      time = M.time_faults devices.moments;
+      word = M.word_faults devices.moments;
+    })) (telling (C.told result.1.console) (F.told result.1.folder) (M.told result.1.moments) (record {
+      line = C.in_faults result.1.console;
+      write = C.out_faults result.1.console;
+      file = F.get_faults result.1.folder;
+      source = F.source_faults result.1.folder;
+      put = F.put_faults result.1.folder;
+      time = M.time_faults result.1.moments;
+      word = M.word_faults result.1.moments;
+    })) (W.history watch.old) (W.history watch.new) result.0 }
+{
     let capture = match Capture::new(alloc) {
         Ok(capture) => capture,
         Err(refused) => return (Err(refused), devices),
@@ -55,7 +96,7 @@ pub fn run_bare<C: Console + Drop, F: Folder + Drop, M: Moments + Drop>(
         }
     };
     let mut left = budget;
-    let end = run(alloc, script, &mut parts, &mut NoWatch, &mut left);
+    let end = run(alloc, script, &mut parts, watch, &mut left);
     let _ = parts.values().has(Value::None);
     let (mut held, source) = parts.finish();
     let (capture, devices) = source.finish();

@@ -5,7 +5,8 @@
 //! are left, and that the watch was told each moment and no other.
 //!
 //! [`run_bare`] runs a script over devices (`RunsBare` in `specs/Bare.antt`): what it answers is the run of the script in the capture that it answers, and
-//! that capture is what the devices gave. Nothing is written and no file is put.
+//! that capture is what the devices gave. Nothing is written and no file is put. [`run_recorded`] does the same with a watch, which is told exactly the
+//! moments of that run (`RunsRecorded`).
 //!
 //! Several targets that one of several is, as in `a, (b, c) = e`, are in no script of the grammar (`targets_are_flat` of `py_grammar`). A run that came
 //! to store in some would answer want of memory.
@@ -15,5 +16,5 @@ mod bare;
 mod ending;
 mod engine;
 
-pub use bare::run_bare;
+pub use bare::{run_bare, run_recorded};
 pub use engine::run;
