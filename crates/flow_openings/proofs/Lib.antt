@@ -1,4 +1,3 @@
-pub mod Openings
 pub mod Handlers
 pub mod Beginnings
 pub mod Followings

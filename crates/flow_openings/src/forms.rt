@@ -1,12 +1,11 @@
-// What statements have: their first expression, their tests, their suite, their handlers.
+// What statements have: their first expression, their suite, their handlers.
 ghost use Rattle.std.specs.Prelude.{◌≡◌, slice_get};
 ghost use Rattle.std.specs.Option.{option_map};
 ghost use Rattle.py_tree.specs.Erasure.{expr_of, form_of, suite_of};
-ghost use Rattle.flow_parts.specs.Machine.{bound_in, handler_in, suite_in, test_of};
+ghost use Rattle.flow_parts.specs.Machine.{bound_in, handler_in, suite_in};
 ghost use Rattle.flow_openings.specs.Opening.{first_in};
 ghost use Rattle.flow_openings.specs.Handlers.{handler_seen};
 
-use flow_parts::branch_at;
 use py_tree::{Bound, Expr, Form, Suite};
 
 /// A handler: its class, the name that it binds, and its suite.
@@ -121,36 +120,6 @@ pub fn handler_in<'a>(form: &'a Form, number: usize) -> Option<&'a Handler>
         Form::If(_, _) => None,
         Form::While(_, _) => None,
         Form::For(_, _, _) => None,
-        Form::With(_, _, _) => None,
-        Form::Def(_, _, _, _) => None,
-        Form::Class(_, _, _) => None,
-    }
-}
-
-/// The test of a statement with a number: that of the branch of an `if`, or the only one of a `while` and of an assertion.
-#[tactic(auto, using(py_tree::proofs::StmtTrees::form_trees))]
-pub fn test_in<'a>(form: &'a Form, number: usize) -> Option<&'a Expr>
-    ensures { option_map (λ e. expr_of e.now) result ≡ test_of (form_of form.entry.now) number }
-{
-    match form {
-        Form::If(branches, _) => match branch_at(branches.list.as_slice(), number) {
-            None => None,
-            Some(branch) => Some(&branch.0),
-        },
-        Form::While(test, _) => Some(test),
-        Form::Assert(test, _) => Some(test),
-        Form::Do(_) => None,
-        Form::Assign(_, _) => None,
-        Form::Aug(_, _, _, _) => None,
-        Form::Del(_) => None,
-        Form::Pass => None,
-        Form::Break => None,
-        Form::Continue => None,
-        Form::Return(_) => None,
-        Form::Raise(_) => None,
-        Form::Import(_) => None,
-        Form::For(_, _, _) => None,
-        Form::Try(_, _) => None,
         Form::With(_, _, _) => None,
         Form::Def(_, _, _, _) => None,
         Form::Class(_, _, _) => None,

@@ -1,26 +1,26 @@
-// How statements are opened, and their tests.
+// How statements are opened.
 ghost use Rattle.std.specs.Prelude.{◌≡◌, IfOk, Some as JustOne};
 ghost use Rattle.std.specs.Option.{option_map};
-ghost use Rattle.py_tree.specs.Erasure.{else_tree, form_of, suite_of, target_of};
+ghost use Rattle.py_tree.specs.Erasure.{form_of, target_of};
 ghost use Rattle.py_tree.specs.Tree.{ScriptTree};
 ghost use Rattle.py_value.specs.Contents.{contents};
 ghost use Rattle.py_value.specs.Values.{ValuesView};
 ghost use Rattle.py_model.specs.Act.{Act};
 ghost use Rattle.py_model.specs.Expressions.{Here, Task};
 ghost use Rattle.py_tree.specs.Functions.{expr_place};
-ghost use Rattle.py_model.specs.Statements.{defining, otherwise, raised_value, rule, unset};
+ghost use Rattle.py_model.specs.Statements.{defining, raised_value, rule, unset};
 ghost use Rattle.interp_eval.specs.declared.frames.Scope.{Scope as OneScope};
 ghost use Rattle.flow_parts.specs.Held.{IsHeldClass, IsHeldNow};
-ghost use Rattle.flow_parts.specs.Machine.{from_test, now_act};
+ghost use Rattle.flow_parts.specs.Machine.{now_act};
 ghost use Rattle.flow_parts.specs.Seen.{now_seen};
 ghost use Rattle.flow_openings.specs.Opening.{StandsIn, deleting, plain_rule, raising};
 
 use crate::forms::first_in;
 use flow_changes::augmented;
-use flow_parts::{Code, End, Now, Part, Spot, Stage, branch_at, on_none, on_one, start};
+use flow_parts::{Code, End, Now, Part, Spot, Stage, on_none, on_one, start};
 use interp_eval::Scope;
 use prov_base::{Memory, Name, Pos};
-use py_tree::{Form, Suite, Target};
+use py_tree::{Form, Target};
 use py_value::Value;
 use std::alloc::Global;
 
@@ -139,59 +139,5 @@ pub fn opened<'a>(alloc: Global, at: Pos, form: &'a Form, spot: Spot) -> Result<
             };
             start(alloc, e, spot.scope, part)
         }
-    }
-}
-
-/// What follows the tests of an `if`.
-fn otherwise<'a>(orelse: &'a Option<Suite>) -> Now<'a>
-    ensures means { (script : ScriptTree) (next : Task → Act) (here : Here) (table : ValuesView) → now_act script next here (now_seen table result) ≡ otherwise script next here (else_tree (option_map suite_of orelse.entry.now)) }
-    ensures held { (table : ValuesView) (scope : OneScope) → IsHeldNow table scope result }
-{
-    match orelse {
-        None => Now::Ended(End::Normal),
-        Some(suite) => Now::InSuite(suite.list.as_slice()),
-    }
-}
-
-/// A statement goes on with its test with a number.
-#[tactic(auto, using(py_tree::proofs::StmtTrees::form_trees))]
-pub fn test_opened<'a>(
-    alloc: Global,
-    at: Pos,
-    form: &'a Form,
-    number: usize,
-    scope: Scope,
-) -> Result<Now<'a>, Memory>
-    ensures means { IfOk result (λ now. (script : ScriptTree) (next : Task → Act) (here : Here) (table : ValuesView)
-        → now_act script next here (now_seen table now) ≡ from_test script next here (form_of form.entry.now) number) }
-    ensures held { IfOk result (λ now. (table : ValuesView) → IsHeldNow table scope now) }
-{
-    let part = Part {
-        at,
-        form,
-        stage: Stage::Tested(number),
-    };
-    match form {
-        Form::If(branches, orelse) => match branch_at(branches.list.as_slice(), number) {
-            None => Ok(otherwise(orelse)),
-            Some(branch) => start(alloc, &branch.0, scope, part),
-        },
-        Form::While(test, _) => start(alloc, test, scope, part),
-        Form::Do(_) => Ok(Now::Ended(End::Normal)),
-        Form::Assign(_, _) => Ok(Now::Ended(End::Normal)),
-        Form::Aug(_, _, _, _) => Ok(Now::Ended(End::Normal)),
-        Form::Del(_) => Ok(Now::Ended(End::Normal)),
-        Form::Pass => Ok(Now::Ended(End::Normal)),
-        Form::Break => Ok(Now::Ended(End::Normal)),
-        Form::Continue => Ok(Now::Ended(End::Normal)),
-        Form::Return(_) => Ok(Now::Ended(End::Normal)),
-        Form::Raise(_) => Ok(Now::Ended(End::Normal)),
-        Form::Assert(_, _) => Ok(Now::Ended(End::Normal)),
-        Form::Import(_) => Ok(Now::Ended(End::Normal)),
-        Form::For(_, _, _) => Ok(Now::Ended(End::Normal)),
-        Form::Try(_, _) => Ok(Now::Ended(End::Normal)),
-        Form::With(_, _, _) => Ok(Now::Ended(End::Normal)),
-        Form::Def(_, _, _, _) => Ok(Now::Ended(End::Normal)),
-        Form::Class(_, _, _) => Ok(Now::Ended(End::Normal)),
     }
 }

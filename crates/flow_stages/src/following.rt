@@ -1,28 +1,24 @@
 // What follows a value in a statement.
 ghost use Rattle.std.specs.Prelude.{◌≡◌, IfOk};
-ghost use Rattle.std.specs.Option.{option_map};
-ghost use Rattle.py_tree.specs.Erasure.{expr_of, form_of};
+ghost use Rattle.py_tree.specs.Erasure.{form_of};
 ghost use Rattle.py_tree.specs.Tree.{ScriptTree};
 ghost use Rattle.py_value.specs.Contents.{contents};
 ghost use Rattle.py_value.specs.Values.{ValuesView, IsNamed};
 ghost use Rattle.py_model.specs.Act.{Act};
-ghost use Rattle.py_model.specs.Expressions.{Here, Task, by_truth};
-ghost use Rattle.py_model.specs.Statements.{failed_assert};
+ghost use Rattle.py_model.specs.Expressions.{Here, Task};
 ghost use Rattle.interp_eval.specs.declared.frames.Scope.{Scope as OneScope};
 ghost use Rattle.flow_parts.specs.Held.{IsHeldNow, IsHeldStage};
-ghost use Rattle.flow_parts.specs.Machine.{now_act, test_act, test_of, then_act, valued_act, when_false, when_true};
+ghost use Rattle.flow_parts.specs.Machine.{now_act, then_act, valued_act};
 ghost use Rattle.flow_parts.specs.Seen.{now_seen, stage_seen};
 
 use crate::handling::{entered, matched};
 use flow_changes::{based, changed, loaded, sided, slotted};
-use flow_openings::test_in;
-use flow_parts::{
-    Code, End, Goal, Now, Part, Stage, branch_at, is_true, on_none, on_one, on_two, start,
-};
+use flow_parts::{Code, End, Goal, Now, Part, Stage, on_one, on_two};
 use flow_stores::{held, indexed, keyed, owned, reached, stored};
-use interp_eval::{Scope, place_of};
+use flow_tests::{answered, tested};
+use interp_eval::Scope;
 use prov_base::Memory;
-use py_tree::{Expr, Form};
+use py_tree::Form;
 use py_value::Value;
 use std::alloc::Global;
 
@@ -56,123 +52,6 @@ fn valued<'a>(alloc: Global, part: Part<'a>, value: Value, scope: Scope) -> Resu
         Form::While(_, _) => Ok(Now::Ended(End::Normal)),
         Form::Try(_, _) => Ok(Now::Ended(End::Normal)),
         Form::Def(_, _, _, _) => Ok(Now::Ended(End::Normal)),
-    }
-}
-
-/// The value of a test is asked whether it is true.
-fn tested<'a>(alloc: Global, part: Part<'a>, number: usize, value: Value) -> Result<Now<'a>, Memory>
-    ensures means { IfOk result (λ now. (script : ScriptTree) (next : Task → Act) (here : Here) (table : ValuesView)
-        → now_act script next here (now_seen table now) ≡ test_act script next here part.entry.at (form_of part.entry.form.now) number (test_of (form_of part.entry.form.now) number) (contents table value)) }
-    ensures held { IfOk result (λ now. (table : ValuesView) (scope : OneScope) → IsNamed table value → IsHeldNow table scope now) }
-{
-    let next = part.to(Stage::Answered(number));
-    match test_in(part.form, number) {
-        None => Ok(Now::Ended(End::Normal)),
-        Some(test) => on_one(alloc, place_of(test), Code::Truth, value, next),
-    }
-}
-
-/// What a statement does where its test with a number is true.
-#[tactic(auto, using(py_tree::proofs::StmtTrees::form_trees))]
-fn where_true<'a>(part: Part<'a>, number: usize) -> Now<'a>
-    ensures means { (script : ScriptTree) (next : Task → Act) (here : Here) (table : ValuesView) → now_act script next here (now_seen table result) ≡ when_true script next here (form_of part.entry.form.now) number }
-    ensures held { (table : ValuesView) (scope : OneScope) → IsHeldNow table scope result }
-{
-    match part.form {
-        Form::If(branches, _) => match branch_at(branches.list.as_slice(), number) {
-            None => Now::Ended(End::Normal),
-            Some(branch) => Now::InSuite(branch.1.list.as_slice()),
-        },
-        Form::While(_, _) => Now::Opens(part.to(Stage::Body)),
-        Form::Do(_) => Now::Ended(End::Normal),
-        Form::Assign(_, _) => Now::Ended(End::Normal),
-        Form::Aug(_, _, _, _) => Now::Ended(End::Normal),
-        Form::Del(_) => Now::Ended(End::Normal),
-        Form::Pass => Now::Ended(End::Normal),
-        Form::Break => Now::Ended(End::Normal),
-        Form::Continue => Now::Ended(End::Normal),
-        Form::Return(_) => Now::Ended(End::Normal),
-        Form::Raise(_) => Now::Ended(End::Normal),
-        Form::Assert(_, _) => Now::Ended(End::Normal),
-        Form::Import(_) => Now::Ended(End::Normal),
-        Form::For(_, _, _) => Now::Ended(End::Normal),
-        Form::Try(_, _) => Now::Ended(End::Normal),
-        Form::With(_, _, _) => Now::Ended(End::Normal),
-        Form::Def(_, _, _, _) => Now::Ended(End::Normal),
-        Form::Class(_, _, _) => Now::Ended(End::Normal),
-    }
-}
-
-/// An assertion that failed raises, with its message where it has one.
-fn fails<'a>(
-    alloc: Global,
-    part: Part<'a>,
-    message: &'a Option<Expr>,
-    scope: Scope,
-) -> Result<Now<'a>, Memory>
-    ensures means { IfOk result (λ now. (script : ScriptTree) (next : Task → Act) (here : Here) (table : ValuesView)
-        → now_act script next here (now_seen table now) ≡ failed_assert script next here part.entry.at (option_map expr_of message.entry.now)) }
-    ensures held { IfOk result (λ now. (table : ValuesView) → IsHeldNow table scope now) }
-{
-    match message {
-        None => { on_none(alloc, part.at, Code::Fail, part.to(Stage::Done)) }
-        Some(e) => start(alloc, e, scope, part.to(Stage::Failed)),
-    }
-}
-
-/// What a statement does where its test with a number is not true.
-#[tactic(auto, using(py_tree::proofs::StmtTrees::form_trees))]
-fn where_false<'a>(
-    alloc: Global,
-    part: Part<'a>,
-    number: usize,
-    scope: Scope,
-) -> Result<Now<'a>, Memory>
-    ensures means { IfOk result (λ now. (script : ScriptTree) (next : Task → Act) (here : Here) (table : ValuesView)
-        → now_act script next here (now_seen table now) ≡ when_false script next here part.entry.at (form_of part.entry.form.now) number) }
-    ensures held { IfOk result (λ now. (table : ValuesView) → IsHeldNow table scope now) }
-{
-    match part.form {
-        Form::If(branches, _) => match branch_at(branches.list.as_slice(), number) {
-            None => Ok(Now::Ended(End::Normal)),
-            Some(_) => Ok(Now::Opens(part.to(Stage::Tested(number + 1)))),
-        },
-        Form::Assert(_, message) => fails(alloc, part, message, scope),
-        Form::Do(_) => Ok(Now::Ended(End::Normal)),
-        Form::Assign(_, _) => Ok(Now::Ended(End::Normal)),
-        Form::Aug(_, _, _, _) => Ok(Now::Ended(End::Normal)),
-        Form::Del(_) => Ok(Now::Ended(End::Normal)),
-        Form::Pass => Ok(Now::Ended(End::Normal)),
-        Form::Break => Ok(Now::Ended(End::Normal)),
-        Form::Continue => Ok(Now::Ended(End::Normal)),
-        Form::Return(_) => Ok(Now::Ended(End::Normal)),
-        Form::Raise(_) => Ok(Now::Ended(End::Normal)),
-        Form::Import(_) => Ok(Now::Ended(End::Normal)),
-        Form::While(_, _) => Ok(Now::Ended(End::Normal)),
-        Form::For(_, _, _) => Ok(Now::Ended(End::Normal)),
-        Form::Try(_, _) => Ok(Now::Ended(End::Normal)),
-        Form::With(_, _, _) => Ok(Now::Ended(End::Normal)),
-        Form::Def(_, _, _, _) => Ok(Now::Ended(End::Normal)),
-        Form::Class(_, _, _) => Ok(Now::Ended(End::Normal)),
-    }
-}
-
-/// Whether a test is true was answered.
-fn answered<'a>(
-    alloc: Global,
-    part: Part<'a>,
-    number: usize,
-    value: Value,
-    scope: Scope,
-) -> Result<Now<'a>, Memory>
-    ensures means { IfOk result (λ now. (script : ScriptTree) (next : Task → Act) (here : Here) (table : ValuesView)
-        → now_act script next here (now_seen table now) ≡ by_truth (when_true script next here (form_of part.entry.form.now) number) (when_false script next here part.entry.at (form_of part.entry.form.now) number) (contents table value)) }
-    ensures held { IfOk result (λ now. (table : ValuesView) → IsHeldNow table scope now) }
-{
-    if is_true(value) {
-        Ok(where_true(part, number))
-    } else {
-        where_false(alloc, part, number, scope)
     }
 }
 

@@ -1,5 +1,6 @@
 //! What a statement does next at each of its stages, with the value that it waits for. It stands on the parts of statements of `flow_parts`, and on
-//! how they are opened (`flow_openings`); what follows the end of a suite is in `flow_suites`.
+//! how they are opened (`flow_openings`), their tests (`flow_tests`) and their targets (`flow_stores`); what follows the end of a suite is in
+//! `flow_endings`.
 //!
 //! Each function says that what is done afterwards means what the stage means.
 #![tactic(auto)]

@@ -17,10 +17,11 @@ ghost use Rattle.flow_parts.specs.declared.control.Now.TheVariants.{Ended, InSui
 ghost use Rattle.flow_suites.specs.declared.running.Way.TheVariants.{Becomes, Runs};
 ghost use Rattle.flow_parts.specs.declared.control.Stage.TheVariants.{Spreads};
 
-use flow_openings::{handler_in, suite_in, test_opened};
+use flow_openings::{handler_in, suite_in};
 use flow_parts::{Code, End, Goal, Now, Part, Spot, Stage, on_three};
 use flow_stages::handled;
 use flow_stores::{item_at, reached, several_in, stored, target_at};
+use flow_tests::test_opened;
 use prov_base::Memory;
 use py_tree::{Form, Stmt};
 use py_value::{Value, Values};

@@ -3,7 +3,7 @@ use Rattle.py_tree.specs.Erasure.{form_of}
 use Rattle.py_value.specs.Contents.{contents}
 use Rattle.flow_parts.specs.Machine.{Part, clause_act, handler_in, missed_act, open_act}
 use Rattle.flow_parts.specs.Seen.{part_seen}
-use Rattle.flow_openings.proofs.Openings.{by_not}
+use Rattle.flow_tests.proofs.Tests.{by_not}
 use Rattle.flow_openings.proofs.Handlers.{missed_so}
 use Rattle.flow_stages.proofs.handling.matched.Goals as goal
 

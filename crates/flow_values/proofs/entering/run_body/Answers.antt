@@ -9,7 +9,7 @@ use Rattle.called_functions.specs.Finding.{found_function}
 use Rattle.interp_eval.specs.Seen.{machine_seen}
 use Rattle.flow_parts.specs.Machine.{gives_back, resumes, then_act}
 use Rattle.flow_parts.specs.Seen.{frame_seen, here_seen, stage_seen, stmts_seen}
-use Rattle.flow_openings.proofs.Openings.{on_more}
+use Rattle.flow_tests.proofs.Tests.{on_more}
 use Rattle.flow_values.proofs.Bodies.{body_so}
 use Rattle.flow_values.proofs.entering.run_body.Goals as goal
 

@@ -4,7 +4,7 @@ use Rattle.flow_parts.specs.Machine.{resumes}
 use Rattle.flow_parts.specs.Seen.{frame_seen}
 use Rattle.flow_parts.specs.declared.control.Now.TheVariants.{Opens}
 use Rattle.flow_suites.specs.Running.{HoldsOpened, OpensBy}
-use Rattle.flow_openings.proofs.Openings.{on_more}
+use Rattle.flow_tests.proofs.Tests.{on_more}
 use Rattle.flow_values.proofs.Fronts.{goes_on, now_does}
 use Rattle.interp_flow.proofs.moving.open_part.Goals as goal
 

@@ -5,8 +5,8 @@ use Rattle.py_tree.proofs.StmtTrees.{branches_tree, if_tree}
 use Rattle.py_model.specs.Act.{ret, normal}
 use Rattle.flow_parts.specs.Machine.{Part, open_act}
 use Rattle.flow_parts.specs.Seen.{part_seen}
-use Rattle.flow_openings.proofs.Openings.{branches_seen, none_not, some_not}
-use Rattle.flow_stages.proofs.following.where_false.Goals as goal
+use Rattle.flow_tests.proofs.Tests.{branches_seen, none_not, some_not}
+use Rattle.flow_tests.proofs.testing.where_false.Goals as goal
 
 pub returns-in-None-clause-means : goal.returns-in-None-clause-means
 returns-in-None-clause-means c = λ script next here table.

@@ -5,8 +5,8 @@ use Rattle.py_tree.proofs.StmtTrees.{branches_tree, if_tree, suite_tree}
 use Rattle.py_model.specs.Act.{ret, normal}
 use Rattle.py_model.specs.Statements.{suite}
 use Rattle.flow_parts.specs.Seen.{stmts_seen}
-use Rattle.flow_openings.proofs.Openings.{branches_seen, none_so, some_so}
-use Rattle.flow_stages.proofs.following.where_true.Goals as goal
+use Rattle.flow_tests.proofs.Tests.{branches_seen, none_so, some_so}
+use Rattle.flow_tests.proofs.testing.where_true.Goals as goal
 
 pub returns-in-None-clause-means : goal.returns-in-None-clause-means
 returns-in-None-clause-means c = λ script next here table.

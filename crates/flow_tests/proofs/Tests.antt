@@ -1,4 +1,4 @@
--- A statement that begins with an expression.
+-- The tests of statements mean what their rules mean.
 use Rattle.std.proofs.Common.{◌≡◌, ℕ, Bool, true, false, zero, suc, List, [], ◌∷◌, map, slice_get, Some, None, Result, Ok, Err, refl, ap, sym, ◌∙◌}
 use Rattle.std.specs.Prelude.{OnOk}
 use Rattle.prov_base.specs.declared.place.Pos.{Pos}
@@ -20,19 +20,6 @@ on_more (Ok x) P Q more holds = more holds
 on_more (Err e) P Q more holds = tt
 
 module _ (script : ScriptTree) (next : Task → Act) (here : Here) (a : Act) (e : ExprTree) (p : Part) (at : Pos) (form : FormTree) where
-  pub begun : (stage : Stage) (tree : FormTree) → p ≡ part at form stage → form ≡ tree → eval script next here e (then_act script next here at tree stage) ≡ rule script next here at tree
-      → a ≡ eval script next here e (then_act script next here p.at p.form p.stage) → a ≡ rule script next here at form
-  begun stage tree same is opens means =
-      means ∙ ap (λ p. eval script next here e (then_act script next here p.at p.form p.stage)) (same ∙ ap (λ f. part at f stage) is) ∙ opens ∙ ap (rule script next here at) (sym is)
-
-  pub do_opened : p ≡ part at form valued → form ≡ do_form e → a ≡ eval script next here e (then_act script next here p.at p.form p.stage) → a ≡ rule script next here at form
-  do_opened same is means =
-      means ∙ ap (λ p. eval script next here e (then_act script next here p.at p.form p.stage)) (same ∙ ap (λ f. part at f valued) is) ∙ ap (rule script next here at) (sym is)
-
-  pub assign_opened : (target : TargetTree) → p ≡ part at form valued → form ≡ assign_form target e → a ≡ eval script next here e (then_act script next here p.at p.form p.stage) → a ≡ rule script next here at form
-  assign_opened target same is means =
-      means ∙ ap (λ p. eval script next here e (then_act script next here p.at p.form p.stage)) (same ∙ ap (λ f. part at f valued) is) ∙ ap (rule script next here at) (sym is)
-
   pub while_tested : (n : ℕ) (run : SuiteTree) → p ≡ part at form (tested n) → form ≡ while_form e run → a ≡ eval script next here e (then_act script next here p.at p.form p.stage) → a ≡ from_test script next here form n
   while_tested n run same is means =
       means ∙ ap (λ p. eval script next here e (then_act script next here p.at p.form p.stage)) (same ∙ ap (λ f. part at f (tested n)) is) ∙ ap (λ f. from_test script next here f n) (sym is)

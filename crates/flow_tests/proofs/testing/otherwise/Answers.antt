@@ -4,7 +4,7 @@ use Rattle.py_tree.specs.Erasure.{else_tree, suite_of}
 use Rattle.py_tree.proofs.StmtTrees.{suite_tree}
 use Rattle.py_model.specs.Statements.{suite, otherwise}
 use Rattle.flow_parts.specs.Seen.{stmts_seen}
-use Rattle.flow_openings.proofs.opening.otherwise.Goals as goal
+use Rattle.flow_tests.proofs.testing.otherwise.Goals as goal
 
 pub returns-in-Some-clause-means : goal.returns-in-Some-clause-means
 returns-in-Some-clause-means c = λ script next here table.

@@ -2,8 +2,8 @@ use Rattle.std.proofs.Common.{sym, ap, ◌∙◌}
 use Rattle.std.specs.Option.{option_map}
 use Rattle.py_tree.specs.Erasure.{branches_of, else_tree, form_of, suite_of}
 use Rattle.py_tree.proofs.StmtTrees.{branches_tree, if_tree}
-use Rattle.flow_openings.proofs.Openings.{branches_seen, test_none, test_some}
-use Rattle.flow_openings.proofs.forms.test_in.Goals as goal
+use Rattle.flow_tests.proofs.Tests.{branches_seen, test_none, test_some}
+use Rattle.flow_tests.proofs.testing.test_in.Goals as goal
 
 pub returns-in-None : goal.returns-in-None
 returns-in-None c =

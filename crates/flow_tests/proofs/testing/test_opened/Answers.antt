@@ -5,8 +5,8 @@ use Rattle.py_tree.proofs.StmtTrees.{branches_tree, if_tree, while_tree}
 use Rattle.flow_parts.specs.Machine.{now_act}
 use Rattle.flow_parts.specs.Seen.{now_seen}
 use Rattle.flow_parts.proofs.Starting.{if_more}
-use Rattle.flow_openings.proofs.Openings.{branches_seen, if_none, if_some, while_tested}
-use Rattle.flow_openings.proofs.opening.test_opened.Goals as goal
+use Rattle.flow_tests.proofs.Tests.{branches_seen, if_none, if_some, while_tested}
+use Rattle.flow_tests.proofs.testing.test_opened.Goals as goal
 
 pub returns-in-While-clause-means : goal.returns-in-While-clause-means
 returns-in-While-clause-means c = if_more c.start-in-While.result _ _ (λ now means. λ script next here table.

@@ -6,8 +6,8 @@ use Rattle.py_model.specs.Act.{ret, normal}
 use Rattle.flow_parts.specs.Machine.{now_act}
 use Rattle.flow_parts.specs.Seen.{now_seen, part_seen}
 use Rattle.flow_parts.proofs.Starting.{if_more}
-use Rattle.flow_openings.proofs.Openings.{no_test, a_test}
-use Rattle.flow_stages.proofs.following.tested.Goals as goal
+use Rattle.flow_tests.proofs.Tests.{no_test, a_test}
+use Rattle.flow_tests.proofs.testing.tested.Goals as goal
 
 pub returns-in-None-clause-means : goal.returns-in-None-clause-means
 returns-in-None-clause-means c = λ script next here table.
