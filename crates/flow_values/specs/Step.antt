@@ -1,5 +1,5 @@
 -- What one step of a script does: the run comes out from what is still to be done afterwards as from what was still to be done before.
-use Rattle.std.specs.Prelude.{◌≡◌, ◌⊎◌, ◌<◌, ◌++◌, ℕ, List, [], ◌∷◌, ⊥, map, Option, Some, None, Result, Ok, Err, ⊤}
+use Rattle.std.specs.Prelude.{◌≡◌, ◌⊎◌, ◌<◌, ◌++◌, ℕ, List, [], ◌∷◌, map, Option, Some, None, Result, Ok, Err, ⊤}
 use Rattle.py_tree.specs.Tree.{ScriptTree}
 use Rattle.py_value.specs.Values.{ValuesView}
 use Rattle.py_model.specs.Act.{Act, How, ret, to}
