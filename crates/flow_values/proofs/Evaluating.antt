@@ -136,7 +136,6 @@ module _ (script : ScriptTree) (frames : FlowFrames) (eval gone : EvalFrames) (p
       (record {
         next = s;
         news = [];
-        few = tt;
         went = stayed (sym same) refl refl;
         comes_out = ap (λ a. outcome capture a s) same;
         stands_so = known.stands_so;
