@@ -3,9 +3,7 @@ pub mod PathNumbers
 pub mod RaisedEnds
 pub mod ParameterWrites
 pub mod OpeningHolds
-pub mod GivenEnds
-pub mod WithFile
+pub mod MixedFiles
 pub mod Placing
-pub mod Opens
 pub mod FinalsHeld
 pub mod UncaughtHeld

@@ -11,7 +11,7 @@ use Rattle.object_store.specs.Seen.{held_seen, seen_at}
 use Rattle.object_store.specs.Store.{StoreView, Held, bytes, held_at, name_at, file_at as held_file, Writes}
 use Rattle.op_done.specs.Holding.{Found, or_found, with_found, Holds}
 use Rattle.op_held.specs.Held.{HeldView, StandsHeld}
-use Rattle.op_held.proofs.WithFile.{Files, mixed}
+use Rattle.op_held.proofs.MixedFiles.{Files, mixed}
 use Rattle.op_work.specs.Work.{WorkView, Extends}
 use Rattle.prov_base.specs.declared.place.Pos.{Pos}
 use Rattle.prov_base.specs.declared.refusal.Memory.{Memory as Want}

@@ -3,7 +3,5 @@ pub mod Opening
 pub mod Settling
 pub mod Paths
 pub mod Held
-pub mod Given
-pub mod Files
 pub mod Finals
 pub mod Uncaught

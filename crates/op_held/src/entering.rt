@@ -8,8 +8,7 @@ ghost use Rattle.py_value.specs.Contents.{contents};
 ghost use Rattle.py_value.specs.Seen.{var_at, var_is};
 ghost use Rattle.py_value.specs.Values.{AreNamed, IsNamed};
 
-use crate::Held;
-use crate::performing::begin;
+use crate::{Held, begin};
 use op_work::{Stop, Work};
 use prov_base::{Memory, Name};
 use py_model::{Answer, Deed};

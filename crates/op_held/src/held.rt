@@ -7,7 +7,8 @@ use std::marker::Model;
 /// The work of operations, the paths that were opened for writing, each once, and the bytes that were printed.
 #[derive(Drop)]
 pub struct Held {
-    pub(crate) work: Work,
+    /// The work of operations.
+    pub work: Work,
     pub(crate) opened: Vec<u32>,
     pub(crate) output: Vec<u8>,
 }

@@ -12,7 +12,7 @@ use Rattle.object_store.specs.Store.{StoreView, file_at as held_file, bytes as h
 use Rattle.op_devices.specs.Opening.{mode_named, if_fetched, path_in, IsOpened, HasFile, noted_fetch}
 use Rattle.op_devices.proofs.Fetching.{open_noted}
 use Rattle.op_done.specs.Holding.{Found as DeviceFound, or_found, Holds}
-use Rattle.op_held.specs.Files.{FinishesAt}
+use Rattle.op_deeds.specs.Files.{FinishesAt}
 use Rattle.op_held.specs.Held.{HeldView, StandsHeld, begun}
 use Rattle.op_held.specs.Opening.{first_of}
 use Rattle.op_held.proofs.KeptHolds.{paths_on}

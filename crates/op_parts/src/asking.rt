@@ -9,6 +9,7 @@ ghost use Rattle.py_value.specs.Values.{AreNamed};
 use crate::Parts;
 use answer_source::Source;
 use keyed_plans::operations_suit;
+use op_deeds::perform_given;
 use op_devices::asking;
 use op_done::holding_is_seen;
 use prov_base::{Memory, Pos};
@@ -40,15 +41,13 @@ impl<S: Source> Parts<S> {
         holding_is_seen();
         operations_suit();
         let Some(what) = asking(op.no, values) else {
-            let deed = self.held.perform_given(alloc, op, values, None, left)?;
+            let deed = perform_given(&mut self.held, alloc, op, values, None, left)?;
             return Ok(done_of(deed));
         };
         let Some(given) = self.source.ask(alloc, what, at)? else {
             return Ok(Done::Unanswered);
         };
-        let deed = self
-            .held
-            .perform_given(alloc, op, values, Some(&given), left)?;
+        let deed = perform_given(&mut self.held, alloc, op, values, Some(&given), left)?;
         Ok(done_of(deed))
     }
 }

@@ -17,6 +17,7 @@ use crate::asking::done_of;
 use answer_source::Source;
 use keyed_plans::operations_suit;
 use object_store::store_over_contents;
+use op_deeds::{open_found, path_asked};
 use op_done::holding_is_seen;
 use op_held::Held;
 use prov_base::{Memory, Pos};
@@ -47,8 +48,8 @@ impl<S: Source> Parts<S> {
         costs_grow();
         holding_is_seen();
         operations_suit();
-        let Some(path) = self.held.path_asked(values) else {
-            let deed = self.held.open_found(alloc, values, false, None, left)?;
+        let Some(path) = path_asked(&self.held, values) else {
+            let deed = open_found(&mut self.held, alloc, values, false, None, left)?;
             return Ok(done_of(deed));
         };
         if self.held.was_opened(path) {
@@ -86,7 +87,7 @@ impl<S: Source> Parts<S> {
         if !self.held.has_file(path) {
             return Err(Memory);
         }
-        let deed = self.held.open_found(alloc, values, true, None, left)?;
+        let deed = open_found(&mut self.held, alloc, values, true, None, left)?;
         Ok(done_of(deed))
     }
 
@@ -123,9 +124,7 @@ impl<S: Source> Parts<S> {
             return Ok(Done::Unanswered);
         };
         place(&mut self.held, alloc, path, found)?;
-        let deed = self
-            .held
-            .open_found(alloc, values, false, Some(found), left)?;
+        let deed = open_found(&mut self.held, alloc, values, false, Some(found), left)?;
         Ok(done_of(deed))
     }
 }

@@ -83,7 +83,7 @@ impl<S: Source> Doer for Parts<S> {
         if asks(op.no) {
             return self.perform_asking(alloc, at, op, values, left);
         }
-        match self.held.perform(alloc, op, values, left)? {
+        match op_deeds::perform(&mut self.held, alloc, op, values, left)? {
             Some(deed) => Ok(Done::Did(deed)),
             None => Ok(Done::TooDear),
         }

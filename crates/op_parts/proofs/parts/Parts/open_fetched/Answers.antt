@@ -34,10 +34,10 @@ returns-in_err-deed-clause-performed g c =
     let before = g.S.Source.stands c.args.self.now.source in
     let old = c.args.self.now.held in
     let text_is = subst (λ (v : ValuesView). bytes_of v c.args.path ≡ c.text_of-text.result.now) c.values.ensures.values (ap (λ o. unwrap_or o []) c.text_of-text.ensures.text) in
-    let more = subst (λ (v : ValuesView). Extends v c.open_found.new.self.work.values) c.in_ok-place.ensures.values c.in_err-deed.ensures.extends in
-    performs_want (g.S.Source.fits c.fetch.new.self) before (g.S.Source.stands c.fetch.new.self) old c.open_found.new.self c.args.self.now.entered c.args.at c.args.op c.args.values.now c.args.left c.requires.some c.place.new.held.work c.in_err-deed.field-0.0
+    let more = subst (λ (v : ValuesView). Extends v c.open_found.new.held.work.values) c.in_ok-place.ensures.values c.in_err-deed.ensures.extends in
+    performs_want (g.S.Source.fits c.fetch.new.self) before (g.S.Source.stands c.fetch.new.self) old c.open_found.new.held c.args.self.now.entered c.args.at c.args.op c.args.values.now c.args.left c.requires.some c.place.new.held.work c.in_err-deed.field-0.0
     (each_found c.few_operations_ask.ensures.unnoted c.few_operations_ask.ensures.answered c.holding_is_seen.ensures (g.S.Source.fits c.fetch.new.self) before
-    (g.S.Source.stands c.fetch.new.self) old c.place.new.held c.open_found.new.self c.args.self.now.entered c.args.at c.args.op c.args.values.now c.requires.number c.args.left c.requires.some
+    (g.S.Source.stands c.fetch.new.self) old c.place.new.held c.open_found.new.held c.args.self.now.entered c.args.at c.args.op c.args.values.now c.requires.number c.args.left c.requires.some
     c.requires.named more c.args.path c.requires.path c.requires.within c.values.ensures.paths c.requires.opened c.text_of-text.result.now text_is c.in_ok-fetch.ensures.fetched
     c.store_over_contents.ensures.held c.in-Some.found.now c.paths_once.ensures c.in-Some.ensures c.in_ok-place.ensures.stands c.in_ok-place.ensures.values c.in_ok-place.ensures.there (Err c.in_err-deed.field-0.0) c.in_err-deed.ensures.finishes)
     c.from_residual-in_err-deed.result c.from_residual-in_err-deed.ensures.0
@@ -47,12 +47,12 @@ returns-clause-performed g c =
     let before = g.S.Source.stands c.args.self.now.source in
     let old = c.args.self.now.held in
     let text_is = subst (λ (v : ValuesView). bytes_of v c.args.path ≡ c.text_of-text.result.now) c.values.ensures.values (ap (λ o. unwrap_or o []) c.text_of-text.ensures.text) in
-    let more = subst (λ (v : ValuesView). Extends v c.open_found.new.self.work.values) c.in_ok-place.ensures.values c.in_ok-deed.ensures.extends in
-    subst (λ done. Performs {E = Want} c.args.at c.args.op c.args.values.now c.args.left (λ table capture. IsFitting (g.S.Source.fits c.fetch.new.self) c.open_found.new.self.work.values table capture)
-    (λ table capture s. IsStanding before old c.args.self.now.entered table capture s) (λ table capture s. IsStanding (g.S.Source.stands c.fetch.new.self) c.open_found.new.self c.args.self.now.entered table capture s) (Ok done)) (sym c.done_of.ensures)
-    (performs_ready (g.S.Source.fits c.fetch.new.self) before (g.S.Source.stands c.fetch.new.self) old c.open_found.new.self c.args.self.now.entered c.args.at c.args.op c.args.values.now c.args.left c.requires.some c.place.new.held.work
+    let more = subst (λ (v : ValuesView). Extends v c.open_found.new.held.work.values) c.in_ok-place.ensures.values c.in_ok-deed.ensures.extends in
+    subst (λ done. Performs {E = Want} c.args.at c.args.op c.args.values.now c.args.left (λ table capture. IsFitting (g.S.Source.fits c.fetch.new.self) c.open_found.new.held.work.values table capture)
+    (λ table capture s. IsStanding before old c.args.self.now.entered table capture s) (λ table capture s. IsStanding (g.S.Source.stands c.fetch.new.self) c.open_found.new.held c.args.self.now.entered table capture s) (Ok done)) (sym c.done_of.ensures)
+    (performs_ready (g.S.Source.fits c.fetch.new.self) before (g.S.Source.stands c.fetch.new.self) old c.open_found.new.held c.args.self.now.entered c.args.at c.args.op c.args.values.now c.args.left c.requires.some c.place.new.held.work
     c.operations_suit.ensures.suit c.operations_suit.ensures.keyed c.costs_grow.ensures c.in_ok-deed.deed
     (each_found c.few_operations_ask.ensures.unnoted c.few_operations_ask.ensures.answered c.holding_is_seen.ensures (g.S.Source.fits c.fetch.new.self) before
-    (g.S.Source.stands c.fetch.new.self) old c.place.new.held c.open_found.new.self c.args.self.now.entered c.args.at c.args.op c.args.values.now c.requires.number c.args.left c.requires.some
+    (g.S.Source.stands c.fetch.new.self) old c.place.new.held c.open_found.new.held c.args.self.now.entered c.args.at c.args.op c.args.values.now c.requires.number c.args.left c.requires.some
     c.requires.named more c.args.path c.requires.path c.requires.within c.values.ensures.paths c.requires.opened c.text_of-text.result.now text_is c.in_ok-fetch.ensures.fetched
     c.store_over_contents.ensures.held c.in-Some.found.now c.paths_once.ensures c.in-Some.ensures c.in_ok-place.ensures.stands c.in_ok-place.ensures.values c.in_ok-place.ensures.there (Ok c.in_ok-deed.deed) c.in_ok-deed.ensures.finishes))

@@ -11,7 +11,7 @@ returns-in_err-deed-clause-performed g c =
     let before = g.S.Source.stands c.args.self.now.source in
     let old = c.args.self.now.held in
     let gives = subst (λ asked. Gives c.args.at asked None (g.S.Source.fits c.args.self.now.source) before before) (sym (sym c.asking.ensures ∙ c.in_default.is)) (λ askings fetches stands. stands) in
-    asked_want c.few_operations_ask.ensures.unnoted c.few_operations_ask.ensures.answered (g.S.Source.fits c.args.self.now.source) before before old c.perform_given.new.self c.args.self.now.entered c.args.at c.args.op c.args.values.now c.args.left c.requires.some
+    asked_want c.few_operations_ask.ensures.unnoted c.few_operations_ask.ensures.answered (g.S.Source.fits c.args.self.now.source) before before old c.perform_given.new.held c.args.self.now.entered c.args.at c.args.op c.args.values.now c.args.left c.requires.some
     c.requires.asks c.requires.apart
     c.holding_is_seen.ensures None (g.S.Source.fits c.args.self.now.source) (λ capture fit. fit) gives c.in_err-deed.field-0.0 c.in_err-deed.ensures.finishes c.from_residual.result c.from_residual.ensures.0
 
@@ -20,9 +20,9 @@ returns-in_default-clause-performed g c =
     let before = g.S.Source.stands c.args.self.now.source in
     let old = c.args.self.now.held in
     let gives = subst (λ asked. Gives c.args.at asked None (g.S.Source.fits c.args.self.now.source) before before) (sym (sym c.asking.ensures ∙ c.in_default.is)) (λ askings fetches stands. stands) in
-    subst (λ done. Performs {E = Want} c.args.at c.args.op c.args.values.now c.args.left (λ table capture. IsFitting (g.S.Source.fits c.args.self.now.source) c.perform_given.new.self.work.values table capture)
-    (λ table capture s. IsStanding before old c.args.self.now.entered table capture s) (λ table capture s. IsStanding before c.perform_given.new.self c.args.self.now.entered table capture s) (Ok done)) (sym c.done_of.ensures)
-    (asked_done c.few_operations_ask.ensures.unnoted c.few_operations_ask.ensures.answered (g.S.Source.fits c.args.self.now.source) before before old c.perform_given.new.self c.args.self.now.entered c.args.at c.args.op c.args.values.now c.args.left c.requires.some
+    subst (λ done. Performs {E = Want} c.args.at c.args.op c.args.values.now c.args.left (λ table capture. IsFitting (g.S.Source.fits c.args.self.now.source) c.perform_given.new.held.work.values table capture)
+    (λ table capture s. IsStanding before old c.args.self.now.entered table capture s) (λ table capture s. IsStanding before c.perform_given.new.held c.args.self.now.entered table capture s) (Ok done)) (sym c.done_of.ensures)
+    (asked_done c.few_operations_ask.ensures.unnoted c.few_operations_ask.ensures.answered (g.S.Source.fits c.args.self.now.source) before before old c.perform_given.new.held c.args.self.now.entered c.args.at c.args.op c.args.values.now c.args.left c.requires.some
     c.requires.asks c.requires.apart
     c.holding_is_seen.ensures None (g.S.Source.fits c.args.self.now.source) (λ capture fit. fit) gives c.operations_suit.ensures.suit c.operations_suit.ensures.keyed c.costs_grow.ensures c.in_ok-deed.deed c.in_ok-deed.ensures.finishes)
 
@@ -48,7 +48,7 @@ returns-in_err-deed-2-clause-performed g c =
     let old = c.args.self.now.held in
     let asked = subst (λ o. Asks {E = Want} c.in-Some.what c.args.at (g.S.Source.fits c.ask.new.self) before (g.S.Source.stands c.ask.new.self) (Ok o)) c.in-Some-2.is c.in_ok-given.ensures.asked in
     let gives = subst (λ question. Gives c.args.at question (Some c.in-Some-2.given) (g.S.Source.fits c.ask.new.self) before (g.S.Source.stands c.ask.new.self)) (sym (sym c.asking.ensures ∙ c.in-Some.is)) asked in
-    asked_want c.few_operations_ask.ensures.unnoted c.few_operations_ask.ensures.answered (g.S.Source.fits c.ask.new.self) before (g.S.Source.stands c.ask.new.self) old c.perform_given-2.new.self c.args.self.now.entered c.args.at c.args.op c.args.values.now c.args.left c.requires.some
+    asked_want c.few_operations_ask.ensures.unnoted c.few_operations_ask.ensures.answered (g.S.Source.fits c.ask.new.self) before (g.S.Source.stands c.ask.new.self) old c.perform_given-2.new.held c.args.self.now.entered c.args.at c.args.op c.args.values.now c.args.left c.requires.some
     c.requires.asks c.requires.apart
     c.holding_is_seen.ensures (Some c.in-Some-2.given) (g.S.Source.fits c.ask.new.self) (λ capture fit. fit) gives c.in_err-deed-2.field-0.0 c.in_err-deed-2.ensures.finishes c.from_residual-in_err-deed-2.result c.from_residual-in_err-deed-2.ensures.0
 
@@ -58,8 +58,8 @@ returns-clause-performed g c =
     let old = c.args.self.now.held in
     let asked = subst (λ o. Asks {E = Want} c.in-Some.what c.args.at (g.S.Source.fits c.ask.new.self) before (g.S.Source.stands c.ask.new.self) (Ok o)) c.in-Some-2.is c.in_ok-given.ensures.asked in
     let gives = subst (λ question. Gives c.args.at question (Some c.in-Some-2.given) (g.S.Source.fits c.ask.new.self) before (g.S.Source.stands c.ask.new.self)) (sym (sym c.asking.ensures ∙ c.in-Some.is)) asked in
-    subst (λ done. Performs {E = Want} c.args.at c.args.op c.args.values.now c.args.left (λ table capture. IsFitting (g.S.Source.fits c.ask.new.self) c.perform_given-2.new.self.work.values table capture)
-    (λ table capture s. IsStanding before old c.args.self.now.entered table capture s) (λ table capture s. IsStanding (g.S.Source.stands c.ask.new.self) c.perform_given-2.new.self c.args.self.now.entered table capture s) (Ok done)) (sym c.done_of-2.ensures)
-    (asked_done c.few_operations_ask.ensures.unnoted c.few_operations_ask.ensures.answered (g.S.Source.fits c.ask.new.self) before (g.S.Source.stands c.ask.new.self) old c.perform_given-2.new.self c.args.self.now.entered c.args.at c.args.op c.args.values.now c.args.left c.requires.some
+    subst (λ done. Performs {E = Want} c.args.at c.args.op c.args.values.now c.args.left (λ table capture. IsFitting (g.S.Source.fits c.ask.new.self) c.perform_given-2.new.held.work.values table capture)
+    (λ table capture s. IsStanding before old c.args.self.now.entered table capture s) (λ table capture s. IsStanding (g.S.Source.stands c.ask.new.self) c.perform_given-2.new.held c.args.self.now.entered table capture s) (Ok done)) (sym c.done_of-2.ensures)
+    (asked_done c.few_operations_ask.ensures.unnoted c.few_operations_ask.ensures.answered (g.S.Source.fits c.ask.new.self) before (g.S.Source.stands c.ask.new.self) old c.perform_given-2.new.held c.args.self.now.entered c.args.at c.args.op c.args.values.now c.args.left c.requires.some
     c.requires.asks c.requires.apart
     c.holding_is_seen.ensures (Some c.in-Some-2.given) (g.S.Source.fits c.ask.new.self) (λ capture fit. fit) gives c.operations_suit.ensures.suit c.operations_suit.ensures.keyed c.costs_grow.ensures c.in_ok-deed-2.deed c.in_ok-deed-2.ensures.finishes)

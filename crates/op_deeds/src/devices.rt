@@ -2,47 +2,43 @@
 ghost use Rattle.std.specs.Prelude.{◌≡◌, ◌<◌, None, option_copied};
 ghost use Rattle.op_devices.specs.Asking.{Known, answered_by};
 ghost use Rattle.op_devices.specs.Given.{asks, IsGiven};
-ghost use Rattle.op_held.specs.Given.{EndsGiven, is_answered as is_known_to_be};
+ghost use Rattle.op_deeds.specs.Given.{EndsGiven, is_answered as is_known_to_be};
 ghost use Rattle.op_held.specs.Held.{Finishes, begun};
 ghost use Rattle.op_table.specs.Table.{planned};
 ghost use Rattle.op_work.specs.Work.{Extends};
 ghost use Rattle.py_value.specs.Values.{AreNamed};
 
-use crate::Held;
-use crate::performing::begin;
 use capture::{Ask, Given};
 use op_devices::{asking, input, randint, randrange, time_ns};
+use op_held::{Held, begin};
 use op_work::{Stop, Work};
 use prov_base::Memory;
 use py_model::{Answer, Deed, Op};
 use py_value::Value;
 use std::alloc::Global;
 
-impl Held {
-    /// Performs an operation that asks a device, with what it is given, where it asks, and so many steps left. It is none where it costs more.
-    /// Another number, and an asking that is not answered, are answered as want of memory.
-    pub fn perform_given(
-        &mut self,
-        alloc: Global,
-        op: Op,
-        operands: &[Value],
-        given: Option<&Given>,
-        left: u32,
-    ) -> Result<Option<Deed>, Memory>
-        requires named { AreNamed self.old.work.values operands.now }
-        requires some { 0 < left }
-        ensures finishes { (k : Known) → IsGiven k (asks op.no operands.now) (option_copied given.entry)
-            → Finishes (λ table. answered_by k (planned op operands.now table)) (record self.old { work = begun left self.old.work }) self.new result }
-        ensures extends { Extends self.old.work.values self.new.work.values }
-    {
-        let _ = self.opened.len();
-        if !is_answered(asking(op.no, operands), given) {
-            return Err(Memory);
-        }
-        begin(&mut self.work, left);
-        let answer = with_given(&mut self.work, alloc, op, operands, given);
-        self.end(alloc, answer)
+/// Performs an operation that asks a device, with what it is given, where it asks, and so many steps left. It is none where it costs more.
+/// Another number, and an asking that is not answered, are answered as want of memory.
+pub fn perform_given(
+    held: &mut Held,
+    alloc: Global,
+    op: Op,
+    operands: &[Value],
+    given: Option<&Given>,
+    left: u32,
+) -> Result<Option<Deed>, Memory>
+    requires named { AreNamed held.old.work.values operands.now }
+    requires some { 0 < left }
+    ensures finishes { (k : Known) → IsGiven k (asks op.no operands.now) (option_copied given.entry)
+        → Finishes (λ table. answered_by k (planned op operands.now table)) (record held.old { work = begun left held.old.work }) held.new result }
+    ensures extends { Extends held.old.work.values held.new.work.values }
+{
+    if !is_answered(asking(op.no, operands), given) {
+        return Err(Memory);
     }
+    begin(&mut held.work, left);
+    let answer = with_given(&mut held.work, alloc, op, operands, given);
+    held.end(alloc, answer)
 }
 
 // Whether there is an answer, where something is asked.

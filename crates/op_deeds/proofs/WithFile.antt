@@ -9,8 +9,9 @@ use Rattle.object_store.specs.Performing.{SuitInTurn}
 use Rattle.object_store.specs.Store.{IsReadWhole, file_at as held_file}
 use Rattle.op_devices.specs.Opening.{EndsAt}
 use Rattle.op_done.specs.Happening.{IsBegun}
-use Rattle.op_held.specs.Files.{FinishesAt}
+use Rattle.op_deeds.specs.Files.{FinishesAt}
 use Rattle.op_held.specs.Held.{HeldView, Finishes, FinishesAll, IsFinished}
+use Rattle.op_held.proofs.MixedFiles.{Files, mixed}
 use Rattle.op_held.proofs.PathNumbers.{text_there}
 use Rattle.op_work.specs.declared.stop.Stop.{Stop}
 use Rattle.op_work.specs.declared.stop.Stop.TheVariants.{Raises, TooDear, Memory as NoMemory}
@@ -54,14 +55,7 @@ with_file p h (raises_again o) = raises_again o
 with_file p h ends = ends
 with_file p h runs_away = runs_away
 
--- a map with other files
-abbrev pub Files : Type 0
-Files = List ℕ → Option SeenContent
-
-abbrev pub mixed : Files → SeenMap → SeenMap
-mixed files at (file_at path) = files path
-mixed files at place = at place
-
+-- a store with other files
 abbrev pub with_files : Files → RunStore → RunStore
 with_files files store = record store { at = mixed files store.at }
 

@@ -6,7 +6,7 @@ use Rattle.capture.specs.declared.answer.Ask.{Ask as Question}
 use Rattle.capture.specs.declared.answer.Given.{Given as GivenThere}
 use Rattle.op_devices.specs.Asking.{Known, answered_by}
 use Rattle.op_devices.specs.Given.{asks, IsGiven}
-use Rattle.op_held.specs.Given.{EndsGiven, is_answered}
+use Rattle.op_deeds.specs.Given.{EndsGiven, is_answered}
 use Rattle.op_held.specs.Held.{HeldView, GoesOn, begun}
 use Rattle.op_numbers.proofs.EndsAlike.{ends_as}
 use Rattle.op_table.specs.Table.{planned, planned_at}

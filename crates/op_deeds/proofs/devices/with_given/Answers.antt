@@ -1,8 +1,8 @@
 use Rattle.std.proofs.Common.{refl}
 use Rattle.std.specs.Option.{option_copied}
-use Rattle.op_held.proofs.GivenEnds.{at_number, given_missing}
+use Rattle.op_deeds.proofs.GivenEnds.{at_number, given_missing}
 use Rattle.op_table.specs.Table.{planned}
-use Rattle.op_held.proofs.devices.with_given.Goals as goal
+use Rattle.op_deeds.proofs.devices.with_given.Goals as goal
 
 pub returns-in-55 : goal.returns-in-55
 returns-in-55 c = at_number 55 c.args.op c.args.operands.now (option_copied c.args.given) c.in-55.is (λ table. refl) c.input.ensures

@@ -4,7 +4,7 @@ use Rattle.std.proofs.lemmas.Bool.{false≢true}
 use Rattle.answer_source.specs.Sources.{found_seen}
 use Rattle.op_devices.specs.Asking.{Known}
 use Rattle.op_devices.specs.Opening.{mode_named, is_fetched, if_fetched, path_in, IsOpened, EndsAt}
-use Rattle.op_held.specs.Files.{is_told}
+use Rattle.op_deeds.specs.Files.{is_told}
 use Rattle.op_work.specs.declared.stop.Stop.{Stop}
 use Rattle.op_work.specs.Work.{WorkView}
 use Rattle.py_model.specs.Plan.{Plan}

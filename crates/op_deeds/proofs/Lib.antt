@@ -1,0 +1,3 @@
+pub mod GivenEnds
+pub mod WithFile
+pub mod Opens
