@@ -3,48 +3,29 @@
 //!
 //! A row is an operation, by its number, with its operands behind it, written as in `op_cases`. The answer: `gives` with the value, `raises` with the
 //! number of the exception's class and its text, or `not atomic`.
+//!
+//! Of atoms as many as they take, operations 0, 2, 3, 4, 25 and 51 (constant, `give`, truth, `not`, tuple and `bool`) raise nothing.
 #![tactic(auto)]
 
 mod operations;
-mod rows;
 
-use op_work::Work;
-use prov_outside::{Console, Trouble};
+use atom_rows::answer_all;
+use prov_outside::Trouble;
 use prov_real::RealConsole;
-use rows::answer;
 use std::alloc::Global;
 use std::process::ExitCode;
 
 /// Answers every row of the input over what is held of no run.
-fn answer_rows(
-    alloc: Global,
-    console: &mut RealConsole<'_>,
-    work: &mut Work,
-) -> Result<(), Trouble> {
-    for _ in 0..u64::MAX {
-        let Some(row) = console.read_line(alloc)? else {
-            return Ok(());
-        };
-        let mut out = Vec::new(alloc);
-        if answer(alloc, work, row.as_slice(), &mut out).is_err() {
-            return Err(Trouble::Memory);
-        }
-        console.write(alloc, &out)?;
-    }
-    Ok(())
-}
-
-/// Answers every row of the input.
-fn answer_all(alloc: Global, console: &mut RealConsole<'_>) -> Result<(), Trouble> {
+fn answer_input(alloc: Global, console: &mut RealConsole<'_>) -> Result<(), Trouble> {
     match operations::begin(alloc) {
-        Ok(mut work) => answer_rows(alloc, console, &mut work),
+        Ok(operations) => answer_all(alloc, console, operations),
         Err(_) => Err(Trouble::Memory),
     }
 }
 
 fn main(rt: HostRuntime) -> ExitCode {
     let mut console = RealConsole::new(&rt);
-    match answer_all(rt.alloc(), &mut console) {
+    match answer_input(rt.alloc(), &mut console) {
         Ok(()) => ExitCode::from(0),
         Err(Trouble::Failed) => ExitCode::from(1),
         Err(Trouble::Memory) => ExitCode::from(2),

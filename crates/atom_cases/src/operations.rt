@@ -3,6 +3,7 @@ ghost use Rattle.std.specs.Prelude.{◌≡◌, IsTrue, false};
 ghost use Rattle.py_model.specs.Told.{names_text};
 ghost use Rattle.py_value.specs.Values.{AreNamed};
 
+use atom_rows::{Came, Operator};
 use object_store::{Store, named_stays};
 use op_atoms::{Atomic, atom};
 use op_work::Work;
@@ -11,12 +12,20 @@ use py_model::Op;
 use py_value::{Value, Values};
 use std::alloc::Global;
 
+/// What performs operations on atoms.
+#[derive(Drop)]
+pub struct Operations {
+    work: Work,
+}
+
 /// What is held as a run of a script begins.
-pub fn begin(alloc: Global) -> Result<Work, Memory> {
+pub fn begin(alloc: Global) -> Result<Operations, Memory> {
     named_stays();
     let mut values = Values::new(alloc)?;
     let store = Store::new(alloc, &mut values, "s.py", &[])?;
-    Ok(Work::new(alloc, store, values))
+    Ok(Operations {
+        work: Work::new(alloc, store, values),
+    })
 }
 
 /// Whether the texts and tuples that the values name have numbers.
@@ -39,12 +48,7 @@ fn names(no: u8) -> bool
 }
 
 /// What the operation with this number answers. One that names a text, and operands that have no numbers, are not tried.
-pub fn perform(
-    alloc: Global,
-    work: &mut Work,
-    no: u8,
-    operands: &[Value],
-) -> Result<Atomic, Memory> {
+fn performed(alloc: Global, work: &mut Work, no: u8, operands: &[Value]) -> Result<Atomic, Memory> {
     if names(no) || !are_named(work.values(), operands) {
         return Ok(Atomic::NotAtomic);
     }
@@ -57,13 +61,37 @@ pub fn perform(
     atom(work, alloc, op, operands)
 }
 
-/// The tuple of values. Values that have no numbers are answered as want of memory.
-pub fn tuple(alloc: Global, work: &mut Work, items: &[Value]) -> Result<Value, Memory> {
-    if !are_named(work.values(), items) {
-        return Err(Memory);
+/// What came of an operation on atoms.
+fn came(atomic: Atomic) -> Came {
+    match atomic {
+        Atomic::Gives(v) => Came::Gives(v),
+        Atomic::Raises(class, text) => Came::Raises(class, text),
+        Atomic::NotAtomic => Came::NotAtomic,
     }
-    match work.tuple(alloc, items) {
-        Ok(v) => Ok(v),
-        Err(_) => Err(Memory),
+}
+
+impl Operator for Operations {
+    fn word(&mut self, alloc: Global, words: &str) -> Result<u32, Memory> {
+        self.work.number(alloc, words)
+    }
+
+    // Values that have no numbers are answered as want of memory.
+    fn tuple(&mut self, alloc: Global, items: &[Value]) -> Result<Value, Memory> {
+        if !are_named(self.work.values(), items) {
+            return Err(Memory);
+        }
+        match self.work.tuple(alloc, items) {
+            Ok(v) => Ok(v),
+            Err(_) => Err(Memory),
+        }
+    }
+
+    fn perform(&mut self, alloc: Global, no: u8, operands: &[Value]) -> Result<Came, Memory> {
+        let atomic = performed(alloc, &mut self.work, no, operands)?;
+        Ok(came(atomic))
+    }
+
+    fn values(&self) -> &Values {
+        self.work.values()
     }
 }

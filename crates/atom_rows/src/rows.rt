@@ -1,39 +1,37 @@
 // Rows: an operation and its operands, and what it answers.
-use crate::operations::{perform, tuple};
-use op_atoms::Atomic;
+use crate::{Came, Operator};
 use op_words::{halves, plain_value, spelled, write_text, write_value};
-use op_work::Work;
 use prov_base::Memory;
 use py_value::{Value, Values};
 use std::alloc::{AllocError, Global};
 
 /// The value of a word.
-fn value(alloc: Global, work: &mut Work, word: &str) -> Result<Value, Memory> {
+fn value<O: Operator>(alloc: Global, operator: &mut O, word: &str) -> Result<Value, Memory> {
     let Some(rest) = word.strip_prefix('\'') else {
         return Ok(plain_value(word, Value::None));
     };
     let bytes = spelled(alloc, rest.strip_suffix('\'').unwrap_or(rest))?;
-    let number = work.number(alloc, str::from_utf8(&bytes).unwrap_or("?"))?;
+    let number = operator.word(alloc, str::from_utf8(&bytes).unwrap_or("?"))?;
     Ok(Value::Text(number))
 }
 
 /// The operands behind the last bracket that is open become a tuple.
-fn close(
+fn close<O: Operator>(
     alloc: Global,
-    work: &mut Work,
+    operator: &mut O,
     opened: &mut Vec<usize>,
     operands: &mut Vec<Value>,
 ) -> Result<(), Memory> {
     let from = opened.pop().unwrap_or(0);
-    let v = tuple(alloc, work, operands.get(from..).unwrap_or(&[]))?;
+    let v = operator.tuple(alloc, operands.get(from..).unwrap_or(&[]))?;
     operands.truncate(from);
     Ok(operands.push(v)?)
 }
 
 /// Takes what one word says of the operands.
-fn take(
+fn take<O: Operator>(
     alloc: Global,
-    work: &mut Work,
+    operator: &mut O,
     word: &str,
     opened: &mut Vec<usize>,
     operands: &mut Vec<Value>,
@@ -41,20 +39,24 @@ fn take(
     match word.as_bytes().first() {
         None => Ok(()),
         Some(b'(') => Ok(opened.push(operands.len())?),
-        Some(b')') => close(alloc, work, opened, operands),
+        Some(b')') => close(alloc, operator, opened, operands),
         _ => {
-            let v = value(alloc, work, word)?;
+            let v = value(alloc, operator, word)?;
             Ok(operands.push(v)?)
         }
     }
 }
 
 /// The operands of a row.
-fn operands_of(alloc: Global, work: &mut Work, words: &str) -> Result<Vec<Value>, Memory> {
+fn operands_of<O: Operator>(
+    alloc: Global,
+    operator: &mut O,
+    words: &str,
+) -> Result<Vec<Value>, Memory> {
     let mut operands = Vec::new(alloc);
     let mut opened = Vec::new(alloc);
     for word in words.split(' ') {
-        take(alloc, work, word, &mut opened, &mut operands)?;
+        take(alloc, operator, word, &mut opened, &mut operands)?;
     }
     Ok(operands)
 }
@@ -67,33 +69,38 @@ fn write_words(values: &Values, text: u32, out: &mut Vec<u8>) -> Result<(), Allo
     Ok(())
 }
 
-/// Writes what an operation answered.
-fn write_atomic(
+/// Writes what came of an operation.
+fn write_came(
     alloc: Global,
     values: &Values,
-    atomic: Atomic,
+    came: Came,
     out: &mut Vec<u8>,
 ) -> Result<(), AllocError> {
-    match atomic {
-        Atomic::Gives(v) => write_value(alloc, " -> gives", values, v, out),
-        Atomic::Raises(class, text) => {
+    match came {
+        Came::Gives(v) => write_value(alloc, " -> gives", values, v, out),
+        Came::Raises(class, text) => {
             write_value(alloc, " -> raises", values, Value::Exc(class), out)?;
             write_words(values, text, out)
         }
-        Atomic::NotAtomic => out.extend_from_slice(b" -> not atomic"),
+        Came::NotAtomic => out.extend_from_slice(b" -> not atomic"),
     }
 }
 
 /// Writes a row, and what it answers.
-pub fn answer(alloc: Global, work: &mut Work, row: &[u8], out: &mut Vec<u8>) -> Result<(), Memory> {
+pub(crate) fn answer<O: Operator>(
+    alloc: Global,
+    operator: &mut O,
+    row: &[u8],
+    out: &mut Vec<u8>,
+) -> Result<(), Memory> {
     let row = str::from_utf8(row).unwrap_or("");
     if row.is_empty() || row.starts_with('#') {
         return Ok(());
     }
     let (no, words) = halves(row, ' ');
-    let operands = operands_of(alloc, work, words)?;
-    let atomic = perform(alloc, work, no.parse::<u8>().unwrap_or(255), &operands)?;
+    let operands = operands_of(alloc, operator, words)?;
+    let came = operator.perform(alloc, no.parse::<u8>().unwrap_or(255), &operands)?;
     out.extend_from_slice(row.as_bytes())?;
-    write_atomic(alloc, work.values(), atomic, out)?;
+    write_came(alloc, operator.values(), came, out)?;
     Ok(out.push(b'\n')?)
 }
