@@ -9,23 +9,15 @@
 
 mod operations;
 
-use atom_rows::answer_all;
+use atom_rows::answer_input;
+use operations::Atoms;
 use prov_outside::Trouble;
 use prov_real::RealConsole;
-use std::alloc::Global;
 use std::process::ExitCode;
-
-/// Answers every row of the input over what is held of no run.
-fn answer_input(alloc: Global, console: &mut RealConsole<'_>) -> Result<(), Trouble> {
-    match operations::begin(alloc) {
-        Ok(operations) => answer_all(alloc, console, operations),
-        Err(_) => Err(Trouble::Memory),
-    }
-}
 
 fn main(rt: HostRuntime) -> ExitCode {
     let mut console = RealConsole::new(&rt);
-    match answer_input(rt.alloc(), &mut console) {
+    match answer_input(rt.alloc(), &mut console, Atoms) {
         Ok(()) => ExitCode::from(0),
         Err(Trouble::Failed) => ExitCode::from(1),
         Err(Trouble::Memory) => ExitCode::from(2),

@@ -15,7 +15,7 @@ pub enum Came {
 }
 
 /// What performs operations on values without objects, and has the texts and tuples that these name.
-pub trait Operator {
+pub(crate) trait Operator {
     /// The number of a text.
     fn word(&mut self, alloc: Global, words: &str) -> Result<u32, Memory>;
 

@@ -1,5 +1,5 @@
 // Rows: an operation and its operands, and what it answers.
-use crate::{Came, Operator};
+use crate::operator::{Came, Operator};
 use op_words::{halves, plain_value, spelled, write_text, write_value};
 use prov_base::Memory;
 use py_value::{Value, Values};

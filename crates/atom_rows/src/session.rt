@@ -1,5 +1,5 @@
 // Rows that are answered, one after the other.
-use crate::Operator;
+use crate::operator::Operator;
 use crate::rows::answer;
 use prov_outside::{Console, Trouble};
 use std::alloc::Global;
@@ -24,7 +24,7 @@ fn answer_rows<C: Console, O: Operator>(
 }
 
 /// Answers every row of the input, and lets go what performed them.
-pub fn answer_all<C: Console, O: Operator + Drop>(
+pub(crate) fn answer_all<C: Console, O: Operator + Drop>(
     alloc: Global,
     console: &mut C,
     mut operator: O,
