@@ -16,27 +16,15 @@
 
 mod ending;
 
-use ending::sit;
+use ending::Sitting;
+use op_starts::answer_all;
 use prov_outside::Trouble;
 use prov_real::RealConsole;
-use std::alloc::Global;
 use std::process::ExitCode;
-
-/// Answers every line of the input.
-fn answer_all(alloc: Global, console: &mut RealConsole<'_>) -> Result<(), Trouble> {
-    let mut row = sit(alloc, console, b"")?;
-    for _ in 0..u64::MAX {
-        let Some(begin) = row else {
-            return Ok(());
-        };
-        row = sit(alloc, console, begin.as_slice())?;
-    }
-    Ok(())
-}
 
 fn main(rt: HostRuntime) -> ExitCode {
     let mut console = RealConsole::new(&rt);
-    match answer_all(rt.alloc(), &mut console) {
+    match answer_all(rt.alloc(), &mut console, &Sitting) {
         Ok(()) => ExitCode::from(0),
         Err(Trouble::Failed) => ExitCode::from(1),
         Err(Trouble::Memory) => ExitCode::from(2),

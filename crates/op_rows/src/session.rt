@@ -90,7 +90,7 @@ fn answer<D: Doer>(
 }
 
 /// Answers rows until one that begins anew, which it gives back; none at the end of the input.
-pub fn answer_rows<C: Console, D: Doer>(
+fn answer_rows<C: Console, D: Doer>(
     alloc: Global,
     console: &mut C,
     doing: &mut D,
@@ -110,4 +110,14 @@ pub fn answer_rows<C: Console, D: Doer>(
         console.write(alloc, &out)?;
     }
     Ok(None)
+}
+
+/// Answers rows with a doer that is handed on, and gives it back with the row that begins anew.
+pub fn answer_rows_with<C: Console, D: Doer>(
+    alloc: Global,
+    console: &mut C,
+    mut doing: D,
+) -> (D, Result<Option<Bytes>, Trouble>) {
+    let next = answer_rows(alloc, console, &mut doing);
+    (doing, next)
 }

@@ -79,7 +79,7 @@ fn files(alloc: Global, words: &str) -> Result<Vec<(Name, Bytes)>, AllocError> {
 }
 
 /// The arguments of the script that the words of a row have.
-pub fn arguments_of(alloc: Global, words: &str) -> Result<Vec<Name>, AllocError> {
+pub(crate) fn arguments_of(alloc: Global, words: &str) -> Result<Vec<Name>, AllocError> {
     let mut names = Vec::new(alloc);
     for word in words.split(' ') {
         if let Some(rest) = word.strip_prefix("argument=") {
@@ -121,7 +121,7 @@ fn devices_with(
 }
 
 /// The devices that the words of a row have.
-pub fn devices_of(alloc: Global, words: &str) -> Result<RowDevices, AllocError> {
+pub(crate) fn devices_of(alloc: Global, words: &str) -> Result<RowDevices, AllocError> {
     let moments = moments(alloc, words)?;
     devices_with(alloc, words, moments)
 }
