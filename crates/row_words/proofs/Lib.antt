@@ -1,0 +1,5 @@
+pub mod Exact
+pub mod Loop
+pub mod Numbers
+pub mod Steps
+pub mod Words

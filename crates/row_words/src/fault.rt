@@ -5,7 +5,7 @@ ghost use Rattle.row_words.specs.declared.fault.ReadFault.TheVariants.{Memory};
 use std::alloc::{AllocError, AllocFailed};
 
 /// Why the front of some bytes was not read.
-#[derive(Clone, Copy, Debug)]
+#[derive(Clone, Copy)]
 pub enum ReadFault {
     /// The bytes do not begin so.
     Bad,

@@ -1,0 +1,7 @@
+use Rattle.std.proofs.Common.{◌≡◌, ◌-◌}
+use Rattle.row_words.specs.Reading.{each_at, value_at}
+use Rattle.row_words.proofs.Loop.{with_front}
+use Rattle.row_words.proofs.reading_lists.read_each.Given as goal
+
+abbrev pub invariant-loop : goal.invariant-loop
+invariant-loop l = with_front l.values.items (each_at value_at (l.count - l.counter) l.rest) ≡ each_at value_at l.count l.bytes
