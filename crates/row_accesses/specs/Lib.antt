@@ -1,1 +1,2 @@
 pub mod AccessBytes
+pub mod AccessReading
