@@ -1,5 +1,8 @@
 -- The bytes of a trace's rows (this project's profile). A row begins with a byte that tells its kind.
 use Rattle.std.specs.Prelude.{◌≡◌, ℕ, true, List, [], ◌∷◌, ◌++◌, Option, ⊤}
+use Rattle.prov_base.specs.declared.place.Pos.{Pos}
+use Rattle.py_value.specs.declared.access.Access.{Access}
+use Rattle.py_value.specs.declared.access.Kind.{Kind}
 use Rattle.py_model.specs.declared.moment.Answer.{Answer}
 use Rattle.py_model.specs.declared.moment.Answer.TheVariants.{Value as ValueAnswer, Raised, End as EndAnswer}
 use Rattle.py_model.specs.declared.moment.How.{How}
@@ -23,12 +26,22 @@ how_byte Continue = 2
 how_byte Return = 3
 how_byte Raise = 4
 
+-- where and what is done; what comes of it; what it touches
+abbrev pub deed_bytes : Pos → ℕ → List ℕ
+deed_bytes at op = place_bytes at ++ op ∷ []
+
+abbrev pub outcome_bytes : Answer → Option Kind → List ℕ
+outcome_bytes answer made = answer_bytes answer ++ made_bytes made
+
+abbrev pub touches_bytes : List Access → ℕ → List ℕ
+touches_bytes accesses weight = accesses_bytes accesses ++ number_bytes weight
+
 abbrev pub row_bytes : Row → List ℕ
 row_bytes (Text text) = 1 ∷ text_bytes text
 row_bytes (Tuple parts) = 2 ∷ values_bytes parts
 row_bytes (Begin statement) = 3 ∷ number_bytes statement
 row_bytes (Do at op values answer made accesses weight) =
-    4 ∷ place_bytes at ++ (op ∷ values_bytes values ++ (answer_bytes answer ++ (made_bytes made ++ (accesses_bytes accesses ++ number_bytes weight))))
+    4 ∷ deed_bytes at op ++ (values_bytes values ++ (outcome_bytes answer made ++ touches_bytes accesses weight))
 row_bytes (Enter call def values accesses) = 5 ∷ place_bytes call ++ (place_bytes def ++ (values_bytes values ++ accesses_bytes accesses))
 row_bytes (Leave v) = 6 ∷ value_bytes v
 row_bytes (End how) = 7 ∷ how_byte how ∷ []
@@ -49,7 +62,7 @@ IsRow (Text text) = IsText text
 IsRow (Tuple parts) = AreValues parts
 IsRow (Begin statement) = IsShort statement
 IsRow (Do at op values answer made accesses weight) =
-    IsPlace at × ((is_operation op ≡ true) × (AreValues values × (IsAnswer answer × (IsMade made × (AreAccesses accesses × IsShort weight)))))
+    (IsPlace at × (is_operation op ≡ true)) × (AreValues values × ((IsAnswer answer × IsMade made) × (AreAccesses accesses × IsShort weight)))
 IsRow (Enter call def values accesses) = IsPlace call × (IsPlace def × (AreValues values × AreAccesses accesses))
 IsRow (Leave v) = IsValue v
 IsRow (End how) = ⊤
