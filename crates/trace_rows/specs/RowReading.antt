@@ -83,7 +83,10 @@ unfoldable pub row_at : List ℕ → Option (Row × List ℕ)
 row_at bytes = tagged row_tag row_behind bytes
 
 -- a row was read here, or none stands here
+abbrev pub Misses : ℕ → PageFault → Option (Row × List ℕ) → Type 0
+Misses place (BadRow at) read = (at ≡ place) × (read ≡ None)
+Misses place Memory read = ⊤
+
 abbrev pub GivesRow : {X : Type 0} → ℕ → (X → Row × List ℕ) → Result X PageFault → Option (Row × List ℕ) → Type 0
 GivesRow place view (Ok x) read = read ≡ Some (view x)
-GivesRow place view (Err (BadRow at)) read = (at ≡ place) × (read ≡ None)
-GivesRow place view (Err Memory) read = ⊤
+GivesRow place view (Err fault) read = Misses place fault read
