@@ -6,7 +6,8 @@ ghost use Rattle.row_accesses.specs.AccessBytes.{location_bytes, optional_bytes,
 use prov_base::{Memory, Pos};
 use py_value::{Access, Change, Content, Location, Value};
 use row_words::{
-    write_byte, write_number, write_numbered, write_place, write_placed, write_value, write_values,
+    write_byte, write_number, write_numbered, write_place, write_placed, write_tagged, write_value,
+    write_values,
 };
 
 #[tactic(auto, using(std::proofs::Common::append_assoc))]
@@ -48,14 +49,6 @@ fn write_location(out: &mut Vec<u8>, at: Location) -> Result<(), Memory>
         Location::Method(class, name) => write_method(out, class, name),
         Location::Base(class) => write_placed(out, 9, class),
     }
-}
-
-#[tactic(auto, using(std::proofs::Common::append_assoc))]
-fn write_tagged(out: &mut Vec<u8>, tag: u8, value: Value) -> Result<(), Memory>
-    ensures { OnOk result (out.new.items ≡ out.old.items ++ (tag ∷ value_bytes value)) }
-{
-    write_byte(out, tag)?;
-    write_value(out, value)
 }
 
 fn write_optional(out: &mut Vec<u8>, value: Option<Value>) -> Result<(), Memory>

@@ -19,6 +19,6 @@ pub use reading_lists::read_values;
 pub use reading_numbers::{read_byte, read_number, read_place, read_short, read_signed};
 pub use reading_values::{read_made, read_value};
 pub use writing::{
-    write_byte, write_made, write_number, write_numbered, write_place, write_placed, write_value,
-    write_values,
+    write_byte, write_made, write_number, write_numbered, write_place, write_placed, write_tagged,
+    write_value, write_values,
 };

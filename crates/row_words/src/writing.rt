@@ -95,6 +95,15 @@ pub fn write_value(out: &mut Vec<u8>, value: Value) -> Result<(), Memory>
     }
 }
 
+/// Writes a byte, and a value behind it.
+#[tactic(auto, using(std::proofs::Common::append_assoc))]
+pub fn write_tagged(out: &mut Vec<u8>, tag: u8, value: Value) -> Result<(), Memory>
+    ensures { OnOk result (out.new.items ≡ out.old.items ++ (tag ∷ value_bytes value)) }
+{
+    write_byte(out, tag)?;
+    write_value(out, value)
+}
+
 /// Writes a list of values.
 pub fn write_values(out: &mut Vec<u8>, values: &[Value]) -> Result<(), Memory>
     ensures { OnOk result (out.new.items ≡ out.old.items ++ values_bytes values.now) }
@@ -124,14 +133,6 @@ fn write_file(out: &mut Vec<u8>, path: u32, mode: Mode) -> Result<(), Memory>
     write_byte(out, mode_byte(mode))
 }
 
-#[tactic(auto, using(std::proofs::Common::append_assoc))]
-fn write_instance(out: &mut Vec<u8>, class: Value) -> Result<(), Memory>
-    ensures { OnOk result (out.new.items ≡ out.old.items ++ (3 ∷ value_bytes class)) }
-{
-    write_byte(out, 3)?;
-    write_value(out, class)
-}
-
 /// Writes the kind of the object that was made, or that none was.
 pub fn write_made(out: &mut Vec<u8>, made: Option<Kind>) -> Result<(), Memory>
     ensures { OnOk result (out.new.items ≡ out.old.items ++ made_bytes made) }
@@ -140,7 +141,7 @@ pub fn write_made(out: &mut Vec<u8>, made: Option<Kind>) -> Result<(), Memory>
         None => write_byte(out, 0),
         Some(Kind::List) => write_byte(out, 1),
         Some(Kind::Dict) => write_byte(out, 2),
-        Some(Kind::Instance(class)) => write_instance(out, class),
+        Some(Kind::Instance(class)) => write_tagged(out, 3, class),
         Some(Kind::File(path, mode)) => write_file(out, path, mode),
     }
 }

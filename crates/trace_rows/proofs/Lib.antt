@@ -1,3 +1,3 @@
-pub mod Pages
+pub mod PageLaws
 pub mod RowsExact
 pub mod WorkedRows

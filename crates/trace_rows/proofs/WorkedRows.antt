@@ -1,20 +1,18 @@
 -- Worked rows of the definitions, each found by computation.
-use Rattle.std.proofs.Common.{◌≡◌, ℕ, List, [], ◌∷◌, Option, Some, None, true, codes, pos, negsuc, refl}
-use Rattle.prov_base.specs.declared.place.Pos.{Pos}
-use Rattle.py_model.specs.declared.moment.Answer.TheVariants.{Value as ValueAnswer, Raised, End as EndAnswer}
+use Rattle.std.proofs.Common.{◌≡◌, List, [], ◌∷◌, Some, None, true, codes, pos, negsuc, refl}
+use Rattle.py_model.specs.declared.moment.Answer.TheVariants.{Value as ValueAnswer}
 use Rattle.py_model.specs.declared.moment.How.TheVariants.{Normal, Raise}
-use Rattle.py_value.specs.declared.access.Access.TheVariants.{Read, Set, Update}
+use Rattle.py_value.specs.declared.access.Access.TheVariants.{Set, Update}
 use Rattle.py_value.specs.declared.access.Change.TheVariants.{Insert}
-use Rattle.py_value.specs.declared.access.Content.TheVariants.{Var as VarContent, Entry as EntryContent, Closed as ClosedContent}
-use Rattle.py_value.specs.declared.access.Kind.TheVariants.{Instance, File as FileKind}
-use Rattle.py_value.specs.declared.access.Location.TheVariants.{Var, Item, Entry, Order, Closed}
+use Rattle.py_value.specs.declared.access.Content.TheVariants.{Var as VarContent, Entry as EntryContent}
+use Rattle.py_value.specs.declared.access.Kind.TheVariants.{File as FileKind}
+use Rattle.py_value.specs.declared.access.Location.TheVariants.{Var, Entry, Order}
 use Rattle.py_value.specs.declared.access.Mode.TheVariants.{Append}
-use Rattle.py_value.specs.declared.value.Value.{Value}
-use Rattle.py_value.specs.declared.value.Value.TheVariants.{None as NoneValue, Bool, Int, Text as TextValue, Object, Range, Exc}
+use Rattle.py_value.specs.declared.value.Value.TheVariants.{None as NoneValue, Bool, Int, Text as TextValue, Object, Range}
 use Rattle.row_words.specs.Bytes.{number_bytes, number_by, signed_bytes, value_bytes, made_bytes}
-use Rattle.row_accesses.specs.AccessBytes.{access_bytes, location_bytes}
+use Rattle.row_accesses.specs.AccessBytes.{access_bytes}
 use Rattle.trace_rows.specs.declared.row.Row.{Row}
-use Rattle.trace_rows.specs.declared.row.Row.TheVariants.{Text, Tuple, Begin, Do, Enter, Leave, End}
+use Rattle.trace_rows.specs.declared.row.Row.TheVariants.{Text, Tuple, Begin, Do, Enter, End}
 use Rattle.trace_rows.specs.RowBytes.{row_bytes, rows_bytes}
 
 -- 300 is `ac 02`

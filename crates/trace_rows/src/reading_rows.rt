@@ -5,12 +5,11 @@ ghost use Rattle.trace_rows.specs.declared.tags.RowTag.TheVariants.{Text as Text
 ghost use Rattle.trace_rows.specs.RowReading.{row_behind as behind_row, row_at};
 
 use crate::Row;
-use crate::reading_parts::{read_deed, read_how, read_outcome, read_touches};
 use crate::tags::{RowTag, row_tag};
-use crate::texts::read_text;
 use py_model::Args;
 use py_value::Accesses;
 use row_accesses::read_accesses;
+use row_parts::{read_deed, read_how, read_outcome, read_text, read_touches};
 use row_words::{ReadFault, read_place, read_short, read_value, read_values};
 use std::alloc::Global;
 

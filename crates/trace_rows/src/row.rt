@@ -1,5 +1,5 @@
-// The rows of a trace, and lists of them.
-use prov_base::{Name, Pos};
+// The rows of a trace, lists of them, and lists of pages.
+use prov_base::{Bytes, Name, Pos};
 use py_model::{Answer, Args, How};
 use py_value::{Accesses, Kind, Value};
 use std::marker::Model;
@@ -54,5 +54,37 @@ impl Rows {
         ensures { result.now ≡ self.now }
     {
         self.rows.as_slice()
+    }
+}
+
+/// The pages of a trace, in order.
+#[derive(Drop)]
+pub struct Pages {
+    pages: Vec<Bytes>,
+}
+
+impl Model for Pages {
+    ghost use Rattle.std.specs.Prelude.{List, ℕ};
+
+    ghost Value = { List (List ℕ) };
+
+    ghost view = { λ p. p.pages.items };
+}
+
+impl Pages {
+    ghost use Rattle.std.specs.Prelude.{◌≡◌};
+
+    /// The pages of a vector, which is not copied.
+    pub fn of(v: Vec<Bytes>) -> Pages
+        ensures { result ≡ v.items }
+    {
+        Pages { pages: v }
+    }
+
+    /// The pages, in order.
+    pub fn as_slice(&self) -> &[Bytes]
+        ensures { result.now ≡ self.now }
+    {
+        self.pages.as_slice()
     }
 }

@@ -1,20 +1,6 @@
-// The first byte of a row and of an answer, which tells its form, and the byte of an ending.
+// The first byte of a row, which tells its form.
 ghost use Rattle.std.specs.Prelude.{◌≡◌};
-ghost use Rattle.py_model.specs.Told.{is_operation as is_operation_number};
-ghost use Rattle.trace_rows.specs.RowReading.{answer_tag as answer_tag_of, how_tag as how_tag_of, row_tag as row_tag_of};
-
-use py_model::How;
-
-/// The form of an answer.
-#[derive(Clone, Copy)]
-pub(crate) enum AnswerTag {
-    /// A value.
-    Value,
-    /// An exception.
-    Raised,
-    /// The end of a sequence.
-    End,
-}
+ghost use Rattle.trace_rows.specs.RowReading.{row_tag as row_tag_of};
 
 /// The form of a row.
 #[derive(Clone, Copy)]
@@ -35,30 +21,6 @@ pub(crate) enum RowTag {
     End,
 }
 
-pub(crate) fn answer_tag(b: u8) -> Option<AnswerTag>
-    ensures { result ≡ answer_tag_of b }
-{
-    match b {
-        0 => Some(AnswerTag::Value),
-        1 => Some(AnswerTag::Raised),
-        2 => Some(AnswerTag::End),
-        _ => None,
-    }
-}
-
-pub(crate) fn how_tag(b: u8) -> Option<How>
-    ensures { result ≡ how_tag_of b }
-{
-    match b {
-        0 => Some(How::Normal),
-        1 => Some(How::Break),
-        2 => Some(How::Continue),
-        3 => Some(How::Return),
-        4 => Some(How::Raise),
-        _ => None,
-    }
-}
-
 pub(crate) fn row_tag(b: u8) -> Option<RowTag>
     ensures { result ≡ row_tag_of b }
 {
@@ -72,11 +34,4 @@ pub(crate) fn row_tag(b: u8) -> Option<RowTag>
         7 => Some(RowTag::End),
         _ => None,
     }
-}
-
-/// Whether an operation has this number.
-pub(crate) fn is_operation(b: u8) -> bool
-    ensures { result ≡ is_operation_number b }
-{
-    b < 48 || (50 <= b && b < 72) || (80 <= b && b < 112)
 }

@@ -1,4 +1,4 @@
-use Rattle.trace_rows.proofs.Pages.{decoded_again}
+use Rattle.trace_rows.proofs.PageLaws.{decoded_again}
 use Rattle.trace_rows.proofs.page.decode_page.Goals as goal
 
 pub returns-clause-again : goal.returns-clause-again

@@ -1,6 +1,5 @@
 use Rattle.std.proofs.Common.{◌≡◌, ◌++◌, drop}
-use Rattle.row_words.specs.Bytes.{each_bytes}
-use Rattle.trace_rows.specs.RowBytes.{row_bytes, rows_bytes}
+use Rattle.trace_rows.specs.RowBytes.{rows_bytes}
 use Rattle.trace_rows.proofs.page.encode_page.Given as goal
 
 -- what is written, and what is left to write

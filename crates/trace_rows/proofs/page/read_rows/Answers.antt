@@ -1,7 +1,7 @@
 use Rattle.std.proofs.Common.{◌≡◌, ℕ, ◌<◌, eqb, false, List, [], ◌∷◌, length, sym, arith}
 use Rattle.std.proofs.lemmas.Bool.{true≢false}
 use Rattle.std.proofs.lemmas.Result.{err_from_is_err_and}
-use Rattle.trace_rows.proofs.Pages.{one_more, less_left, no_row}
+use Rattle.trace_rows.proofs.PageLaws.{one_more, less_left, no_row}
 use Rattle.trace_rows.proofs.page.read_rows.Goals as goal
 
 not_empty : (rest : List ℕ) → false ≡ eqb (length rest) 0 → 0 < length rest

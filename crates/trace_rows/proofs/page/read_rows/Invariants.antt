@@ -1,5 +1,5 @@
 use Rattle.std.proofs.Common.{length}
-use Rattle.trace_rows.proofs.Pages.{Front}
+use Rattle.trace_rows.proofs.PageLaws.{Front}
 use Rattle.trace_rows.proofs.page.read_rows.Given as goal
 
 -- what was read, and what is left to read

@@ -37,7 +37,7 @@ fn text_of(alloc: Global, bytes: &[u8]) -> Result<Name, ReadFault>
 
 /// The text at the front.
 #[tactic(auto, unfolding(row_words::specs::Reading::text_at))]
-pub(crate) fn read_text(alloc: Global, bytes: &[u8]) -> Result<(Name, &[u8]), ReadFault>
+pub fn read_text(alloc: Global, bytes: &[u8]) -> Result<(Name, &[u8]), ReadFault>
     ensures { Gives (λ x. (x.0, x.1.now)) result (text_at bytes.now) }
 {
     let (text, rest) = read_front(bytes)?;
@@ -47,7 +47,7 @@ pub(crate) fn read_text(alloc: Global, bytes: &[u8]) -> Result<(Name, &[u8]), Re
 
 /// Writes a text.
 #[tactic(auto, using(std::proofs::Common::append_assoc))]
-pub(crate) fn write_text(out: &mut Vec<u8>, text: &str) -> Result<(), Memory>
+pub fn write_text(out: &mut Vec<u8>, text: &str) -> Result<(), Memory>
     ensures { OnOk result (out.new.items ≡ out.old.items ++ text_bytes text.now) }
 {
     write_number(out, text.len() as u64)?;

@@ -1,7 +1,7 @@
 // The parts of a row, read.
 ghost use Rattle.std.specs.Prelude.{◌≡◌};
 ghost use Rattle.row_words.specs.Reading.{Gives};
-ghost use Rattle.trace_rows.specs.RowReading.{answer_behind as behind_answer, answer_at, how_at, op_at, deed_at, outcome_at, touches_at};
+ghost use Rattle.row_parts.specs.PartReading.{answer_behind as behind_answer, answer_at, how_at, op_at, deed_at, outcome_at, touches_at};
 
 use crate::tags::{AnswerTag, answer_tag, how_tag, is_operation};
 use prov_base::Pos;
@@ -12,7 +12,7 @@ use row_words::{ReadFault, read_byte, read_made, read_place, read_short, read_va
 use std::alloc::Global;
 
 // The answer of this form, of which the first byte was read.
-#[tactic(auto, unfolding(crate::specs::RowReading::answer_behind))]
+#[tactic(auto, unfolding(crate::specs::PartReading::answer_behind))]
 fn answer_behind(tag: AnswerTag, rest: &[u8]) -> Result<(Answer, &[u8]), ReadFault>
     ensures { Gives (λ x. (x.0, x.1.now)) result (behind_answer tag rest.now) }
 {
@@ -29,7 +29,7 @@ fn answer_behind(tag: AnswerTag, rest: &[u8]) -> Result<(Answer, &[u8]), ReadFau
     }
 }
 
-#[tactic(auto, unfolding(crate::specs::RowReading::answer_at))]
+#[tactic(auto, unfolding(crate::specs::PartReading::answer_at))]
 fn read_answer(bytes: &[u8]) -> Result<(Answer, &[u8]), ReadFault>
     ensures { Gives (λ x. (x.0, x.1.now)) result (answer_at bytes.now) }
 {
@@ -42,8 +42,9 @@ fn read_answer(bytes: &[u8]) -> Result<(Answer, &[u8]), ReadFault>
     }
 }
 
-#[tactic(auto, unfolding(crate::specs::RowReading::how_at))]
-pub(crate) fn read_how(bytes: &[u8]) -> Result<(How, &[u8]), ReadFault>
+/// How a statement ended.
+#[tactic(auto, unfolding(crate::specs::PartReading::how_at))]
+pub fn read_how(bytes: &[u8]) -> Result<(How, &[u8]), ReadFault>
     ensures { Gives (λ x. (x.0, x.1.now)) result (how_at bytes.now) }
 {
     let [b, rest @ ..] = bytes else {
@@ -56,7 +57,7 @@ pub(crate) fn read_how(bytes: &[u8]) -> Result<(How, &[u8]), ReadFault>
 }
 
 // The number of an operation.
-#[tactic(auto, unfolding(crate::specs::RowReading::op_at))]
+#[tactic(auto, unfolding(crate::specs::PartReading::op_at))]
 fn read_op(bytes: &[u8]) -> Result<(u8, &[u8]), ReadFault>
     ensures { Gives (λ x. (x.0, x.1.now)) result (op_at bytes.now) }
 {
@@ -68,7 +69,7 @@ fn read_op(bytes: &[u8]) -> Result<(u8, &[u8]), ReadFault>
 }
 
 /// Where an operation is done, and its number.
-pub(crate) fn read_deed(bytes: &[u8]) -> Result<((Pos, u8), &[u8]), ReadFault>
+pub fn read_deed(bytes: &[u8]) -> Result<((Pos, u8), &[u8]), ReadFault>
     ensures { Gives (λ x. (x.0, x.1.now)) result (deed_at bytes.now) }
 {
     let (at, rest) = read_place(bytes)?;
@@ -77,7 +78,7 @@ pub(crate) fn read_deed(bytes: &[u8]) -> Result<((Pos, u8), &[u8]), ReadFault>
 }
 
 /// What an operation answers and makes.
-pub(crate) fn read_outcome(bytes: &[u8]) -> Result<((Answer, Option<Kind>), &[u8]), ReadFault>
+pub fn read_outcome(bytes: &[u8]) -> Result<((Answer, Option<Kind>), &[u8]), ReadFault>
     ensures { Gives (λ x. (x.0, x.1.now)) result (outcome_at bytes.now) }
 {
     let (answer, rest) = read_answer(bytes)?;
@@ -86,10 +87,7 @@ pub(crate) fn read_outcome(bytes: &[u8]) -> Result<((Answer, Option<Kind>), &[u8
 }
 
 /// The accesses of an operation, and its weight.
-pub(crate) fn read_touches(
-    alloc: Global,
-    bytes: &[u8],
-) -> Result<((Vec<Access>, u32), &[u8]), ReadFault>
+pub fn read_touches(alloc: Global, bytes: &[u8]) -> Result<((Vec<Access>, u32), &[u8]), ReadFault>
     ensures { Gives (λ x. ((x.0.0.items, x.0.1), x.1.now)) result (touches_at bytes.now) }
 {
     let (accesses, rest) = read_accesses(alloc, bytes)?;

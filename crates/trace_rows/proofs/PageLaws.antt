@@ -1,15 +1,12 @@
 -- That a page has one list of rows, and where bytes stop being rows.
-use Rattle.std.proofs.Common.{◌≡◌, ℕ, zero, suc, ◌+◌, ◌-◌, ◌<◌, ◌≤◌, List, [], ◌∷◌, ◌++◌, length, Option, Some, None, Result, Ok, Err, refl, sym, ap, subst, ◌∙◌, append_assoc, arith}
+use Rattle.std.proofs.Common.{◌≡◌, ℕ, ◌+◌, ◌-◌, ◌<◌, ◌≤◌, List, [], ◌∷◌, ◌++◌, length, Some, None, Result, Ok, Err, refl, sym, ap, subst, ◌∙◌, append_assoc, arith}
 use Rattle.std.proofs.lemmas.List.{append-nil, length-append}
-use Rattle.row_words.specs.Bytes.{each_bytes}
-use Rattle.row_words.specs.Fits.{Each}
-use Rattle.row_words.specs.Reading.{Took, Reads}
 use Rattle.row_words.proofs.Steps.{same_some}
 use Rattle.trace_rows.specs.declared.fault.PageFault.{PageFault}
 use Rattle.trace_rows.specs.declared.fault.PageFault.TheVariants.{BadRow, Memory}
 use Rattle.trace_rows.specs.declared.row.Row.{Row}
 use Rattle.trace_rows.specs.declared.row.Row.TheVariants.{Text, Tuple, Begin, Do, Enter, Leave, End}
-use Rattle.trace_rows.specs.Page.{IsPage, BeginsWith, IsFirstBad, Decodes, IsDecodedAs}
+use Rattle.trace_rows.specs.Page.{IsPage, IsFirstBad, Decodes, IsDecodedAs}
 use Rattle.trace_rows.specs.RowBytes.{row_bytes, rows_bytes, IsRow, AreRows}
 use Rattle.trace_rows.specs.RowReading.{row_at, Misses}
 use Rattle.trace_rows.proofs.RowsExact.{row_reads}
