@@ -1,4 +1,4 @@
--- The ranges of the numbers in a row (this project's profile). All that the program holds is in them.
+-- The ranges of the numbers in a row (this project's profile), those of the types in which the program holds them.
 use Rattle.std.specs.Prelude.{ℕ, ◌<◌, ◌^◌, FitsSigned, List, [], ◌∷◌, length, Option, Some, None, ⊤}
 use Rattle.std.specs.Int.{w64}
 use Rattle.std.specs.Str.{IsUtf8}
