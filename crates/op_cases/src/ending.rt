@@ -1,12 +1,10 @@
 // A doer that is made, answers rows, and comes to its end.
-ghost use Rattle.std.specs.Prelude.{[]};
-
-use answer_source::{Live, Source};
-use capture::{Capture, FileOut};
+use answer_source::Source;
+use capture::FileOut;
 use op_held::Held;
 use op_parts::Parts;
 use op_rows::answer_rows_with;
-use op_starts::{Left, RowDevices, Runner, closed};
+use op_starts::{Left, Runner, closed};
 use prov_base::{Bytes, Memory, Name};
 use prov_outside::{Console, Trouble};
 use std::alloc::Global;
@@ -43,34 +41,19 @@ fn over<C: Console, S: Source + Drop>(
     closed(alloc, console, rest_of(parts), next)
 }
 
-/// Answers rows with a doer over a source.
-fn begin<C: Console, S: Source + Drop>(
-    alloc: Global,
-    console: &mut C,
-    arguments: &[Name],
-    source: S,
-) -> Result<Option<Bytes>, Trouble>
-    requires { S.stands source [] [] }
-{
-    match Parts::new(alloc, "s.py", arguments, source) {
-        Ok(parts) => over(alloc, console, parts),
-        Err(_) => Err(Trouble::Memory),
-    }
-}
-
 /// Answers rows with doers of `op_parts`.
 pub struct Sitting;
 
 impl<C: Console> Runner<C> for Sitting {
-    fn run(
+    fn run<S: Source + Drop>(
         &self,
         alloc: Global,
         console: &mut C,
         arguments: &[Name],
-        devices: RowDevices,
+        source: S,
     ) -> Result<Option<Bytes>, Trouble> {
-        match Capture::new(alloc) {
-            Ok(capture) => begin(alloc, console, arguments, Live::new(capture, devices)),
+        match Parts::new(alloc, "s.py", arguments, source) {
+            Ok(parts) => over(alloc, console, parts),
             Err(_) => Err(Trouble::Memory),
         }
     }

@@ -9,7 +9,7 @@ use std::alloc::{AllocError, Global};
 const TOO_MANY_BYTES: usize = 16_777_217;
 
 /// The devices of a row.
-pub type RowDevices = Devices<MemoryConsole, MemoryFolder, MemoryMoments>;
+pub(crate) type RowDevices = Devices<MemoryConsole, MemoryFolder, MemoryMoments>;
 
 fn name_of(alloc: Global, word: &str) -> Result<Name, AllocError> {
     Ok(Name::of(String::from_str(alloc, word)?))

@@ -10,6 +10,5 @@ mod devices;
 mod endings;
 mod running;
 
-pub use devices::RowDevices;
 pub use endings::{Left, closed};
 pub use running::{Runner, answer_all};
