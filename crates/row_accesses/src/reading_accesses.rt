@@ -58,7 +58,7 @@ fn read_access(alloc: Global, bytes: &[u8]) -> Result<(Access, &[u8]), ReadFault
     }
 }
 
-// So many accesses at the front. What is taken of memory is bounded by the bytes that are there.
+// So many accesses at the front. No room is reserved by the count, which may be any number.
 fn read_each(alloc: Global, count: u64, bytes: &[u8]) -> Result<(Vec<Access>, &[u8]), ReadFault>
     ensures { Gives (λ x. (x.0.items, x.1.now)) result (each_at access_at count bytes.now) }
 {

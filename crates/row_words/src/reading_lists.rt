@@ -8,7 +8,7 @@ use crate::reading_values::read_value;
 use py_value::Value;
 use std::alloc::Global;
 
-// So many values at the front. What is taken of memory is bounded by the bytes that are there.
+// So many values at the front. No room is reserved by the count, which may be any number.
 fn read_each(alloc: Global, count: u64, bytes: &[u8]) -> Result<(Vec<Value>, &[u8]), ReadFault>
     ensures { Gives (λ x. (x.0.items, x.1.now)) result (each_at value_at count bytes.now) }
 {

@@ -48,8 +48,7 @@ fn read_rows(alloc: Global, bytes: &[u8]) -> Result<Rows, PageFault>
     Ok(Rows::of(rows))
 }
 
-/// The rows that have exactly these bytes. Where no rows have them, the place is where the longest front that is rows ends. What is taken of
-/// memory is bounded by the bytes that are there.
+/// The rows that have exactly these bytes. Where no rows have them, the place is where the longest front that is rows ends.
 pub fn decode_page(alloc: Global, bytes: &[u8]) -> Result<Rows, PageFault>
     // What is read has these bytes, and a bad row begins where the longest front of rows ends.
     ensures decodes { Decodes bytes.now result }
