@@ -30,7 +30,7 @@ returns-in-Err-new g c = (nothing_done c.args.devices c.finish-devices.result.1 
       time = g.M.Moments.time_faults devices.moments;
       word = g.M.Moments.word_faults devices.moments;
     }))
-        (c.finish-devices.ensures.devices ∙ (field c.in-Err-new.ensures.back (λ s. s.devices) ∙ c.new-2.ensures.devices), tt)
+        (c.finish-devices.ensures.devices ∙ (field c.in-Err-new.ensures.back (λ s. s.devices) ∙ c.new-2.ensures.devices)), tt)
 
 pub returns : goal.returns
 returns g c = ran_by c.in-Ok-new.parts.source.devices c.args.devices c.run-end.new.doer.source.devices c.finish-capture.result.1 (λ devices. telling (g.C.Console.told devices.console) (g.F.Folder.told devices.folder) (g.M.Moments.told devices.moments) (record {
