@@ -1,0 +1,4 @@
+pub mod Naming
+pub mod MomentRows
+pub mod Telling
+pub mod PageCuts

@@ -1,0 +1,8 @@
+//! The rows of the moments of a run, and the pages of rows.
+//!
+//! `specs/MomentRows.antt` says what the rows of a list of moments are, and `specs/PageCuts.antt` how rows are cut into pages.
+#![tactic(auto)]
+
+mod pages;
+
+pub use pages::pages_of;
