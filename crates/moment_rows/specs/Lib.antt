@@ -1,4 +1,5 @@
 pub mod Naming
 pub mod MomentRows
+pub mod Numbers
 pub mod Telling
 pub mod PageCuts

@@ -3,6 +3,8 @@
 //! `specs/MomentRows.antt` says what the rows of a list of moments are, and `specs/PageCuts.antt` how rows are cut into pages.
 #![tactic(auto)]
 
+mod namer;
 mod pages;
 
+pub use namer::Namer;
 pub use pages::pages_of;

@@ -1,0 +1,76 @@
+// Texts and tuples, named anew in the order in which moments name them.
+ghost use Rattle.std.specs.Prelude.{◌≡◌, ◌<◌, [], map, length, IfOk};
+ghost use Rattle.py_value.specs.Contents.{contents};
+ghost use Rattle.py_value.specs.Values.{IsNamed, AreNamed, IsBelow, AreBelow, AreInterned};
+ghost use Rattle.moment_rows.specs.Naming.{Naming};
+ghost use Rattle.moment_rows.specs.Numbers.{NumbersText, NumbersTuple};
+
+use prov_base::{Memory, Name};
+use py_model::Args;
+use py_value::{Value, Values};
+use std::alloc::Global;
+use std::marker::Model;
+use trace_rows::Row;
+
+/// The texts and tuples that have numbers in rows, and the rows that were made of late.
+#[derive(Drop)]
+pub struct Namer {
+    named: Values,
+    rows: Vec<Row>,
+    texts: u64,
+    tuples: u64,
+}
+
+impl Model for Namer {
+    ghost use Rattle.std.specs.Prelude.{◌≡◌, length, reverse};
+    ghost use Rattle.moment_rows.specs.Naming.{Naming};
+
+    ghost Value = { Naming };
+
+    ghost view = { λ n. record { view = n.named; rows = reverse n.rows.items } };
+
+    ghost invariant = { λ n. (n.texts ≡ length n.named.texts) × (n.tuples ≡ length n.named.tuples) };
+}
+
+impl Namer {
+    /// Nothing is named, and there are no rows.
+    pub fn new(alloc: Global) -> Result<Namer, Memory>
+        ensures { IfOk result (λ n. n ≡ record { view = record { texts = []; tuples = [] }; rows = [] }) }
+    {
+        Ok(Namer {
+            named: Values::new(alloc)?,
+            rows: Vec::new(alloc),
+            texts: 0,
+            tuples: 0,
+        })
+    }
+
+    /// The number of a text in rows. One that has none gets the next, and a row.
+    pub(crate) fn text(&mut self, alloc: Global, s: &str) -> Result<u32, Memory>
+        ensures { IfOk result (NumbersText s.now self.old self.new) }
+    {
+        let number = self.named.text(alloc, s)?;
+        if u64::from(number) < self.texts {
+            return Ok(number);
+        }
+        self.texts += 1;
+        let text = String::from_str(alloc, s)?;
+        self.rows.push(Row::Text(Name::of(text)))?;
+        Ok(number)
+    }
+
+    /// The number in rows of a tuple of values that have theirs. One that has none gets the next, and a row.
+    fn tuple(&mut self, alloc: Global, items: &[Value]) -> Result<u32, Memory>
+        requires { AreNamed self.old.view items.now }
+        ensures { IfOk result (NumbersTuple items.now self.old self.new) }
+    {
+        let number = self.named.tuple(alloc, items)?;
+        if u64::from(number) < self.tuples {
+            return Ok(number);
+        }
+        self.tuples += 1;
+        let parts = Vec::from_slice(alloc, items)?;
+        self.rows.push(Row::Tuple(Args::of(parts)))?;
+        Ok(number)
+    }
+}
