@@ -1,5 +1,5 @@
 -- What it is that something was named, and is written with numbers. It is the proof's means; no clause of the recorder speaks of it.
-use Rattle.std.specs.Prelude.{◌≡◌, ℕ, List, [], ◌∷◌, map, slice_get, Option, Some}
+use Rattle.std.specs.Prelude.{◌≡◌, ℕ, List, [], ◌∷◌, ◌++◌, map, slice_get, Option, Some}
 use Rattle.std.specs.Option.{option_map, option_and_then}
 use Rattle.std.specs.Str.{bytes_eq}
 use Rattle.py_value.specs.declared.value.Value.{Value}
@@ -42,3 +42,8 @@ pub record NumbersTuple (items : List Value) (old new : Naming) (id : ℕ) : Typ
   pub named : (parts : Parts) → values_at old.view parts ≡ Some items → new ≡ name (tuple parts) old
   pub extends : Extends old.view new.view
   pub at : slice_get new.view.tuples id ≡ Some items
+
+-- what is left to number, and numbers what was left, numbers all
+abbrev pub Goes : {X B : Type 0} → (ValuesView → X → B) → (ValuesView → B → Option X) → (B → List Contents) → List B → List B → Naming → Naming → List X → Type 0
+Goes {X} seen written names all left old now done =
+    (rest : List X) (end : Naming) → NumbersAll seen written names left now end rest → NumbersAll seen written names all old end (done ++ rest)

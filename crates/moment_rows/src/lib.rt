@@ -4,6 +4,7 @@
 #![tactic(auto)]
 
 mod namer;
+mod naming_values;
 mod pages;
 
 pub use namer::Namer;

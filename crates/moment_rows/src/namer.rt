@@ -60,7 +60,7 @@ impl Namer {
     }
 
     /// The number in rows of a tuple of values that have theirs. One that has none gets the next, and a row.
-    fn tuple(&mut self, alloc: Global, items: &[Value]) -> Result<u32, Memory>
+    pub(crate) fn tuple(&mut self, alloc: Global, items: &[Value]) -> Result<u32, Memory>
         requires { AreNamed self.old.view items.now }
         ensures { IfOk result (NumbersTuple items.now self.old self.new) }
     {
