@@ -1,3 +1,4 @@
+pub mod Joining
 pub mod Naming
 pub mod Numbering
 pub mod WorkedMoments

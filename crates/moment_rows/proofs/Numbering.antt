@@ -55,6 +55,13 @@ module _ {X B : Type 0} (seen : ValuesView → X → B) (written : ValuesView �
       goes_on all (map f (drop (i + 1) items)) (f (get_or items i d)) old mid now done x
       (subst (λ xs. Goes seen written names all xs old mid done) (ap (map f) (drop-cons items i d below ∙ ap (λ k. get_or items i d ∷ drop k items) after)) go) one
 
+  -- the same, where the item is known by what is left
+  pub one_turn_at : {A : Type 0} (f : A → B) (items : List A) (i : ℕ) (item : A) (all : List B) (old mid now : Naming) (done : List X) (x : X) → drop i items ≡ item ∷ drop (i + 1) items
+      → Goes seen written names all (map f (drop i items)) old mid done → Numbers seen written names (f item) mid now x
+      → Goes seen written names all (map f (drop (i + 1) items)) old now (done ++ x ∷ [])
+  one_turn_at f items i item all old mid now done x is go one =
+      goes_on all (map f (drop (i + 1) items)) (f item) old mid now done x (subst (λ xs. Goes seen written names all xs old mid done) (ap (map f) is) go) one
+
   pub last_turn : {A : Type 0} (f : A → B) (items : List A) (i : ℕ) (all : List B) (old now : Naming) (done : List X) → length items ≤ i
       → Goes seen written names all (map f (drop i items)) old now done → AreInterned now.view → NumbersAll seen written names all old now done
   last_turn f items i all old now done above go interned =
@@ -117,3 +124,8 @@ are_named view interned (c ∷ cs) vs is = by (value_at view c) refl (all_of (va
 pub parts_named : (view : ValuesView) → AreInterned view → (id : ℕ) (items : List Value) → slice_get view.tuples id ≡ Some items → AreNamed view items
 parts_named view interned id items at i item is =
     below_more (length view.texts) id (length view.texts) (length view.tuples) item (omega arith) (omega (arith, slice_get_within view.tuples id items at)) (interned.parts id items at i item is)
+
+pub front_at : {A : Type 0} (items : List A) (i : ℕ) (item : A) → i < length items → item ≡ get_or items i item → drop i items ≡ item ∷ drop (i + 1) items
+front_at items i item below is =
+    let after : suc i ≡ i + 1 = omega arith in
+    drop-cons items i item below ∙ ap (λ k. get_or items i item ∷ drop k items) after ∙ ap (λ y. y ∷ drop (i + 1) items) (sym is)

@@ -1,5 +1,6 @@
 pub mod Naming
 pub mod MomentRows
 pub mod Numbers
+pub mod Parts
 pub mod Telling
 pub mod PageCuts

@@ -4,8 +4,11 @@
 #![tactic(auto)]
 
 mod namer;
+mod naming_accesses;
+mod naming_moments;
 mod naming_values;
 mod pages;
 
 pub use namer::Namer;
+pub use naming_moments::name_moment;
 pub use pages::pages_of;

@@ -64,3 +64,39 @@ fn values_below(
     }
     Ok(own)
 }
+
+/// A value by its numbers in rows.
+pub(crate) fn name_value(
+    alloc: Global,
+    namer: &mut Namer,
+    values: &Values,
+    v: Value,
+) -> Result<Value, Memory>
+    requires own { AreInterned namer.old.view }
+    requires named { IsNamed values.now v }
+    ensures { IfOk result (NumbersValue (contents values.now v) namer.old namer.new) }
+{
+    match v {
+        Value::Tuple(id) => value_below(alloc, namer, values, u64::from(id) + 1, v),
+        _ => value_below(alloc, namer, values, 0, v),
+    }
+}
+
+/// Values by their numbers in rows.
+pub(crate) fn name_values(
+    alloc: Global,
+    namer: &mut Namer,
+    values: &Values,
+    items: &[Value],
+) -> Result<Vec<Value>, Memory>
+    requires own { AreInterned namer.old.view }
+    requires named { AreNamed values.now items.now }
+    ensures { IfOk result (λ vs. NumbersValues (map (contents values.now) items.now) namer.old namer.new vs.items) }
+{
+    let mut own = Vec::new(alloc);
+    for item in items {
+        let v = name_value(alloc, namer, values, *item)?;
+        own.push(v)?;
+    }
+    Ok(own)
+}

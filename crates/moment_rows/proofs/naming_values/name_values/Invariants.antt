@@ -1,0 +1,12 @@
+use Rattle.std.proofs.Common.{map, drop}
+use Rattle.py_value.specs.Contents.{contents}
+use Rattle.py_value.specs.Seen.{value_at}
+use Rattle.py_value.specs.Values.{AreInterned}
+use Rattle.moment_rows.specs.Naming.{named_in}
+use Rattle.moment_rows.specs.Numbers.{Goes}
+use Rattle.moment_rows.proofs.naming_values.name_values.Given as goal
+
+-- what is done, and what is left to name
+abbrev pub invariant-loop-item : goal.invariant-loop-item
+invariant-loop-item l =
+    Goes contents value_at named_in (map (contents l.values) l.items) (map (contents l.values) (drop l.item-index l.items)) l.fn.namer l.namer l.own.items × AreInterned l.namer.view
