@@ -1,5 +1,5 @@
 // Texts and tuples, named anew in the order in which moments name them.
-ghost use Rattle.std.specs.Prelude.{◌≡◌, ◌<◌, [], map, length, IfOk};
+ghost use Rattle.std.specs.Prelude.{◌≡◌, [], ◌∷◌, ◌++◌, reverse, IfOk, OnOk, OnErr};
 ghost use Rattle.py_value.specs.Contents.{contents};
 ghost use Rattle.py_value.specs.Values.{IsNamed, AreNamed, IsBelow, AreBelow, AreInterned};
 ghost use Rattle.moment_rows.specs.Naming.{Naming};
@@ -72,5 +72,17 @@ impl Namer {
         let parts = Vec::from_slice(alloc, items)?;
         self.rows.push(Row::Tuple(Args::of(parts)))?;
         Ok(number)
+    }
+
+    /// Moves the rows that were made of late, and this row behind them, to the end of others.
+    pub fn finish(&mut self, row: Row, to: &mut Vec<Row>) -> Result<(), Memory>
+        ensures moved { OnOk result (reverse to.new.items ≡ row ∷ (self.old.rows ++ reverse to.old.items)) }
+        ensures left { OnOk result (self.new ≡ record { view = self.old.view; rows = [] }) }
+        ensures err { OnErr result (to.new.items ≡ to.old.items) }
+    {
+        let _ = &self.named;
+        self.rows.push(row)?;
+        to.append(&mut self.rows)?;
+        Ok(())
     }
 }
