@@ -1,6 +1,13 @@
 //! The rows of the moments of a run, and the pages of rows.
 //!
-//! `specs/MomentRows.antt` says what the rows of a list of moments are, and `specs/PageCuts.antt` how rows are cut into pages.
+//! `specs/MomentRows.antt` says what the rows of a list of moments are: each moment has one row, and a text or tuple has one directly before
+//! the first row that names it (`specs/Naming.antt`). `specs/PageCuts.antt` says how rows are cut into pages.
+//!
+//! - [`pages_of`]: the pages of rows.
+//! - [`name_moment`]: the row of a moment. A [`Namer`] keeps the texts and tuples that have numbers, and the rows that they got of late.
+//! - `Namer::finish`: these rows, and the moment's own behind them, are moved to the end of the others.
+//!
+//! A call that always answers want of memory meets these clauses: that they succeed is not tested yet.
 #![tactic(auto)]
 
 mod namer;
