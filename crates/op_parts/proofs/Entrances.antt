@@ -10,7 +10,7 @@ use Rattle.op_done.specs.Holding.{Holds}
 use Rattle.op_held.specs.Entering.{set_parameters, parameters_plan}
 use Rattle.op_held.specs.Held.{HeldView, StandsHeld, Finishes, begun}
 use Rattle.op_parts.specs.Parts.{found_by, IsFitting, IsStanding}
-use Rattle.op_parts.proofs.Performed.{began_stands, keyed_run}
+use Rattle.op_asking.proofs.Performed.{began_stands, keyed_run}
 use Rattle.prov_base.specs.declared.place.Pos.{Pos}
 use Rattle.prov_base.specs.declared.refusal.Memory.{Memory as Want}
 use Rattle.py_model.specs.Capture.{Capture}

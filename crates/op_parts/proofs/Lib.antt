@@ -1,10 +1,1 @@
-pub mod Agreeing
 pub mod Entrances
-pub mod Likewise
-pub mod Outcomes
-pub mod Performed
-pub mod FirstAsks
-pub mod FirstFetches
-pub mod Ready
-pub mod Asked
-pub mod Fetched

@@ -10,6 +10,7 @@ use crate::naming::{asks, has_names};
 use answer_source::Source;
 use keyed_plans::operations_suit;
 use object_store::{keys_have_entries, named_stays, plans_suit, store_over_contents};
+use op_asking::{perform_asking, perform_open};
 use op_done::holding_is_seen;
 use op_held::Held;
 use prov_base::{Memory, Name, Pos};
@@ -78,10 +79,26 @@ impl<S: Source> Doer for Parts<S> {
             return Ok(Done::TooDear);
         }
         if op.no == 62 {
-            return self.perform_open(alloc, at, op, values, left);
+            return perform_open(
+                &mut self.held,
+                &mut self.source,
+                alloc,
+                at,
+                op,
+                values,
+                left,
+            );
         }
         if asks(op.no) {
-            return self.perform_asking(alloc, at, op, values, left);
+            return perform_asking(
+                &mut self.held,
+                &mut self.source,
+                alloc,
+                at,
+                op,
+                values,
+                left,
+            );
         }
         match op_deeds::perform(&mut self.held, alloc, op, values, left)? {
             Some(deed) => Ok(Done::Did(deed)),

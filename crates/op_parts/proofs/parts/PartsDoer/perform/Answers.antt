@@ -2,7 +2,7 @@ use Rattle.std.proofs.Common.{rules, ◌≡◌, ◌<◌, false, sym, subst, ◌�
 use Rattle.op_held.specs.Held.{Finishes, begun}
 use Rattle.op_table.specs.Table.{planned}
 use Rattle.op_parts.specs.Parts.{IsFitting, IsStanding}
-use Rattle.op_parts.proofs.Performed.{quiet_done, quiet_dear, goes_on_from, performs_err}
+use Rattle.op_asking.proofs.Performed.{quiet_done, quiet_dear, goes_on_from, performs_err}
 use Rattle.op_parts.proofs.parts.PartsDoer.perform.Goals as goal
 
 pub returns-in_err-deed-clause-performed : goal.returns-in_err-deed-clause-performed
@@ -31,3 +31,9 @@ returns-in-None-clause-performed g c = λ table capture fit s stands left_is.
     some table capture fit s stands left_is c.few_operations_ask.ensures.quiet c.few_operations_ask.ensures.unnoted c.few_operations_ask.ensures.answered c.costs_grow.ensures c.holding_is_seen.ensures
     (sym c.asks.ensures ∙ quiet)
     (subst (λ o. Finishes (planned c.args.op c.args.values.now) (record c.args.self.now.held { work = begun c.args.left c.args.self.now.held.work }) c.perform.new.held (Ok o)) c.in-None.is c.in_ok-deed.ensures.finishes)
+
+pub returns-then-op-eq62-clause-performed : goal.returns-then-op-eq62-clause-performed
+returns-then-op-eq62-clause-performed g c = c.perform_open.ensures.performed c.args.self.now.entered
+
+pub returns-then-asks-clause-performed : goal.returns-then-asks-clause-performed
+returns-then-asks-clause-performed g c = c.perform_asking.ensures.performed c.args.self.now.entered

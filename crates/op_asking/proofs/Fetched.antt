@@ -17,15 +17,15 @@ use Rattle.op_held.specs.Held.{HeldView, StandsHeld, begun}
 use Rattle.op_held.specs.Opening.{first_of}
 use Rattle.op_held.proofs.KeptHolds.{paths_on}
 use Rattle.op_held.proofs.PathNumbers.{text_there, has_same}
-use Rattle.op_parts.specs.Asking.{Known, answered_by}
-use Rattle.op_parts.specs.Parts.{found_by, IsFitting, IsStanding}
-use Rattle.op_parts.specs.Told.{bytes_found, HasBytes}
-use Rattle.op_parts.proofs.Agreeing.{OverContents}
-use Rattle.op_parts.proofs.FirstAsks.{AnswersAll}
-use Rattle.op_parts.proofs.FirstFetches.{FetchesFirst, FetchesIf, open_first, lacks_file, has_found, quiet_found}
-use Rattle.op_parts.proofs.Outcomes.{noted, lacks}
-use Rattle.op_parts.proofs.Performed.{Seen, Unnoted, began_stands}
-use Rattle.op_parts.proofs.Ready.{Ready, Came, Each, known, own_plan, answers, own_effect, ready_err}
+use Rattle.op_asking.specs.Asking.{Known, answered_by}
+use Rattle.op_asking.specs.Parts.{found_by, IsFitting, IsStanding}
+use Rattle.op_asking.specs.Told.{bytes_found, HasBytes}
+use Rattle.op_asking.proofs.Agreeing.{OverContents}
+use Rattle.op_asking.proofs.FirstAsks.{AnswersAll}
+use Rattle.op_asking.proofs.FirstFetches.{FetchesFirst, FetchesIf, open_first, lacks_file, has_found, quiet_found}
+use Rattle.op_asking.proofs.Outcomes.{noted, lacks}
+use Rattle.op_asking.proofs.Performed.{Seen, Unnoted, began_stands}
+use Rattle.op_asking.proofs.Ready.{Ready, Came, Each, known, own_plan, answers, own_effect, ready_err}
 use Rattle.op_table.specs.Table.{planned_at}
 use Rattle.op_work.specs.Work.{Extends, IsDear, AreNamedPaths}
 use Rattle.op_work.proofs.Going.{extends_then}

@@ -11,9 +11,9 @@ use Rattle.op_done.specs.Holding.{Found, Holds}
 use Rattle.op_done.proofs.Finding.{keyed_found}
 use Rattle.op_held.specs.Held.{HeldView, StandsHeld, Finishes, GoesOn, begun}
 use Rattle.op_held.proofs.KeptHolds.{begins_so}
-use Rattle.op_parts.specs.Parts.{found_by, IsFitting, IsStanding}
-use Rattle.op_parts.proofs.Likewise.{alike_same}
-use Rattle.op_parts.proofs.Outcomes.{Grows, told, dear_told}
+use Rattle.op_asking.specs.Parts.{found_by, IsFitting, IsStanding}
+use Rattle.op_asking.proofs.Likewise.{alike_same}
+use Rattle.op_asking.proofs.Outcomes.{Grows, told, dear_told}
 use Rattle.op_table.specs.Table.{planned}
 use Rattle.op_work.specs.Work.{Extends, IsSeen}
 use Rattle.op_work.proofs.Going.{extends_then}

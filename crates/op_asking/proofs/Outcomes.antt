@@ -3,8 +3,8 @@ use Rattle.std.proofs.Common.{◌≡◌, refl, sym, ap, subst, ◌∙◌, arith,
 use Rattle.std.proofs.lemmas.Bool.{le-leb, lt-leb}
 use Rattle.std.specs.Option.{option_map}
 use Rattle.op_held.specs.Held.{HeldView, IsFinished, StandsHeld}
-use Rattle.op_parts.specs.Asking.{IsLikewise}
-use Rattle.op_parts.proofs.Likewise.{weight_same, cost_same, after_same}
+use Rattle.op_asking.specs.Asking.{IsLikewise}
+use Rattle.op_asking.proofs.Likewise.{weight_same, cost_same, after_same}
 use Rattle.prov_base.specs.declared.place.Pos.{Pos}
 use Rattle.py_model.specs.Capture.{Capture}
 use Rattle.py_model.specs.Doing.{Standing, standing, IsDone}

@@ -7,12 +7,12 @@ use Rattle.object_store.specs.Keyed.{IsKeyed}
 use Rattle.object_store.specs.Performing.{SuitInTurn}
 use Rattle.op_held.specs.Held.{HeldView, StandsHeld, IsFinished, begun}
 use Rattle.op_held.proofs.KeptHolds.{begins_so}
-use Rattle.op_parts.specs.Asking.{Known, answered_by}
-use Rattle.op_parts.specs.Parts.{found_by, IsFitting, IsStanding}
-use Rattle.op_parts.specs.Told.{done_of}
-use Rattle.op_parts.proofs.Likewise.{known_in, alike, after_same}
-use Rattle.op_parts.proofs.Outcomes.{Grows, noted, told, dear_told}
-use Rattle.op_parts.proofs.Performed.{Suits, KeepsKeys, source_same, keyed_run}
+use Rattle.op_asking.specs.Asking.{Known, answered_by}
+use Rattle.op_asking.specs.Parts.{found_by, IsFitting, IsStanding}
+use Rattle.op_asking.specs.Told.{done_of}
+use Rattle.op_asking.proofs.Likewise.{known_in, alike, after_same}
+use Rattle.op_asking.proofs.Outcomes.{Grows, noted, told, dear_told}
+use Rattle.op_asking.proofs.Performed.{Suits, KeepsKeys, source_same, keyed_run}
 use Rattle.op_work.specs.Work.{WorkView, IsDear}
 use Rattle.prov_base.specs.declared.place.Pos.{Pos}
 use Rattle.prov_base.specs.declared.refusal.Memory.{Memory as Want}

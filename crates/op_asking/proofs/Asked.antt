@@ -7,13 +7,13 @@ use Rattle.capture.specs.declared.answer.Ask.{Ask as Question}
 use Rattle.capture.specs.declared.answer.Given.{Given as GivenThere}
 use Rattle.op_devices.specs.Given.{asks, IsGiven, noted_as}
 use Rattle.op_held.specs.Held.{HeldView, StandsHeld, Finishes, begun}
-use Rattle.op_parts.specs.Asking.{Known, answered_by}
-use Rattle.op_parts.specs.Parts.{found_by, IsFitting, IsStanding}
-use Rattle.op_parts.specs.Told.{done_of}
-use Rattle.op_parts.proofs.FirstAsks.{AnswersAll, AsksFirst, first_asks, first_noted, lacks_answer, has_answer}
-use Rattle.op_parts.proofs.Outcomes.{Grows, noted, lacks}
-use Rattle.op_parts.proofs.Performed.{Seen, Suits, KeepsKeys, Unnoted, began_stands}
-use Rattle.op_parts.proofs.Ready.{Ready, Came, Each, known, own_plan, answers, own_effect, performs_ready, performs_want}
+use Rattle.op_asking.specs.Asking.{Known, answered_by}
+use Rattle.op_asking.specs.Parts.{found_by, IsFitting, IsStanding}
+use Rattle.op_asking.specs.Told.{done_of}
+use Rattle.op_asking.proofs.FirstAsks.{AnswersAll, AsksFirst, first_asks, first_noted, lacks_answer, has_answer}
+use Rattle.op_asking.proofs.Outcomes.{Grows, noted, lacks}
+use Rattle.op_asking.proofs.Performed.{Seen, Suits, KeepsKeys, Unnoted, began_stands}
+use Rattle.op_asking.proofs.Ready.{Ready, Came, Each, known, own_plan, answers, own_effect, performs_ready, performs_want}
 use Rattle.op_table.specs.Table.{planned}
 use Rattle.prov_base.specs.declared.place.Pos.{Pos}
 use Rattle.prov_base.specs.declared.refusal.Memory.{Memory as Want}

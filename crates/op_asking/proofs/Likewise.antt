@@ -3,7 +3,7 @@ use Rattle.std.proofs.Common.{◌≡◌, refl, sym, ap, subst, ◌∙◌, ℕ, �
 use Rattle.py_model.specs.Effect.{Answers, Effect, accessed, looked, counted, printed, asked, fetched, touching, effect, accesses_in, looked_at, characters_in, weight, cost, after, after_touch, after_touches, with_made, lacking}
 use Rattle.py_model.specs.Plan.{Ask, Given, Found, Plan, read_var, read_len, read_item, read_entry, read_order, read_file, read_offset, read_closed, read_method, read_base, kind_of, name_of, was_opened, ask, fetch, looks, counts, prints, writes, makes, raises, raises_again, ends, runs_away}
 use Rattle.py_model.specs.Store.{RunStore, has_path, var_of, len_of, item_of, entry_of, order_of, file_of, offset_of, closed_of, method_of, base_of}
-use Rattle.op_parts.specs.Asking.{Known, answered_by, IsLikewise}
+use Rattle.op_asking.specs.Asking.{Known, answered_by, IsLikewise}
 
 pub alike_same : (e : Effect) → IsLikewise e e
 alike_same e = record { outcome_is = refl; made_is = refl; accesses_are = refl; looks_are = refl; characters_are = refl; after_is = λ store. refl }

@@ -10,7 +10,7 @@ use Rattle.object_store.specs.Store.{StoreView, Held, whole, keys, bytes, held_a
 use Rattle.op_done.specs.Holding.{Found, with_found, Holds}
 use Rattle.op_held.specs.Held.{HeldView}
 use Rattle.op_held.proofs.PathNumbers.{text_there}
-use Rattle.op_parts.specs.Parts.{found_by, IsFitting, IsStanding}
+use Rattle.op_asking.specs.Parts.{found_by, IsFitting, IsStanding}
 use Rattle.op_work.specs.Work.{Extends, AreNamedPaths}
 use Rattle.op_work.proofs.Going.{extends_same}
 use Rattle.py_model.specs.Capture.{Capture}
