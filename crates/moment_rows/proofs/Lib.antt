@@ -1,4 +1,7 @@
+pub mod Cuts
+pub mod InRange
 pub mod Joining
 pub mod Naming
 pub mod Numbering
+pub mod Walking
 pub mod WorkedMoments

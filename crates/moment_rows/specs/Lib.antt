@@ -4,3 +4,4 @@ pub mod Numbers
 pub mod Parts
 pub mod Telling
 pub mod PageCuts
+pub mod Walking

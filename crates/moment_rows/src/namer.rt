@@ -2,9 +2,12 @@
 ghost use Rattle.std.specs.Prelude.{◌≡◌, [], ◌∷◌, ◌++◌, reverse, IfOk, OnOk, OnErr};
 ghost use Rattle.py_value.specs.Contents.{contents};
 ghost use Rattle.py_value.specs.Values.{IsNamed, AreNamed, IsBelow, AreBelow, AreInterned};
+ghost use Rattle.row_words.specs.Fits.{AreValues};
+ghost use Rattle.trace_rows.specs.RowBytes.{IsRow, AreRows};
 ghost use Rattle.moment_rows.specs.Naming.{Naming};
 ghost use Rattle.moment_rows.specs.Numbers.{NumbersText, NumbersTuple};
 
+use crate::fitting::text_fits;
 use prov_base::{Memory, Name};
 use py_model::Args;
 use py_value::{Value, Values};
@@ -23,13 +26,14 @@ pub struct Namer {
 
 impl Model for Namer {
     ghost use Rattle.std.specs.Prelude.{◌≡◌, length, reverse};
+    ghost use Rattle.trace_rows.specs.RowBytes.{AreRows};
     ghost use Rattle.moment_rows.specs.Naming.{Naming};
 
     ghost Value = { Naming };
 
     ghost view = { λ n. record { view = n.named; rows = reverse n.rows.items } };
 
-    ghost invariant = { λ n. (n.texts ≡ length n.named.texts) × (n.tuples ≡ length n.named.tuples) };
+    ghost invariant = { λ n. (n.texts ≡ length n.named.texts) × ((n.tuples ≡ length n.named.tuples) × AreRows n.rows.items) };
 }
 
 impl Namer {
@@ -54,6 +58,7 @@ impl Namer {
             return Ok(number);
         }
         self.texts += 1;
+        text_fits(s);
         let text = String::from_str(alloc, s)?;
         self.rows.push(Row::Text(Name::of(text)))?;
         Ok(number)
@@ -61,7 +66,8 @@ impl Namer {
 
     /// The number in rows of a tuple of values that have theirs. One that has none gets the next, and a row.
     pub(crate) fn tuple(&mut self, alloc: Global, items: &[Value]) -> Result<u32, Memory>
-        requires { AreNamed self.old.view items.now }
+        requires named { AreNamed self.old.view items.now }
+        requires fits { AreValues items.now }
         ensures { IfOk result (NumbersTuple items.now self.old self.new) }
     {
         let number = self.named.tuple(alloc, items)?;
@@ -76,8 +82,11 @@ impl Namer {
 
     /// Moves the rows that were made of late, and this row behind them, to the end of others.
     pub fn finish(&mut self, row: Row, to: &mut Vec<Row>) -> Result<(), Memory>
+        requires { IsRow row }
         ensures moved { OnOk result (reverse to.new.items ≡ row ∷ (self.old.rows ++ reverse to.old.items)) }
         ensures left { OnOk result (self.new ≡ record { view = self.old.view; rows = [] }) }
+        // What is moved has bytes, as `encode_page` and `decode_page` ask.
+        ensures rows { AreRows to.old.items → AreRows to.new.items }
         ensures err { OnErr result (to.new.items ≡ to.old.items) }
     {
         let _ = &self.named;

@@ -2,6 +2,7 @@
 ghost use Rattle.std.specs.Prelude.{◌≡◌, ◌<◌, [], reverse, Some, IfOk, IsOk, OnOk, OnErr, vec_len, vec_capacity};
 ghost use Rattle.py_value.specs.Values.{ValuesView};
 ghost use Rattle.py_model.specs.Told.{moment_seen};
+ghost use Rattle.trace_rows.specs.RowBytes.{AreRows};
 ghost use Rattle.moment_rows.specs.Parts.{ended_by};
 ghost use Rattle.moment_rows.specs.MomentRows.{rows as rows_of};
 ghost use Rattle.moment_rows.specs.PageCuts.{pages as pages_of_rows};
@@ -26,13 +27,14 @@ pub struct Recorder {
 
 impl Model for Recorder {
     ghost use Rattle.std.specs.Prelude.{reverse};
+    ghost use Rattle.trace_rows.specs.RowBytes.{AreRows};
     ghost use Rattle.recorder.specs.Recorded.{Records, IsRecorded};
 
     ghost Value = { Records };
 
     ghost view = { λ r. record { rows = reverse r.rows.items; ended = reverse r.ended.items } };
 
-    ghost invariant = { λ r. IsRecorded (reverse r.rows.items) (reverse r.ended.items) r.is_whole r.namer };
+    ghost invariant = { λ r. IsRecorded (reverse r.rows.items) (reverse r.ended.items) r.is_whole r.namer × AreRows r.rows.items };
 }
 
 impl Recorder {
@@ -50,7 +52,9 @@ impl Recorder {
 
     /// The pages of the rows of the moments that it was told. Want of memory is the one other answer.
     pub fn pages(self, alloc: Global) -> Result<Pages, Memory>
-        ensures { IfOk result (λ pages. pages ≡ pages_of_rows (rows_of (reverse (moments_of self)))) }
+        ensures pages { IfOk result (λ pages. pages ≡ pages_of_rows (rows_of (reverse (moments_of self)))) }
+        // Their numbers fit, so `decode_page` gives these rows again.
+        ensures rows { AreRows (rows_of (reverse (moments_of self))) }
     {
         pages_of(alloc, self.rows.as_slice())
     }

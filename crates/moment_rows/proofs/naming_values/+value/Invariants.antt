@@ -1,9 +1,10 @@
 use Rattle.std.proofs.Common.{◌*◌, ◌+◌, map, drop}
 use Rattle.py_value.specs.Contents.{contents}
 use Rattle.py_value.specs.Seen.{value_at}
-use Rattle.py_value.specs.Values.{AreInterned}
+use Rattle.row_words.specs.Fits.{Each, IsValue}
 use Rattle.moment_rows.specs.Naming.{named_in}
 use Rattle.moment_rows.specs.Numbers.{Goes}
+use Rattle.moment_rows.specs.Walking.{IsReady}
 use Rattle.moment_rows.proofs.naming_values.+value.Given as goal
 
 abbrev pub decreases-value_below : goal.decreases-value_below
@@ -15,4 +16,4 @@ decreases-values_below l = 2 * l.below + 1
 -- what is done, and what is left to name
 abbrev pub invariant-values_below-loop-item : goal.invariant-values_below-loop-item
 invariant-values_below-loop-item l =
-    Goes contents value_at named_in (map (contents l.values) l.items) (map (contents l.values) (drop l.item-index l.items)) l.fn.namer l.namer l.own.items × AreInterned l.namer.view
+    Goes contents value_at named_in (map (contents l.values) l.items) (map (contents l.values) (drop l.item-index l.items)) l.fn.namer l.namer l.own.items × (IsReady l.values l.namer.view l.walked × Each IsValue l.own.items)

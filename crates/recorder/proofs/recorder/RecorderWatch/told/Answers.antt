@@ -12,8 +12,9 @@ invariant_of-self-2 c =
     let ended = reverse c.self.inside.ended.items in
     let now = c.name_moment.new.namer in
     let row = c.in_ok-row.row in
-    (stands m rows ended now row c.self.invariant.all (subst (λ n. IsRowOf m n now row) (c.self.invariant.known c.if-not-self.false) c.in_ok-row.ensures) (reverse c.finish.new.to.items) (reverse c.note_end.new.ended.items)
-    c.finish.new.self c.in_ok-finish.ensures.moved (c.in_ok-note_end.ensures.noted c.args.values.now ∙ ap (λ items. ended_by m (reverse items)) c.in_ok-reserve.ensures.items) c.in_ok-finish.ensures.left).0
+    let recorded = stands m rows ended now row c.self.invariant.0.all (subst (λ n. IsRowOf m n now row) (c.self.invariant.0.known c.if-not-self.false) c.in_ok-row.ensures.row) (reverse c.finish.new.to.items) (reverse c.note_end.new.ended.items)
+    c.finish.new.self c.in_ok-finish.ensures.moved (c.in_ok-note_end.ensures.noted c.args.values.now ∙ ap (λ items. ended_by m (reverse items)) c.in_ok-reserve.ensures.items) c.in_ok-finish.ensures.left in
+    (recorded.0, c.in_ok-finish.ensures.rows c.self.invariant.1)
 
 pub returns : goal.returns
 returns c =
@@ -22,6 +23,6 @@ returns c =
     let ended = reverse c.self.inside.ended.items in
     let now = c.name_moment.new.namer in
     let row = c.in_ok-row.row in
-    (stands m rows ended now row c.self.invariant.all (subst (λ n. IsRowOf m n now row) (c.self.invariant.known c.if-not-self.false) c.in_ok-row.ensures) (reverse c.finish.new.to.items) (reverse c.note_end.new.ended.items)
+    (stands m rows ended now row c.self.invariant.0.all (subst (λ n. IsRowOf m n now row) (c.self.invariant.0.known c.if-not-self.false) c.in_ok-row.ensures.row) (reverse c.finish.new.to.items) (reverse c.note_end.new.ended.items)
     c.finish.new.self c.in_ok-finish.ensures.moved (c.in_ok-note_end.ensures.noted c.args.values.now ∙ ap (λ items. ended_by m (reverse items)) c.in_ok-reserve.ensures.items) c.in_ok-finish.ensures.left).1
     ∙ ap (λ r. m ∷ moments_of r) c.self.view_is
