@@ -1,0 +1,5 @@
+pub mod Finding
+pub mod InOrder
+pub mod RowsNamed
+pub mod OrderedRows
+pub mod NestingRows

@@ -1,0 +1,9 @@
+pub mod Adding
+pub mod HeightLaws
+pub mod KeptFronts
+pub mod KeyLaws
+pub mod NamedBelow
+pub mod RowGoings
+pub mod RowSteps
+pub mod StandingOnce
+pub mod WorkedKept

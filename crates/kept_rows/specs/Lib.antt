@@ -1,0 +1,9 @@
+pub mod Numbers
+pub mod Keys
+pub mod Heights
+pub mod Adding
+pub mod Nesting
+pub mod RowTests
+pub mod KeptRows
+pub mod Going
+pub mod NamedRows

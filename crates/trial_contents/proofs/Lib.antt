@@ -1,0 +1,5 @@
+pub mod AnswerOrder
+pub mod FileOrder
+pub mod Gathering
+pub mod Joining
+pub mod ReadingBack

@@ -1,0 +1,99 @@
+// What a trial's head and records name, read.
+ghost use Rattle.std.specs.Prelude.{◌≡◌, IfSome};
+ghost use Rattle.prov_outside.specs.Tells.{Tells};
+ghost use Rattle.keeper.specs.Keeping.{AreKept, LeavesAmong};
+ghost use Rattle.trial_parts.specs.Causes.{Causes};
+ghost use Rattle.trial_parts.specs.Found.{Finds};
+ghost use Rattle.trial_parts.specs.ReadFault.{has_failed};
+ghost use Rattle.trial_records.specs.RecordFits.{CaptureFits};
+ghost use Rattle.trial_contents.specs.Rest.{capture_in, contents_in};
+
+use crate::answers::keep_answers;
+use crate::files::keep_files;
+use crate::finals::read_final_files;
+use crate::records::Records;
+use capture::{Capture, FileOut};
+use keeper::{Head, Keeper};
+use prov_base::Bytes;
+use std::alloc::Global;
+use std::marker::Model;
+use trial_parts::{ReadFault, content};
+use trial_records::{CaptureRecord, lists_are_in_order};
+
+/// The output of a run, what the devices gave, and the files that it left.
+#[derive(Drop)]
+pub(crate) struct Contents {
+    /// What it printed.
+    pub(crate) output: Bytes,
+    /// What the devices gave.
+    pub(crate) capture: Capture,
+    /// The files that it left.
+    pub(crate) finals: Vec<FileOut>,
+}
+
+impl Model for Contents {
+    ghost use Rattle.trial_contents.specs.Rest.{ContentsView};
+
+    ghost Value = { ContentsView };
+
+    ghost view = { λ c. record { output = c.output; capture = c.capture; finals = c.finals.items } };
+}
+
+/// What the devices gave, by its record.
+fn fill_capture<K: Keeper>(
+    alloc: Global,
+    keeper: &mut K,
+    kept: &CaptureRecord,
+) -> Result<Capture, ReadFault>
+    requires kept { IfSome (K.told keeper.old) (AreKept (K.is_open keeper.old)) }
+    requires fit { CaptureFits kept.now }
+    ensures finds { Tells (K.told keeper.old) (K.told keeper.new) (Finds (λ tables. capture_in tables kept.now) result) }
+    ensures kept { IfSome (K.told keeper.new) (AreKept (K.is_open keeper.new)) }
+    ensures stops { Tells (K.told keeper.old) (K.told keeper.new) (λ _ _. LeavesAmong (K.may_leave keeper.old) (K.may_leave keeper.new)) }
+    ensures batch { K.is_open keeper.new ≡ K.is_open keeper.old }
+    ensures cause { Causes (has_failed result) (K.faults keeper.old) (K.faults keeper.new) }
+{
+    lists_are_in_order();
+    let Ok(mut capture) = Capture::new(alloc) else {
+        return Err(ReadFault::Memory);
+    };
+    if keep_answers(alloc, &mut capture, kept.answers()).is_err() {
+        return Err(ReadFault::Memory);
+    }
+    match keep_files(alloc, keeper, &mut capture, kept.files()) {
+        Ok(()) => Ok(capture),
+        Err(fault) => Err(fault),
+    }
+}
+
+/// What a head and its records name: the output, the files that were found, and the files that the run left, in this order.
+pub(crate) fn read_contents<K: Keeper>(
+    alloc: Global,
+    keeper: &mut K,
+    head: &Head,
+    records: &Records,
+) -> Result<Contents, ReadFault>
+    requires fit { CaptureFits records.now.kept }
+    ensures finds { Tells (K.told keeper.old) (K.told keeper.new) (Finds (λ tables. contents_in tables head.now records.now) result) }
+    ensures kept { IfSome (K.told keeper.new) (AreKept (K.is_open keeper.new)) }
+    ensures stops { Tells (K.told keeper.old) (K.told keeper.new) (λ _ _. LeavesAmong (K.may_leave keeper.old) (K.may_leave keeper.new)) }
+    ensures batch { K.is_open keeper.new ≡ K.is_open keeper.old }
+    ensures cause { Causes (has_failed result) (K.faults keeper.old) (K.faults keeper.new) }
+{
+    let output = match content(alloc, keeper, &head.output) {
+        Ok(output) => output,
+        Err(fault) => return Err(fault),
+    };
+    let capture = match fill_capture(alloc, keeper, &records.capture) {
+        Ok(capture) => capture,
+        Err(fault) => return Err(fault),
+    };
+    match read_final_files(alloc, keeper, records.finals.as_slice()) {
+        Ok(finals) => Ok(Contents {
+            output,
+            capture,
+            finals,
+        }),
+        Err(fault) => Err(fault),
+    }
+}

@@ -1,0 +1,4 @@
+pub mod Answers
+pub mod Gathering
+pub mod Placing
+pub mod TrialPages

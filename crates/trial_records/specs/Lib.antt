@@ -1,0 +1,4 @@
+pub mod RecordBytes
+pub mod RecordFaults
+pub mod RecordFits
+pub mod RecordReading
