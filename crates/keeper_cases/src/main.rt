@@ -1,24 +1,28 @@
-//! The cases of `keeper` and `content_store`. Each line of the input is a row `TABLES|FAILING|CALL, CALL..`: the entries of the
+//! The cases of `keeper`, `content_store`, `trial_keeping`, `trial_contents` and `trial_pages`. Each line of the input is a row `TABLES|FAILING|CALL, CALL..`: the entries of the
 //! tables that a keeper in memory is made of, the numbers of its calls that fail, and calls. The answers are a line of the
 //! output, which the gate compares with the file `stdout`.
 //!
 //! The real console reads the rows and writes the answers.
 #![tactic(auto)]
 
+mod loads;
 mod reads;
+mod runs;
 mod tables;
 mod texts;
 mod writes;
 
 use keeper::Keeper;
+use loads::load;
 use memory_keeper::{MemoryKeeper, Tables};
 use prov_outside::{Console, Trouble};
 use prov_real::RealConsole;
 use reads::read;
+use runs::{keep_run, write_whole};
 use std::alloc::{AllocError, Global};
 use std::process::ExitCode;
-use tables::{tables_of, write_tables};
-use texts::{halves, numbers, write, write_done};
+use tables::{tables_of, write_digits, write_tables};
+use texts::{halves, numbers, small, write, write_done};
 use writes::write_into;
 
 /// Makes a call, and writes what it answers.
@@ -34,6 +38,10 @@ fn step(
         "undo" => write_done(out, keeper.undo(alloc)),
         "open" => write(out, if keeper.is_open() { "open" } else { "closed" }),
         "tables" => write_tables(alloc, out, keeper.committed()),
+        "digits" => write_digits(alloc, out, keeper.committed()),
+        "run" => keep_run(alloc, keeper, words, out),
+        "load" => load(alloc, keeper, words, out),
+        "whole" => write_whole(alloc, out, keeper.head(alloc, small(words))),
         "trial" | "add" | "keep" | "set" | "put" | "commit" => write_into(
             alloc, keeper, call, words, out,
         ),

@@ -94,6 +94,29 @@ pub fn write_tables(alloc: Global, out: &mut Vec<u8>, tables: &Tables) -> Result
     Ok(())
 }
 
+/// Writes tables likewise, with bytes as digits, and with the digest that is kept with each page.
+pub fn write_digits(alloc: Global, out: &mut Vec<u8>, tables: &Tables) -> Result<(), AllocError> {
+    out.push(b'{')?;
+    write_heads(alloc, out, &tables.heads)?;
+    for (trial, number, page) in &tables.pages {
+        let digits = hex::encode(alloc, page.digest.bytes)?;
+        let key = format!(in alloc; "p:{trial}:{number}:{}:", digits.as_str())?;
+        write_entry(
+            out,
+            &key,
+            hex::encode(alloc, page.bytes.as_slice())?.as_bytes(),
+        )?;
+    }
+    for (digest, bytes) in &tables.contents {
+        let digits = hex::encode(alloc, digest.bytes)?;
+        let key = format!(in alloc; "c:{}:", digits.as_str())?;
+        write_entry(out, &key, hex::encode(alloc, bytes.as_slice())?.as_bytes())?;
+    }
+    write_current(alloc, out, &tables.current)?;
+    out.push(b'}')?;
+    Ok(())
+}
+
 fn write_heads(alloc: Global, out: &mut Vec<u8>, heads: &[Head]) -> Result<(), AllocError> {
     for head in heads {
         let line = format!(in alloc; "h:{} ", head.path.as_str())?;

@@ -82,7 +82,8 @@ fn write_put(
     }
 }
 
-fn write_collision(
+/// Writes a collision with its digest and both lengths.
+pub fn write_collision(
     alloc: Global,
     out: &mut Vec<u8>,
     digest: &Digest,

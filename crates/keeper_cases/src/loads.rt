@@ -1,0 +1,189 @@
+// Trials that are kept, read back.
+ghost use Rattle.keeper.specs.Keeping.{AreKept};
+ghost use Rattle.memory_keeper.specs.Held.{told_of};
+
+use crate::texts::{halves, small, write, write_digest, write_fault, write_number};
+use capture::{Asked, Capture, FileOut, Given};
+use keeper::{Head, Keeper};
+use memory_keeper::MemoryKeeper;
+use prov_outside::Found;
+use std::alloc::{AllocError, Global};
+use trial_contents::{Rest, rest_of, script_of};
+use trial_pages::{PagedRows, rows_of};
+use trial_parts::{Damage, ReadFault};
+
+/// Reads a trial back, and writes it: the script's text, the rest, and how many rows each page has, or what is amiss of each of the three. The
+/// words are the trial's number and how many statements its script has.
+pub fn load(
+    alloc: Global,
+    keeper: &mut MemoryKeeper,
+    words: &str,
+    out: &mut Vec<u8>,
+) -> Result<(), AllocError> {
+    let (number, statements) = halves(words, ' ');
+    match keeper.head(alloc, small(number)) {
+        Ok(Some(head)) => load_parts(alloc, keeper, &head, small(number), small(statements), out),
+        Ok(None) => write(out, "none"),
+        Err(fault) => write_fault(out, fault),
+    }
+}
+
+fn load_parts(
+    alloc: Global,
+    keeper: &mut MemoryKeeper,
+    head: &Head,
+    number: u32,
+    statements: u32,
+    out: &mut Vec<u8>,
+) -> Result<(), AllocError>
+    requires { AreKept keeper.old.held.is_open (told_of keeper.old.held) }
+{
+    load_script(alloc, keeper, head, out)?;
+    write(out, " / ")?;
+    match rest_of(alloc, keeper, head) {
+        Ok(rest) => write_rest(alloc, out, &rest)?,
+        Err(fault) => write_read_fault(alloc, out, fault)?,
+    }
+    write(out, " / ")?;
+    match rows_of(alloc, keeper, number, head.pages, statements) {
+        Ok(read) => write_pages(alloc, out, &read),
+        Err(fault) => write_read_fault(alloc, out, fault),
+    }
+}
+
+fn load_script(
+    alloc: Global,
+    keeper: &mut MemoryKeeper,
+    head: &Head,
+    out: &mut Vec<u8>,
+) -> Result<(), AllocError>
+    requires { AreKept keeper.old.held.is_open (told_of keeper.old.held) }
+{
+    match script_of(alloc, keeper, head) {
+        Ok(text) => out.extend_from_slice(text.as_slice()),
+        Err(fault) => write_read_fault(alloc, out, fault),
+    }
+}
+
+fn write_rest(alloc: Global, out: &mut Vec<u8>, rest: &Rest) -> Result<(), AllocError> {
+    for argument in rest.arguments.as_slice() {
+        write(out, argument.as_str())?;
+        out.push(b';')?;
+    }
+    write(out, " ")?;
+    write_capture(alloc, out, &rest.capture)?;
+    for file in rest.finals.as_slice() {
+        write_final(out, file)?;
+    }
+    write(out, " ")?;
+    out.extend_from_slice(rest.output.as_slice())
+}
+
+fn write_capture(alloc: Global, out: &mut Vec<u8>, capture: &Capture) -> Result<(), AllocError> {
+    for asked in capture.answers() {
+        write_answer(alloc, out, asked)?;
+    }
+    write(out, " ")?;
+    for file in capture.files() {
+        write(out, file.0.as_str())?;
+        write_found(out, &file.1)?;
+    }
+    write(out, " ")
+}
+
+fn write_answer(alloc: Global, out: &mut Vec<u8>, asked: &Asked) -> Result<(), AllocError> {
+    let place = format!(in alloc; "{}:{}:{}=", asked.at.line, asked.at.col, asked.k)?;
+    write(out, &place)?;
+    match &asked.given {
+        Given::Number(time) => write(out, format!(in alloc; "t+{time};")?.as_str()),
+        Given::Word(word) => write(out, format!(in alloc; "w+{word};")?.as_str()),
+        Given::Line(line) => {
+            write(out, "l+")?;
+            out.extend_from_slice(line.as_slice())?;
+            write(out, ";")
+        }
+        Given::End => write(out, "l.;"),
+        Given::Failed => write(out, "!;"),
+    }
+}
+
+fn write_found(out: &mut Vec<u8>, found: &Found) -> Result<(), AllocError> {
+    match found {
+        Found::Bytes(bytes) => {
+            write(out, "=")?;
+            out.extend_from_slice(bytes.as_slice())?;
+            write(out, ";")
+        }
+        Found::Absent => write(out, "!a;"),
+        Found::TooLarge => write(out, "!l;"),
+        Found::Failed => write(out, "!f;"),
+    }
+}
+
+fn write_final(out: &mut Vec<u8>, file: &FileOut) -> Result<(), AllocError> {
+    write(out, file.path.as_str())?;
+    write(out, "=")?;
+    out.extend_from_slice(file.bytes.as_slice())?;
+    write(out, ";")
+}
+
+fn write_pages(alloc: Global, out: &mut Vec<u8>, read: &PagedRows) -> Result<(), AllocError> {
+    write_number(alloc, out, read.rows.as_slice().len() as u64)?;
+    for count in read.cuts.as_slice() {
+        write(out, " ")?;
+        write_number(alloc, out, u64::from(*count))?;
+    }
+    Ok(())
+}
+
+fn write_read_fault(alloc: Global, out: &mut Vec<u8>, fault: ReadFault) -> Result<(), AllocError> {
+    match fault {
+        ReadFault::Damaged(damage) => write_damage(alloc, out, &damage),
+        ReadFault::Keeper => write(out, "failed"),
+        ReadFault::Memory => write(out, "memory"),
+    }
+}
+
+fn write_damage(alloc: Global, out: &mut Vec<u8>, damage: &Damage) -> Result<(), AllocError> {
+    match damage {
+        Damage::Path => write(out, "path"),
+        Damage::PageDigest { page, kept, found } => {
+            write(out, format!(in alloc; "page {page} kept ")?.as_str())?;
+            write_digest(alloc, out, kept)?;
+            write(out, " found ")?;
+            write_digest(alloc, out, found)
+        }
+        Damage::PageAbsent { page } => write(
+            out,
+            format!(in alloc; "page {page} absent")?.as_str(),
+        ),
+        Damage::RowAt { page, byte } => {
+            write(
+                out,
+                format!(in alloc; "row at page {page} byte {byte}")?.as_str(),
+            )
+        }
+        Damage::ContentDigest { kept, found } => {
+            write(out, "content ")?;
+            write_digest(alloc, out, kept)?;
+            write(out, " found ")?;
+            write_digest(alloc, out, found)
+        }
+        Damage::ContentAbsent { digest } => {
+            write(out, "content ")?;
+            write_digest(alloc, out, digest)?;
+            write(out, " absent")
+        }
+        Damage::RecordAt { digest, byte } => {
+            write(out, "record ")?;
+            write_digest(alloc, out, digest)?;
+            write(out, format!(in alloc; " byte {byte}")?.as_str())
+        }
+        Damage::ScriptAt { at } => {
+            write(
+                out,
+                format!(in alloc; "script at {}:{}", at.line, at.col)?.as_str(),
+            )
+        }
+    }
+}
