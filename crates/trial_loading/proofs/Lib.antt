@@ -1,1 +1,4 @@
+mod BehindScript
+mod FromText
 mod Stepping
+mod Whole

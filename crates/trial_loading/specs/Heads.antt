@@ -1,5 +1,5 @@
 -- What a call answers that reads heads of trials (this project's profile).
-use Rattle.std.specs.Prelude.{◌≡◌, ℕ, List, Vec, Option, None, Some, Result, Ok, Err}
+use Rattle.std.specs.Prelude.{◌≡◌, ℕ, Vec, None, Some, Result, Ok, Err}
 use Rattle.std.specs.declared.alloc.Global.{Global}
 use Rattle.keeper.specs.declared.records.Head.{Head}
 use Rattle.keeper.specs.Keeping.{KeeperView}

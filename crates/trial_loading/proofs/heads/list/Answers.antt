@@ -1,5 +1,5 @@
 use Rattle.std.proofs.Common.{rules}
-use Rattle.trial_loading.proofs.Stepping.{Reads, reads_next}
+use Rattle.trial_loading.proofs.Stepping.{reads_next}
 use Rattle.trial_loading.proofs.heads.list.Goals as goal
 
 pub loop-earlier-preserved : goal.loop-earlier-preserved

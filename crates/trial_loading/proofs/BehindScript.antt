@@ -1,0 +1,44 @@
+-- What stands behind a script: the records and contents and then the rows, as one.
+use Rattle.std.proofs.Common.{ℕ, Option, Some, None, Err, Ok, ◌∙◌, subst}
+use Rattle.prov_outside.specs.Tells.{Tells}
+use Rattle.keeper.specs.declared.records.Head.{Head}
+use Rattle.keeper.specs.Keeping.{KeeperView}
+use Rattle.trial_parts.specs.declared.read_fault.ReadFault.{ReadFault}
+use Rattle.trial_parts.specs.declared.read_fault.ReadFault.TheVariants.{Damaged, Keeper, Memory}
+use Rattle.trial_contents.specs.Checks.{Answers as RestAnswers}
+use Rattle.trial_contents.specs.Rest.{RestView, IsRest}
+use Rattle.trial_pages.specs.Answers.{Answers}
+use Rattle.trial_pages.specs.declared.paged_rows.PagedRows.{PagedRows}
+use Rattle.trial_pages.specs.TrialPages.{AreRowsOf, IsRowDamage}
+use Rattle.trial_loading.specs.declared.behind.Behind.{Behind}
+use Rattle.trial_loading.specs.Loading.{IsDamagedBehind, bad_rest, bad_rows}
+use Rattle.trial_loading.specs.Stages.{IsBehind}
+
+module _ (number : ℕ) (head : Head) (statements : ℕ) where
+  stop_plain : (fault : ReadFault) (a b : KeeperView) → RestAnswers {A = RestView} (λ tables. IsRest tables head) (Err fault) a b
+      → Answers {A = Behind} (λ tables. IsBehind tables number head statements) (λ tables. IsDamagedBehind tables number head statements) (Err fault) a b
+  stop_plain (Damaged damage) a b was = (bad_rest was.0, was.1)
+  stop_plain Keeper a b was = was
+  stop_plain Memory a b was = was
+
+  pub rest_stops : (fault : ReadFault) (old new : Option KeeperView) → Tells old new (RestAnswers {A = RestView} (λ tables. IsRest tables head) (Err fault))
+      → Tells old new (Answers {A = Behind} (λ tables. IsBehind tables number head statements) (λ tables. IsDamagedBehind tables number head statements) (Err fault))
+  rest_stops fault old None was = tt
+  rest_stops fault None (Some b) was = absurd was
+  rest_stops fault (Some a) (Some b) was = stop_plain fault a b was
+
+  rows_plain : (rest : RestView) (fault : ReadFault) (a b c : KeeperView) → RestAnswers {A = RestView} (λ tables. IsRest tables head) (Ok rest) a b
+      → Answers {A = PagedRows} (λ tables. AreRowsOf tables number head.pages statements) (λ tables. IsRowDamage tables number head.pages statements) (Err fault) b c
+      → Answers {A = Behind} (λ tables. IsBehind tables number head statements) (λ tables. IsDamagedBehind tables number head statements) (Err fault) a c
+  rows_plain rest (Damaged damage) a b c was is =
+      (bad_rows rest was.0 (subst (λ (v : KeeperView). IsRowDamage v.seen number head.pages statements damage) was.1 is.0), is.1 ∙ was.1)
+  rows_plain rest Keeper a b c was is = is ∙ was.1
+  rows_plain rest Memory a b c was is = is ∙ was.1
+
+  pub rows_stop : (rest : RestView) (fault : ReadFault) (old mid new : Option KeeperView) → Tells old mid (RestAnswers {A = RestView} (λ tables. IsRest tables head) (Ok rest))
+      → Tells mid new (Answers {A = PagedRows} (λ tables. AreRowsOf tables number head.pages statements) (λ tables. IsRowDamage tables number head.pages statements) (Err fault))
+      → Tells old new (Answers {A = Behind} (λ tables. IsBehind tables number head statements) (λ tables. IsDamagedBehind tables number head statements) (Err fault))
+  rows_stop rest fault old mid None was is = tt
+  rows_stop rest fault old None (Some c) was is = absurd is
+  rows_stop rest fault None (Some b) (Some c) was is = absurd was
+  rows_stop rest fault (Some a) (Some b) (Some c) was is = rows_plain rest fault a b c was is
