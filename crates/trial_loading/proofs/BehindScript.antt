@@ -1,5 +1,5 @@
 -- What stands behind a script: the records and contents and then the rows, as one.
-use Rattle.std.proofs.Common.{ℕ, Option, Some, None, Err, Ok, ◌∙◌, subst}
+use Rattle.std.proofs.Common.{ℕ, Option, Some, None, Result, Err, Ok, ◌∙◌, subst}
 use Rattle.prov_outside.specs.Tells.{Tells}
 use Rattle.keeper.specs.declared.records.Head.{Head}
 use Rattle.keeper.specs.Keeping.{KeeperView}
@@ -12,7 +12,7 @@ use Rattle.trial_pages.specs.declared.paged_rows.PagedRows.{PagedRows}
 use Rattle.trial_pages.specs.TrialPages.{AreRowsOf, IsRowDamage}
 use Rattle.trial_loading.specs.declared.behind.Behind.{Behind}
 use Rattle.trial_loading.specs.Loading.{IsDamagedBehind, bad_rest, bad_rows}
-use Rattle.trial_loading.specs.Stages.{IsBehind}
+use Rattle.trial_loading.specs.Stages.{IsBehind, with_rows}
 
 module _ (number : ℕ) (head : Head) (statements : ℕ) where
   stop_plain : (fault : ReadFault) (a b : KeeperView) → RestAnswers {A = RestView} (λ tables. IsRest tables head) (Err fault) a b
@@ -27,18 +27,20 @@ module _ (number : ℕ) (head : Head) (statements : ℕ) where
   rest_stops fault None (Some b) was = absurd was
   rest_stops fault (Some a) (Some b) was = stop_plain fault a b was
 
-  rows_plain : (rest : RestView) (fault : ReadFault) (a b c : KeeperView) → RestAnswers {A = RestView} (λ tables. IsRest tables head) (Ok rest) a b
-      → Answers {A = PagedRows} (λ tables. AreRowsOf tables number head.pages statements) (λ tables. IsRowDamage tables number head.pages statements) (Err fault) b c
-      → Answers {A = Behind} (λ tables. IsBehind tables number head statements) (λ tables. IsDamagedBehind tables number head statements) (Err fault) a c
-  rows_plain rest (Damaged damage) a b c was is =
+  rows_plain : (rest : RestView) (rows : Result PagedRows ReadFault) (a b c : KeeperView) → RestAnswers {A = RestView} (λ tables. IsRest tables head) (Ok rest) a b
+      → Answers (λ tables. AreRowsOf tables number head.pages statements) (λ tables. IsRowDamage tables number head.pages statements) rows b c
+      → Answers (λ tables. IsBehind tables number head statements) (λ tables. IsDamagedBehind tables number head statements) (with_rows rest rows) a c
+  rows_plain rest (Ok paged) a b c was is =
+      (record { rest_is = was.0; rows_are = subst (λ (v : KeeperView). AreRowsOf v.seen number head.pages statements paged) was.1 is.0 }, is.1 ∙ was.1)
+  rows_plain rest (Err (Damaged damage)) a b c was is =
       (bad_rows rest was.0 (subst (λ (v : KeeperView). IsRowDamage v.seen number head.pages statements damage) was.1 is.0), is.1 ∙ was.1)
-  rows_plain rest Keeper a b c was is = is ∙ was.1
-  rows_plain rest Memory a b c was is = is ∙ was.1
+  rows_plain rest (Err Keeper) a b c was is = is ∙ was.1
+  rows_plain rest (Err Memory) a b c was is = is ∙ was.1
 
-  pub rows_stop : (rest : RestView) (fault : ReadFault) (old mid new : Option KeeperView) → Tells old mid (RestAnswers {A = RestView} (λ tables. IsRest tables head) (Ok rest))
-      → Tells mid new (Answers {A = PagedRows} (λ tables. AreRowsOf tables number head.pages statements) (λ tables. IsRowDamage tables number head.pages statements) (Err fault))
-      → Tells old new (Answers {A = Behind} (λ tables. IsBehind tables number head statements) (λ tables. IsDamagedBehind tables number head statements) (Err fault))
-  rows_stop rest fault old mid None was is = tt
-  rows_stop rest fault old None (Some c) was is = absurd is
-  rows_stop rest fault None (Some b) (Some c) was is = absurd was
-  rows_stop rest fault (Some a) (Some b) (Some c) was is = rows_plain rest fault a b c was is
+  pub rows_join : (rest : RestView) (rows : Result PagedRows ReadFault) (old mid new : Option KeeperView) → Tells old mid (RestAnswers {A = RestView} (λ tables. IsRest tables head) (Ok rest))
+      → Tells mid new (Answers (λ tables. AreRowsOf tables number head.pages statements) (λ tables. IsRowDamage tables number head.pages statements) rows)
+      → Tells old new (Answers (λ tables. IsBehind tables number head statements) (λ tables. IsDamagedBehind tables number head statements) (with_rows rest rows))
+  rows_join rest rows old mid None was is = tt
+  rows_join rest rows old None (Some c) was is = absurd is
+  rows_join rest rows None (Some b) (Some c) was is = absurd was
+  rows_join rest rows (Some a) (Some b) (Some c) was is = rows_plain rest rows a b c was is

@@ -1,5 +1,5 @@
 -- What a call answers that reads heads of trials (this project's profile).
-use Rattle.std.specs.Prelude.{◌≡◌, ℕ, Vec, None, Some, Result, Ok, Err}
+use Rattle.std.specs.Prelude.{◌≡◌, ℕ, take, Vec, None, Some, Result, Ok, Err}
 use Rattle.std.specs.declared.alloc.Global.{Global}
 use Rattle.keeper.specs.declared.records.Head.{Head}
 use Rattle.keeper.specs.Keeping.{KeeperView}
@@ -21,6 +21,11 @@ FindsHead number (Err Full) before after = ⊥
 abbrev pub FindsHeads : Result (Vec Head Global) TrialFault → KeeperView → KeeperView → Type 0
 FindsHeads (Ok heads) before after = (heads.items ≡ before.seen.heads) × (after ≡ before)
 FindsHeads (Err fault) before after = after ≡ before
+
+-- It answers the heads of the first so many trials. It is the proof's means; no public clause speaks of it.
+abbrev pub FindsFirst : ℕ → Result (Vec Head Global) TrialFault → KeeperView → KeeperView → Type 0
+FindsFirst count (Ok heads) before after = (heads.items ≡ take count before.seen.heads) × (after ≡ before)
+FindsFirst count (Err fault) before after = after ≡ before
 
 -- what the reading of a head never answers, whatever keeper it is
 abbrev pub IsOfHead : ℕ → TrialFault → Type 0

@@ -12,7 +12,8 @@ use Rattle.trial_parts.specs.Whole.{fine}
 use Rattle.trial_parts.specs.declared.damage.Damage.TheVariants.{ScriptAt}
 use Rattle.trial_parts.specs.declared.read_fault.ReadFault.{ReadFault}
 use Rattle.trial_parts.specs.declared.read_fault.ReadFault.TheVariants.{Damaged as PartDamaged, Keeper as PartKeeper, Memory as PartMemory}
-use Rattle.trial_contents.specs.Rest.{IsRest}
+use Rattle.trial_contents.specs.Rest.{RestView, IsRest}
+use Rattle.trial_pages.specs.declared.paged_rows.PagedRows.{PagedRows}
 use Rattle.trial_pages.specs.TrialPages.{AreRowsOf}
 use Rattle.trial_keeping.specs.declared.fault.TrialFault.{TrialFault}
 use Rattle.trial_keeping.specs.declared.fault.TrialFault.TheVariants.{NoTrial, Damaged, Keeper, Collision, Full, Memory}
@@ -35,6 +36,11 @@ of_refusal number NoMemory = Memory
 pub record IsBehind (tables : TablesView) (number : ℕ) (head : Head) (statements : ℕ) (behind : Behind) : Type 0 where
   pub rest_is : IsRest tables head (fine behind.rest)
   pub rows_are : AreRowsOf tables number head.pages statements behind.paged
+
+-- what was read, with the rows where these were read too
+abbrev pub with_rows : RestView → Result PagedRows ReadFault → Result Behind ReadFault
+with_rows rest (Ok paged) = Ok (record { rest = rest; paged = paged })
+with_rows rest (Err fault) = Err fault
 
 -- the trial has these parts
 pub record IsMadeOf (number : ℕ) (head : Head) (text : List ℕ) (script : Script) (behind : Behind) (trial : Trial) : Type 0 where

@@ -6,7 +6,7 @@ ghost use Rattle.trial_parts.specs.Causes.{Causes};
 ghost use Rattle.trial_parts.specs.ReadFault.{has_failed};
 ghost use Rattle.trial_pages.specs.Answers.{Answers};
 ghost use Rattle.trial_loading.specs.Loading.{IsDamagedBehind};
-ghost use Rattle.trial_loading.specs.Stages.{IsBehind};
+ghost use Rattle.trial_loading.specs.Stages.{IsBehind, with_rows};
 
 use keeper::{Head, Keeper};
 use std::alloc::Global;
@@ -21,6 +21,16 @@ pub(crate) struct Behind {
     pub(crate) rest: Rest,
     /// Its rows.
     pub(crate) paged: PagedRows,
+}
+
+/// What was read, with the rows where these were read too.
+fn behind_of(rest: Rest, paged: Result<PagedRows, ReadFault>) -> Result<Behind, ReadFault>
+    ensures { result ≡ with_rows rest paged }
+{
+    match paged {
+        Ok(paged) => Ok(Behind { rest, paged }),
+        Err(fault) => Err(fault),
+    }
 }
 
 /// What stands behind a script that has so many statements: first the records and contents, and then the rows.
@@ -41,8 +51,6 @@ pub(crate) fn read_behind<K: Keeper>(
         Ok(rest) => rest,
         Err(fault) => return Err(fault),
     };
-    match rows_of(alloc, keeper, number, head.pages, statements) {
-        Ok(paged) => Ok(Behind { rest, paged }),
-        Err(fault) => Err(fault),
-    }
+    let paged = rows_of(alloc, keeper, number, head.pages, statements);
+    behind_of(rest, paged)
 }

@@ -4,7 +4,7 @@ ghost use Rattle.prov_outside.specs.Tells.{Tells};
 ghost use Rattle.keeper.specs.Keeping.{AreKept, LeavesAmong};
 ghost use Rattle.trial_parts.specs.Causes.{Causes};
 ghost use Rattle.trial_keeping.specs.Fault.{has_failed};
-ghost use Rattle.trial_loading.specs.Heads.{FindsHead, FindsHeads, IsOfHead, IsOfList};
+ghost use Rattle.trial_loading.specs.Heads.{FindsFirst, FindsHead, FindsHeads, IsOfHead, IsOfList};
 
 use keeper::{Head, Keeper};
 use std::alloc::Global;
@@ -26,19 +26,20 @@ pub fn head<K: Keeper>(alloc: Global, keeper: &mut K, number: u32) -> Result<Hea
     }
 }
 
-/// The heads of all trials, in the order of their numbers: `Keeper` where the keeper failed, `Memory` where memory ran out.
-pub fn list<K: Keeper>(alloc: Global, keeper: &mut K) -> Result<Vec<Head>, TrialFault>
-    ensures finds { Tells (K.told keeper.old) (K.told keeper.new) (FindsHeads result) }
+/// The heads of the first so many trials, in the order of their numbers.
+fn first_heads<K: Keeper>(
+    alloc: Global,
+    keeper: &mut K,
+    count: u32,
+) -> Result<Vec<Head>, TrialFault>
+    requires kept { IfSome (K.told keeper.old) (AreKept (K.is_open keeper.old)) }
+    ensures finds { Tells (K.told keeper.old) (K.told keeper.new) (FindsFirst count result) }
     ensures of_list { IfErr result IsOfList }
     ensures kept { IfSome (K.told keeper.new) (AreKept (K.is_open keeper.new)) }
     ensures stops { Tells (K.told keeper.old) (K.told keeper.new) (λ _ _. LeavesAmong (K.may_leave keeper.old) (K.may_leave keeper.new)) }
     ensures batch { K.is_open keeper.new ≡ K.is_open keeper.old }
     ensures cause { Causes (has_failed result) (K.faults keeper.old) (K.faults keeper.new) }
 {
-    let count = match keeper.trials(alloc) {
-        Ok(count) => count,
-        Err(fault) => return Err(TrialFault::from(fault)),
-    };
     let mut heads: Vec<Head> = Vec::new(alloc);
     for earlier in 0..count {
         let next = match keeper.head(alloc, earlier + 1) {
@@ -52,4 +53,19 @@ pub fn list<K: Keeper>(alloc: Global, keeper: &mut K) -> Result<Vec<Head>, Trial
         }
     }
     Ok(heads)
+}
+
+/// The heads of all trials, in the order of their numbers: `Keeper` where the keeper failed, `Memory` where memory ran out.
+pub fn list<K: Keeper>(alloc: Global, keeper: &mut K) -> Result<Vec<Head>, TrialFault>
+    ensures finds { Tells (K.told keeper.old) (K.told keeper.new) (FindsHeads result) }
+    ensures of_list { IfErr result IsOfList }
+    ensures kept { IfSome (K.told keeper.new) (AreKept (K.is_open keeper.new)) }
+    ensures stops { Tells (K.told keeper.old) (K.told keeper.new) (λ _ _. LeavesAmong (K.may_leave keeper.old) (K.may_leave keeper.new)) }
+    ensures batch { K.is_open keeper.new ≡ K.is_open keeper.old }
+    ensures cause { Causes (has_failed result) (K.faults keeper.old) (K.faults keeper.new) }
+{
+    match keeper.trials(alloc) {
+        Ok(count) => first_heads(alloc, keeper, count),
+        Err(fault) => Err(TrialFault::from(fault)),
+    }
 }
