@@ -9,7 +9,7 @@ use Rattle.keeper.specs.declared.records.Head.{Head}
 use Rattle.keeper.specs.Keeping.{KeeperView, AreKept, LeavesAmong, Reads as Answers}
 use Rattle.keeper.specs.Tables.{TablesView, head_at}
 use Rattle.trial_keeping.specs.declared.fault.TrialFault.{TrialFault}
-use Rattle.trial_loading.specs.Heads.{FindsFirst, FindsHeads}
+use Rattle.trial_loading.specs.Heads.{FindsCounted, FindsFirst, FindsHeads}
 
 -- these heads are the first so many
 abbrev pub AreFirst : List Head → ℕ → KeeperView → KeeperView → Type 0
@@ -28,22 +28,38 @@ take_next {X = X} (y ∷ ys) zero x is = ap (λ (z : X). z ∷ []) (same_Some y 
 take_next {X = X} (y ∷ ys) (suc i) x is = ap (λ (zs : List X). y ∷ zs) (take_next ys i x is)
 
 head_next : (read : List Head) (done : ℕ) (next : Head) (a b c : KeeperView) → AreFirst read done a b
-    → Some next ≡ head_at b.seen.heads (done + 1) → c ≡ b → AreFirst (read ++ next ∷ []) (done + 1) a c
-head_next read done next a b c first is same =
+    → FindsCounted (done + 1) (Ok next) b c → AreFirst (read ++ next ∷ []) (done + 1) a c
+head_next read done next a b c first second =
     let one_more : done + 1 ≡ suc done = omega arith in
     let there : slice_get a.seen.heads done ≡ Some next =
-    subst (λ (n : ℕ). head_at a.seen.heads n ≡ Some next) one_more (subst (λ (v : KeeperView). head_at v.seen.heads (done + 1) ≡ Some next) first.1 (sym is)) in
+    subst (λ (n : ℕ). head_at a.seen.heads n ≡ Some next) one_more (subst (λ (v : KeeperView). head_at v.seen.heads (done + 1) ≡ Some next) first.1 second.0) in
     let taken : read ++ next ∷ [] ≡ take (done + 1) a.seen.heads =
     ap (λ (heads : List Head). heads ++ next ∷ []) first.0 ∙ (sym (take_next a.seen.heads done next there) ∙ ap (λ (n : ℕ). take n a.seen.heads) (sym one_more)) in
-    (taken, same ∙ first.1)
+    (taken, second.1 ∙ first.1)
 
-pub reads_next : (read : List Head) (done : ℕ) (next : Head) (answer : Option Head) (old mid new : Option KeeperView) → answer ≡ Some next
-    → Tells old mid (AreFirst read done) → Tells mid new (Answers (λ tables. head_at tables.heads (done + 1)) (Ok answer))
-    → Tells old new (AreFirst (read ++ next ∷ []) (done + 1))
-reads_next read done next answer old mid None is first second = tt
-reads_next read done next answer old None (Some c) is first second = absurd second
-reads_next read done next answer None (Some b) (Some c) is first second = absurd first
-reads_next read done next answer (Some a) (Some b) (Some c) is first second = head_next read done next a b c first (sym is ∙ second.0) second.1
+pub reads_next : (read : List Head) (done : ℕ) (next : Head) (old mid new : Option KeeperView) → Tells old mid (AreFirst read done)
+    → Tells mid new (FindsCounted (done + 1) (Ok next)) → Tells old new (AreFirst (read ++ next ∷ []) (done + 1))
+reads_next read done next old mid None first second = tt
+reads_next read done next old None (Some c) first second = absurd second
+reads_next read done next None (Some b) (Some c) first second = absurd first
+reads_next read done next (Some a) (Some b) (Some c) first second = head_next read done next a b c first second
+
+-- whatever comes behind what was read, where the keeper is left as it is
+pub stops_next : (read : List Head) (done number count : ℕ) (answer : Result Head TrialFault) (fault : TrialFault) (old mid new : Option KeeperView) → Tells old mid (AreFirst read done)
+    → Tells mid new (FindsCounted number answer) → Tells old new (FindsFirst count (Err fault))
+stops_next read done number count answer fault old mid None first second = tt
+stops_next read done number count answer fault old None (Some c) first second = absurd second
+stops_next read done number count answer fault None (Some b) (Some c) first second = absurd first
+stops_next read done number count (Ok next) fault (Some a) (Some b) (Some c) first second = second.1 ∙ first.1
+stops_next read done number count (Err other) fault (Some a) (Some b) (Some c) first second = second ∙ first.1
+
+-- what a stop may leave after two calls
+pub leaves_next : (first second third : TablesView → Type 0) (old mid new : Option KeeperView) → Tells old mid (λ _ _. LeavesAmong first second) → Tells mid new (λ _ _. LeavesAmong second third)
+    → Tells old new (λ _ _. LeavesAmong first third)
+leaves_next first second third old mid None one other = tt
+leaves_next first second third old None (Some c) one other = absurd other
+leaves_next first second third None (Some b) (Some c) one other = absurd one
+leaves_next first second third (Some a) (Some b) (Some c) one other = λ tables may_be. one tables (other tables may_be)
 
 pub reads_all : (count : ℕ) (result : Result (Vec Head Global) TrialFault) (old mid new : Option KeeperView)
     → Tells old mid (Answers (λ tables. length tables.heads) (Ok count)) → Tells mid new (FindsFirst count result) → Tells old new (FindsHeads result)

@@ -22,6 +22,11 @@ abbrev pub FindsHeads : Result (Vec Head Global) TrialFault → KeeperView → K
 FindsHeads (Ok heads) before after = (heads.items ≡ before.seen.heads) × (after ≡ before)
 FindsHeads (Err fault) before after = after ≡ before
 
+-- It answers the head of a trial that was counted. It is the proof's means; no public clause speaks of it.
+abbrev pub FindsCounted : ℕ → Result Head TrialFault → KeeperView → KeeperView → Type 0
+FindsCounted number (Ok head) before after = (head_at before.seen.heads number ≡ Some head) × (after ≡ before)
+FindsCounted number (Err fault) before after = after ≡ before
+
 -- It answers the heads of the first so many trials. It is the proof's means; no public clause speaks of it.
 abbrev pub FindsFirst : ℕ → Result (Vec Head Global) TrialFault → KeeperView → KeeperView → Type 0
 FindsFirst count (Ok heads) before after = (heads.items ≡ take count before.seen.heads) × (after ≡ before)

@@ -4,7 +4,7 @@ ghost use Rattle.prov_outside.specs.Tells.{Tells};
 ghost use Rattle.keeper.specs.Keeping.{AreKept, LeavesAmong};
 ghost use Rattle.trial_parts.specs.Causes.{Causes};
 ghost use Rattle.trial_keeping.specs.Fault.{has_failed};
-ghost use Rattle.trial_loading.specs.Heads.{FindsFirst, FindsHead, FindsHeads, IsOfHead, IsOfList};
+ghost use Rattle.trial_loading.specs.Heads.{FindsCounted, FindsFirst, FindsHead, FindsHeads, IsOfHead, IsOfList};
 
 use keeper::{Head, Keeper};
 use std::alloc::Global;
@@ -26,6 +26,22 @@ pub fn head<K: Keeper>(alloc: Global, keeper: &mut K, number: u32) -> Result<Hea
     }
 }
 
+/// The head of a trial that was counted. A keeper that tells its tables has each of the heads that it counts.
+fn counted_head<K: Keeper>(alloc: Global, keeper: &mut K, number: u32) -> Result<Head, TrialFault>
+    ensures finds { Tells (K.told keeper.old) (K.told keeper.new) (FindsCounted number result) }
+    ensures of_list { IfErr result IsOfList }
+    ensures kept { IfSome (K.told keeper.new) (AreKept (K.is_open keeper.new)) }
+    ensures stops { Tells (K.told keeper.old) (K.told keeper.new) (λ _ _. LeavesAmong (K.may_leave keeper.old) (K.may_leave keeper.new)) }
+    ensures batch { K.is_open keeper.new ≡ K.is_open keeper.old }
+    ensures cause { Causes (has_failed result) (K.faults keeper.old) (K.faults keeper.new) }
+{
+    match keeper.head(alloc, number) {
+        Ok(Some(head)) => Ok(head),
+        Ok(None) => Err(TrialFault::Memory),
+        Err(fault) => Err(TrialFault::from(fault)),
+    }
+}
+
 /// The heads of the first so many trials, in the order of their numbers.
 fn first_heads<K: Keeper>(
     alloc: Global,
@@ -42,11 +58,9 @@ fn first_heads<K: Keeper>(
 {
     let mut heads: Vec<Head> = Vec::new(alloc);
     for earlier in 0..count {
-        let next = match keeper.head(alloc, earlier + 1) {
-            Ok(Some(next)) => next,
-            // A keeper that tells its tables has each of the heads that it counts.
-            Ok(None) => return Err(TrialFault::Memory),
-            Err(fault) => return Err(TrialFault::from(fault)),
+        let next = match counted_head(alloc, keeper, earlier + 1) {
+            Ok(next) => next,
+            Err(fault) => return Err(fault),
         };
         if heads.push(next).is_err() {
             return Err(TrialFault::Memory);
