@@ -5,7 +5,7 @@ use crate::behind::Behind;
 use capture::{Capture, FileOut};
 use keeper::Head;
 use prov_base::{Bytes, Names};
-use py_tree::Script;
+use py_tree::{Script, drop_script};
 use trace_rows::Rows;
 
 /// A kept trial, loaded: all that was kept of a run.
@@ -31,6 +31,12 @@ pub struct Trial {
     pub rows: Rows,
     /// How many of them each page has.
     pub cuts: Vec<u32>,
+}
+
+/// Lets a trial go. Crates above call this, so the drop of the whole trial is proved here alone.
+pub fn drop_trial(trial: Trial) {
+    let Trial { script, .. } = trial;
+    drop_script(script);
 }
 
 /// The parts of a trial, as one.
