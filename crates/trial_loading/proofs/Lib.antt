@@ -1,4 +1,6 @@
 mod BehindScript
 mod FromText
+mod OneCheck
+mod OneTrial
 mod Stepping
 mod Whole

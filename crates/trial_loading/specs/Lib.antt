@@ -1,3 +1,4 @@
 pub mod Heads
 pub mod Loading
+pub mod OneTrial
 pub mod Stages
