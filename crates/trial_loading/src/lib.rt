@@ -1,4 +1,4 @@
-//! A kept trial, loaded over any keeper: the inverse of keeping a run.
+//! A kept trial, loaded over any keeper.
 //!
 //! - [`load_trial`] answers the trial with a number, `NoTrial` exactly where there is none, and `Damaged` exactly where it is not well kept.
 //!   `loads` says both sides: which trial it is (`IsLoaded` of `specs/Loading.antt`), or what is amiss of it first (`IsDamaged`).
