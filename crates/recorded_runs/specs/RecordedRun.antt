@@ -1,0 +1,56 @@
+-- A run over devices that is recorded (this project's profile): it is the bare run, the answers of its capture are put in order, and its pages
+-- are those of the rows of its moments.
+use Rattle.std.specs.Prelude.{◌≡◌, ℕ, List, reverse, Result, Ok, Err}
+use Rattle.std.specs.List.Sorted.{IsPermutation}
+use Rattle.prov_base.specs.declared.place.Pos.{Pos}
+use Rattle.prov_base.specs.declared.refusal.Memory.{Memory}
+use Rattle.capture.specs.Answers.{answer_at, AreInOrder}
+use Rattle.capture.specs.Capture.{CaptureView}
+use Rattle.capture.specs.declared.ended.Ended.{Ended as EndedRun}
+use Rattle.answer_source.specs.Live.{capture_of}
+use Rattle.py_model.specs.Capture.{Telling}
+use Rattle.py_model.specs.Meaning.{run}
+use Rattle.py_model.specs.Moment.{Moment}
+use Rattle.py_tree.specs.Tree.{ScriptTree}
+use Rattle.run_engine.specs.Bare.{RunsBare}
+use Rattle.trace_rows.specs.RowBytes.{AreRows}
+use Rattle.moment_rows.specs.MomentRows.{rows as rows_of}
+use Rattle.moment_rows.specs.PageCuts.{pages as pages_of_rows}
+use Rattle.recorded_runs.specs.declared.recording.Recorded.{Recorded}
+
+-- a run that is over, with this capture in the place of its own
+abbrev pub with_capture : EndedRun → CaptureView → EndedRun
+with_capture over capture = record over { capture = capture }
+
+-- What was answered in the order of asking is kept in ascending order of place and number. No answer is lost and none is new, and under each place
+-- and number stands what stood there.
+pub record PutsInOrder (asked kept : CaptureView) : Type 0 where
+  pub ascending : AreInOrder kept.answers
+  pub permuted : IsPermutation asked.answers kept.answers
+  pub found : (at : Pos) (k : ℕ) → answer_at kept.answers at k ≡ answer_at asked.answers at k
+  pub rest : kept ≡ record asked { answers = kept.answers }
+
+-- The pages are those of the rows of these moments. The numbers in these rows fit their types, so each page is decoded as the next of them.
+pub record ArePagesOf (moments : List Moment) (pages : List (List ℕ)) : Type 0 where
+  pub pages_are : pages ≡ pages_of_rows (rows_of moments)
+  pub fit : AreRows (rows_of moments)
+
+-- A run in the capture in which the answers stand as they were asked is recorded: without its order it is the bare run, and its moments are those of the
+-- script in that capture.
+pub record IsRecordedRun (script : ScriptTree) (path : List ℕ) (arguments : List (List ℕ)) (steps : ℕ) (before after : Telling) (asked : CaptureView) (it : Recorded) : Type 0 where
+  pub runs : RunsBare script path arguments steps before after (Ok (with_capture it.ended asked))
+  pub in_order : PutsInOrder asked it.ended.capture
+  pub pages : ArePagesOf (run script path arguments (capture_of asked after) steps).moments it.pages
+
+-- A run over devices that told this before it and tell that after it, recorded. After want of memory all is as after a bare run that lacked it.
+abbrev pub RecordsRun : ScriptTree → List ℕ → List (List ℕ) → ℕ → Telling → Telling → Result Recorded Memory → Type 0
+RecordsRun script path arguments steps before after (Ok it) = (asked : CaptureView) × IsRecordedRun script path arguments steps before after asked it
+RecordsRun script path arguments steps before after (Err want) = RunsBare script path arguments steps before after (Err want)
+
+-- ---- how a run that is over is made a recorded one
+
+-- The moments are given the latest first, as a recorder tells them.
+pub record IsFinished (ended : EndedRun) (told : List Moment) (it : Recorded) : Type 0 where
+  pub runs : with_capture it.ended ended.capture ≡ ended
+  pub in_order : PutsInOrder ended.capture it.ended.capture
+  pub pages : ArePagesOf (reverse told) it.pages
