@@ -47,6 +47,18 @@ abbrev pub RecordsRun : ScriptTree → List ℕ → List (List ℕ) → ℕ → 
 RecordsRun script path arguments steps before after (Ok it) = (asked : CaptureView) × IsRecordedRun script path arguments steps before after asked it
 RecordsRun script path arguments steps before after (Err want) = RunsBare script path arguments steps before after (Err want)
 
+-- what a bare run says, said of a recorded one, with its answers as they were asked
+abbrev pub IsBareOf : ScriptTree → List ℕ → List (List ℕ) → ℕ → Telling → Telling → Result Recorded Memory → Type 0
+IsBareOf script path arguments steps before after (Ok it) = (asked : CaptureView) × (PutsInOrder asked it.ended.capture × RunsBare script path arguments steps before after (Ok (with_capture it.ended asked)))
+IsBareOf script path arguments steps before after (Err want) = RunsBare script path arguments steps before after (Err want)
+
+-- both runs end so, took as many steps, printed the same and left the same files
+pub record ComeOutAlike (one other : EndedRun) : Type 0 where
+  pub end : one.end ≡ other.end
+  pub steps : one.steps ≡ other.steps
+  pub output : one.output ≡ other.output
+  pub finals : one.finals.items ≡ other.finals.items
+
 -- ---- how a run that is over is made a recorded one
 
 -- The moments are given the latest first, as a recorder tells them.

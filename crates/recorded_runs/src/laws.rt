@@ -1,0 +1,24 @@
+// The laws of recorded runs: public functions without a body, whose contracts are the laws.
+ghost use Rattle.std.specs.Prelude.{◌≡◌, ℕ, List, Result, Ok};
+ghost use Rattle.capture.specs.Capture.{CaptureView};
+ghost use Rattle.capture.specs.declared.ended.Ended.{Ended as EndedRun};
+ghost use Rattle.prov_base.specs.declared.refusal.Memory.{Memory};
+ghost use Rattle.py_model.specs.Capture.{Telling};
+ghost use Rattle.py_tree.specs.Tree.{ScriptTree};
+ghost use Rattle.run_engine.specs.Bare.{RunsBare};
+ghost use Rattle.recorded_runs.specs.declared.recording.Recorded.{Recorded};
+ghost use Rattle.recorded_runs.specs.RecordedRun.{RecordsRun, IsRecordedRun, IsBareOf, ComeOutAlike};
+
+/// The law that what `record_run` says of the run and of the devices is what `run_bare` says: its end, its steps, its output, its files, and its answers as they
+/// were asked.
+pub fn recorded_runs_are_bare()
+    ensures { (script : ScriptTree) (path : List ℕ) (arguments : List (List ℕ)) (steps : ℕ) (before after : Telling) (result : Result Recorded Memory)
+        → RecordsRun script path arguments steps before after result → IsBareOf script path arguments steps before after result }
+{}
+
+/// The law that recording changes nothing but by want of memory: a recorded run and a bare run that were given the same answers and files come out alike.
+pub fn recording_changes_nothing()
+    ensures { (script : ScriptTree) (path : List ℕ) (arguments : List (List ℕ)) (steps : ℕ) (before after earlier later : Telling) (asked : CaptureView) (it : Recorded) (over : EndedRun)
+        → IsRecordedRun script path arguments steps before after asked it → RunsBare script path arguments steps earlier later (Ok over)
+        → asked.answers ≡ over.capture.answers → asked.files ≡ over.capture.files → ComeOutAlike it.ended over }
+{}
