@@ -1,1 +1,2 @@
 pub mod RecordedRun
+pub mod KeptRun
