@@ -1,7 +1,17 @@
 -- Two runs that are given the same answers and files come out alike.
-use Rattle.std.proofs.Common.{◌≡◌, refl, sym, ap, ap₂, subst, nat_le, length, if◌then◌else◌, ◌∙◌, ℕ, zero, suc, List, [], ◌∷◌, map, Result, Ok, Err, Option}
-use Rattle.answer_source.specs.Live.{capture_of, kept_seen, file_seen}
-use Rattle.capture.specs.Capture.{CaptureView}
+use Rattle.std.proofs.Common.{◌≡◌, refl, sym, ap, ap₂, subst, nat_le, length, if◌then◌else◌, ◌∙◌, ℕ, zero, suc, List, [], ◌∷◌, map, Result, Ok, Err, Option, Some, None, is_some}
+use Rattle.std.proofs.Math.Path.{fun_ext}
+use Rattle.std.proofs.lemmas.List.Sorted.{IsPermutation-map}
+use Rattle.std.specs.List.Sorted.{IsPermutation}
+use Rattle.std.specs.Option.{option_map}
+use Rattle.answer_source.proofs.Replaying.{given_exactly}
+use Rattle.answer_source.specs.Live.{asking_seen, capture_of, kept_seen, file_seen}
+use Rattle.answer_source.specs.Sources.{ask_seen, given_seen}
+use Rattle.capture.specs.Answers.{given_if}
+use Rattle.capture.specs.Files.{file_at}
+use Rattle.capture.specs.declared.answer.Ask.{Ask as Question}
+use Rattle.capture.specs.declared.answer.Ask.TheVariants.{Time, Word, Line}
+use Rattle.capture.specs.Capture.{CaptureView, is_among}
 use Rattle.capture.specs.declared.ended.Ended.{Ended as EndedRun}
 use Rattle.capture.specs.declared.ended.FileOut.{FileOut}
 use Rattle.capture.specs.declared.ended.RunEnd.{RunEnd as EndTold}
@@ -11,17 +21,18 @@ use Rattle.op_held.specs.Uncaught.{class_raised, text_raised}
 use Rattle.prov_base.specs.declared.refusal.Memory.{Memory}
 use Rattle.prov_base.specs.declared.place.Pos.{Pos}
 use Rattle.py_model.specs.Act.{Act, How, Walked, ret, stop, perform, begin, close, enter, leave}
-use Rattle.py_model.specs.Capture.{Capture, Kept, Telling}
+use Rattle.py_model.specs.Capture.{Capture, Telling, given_in, found_in, answers_at}
+use Rattle.py_model.specs.Effect.{Answers, effect}
 use Rattle.py_model.specs.Meaning.{Run, RunEnd, finished, uncaught, out_of_steps, unanswered_run, end_in, meaning, starting, run, run_of}
 use Rattle.py_model.specs.Moment.{begins, leaves, ends}
-use Rattle.py_model.specs.Operations.{Op}
-use Rattle.py_model.specs.Plan.{Answer, Found}
+use Rattle.py_model.specs.Operations.{Op, plan}
+use Rattle.py_model.specs.Plan.{Answer, Ask, time, word, line as line_asked, Found, Given}
 use Rattle.py_value.specs.Contents.{Contents}
-use Rattle.py_model.specs.Running.{State, Ended, over, spent, lacking, state_in, outcome, operation, Happened, did, too_dear, lacked, beginning, entering, tell}
+use Rattle.py_model.specs.Running.{State, Ended, over, spent, lacking, state_in, outcome, operation, Happened, did, too_dear, lacked, beginning, entering, tell, happened, note, askings_at}
 use Rattle.py_tree.specs.Tree.{ScriptTree}
 use Rattle.run_engine.specs.Bare.{EndsAs, IsEnded, RunsBare}
 use Rattle.recorded_runs.specs.declared.recording.Recorded.{Recorded}
-use Rattle.recorded_runs.specs.RecordedRun.{RecordsRun, IsRecordedRun, IsBareOf, ComeOutAlike, with_capture}
+use Rattle.recorded_runs.specs.RecordedRun.{RecordsRun, IsRecordedRun, IsBareOf, IsRunOf, ArePagesOf, PutsInOrder, ComeOutAlike, with_capture}
 
 pub bare_of : (script : ScriptTree) (path : List ℕ) (arguments : List (List ℕ)) (steps : ℕ) (before after : Telling) (result : Result Recorded Memory)
     → RecordsRun script path arguments steps before after result → IsBareOf script path arguments steps before after result
@@ -108,15 +119,30 @@ module _ (one other : Capture) (same : (at : Pos) (op : Op) (values : List Conte
       ap (λ e. if nat_le (suc (length values)) s.left then e else spent s) (outcome_same (next (suc s.entered)) (entering at def names values s))
   outcome_same (leave v rest) s = outcome_same rest (tell (leaves v) s)
 
+-- what is given under each place and number, and what was found
+module _ (one other : Capture) (given : (what : Ask) (at : Pos) (k : ℕ) → given_in one.answers what at k ≡ given_in other.answers what at k) (files : one.files ≡ other.files) where
+  abbrev answers_with : (Ask → Option Given) → List (List ℕ × Found) → Answers
+  answers_with g fs = record { given = g; found = found_in fs }
+
+  answers_same : (at : Pos) (k : ℕ) → answers_at one at k ≡ answers_at other at k
+  answers_same at k =
+      ap₂ (λ (g : Ask → Option Given) (fs : List (List ℕ × Found)). answers_with g fs) (fun_ext (λ what. given what at k)) files
+
+  operation_same : (at : Pos) (op : Op) (values : List Contents) (s : State) → operation one at op values s ≡ operation other at op values s
+  operation_same at op values s =
+      ap (λ (answers : Answers).
+      if nat_le 1 s.left
+      then (let e = effect s.store answers (plan op values) in happened at op values e e.outcome (note at (suc (askings_at at s.askings)) e.touches s))
+      else too_dear s)
+      (answers_same at (suc (askings_at at s.askings)))
+
 module _ (script : ScriptTree) (path : List ℕ) (arguments : List (List ℕ)) (steps : ℕ) where
   abbrev outcome_in : Capture → Ended
   outcome_in capture = outcome capture (meaning script steps) (starting capture path arguments steps)
 
-  kept_alike : (one other : Capture) → one.answers ≡ other.answers → one.files ≡ other.files → outcome_in one ≡ outcome_in other
-  kept_alike one other answers files =
-      outcome_same one other
-      (λ at op values s. ap₂ (λ (ks : List Kept) (fs : List (List ℕ × Found)). operation (record { answers = ks; files = fs; ends = one.ends }) at op values s) answers files)
-      (meaning script steps) (starting one path arguments steps)
+  kept_alike : (one other : Capture) → ((what : Ask) (at : Pos) (k : ℕ) → given_in one.answers what at k ≡ given_in other.answers what at k) → one.files ≡ other.files → outcome_in one ≡ outcome_in other
+  kept_alike one other given files =
+      outcome_same one other (operation_same one other given files) (meaning script steps) (starting one path arguments steps)
       ∙ ap (λ (fs : List (List ℕ × Found)). outcome other (meaning script steps) (starting (record { answers = other.answers; files = fs; ends = one.ends }) path arguments steps)) files
 
   come_alike : (one other : Capture) (it plain : EndedRun) → outcome_in one ≡ outcome_in other → IsEnded script path arguments steps one it → IsEnded script path arguments steps other plain
@@ -132,6 +158,37 @@ module _ (script : ScriptTree) (path : List ℕ) (arguments : List (List ℕ)) (
       → IsRecordedRun script path arguments steps before after asked it → RunsBare script path arguments steps earlier later (Ok plain)
       → asked.answers ≡ plain.capture.answers → asked.files ≡ plain.capture.files → ComeOutAlike it.ended plain
   alike before after earlier later asked it plain so bare answers files =
-      let same = kept_alike (capture_of asked after) (capture_of plain.capture later) (ap (map kept_seen) answers) (ap (map file_seen) files) in
+      let same = kept_alike (capture_of asked after) (capture_of plain.capture later) (λ what at k. ap (λ all. given_in (map kept_seen all) what at k) answers) (ap (map file_seen) files) in
       let both = come_alike (capture_of asked after) (capture_of plain.capture later) (with_capture it.ended asked) plain same so.runs.1 bare.1 in
       record { end = both.end; steps = both.steps; output = both.output; finals = both.finals }
+
+  -- ---- the capture that is kept
+
+  found_same : (asked kept : CaptureView) → PutsInOrder asked kept → (what : Question) (at : Pos) (k : ℕ)
+      → given_in (map kept_seen kept.answers) (ask_seen what) at k ≡ given_in (map kept_seen asked.answers) (ask_seen what) at k
+  found_same asked kept so what at k =
+      given_exactly what at k kept.answers so.kept_once ∙ (ap (λ found. option_map given_seen (given_if what found)) (so.found at k) ∙ sym (given_exactly what at k asked.answers so.asked_once))
+
+  given_same : (asked kept : CaptureView) → PutsInOrder asked kept → (what : Ask) (at : Pos) (k : ℕ)
+      → given_in (map kept_seen kept.answers) what at k ≡ given_in (map kept_seen asked.answers) what at k
+  given_same asked kept so time at k = found_same asked kept so Time at k
+  given_same asked kept so word at k = found_same asked kept so Word at k
+  given_same asked kept so line_asked at k = found_same asked kept so Line at k
+
+  pub has_run : (before after later : Telling) (asked : CaptureView) (it : Recorded) → IsRecordedRun script path arguments steps before after asked it
+      → IsRunOf script path arguments steps (capture_of it.ended.capture later) it
+  has_run before after later asked it so =
+      let files : it.ended.capture.files ≡ asked.files = ap (λ (c : CaptureView). c.files) so.in_order.rest in
+      let same : outcome_in (capture_of it.ended.capture later) ≡ outcome_in (capture_of asked after) =
+      kept_alike (capture_of it.ended.capture later) (capture_of asked after) (given_same asked it.ended.capture so.in_order) (ap (map file_seen) files) in
+      let is : IsEnded script path arguments steps (capture_of asked after) (with_capture it.ended asked) = so.runs.1 in
+      record {
+        end_is = subst (λ e. EndsAs e it.ended.end) (sym same) is.end_is;
+        steps_are = ap (λ e. (run_of steps e).steps) same ∙ is.steps_are;
+        output_is = ap (λ e. (run_of steps e).output) same ∙ is.output_is;
+        finals_are = ap (λ e. (run_of steps e).finals) same ∙ is.finals_are;
+        pages = subst (λ e. ArePagesOf (run_of steps e).moments it.pages) (sym same) so.pages;
+        asked = subst (λ all. IsPermutation all (map asking_seen it.ended.capture.answers)) (sym (ap (λ e. (run_of steps e).asked) same ∙ is.asked_are))
+            (IsPermutation-map asking_seen asked.answers it.ended.capture.answers so.in_order.permuted);
+        fetched = λ one. ap (λ e. is_among one (state_in e).fetches) same ∙ (is.fetched_are one ∙ ap (λ fs. is_some (file_at fs one)) (sym files));
+      }

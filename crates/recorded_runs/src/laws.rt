@@ -1,5 +1,6 @@
 // The laws of recorded runs: public functions without a body, whose contracts are the laws.
 ghost use Rattle.std.specs.Prelude.{◌≡◌, ℕ, List, Result, Ok};
+ghost use Rattle.answer_source.specs.Live.{capture_of};
 ghost use Rattle.capture.specs.Capture.{CaptureView};
 ghost use Rattle.capture.specs.declared.ended.Ended.{Ended as EndedRun};
 ghost use Rattle.prov_base.specs.declared.refusal.Memory.{Memory};
@@ -7,7 +8,7 @@ ghost use Rattle.py_model.specs.Capture.{Telling};
 ghost use Rattle.py_tree.specs.Tree.{ScriptTree};
 ghost use Rattle.run_engine.specs.Bare.{RunsBare};
 ghost use Rattle.recorded_runs.specs.declared.recording.Recorded.{Recorded};
-ghost use Rattle.recorded_runs.specs.RecordedRun.{RecordsRun, IsRecordedRun, IsBareOf, ComeOutAlike};
+ghost use Rattle.recorded_runs.specs.RecordedRun.{RecordsRun, IsRecordedRun, IsBareOf, IsRunOf, ComeOutAlike};
 
 /// The law that what `record_run` says of the run and of the devices is what `run_bare` says: its end, its steps, its output, its files, and its answers as they
 /// were asked.
@@ -21,4 +22,11 @@ pub fn recording_changes_nothing()
     ensures { (script : ScriptTree) (path : List ℕ) (arguments : List (List ℕ)) (steps : ℕ) (before after earlier later : Telling) (asked : CaptureView) (it : Recorded) (over : EndedRun)
         → IsRecordedRun script path arguments steps before after asked it → RunsBare script path arguments steps earlier later (Ok over)
         → asked.answers ≡ over.capture.answers → asked.files ≡ over.capture.files → ComeOutAlike it.ended over }
+{}
+
+/// The law that the capture that is kept has the run: in it, with its answers in order and whatever devices tell at its end, the script comes out as it did, has
+/// these moments, and asks what is kept and nothing else.
+pub fn kept_captures_have_the_run()
+    ensures { (script : ScriptTree) (path : List ℕ) (arguments : List (List ℕ)) (steps : ℕ) (before after ends : Telling) (asked : CaptureView) (it : Recorded)
+        → IsRecordedRun script path arguments steps before after asked it → IsRunOf script path arguments steps (capture_of it.ended.capture ends) it }
 {}
