@@ -1,5 +1,5 @@
 -- Two runs that are given the same answers and files come out alike.
-use Rattle.std.proofs.Common.{◌≡◌, refl, sym, ap, ap₂, subst, nat_le, length, if◌then◌else◌, ◌∙◌, ℕ, zero, suc, List, [], ◌∷◌, map, Result, Ok, Err, Option, Some, None, is_some}
+use Rattle.std.proofs.Common.{◌≡◌, refl, sym, ap, ap₂, subst, nat_le, length, if◌then◌else◌, ◌∙◌, ℕ, suc, List, [], ◌∷◌, map, Result, Ok, Err, Option, is_some}
 use Rattle.std.proofs.Math.Path.{fun_ext}
 use Rattle.std.proofs.lemmas.List.Sorted.{IsPermutation-map}
 use Rattle.std.specs.List.Sorted.{IsPermutation}
@@ -20,15 +20,15 @@ use Rattle.op_held.specs.Finals.{file_out}
 use Rattle.op_held.specs.Uncaught.{class_raised, text_raised}
 use Rattle.prov_base.specs.declared.refusal.Memory.{Memory}
 use Rattle.prov_base.specs.declared.place.Pos.{Pos}
-use Rattle.py_model.specs.Act.{Act, How, Walked, ret, stop, perform, begin, close, enter, leave}
+use Rattle.py_model.specs.Act.{Act, Walked, ret, stop, perform, begin, close, enter, leave}
 use Rattle.py_model.specs.Capture.{Capture, Telling, given_in, found_in, answers_at}
 use Rattle.py_model.specs.Effect.{Answers, effect}
-use Rattle.py_model.specs.Meaning.{Run, RunEnd, finished, uncaught, out_of_steps, unanswered_run, end_in, meaning, starting, run, run_of}
-use Rattle.py_model.specs.Moment.{begins, leaves, ends}
+use Rattle.py_model.specs.Meaning.{RunEnd, finished, uncaught, out_of_steps, unanswered_run, end_in, meaning, starting, run_of}
+use Rattle.py_model.specs.Moment.{leaves, ends}
 use Rattle.py_model.specs.Operations.{Op, plan}
 use Rattle.py_model.specs.Plan.{Answer, Ask, time, word, line as line_asked, Found, Given}
 use Rattle.py_value.specs.Contents.{Contents}
-use Rattle.py_model.specs.Running.{State, Ended, over, spent, lacking, state_in, outcome, operation, Happened, did, too_dear, lacked, beginning, entering, tell, happened, note, askings_at}
+use Rattle.py_model.specs.Running.{State, Ended, spent, lacking, state_in, outcome, operation, Happened, did, too_dear, lacked, beginning, entering, tell, happened, note, askings_at}
 use Rattle.py_tree.specs.Tree.{ScriptTree}
 use Rattle.run_engine.specs.Bare.{EndsAs, IsEnded, RunsBare}
 use Rattle.recorded_runs.specs.declared.recording.Recorded.{Recorded}

@@ -7,12 +7,11 @@ use Rattle.prov_outside.specs.Moments.{MomentsView}
 use Rattle.prov_outside.specs.Tells.{Tells}
 use Rattle.py_model.specs.Capture.{Telling}
 use Rattle.py_tree.specs.Tree.{ScriptTree}
-use Rattle.run_engine.specs.Bare.{RunsBare}
 use Rattle.trial_keeping.specs.Trial.{Run}
 use Rattle.recorded_runs.specs.declared.recording.Recorded.{Recorded}
 use Rattle.recorded_runs.specs.declared.keeping.KeptRun.{KeptRun}
 use Rattle.recorded_runs.specs.declared.keeping.Timed.{Timed}
-use Rattle.recorded_runs.specs.RecordedRun.{IsRecordedRun, RecordsRun}
+use Rattle.recorded_runs.specs.RecordedRun.{RecordsRun}
 
 -- A clock that is asked gives one time more, or it fails and nothing has changed.
 abbrev pub ClockGives : Option ℤ → MomentsView → MomentsView → Type 0
