@@ -1,11 +1,11 @@
 // A run that is kept as a trial, with its moments of start and end.
-ghost use Rattle.std.specs.Prelude.{◌≡◌, false, IfOk, OnErr, IfSome};
+ghost use Rattle.std.specs.Prelude.{◌≡◌, false, IfOk, IfErr, OnErr, IfSome};
 ghost use Rattle.answer_source.specs.Live.{telling};
 ghost use Rattle.keeper.specs.Keeping.{AreKept};
 ghost use Rattle.prov_outside.specs.Tells.{Tells};
 ghost use Rattle.py_tree.specs.Erasure.{script_of};
 ghost use Rattle.trial_keeping.specs.Fault.{has_failed};
-ghost use Rattle.trial_keeping.specs.Keeping.{KeepsTrial, StopLeaves};
+ghost use Rattle.trial_keeping.specs.Keeping.{KeepsTrial, IsOfKeeping, StopLeaves};
 ghost use Rattle.trial_parts.specs.Causes.{Causes};
 ghost use Rattle.recorded_runs.specs.KeptRun.{ClockGives, clock_faults, TimesRun, TimedRuns, run_in};
 
@@ -117,6 +117,7 @@ pub fn keep_run<K: Keeper, C: Console + Drop, F: Folder + Drop, M: Moments + Dro
       word = M.word_faults result.1.moments;
     })) result.0 }
     ensures keeps { IfOk result.0 (λ it. Tells (K.told keeper.old) (K.told keeper.new) (KeepsTrial (run_in text.now path.now arguments.now budget it) it.number)) }
+    ensures of_keeping { IfOk result.0 (λ it. IfErr it.number IsOfKeeping) }
     ensures stops { IfOk result.0 (λ it. Tells (K.told keeper.old) (K.told keeper.new)
         (StopLeaves (run_in text.now path.now arguments.now budget it) it.number (K.may_leave keeper.old) (K.may_leave keeper.new))) }
     ensures kept { IfOk result.0 (λ _. IfSome (K.told keeper.new) (AreKept (K.is_open keeper.new))) }
