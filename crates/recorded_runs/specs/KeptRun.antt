@@ -1,4 +1,4 @@
--- A script that is run, recorded and kept (this project's profile): start moment, run, end moment, and then the keeping of the trial.
+-- A script that is run, recorded and kept (this project's profile): start time, run, end time, and then the keeping of the trial.
 use Rattle.std.specs.Prelude.{◌≡◌, ℕ, ℤ, List, [], ◌∷◌, ◌++◌, Option, Some, None, Result, Ok, Err}
 use Rattle.answer_source.specs.Going.{Same}
 use Rattle.prov_base.specs.declared.refusal.Memory.{Memory}
@@ -34,7 +34,7 @@ pub record AsksClock (time : Option ℤ) (before after : Telling) : Type 0 where
   pub faults : after.time_faults ≡ clock_faults time before.time_faults
   pub rest : after ≡ record before { times = after.times; words = after.words; time_faults = after.time_faults }
 
--- The start moment, the run and the end moment, in this order; each moment is told where the clock gave it.
+-- The start time, the run and the end time, in this order; each time is told where the clock gave it.
 pub record IsTimedRun (script : ScriptTree) (path : List ℕ) (arguments : List (List ℕ)) (steps : ℕ) (before after : Telling) (times : Option ℤ × Option ℤ) (it : Recorded) : Type 0 where
   pub began : Telling
   pub ran : Telling
@@ -42,14 +42,14 @@ pub record IsTimedRun (script : ScriptTree) (path : List ℕ) (arguments : List 
   pub records : RecordsRun script path arguments steps began ran (Ok it)
   pub ends : AsksClock times.1 ran after
 
--- where memory ran out, the start moment was asked and the run lacked memory
+-- where memory ran out, the start time was asked and the run lacked memory
 pub record LacksMemory (script : ScriptTree) (path : List ℕ) (arguments : List (List ℕ)) (steps : ℕ) (before after : Telling) (want : Memory) : Type 0 where
   pub started : Option ℤ
   pub began : Telling
   pub starts : AsksClock started before began
   pub records : RecordsRun script path arguments steps began after (Err want)
 
--- a run over devices that told this before it and tell that after it, with its moments of start and end
+-- a run over devices that told this before it and tell that after it, with its times of start and end
 abbrev pub TimesRun : ScriptTree → List ℕ → List (List ℕ) → ℕ → Telling → Telling → Result KeptRun Memory → Type 0
 TimesRun script path arguments steps before after (Ok it) = IsTimedRun script path arguments steps before after it.times it.recorded
 TimesRun script path arguments steps before after (Err want) = LacksMemory script path arguments steps before after want

@@ -39,8 +39,7 @@ pub record ArePagesOf (moments : List Moment) (pages : List (List ℕ)) : Type 0
   pub pages_are : pages ≡ pages_of_rows (rows_of moments)
   pub fit : AreRows (rows_of moments)
 
--- A run in the capture in which the answers stand as they were asked is recorded: without its order it is the bare run, and its moments are those of the
--- script in that capture.
+-- The run is the bare one, in the capture with its answers as they were asked. Its pages are those of the moments that the script has in that capture.
 pub record IsRecordedRun (script : ScriptTree) (path : List ℕ) (arguments : List (List ℕ)) (steps : ℕ) (before after : Telling) (asked : CaptureView) (it : Recorded) : Type 0 where
   pub runs : RunsBare script path arguments steps before after (Ok (with_capture it.ended asked))
   pub in_order : PutsInOrder asked it.ended.capture

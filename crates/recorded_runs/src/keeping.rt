@@ -1,4 +1,4 @@
-// A run that is kept as a trial, with its moments of start and end.
+// A run that is kept as a trial, with its times of start and end.
 ghost use Rattle.std.specs.Prelude.{◌≡◌, false, IfOk, IfErr, OnErr, IfSome};
 ghost use Rattle.answer_source.specs.Live.{telling};
 ghost use Rattle.keeper.specs.Keeping.{AreKept};
@@ -48,7 +48,7 @@ fn time_of<M: Moments>(moments: &mut M) -> Option<i64>
     }
 }
 
-/// Asks for the start moment, records the run, and asks for the end moment. Where memory runs out the end moment is not asked for.
+/// Asks for the start time, records the run, and asks for the end time. Where memory runs out the end time is not asked for.
 fn time_run<C: Console + Drop, F: Folder + Drop, M: Moments + Drop>(
     alloc: Global,
     script: &Script,
@@ -86,8 +86,8 @@ fn time_run<C: Console + Drop, F: Folder + Drop, M: Moments + Drop>(
     }
 }
 
-/// Runs and records the script at a path over devices, which it gives back, and keeps the run as a trial with the script's text and its moments of start and
-/// end. A fault in keeping loses nothing of the run: it is told beside it. Where memory runs out before the keeping, the keeper is not called.
+/// Runs and records the script at a path over devices, which it gives back, and keeps the run as a trial with the script's text, its start time and its end
+/// time. A fault in keeping loses nothing of the run: it is told beside it. Where memory runs out before the keeping, the keeper is not called.
 pub fn keep_run<K: Keeper, C: Console + Drop, F: Folder + Drop, M: Moments + Drop>(
     alloc: Global,
     keeper: &mut K,

@@ -24,8 +24,8 @@ pub fn recording_changes_nothing()
         → asked.answers ≡ over.capture.answers → asked.files ≡ over.capture.files → ComeOutAlike it.ended over }
 {}
 
-/// The law that the capture that is kept has the run: in it, with its answers in order and whatever devices tell at its end, the script comes out as it did, has
-/// these moments, and asks what is kept and nothing else.
+/// The law that the capture that is kept has the run. In it, with its answers in order, the script comes out as it did and has these moments. It asks what is
+/// kept and nothing else. What devices tell at its end does not matter.
 pub fn kept_captures_have_the_run()
     ensures { (script : ScriptTree) (path : List ℕ) (arguments : List (List ℕ)) (steps : ℕ) (before after ends : Telling) (asked : CaptureView) (it : Recorded)
         → IsRecordedRun script path arguments steps before after asked it → IsRunOf script path arguments steps (capture_of it.ended.capture ends) it }
