@@ -7,9 +7,9 @@ use Rattle.prov_outside.specs.Count.{Rose, one_more, faults_after}
 use Rattle.prov_outside.specs.Folder.{Files}
 use Rattle.prov_outside.specs.Tells.{Tells}
 use Rattle.prov_outside.specs.declared.trouble.Trouble.TheVariants.{Failed, Memory}
-use Rattle.delivery.specs.Ending.{Ending, done, uncaught, usage, refused, nothing_there, console_failed, folder_failed, out_of_memory, out_of_steps, status_of, closing_line, ending_of}
+use Rattle.delivery.specs.Ending.{Ending, done, uncaught, usage, refused, nothing_there, console_failed, folder_failed, store_failed, out_of_memory, out_of_steps, collision, store_full, status_of, closing_line, ending_of, tells_of_store}
 use Rattle.delivery.specs.declared.ending.Ending.{Ending as Planned}
-use Rattle.delivery.specs.declared.ending.Ending.TheVariants.{Done, Uncaught, Usage, Refused, NothingThere, FolderFailed, OutOfSteps, OutOfMemory}
+use Rattle.delivery.specs.declared.ending.Ending.TheVariants.{Done, Uncaught, Usage, Refused, NothingThere, FolderFailed, StoreFailed, OutOfSteps, Collision, StoreFull, OutOfMemory}
 use Rattle.delivery.specs.PutsAll.{OutFile, Outcome, PutsAll, faults_of, first_failed, lacks_memory, ending_after_puts}
 use Rattle.delivery.specs.Shown.{Closing, no_line, line_tried, line_unmade, Closes, Leaves, Shown, has_line, outlasts_console, after_text, after_line, line_of, outcome_of}
 use Rattle.delivery.specs.Delivered.{Delivered, ending_to_close}
@@ -55,9 +55,17 @@ failed_behind (Err Memory) n = rises n
 
 -- ---- puts
 
+-- how a command can end where a put failed
+abbrev pub FailsAs : Ending → List ℕ → Ending → Type 0
+FailsAs planned path ending = (ending ≡ folder_failed path) ⊎ ((tells_of_store planned ≡ true) × (ending ≡ planned))
+
 -- how a command can end by its puts
 abbrev pub Ways : Ending → List OutFile → List Outcome → Ending → Type 0
-Ways planned files puts ending = ((all_well puts ≡ true) × (ending ≡ planned)) ⊎ ((ending ≡ out_of_memory) ⊎ ((path : List ℕ) × (ending ≡ folder_failed path) × (first_failed files puts ≡ Some path)))
+Ways planned files puts ending = ((all_well puts ≡ true) × (ending ≡ planned)) ⊎ ((ending ≡ out_of_memory) ⊎ ((path : List ℕ) × FailsAs planned path ending × (first_failed files puts ≡ Some path)))
+
+fails_as : (planned : Ending) (path : List ℕ) (store : Bool) → tells_of_store planned ≡ store → FailsAs planned path (if store then planned else folder_failed path)
+fails_as planned path true is = inr (is, refl)
+fails_as planned path false is = inl refl
 
 well_lacks : (puts : List Outcome) → all_well puts ≡ true → lacks_memory puts ≡ false
 well_lacks [] good = refl
@@ -91,7 +99,7 @@ ways_by : (planned : Ending) (files : List OutFile) (puts : List Outcome) (short
 ways_by planned files puts true even is = inr (inl (rw is refl))
 ways_by planned files puts false even is = ⊎_elim
     (λ good. inl (good, well_ending planned files puts good))
-    (λ failed. inr (inr (failed.0, rw is (rw failed.1 refl), failed.1)))
+    (λ failed. inr (inr (failed.0, rw is (rw failed.1 (fails_as planned failed.0 (tells_of_store planned) refl)), failed.1)))
     (well_or_failed files puts even is)
 
 pub ways : (planned : Ending) (files : List OutFile) (puts : List Outcome) → length puts ≡ length files → Ways planned files puts (ending_after_puts planned files puts)
@@ -107,8 +115,11 @@ zero_is (refused file line column) is = absurd (omega (arith, is))
 zero_is nothing_there is = absurd (omega (arith, is))
 zero_is console_failed is = absurd (omega (arith, is))
 zero_is (folder_failed path) is = absurd (omega (arith, is))
+zero_is store_failed is = absurd (omega (arith, is))
 zero_is out_of_memory is = absurd (omega (arith, is))
 zero_is out_of_steps is = absurd (omega (arith, is))
+zero_is (collision digest kept given) is = absurd (omega (arith, is))
+zero_is store_full is = absurd (omega (arith, is))
 
 five_is : (ending : Ending) → status_of ending ≡ 5 → ending ≡ console_failed
 five_is done is = absurd (omega (arith, is))
@@ -118,8 +129,11 @@ five_is (refused file line column) is = absurd (omega (arith, is))
 five_is nothing_there is = absurd (omega (arith, is))
 five_is console_failed is = refl
 five_is (folder_failed path) is = absurd (omega (arith, is))
+five_is store_failed is = absurd (omega (arith, is))
 five_is out_of_memory is = absurd (omega (arith, is))
 five_is out_of_steps is = absurd (omega (arith, is))
+five_is (collision digest kept given) is = absurd (omega (arith, is))
+five_is store_full is = absurd (omega (arith, is))
 
 six_is : (ending : Ending) → status_of ending ≡ 6 → (path : List ℕ) × (ending ≡ folder_failed path)
 six_is done is = absurd (omega (arith, is))
@@ -129,28 +143,49 @@ six_is (refused file line column) is = absurd (omega (arith, is))
 six_is nothing_there is = absurd (omega (arith, is))
 six_is console_failed is = absurd (omega (arith, is))
 six_is (folder_failed path) is = (path, refl)
+six_is store_failed is = absurd (omega (arith, is))
 six_is out_of_memory is = absurd (omega (arith, is))
 six_is out_of_steps is = absurd (omega (arith, is))
+six_is (collision digest kept given) is = absurd (omega (arith, is))
+six_is store_full is = absurd (omega (arith, is))
 
 -- ---- behind the text
 
 -- a fault at the text leaves one of these
-pub fault_leaves : (ending : Ending) → let left : Ending = if outlasts_console ending then ending else console_failed in (left ≡ console_failed) ⊎ ((left ≡ out_of_memory) ⊎ ((path : List ℕ) × (left ≡ folder_failed path) × (ending ≡ folder_failed path)))
+pub fault_leaves : (ending : Ending) → let left : Ending = if outlasts_console ending then ending else console_failed in (left ≡ console_failed) ⊎ ((left ≡ ending) × (outlasts_console ending ≡ true))
 fault_leaves done = inl refl
 fault_leaves (uncaught class line text) = inl refl
 fault_leaves usage = inl refl
 fault_leaves (refused file line column) = inl refl
 fault_leaves nothing_there = inl refl
 fault_leaves console_failed = inl refl
-fault_leaves (folder_failed path) = inr (inr (path, refl, refl))
-fault_leaves out_of_memory = inr (inl refl)
+fault_leaves (folder_failed path) = inr (refl, refl)
+fault_leaves store_failed = inr (refl, refl)
+fault_leaves out_of_memory = inr (refl, refl)
 fault_leaves out_of_steps = inl refl
+fault_leaves (collision digest kept given) = inr (refl, refl)
+fault_leaves store_full = inr (refl, refl)
+
+-- what outlasts a fault at the text and is no fault of the store
+outlasting : (ending : Ending) → outlasts_console ending ≡ true → tells_of_store ending ≡ false → (status_of ending ≡ 6) ⊎ (status_of ending ≡ 8)
+outlasting done lasts store = absurd (false≢true lasts)
+outlasting (uncaught class line text) lasts store = absurd (false≢true lasts)
+outlasting usage lasts store = absurd (false≢true lasts)
+outlasting (refused file line column) lasts store = absurd (false≢true lasts)
+outlasting nothing_there lasts store = absurd (false≢true lasts)
+outlasting console_failed lasts store = absurd (false≢true lasts)
+outlasting (folder_failed path) lasts store = inl refl
+outlasting store_failed lasts store = absurd (false≢true (sym store))
+outlasting out_of_memory lasts store = inr refl
+outlasting out_of_steps lasts store = absurd (false≢true lasts)
+outlasting (collision digest kept given) lasts store = absurd (false≢true (sym store))
+outlasting store_full lasts store = absurd (false≢true (sym store))
 
 text_done : (outcome : Outcome) (ending : Ending) → after_text outcome ending ≡ done → IsOk outcome × (ending ≡ done)
 text_done (Ok all) ending is = (refl, is)
 text_done (Err Failed) ending is = ⊎_elim
     (λ left. absurd (cc))
-    (λ more. ⊎_elim (λ left. absurd (cc)) (λ left. let at : done ≡ folder_failed left.0 = sym is ∙ left.1 in absurd (cc)) more)
+    (λ left. absurd (false≢true (subst (λ (e : Ending). outlasts_console e ≡ true) (sym left.0 ∙ is) left.1)))
     (fault_leaves ending)
 text_done (Err Memory) ending is = absurd (cc)
 
@@ -163,7 +198,7 @@ text_folder : (outcome : Outcome) (ending : Ending) (path : List ℕ) → after_
 text_folder (Ok all) ending path is = is
 text_folder (Err Failed) ending path is = ⊎_elim
     (λ left. absurd (cc))
-    (λ more. ⊎_elim (λ left. absurd (cc)) (λ left. left.2 ∙ sym left.1 ∙ is) more)
+    (λ left. sym left.0 ∙ is)
     (fault_leaves ending)
 text_folder (Err Memory) ending path is = absurd (cc)
 
@@ -230,8 +265,11 @@ no_bytes usage is = absurd (false≢true (sym is))
 no_bytes (refused file line column) is = absurd (false≢true (sym is))
 no_bytes nothing_there is = absurd (false≢true (sym is))
 no_bytes (folder_failed path) is = absurd (false≢true (sym is))
+no_bytes store_failed is = absurd (false≢true (sym is))
 no_bytes out_of_memory is = absurd (false≢true (sym is))
 no_bytes out_of_steps is = absurd (false≢true (sym is))
+no_bytes (collision digest kept given) is = absurd (false≢true (sym is))
+no_bytes store_full is = absurd (false≢true (sym is))
 
 -- the console got all of both
 abbrev GetsBoth : List ℕ → List ℕ → ConsoleView → ConsoleView → Type 0
@@ -275,14 +313,17 @@ line_stays (line_tried (Err Failed)) ending room = refl
 line_stays (line_tried (Err Memory)) ending room = absurd (room refl)
 line_stays (line_unmade outcome) ending room = absurd (room refl)
 
-text_stays : (outcome : Outcome) (ending : Ending) → (status_of (after_text outcome ending) ≡ 5 → ⊥) → (status_of (after_text outcome ending) ≡ 6 → ⊥) → (status_of (after_text outcome ending) ≡ 8 → ⊥)
+text_stays : (outcome : Outcome) (ending : Ending) → tells_of_store ending ≡ false → (status_of (after_text outcome ending) ≡ 5 → ⊥) → (status_of (after_text outcome ending) ≡ 6 → ⊥) → (status_of (after_text outcome ending) ≡ 8 → ⊥)
     → IsOk outcome
-text_stays (Ok all) ending five six eight = refl
-text_stays (Err Failed) ending five six eight = ⊎_elim
+text_stays (Ok all) ending store five six eight = refl
+text_stays (Err Failed) ending store five six eight = ⊎_elim
     (λ left. absurd (five (ap (λ (e : Ending). status_of e) left)))
-    (λ more. ⊎_elim (λ left. absurd (eight (ap (λ (e : Ending). status_of e) left))) (λ left. absurd (six (ap (λ (e : Ending). status_of e) left.1))) more)
+    (λ left. ⊎_elim
+    (λ is. absurd (six (ap (λ (e : Ending). status_of e) left.0 ∙ is)))
+    (λ is. absurd (eight (ap (λ (e : Ending). status_of e) left.0 ∙ is)))
+    (outlasting ending left.1 store))
     (fault_leaves ending)
-text_stays (Err Memory) ending five six eight = absurd (eight refl)
+text_stays (Err Memory) ending store five six eight = absurd (eight refl)
 
 -- the console got all of the text, and then a prefix of the line
 abbrev GetsFront : List ℕ → List ℕ → ConsoleView → ConsoleView → Type 0
@@ -343,7 +384,10 @@ module _ (planned : Ending) (text : List ℕ) (files : List OutFile) (put_before
       (λ good. (sym good.1 ∙ shown.1, went_well good.0 shown.0 line.0))
       (λ more. ⊎_elim
       (λ short. let at : done ≡ out_of_memory = sym shown.1 ∙ short in absurd (cc))
-      (λ failed. let at : done ≡ folder_failed failed.0 = sym shown.1 ∙ failed.1 in absurd (cc))
+      (λ failed. ⊎_elim
+      (λ folder. let at : done ≡ folder_failed failed.0 = sym shown.1 ∙ folder in absurd (cc))
+      (λ store. absurd (false≢true (subst (λ (e : Ending). tells_of_store e ≡ true) (sym store.1 ∙ shown.1) store.0)))
+      failed.1)
       more)
       (ways planned files d.puts d.each)
 
@@ -355,7 +399,10 @@ module _ (planned : Ending) (text : List ℕ) (files : List OutFile) (put_before
       (λ good. absurd (other (sym good.1 ∙ at_puts)))
       (λ more. ⊎_elim
       (λ short. let at : console_failed ≡ out_of_memory = sym at_puts ∙ short in absurd (cc))
-      (λ failed. let at : console_failed ≡ folder_failed failed.0 = sym at_puts ∙ failed.1 in absurd (cc))
+      (λ failed. ⊎_elim
+      (λ folder. let at : console_failed ≡ folder_failed failed.0 = sym at_puts ∙ folder in absurd (cc))
+      (λ store. absurd (other (sym store.1 ∙ at_puts)))
+      failed.1)
       more)
       (ways planned files d.puts d.each))
       (λ rose. subst (λ (n : ℕ). Rose out_before n) (sym d.out_faults) (stays_risen (outcome_of d.closing) out_before (faults_after d.text_outcome out_before) rose))
@@ -390,21 +437,37 @@ module _ (planned : Ending) (text : List ℕ) (files : List OutFile) (put_before
       (text_ok d.text_outcome by_puts out_before (λ rose. still (stays_risen (outcome_of d.closing) out_before (faults_after d.text_outcome out_before) rose)) no_room)
       (line_ok d.closing by_text d.text_outcome out_before still (λ is. room (d.status_is ∙ ap (λ (e : Ending). status_of e) is)))
 
+  -- puts do not make a fault of the store
+  puts_outlast : tells_of_store planned ≡ false → tells_of_store by_puts ≡ false
+  puts_outlast store = ⊎_elim
+      (λ good. ap (λ (e : Ending). tells_of_store e) good.1 ∙ store)
+      (λ more. ⊎_elim
+      (λ short. ap (λ (e : Ending). tells_of_store e) short)
+      (λ failed. ⊎_elim
+      (λ folder. ap (λ (e : Ending). tells_of_store e) folder)
+      (λ kept. absurd (false≢true (sym store ∙ kept.0)))
+      failed.1)
+      more)
+      (ways planned files d.puts d.each)
+
   -- the status is none of those that tell of a fault of a device or of want of memory
-  pub planned_is : (status ≡ 5 → ⊥) → (status ≡ 6 → ⊥) → (status ≡ 8 → ⊥)
+  pub planned_is : tells_of_store planned ≡ false → (status ≡ 5 → ⊥) → (status ≡ 6 → ⊥) → (status ≡ 8 → ⊥)
       → DidAsPlanned planned text files put_before put_after told_before told_after console_before console_after status
-  planned_is five six eight =
+  planned_is store five six eight =
       let room : status_of (after_line d.closing by_text) ≡ 8 → ⊥ = λ is. eight (d.status_is ∙ is) in
       let stays : after_line d.closing by_text ≡ by_text = line_stays d.closing by_text room in
       let by_status : status ≡ status_of by_text = d.status_is ∙ ap (λ (e : Ending). status_of e) stays in
-      let text_good : IsOk d.text_outcome = text_stays d.text_outcome by_puts (λ is. five (by_status ∙ is)) (λ is. six (by_status ∙ is)) (λ is. eight (by_status ∙ is)) in
+      let text_good : IsOk d.text_outcome = text_stays d.text_outcome by_puts (puts_outlast store) (λ is. five (by_status ∙ is)) (λ is. six (by_status ∙ is)) (λ is. eight (by_status ∙ is)) in
       let same : by_text ≡ by_puts = text_well d.text_outcome by_puts text_good in
       let of_puts : status ≡ status_of by_puts = by_status ∙ ap (λ (e : Ending). status_of e) same in
       let good : (all_well d.puts ≡ true) × (by_puts ≡ planned) = ⊎_elim
       (λ all. all)
       (λ more. ⊎_elim
       (λ short. absurd (eight (of_puts ∙ ap (λ (e : Ending). status_of e) short)))
-      (λ failed. absurd (six (of_puts ∙ ap (λ (e : Ending). status_of e) failed.1)))
+      (λ failed. ⊎_elim
+      (λ folder. absurd (six (of_puts ∙ ap (λ (e : Ending). status_of e) folder)))
+      (λ kept. absurd (false≢true (sym store ∙ kept.0)))
+      failed.1)
       more)
       (ways planned files d.puts d.each) in
       record {
@@ -424,5 +487,8 @@ not_console Usage is = cc
 not_console (Refused file line column) is = cc
 not_console NothingThere is = cc
 not_console (FolderFailed path) is = cc
+not_console StoreFailed is = cc
 not_console OutOfSteps is = cc
+not_console (Collision digest kept given) is = cc
+not_console StoreFull is = cc
 not_console OutOfMemory is = cc

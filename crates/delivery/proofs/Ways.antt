@@ -1,5 +1,5 @@
 -- The ways in which a delivery can end, and what is on the console in each of them.
-use Rattle.std.proofs.Common.{◌≡◌, ℕ, List, [], ◌∷◌, ◌++◌, length, take, Option, Ok, Err, IsOk, ◌⊎◌, inl, inr, ⊎_elim, refl, sym, ap, ◌∙◌, subst, arith}
+use Rattle.std.proofs.Common.{◌≡◌, ℕ, List, ◌++◌, length, take, Option, Ok, Err, IsOk, ◌⊎◌, inl, inr, ⊎_elim, refl, sym, ap, ◌∙◌, subst, arith}
 use Rattle.std.proofs.lemmas.List.{take_all}
 use Rattle.std.proofs.lemmas.Bool.{false≢true}
 use Rattle.prov_outside.specs.Console.{ConsoleView}
@@ -29,7 +29,7 @@ text_ways : (outcome : Outcome) (ending : Ending) (n : ℕ)
 text_ways (Ok all) ending n = inl refl
 text_ways (Err Failed) ending n = ⊎_elim
     (λ left. inr (inr (left, rises n)))
-    (λ more. ⊎_elim (λ left. inr (inl left)) (λ left. inl (left.1 ∙ sym left.2)) more)
+    (λ left. inl left.0)
     (fault_leaves ending)
 text_ways (Err Memory) ending n = inr (inl refl)
 
@@ -90,7 +90,10 @@ module _ (planned : Ending) (text : List ℕ) (files : List OutFile) (put_before
       (λ good. as_planned (ends_at planned (stays ∙ same ∙ good.1)))
       (λ more. ⊎_elim
       (λ short. no_memory (ends_at out_of_memory (stays ∙ same ∙ short)))
-      (λ failed. by_folder (ends_at (folder_failed failed.0) (stays ∙ same ∙ failed.1)) (subst (λ (n : ℕ). Rose put_before n) (sym d.put_faults) (failed_rose files d.puts failed.0 failed.2 put_before)))
+      (λ failed. ⊎_elim
+      (λ folder. by_folder (ends_at (folder_failed failed.0) (stays ∙ same ∙ folder)) (subst (λ (n : ℕ). Rose put_before n) (sym d.put_faults) (failed_rose files d.puts failed.0 failed.2 put_before)))
+      (λ store. as_planned (ends_at planned (stays ∙ same ∙ store.1)))
+      failed.1)
       more)
       (ways planned files d.puts d.each))
       (λ more. ⊎_elim

@@ -1,8 +1,9 @@
 -- How a command ends, with its status and its closing line (this project's profile).
-use Rattle.std.specs.Prelude.{ℕ, List, [], ◌∷◌, ◌++◌, codes, Option, Some, None, option_copied}
+use Rattle.std.specs.Prelude.{ℕ, Bool, true, false, List, [], ◌∷◌, ◌++◌, codes, Option, Some, None, option_copied}
 use Rattle.std.specs.Fmt.{decimal}
+use Rattle.hex.specs.Hex.{encode_lower}
 use Rattle.delivery.specs.declared.ending.Ending.{Ending as Planned}
-use Rattle.delivery.specs.declared.ending.Ending.TheVariants.{Done, Uncaught, Usage, Refused, NothingThere, FolderFailed, OutOfSteps, OutOfMemory}
+use Rattle.delivery.specs.declared.ending.Ending.TheVariants.{Done, Uncaught, Usage, Refused, NothingThere, FolderFailed, StoreFailed, OutOfSteps, Collision, StoreFull, OutOfMemory}
 
 -- how a command ends
 pub data Ending : Type 0 where
@@ -13,8 +14,12 @@ pub data Ending : Type 0 where
   nothing_there : Ending
   console_failed : Ending
   folder_failed : (path : List ℕ) → Ending
+  store_failed : Ending
   out_of_memory : Ending
   out_of_steps : Ending
+  -- other bytes stand under a digest: it, their number, and how many were given
+  collision : (digest : List ℕ) → (kept : ℕ) → (given : ℕ) → Ending
+  store_full : Ending
 
 -- the status that the program answers
 abbrev pub status_of : Ending → ℕ
@@ -25,8 +30,18 @@ status_of (refused file line column) = 3
 status_of nothing_there = 4
 status_of console_failed = 5
 status_of (folder_failed path) = 6
+status_of store_failed = 7
 status_of out_of_memory = 8
 status_of out_of_steps = 9
+status_of (collision digest kept given) = 10
+status_of store_full = 13
+
+-- a fault in keeping a trial
+abbrev pub tells_of_store : Ending → Bool
+tells_of_store store_failed = true
+tells_of_store (collision digest kept given) = true
+tells_of_store store_full = true
+tells_of_store ending = false
 
 -- the end of the line of an exception: its text, where it has one, and the LF (10)
 abbrev pub line_end : Option (List ℕ) → List ℕ
@@ -42,8 +57,11 @@ closing_line (refused file line column) = codes "now: refused " ++ file ++ codes
 closing_line nothing_there = codes "now: nothing there" ++ 10 ∷ []
 closing_line console_failed = []
 closing_line (folder_failed path) = codes "now: folder failed at " ++ path ++ 10 ∷ []
+closing_line store_failed = codes "now: store failed" ++ 10 ∷ []
 closing_line out_of_memory = codes "now: out of memory" ++ 10 ∷ []
 closing_line out_of_steps = codes "now: out of steps" ++ 10 ∷ []
+closing_line (collision digest kept given) = codes "now: collision " ++ encode_lower digest ++ codes " " ++ decimal kept ++ codes " " ++ decimal given ++ 10 ∷ []
+closing_line store_full = codes "now: store full" ++ 10 ∷ []
 
 -- the ending that the program's own type names
 abbrev pub ending_of : Planned → Ending
@@ -53,5 +71,8 @@ ending_of Usage = usage
 ending_of (Refused file line column) = refused file.now line column
 ending_of NothingThere = nothing_there
 ending_of (FolderFailed path) = folder_failed path.now
+ending_of StoreFailed = store_failed
 ending_of OutOfSteps = out_of_steps
+ending_of (Collision digest kept given) = collision digest.bytes kept given
+ending_of StoreFull = store_full
 ending_of OutOfMemory = out_of_memory

@@ -5,7 +5,7 @@ use Rattle.prov_outside.specs.Folder.{Files, Puts}
 use Rattle.prov_outside.specs.declared.trouble.Trouble.{Trouble}
 use Rattle.prov_outside.specs.declared.trouble.Trouble.TheVariants.{Failed, Memory}
 use Rattle.capture.specs.declared.ended.FileOut.{FileOut}
-use Rattle.delivery.specs.Ending.{Ending, folder_failed, out_of_memory}
+use Rattle.delivery.specs.Ending.{Ending, folder_failed, out_of_memory, tells_of_store}
 
 -- a path and the bytes for it
 abbrev pub OutFile : Type 0
@@ -45,11 +45,11 @@ lacks_memory (Ok all ∷ outcomes) = lacks_memory outcomes
 lacks_memory (Err Failed ∷ outcomes) = lacks_memory outcomes
 lacks_memory (Err Memory ∷ outcomes) = true
 
--- the ending where this is the path of the first file whose put failed
+-- the ending where this is the path of the first file whose put failed: what befell the store came first
 abbrev pub or_failed : Ending → Option (List ℕ) → Ending
 or_failed planned None = planned
-or_failed planned (Some path) = folder_failed path
+or_failed planned (Some path) = if tells_of_store planned then planned else folder_failed path
 
--- How a command ends by its puts: want of memory stands over a fault, and the first fault over what was planned.
+-- How a command ends by its puts: want of memory stands over a fault, and the first fault over what was planned, where that is no fault itself.
 abbrev pub ending_after_puts : Ending → List OutFile → List Outcome → Ending
 ending_after_puts planned files outcomes = if lacks_memory outcomes then out_of_memory else or_failed planned (first_failed files outcomes)

@@ -2,14 +2,14 @@
 use Rattle.std.specs.Prelude.{◌≡◌, ℕ, List, [], ◌++◌, take, Bool, true, false, if◌then◌else◌, Ok, Err}
 use Rattle.prov_outside.specs.Console.{ConsoleView}
 use Rattle.prov_outside.specs.declared.trouble.Trouble.TheVariants.{Failed, Memory}
-use Rattle.delivery.specs.Ending.{Ending, done, uncaught, refused, console_failed, folder_failed, out_of_memory, closing_line}
+use Rattle.delivery.specs.Ending.{Ending, done, uncaught, refused, console_failed, folder_failed, out_of_memory, collision, closing_line, tells_of_store}
 use Rattle.delivery.specs.PutsAll.{Outcome}
 
--- a fault at the text does not change the ending: one of the folder, or want of memory
+-- a fault at the text does not change the ending: one of the store or of the folder, or want of memory
 abbrev pub outlasts_console : Ending → Bool
 outlasts_console (folder_failed path) = true
 outlasts_console out_of_memory = true
-outlasts_console ending = false
+outlasts_console ending = tells_of_store ending
 
 -- how a command ends behind its text
 abbrev pub after_text : Outcome → Ending → Ending
@@ -35,6 +35,7 @@ abbrev pub is_made : Ending → Bool
 is_made (uncaught class line text) = true
 is_made (refused file line column) = true
 is_made (folder_failed path) = true
+is_made (collision digest kept given) = true
 is_made ending = false
 
 -- this can become of the closing line of the ending

@@ -1,4 +1,8 @@
 // How a command ends, before anything is put or written.
+ghost use Rattle.std.specs.Prelude.{◌≡◌};
+ghost use Rattle.delivery.specs.Ending.{ending_of, tells_of_store};
+
+use prov_base::Digest;
 
 /// How a command ends.
 #[derive(Clone, Copy)]
@@ -29,8 +33,40 @@ pub enum Ending<'t> {
     NothingThere,
     /// The folder failed at the path.
     FolderFailed(&'t str),
+    /// The store of trials failed, and the run is not kept.
+    StoreFailed,
     /// The steps of the run did not suffice.
     OutOfSteps,
+    /// Other bytes stand in the store under the digest of a content, and the run is not kept.
+    Collision {
+        /// The digest.
+        digest: Digest,
+        /// How many bytes stand there.
+        kept: u64,
+        /// How many bytes were given.
+        given: u64,
+    },
+    /// The store has as many trials as it takes, and the run is not kept.
+    StoreFull,
     /// Memory ran out.
     OutOfMemory,
+}
+
+/// Whether the ending tells of a fault in keeping a trial.
+pub(crate) fn of_store(ending: Ending<'_>) -> bool
+    ensures { result ≡ tells_of_store (ending_of ending.entry) }
+{
+    match ending {
+        Ending::StoreFailed => true,
+        Ending::Collision { .. } => true,
+        Ending::StoreFull => true,
+        Ending::Done => false,
+        Ending::Uncaught { .. } => false,
+        Ending::Usage => false,
+        Ending::Refused { .. } => false,
+        Ending::NothingThere => false,
+        Ending::FolderFailed(_) => false,
+        Ending::OutOfSteps => false,
+        Ending::OutOfMemory => false,
+    }
 }

@@ -6,7 +6,7 @@ ghost use Rattle.delivery.specs.Shown.{has_line, is_made};
 ghost use Rattle.delivery.specs.Stages.{TriesLine, ClosesWith, status_with};
 
 use crate::Ending;
-use crate::lines::{folder_failed_line, refused_line, uncaught_line};
+use crate::lines::{collision_line, folder_failed_line, refused_line, uncaught_line};
 use prov_outside::{Console, Trouble};
 use std::alloc::{AllocError, Global};
 
@@ -33,8 +33,20 @@ pub(crate) fn close<C: Console>(alloc: Global, console: &mut C, ending: Ending<'
         Ending::FolderFailed(path) => {
             close_made(alloc, console, folder_failed_line(alloc, path), 6)
         }
+        Ending::StoreFailed => write_line(alloc, console, b"now: store failed\n", 7),
         Ending::OutOfMemory => write_line(alloc, console, OUT_OF_MEMORY, 8),
         Ending::OutOfSteps => write_line(alloc, console, b"now: out of steps\n", 9),
+        Ending::Collision {
+            digest,
+            kept,
+            given,
+        } => close_made(
+            alloc,
+            console,
+            collision_line(alloc, digest, kept, given),
+            10,
+        ),
+        Ending::StoreFull => write_line(alloc, console, b"now: store full\n", 13),
     }
 }
 

@@ -1,8 +1,8 @@
 // Laws of what a delivery leaves.
-ghost use Rattle.std.specs.Prelude.{◌≡◌, ℕ, List, Option, true, IsOk};
+ghost use Rattle.std.specs.Prelude.{◌≡◌, ℕ, List, Option, true, false, IsOk};
 ghost use Rattle.prov_outside.specs.Folder.{Files};
 ghost use Rattle.prov_outside.specs.Console.{ConsoleView};
-ghost use Rattle.delivery.specs.Ending.{Ending, done};
+ghost use Rattle.delivery.specs.Ending.{Ending, done, tells_of_store};
 ghost use Rattle.delivery.specs.PutsAll.{OutFile, Outcome, PutsAll};
 ghost use Rattle.delivery.specs.Stands.{Stand, WentWell, DidAsPlanned, all_well, IsWell};
 ghost use Rattle.delivery.specs.Delivered.{Delivered};
@@ -51,12 +51,12 @@ pub fn no_count_rose()
         → WentWell planned text files put_before put_after told_before told_after out_before out_after console_before console_after status }
 {}
 
-/// The law of a delivery whose status tells of no fault of a device and of no want of memory: all stands but perhaps the end of the closing line.
+/// The law of a delivery whose status tells of no fault and of no want of memory: all stands but perhaps the end of the closing line.
 pub fn no_fault_answered()
     ensures { (planned : Ending) (text : List ℕ) (files : List OutFile) (put_before put_after : ℕ) (told_before told_after : Option Files)
         (out_before out_after : ℕ) (console_before console_after : Option ConsoleView) (status : ℕ)
         → Delivered planned text files put_before put_after told_before told_after out_before out_after console_before console_after status
-        → (status ≡ 5 → ⊥) → (status ≡ 6 → ⊥) → (status ≡ 8 → ⊥)
+        → tells_of_store planned ≡ false → (status ≡ 5 → ⊥) → (status ≡ 6 → ⊥) → (status ≡ 8 → ⊥)
         → DidAsPlanned planned text files put_before put_after told_before told_after console_before console_after status }
 {}
 

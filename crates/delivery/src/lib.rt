@@ -3,12 +3,13 @@
 //!
 //! - Its clause `delivered` (`specs/Delivered.antt`) names what each call of a device answered. All else is a function of that and of the
 //!   plan: what stands in the folder and on the console, the counts of faults, the ending, and so the closing line and the status.
-//! - Want of memory at a put or at the text stands over all else. A put that failed stands over the plan, by the path of the first. A fault
-//!   at the text makes status 5, but a fault of the folder and want of memory stay, also where they were planned. A fault at the
-//!   closing line changes nothing.
+//! - Want of memory at a put or at the text stands over all else. A fault of the store of trials that was planned stands over what comes
+//!   behind it, for it came first. A put that failed stands over any other plan, by the path of the first. A fault at the text makes status 5,
+//!   but a fault of the store or of the folder and want of memory stay, also where they were planned. A fault at the closing line changes
+//!   nothing.
 //! - Where memory runs out for the text of a closing line, that of status 8 is tried in its place. Where it runs out at the write of a
 //!   closing line, no further line is tried.
-//! - With a status other than 5, 6 and 8 all stands but perhaps the closing line (`as_planned`). With status 0, or where no count rose
+//! - With a status other than 5, 6 and 8, where no fault of the store was planned, all stands but perhaps the closing line (`as_planned`). With status 0, or where no count rose
 //!   and the status is not 8, all stands (`all_done`, `went_well`). The laws [`puts_stand`] and [`nothing_failed`] say what the outcomes
 //!   come to, [`ends_in_one_way`] which statuses there are, and [`prefixes_are_written`] what is on the console in any case. [`done_is_whole`], [`no_count_rose`] and
 //!   [`no_fault_answered`] say the clauses of `deliver` as laws.

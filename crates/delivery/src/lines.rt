@@ -1,8 +1,10 @@
 // The closing lines.
-ghost use Rattle.std.specs.Prelude.{◌≡◌, IfOk, Some, None, option_copied};
+ghost use Rattle.std.specs.Prelude.{◌≡◌, ℕ, List, IfOk, Some, None, option_copied};
+ghost use Rattle.hex.specs.Hex.{encode_lower};
 ghost use Rattle.std.specs.String.{string_bytes};
-ghost use Rattle.delivery.specs.Ending.{uncaught, refused, folder_failed, closing_line};
+ghost use Rattle.delivery.specs.Ending.{uncaught, refused, folder_failed, collision, closing_line};
 
+use prov_base::Digest;
 use std::alloc::{AllocError, Global};
 
 /// The closing line where an exception of the class was not caught.
@@ -51,4 +53,24 @@ pub(crate) fn folder_failed_line(alloc: Global, path: &str) -> Result<String, Al
     ensures { IfOk result (λ made. string_bytes made ≡ closing_line (folder_failed path.now)) }
 {
     format!(in alloc; "now: folder failed at {path}\n")
+}
+
+/// The closing line where other bytes stand under the digest that these digits spell.
+fn collision_text(alloc: Global, digits: &str, kept: u64, given: u64) -> Result<String, AllocError>
+    ensures { IfOk result (λ made. (digest : List ℕ) → digits.now ≡ encode_lower digest → string_bytes made ≡ closing_line (collision digest kept given)) }
+{
+    format!(in alloc; "now: collision {digits} {kept} {given}\n")
+}
+
+/// The closing line where other bytes stand under the digest.
+pub(crate) fn collision_line(
+    alloc: Global,
+    digest: Digest,
+    kept: u64,
+    given: u64,
+) -> Result<String, AllocError>
+    ensures { IfOk result (λ made. string_bytes made ≡ closing_line (collision digest.bytes kept given)) }
+{
+    let digits = hex::encode(alloc, digest.bytes)?;
+    collision_text(alloc, digits.as_str(), kept, given)
 }

@@ -5,6 +5,7 @@ ghost use Rattle.delivery.specs.PutsAll.{file_out, or_failed};
 ghost use Rattle.delivery.specs.Stages.{PutsFiles, first_with, short_with};
 
 use crate::Ending;
+use crate::ending::of_store;
 use capture::FileOut;
 use prov_outside::{Folder, Trouble};
 use std::alloc::Global;
@@ -67,7 +68,7 @@ fn ending_by<'t>(planned: Ending<'t>, first: Option<&'t str>, short: bool) -> En
         return Ending::OutOfMemory;
     }
     match first {
-        Some(path) => Ending::FolderFailed(path),
-        None => planned,
+        Some(path) if !of_store(planned) => Ending::FolderFailed(path),
+        _ => planned,
     }
 }

@@ -1,9 +1,9 @@
 // What a command leaves: its files, its text and its closing line, and the status.
-ghost use Rattle.std.specs.Prelude.{◌≡◌, ◌≤◌, ◌⊎◌, ℕ, List, [], if◌then◌else◌, map, IsOk};
+ghost use Rattle.std.specs.Prelude.{◌≡◌, ◌≤◌, ◌⊎◌, ℕ, false, List, [], if◌then◌else◌, map, IsOk};
 ghost use Rattle.prov_outside.specs.Console.{Writes};
 ghost use Rattle.prov_outside.specs.Count.{Rose, faults_after};
 ghost use Rattle.prov_outside.specs.Tells.{Tells};
-ghost use Rattle.delivery.specs.Ending.{ending_of, done, console_failed, folder_failed};
+ghost use Rattle.delivery.specs.Ending.{ending_of, done, console_failed, folder_failed, tells_of_store};
 ghost use Rattle.delivery.specs.PutsAll.{file_out};
 ghost use Rattle.delivery.specs.Shown.{outlasts_console, after_text};
 ghost use Rattle.delivery.specs.Stages.{ClosesWith};
@@ -19,7 +19,7 @@ use std::alloc::Global;
 
 /// Puts the files in their order, each whatever became of those before it, writes the text and then the closing line, and
 /// answers the status: 0 done, 1 not caught, 2 usage, 3 refused, 4 nothing there, 5 the console failed at the text, 6 the folder
-/// failed, 8 memory ran out, 9 out of steps.
+/// failed, 7 the store failed, 8 memory ran out, 9 out of steps, 10 a collision, 13 the store is full.
 pub fn deliver<C: Console, F: Folder>(
     alloc: Global,
     console: &mut C,
@@ -42,8 +42,9 @@ pub fn deliver<C: Console, F: Folder>(
         (F.put_faults folder.old) (F.put_faults folder.new) (F.told folder.old) (F.told folder.new)
         (C.out_faults console.old) (C.out_faults console.new) (C.told console.old) (C.told console.new) result }
 
-    // With a status other than 5, 6 and 8 the folder has all files, the console the whole text, and the status is the planned one.
-    ensures as_planned { (result ≡ 5 → ⊥) → (result ≡ 6 → ⊥) → (result ≡ 8 → ⊥) → DidAsPlanned (ending_of planned.entry) text.now (map file_out files.now)
+    // With a status other than 5, 6 and 8, and where no fault of the store was planned, the folder has all files, the console the whole text, and the status
+    // is the planned one.
+    ensures as_planned { tells_of_store (ending_of planned.entry) ≡ false → (result ≡ 5 → ⊥) → (result ≡ 6 → ⊥) → (result ≡ 8 → ⊥) → DidAsPlanned (ending_of planned.entry) text.now (map file_out files.now)
         (F.put_faults folder.old) (F.put_faults folder.new) (F.told folder.old) (F.told folder.new) (C.told console.old) (C.told console.new) result }
 
     // Status 5 and 6 have their causes.
@@ -115,6 +116,9 @@ fn outlasts(ending: Ending<'_>) -> bool
 {
     match ending {
         Ending::FolderFailed(_) => true,
+        Ending::StoreFailed => true,
+        Ending::Collision { .. } => true,
+        Ending::StoreFull => true,
         Ending::OutOfMemory => true,
         Ending::Done => false,
         Ending::Uncaught { .. } => false,

@@ -1,5 +1,5 @@
 use Rattle.std.proofs.Common.{refl, option_copied}
-use Rattle.delivery.specs.Ending.{done, uncaught, usage, refused, nothing_there, folder_failed, out_of_memory, out_of_steps}
+use Rattle.delivery.specs.Ending.{done, uncaught, usage, refused, nothing_there, folder_failed, store_failed, out_of_memory, out_of_steps, collision, store_full}
 use Rattle.delivery.proofs.Finishing.{closed, not_closed}
 use Rattle.delivery.proofs.last_line.close.Goals as goal
 
@@ -29,3 +29,13 @@ returns-in-OutOfMemory-clause-closes g c = rw c.in-OutOfMemory.is (closed out_of
 
 pub returns-in-OutOfSteps-clause-closes : goal.returns-in-OutOfSteps-clause-closes
 returns-in-OutOfSteps-clause-closes g c = rw c.in-OutOfSteps.is (closed out_of_steps 9 _ _ _ _ _ refl refl c.write_line-in-OutOfSteps.ensures.tries)
+
+pub returns-in-StoreFailed-clause-closes : goal.returns-in-StoreFailed-clause-closes
+returns-in-StoreFailed-clause-closes g c = rw c.in-StoreFailed.is (closed store_failed 7 _ _ _ _ _ refl refl c.write_line-in-StoreFailed.ensures.tries)
+
+pub returns-in-Collision-clause-closes : goal.returns-in-Collision-clause-closes
+returns-in-Collision-clause-closes g c = rw c.in-Collision.is
+    (c.close_made-in-Collision.ensures.closes (collision c.in-Collision.digest.bytes c.in-Collision.kept c.in-Collision.given) c.collision_line.ensures refl refl refl)
+
+pub returns-in-StoreFull-clause-closes : goal.returns-in-StoreFull-clause-closes
+returns-in-StoreFull-clause-closes g c = rw c.in-StoreFull.is (closed store_full 13 _ _ _ _ _ refl refl c.write_line-in-StoreFull.ensures.tries)
