@@ -1,6 +1,6 @@
 -- Worked rows of the definitions, each found by computation.
 use Rattle.std.proofs.Common.{◌≡◌, ℕ, List, [], ◌∷◌, codes, Option, Some, None, refl}
-use Rattle.command_words.specs.Command.{Command, cut, run_bare, command_of}
+use Rattle.command_words.specs.Command.{Command, cut, run_bare, run_kept, command_of}
 
 abbrev file : List ℕ
 file = codes "s.py"
@@ -54,7 +54,7 @@ bare = refl
 bare_behind : run (file ∷ codes "a" ∷ codes "--bare" ∷ codes "b" ∷ []) ≡ Some (run_bare 1000000 file (codes "a" ∷ codes "b" ∷ []))
 bare_behind = refl
 
-not_bare : run (file ∷ []) ≡ None
+not_bare : run (file ∷ []) ≡ Some (run_kept 1000000 file [])
 not_bare = refl
 
 bare_twice : run (codes "--bare" ∷ codes "--bare" ∷ file ∷ []) ≡ None
@@ -118,5 +118,5 @@ all_behind_dashes : run (codes "--bare" ∷ file ∷ codes "--" ∷ codes "-x" �
     ≡ Some (run_bare 1000000 file (codes "-x" ∷ codes "--" ∷ codes "--steps" ∷ []))
 all_behind_dashes = refl
 
-bare_behind_dashes : run (codes "--" ∷ codes "--bare" ∷ file ∷ []) ≡ None
+bare_behind_dashes : run (codes "--" ∷ codes "--bare" ∷ file ∷ []) ≡ Some (run_kept 1000000 (codes "--bare") (file ∷ []))
 bare_behind_dashes = refl

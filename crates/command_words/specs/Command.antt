@@ -9,6 +9,8 @@ pub data Command : Type 0 where
   cut : (file : List ℕ) → (line : ℕ) → Command
   -- a run of a file within so many steps that keeps nothing
   run_bare : (steps : ℕ) → (file : List ℕ) → (arguments : List (List ℕ)) → Command
+  -- the same that is kept as a trial
+  run_kept : (steps : ℕ) → (file : List ℕ) → (arguments : List (List ℕ)) → Command
 
 -- what the words behind `run` have said so far
 pub record Reading : Type 0 where
@@ -64,11 +66,13 @@ abbrev pub with_words : Reading → List (List ℕ) → Option Reading
 with_words reading [] = Some reading
 with_words reading (word ∷ words) = option_and_then (λ next. with_words next words) (with_word reading word)
 
+-- a run, which `--bare` does not keep
+abbrev pub run_by : Bool → ℕ → List ℕ → List (List ℕ) → Command
+run_by bare steps file arguments = if bare then run_bare steps file arguments else run_kept steps file arguments
+
 -- the command of all words behind `run`
 abbrev pub run_of : Reading → Option Command
-run_of reading =
-    if reading.bare && not reading.waits then option_map (λ file. run_bare (unwrap_or reading.steps 1000000) file reading.arguments) reading.file
-    else None
+run_of reading = if reading.waits then None else option_map (λ file. run_by reading.bare (unwrap_or reading.steps 1000000) file reading.arguments) reading.file
 
 -- no leading zero
 abbrev pub begins_with_zero : List ℕ → Bool

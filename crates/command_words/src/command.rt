@@ -16,4 +16,10 @@ pub enum Command<'w> {
         steps: u32,
         arguments: Vec<Name>,
     },
+    /// `run [--steps N] FILE [ARG]..`: the same, and the run is kept as a trial.
+    RunKept {
+        file: &'w str,
+        steps: u32,
+        arguments: Vec<Name>,
+    },
 }

@@ -1,7 +1,7 @@
 //! The words behind the program's name, and the command that they are. Nothing here opens a file or looks at what is in one.
 //!
 //! - `cut FILE LINE`: these three words. LINE is decimal digits without a leading zero, from 1 to 4294967295.
-//! - `run --bare [--steps N] FILE [ARG]..`: the first `--` behind `run` is dropped, and every word behind it is a positional.
+//! - `run [--bare] [--steps N] FILE [ARG]..`: a run that is kept as a trial, with `--bare` one that is not. The first `--` behind `run` is dropped, and every word behind it is a positional.
 //!   - Before it the options may stand anywhere behind `run`, each at most once. `--steps` has the next word before the `--` as
 //!     its value; `--steps=N` is one word. N is decimal digits, leading zeros allowed, from 1 to 1000000, and 1000000 where
 //!     it is not said.

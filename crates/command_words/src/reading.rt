@@ -126,14 +126,23 @@ impl<'w> Reading<'w> {
     pub(crate) fn command(self) -> Option<Command<'w>>
         ensures { option_map command_of_code result ≡ run_of (reading_of self.entry) }
     {
-        if !self.bare || self.waits {
+        if self.waits {
             return None;
         }
         let file = self.file?;
-        Some(Command::RunBare {
+        let steps = self.steps.unwrap_or(1000000);
+        let arguments = self.arguments;
+        if self.bare {
+            return Some(Command::RunBare {
+                file,
+                steps,
+                arguments,
+            });
+        }
+        Some(Command::RunKept {
             file,
-            steps: self.steps.unwrap_or(1000000),
-            arguments: self.arguments,
+            steps,
+            arguments,
         })
     }
 }
