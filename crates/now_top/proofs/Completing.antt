@@ -1,12 +1,13 @@
 -- How a call of the program ends, by what its words mean.
-use Rattle.std.proofs.Common.{◌≡◌, refl, sym, ap, subst, ◌∙◌, ℕ, ◌<◌, List, [], ◌++◌, take, ◌⊎◌, inl, inr, ⊎_elim, Option, Some, None, arith}
+use Rattle.std.proofs.Common.{◌≡◌, refl, sym, ap, subst, ◌∙◌, ℕ, ℤ, ◌<◌, ◌≤◌, List, [], ◌++◌, length, take, true, false, ◌⊎◌, inl, inr, ⊎_elim, Option, Some, None, Result, Ok, Err, arith}
 use Rattle.std.proofs.lemmas.List.{append-nil}
-use Rattle.std.proofs.lemmas.Bool.{cases_lt}
+use Rattle.std.proofs.lemmas.Bool.{false≢true, cases_lt}
+use Rattle.std.proofs.lemmas.Option.{same_Some}
 use Rattle.std.specs.Option.{option_map}
 use Rattle.answer_source.specs.Live.{Faults, IsCaptureOf}
-use Rattle.command_words.specs.Command.{Command, cut, run_bare, command_of}
+use Rattle.command_words.specs.Command.{Command, cut, run_bare, run_kept, command_of}
 use Rattle.delivery.specs.Delivered.{Delivered}
-use Rattle.delivery.specs.Ending.{Ending, done, uncaught, usage, refused, nothing_there, console_failed, folder_failed, out_of_memory, out_of_steps, status_of, closing_line}
+use Rattle.delivery.specs.Ending.{Ending, done, uncaught, usage, refused, nothing_there, console_failed, folder_failed, store_failed, out_of_memory, out_of_steps, collision, store_full, status_of, closing_line, tells_of_store}
 use Rattle.delivery.specs.Ends.{Ends, as_planned, by_console as by_planned_console, by_folder as by_planned_folder, no_memory as lacked_memory, GetsPrefixes}
 use Rattle.delivery.specs.PutsAll.{OutFile}
 use Rattle.delivery.specs.Stands.{HasAll, WentWell, DidAsPlanned}
@@ -14,11 +15,20 @@ use Rattle.prov_outside.specs.Console.{ConsoleView}
 use Rattle.prov_outside.specs.Count.{Rose, one_more}
 use Rattle.prov_outside.specs.Folder.{Files}
 use Rattle.prov_outside.specs.Tells.{Tells}
+use Rattle.py_model.specs.Capture.{Telling}
 use Rattle.straight_line.specs.Slice.{IsSliceOf, BindsTheSame}
-use Rattle.now_top.specs.Completes.{Completes, as_meant, by_console, by_folder, no_memory, DoesWhole, DoesAsMeant, WritesPrefixes, WritesSlice}
+use Rattle.keeper.specs.Keeping.{KeeperView}
+use Rattle.trial_keeping.specs.Keeping.{KeepsTrial, HasRoom, full_store}
+use Rattle.trial_keeping.specs.Trial.{Run, with_trial_of}
+use Rattle.trial_keeping.specs.declared.fault.TrialFault.{TrialFault}
+use Rattle.trial_keeping.specs.declared.fault.TrialFault.TheVariants.{NoTrial, Damaged, Keeper, Collision, Full, Memory}
+use Rattle.trial_parts.specs.Written.{put, clash}
+use Rattle.now_top.specs.Completes.{Completes, as_meant, by_console, by_folder, by_store, by_collision, by_full, no_memory, DoesWhole, DoesAsMeant, WritesPrefixes, WritesSlice, KeepsOne}
+use Rattle.now_top.specs.Kept.{keeps, ends_a_run, Clock, Asks, HasNoRun, KeepsRun, Stored, IsUntouched, KeepsIn, Keeps, no_run, a_run}
+use Rattle.now_top.specs.Unkept.{with_keeping}
 use Rattle.now_top.specs.CutCommand as cutting
 use Rattle.now_top.specs.Means.{MeansCommand, file_of}
-use Rattle.now_top.specs.Replies.{Comes, meant, unread, no_memory as lacks_memory, Prepares, Replies}
+use Rattle.now_top.specs.Replies.{Comes, meant, unread, no_memory as lacks_memory, Prepares, Plans, Replies}
 use Rattle.now_top.specs.Seen.{Seen, OnlyReads, Delivers, told_by}
 use Rattle.now_top.specs.World.{World, Plan, closing, StandsAt}
 
@@ -45,6 +55,9 @@ written_of one None tells = tt
 written_of None (Some new) tells = absurd tells
 written_of (Some old) (Some new) tells = tells
 
+none_of : (n : ℕ) → (n ≡ 0 → ⊥) → (n ≡ 1 → ⊥) → (n ≡ 9 → ⊥) → (n ≡ 0) ⊎ ((n ≡ 1) ⊎ (n ≡ 9)) → ⊥
+none_of n zero one nine is = ⊎_elim (λ e. zero e) (λ more. ⊎_elim (λ e. one e) (λ e. nine e) more) is
+
 risen : (n : ℕ) → Rose n (one_more n)
 risen n = ⊎_elim (λ below. inl (omega (arith, below))) (λ past. inr (omega (arith, past))) (cases_lt n 18446744073709551615)
 
@@ -60,25 +73,79 @@ only_text x y z text ending is same all =
 
 -- ---- a plan and why it came about
 
-module _ (words : List (List ℕ)) (before after : Seen) (status : ℕ) (so : Replies words before after status) where
+-- the clock changes no other count, no file and nothing written
+asks_put : (clock : Option (Option ℤ)) (a b : Telling) → Asks clock a b → b.put_faults ≡ a.put_faults
+asks_put None a b same = ap (λ t. t.put_faults) same
+asks_put (Some time) a b asks = ap (λ t. t.put_faults) asks.rest
+
+asks_write : (clock : Option (Option ℤ)) (a b : Telling) → Asks clock a b → b.write_faults ≡ a.write_faults
+asks_write None a b same = ap (λ t. t.write_faults) same
+asks_write (Some time) a b asks = ap (λ t. t.write_faults) asks.rest
+
+asks_source : (clock : Option (Option ℤ)) (a b : Telling) → Asks clock a b → b.source_faults ≡ a.source_faults
+asks_source None a b same = ap (λ t. t.source_faults) same
+asks_source (Some time) a b asks = ap (λ t. t.source_faults) asks.rest
+
+asks_files : (clock : Option (Option ℤ)) (a b : Telling) → Asks clock a b → b.files ≡ a.files
+asks_files None a b same = ap (λ t. t.files) same
+asks_files (Some time) a b asks = ap (λ t. t.files) asks.rest
+
+asks_written : (clock : Option (Option ℤ)) (a b : Telling) → Asks clock a b → b.written ≡ a.written
+asks_written None a b same = ap (λ t. t.written) same
+asks_written (Some time) a b asks = ap (λ t. t.written) asks.rest
+
+-- an ending that tells of no fault of the store, by its status
+no_store : (ending : Ending) → (status_of ending ≡ 7 → ⊥) → (status_of ending ≡ 10 → ⊥) → (status_of ending ≡ 13 → ⊥) → tells_of_store ending ≡ false
+no_store done seven ten full = refl
+no_store (uncaught class line text) seven ten full = refl
+no_store usage seven ten full = refl
+no_store (refused file line column) seven ten full = refl
+no_store nothing_there seven ten full = refl
+no_store console_failed seven ten full = refl
+no_store (folder_failed path) seven ten full = refl
+no_store store_failed seven ten full = absurd (seven refl)
+no_store out_of_memory seven ten full = refl
+no_store out_of_steps seven ten full = refl
+no_store (collision digest kept given) seven ten full = absurd (ten refl)
+no_store store_full seven ten full = absurd (full refl)
+
+-- what ends with the status of a run is a run
+run_at : (ending : Ending) → (status_of ending ≡ 0) ⊎ ((status_of ending ≡ 1) ⊎ (status_of ending ≡ 9)) → ends_a_run ending ≡ true
+run_at done is = refl
+run_at (uncaught class line text) is = refl
+run_at out_of_steps is = refl
+run_at usage is = absurd (none_of 2 (λ e. omega (arith, e)) (λ e. omega (arith, e)) (λ e. omega (arith, e)) is)
+run_at (refused file line column) is = absurd (none_of 3 (λ e. omega (arith, e)) (λ e. omega (arith, e)) (λ e. omega (arith, e)) is)
+run_at nothing_there is = absurd (none_of 4 (λ e. omega (arith, e)) (λ e. omega (arith, e)) (λ e. omega (arith, e)) is)
+run_at console_failed is = absurd (none_of 5 (λ e. omega (arith, e)) (λ e. omega (arith, e)) (λ e. omega (arith, e)) is)
+run_at (folder_failed path) is = absurd (none_of 6 (λ e. omega (arith, e)) (λ e. omega (arith, e)) (λ e. omega (arith, e)) is)
+run_at store_failed is = absurd (none_of 7 (λ e. omega (arith, e)) (λ e. omega (arith, e)) (λ e. omega (arith, e)) is)
+run_at out_of_memory is = absurd (none_of 8 (λ e. omega (arith, e)) (λ e. omega (arith, e)) (λ e. omega (arith, e)) is)
+run_at (collision digest kept given) is = absurd (none_of 10 (λ e. omega (arith, e)) (λ e. omega (arith, e)) (λ e. omega (arith, e)) is)
+run_at store_full is = absurd (none_of 13 (λ e. omega (arith, e)) (λ e. omega (arith, e)) (λ e. omega (arith, e)) is)
+
+module _ (words : List (List ℕ)) (before after : Seen) (was is : Stored) (status : ℕ) (so : Replies words before after was is status) where
   abbrev command : Option Command
   command = command_of words
 
   abbrev world : World
-  world = so.prepares.world
+  world = so.plans.prepares.world
 
   abbrev read : Seen
-  read = so.prepares.read
+  read = so.plans.prepares.read
+
+  abbrev prepares : Prepares command before so.ran so.plans.made
+  prepares = so.plans.prepares
 
   -- the counts, from the first moment to the last
   put_same : so.ran.faults.put ≡ before.faults.put
-  put_same = ap (λ t. t.put_faults) (sym so.prepares.ends) ∙ so.prepares.gave.untouched.put_faults ∙ so.prepares.reads.put
+  put_same = asks_put prepares.clock.1 prepares.world.capture.ends (told_by so.ran) prepares.ends ∙ prepares.gave.untouched.put_faults ∙ asks_put prepares.clock.0 (told_by prepares.read) prepares.began prepares.starts ∙ prepares.reads.put
 
   write_same : so.ran.faults.write ≡ before.faults.write
-  write_same = ap (λ t. t.write_faults) (sym so.prepares.ends) ∙ so.prepares.gave.untouched.write_faults ∙ so.prepares.reads.write
+  write_same = asks_write prepares.clock.1 prepares.world.capture.ends (told_by so.ran) prepares.ends ∙ prepares.gave.untouched.write_faults ∙ asks_write prepares.clock.0 (told_by prepares.read) prepares.began prepares.starts ∙ prepares.reads.write
 
   source_same : after.faults.source ≡ read.faults.source
-  source_same = so.delivers.source ∙ ap (λ t. t.source_faults) (sym so.prepares.ends) ∙ so.prepares.gave.untouched.source_faults
+  source_same = so.delivers.source ∙ asks_source prepares.clock.1 prepares.world.capture.ends (told_by so.ran) prepares.ends ∙ prepares.gave.untouched.source_faults ∙ asks_source prepares.clock.0 (told_by prepares.read) prepares.began prepares.starts
 
   pub put_rose : Rose so.ran.faults.put after.faults.put → Rose before.faults.put after.faults.put
   put_rose rose = rose_from before.faults.put so.ran.faults.put after.faults.put after.faults.put put_same refl rose
@@ -92,18 +159,20 @@ module _ (words : List (List ℕ)) (before after : Seen) (status : ℕ) (so : Re
   -- what the folder and the console tell, from the first moment to the last
   folder_same : Tells before.folder so.ran.folder (λ (was is : Files). is ≡ was)
   folder_same = tells_through before.folder read.folder so.ran.folder (λ (was is : Files). is ≡ was) (λ (was is : Files). is ≡ was) (λ (was is : Files). is ≡ was) (λ x y z a b. b ∙ a)
-      so.prepares.reads.folder
-      (subst (λ (told : Option Files). Tells read.folder told (λ (was is : Files). is ≡ was)) (ap (λ t. t.files) so.prepares.ends) so.prepares.gave.folder)
+      prepares.reads.folder
+      (subst (λ (told : Option Files). Tells told so.ran.folder (λ (was is : Files). is ≡ was)) (asks_files prepares.clock.0 (told_by prepares.read) prepares.began prepares.starts)
+      (subst (λ (told : Option Files). Tells prepares.began.files told (λ (was is : Files). is ≡ was)) (sym (asks_files prepares.clock.1 prepares.world.capture.ends (told_by so.ran) prepares.ends)) prepares.gave.folder))
 
   written_same : Tells before.console so.ran.console (λ (was is : ConsoleView). is.written ≡ was.written)
-  written_same = subst (λ (c : Option ConsoleView). Tells c so.ran.console (λ (was is : ConsoleView). is.written ≡ was.written)) so.prepares.reads.console
+  written_same = subst (λ (c : Option ConsoleView). Tells c so.ran.console (λ (was is : ConsoleView). is.written ≡ was.written)) prepares.reads.console
       (written_of read.console so.ran.console
-      (subst (λ (told : Option (List ℕ)). Tells (told_by read).written told (λ (was is : List ℕ). is ≡ was)) (ap (λ t. t.written) so.prepares.ends) so.prepares.gave.untouched.written))
+      (subst (λ (told : Option (List ℕ)). Tells told (told_by so.ran).written (λ (was is : List ℕ). is ≡ was)) (asks_written prepares.clock.0 (told_by prepares.read) prepares.began prepares.starts)
+      (subst (λ (told : Option (List ℕ)). Tells prepares.began.written told (λ (was is : List ℕ). is ≡ was)) (sym (asks_written prepares.clock.1 prepares.world.capture.ends (told_by so.ran) prepares.ends)) prepares.gave.untouched.written)))
 
   -- ---- the ways to end
 
   -- by the way in which the plan was delivered
-  by_way : (ending : Ending) → Ends ending so.ran.faults.put after.faults.put so.ran.faults.write after.faults.write status → Completes ending before.faults after.faults status
+  by_way : (ending : Ending) → Ends ending so.ran.faults.put after.faults.put so.ran.faults.write after.faults.write status → Completes ending before.faults after.faults was is status
   by_way ending (as_planned is) = as_meant is
   by_way ending (by_planned_console is rose) = by_console is (write_rose rose)
   by_way ending (by_planned_folder is rose) = by_folder is (inr (put_rose rose))
@@ -111,14 +180,14 @@ module _ (words : List (List ℕ)) (before after : Seen) (status : ℕ) (so : Re
 
   -- where FILE could not be read, whatever the words mean
   by_unread : (file : List ℕ) (ending : Ending) → Rose before.faults.source after.faults.source
-      → Ends (folder_failed file) so.ran.faults.put after.faults.put so.ran.faults.write after.faults.write status → Completes ending before.faults after.faults status
+      → Ends (folder_failed file) so.ran.faults.put after.faults.put so.ran.faults.write after.faults.write status → Completes ending before.faults after.faults was is status
   by_unread file ending rose (as_planned is) = by_folder is (inl rose)
   by_unread file ending rose (by_planned_console is also) = by_console is (write_rose also)
   by_unread file ending rose (by_planned_folder is also) = by_folder is (inl rose)
   by_unread file ending rose (lacked_memory is) = no_memory is
 
   -- where memory ran out before anything was delivered
-  by_lack : (ending : Ending) → Ends out_of_memory so.ran.faults.put after.faults.put so.ran.faults.write after.faults.write status → Completes ending before.faults after.faults status
+  by_lack : (ending : Ending) → Ends out_of_memory so.ran.faults.put after.faults.put so.ran.faults.write after.faults.write status → Completes ending before.faults after.faults was is status
   by_lack ending (as_planned is) = no_memory is
   by_lack ending (by_planned_console is also) = by_console is (write_rose also)
   by_lack ending (by_planned_folder is also) = by_folder is (inr (put_rose also))
@@ -126,16 +195,60 @@ module _ (words : List (List ℕ)) (before after : Seen) (status : ℕ) (so : Re
 
   module _ (one_plan : (one other : Plan) → MeansCommand command world one → MeansCommand command world other → one ≡ other) where
     completes_by : (made plan : Plan) → Comes command before read world made → MeansCommand command world plan
-        → Ends made.ending so.ran.faults.put after.faults.put so.ran.faults.write after.faults.write status → Completes plan.ending before.faults after.faults status
+        → Ends made.ending so.ran.faults.put after.faults.put so.ran.faults.write after.faults.write status → Completes plan.ending before.faults after.faults was is status
     completes_by made plan (meant one same is) means ends = by_way plan.ending (subst (λ (p : Plan). Ends p.ending so.ran.faults.put after.faults.put so.ran.faults.write after.faults.write status) (one_plan made plan is means) ends)
     completes_by made plan (unread one word path rose un) means ends = by_unread (file_of one) plan.ending (source_rose rose) ends
     completes_by made plan (lacks_memory same) means ends = by_lack plan.ending ends
 
+    -- by what came of the keeping
+    unkept_by : (run : Run) (fault : TrialFault) (made plan : Plan) → KeepsIn run (Err fault) was is → Ends (with_keeping (Err fault) made).ending so.ran.faults.put after.faults.put so.ran.faults.write after.faults.write status
+        → Completes plan.ending before.faults after.faults was is status
+    unkept_by run Memory made plan kept ends = by_lack plan.ending ends
+    unkept_by run Keeper made plan kept (as_planned at) = by_store at (kept.cause.rose refl)
+    unkept_by run Keeper made plan kept (by_planned_console at rose) = by_console at (write_rose rose)
+    unkept_by run Keeper made plan kept (by_planned_folder at rose) = by_folder at (inr (put_rose rose))
+    unkept_by run Keeper made plan kept (lacked_memory at) = no_memory at
+    unkept_by run (Collision digest there given) made plan kept (as_planned at) = by_collision at run digest there given
+        (tells_as was.told is.told (KeepsTrial run (Err (Collision digest there given))) (λ (old new : KeeperView). with_trial_of run old.committed ≡ clash digest there given) (λ old new keeps. keeps.0.1) kept.keeps)
+    unkept_by run (Collision digest there given) made plan kept (by_planned_console at rose) = by_console at (write_rose rose)
+    unkept_by run (Collision digest there given) made plan kept (by_planned_folder at rose) = by_folder at (inr (put_rose rose))
+    unkept_by run (Collision digest there given) made plan kept (lacked_memory at) = no_memory at
+    unkept_by run Full made plan kept (as_planned at) = by_full at
+        (tells_as was.told is.told (KeepsTrial run (Err Full)) (λ (old new : KeeperView). full_store ≤ length old.committed.heads) (λ old new keeps. keeps.0) kept.keeps)
+    unkept_by run Full made plan kept (by_planned_console at rose) = by_console at (write_rose rose)
+    unkept_by run Full made plan kept (by_planned_folder at rose) = by_folder at (inr (put_rose rose))
+    unkept_by run Full made plan kept (lacked_memory at) = no_memory at
+    unkept_by run (NoTrial number) made plan kept ends = absurd kept.of_keeping
+    unkept_by run (Damaged number damage) made plan kept ends = absurd kept.of_keeping
+
+    completes_kept : (made delivered plan : Plan) (began : Telling) (clock : Clock) → Keeps command world began clock made was is delivered → Comes command before read world made → MeansCommand command world plan
+        → Ends delivered.ending so.ran.faults.put after.faults.put so.ran.faults.write after.faults.write status → Completes plan.ending before.faults after.faults was is status
+    completes_kept made delivered plan began clock (no_run none still) comes means ends = completes_by made plan comes means ends
+    completes_kept made delivered plan began clock (a_run steps file arguments word run of (Ok number) kept) comes means ends = completes_by made plan comes means ends
+    completes_kept made delivered plan began clock (a_run steps file arguments word run of (Err fault) kept) comes means ends = unkept_by run fault made plan kept ends
+
     pub completes_so : (plan : Plan) → MeansCommand command world plan
-        → Ends so.plan.ending so.ran.faults.put after.faults.put so.ran.faults.write after.faults.write status → Completes plan.ending before.faults after.faults status
-    completes_so plan means ends = completes_by so.plan plan so.prepares.comes means ends
+        → Ends so.plan.ending so.ran.faults.put after.faults.put so.ran.faults.write after.faults.write status → Completes plan.ending before.faults after.faults was is status
+    completes_so plan means ends = completes_kept so.plans.made so.plan plan prepares.began prepares.clock so.plans.keeps prepares.comes means ends
 
   -- ---- what stands
+
+  -- the plan is as it was made, but for a fault of the store, which shows by the status
+  as_made : (made delivered : Plan) (began : Telling) (clock : Clock) → Keeps command world began clock made was is delivered
+      → ((Rose was.faults is.faults → ⊥) ⊎ (status_of delivered.ending ≡ 7 → ⊥)) → (status_of delivered.ending ≡ 8 → ⊥) → (status_of delivered.ending ≡ 10 → ⊥) → (status_of delivered.ending ≡ 13 → ⊥)
+      → made ≡ delivered
+  as_made made delivered began clock (no_run none still) quiet room other full = refl
+  as_made made delivered began clock (a_run steps file arguments word run of (Ok number) kept) quiet room other full = refl
+  as_made made delivered began clock (a_run steps file arguments word run of (Err Memory) kept) quiet room other full = absurd (room refl)
+  as_made made delivered began clock (a_run steps file arguments word run of (Err Keeper) kept) (inl quiet) room other full = absurd (quiet (kept.cause.rose refl))
+  as_made made delivered began clock (a_run steps file arguments word run of (Err Keeper) kept) (inr seven) room other full = absurd (seven refl)
+  as_made made delivered began clock (a_run steps file arguments word run of (Err (Collision digest there given)) kept) quiet room other full = absurd (other refl)
+  as_made made delivered began clock (a_run steps file arguments word run of (Err Full) kept) quiet room other full = absurd (full refl)
+  as_made made delivered began clock (a_run steps file arguments word run of (Err (NoTrial number)) kept) quiet room other full = absurd kept.of_keeping
+  as_made made delivered began clock (a_run steps file arguments word run of (Err (Damaged number damage)) kept) quiet room other full = absurd kept.of_keeping
+
+  made_is : ((Rose was.faults is.faults → ⊥) ⊎ (status_of so.plan.ending ≡ 7 → ⊥)) → (status_of so.plan.ending ≡ 8 → ⊥) → (status_of so.plan.ending ≡ 10 → ⊥) → (status_of so.plan.ending ≡ 13 → ⊥) → so.plans.made ≡ so.plan
+  made_is = as_made so.plans.made so.plan prepares.began prepares.clock so.plans.keeps
 
   -- a plan that came about otherwise shows by the status or by a count
   meant_by : (made : Plan) → Comes command before read world made → (Rose before.faults.source after.faults.source → ⊥) → (status_of made.ending ≡ 8 → ⊥) → MeansCommand command world made
@@ -143,11 +256,13 @@ module _ (words : List (List ℕ)) (before after : Seen) (status : ℕ) (so : Re
   meant_by made (unread one word path rose un) quiet room = absurd (quiet (source_rose rose))
   meant_by made (lacks_memory same) quiet room = absurd (room refl)
 
-  pub whole_so : (Rose before.faults.source after.faults.source → ⊥) → (status ≡ 8 → ⊥)
+  pub whole_so : (Rose before.faults.source after.faults.source → ⊥) → (Rose was.faults is.faults → ⊥) → (status ≡ 8 → ⊥) → (status ≡ 10 → ⊥) → (status ≡ 13 → ⊥)
       → WentWell so.plan.ending so.plan.text so.plan.files so.ran.faults.put after.faults.put so.ran.folder after.folder so.ran.faults.write after.faults.write so.ran.console after.console status
       → DoesWhole command world so.plan before after status
-  whole_so quiet room well = record {
-    means = meant_by so.plan so.prepares.comes quiet (λ is. room (well.status_is ∙ is));
+  whole_so quiet still room other full well = record {
+    means =
+        let same : so.plans.made ≡ so.plan = made_is (inl still) (λ at. room (well.status_is ∙ at)) (λ at. other (well.status_is ∙ at)) (λ at. full (well.status_is ∙ at)) in
+        subst (λ (p : Plan). MeansCommand command world p) same (meant_by so.plans.made prepares.comes quiet (λ at. room (well.status_is ∙ ap (λ (p : Plan). status_of p.ending) (sym same) ∙ at)));
     folder = tells_through before.folder so.ran.folder after.folder (λ (was is : Files). is ≡ was) (HasAll so.plan.files) (HasAll so.plan.files) (λ x y z same all. has_all_from so.plan.files x y z same all) folder_same well.folder;
     console = tells_through before.console so.ran.console after.console (λ (was is : ConsoleView). is.written ≡ was.written)
         (λ (was is : ConsoleView). (is.lines ≡ was.lines) × (is.written ≡ was.written ++ so.plan.text ++ closing_line so.plan.ending))
@@ -162,11 +277,24 @@ module _ (words : List (List ℕ)) (before after : Seen) (status : ℕ) (so : Re
   meant_at made (unread one word path rose un) six room = absurd (six refl)
   meant_at made (lacks_memory same) six room = absurd (room refl)
 
-  pub as_meant_so : (status ≡ 6 → ⊥) → (status ≡ 8 → ⊥)
+  -- a status that tells of no fault and of no want of memory is the planned one
+  pub planned_status : Ends so.plan.ending so.ran.faults.put after.faults.put so.ran.faults.write after.faults.write status → (status ≡ 5 → ⊥) → (status ≡ 6 → ⊥) → (status ≡ 8 → ⊥) → status ≡ status_of so.plan.ending
+  planned_status (as_planned at) five six eight = at
+  planned_status (by_planned_console at rose) five six eight = absurd (five at)
+  planned_status (by_planned_folder at rose) five six eight = absurd (six at)
+  planned_status (lacked_memory at) five six eight = absurd (eight at)
+
+  pub no_store_planned : status ≡ status_of so.plan.ending → (status ≡ 7 → ⊥) → (status ≡ 10 → ⊥) → (status ≡ 13 → ⊥) → tells_of_store so.plan.ending ≡ false
+  no_store_planned at seven ten full = no_store so.plan.ending (λ e. seven (at ∙ e)) (λ e. ten (at ∙ e)) (λ e. full (at ∙ e))
+
+  pub as_meant_so : (status ≡ 6 → ⊥) → (status ≡ 7 → ⊥) → (status ≡ 8 → ⊥) → (status ≡ 10 → ⊥) → (status ≡ 13 → ⊥)
       → DidAsPlanned so.plan.ending so.plan.text so.plan.files so.ran.faults.put after.faults.put so.ran.folder after.folder so.ran.console after.console status
       → DoesAsMeant command world so.plan before after status
-  as_meant_so six room did = record {
-    means = meant_at so.plan so.prepares.comes (λ is. six (did.status_is ∙ is)) (λ is. room (did.status_is ∙ is));
+  as_meant_so six seven room other full did = record {
+    means =
+        let same : so.plans.made ≡ so.plan = made_is (inr (λ at. seven (did.status_is ∙ at))) (λ at. room (did.status_is ∙ at)) (λ at. other (did.status_is ∙ at)) (λ at. full (did.status_is ∙ at)) in
+        let of : status_of so.plan.ending ≡ status_of so.plans.made.ending = ap (λ (p : Plan). status_of p.ending) (sym same) in
+        subst (λ (p : Plan). MeansCommand command world p) same (meant_at so.plans.made prepares.comes (λ at. six (did.status_is ∙ of ∙ at)) (λ at. room (did.status_is ∙ of ∙ at)));
     folder = tells_through before.folder so.ran.folder after.folder (λ (was is : Files). is ≡ was) (HasAll so.plan.files) (HasAll so.plan.files) (λ x y z same all. has_all_from so.plan.files x y z same all) folder_same did.folder;
     console = tells_through before.console so.ran.console after.console (λ (was is : ConsoleView). is.written ≡ was.written)
         (λ (was is : ConsoleView). (is.lines ≡ was.lines) × ((n : ℕ) × (is.written ≡ was.written ++ so.plan.text ++ take n (closing_line so.plan.ending))))
@@ -222,3 +350,58 @@ module _ (words : List (List ℕ)) (before after : Seen) (status : ℕ) (so : Re
             (λ (was now : ConsoleView). now.written ≡ was.written ++ so.plan.text)
             (λ x y z same all. only_text x.written y.written z.written so.plan.text so.plan.ending is same all.1) written_same got;
       }
+
+  -- ---- the store
+
+  -- the parts of a run that is kept, by its command
+  abbrev steps_in : Command → ℕ
+  steps_in (cut file line) = 0
+  steps_in (run_bare steps file arguments) = steps
+  steps_in (run_kept steps file arguments) = steps
+
+  abbrev arguments_in : Command → List (List ℕ)
+  arguments_in (cut file line) = []
+  arguments_in (run_bare steps file arguments) = arguments
+  arguments_in (run_kept steps file arguments) = arguments
+
+  -- a command that keeps its run kept it, where the status is that of a run
+  keeps_by : (made delivered : Plan) (began : Telling) (clock : Clock) (steps : ℕ) (file : List ℕ) (arguments : List (List ℕ)) → command ≡ Some (run_kept steps file arguments) → Keeps command world began clock made was is delivered
+      → (status_of delivered.ending ≡ 0) ⊎ ((status_of delivered.ending ≡ 1) ⊎ (status_of delivered.ending ≡ 9)) → KeepsOne file steps arguments world began clock made was is
+  keeps_by made delivered began clock steps file arguments word (no_run (inl none) still) at = absurd (false≢true (sym none ∙ ap (λ (c : Option Command). keeps c) word))
+  keeps_by made delivered began clock steps file arguments word (no_run (inr none) still) at = absurd (false≢true (sym none ∙ run_at made.ending at))
+  keeps_by made delivered began clock steps file arguments word (a_run steps' file' arguments' word' run of (Ok number) kept) at =
+      let same : run_kept steps' file' arguments' ≡ run_kept steps file arguments = same_Some _ _ (sym word' ∙ word) in
+      record {
+        run = run;
+        of = subst (λ (c : Command). KeepsRun (file_of c) (steps_in c) (arguments_in c) world began clock made run) same of;
+        tables = tells_as was.told is.told (KeepsTrial run (Ok number)) (λ (old new : KeeperView). HasRoom old.committed × (with_trial_of run old.committed ≡ put new.committed)) (λ old new all. (all.0.0, all.1.0)) kept.keeps;
+      }
+  keeps_by made delivered began clock steps file arguments word (a_run steps' file' arguments' word' run of (Err Memory) kept) at = absurd (none_of 8 (λ e. omega (arith, e)) (λ e. omega (arith, e)) (λ e. omega (arith, e)) at)
+  keeps_by made delivered began clock steps file arguments word (a_run steps' file' arguments' word' run of (Err Keeper) kept) at = absurd (none_of 7 (λ e. omega (arith, e)) (λ e. omega (arith, e)) (λ e. omega (arith, e)) at)
+  keeps_by made delivered began clock steps file arguments word (a_run steps' file' arguments' word' run of (Err (Collision digest there given)) kept) at = absurd (none_of 10 (λ e. omega (arith, e)) (λ e. omega (arith, e)) (λ e. omega (arith, e)) at)
+  keeps_by made delivered began clock steps file arguments word (a_run steps' file' arguments' word' run of (Err Full) kept) at = absurd (none_of 13 (λ e. omega (arith, e)) (λ e. omega (arith, e)) (λ e. omega (arith, e)) at)
+  keeps_by made delivered began clock steps file arguments word (a_run steps' file' arguments' word' run of (Err (NoTrial number)) kept) at = absurd kept.of_keeping
+  keeps_by made delivered began clock steps file arguments word (a_run steps' file' arguments' word' run of (Err (Damaged number damage)) kept) at = absurd kept.of_keeping
+
+  pub keeps_so : (steps : ℕ) (file : List ℕ) (arguments : List (List ℕ)) → command ≡ Some (run_kept steps file arguments) → (status_of so.plan.ending ≡ 0) ⊎ ((status_of so.plan.ending ≡ 1) ⊎ (status_of so.plan.ending ≡ 9))
+      → KeepsOne file steps arguments world prepares.began prepares.clock so.plans.made was is
+  keeps_so steps file arguments word at = keeps_by so.plans.made so.plan prepares.began prepares.clock steps file arguments word so.plans.keeps at
+
+  untouched_by : (made delivered : Plan) (began : Telling) (clock : Clock) → keeps command ≡ false → Keeps command world began clock made was is delivered → IsUntouched was is
+  untouched_by made delivered began clock none (no_run other still) = still
+  untouched_by made delivered began clock none (a_run steps file arguments word run of number kept) = absurd (false≢true (sym none ∙ ap (λ (c : Option Command). keeps c) word))
+
+  pub untouched_so : keeps command ≡ false → IsUntouched was is
+  untouched_so none = untouched_by so.plans.made so.plan prepares.began prepares.clock none so.plans.keeps
+
+  -- a status of a run is the planned one
+  pub run_status : Ends so.plan.ending so.ran.faults.put after.faults.put so.ran.faults.write after.faults.write status → (status ≡ 0) ⊎ ((status ≡ 1) ⊎ (status ≡ 9))
+      → (status_of so.plan.ending ≡ 0) ⊎ ((status_of so.plan.ending ≡ 1) ⊎ (status_of so.plan.ending ≡ 9))
+  run_status ends at =
+      let apart : (n : ℕ) → (n ≡ 0 → ⊥) → (n ≡ 1 → ⊥) → (n ≡ 9 → ⊥) → status ≡ n → ⊥ = λ n zero one nine is.
+      none_of n zero one nine (subst (λ (s : ℕ). (s ≡ 0) ⊎ ((s ≡ 1) ⊎ (s ≡ 9))) is at) in
+      let same : status ≡ status_of so.plan.ending = planned_status ends
+      (apart 5 (λ e. omega (arith, e)) (λ e. omega (arith, e)) (λ e. omega (arith, e)))
+      (apart 6 (λ e. omega (arith, e)) (λ e. omega (arith, e)) (λ e. omega (arith, e)))
+      (apart 8 (λ e. omega (arith, e)) (λ e. omega (arith, e)) (λ e. omega (arith, e))) in
+      subst (λ (s : ℕ). (s ≡ 0) ⊎ ((s ≡ 1) ⊎ (s ≡ 9))) same at

@@ -1,5 +1,5 @@
 -- A run over devices is what its command means.
-use Rattle.std.proofs.Common.{◌≡◌, refl, sym, ap, subst, ◌∙◌, ℕ, List, [], ◌∷◌, map, ◌⊎◌, inl, inr, Option, Some, None, is_some, Result, Ok, Err}
+use Rattle.std.proofs.Common.{false, ◌↔◌, ◌≡◌, refl, sym, ap, subst, ◌∙◌, ℕ, List, [], ◌∷◌, map, ◌⊎◌, inl, inr, Option, Some, None, is_some, Result, Ok, Err}
 use Rattle.std.specs.Option.{option_map}
 use Rattle.answer_source.proofs.Fitting.{own_fits}
 use Rattle.answer_source.proofs.Replaying.{found_exactly}
@@ -11,7 +11,7 @@ use Rattle.capture.specs.declared.answer.Asked.{Asked}
 use Rattle.capture.specs.declared.ended.Ended.{Ended as EndedRun}
 use Rattle.capture.specs.declared.ended.RunEnd.{RunEnd as EndTold}
 use Rattle.capture.specs.declared.ended.RunEnd.TheVariants.{Finished, Raised, Spent}
-use Rattle.delivery.specs.Ending.{Ending, uncaught, refused, out_of_memory, done, usage, nothing_there, console_failed, folder_failed, out_of_steps}
+use Rattle.delivery.specs.Ending.{Ending, uncaught, refused, out_of_memory, done, usage, nothing_there, console_failed, folder_failed, out_of_steps, store_failed, collision, store_full}
 use Rattle.prov_base.specs.declared.refusal.Memory.{Memory}
 use Rattle.prov_outside.specs.declared.folder.Found.{Found as FoundThere}
 use Rattle.op_held.specs.Uncaught.{class_raised, text_raised}
@@ -29,6 +29,15 @@ use Rattle.now_top.specs.RunCommand.{ending_in, asking_of, IsRunOf, RunsText, no
 use Rattle.now_top.specs.Planned.{ending_told, plan_of_run}
 use Rattle.now_top.specs.Running.{RunsOver}
 use Rattle.now_top.specs.Seen.{Seen, told_by}
+use Rattle.now_top.specs.Kept.{ends_a_run, not_asked, begun, over as over_clock, Stored, IsUntouched, KeepsIn, no_run, a_run}
+use Rattle.now_top.specs.KeepingRun.{KeepsOver, KeepsText}
+use Rattle.keeper.specs.Tables.{TablesView}
+use Rattle.prov_outside.specs.Tells.{Tells}
+use Rattle.trial_keeping.specs.Keeping.{StopLeaves}
+use Rattle.now_top.specs.Unkept.{with_keeping}
+use Rattle.recorded_runs.specs.KeptRun.{TimesRun, run_in}
+use Rattle.recorded_runs.specs.RecordedRun.{with_capture}
+use Rattle.recorded_runs.specs.declared.keeping.KeptRun.{KeptRun}
 
 abbrev object_in : RunEnd → ℕ
 object_in (uncaught_at o line) = o
@@ -130,6 +139,9 @@ not_run_so file text steps arguments read usage so = absurd so
 not_run_so file text steps arguments read nothing_there so = absurd so
 not_run_so file text steps arguments read console_failed so = absurd so
 not_run_so file text steps arguments read out_of_steps so = absurd so
+not_run_so file text steps arguments read store_failed so = absurd so
+not_run_so file text steps arguments read (collision digest kept given) so = absurd so
+not_run_so file text steps arguments read store_full so = absurd so
 not_run_so file text steps arguments read (folder_failed path) so = absurd so
 not_run_so file text steps arguments read (uncaught class line words) so = absurd so
 
@@ -140,3 +152,92 @@ not_run file text steps arguments read ending so = record {
   ends = refl;
   comes = not_run_so file text steps arguments read ending so;
 }
+
+-- ---- the same where the run is to be kept
+
+no_run_refused : (file text : List ℕ) (ending : Ending) → IsRefusedAs file text ending → ends_a_run ending ≡ false
+no_run_refused file text (refused name line column) so = refl
+no_run_refused file text out_of_memory so = refl
+no_run_refused file text done so = absurd so
+no_run_refused file text usage so = absurd so
+no_run_refused file text nothing_there so = absurd so
+no_run_refused file text console_failed so = absurd so
+no_run_refused file text out_of_steps so = absurd so
+no_run_refused file text store_failed so = absurd so
+no_run_refused file text (collision digest kept given) so = absurd so
+no_run_refused file text store_full so = absurd so
+no_run_refused file text (folder_failed path) so = absurd so
+no_run_refused file text (uncaught class line words) so = absurd so
+
+pub not_kept : (file text : List ℕ) (steps : ℕ) (arguments : List (List ℕ)) (read : Seen) (store : Stored) (may : TablesView → Type 0) (ending : Ending) → IsRefusedAs file text ending
+    → KeepsText file text steps arguments read read store store may may (closing ending)
+not_kept file text steps arguments read store may ending so = λ files stands. record {
+  made = closing ending;
+  capture = capture_of nothing_kept (told_by read);
+  began = told_by read;
+  clock = (None, None);
+  asked = not_asked (inr (no_run_refused file text ending so));
+  starts = refl;
+  gave = own_fits nothing_kept (told_by read) tt;
+  ends = refl;
+  comes = not_run_so file text steps arguments read ending so;
+  keeps = no_run (inr (no_run_refused file text ending so)) (record { told = refl; faults = refl });
+  stops = λ tables. (λ one. one, λ one. one);
+}
+
+kept_ran : (file text : List ℕ) (steps : ℕ) (arguments : List (List ℕ)) (read after : Seen) (was is : Stored) (may may' : TablesView → Type 0) (script : ScriptTree) → HasScript text script → (it : KeptRun)
+    → TimesRun script file arguments steps (told_by read) (told_by after) (Ok it) → KeepsIn (run_in text file arguments steps it) it.number was is
+    → Tells was.told is.told (StopLeaves (run_in text file arguments steps it) it.number may may')
+    → KeepsText file text steps arguments read after was is may may' (with_keeping it.number (plan_of_run it.recorded.ended))
+kept_ran file text steps arguments read after was is may may' script has it so kept stops = λ files stands. record {
+  made = plan_of_run it.recorded.ended;
+  capture = capture_of so.records.0 so.ran;
+  began = so.began;
+  clock = (Some it.times.0, Some it.times.1);
+  asked = over_clock it.times.0 it.times.1 refl;
+  starts = so.starts;
+  gave = so.records.1.runs.0;
+  ends = so.ends;
+  comes = inl (runs script has (plan_of_run it.recorded.ended) (is_run script file arguments steps (with_capture it.recorded.ended so.records.0) so.ran so.records.1.runs.1));
+  keeps = a_run steps file arguments refl (run_in text file arguments steps it) (record {
+    text = text;
+    stands = stands;
+    script = script;
+    has = has;
+    asked = so.records.0;
+    it = it.recorded;
+    records = so.records.1;
+    capture = refl;
+    made_is = refl;
+    times = it.times;
+    clock_is = refl;
+    run_is = refl;
+  }) it.number kept;
+  stops = stops;
+}
+
+-- memory ran out in it
+pub kept_short : (file text : List ℕ) (steps : ℕ) (arguments : List (List ℕ)) (read after : Seen) (was is : Stored) (may may' : TablesView → Type 0) (script : ScriptTree) (want : Memory)
+    → TimesRun script file arguments steps (told_by read) (told_by after) (Err want) → IsUntouched was is → ((tables : TablesView) → may' tables ↔ may tables)
+    → KeepsText file text steps arguments read after was is may may' (closing out_of_memory)
+kept_short file text steps arguments read after was is may may' script want so still stops = λ files stands. record {
+  made = closing out_of_memory;
+  capture = capture_of so.records.0 (told_by after);
+  began = so.began;
+  clock = (Some so.started, None);
+  asked = begun so.started refl refl;
+  starts = so.starts;
+  gave = so.records.1;
+  ends = refl;
+  comes = inr refl;
+  keeps = no_run (inr refl) still;
+  stops = stops;
+}
+
+-- the same of the plan that was made of it
+pub kept_as : (file text : List ℕ) (steps : ℕ) (arguments : List (List ℕ)) (read after : Seen) (was is : Stored) (may may' : TablesView → Type 0) (script : ScriptTree) → HasScript text script → (it : KeptRun)
+    → TimesRun script file arguments steps (told_by read) (told_by after) (Ok it) → KeepsIn (run_in text file arguments steps it) it.number was is
+    → Tells was.told is.told (StopLeaves (run_in text file arguments steps it) it.number may may') → (plan : Plan) → plan ≡ with_keeping it.number (plan_of_run it.recorded.ended)
+    → KeepsText file text steps arguments read after was is may may' plan
+kept_as file text steps arguments read after was is may may' script has it so kept stops plan same =
+    subst (λ (p : Plan). KeepsText file text steps arguments read after was is may may' p) (sym same) (kept_ran file text steps arguments read after was is may may' script has it so kept stops)

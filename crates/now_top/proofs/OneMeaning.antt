@@ -1,7 +1,7 @@
 -- A command has at most one meaning over a world.
 use Rattle.std.proofs.Common.{◌≡◌, refl, sym, ap, subst, ◌∙◌, ℕ, ◌<◌, ◌≤◌, Bool, true, false, List, [], length, ◌⊎◌, inl, inr, Option, Some, None, IsTrue, arith}
 use Rattle.std.proofs.lemmas.Option.{same_Some}
-use Rattle.command_words.specs.Command.{Command, cut, run_bare}
+use Rattle.command_words.specs.Command.{Command, cut, run_bare, run_kept}
 use Rattle.delivery.specs.Ending.{Ending, done, refused, nothing_there}
 use Rattle.delivery.specs.PutsAll.{OutFile}
 use Rattle.prov_base.specs.Path.{is_path}
@@ -96,3 +96,4 @@ pub one_of : ((file : List ℕ) (line : ℕ) (files : Files) (one other : Plan) 
 one_of cuts runs None world one other a b = a.1 ∙ sym b.1
 one_of cuts runs (Some (cut file line)) world one other a b = cuts file line world.files one other a.1 b.1
 one_of cuts runs (Some (run_bare steps file arguments)) world one other a b = runs file steps arguments world one other a b
+one_of cuts runs (Some (run_kept steps file arguments)) world one other a b = runs file steps arguments world one other a b

@@ -1,9 +1,9 @@
 -- How a plan comes about: where nothing is read, where FILE has no text, and where it has one.
-use Rattle.std.proofs.Common.{◌≡◌, refl, sym, ap, subst, ◌∙◌, ℕ, ◌<◌, ◌≤◌, List, [], length, ◌⊎◌, inl, inr, Option, Some, None, Result, Ok, Err, IsTrue, arith}
+use Rattle.std.proofs.Common.{false, ◌↔◌, ◌≡◌, refl, sym, ap, subst, ◌∙◌, ℕ, ◌<◌, ◌≤◌, List, [], length, ◌⊎◌, inl, inr, Option, Some, None, Result, Ok, Err, IsTrue, arith}
 use Rattle.answer_source.proofs.Fitting.{own_fits}
 use Rattle.answer_source.specs.Live.{capture_of}
-use Rattle.command_words.specs.Command.{Command, cut, run_bare}
-use Rattle.delivery.specs.Ending.{Ending, done, uncaught, usage, refused, nothing_there, console_failed, folder_failed, out_of_memory, out_of_steps}
+use Rattle.command_words.specs.Command.{Command, cut, run_bare, run_kept}
+use Rattle.delivery.specs.Ending.{Ending, done, uncaught, usage, refused, nothing_there, console_failed, folder_failed, store_failed, out_of_memory, out_of_steps, collision, store_full}
 use Rattle.prov_base.specs.declared.place.Pos.{Pos}
 use Rattle.prov_outside.specs.Folder.{Files, largest_file}
 use Rattle.prov_outside.specs.Tells.{Tells}
@@ -17,7 +17,11 @@ use Rattle.now_top.specs.Means.{MeansCommand, file_of}
 use Rattle.now_top.specs.Reading.{Agrees, IsReadAs, ReadsFile, IsRefusedAs}
 use Rattle.now_top.specs.Running.{RunsOver}
 use Rattle.now_top.specs.Seen.{Seen, told_by, OnlyReads}
-use Rattle.now_top.specs.Replies.{Comes, meant, unread, no_memory, Prepares}
+use Rattle.now_top.specs.Replies.{Comes, meant, unread, no_memory, Prepares, Plans, PlansWith}
+use Rattle.now_top.specs.Kept.{keeps, ends_a_run, HasNoRun, not_asked, Stored, IsUntouched, no_run}
+use Rattle.now_top.specs.KeepingRun.{KeepsOver, KeepsText}
+use Rattle.keeper.specs.Tables.{TablesView}
+use Rattle.keeper.specs.Keeping.{KeeperView}
 
 -- the files that a folder tells, or none
 abbrev files_of : Option Files → Files
@@ -42,12 +46,16 @@ still files seen = record { files = files; capture = capture_of nothing_kept (to
 unasked : (seen : Seen) → IsUnasked (capture_of nothing_kept (told_by seen))
 unasked seen = record { answers = refl; files = refl }
 
-unrun : (command : Option Command) (before read : Seen) (plan : Plan) (files : Files) → OnlyReads before read → Agrees read.folder files → Comes command before read (still files read) plan → Prepares command before read plan
-unrun command before read plan files reads agrees comes = record {
+unrun : (command : Option Command) (before read : Seen) (plan : Plan) (files : Files) → HasNoRun command plan → OnlyReads before read → Agrees read.folder files → Comes command before read (still files read) plan → Prepares command before read plan
+unrun command before read plan files still_none reads agrees comes = record {
   world = still files read;
   read = read;
+  began = told_by read;
+  clock = (None, None);
   reads = reads;
   agrees = agrees;
+  asked = not_asked still_none;
+  starts = refl;
   gave = own_fits nothing_kept (told_by read) tt;
   ends = refl;
   comes = comes;
@@ -55,11 +63,11 @@ unrun command before read plan files reads agrees comes = record {
 
 -- the words are no command
 pub no_command : (before : Seen) → Prepares None before before (closing usage)
-no_command before = unrun None before before (closing usage) (files_of before.folder) (untouched before) (agrees_of before.folder) (meant (closing usage) refl (unasked before, refl))
+no_command before = unrun None before before (closing usage) (files_of before.folder) (inl refl) (untouched before) (agrees_of before.folder) (meant (closing usage) refl (unasked before, refl))
 
 -- memory runs out before anything is read
 pub lacks_memory : (command : Option Command) (before : Seen) → Prepares command before before (closing out_of_memory)
-lacks_memory command before = unrun command before before (closing out_of_memory) (files_of before.folder) (untouched before) (agrees_of before.folder) (no_memory refl)
+lacks_memory command before = unrun command before before (closing out_of_memory) (files_of before.folder) (inr refl) (untouched before) (agrees_of before.folder) (no_memory refl)
 
 -- by the command that the words are
 pub for_words : (command found : Option Command) (before ran : Seen) (plan : Plan) → found ≡ command → Prepares found before ran plan → Prepares command before ran plan
@@ -79,10 +87,28 @@ module _ (one : Command) (before read : Seen) (reads : OnlyReads before read)
   ends_so files usage b = absurd b
   ends_so files console_failed b = absurd b
   ends_so files out_of_steps b = absurd b
+  ends_so files store_failed b = absurd b
+  ends_so files (collision digest kept given) b = absurd b
+  ends_so files store_full b = absurd b
   ends_so files (uncaught class line text) b = absurd b
 
+  -- no run ends so
+  pub no_run_in : (files : Files) (ending : Ending) → IsReadAs (file_of one) files before.faults.source read.faults.source (Err ending) → ends_a_run ending ≡ false
+  no_run_in files nothing_there b = refl
+  no_run_in files (refused name line column) b = refl
+  no_run_in files (folder_failed path) b = refl
+  no_run_in files out_of_memory b = refl
+  no_run_in files done b = absurd b
+  no_run_in files usage b = absurd b
+  no_run_in files console_failed b = absurd b
+  no_run_in files out_of_steps b = absurd b
+  no_run_in files store_failed b = absurd b
+  no_run_in files (collision digest kept given) b = absurd b
+  no_run_in files store_full b = absurd b
+  no_run_in files (uncaught class line text) b = absurd b
+
   pub without_text : (ending : Ending) → ReadsFile (file_of one) read.folder before.faults.source read.faults.source (Err ending) → Prepares (Some one) before read (closing ending)
-  without_text ending r = unrun (Some one) before read (closing ending) r.files reads r.agrees (ends_so r.files ending r.because)
+  without_text ending r = unrun (Some one) before read (closing ending) r.files (inr (no_run_in r.files ending r.because)) reads r.agrees (ends_so r.files ending r.because)
 
 longer : (n : ℕ) → largest_file < n → 262144 < n
 longer n far = omega (arith, far)
@@ -106,7 +132,7 @@ cut_so file line before read files text plan b (inr lacks) = subst (Comes (Some 
 
 pub cut_with_text : (file : List ℕ) (line : ℕ) (before read : Seen) → OnlyReads before read → (text : List ℕ) → ReadsFile file read.folder before.faults.source read.faults.source (Ok text) → (plan : Plan)
     → cutting.CutsText file text line plan ⊎ (plan ≡ closing out_of_memory) → Prepares (Some (cut file line)) before read plan
-cut_with_text file line before read reads text r plan so = unrun (Some (cut file line)) before read plan r.files reads r.agrees (cut_so file line before read r.files text plan r.because so)
+cut_with_text file line before read reads text r plan so = unrun (Some (cut file line)) before read plan r.files (inl refl) reads r.agrees (cut_so file line before read r.files text plan r.because so)
 
 run_so : (file : List ℕ) (steps : ℕ) (arguments : List (List ℕ)) (before read : Seen) (files : Files) (text : List ℕ) (plan : Plan) (world : World) → world.files ≡ files → IsReadAs file files before.faults.source read.faults.source (Ok text)
     → running.RunsText file text steps arguments world.capture plan ⊎ (plan ≡ closing out_of_memory) → Comes (Some (run_bare steps file arguments)) before read world plan
@@ -118,10 +144,14 @@ pub run_with_text : (file : List ℕ) (steps : ℕ) (arguments : List (List ℕ)
 run_with_text file steps arguments before read ran reads text r plan over = record {
   world = record { files = r.files; capture = over.capture };
   read = read;
+  began = told_by read;
+  clock = (None, None);
   reads = reads;
   agrees = r.agrees;
+  asked = not_asked (inl refl);
+  starts = refl;
   gave = over.gave;
-  ends = over.ends;
+  ends = sym over.ends;
   comes = run_so file steps arguments before read r.files text plan (record { files = r.files; capture = over.capture }) refl r.because over.comes;
 }
 
@@ -130,3 +160,69 @@ pub run_with_shown : (file : List ℕ) (steps : ℕ) (arguments : List (List ℕ
     → ReadsFile file read.folder before.faults.source read.faults.source (Ok text) → (plan : Plan) → RunsOver file shown steps arguments read ran plan → Prepares (Some (run_bare steps file arguments)) before ran plan
 run_with_shown file steps arguments before read ran reads text shown same r plan over =
     run_with_text file steps arguments before read ran reads text r plan (subst (λ (t : List ℕ). RunsOver file t steps arguments read ran plan) same over)
+
+-- ---- a run that is to be kept
+
+pub same_store : (store : Stored) → IsUntouched store store
+same_store store = record { told = refl; faults = refl }
+
+-- what keeps nothing leaves the store
+pub keeps_nothing : (command : Option Command) (before ran : Seen) (store : Stored) (may : TablesView → Type 0) (plan : Plan) → HasNoRun command plan → Prepares command before ran plan → PlansWith command before ran store store may may plan
+keeps_nothing command before ran store may plan none prepares = record { plans = record { made = plan; prepares = prepares; keeps = no_run none (same_store store) }; stops = λ tables. (λ one. one, λ one. one) }
+
+pub kept_without_text : (file : List ℕ) (steps : ℕ) (arguments : List (List ℕ)) (before read : Seen) (store : Stored) (may : TablesView → Type 0) → OnlyReads before read → (ending : Ending)
+    → ReadsFile file read.folder before.faults.source read.faults.source (Err ending) → PlansWith (Some (run_kept steps file arguments)) before read store store may may (closing ending)
+kept_without_text file steps arguments before read store may reads ending r =
+    let gone = λ (files : Files) (where_not : IsNowhere file files). running.nowhere where_not (unasked read) in
+    let large = λ (files : Files) (text : List ℕ) (st : StandsAt file files text) (far : largest_file < length text).
+    running.stands text st (closing (refused file 1 1)) (running.no_script origin (too_large (longer (length text) far) refl) (unasked read)) in
+    keeps_nothing (Some (run_kept steps file arguments)) before read store may (closing ending)
+    (inr (no_run_in (run_kept steps file arguments) before read reads gone large r.files ending r.because))
+    (without_text (run_kept steps file arguments) before read reads gone large ending r)
+
+kept_so : (file : List ℕ) (steps : ℕ) (arguments : List (List ℕ)) (before read : Seen) (files : Files) (text : List ℕ) (plan : Plan) (world : World) → world.files ≡ files → IsReadAs file files before.faults.source read.faults.source (Ok text)
+    → running.RunsText file text steps arguments world.capture plan ⊎ (plan ≡ closing out_of_memory) → Comes (Some (run_kept steps file arguments)) before read world plan
+kept_so file steps arguments before read files text plan world same b (inl going) = meant plan b.0 (running.stands text (subst (λ (f : Files). StandsAt file f text) (sym same) b.1) plan going)
+kept_so file steps arguments before read files text plan world same b (inr lacks) = subst (Comes (Some (run_kept steps file arguments)) before read world) (sym lacks) (no_memory b.0)
+
+kept_with_text : (file : List ℕ) (steps : ℕ) (arguments : List (List ℕ)) (before read ran : Seen) (was is : Stored) (may may' : TablesView → Type 0) → OnlyReads before read → (text : List ℕ)
+    → (r : ReadsFile file read.folder before.faults.source read.faults.source (Ok text)) → (plan : Plan) → KeepsOver file text steps arguments r.files read ran was is may may' plan
+    → PlansWith (Some (run_kept steps file arguments)) before ran was is may may' plan
+kept_with_text file steps arguments before read ran was is may may' reads text r plan over = record {
+  plans = record {
+    made = over.made;
+    prepares = record {
+      world = record { files = r.files; capture = over.capture };
+      read = read;
+      began = over.began;
+      clock = over.clock;
+      reads = reads;
+      agrees = r.agrees;
+      asked = over.asked;
+      starts = over.starts;
+      gave = over.gave;
+      ends = over.ends;
+      comes = kept_so file steps arguments before read r.files text over.made (record { files = r.files; capture = over.capture }) refl r.because over.comes;
+    };
+    keeps = over.keeps;
+  };
+  stops = over.stops;
+}
+
+-- the same of the bytes of the text as they are shown
+pub kept_with_shown : (file : List ℕ) (steps : ℕ) (arguments : List (List ℕ)) (before read ran : Seen) (was is : Stored) (may may' : TablesView → Type 0) → OnlyReads before read → (text shown : List ℕ) → shown ≡ text
+    → ReadsFile file read.folder before.faults.source read.faults.source (Ok text) → (plan : Plan) → KeepsText file shown steps arguments read ran was is may may' plan → PlansWith (Some (run_kept steps file arguments)) before ran was is may may' plan
+kept_with_shown file steps arguments before read ran was is may may' reads text shown same r plan keeps =
+    kept_with_text file steps arguments before read ran was is may may' reads text r plan ((subst (λ (t : List ℕ). KeepsText file t steps arguments read ran was is may may' plan) same keeps) r.files r.because.1)
+
+-- what is planned of the words that the program read
+pub plans_for : (command found : Option Command) (before ran : Seen) (was is : Stored) (may may' : TablesView → Type 0) (plan : Plan) → found ≡ command → PlansWith found before ran was is may may' plan → PlansWith command before ran was is may may' plan
+plans_for command found before ran was is may may' plan same plans = subst (λ (c : Option Command). PlansWith c before ran was is may may' plan) same plans
+
+-- ---- a keeper that is as before
+
+pub untouched_store : {T : Type 0} (told : T → Option KeeperView) (faults : T → ℕ) (old new : T) → new ≡ old → IsUntouched (record { told = told old; faults = faults old }) (record { told = told new; faults = faults new })
+untouched_store told faults old new same = record { told = ap told same; faults = ap faults same }
+
+pub same_stops : {T : Type 0} (may : T → TablesView → Type 0) (old new : T) → new ≡ old → (tables : TablesView) → may new tables ↔ may old tables
+same_stops {T = T} may old new same tables = subst (λ (k : T). may k tables ↔ may old tables) (sym same) (λ one. one, λ one. one)

@@ -4,14 +4,15 @@ use Rattle.std.proofs.lemmas.Bool.{and_parts, leb-true}
 use Rattle.std.proofs.lemmas.Option.{same_Some}
 use Rattle.std.specs.Prelude.{not, option_map, option_and_then, unwrap_or}
 use Rattle.std.specs.Str.{bytes_eq}
-use Rattle.command_words.specs.Command.{Command, cut, run_bare, Reading, begins_with_zero, cut_command, run_of, with_words, nothing_read, run_command, command_of}
+use Rattle.command_words.specs.Command.{Command, cut, run_bare, run_kept, run_by, Reading, begins_with_zero, cut_command, run_of, with_words, nothing_read, run_command, command_of}
 use Rattle.command_words.specs.Numbers.{is_number, number_of, number_to}
 
 none_is : (command : Command) → None ≡ Some command → ⊥
 none_is command is = cc
 
-run_is : (steps : ℕ) (one file : List ℕ) (arguments : List (List ℕ)) (line : ℕ) → Some (run_bare steps one arguments) ≡ Some (cut file line) → ⊥
-run_is steps one file arguments line is = cc
+run_is : (bare : Bool) (steps : ℕ) (one file : List ℕ) (arguments : List (List ℕ)) (line : ℕ) → Some (run_by bare steps one arguments) ≡ Some (cut file line) → ⊥
+run_is true steps one file arguments line is = cc
+run_is false steps one file arguments line is = cc
 
 number_is : (n : ℕ) → ◌≡◌ {A = Option ℕ} None (Some n) → ⊥
 number_is n is = cc
@@ -19,6 +20,7 @@ number_is n is = cc
 abbrev line_in : Command → ℕ
 line_in (cut file line) = line
 line_in (run_bare steps file arguments) = 0
+line_in (run_kept steps file arguments) = 0
 
 -- a number up to some other is at least 1
 number_from_one : (most : ℕ) (word : List ℕ) (n : ℕ) → number_to most word ≡ Some n → 1 ≤ n
@@ -42,17 +44,17 @@ cut_from_one (one ∷ word ∷ []) file line is = by_zero (begins_with_zero word
     by_zero false same = with_number one word (number_to 4294967295 word) line file refl same
 cut_from_one (one ∷ word ∷ more ∷ words) file line is = absurd (none_is (cut file line) is)
 
-run_of_found : (steps : ℕ) (arguments : List (List ℕ)) (found : Option (List ℕ)) (file : List ℕ) (line : ℕ) → option_map (λ one. run_bare steps one arguments) found ≡ Some (cut file line) → ⊥
-run_of_found steps arguments None file line same = none_is (cut file line) same
-run_of_found steps arguments (Some one) file line same = run_is steps one file arguments line same
+run_of_found : (bare : Bool) (steps : ℕ) (arguments : List (List ℕ)) (found : Option (List ℕ)) (file : List ℕ) (line : ℕ) → option_map (λ one. run_by bare steps one arguments) found ≡ Some (cut file line) → ⊥
+run_of_found bare steps arguments None file line same = none_is (cut file line) same
+run_of_found bare steps arguments (Some one) file line same = run_is bare steps one file arguments line same
 
 run_is_no_cut : (reading : Option Reading) (file : List ℕ) (line : ℕ) → option_and_then run_of reading ≡ Some (cut file line) → ⊥
 run_is_no_cut None file line is = none_is (cut file line) is
-run_is_no_cut (Some reading) file line is = by_test (reading.bare && not reading.waits) is
+run_is_no_cut (Some reading) file line is = by_test reading.waits is
   where
-    by_test : (b : Bool) → (if b then option_map (λ one. run_bare (unwrap_or reading.steps 1000000) one reading.arguments) reading.file else None) ≡ Some (cut file line) → ⊥
-    by_test true same = run_of_found (unwrap_or reading.steps 1000000) reading.arguments reading.file file line same
-    by_test false same = none_is (cut file line) same
+    by_test : (b : Bool) → (if b then None else option_map (λ one. run_by reading.bare (unwrap_or reading.steps 1000000) one reading.arguments) reading.file) ≡ Some (cut file line) → ⊥
+    by_test true same = none_is (cut file line) same
+    by_test false same = run_of_found reading.bare (unwrap_or reading.steps 1000000) reading.arguments reading.file file line same
 
 pub from_one : (words : List (List ℕ)) (file : List ℕ) (line : ℕ) → command_of words ≡ Some (cut file line) → 1 ≤ line
 from_one [] file line is = absurd (none_is (cut file line) is)

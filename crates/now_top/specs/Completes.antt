@@ -1,24 +1,36 @@
 -- How a call of the program ends, and what stands then, by what its words mean (this project's profile).
-use Rattle.std.specs.Prelude.{◌≡◌, ℕ, List, ◌++◌, take, ◌⊎◌, Option, Some}
+use Rattle.std.specs.Prelude.{◌≡◌, ℕ, ◌≤◌, List, ◌++◌, length, take, ◌⊎◌, Option, Some}
 use Rattle.answer_source.specs.Live.{Faults}
 use Rattle.command_words.specs.Command.{Command}
 use Rattle.delivery.specs.Ending.{Ending, status_of, closing_line}
 use Rattle.delivery.specs.Ends.{GetsPrefixes}
 use Rattle.delivery.specs.Stands.{HasAll}
+use Rattle.keeper.specs.Keeping.{KeeperView}
+use Rattle.prov_base.specs.declared.place.Digest.{Digest}
 use Rattle.prov_outside.specs.Console.{ConsoleView}
 use Rattle.prov_outside.specs.Count.{Rose}
 use Rattle.prov_outside.specs.Tells.{Tells}
+use Rattle.py_model.specs.Capture.{Telling}
 use Rattle.straight_line.specs.Slice.{IsSliceOf, BindsTheSame}
+use Rattle.trial_keeping.specs.Keeping.{HasRoom, full_store}
+use Rattle.trial_keeping.specs.Trial.{Run, with_trial_of}
+use Rattle.trial_parts.specs.Written.{put, clash}
+use Rattle.now_top.specs.Kept.{Clock, KeepsRun, Stored}
 use Rattle.now_top.specs.Means.{MeansCommand}
 use Rattle.now_top.specs.Seen.{Seen}
 use Rattle.now_top.specs.World.{World, Plan, StandsAt}
 
--- The status is that of the ending; or a device failed, whose count rose; or memory ran out.
-pub data Completes (ending : Ending) (before after : Faults) (status : ℕ) : Type 0 where
-  as_meant : status ≡ status_of ending → Completes ending before after status
-  by_console : status ≡ 5 → Rose before.write after.write → Completes ending before after status
-  by_folder : status ≡ 6 → Rose before.source after.source ⊎ Rose before.put after.put → Completes ending before after status
-  no_memory : status ≡ 8 → Completes ending before after status
+-- The status is that of the ending; or a device or the keeper failed, whose count rose; or the store is full, or other bytes stand in it under the digest of a
+-- content of the trial; or memory ran out.
+pub data Completes (ending : Ending) (before after : Faults) (was is : Stored) (status : ℕ) : Type 0 where
+  as_meant : status ≡ status_of ending → Completes ending before after was is status
+  by_console : status ≡ 5 → Rose before.write after.write → Completes ending before after was is status
+  by_folder : status ≡ 6 → Rose before.source after.source ⊎ Rose before.put after.put → Completes ending before after was is status
+  by_store : status ≡ 7 → Rose was.faults is.faults → Completes ending before after was is status
+  by_collision : status ≡ 10 → (run : Run) (digest : Digest) (kept given : ℕ) → Tells was.told is.told (λ (old new : KeeperView). with_trial_of run old.committed ≡ clash digest kept given)
+      → Completes ending before after was is status
+  by_full : status ≡ 13 → Tells was.told is.told (λ (old new : KeeperView). full_store ≤ length old.committed.heads) → Completes ending before after was is status
+  no_memory : status ≡ 8 → Completes ending before after was is status
 
 -- The words mean the plan, and all of it stands: its files in the folder, its text and its closing line on the console, its status.
 pub record DoesWhole (command : Option Command) (world : World) (plan : Plan) (before after : Seen) (status : ℕ) : Type 0 where
@@ -46,3 +58,9 @@ pub record WritesSlice (file : List ℕ) (line : ℕ) (world : World) (before af
   pub is_slice : IsSliceOf text line slice
   pub same : BindsTheSame text line slice
   pub console : Tells before.console after.console (λ (was is : ConsoleView). is.written ≡ was.written ++ slice)
+
+-- The store has the trial of the run more, as the next one, and nothing else is new in it.
+pub record KeepsOne (file : List ℕ) (steps : ℕ) (arguments : List (List ℕ)) (world : World) (began : Telling) (clock : Clock) (made : Plan) (was is : Stored) : Type 0 where
+  pub run : Run
+  pub of : KeepsRun file steps arguments world began clock made run
+  pub tables : Tells was.told is.told (λ (old new : KeeperView). HasRoom old.committed × (with_trial_of run old.committed ≡ put new.committed))

@@ -3,8 +3,11 @@ pub mod Completes
 pub mod CutCommand
 pub mod RunCommand
 pub mod Means
+pub mod Unkept
+pub mod Kept
 pub mod Reading
 pub mod Seen
 pub mod Planned
 pub mod Running
+pub mod KeepingRun
 pub mod Replies

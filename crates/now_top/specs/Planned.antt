@@ -6,8 +6,9 @@ use Rattle.capture.specs.declared.ended.RunEnd.TheVariants.{Finished, Raised, Sp
 use Rattle.delivery.specs.Ending.{Ending, done, uncaught, out_of_steps, ending_of}
 use Rattle.delivery.specs.PutsAll.{file_out}
 use Rattle.now_top.specs.World.{Plan, closing}
+use Rattle.now_top.specs.Unkept.{unkept}
 use Rattle.now_top.specs.declared.planned.Planned.{Planned}
-use Rattle.now_top.specs.declared.planned.Planned.TheVariants.{Closes, Slice, Ran}
+use Rattle.now_top.specs.declared.planned.Planned.TheVariants.{Closes, Slice, Ran, Unkept}
 
 -- how the command ends after a run
 abbrev pub ending_told : RunEnd → Ending
@@ -22,3 +23,4 @@ abbrev pub plan_of : Planned → Plan
 plan_of (Closes ending) = closing (ending_of ending)
 plan_of (Slice text) = record { ending = done; text = text.items; files = [] }
 plan_of (Ran over) = plan_of_run over
+plan_of (Unkept over fault) = unkept fault (plan_of_run over)

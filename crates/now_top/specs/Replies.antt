@@ -5,8 +5,11 @@ use Rattle.command_words.specs.Command.{Command, command_of}
 use Rattle.delivery.specs.Ending.{folder_failed, out_of_memory}
 use Rattle.prov_base.specs.Path.{is_path}
 use Rattle.prov_outside.specs.Count.{one_more}
+use Rattle.py_model.specs.Capture.{Telling}
 use Rattle.run_engine.specs.Bare.{nothing_kept}
 use Rattle.now_top.specs.World.{World, Plan, closing, IsUnasked}
+use Rattle.keeper.specs.Tables.{TablesView}
+use Rattle.now_top.specs.Kept.{Clock, Asks, IsClockOf, Stored, Keeps, StopsBy}
 use Rattle.now_top.specs.Means.{MeansCommand, file_of}
 use Rattle.now_top.specs.Reading.{Agrees}
 use Rattle.now_top.specs.Seen.{Seen, told_by, OnlyReads, Delivers}
@@ -20,19 +23,38 @@ pub data Comes (command : Option Command) (before read : Seen) (world : World) :
   no_memory : read.faults.source ≡ before.faults.source → Comes command before read world (closing out_of_memory)
 
 -- A plan is made: FILE is read, and then its script is run, or nothing else is done. The world has the files of the folder, where it tells
--- them, and what the devices gave from then on, and no more.
+-- them, and what the devices gave from then on, and no more. Where the run is to be kept, the clock is asked before it and after it.
 pub record Prepares (command : Option Command) (before ran : Seen) (plan : Plan) : Type 0 where
   pub world : World
   pub read : Seen
+  pub began : Telling
+  pub clock : Clock
   pub reads : OnlyReads before read
   pub agrees : Agrees read.folder world.files
-  pub gave : IsCaptureOf nothing_kept (told_by read) world.capture
-  pub ends : world.capture.ends ≡ told_by ran
+  pub asked : IsClockOf command plan clock
+  pub starts : Asks clock.0 (told_by read) began
+  pub gave : IsCaptureOf nothing_kept began world.capture
+  pub ends : Asks clock.1 world.capture.ends (told_by ran)
   pub comes : Comes command before read world plan
 
--- A plan is made for what the words ask for, and delivered.
-pub record Replies (words : List (List ℕ)) (before after : Seen) (status : ℕ) : Type 0 where
+-- What the words ask for is planned, and what is to be kept is kept: the plan as it was made, and as it is by that.
+pub record Plans (command : Option Command) (before ran : Seen) (was is : Stored) (plan : Plan) : Type 0 where
+  pub made : Plan
+  pub prepares : Prepares command before ran made
+  pub keeps : Keeps command prepares.world prepares.began prepares.clock made was is plan
+
+-- A plan is made for what the words ask for, its run is kept, and it is delivered.
+pub record Replies (words : List (List ℕ)) (before after : Seen) (was is : Stored) (status : ℕ) : Type 0 where
   pub plan : Plan
   pub ran : Seen
-  pub prepares : Prepares (command_of words) before ran plan
+  pub plans : Plans (command_of words) before ran was is plan
   pub delivers : Delivers plan ran after status
+
+-- the same, with the tables that a stop may leave
+pub record PlansWith (command : Option Command) (before ran : Seen) (was is : Stored) (may may' : TablesView → Type 0) (plan : Plan) : Type 0 where
+  pub plans : Plans command before ran was is plan
+  pub stops : StopsBy plans.keeps may may'
+
+pub record RepliesWith (words : List (List ℕ)) (before after : Seen) (was is : Stored) (may may' : TablesView → Type 0) (status : ℕ) : Type 0 where
+  pub reply : Replies words before after was is status
+  pub stops : StopsBy reply.plans.keeps may may'

@@ -3,7 +3,7 @@ ghost use Rattle.std.specs.Prelude.{◌≡◌};
 ghost use Rattle.delivery.specs.Delivered.{Delivered};
 ghost use Rattle.now_top.specs.Planned.{plan_of};
 
-use crate::planned::{Planned, ending_after};
+use crate::planned::{Planned, ending_after, ending_without};
 use delivery::{Ending, deliver};
 use prov_outside::{Console, Folder};
 use std::alloc::Global;
@@ -32,6 +32,14 @@ pub fn deliver_plan<C: Console, F: Folder>(
             console,
             folder,
             ending_after(&over.end),
+            over.output.as_slice(),
+            over.finals.as_slice(),
+        ),
+        Planned::Unkept(over, fault) => deliver(
+            alloc,
+            console,
+            folder,
+            ending_without(*fault),
             over.output.as_slice(),
             &over.finals,
         ),

@@ -1,8 +1,9 @@
 // The laws of the top call: public functions without a body, whose contracts are the laws.
-ghost use Rattle.std.specs.Prelude.{◌≡◌, ℕ, List, Option, Some};
-ghost use Rattle.command_words.specs.Command.{Command, cut, command_of};
+ghost use Rattle.std.specs.Prelude.{◌≡◌, ℕ, false, List, ◌⊎◌, Option, Some};
+ghost use Rattle.command_words.specs.Command.{Command, cut, run_kept, command_of};
 ghost use Rattle.prov_outside.specs.Count.{Rose};
-ghost use Rattle.now_top.specs.Completes.{Completes, DoesWhole, DoesAsMeant, WritesPrefixes, WritesSlice};
+ghost use Rattle.now_top.specs.Completes.{Completes, DoesWhole, DoesAsMeant, WritesPrefixes, WritesSlice, KeepsOne};
+ghost use Rattle.now_top.specs.Kept.{keeps, Stored, IsUntouched};
 ghost use Rattle.now_top.specs.Means.{MeansCommand};
 ghost use Rattle.now_top.specs.Replies.{Replies};
 ghost use Rattle.now_top.specs.Seen.{Seen};
@@ -23,39 +24,42 @@ pub fn one_meaning()
     one_reading();
 }
 
-/// Completeness: where the words mean a plan, the status is that of its ending; or it is 5 and the console's count rose, or 6 and a count of the folder rose, or 8.
+/// Completeness: where the words mean a plan, the status is that of its ending; or it is 5 and the console's count rose, or 6 and a count of the folder rose, or 7
+/// and the keeper's count rose, or 10 and other bytes stand under the digest of a content of the trial, or 13 and the store is full, or 8.
 /// The world is that of the call: the folder's files, and what the devices gave.
 pub fn completes()
-    ensures { (words : List (List ℕ)) (before after : Seen) (status : ℕ) (so : Replies words before after status) (plan : Plan)
-        → MeansCommand (command_of words) so.prepares.world plan → Completes plan.ending before.faults after.faults status }
+    ensures { (words : List (List ℕ)) (before after : Seen) (was is : Stored) (status : ℕ) (so : Replies words before after was is status) (plan : Plan)
+        → MeansCommand (command_of words) so.plans.prepares.world plan → Completes plan.ending before.faults after.faults was is status }
 {
     one_meaning();
     ends_in_one_way();
 }
 
-/// The law of a call in which no device failed at the script's text, at a put or at a write, and for which memory sufficed: the words mean a plan, and all of it
-/// stands.
+/// The law of a call in which no device failed at the script's text, at a put or at a write, in which the keeper did not fail and took what it was given, and for
+/// which memory sufficed: the words mean a plan, and all of it stands.
 pub fn does_whole()
-    ensures { (words : List (List ℕ)) (before after : Seen) (status : ℕ) (so : Replies words before after status)
-        → (Rose before.faults.source after.faults.source → ⊥) → (Rose before.faults.put after.faults.put → ⊥) → (Rose before.faults.write after.faults.write → ⊥) → (status ≡ 8 → ⊥)
-        → DoesWhole (command_of words) so.prepares.world so.plan before after status }
+    ensures { (words : List (List ℕ)) (before after : Seen) (was is : Stored) (status : ℕ) (so : Replies words before after was is status)
+        → (Rose before.faults.source after.faults.source → ⊥) → (Rose before.faults.put after.faults.put → ⊥) → (Rose before.faults.write after.faults.write → ⊥)
+        → (Rose was.faults is.faults → ⊥) → (status ≡ 8 → ⊥) → (status ≡ 10 → ⊥) → (status ≡ 13 → ⊥)
+        → DoesWhole (command_of words) so.plans.prepares.world so.plan before after status }
 {
     no_count_rose();
 }
 
-/// The law of the statuses that tell of no fault of a device and of no want of memory: the words mean a plan, and all of it stands but perhaps the end of its
+/// The law of the statuses that tell of no fault of a device or of the store and of no want of memory: the words mean a plan, and all of it stands but perhaps the end of its
 /// closing line.
 pub fn does_as_meant()
-    ensures { (words : List (List ℕ)) (before after : Seen) (status : ℕ) (so : Replies words before after status)
-        → (status ≡ 5 → ⊥) → (status ≡ 6 → ⊥) → (status ≡ 8 → ⊥) → DoesAsMeant (command_of words) so.prepares.world so.plan before after status }
+    ensures { (words : List (List ℕ)) (before after : Seen) (was is : Stored) (status : ℕ) (so : Replies words before after was is status)
+        → (status ≡ 5 → ⊥) → (status ≡ 6 → ⊥) → (status ≡ 7 → ⊥) → (status ≡ 8 → ⊥) → (status ≡ 10 → ⊥) → (status ≡ 13 → ⊥) → DoesAsMeant (command_of words) so.plans.prepares.world so.plan before after status }
 {
     no_fault_answered();
+    ends_in_one_way();
 }
 
 /// The law of the console, whatever became of the call: it got a prefix of the planned text and then a prefix of a closing line, that of the status that is
 /// answered, or with status 8 of another. Both are whole where the console's count did not rise and the status is not 8.
 pub fn writes_prefixes()
-    ensures { (words : List (List ℕ)) (before after : Seen) (status : ℕ) (so : Replies words before after status) → WritesPrefixes so.plan.text status before after }
+    ensures { (words : List (List ℕ)) (before after : Seen) (was is : Stored) (status : ℕ) (so : Replies words before after was is status) → WritesPrefixes so.plan.text status before after }
 {
     prefixes_are_written();
 }
@@ -63,9 +67,24 @@ pub fn writes_prefixes()
 /// The law of slices: `cut FILE LINE` with status 0 has written the script at FILE cut to the least closed set of lines that has LINE, and nothing else. The
 /// slice binds the line's name to the same integer.
 pub fn writes_slice()
-    ensures { (words : List (List ℕ)) (before after : Seen) (status : ℕ) (so : Replies words before after status) (file : List ℕ) (line : ℕ)
-        → command_of words ≡ Some (cut file line) → status ≡ 0 → WritesSlice file line so.prepares.world before after }
+    ensures { (words : List (List ℕ)) (before after : Seen) (was is : Stored) (status : ℕ) (so : Replies words before after was is status) (file : List ℕ) (line : ℕ)
+        → command_of words ≡ Some (cut file line) → status ≡ 0 → WritesSlice file line so.plans.prepares.world before after }
 {
     no_fault_answered();
     done_is_whole();
 }
+
+/// The law of trials: `run FILE` with the status of a run, which is 0, 1 or 9, has kept the run of the script at FILE in what the devices gave, as the next trial
+/// of the store, and nothing else is new in the store.
+pub fn keeps_trial()
+    ensures { (words : List (List ℕ)) (before after : Seen) (was is : Stored) (status : ℕ) (so : Replies words before after was is status) (steps : ℕ) (file : List ℕ) (arguments : List (List ℕ))
+        → command_of words ≡ Some (run_kept steps file arguments) → (status ≡ 0) ⊎ ((status ≡ 1) ⊎ (status ≡ 9))
+        → KeepsOne file steps arguments so.plans.prepares.world so.plans.prepares.began so.plans.prepares.clock so.plans.made was is }
+{
+    ends_in_one_way();
+}
+
+/// The law that no other command asks anything of the store.
+pub fn keeps_nothing_else()
+    ensures { (words : List (List ℕ)) (before after : Seen) (was is : Stored) (status : ℕ) → Replies words before after was is status → keeps (command_of words) ≡ false → IsUntouched was is }
+{}

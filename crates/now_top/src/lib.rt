@@ -13,6 +13,7 @@
 #![tactic(auto)]
 
 mod deliver;
+mod kept;
 mod laws;
 mod plan;
 mod planned;
@@ -20,5 +21,8 @@ mod run;
 mod source;
 mod top;
 
-pub use laws::{completes, does_as_meant, does_whole, one_meaning, writes_prefixes, writes_slice};
+pub use laws::{
+    completes, does_as_meant, does_whole, keeps_nothing_else, keeps_trial, one_meaning,
+    writes_prefixes, writes_slice,
+};
 pub use top::now;

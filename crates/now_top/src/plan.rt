@@ -1,19 +1,21 @@
 // What the words ask for, worked out before anything is delivered.
-ghost use Rattle.std.specs.Prelude.{◌≡◌, ◌≤◌, ◌⊎◌, Some, map};
+ghost use Rattle.std.specs.Prelude.{◌≡◌, ◌≤◌, ◌⊎◌, false, Some, map};
 ghost use Rattle.std.specs.String.{string_bytes};
 ghost use Rattle.command_words.specs.Command.{cut, command_of};
 ghost use Rattle.delivery.specs.Ending.{out_of_memory};
 ghost use Rattle.now_top.specs.CutCommand.{CutsText};
 ghost use Rattle.now_top.specs.Planned.{plan_of};
-ghost use Rattle.now_top.specs.Replies.{Prepares};
+ghost use Rattle.now_top.specs.Replies.{Prepares, PlansWith};
 ghost use Rattle.now_top.specs.World.{closing};
 
+use crate::kept::plan_kept;
 use crate::planned::Planned;
 use crate::run::plan_run;
 use crate::source::read_source;
 use answer_source::Devices;
 use command_words::{Command, read};
 use delivery::Ending;
+use keeper::Keeper;
 use prov_base::Memory;
 use prov_outside::{Console, Folder, Moments};
 use std::alloc::Global;
@@ -88,13 +90,15 @@ fn plan_cut<'w, C: Console + Drop, F: Folder + Drop, M: Moments + Drop>(
     }
 }
 
-/// What the words ask for over the devices, which it gives back. Nothing is written, and no file is put.
-pub fn plan<'w, C: Console + Drop, F: Folder + Drop, M: Moments + Drop>(
+/// What the words ask for over the devices, which it gives back; a run that is to be kept is kept. Nothing is written, and no file is put.
+pub fn plan<'w, K: Keeper, C: Console + Drop, F: Folder + Drop, M: Moments + Drop>(
     alloc: Global,
     words: &'w [String],
     devices: Devices<C, F, M>,
+    keeper: &mut K,
 ) -> (Planned<'w>, Devices<C, F, M>)
-    ensures { Prepares (command_of (map string_bytes words.now)) (record {
+    requires batch { K.is_open keeper.old ≡ false }
+    ensures plans { PlansWith (command_of (map string_bytes words.now)) (record {
       console = C.told devices.console;
       folder = F.told devices.folder;
       moments = M.told devices.moments;
@@ -120,7 +124,8 @@ pub fn plan<'w, C: Console + Drop, F: Folder + Drop, M: Moments + Drop>(
         time = M.time_faults result.1.moments;
         word = M.word_faults result.1.moments;
       };
-    }) (plan_of result.0) }
+    }) (record { told = K.told keeper.old; faults = K.faults keeper.old }) (record { told = K.told keeper.new; faults = K.faults keeper.new }) (K.may_leave keeper.old) (K.may_leave keeper.new) (plan_of result.0) }
+    ensures batch { K.is_open keeper.new ≡ false }
 {
     match read(alloc, words) {
         Ok(Some(Command::Cut { file, line })) => plan_cut(alloc, file, line, devices),
@@ -133,6 +138,15 @@ pub fn plan<'w, C: Console + Drop, F: Folder + Drop, M: Moments + Drop>(
                 },
             ),
         ) => plan_run(alloc, file, steps, &arguments, devices),
+        Ok(
+            Some(
+                Command::RunKept {
+                    file,
+                    steps,
+                    arguments,
+                },
+            ),
+        ) => plan_kept(alloc, keeper, file, steps, &arguments, devices),
         Ok(None) => (Planned::Closes(Ending::Usage), devices),
         Err(Memory) => (Planned::Closes(Ending::OutOfMemory), devices),
     }

@@ -2,9 +2,11 @@
 ghost use Rattle.std.specs.Prelude.{◌≡◌};
 ghost use Rattle.delivery.specs.Ending.{ending_of};
 ghost use Rattle.now_top.specs.Planned.{ending_told};
+ghost use Rattle.now_top.specs.Unkept.{ending_without as ending_of_fault};
 
 use capture::{Ended, RunEnd};
 use delivery::Ending;
+use trial_keeping::TrialFault;
 
 /// What a command comes to.
 #[derive(Drop)]
@@ -13,8 +15,10 @@ pub enum Planned<'w> {
     Closes(Ending<'w>),
     /// A cut text.
     Slice(Vec<u8>),
-    /// A run that is over.
+    /// A run that is over, and kept where it is to be.
     Ran(Ended),
+    /// A run that is over and could not be kept.
+    Unkept(Ended, TrialFault),
 }
 
 /// How the command ends after a run.
@@ -29,5 +33,26 @@ pub fn ending_after(end: &RunEnd) -> Ending<'_>
             text: text.as_ref().map(|words| words.as_str()),
         },
         RunEnd::Spent => Ending::OutOfSteps,
+    }
+}
+
+/// How the command ends where its run is not kept for this fault.
+pub fn ending_without<'w>(fault: TrialFault) -> Ending<'w>
+    ensures { ending_of result ≡ ending_of_fault fault }
+{
+    match fault {
+        TrialFault::Keeper => Ending::StoreFailed,
+        TrialFault::Collision {
+            digest,
+            kept_len,
+            given_len,
+        } => Ending::Collision {
+            digest,
+            kept: kept_len,
+            given: given_len,
+        },
+        TrialFault::Full => Ending::StoreFull,
+        TrialFault::Memory => Ending::OutOfMemory,
+        TrialFault::NoTrial(_) | TrialFault::Damaged(..) => Ending::StoreFailed,
     }
 }

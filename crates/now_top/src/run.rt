@@ -21,7 +21,7 @@ use script_reading::{Refusal, read_script};
 use std::alloc::Global;
 
 /// The script of a text at FILE, or how the command ends where it has none.
-fn script_at<'w>(alloc: Global, file: &'w str, text: &[u8]) -> Result<Script, Ending<'w>>
+pub(crate) fn script_at<'w>(alloc: Global, file: &'w str, text: &[u8]) -> Result<Script, Ending<'w>>
     ensures script { IfOk result (λ script. HasScript text.now (script_of script)) }
     ensures refused { IfErr result (λ ending. IsRefusedAs file.now text.now (ending_of ending)) }
 {

@@ -1,30 +1,35 @@
 // The top call.
-ghost use Rattle.std.specs.Prelude.{map};
+ghost use Rattle.std.specs.Prelude.{◌≡◌, false, map};
 ghost use Rattle.std.specs.String.{string_bytes};
-ghost use Rattle.now_top.specs.Replies.{Replies};
+ghost use Rattle.now_top.specs.Replies.{RepliesWith};
 
 use crate::deliver::deliver_plan;
 use crate::plan::plan;
 use answer_source::Devices;
+use keeper::Keeper;
 use prov_outside::{Console, Folder, Moments};
 use std::alloc::Global;
 
-/// Does what the words ask for over the devices, gives these back, and answers the exit status.
+/// Does what the words ask for over the devices and the store of trials, gives the devices back, and answers the exit status.
 ///
 /// `cut FILE LINE` reads the straight-line script at FILE and writes it with every line blanked but LINE, counted from 1, and the lines that it needs.
-/// `run --bare [--steps N] FILE [ARG]..` runs the script at FILE within N steps, from 1 to 1,000,000, with these arguments; the files that it opened for writing are
-/// put once it is over, and then its output is written. FILE is a path below the folder, of at most 255 bytes, and a script has at most 262,144 bytes.
+/// `run [--steps N] FILE [ARG]..` runs the script at FILE within N steps, from 1 to 1,000,000, with these arguments, and keeps the run as a trial; the files that it
+/// opened for writing are put once it is over, and then its output is written. With `--bare` nothing is kept. FILE is a path below the folder, of at most 255
+/// bytes, and a script has at most 262,144 bytes.
 ///
 /// The statuses are 0 done, 1 an exception that nothing caught, 2 the words are no command, 3 the script is refused, 4 nothing there. 5 is a console
-/// that failed, 6 a folder that failed, 8 want of memory, 9 want of steps.
-pub fn now<C: Console + Drop, F: Folder + Drop, M: Moments + Drop>(
+/// that failed, 6 a folder that failed, 7 a keeper that failed, 8 want of memory, 9 want of steps, 10 other bytes under the digest of a content, 13 a store that is
+/// full.
+pub fn now<C: Console + Drop, F: Folder + Drop, M: Moments + Drop, K: Keeper>(
     alloc: Global,
     words: &[String],
     devices: Devices<C, F, M>,
+    keeper: &mut K,
 ) -> (u8, Devices<C, F, M>)
-    // FILE is read, its script is run over the devices, and what the words mean over the folder's files and what the devices gave is
+    requires batch { K.is_open keeper.old ≡ false }
+    // FILE is read, its script is run over the devices and kept, and what the words mean over the folder's files and what the devices gave is
     // delivered; or a fault that was counted, or want of memory, stands in its place.
-    ensures reply { Replies (map string_bytes words.now) (record {
+    ensures reply { RepliesWith (map string_bytes words.now) (record {
       console = C.told devices.console;
       folder = F.told devices.folder;
       moments = M.told devices.moments;
@@ -50,9 +55,10 @@ pub fn now<C: Console + Drop, F: Folder + Drop, M: Moments + Drop>(
         time = M.time_faults result.1.moments;
         word = M.word_faults result.1.moments;
       };
-    }) result.0 }
+    }) (record { told = K.told keeper.old; faults = K.faults keeper.old }) (record { told = K.told keeper.new; faults = K.faults keeper.new }) (K.may_leave keeper.old) (K.may_leave keeper.new) result.0 }
+    ensures batch { K.is_open keeper.new ≡ false }
 {
-    let (planned, mut devices) = plan(alloc, words, devices);
+    let (planned, mut devices) = plan(alloc, words, devices, keeper);
     let status = deliver_plan(alloc, &planned, &mut devices.console, &mut devices.folder);
     (status, devices)
 }

@@ -3,5 +3,5 @@ use Rattle.now_top.proofs.Completing.{completes_so}
 use Rattle.now_top.proofs.laws.completes.Goals as goal
 
 pub returns : goal.returns
-returns c = λ words before after status so plan means. completes_so words before after status so (c.one_meaning.ensures (command_of words) so.prepares.world) plan means
+returns c = λ words before after was is status so plan means. completes_so words before after was is status so (c.one_meaning.ensures (command_of words) so.plans.prepares.world) plan means
     (c.ends_in_one_way.ensures so.plan.ending so.plan.text so.plan.files so.ran.faults.put after.faults.put so.ran.folder after.folder so.ran.faults.write after.faults.write so.ran.console after.console status so.delivers.delivered)

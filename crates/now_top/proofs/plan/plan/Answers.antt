@@ -1,14 +1,24 @@
-use Rattle.std.proofs.Common.{sym, map}
+use Rattle.std.proofs.Common.{refl, sym, ap, ◌∙◌, ℕ, List, map, inl, inr, Some, None}
 use Rattle.std.specs.String.{string_bytes}
-use Rattle.now_top.proofs.Preparing.{for_words, no_command, lacks_memory}
+use Rattle.command_words.specs.Command.{cut, run_bare}
+use Rattle.now_top.proofs.Preparing.{plans_for, keeps_nothing, no_command, lacks_memory}
 use Rattle.now_top.proofs.Words.{from_one}
 use Rattle.now_top.proofs.plan.plan.Goals as goal
 
 pub plan_cut-requires : goal.plan_cut-requires
 plan_cut-requires g c = from_one (map string_bytes c.args.words.now) c.in-Ok-Some-Cut.file.now c.in-Ok-Some-Cut.line (sym (rw c.in-Ok-Some-Cut.field-0-0-is at (rw c.in-Ok-Some-Cut.field-0-is at c.in-Ok-Some-Cut.ensures)))
 
-pub returns-in-Ok-None : goal.returns-in-Ok-None
-returns-in-Ok-None g c = for_words _ _ _ _ _ (rw c.in-Ok-None.field-0-is at c.in-Ok-None.ensures) (no_command _)
+pub returns-in-Ok-Some-Cut-clause-plans : goal.returns-in-Ok-Some-Cut-clause-plans
+returns-in-Ok-Some-Cut-clause-plans g c = plans_for _ (Some (cut c.in-Ok-Some-Cut.file.now c.in-Ok-Some-Cut.line)) _ _ _ _ _ _ _ (rw c.in-Ok-Some-Cut.field-0-0-is at (rw c.in-Ok-Some-Cut.field-0-is at c.in-Ok-Some-Cut.ensures))
+    (keeps_nothing _ _ _ _ _ _ (inl refl) c.plan_cut.ensures)
 
-pub returns-in-Err : goal.returns-in-Err
-returns-in-Err g c = lacks_memory _ _
+pub returns-in-Ok-Some-RunBare-clause-plans : goal.returns-in-Ok-Some-RunBare-clause-plans
+returns-in-Ok-Some-RunBare-clause-plans g c = plans_for _ (Some (run_bare c.in-Ok-Some-RunBare.steps c.in-Ok-Some-RunBare.file.now c.deref.result.now)) _ _ _ _ _ _ _
+    (ap (λ (arguments : List (List ℕ)). Some (run_bare c.in-Ok-Some-RunBare.steps c.in-Ok-Some-RunBare.file.now arguments)) c.deref.ensures.value
+    ∙ rw c.in-Ok-Some-RunBare.field-0-0-is at (rw c.in-Ok-Some-RunBare.field-0-is at c.in-Ok-Some-RunBare.ensures)) (keeps_nothing _ _ _ _ _ _ (inl refl) c.plan_run.ensures)
+
+pub returns-in-Ok-None-clause-plans : goal.returns-in-Ok-None-clause-plans
+returns-in-Ok-None-clause-plans g c = plans_for _ None _ _ _ _ _ _ _ (rw c.in-Ok-None.field-0-is at c.in-Ok-None.ensures) (keeps_nothing _ _ _ _ _ _ (inl refl) (no_command _))
+
+pub returns-in-Err-clause-plans : goal.returns-in-Err-clause-plans
+returns-in-Err-clause-plans g c = keeps_nothing _ _ _ _ _ _ (inr refl) (lacks_memory _ _)

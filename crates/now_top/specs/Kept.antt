@@ -1,0 +1,101 @@
+-- What becomes of a run that is to be kept (this project's profile): when the clock is asked, which run is kept, and what the store of trials has by that.
+use Rattle.std.specs.Prelude.{◌≡◌, ℕ, ℤ, Bool, true, false, List, ◌⊎◌, ◌↔◌, Option, Some, None, Result, IfErr}
+use Rattle.answer_source.specs.Live.{capture_of}
+use Rattle.capture.specs.Capture.{CaptureView}
+use Rattle.command_words.specs.Command.{Command, cut, run_bare, run_kept}
+use Rattle.delivery.specs.Ending.{Ending, done, uncaught, out_of_steps, out_of_memory}
+use Rattle.keeper.specs.Keeping.{KeeperView}
+use Rattle.keeper.specs.Tables.{TablesView}
+use Rattle.prov_outside.specs.Tells.{Tells}
+use Rattle.py_model.specs.Capture.{Telling}
+use Rattle.py_tree.specs.Tree.{ScriptTree}
+use Rattle.recorded_runs.specs.KeptRun.{AsksClock}
+use Rattle.recorded_runs.specs.RecordedRun.{IsRecordedRun}
+use Rattle.recorded_runs.specs.declared.recording.Recorded.{Recorded}
+use Rattle.script_reading.specs.Reading.{HasScript}
+use Rattle.trial_keeping.specs.Fault.{has_failed}
+use Rattle.trial_keeping.specs.Keeping.{KeepsTrial, StopLeaves, IsOfKeeping}
+use Rattle.trial_keeping.specs.Trial.{Run}
+use Rattle.trial_keeping.specs.declared.fault.TrialFault.{TrialFault}
+use Rattle.trial_parts.specs.Causes.{Causes}
+use Rattle.now_top.specs.Planned.{plan_of_run}
+use Rattle.now_top.specs.Unkept.{with_keeping}
+use Rattle.now_top.specs.World.{World, Plan, closing, StandsAt}
+
+-- the command keeps its run
+abbrev pub keeps : Option Command → Bool
+keeps None = false
+keeps (Some (cut file line)) = false
+keeps (Some (run_bare steps file arguments)) = false
+keeps (Some (run_kept steps file arguments)) = true
+
+-- a run comes to such an ending, and nothing else does
+abbrev pub ends_a_run : Ending → Bool
+ends_a_run done = true
+ends_a_run (uncaught class line text) = true
+ends_a_run out_of_steps = true
+ends_a_run ending = false
+
+-- what the clock answered before a run and after it, where it was asked
+abbrev pub Clock : Type 0
+Clock = Option (Option ℤ) × Option (Option ℤ)
+
+-- the clock was asked once, or nothing was done
+abbrev pub Asks : Option (Option ℤ) → Telling → Telling → Type 0
+Asks None before after = after ≡ before
+Asks (Some time) before after = AsksClock time before after
+
+-- no run is to be kept: the command keeps none, or its plan is none of a run
+abbrev pub HasNoRun : Option Command → Plan → Type 0
+HasNoRun command plan = (keeps command ≡ false) ⊎ (ends_a_run plan.ending ≡ false)
+
+-- The clock is asked before and after a run that is to be kept, and else not. Where memory ran out in the run it was asked before it alone.
+pub data IsClockOf (command : Option Command) (plan : Plan) : Clock → Type 0 where
+  not_asked : HasNoRun command plan → IsClockOf command plan (None, None)
+  begun : (start : Option ℤ) → keeps command ≡ true → plan ≡ closing out_of_memory → IsClockOf command plan (Some start, None)
+  over : (start finish : Option ℤ) → keeps command ≡ true → IsClockOf command plan (Some start, Some finish)
+
+-- The run that is to be kept is that of the script that FILE has, in what the devices gave, with its moments of start and end. Its answers are kept in ascending
+-- order of place and number, and its pages are those of its moments.
+pub record KeepsRun (file : List ℕ) (steps : ℕ) (arguments : List (List ℕ)) (world : World) (began : Telling) (clock : Clock) (made : Plan) (run : Run) : Type 0 where
+  pub text : List ℕ
+  pub stands : StandsAt file world.files text
+  pub script : ScriptTree
+  pub has : HasScript text script
+  pub asked : CaptureView
+  pub it : Recorded
+  pub records : IsRecordedRun script file arguments steps began world.capture.ends asked it
+  pub capture : world.capture ≡ capture_of asked world.capture.ends
+  pub made_is : made ≡ plan_of_run it.ended
+  pub times : Option ℤ × Option ℤ
+  pub clock_is : clock ≡ (Some times.0, Some times.1)
+  pub run_is : run ≡ record { text = text; path = file; arguments = arguments; budget = steps; ended = it.ended; pages = it.pages; times = times }
+
+-- what is seen of the store of trials at one moment: what the keeper tells, where it tells, and how often its calls have failed so far
+pub record Stored : Type 0 where
+  pub told : Option KeeperView
+  pub faults : ℕ
+
+-- nothing was asked of the store
+pub record IsUntouched (was is : Stored) : Type 0 where
+  pub told : is.told ≡ was.told
+  pub faults : is.faults ≡ was.faults
+
+-- the run's trial was kept under this number, or is not for this fault
+pub record KeepsIn (run : Run) (number : Result ℕ TrialFault) (was is : Stored) : Type 0 where
+  pub keeps : Tells was.told is.told (KeepsTrial run number)
+  pub of_keeping : IfErr number IsOfKeeping
+  pub cause : Causes (has_failed number) was.faults is.faults
+
+-- what a plan comes to by the keeping of its run, and what the store has then
+pub data Keeps (command : Option Command) (world : World) (began : Telling) (clock : Clock) (made : Plan) (was is : Stored) : Plan → Type 0 where
+  no_run : HasNoRun command made → IsUntouched was is → Keeps command world began clock made was is made
+  a_run : (steps : ℕ) (file : List ℕ) (arguments : List (List ℕ)) → command ≡ Some (run_kept steps file arguments) → (run : Run) → KeepsRun file steps arguments world began clock made run
+      → (number : Result ℕ TrialFault) → KeepsIn run number was is → Keeps command world began clock made was is (with_keeping number made)
+
+-- Which tables a stop may leave then. Where nothing was asked of the store, those that one might have left before; where a run was kept, or was to be, what its
+-- keeping says.
+abbrev pub StopsBy : {command : Option Command} {world : World} {began : Telling} {clock : Clock} {made : Plan} {was is : Stored} {plan : Plan} → Keeps command world began clock made was is plan
+    → (TablesView → Type 0) → (TablesView → Type 0) → Type 0
+StopsBy (no_run none still) may may' = (tables : TablesView) → may' tables ↔ may tables
+StopsBy {was = was} {is = is} (a_run steps file arguments word run of number kept) may may' = Tells was.told is.told (StopLeaves run number may may')

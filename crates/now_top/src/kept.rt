@@ -1,0 +1,144 @@
+// `run`: a script that is read, run and kept as a trial.
+ghost use Rattle.std.specs.Prelude.{◌≡◌, false, Some};
+ghost use Rattle.command_words.specs.Command.{run_kept as run_kept_command};
+ghost use Rattle.now_top.specs.KeepingRun.{KeepsText};
+ghost use Rattle.now_top.specs.Planned.{plan_of, plan_of_run};
+ghost use Rattle.now_top.specs.Replies.{PlansWith};
+ghost use Rattle.now_top.specs.Unkept.{with_keeping};
+
+use crate::planned::Planned;
+use crate::run::script_at;
+use crate::source::read_source;
+use answer_source::Devices;
+use delivery::Ending;
+use keeper::Keeper;
+use prov_base::{Memory, Name};
+use prov_outside::{Console, Folder, Moments};
+use py_tree::drop_script;
+use recorded_runs::{KeptRun, Recorded, keep_run};
+use std::alloc::Global;
+use trial_keeping::TrialFault;
+
+/// What a run comes to by what came of its keeping: without a fault there, or with one that loses nothing of the run.
+fn planned_kept<'w>(kept: KeptRun) -> Planned<'w>
+    ensures { plan_of result ≡ with_keeping kept.number (plan_of_run kept.recorded.ended) }
+{
+    let KeptRun {
+        recorded,
+        number,
+        ..
+    } = kept;
+    let Recorded { ended, .. } = recorded;
+    match number {
+        Ok(_) => Planned::Ran(ended),
+        Err(TrialFault::Memory) => Planned::Closes(Ending::OutOfMemory),
+        Err(fault) => Planned::Unkept(ended, fault),
+    }
+}
+
+/// What a text at FILE comes to: its script is run over the devices, which are given back, and the run is kept.
+fn keep_text<'w, K: Keeper, C: Console + Drop, F: Folder + Drop, M: Moments + Drop>(
+    alloc: Global,
+    keeper: &mut K,
+    file: &'w str,
+    text: &[u8],
+    steps: u32,
+    arguments: &[Name],
+    devices: Devices<C, F, M>,
+) -> (Planned<'w>, Devices<C, F, M>)
+    requires batch { K.is_open keeper.old ≡ false }
+    ensures keeps { KeepsText file.now text.now steps arguments.now (record {
+      console = C.told devices.console;
+      folder = F.told devices.folder;
+      moments = M.told devices.moments;
+      faults = record {
+        line = C.in_faults devices.console;
+        write = C.out_faults devices.console;
+        file = F.get_faults devices.folder;
+        source = F.source_faults devices.folder;
+        put = F.put_faults devices.folder;
+        time = M.time_faults devices.moments;
+        word = M.word_faults devices.moments;
+      };
+    }) (record {
+      console = C.told result.1.console;
+      folder = F.told result.1.folder;
+      moments = M.told result.1.moments;
+      faults = record {
+        line = C.in_faults result.1.console;
+        write = C.out_faults result.1.console;
+        file = F.get_faults result.1.folder;
+        source = F.source_faults result.1.folder;
+        put = F.put_faults result.1.folder;
+        time = M.time_faults result.1.moments;
+        word = M.word_faults result.1.moments;
+      };
+    }) (record { told = K.told keeper.old; faults = K.faults keeper.old }) (record { told = K.told keeper.new; faults = K.faults keeper.new }) (K.may_leave keeper.old) (K.may_leave keeper.new) (plan_of result.0) }
+    ensures batch { K.is_open keeper.new ≡ false }
+{
+    let script = match script_at(alloc, file, text) {
+        Ok(script) => script,
+        Err(ending) => return (Planned::Closes(ending), devices),
+    };
+    let (kept, devices) = keep_run(
+        alloc, keeper, text, &script, file, arguments, steps, devices,
+    );
+    drop_script(script);
+    match kept {
+        Ok(kept) => (planned_kept(kept), devices),
+        Err(Memory) => (Planned::Closes(Ending::OutOfMemory), devices),
+    }
+}
+
+/// What `run` comes to over the devices, which it gives back. The run is kept. Nothing is written, and no file is put.
+pub fn plan_kept<'w, K: Keeper, C: Console + Drop, F: Folder + Drop, M: Moments + Drop>(
+    alloc: Global,
+    keeper: &mut K,
+    file: &'w str,
+    steps: u32,
+    arguments: &[Name],
+    mut devices: Devices<C, F, M>,
+) -> (Planned<'w>, Devices<C, F, M>)
+    requires batch { K.is_open keeper.old ≡ false }
+    ensures plans { PlansWith (Some (run_kept_command steps file.now arguments.now)) (record {
+      console = C.told devices.console;
+      folder = F.told devices.folder;
+      moments = M.told devices.moments;
+      faults = record {
+        line = C.in_faults devices.console;
+        write = C.out_faults devices.console;
+        file = F.get_faults devices.folder;
+        source = F.source_faults devices.folder;
+        put = F.put_faults devices.folder;
+        time = M.time_faults devices.moments;
+        word = M.word_faults devices.moments;
+      };
+    }) (record {
+      console = C.told result.1.console;
+      folder = F.told result.1.folder;
+      moments = M.told result.1.moments;
+      faults = record {
+        line = C.in_faults result.1.console;
+        write = C.out_faults result.1.console;
+        file = F.get_faults result.1.folder;
+        source = F.source_faults result.1.folder;
+        put = F.put_faults result.1.folder;
+        time = M.time_faults result.1.moments;
+        word = M.word_faults result.1.moments;
+      };
+    }) (record { told = K.told keeper.old; faults = K.faults keeper.old }) (record { told = K.told keeper.new; faults = K.faults keeper.new }) (K.may_leave keeper.old) (K.may_leave keeper.new) (plan_of result.0) }
+    ensures batch { K.is_open keeper.new ≡ false }
+{
+    match read_source(alloc, file, &mut devices.folder) {
+        Ok(text) => keep_text(
+            alloc,
+            keeper,
+            file,
+            text.as_slice(),
+            steps,
+            arguments,
+            devices,
+        ),
+        Err(ending) => (Planned::Closes(ending), devices),
+    }
+}
