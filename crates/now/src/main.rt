@@ -1,7 +1,11 @@
-// The program: the top call over the real console, the current folder, and the system's clock and random words. Its exit status is the call's.
+// The program: the top call over the real console, the current folder, the system's clock and random words, and a store of trials in memory, which ends with
+// it. Its exit status is the call's.
 #![tactic(auto)]
 
+ghost use Rattle.std.specs.Prelude.{◌≡◌, false};
+
 use answer_source::Devices;
+use memory_keeper::{MemoryKeeper, Tables};
 use now_top::now;
 use prov_outside::Console;
 use prov_real::{RealConsole, RealFolder, RealMoments};
@@ -11,6 +15,20 @@ use std::{env, io};
 /// The words behind the program's name.
 fn words(rt: &HostRuntime) -> io::Result<Vec<String>> {
     Ok(env::args(rt)?.skip(1).collect(rt.alloc())?)
+}
+
+/// An empty store of trials.
+fn store(rt: &HostRuntime) -> MemoryKeeper
+    ensures { result.held.is_open ≡ false }
+{
+    let alloc = rt.alloc();
+    let tables = Tables {
+        heads: Vec::new(alloc),
+        pages: Vec::new(alloc),
+        contents: Vec::new(alloc),
+        current: Vec::new(alloc),
+    };
+    MemoryKeeper::of(tables, Vec::new(alloc))
 }
 
 fn main(rt: HostRuntime) -> ExitCode {
@@ -30,6 +48,7 @@ fn main(rt: HostRuntime) -> ExitCode {
         folder: RealFolder::new(&rt),
         moments: RealMoments::new(&rt),
     };
-    let (status, _) = now(rt.alloc(), &words, devices);
+    let mut keeper = store(&rt);
+    let (status, _) = now(rt.alloc(), &words, devices, &mut keeper);
     ExitCode::from(status)
 }

@@ -1,12 +1,10 @@
 -- How a call of the program ends, by what its words mean.
-use Rattle.std.proofs.Common.{◌≡◌, refl, sym, ap, subst, ◌∙◌, ℕ, ℤ, ◌<◌, ◌≤◌, List, [], ◌++◌, length, take, true, false, ◌⊎◌, inl, inr, ⊎_elim, Option, Some, None, Result, Ok, Err, arith}
+use Rattle.std.proofs.Common.{◌≡◌, refl, sym, ap, subst, ◌∙◌, ℕ, ℤ, ◌≤◌, List, [], ◌++◌, length, take, true, false, ◌⊎◌, inl, inr, ⊎_elim, Option, Some, None, Ok, Err, arith}
 use Rattle.std.proofs.lemmas.List.{append-nil}
 use Rattle.std.proofs.lemmas.Bool.{false≢true, cases_lt}
 use Rattle.std.proofs.lemmas.Option.{same_Some}
 use Rattle.std.specs.Option.{option_map}
-use Rattle.answer_source.specs.Live.{Faults, IsCaptureOf}
 use Rattle.command_words.specs.Command.{Command, cut, run_bare, run_kept, command_of}
-use Rattle.delivery.specs.Delivered.{Delivered}
 use Rattle.delivery.specs.Ending.{Ending, done, uncaught, usage, refused, nothing_there, console_failed, folder_failed, store_failed, out_of_memory, out_of_steps, collision, store_full, status_of, closing_line, tells_of_store}
 use Rattle.delivery.specs.Ends.{Ends, as_planned, by_console as by_planned_console, by_folder as by_planned_folder, no_memory as lacked_memory, GetsPrefixes}
 use Rattle.delivery.specs.PutsAll.{OutFile}
@@ -24,13 +22,13 @@ use Rattle.trial_keeping.specs.declared.fault.TrialFault.{TrialFault}
 use Rattle.trial_keeping.specs.declared.fault.TrialFault.TheVariants.{NoTrial, Damaged, Keeper, Collision, Full, Memory}
 use Rattle.trial_parts.specs.Written.{put, clash}
 use Rattle.now_top.specs.Completes.{Completes, as_meant, by_console, by_folder, by_store, by_collision, by_full, no_memory, DoesWhole, DoesAsMeant, WritesPrefixes, WritesSlice, KeepsOne}
-use Rattle.now_top.specs.Kept.{keeps, ends_a_run, Clock, Asks, HasNoRun, KeepsRun, Stored, IsUntouched, KeepsIn, Keeps, no_run, a_run}
+use Rattle.now_top.specs.Kept.{keeps, ends_a_run, Clock, Asks, KeepsRun, Stored, IsUntouched, KeepsIn, Keeps, no_run, a_run}
 use Rattle.now_top.specs.Unkept.{with_keeping}
 use Rattle.now_top.specs.CutCommand as cutting
 use Rattle.now_top.specs.Means.{MeansCommand, file_of}
-use Rattle.now_top.specs.Replies.{Comes, meant, unread, no_memory as lacks_memory, Prepares, Plans, Replies}
-use Rattle.now_top.specs.Seen.{Seen, OnlyReads, Delivers, told_by}
-use Rattle.now_top.specs.World.{World, Plan, closing, StandsAt}
+use Rattle.now_top.specs.Replies.{Comes, meant, unread, no_memory as lacks_memory, Prepares, Replies}
+use Rattle.now_top.specs.Seen.{Seen, told_by}
+use Rattle.now_top.specs.World.{World, Plan, StandsAt}
 
 -- what is told goes through what is told between
 tells_through : {T : Type 0} (a b c : Option T) (P Q R : T → T → Type 0) → ((x y z : T) → P x y → Q y z → R x z) → Tells a b P → Tells b c Q → Tells a c R

@@ -1,5 +1,5 @@
 -- A run over devices is what its command means.
-use Rattle.std.proofs.Common.{false, ◌↔◌, ◌≡◌, refl, sym, ap, subst, ◌∙◌, ℕ, List, [], ◌∷◌, map, ◌⊎◌, inl, inr, Option, Some, None, is_some, Result, Ok, Err}
+use Rattle.std.proofs.Common.{false, ◌↔◌, ◌≡◌, refl, sym, ap, subst, ◌∙◌, ℕ, List, [], ◌∷◌, map, ◌⊎◌, inl, inr, Option, Some, None, is_some, Ok, Err}
 use Rattle.std.specs.Option.{option_map}
 use Rattle.answer_source.proofs.Fitting.{own_fits}
 use Rattle.answer_source.proofs.Replaying.{found_exactly}
@@ -30,7 +30,7 @@ use Rattle.now_top.specs.Planned.{ending_told, plan_of_run}
 use Rattle.now_top.specs.Running.{RunsOver}
 use Rattle.now_top.specs.Seen.{Seen, told_by}
 use Rattle.now_top.specs.Kept.{ends_a_run, not_asked, begun, over as over_clock, Stored, IsUntouched, KeepsIn, no_run, a_run}
-use Rattle.now_top.specs.KeepingRun.{KeepsOver, KeepsText}
+use Rattle.now_top.specs.KeepingRun.{KeepsText}
 use Rattle.keeper.specs.Tables.{TablesView}
 use Rattle.prov_outside.specs.Tells.{Tells}
 use Rattle.trial_keeping.specs.Keeping.{StopLeaves}

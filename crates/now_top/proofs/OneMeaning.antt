@@ -1,10 +1,9 @@
 -- A command has at most one meaning over a world.
-use Rattle.std.proofs.Common.{◌≡◌, refl, sym, ap, subst, ◌∙◌, ℕ, ◌<◌, ◌≤◌, Bool, true, false, List, [], length, ◌⊎◌, inl, inr, Option, Some, None, IsTrue, arith}
+use Rattle.std.proofs.Common.{◌≡◌, refl, sym, ap, subst, ◌∙◌, ℕ, true, false, List, [], inl, inr, Option, Some, None, arith}
 use Rattle.std.proofs.lemmas.Option.{same_Some}
 use Rattle.command_words.specs.Command.{Command, cut, run_bare, run_kept}
-use Rattle.delivery.specs.Ending.{Ending, done, refused, nothing_there}
+use Rattle.delivery.specs.Ending.{Ending, done, refused}
 use Rattle.delivery.specs.PutsAll.{OutFile}
-use Rattle.prov_base.specs.Path.{is_path}
 use Rattle.prov_base.specs.declared.place.Pos.{Pos}
 use Rattle.prov_outside.specs.Folder.{Files}
 use Rattle.py_model.specs.Capture.{Capture}

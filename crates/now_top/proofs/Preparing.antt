@@ -1,23 +1,22 @@
 -- How a plan comes about: where nothing is read, where FILE has no text, and where it has one.
-use Rattle.std.proofs.Common.{false, ◌↔◌, ◌≡◌, refl, sym, ap, subst, ◌∙◌, ℕ, ◌<◌, ◌≤◌, List, [], length, ◌⊎◌, inl, inr, Option, Some, None, Result, Ok, Err, IsTrue, arith}
+use Rattle.std.proofs.Common.{false, ◌↔◌, ◌≡◌, refl, sym, ap, subst, ℕ, ◌<◌, List, length, ◌⊎◌, inl, inr, Option, Some, None, Ok, Err, arith}
 use Rattle.answer_source.proofs.Fitting.{own_fits}
 use Rattle.answer_source.specs.Live.{capture_of}
 use Rattle.command_words.specs.Command.{Command, cut, run_bare, run_kept}
 use Rattle.delivery.specs.Ending.{Ending, done, uncaught, usage, refused, nothing_there, console_failed, folder_failed, store_failed, out_of_memory, out_of_steps, collision, store_full}
-use Rattle.prov_base.specs.declared.place.Pos.{Pos}
 use Rattle.prov_outside.specs.Folder.{Files, largest_file}
 use Rattle.prov_outside.specs.Tells.{Tells}
 use Rattle.run_engine.specs.Bare.{nothing_kept}
-use Rattle.script_reading.specs.Reading.{IsRefusedAt, too_large}
+use Rattle.script_reading.specs.Reading.{too_large}
 use Rattle.py_parser.specs.Faults.{origin}
 use Rattle.now_top.specs.World.{World, Plan, closing, StandsAt, IsNowhere, IsUnasked}
 use Rattle.now_top.specs.CutCommand as cutting
 use Rattle.now_top.specs.RunCommand as running
 use Rattle.now_top.specs.Means.{MeansCommand, file_of}
-use Rattle.now_top.specs.Reading.{Agrees, IsReadAs, ReadsFile, IsRefusedAs}
+use Rattle.now_top.specs.Reading.{Agrees, IsReadAs, ReadsFile}
 use Rattle.now_top.specs.Running.{RunsOver}
 use Rattle.now_top.specs.Seen.{Seen, told_by, OnlyReads}
-use Rattle.now_top.specs.Replies.{Comes, meant, unread, no_memory, Prepares, Plans, PlansWith}
+use Rattle.now_top.specs.Replies.{Comes, meant, unread, no_memory, Prepares, PlansWith}
 use Rattle.now_top.specs.Kept.{keeps, ends_a_run, HasNoRun, not_asked, Stored, IsUntouched, no_run}
 use Rattle.now_top.specs.KeepingRun.{KeepsOver, KeepsText}
 use Rattle.keeper.specs.Tables.{TablesView}

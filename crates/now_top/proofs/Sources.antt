@@ -1,5 +1,5 @@
 -- What was found at FILE, as what its reading answers.
-use Rattle.std.proofs.Common.{◌≡◌, refl, sym, ap, subst, ◌∙◌, ℕ, zero, suc, ◌<◌, List, [], ◌∷◌, length, Option, Some, None, Result, Ok, Err, arith}
+use Rattle.std.proofs.Common.{◌≡◌, refl, sym, ap, subst, ℕ, zero, suc, ◌<◌, List, [], ◌∷◌, length, Option, Some, None, Result, Ok}
 use Rattle.delivery.specs.Ending.{Ending}
 use Rattle.prov_outside.specs.Folder.{Files, largest_file, IsFound, Gets}
 use Rattle.prov_outside.specs.Tells.{Tells}

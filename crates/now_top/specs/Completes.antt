@@ -1,5 +1,5 @@
 -- How a call of the program ends, and what stands then, by what its words mean (this project's profile).
-use Rattle.std.specs.Prelude.{◌≡◌, ℕ, ◌≤◌, List, ◌++◌, length, take, ◌⊎◌, Option, Some}
+use Rattle.std.specs.Prelude.{◌≡◌, ℕ, ◌≤◌, List, ◌++◌, length, take, ◌⊎◌, Option}
 use Rattle.answer_source.specs.Live.{Faults}
 use Rattle.command_words.specs.Command.{Command}
 use Rattle.delivery.specs.Ending.{Ending, status_of, closing_line}

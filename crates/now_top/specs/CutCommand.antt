@@ -1,5 +1,5 @@
 -- What `cut FILE LINE` comes to (this project's profile): the straight-line script at FILE without the lines that LINE does not need.
-use Rattle.std.specs.Prelude.{◌≡◌, ℕ, ◌<◌, ◌≤◌, List, [], length}
+use Rattle.std.specs.Prelude.{ℕ, ◌<◌, ◌≤◌, List, [], length}
 use Rattle.delivery.specs.Ending.{done, refused, nothing_there}
 use Rattle.prov_outside.specs.Folder.{Files}
 use Rattle.straight_line.specs.Slice.{IsSliceOf, BindsTheSame, BindsNothingAt, IsRefusedAt}

@@ -10,7 +10,7 @@ use Rattle.run_engine.specs.Bare.{nothing_kept}
 use Rattle.now_top.specs.Kept.{Clock, Asks, IsClockOf, Stored, Keeps, StopsBy}
 use Rattle.now_top.specs.RunCommand.{RunsText}
 use Rattle.now_top.specs.Seen.{Seen, told_by}
-use Rattle.now_top.specs.World.{World, Plan, closing, StandsAt}
+use Rattle.now_top.specs.World.{Plan, closing, StandsAt}
 
 -- The text, which stands at FILE among some files, comes to a plan in what the devices gave, and no more was asked; or memory ran out. Then its run is kept.
 pub record KeepsOver (file text : List ℕ) (steps : ℕ) (arguments : List (List ℕ)) (files : Files) (read ran : Seen) (was is : Stored) (may may' : TablesView → Type 0) (plan : Plan) : Type 0 where

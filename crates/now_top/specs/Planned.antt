@@ -1,5 +1,5 @@
 -- The plan that the program's own value stands for (this project's profile).
-use Rattle.std.specs.Prelude.{List, [], map}
+use Rattle.std.specs.Prelude.{[], map}
 use Rattle.capture.specs.declared.ended.Ended.{Ended}
 use Rattle.capture.specs.declared.ended.RunEnd.{RunEnd}
 use Rattle.capture.specs.declared.ended.RunEnd.TheVariants.{Finished, Raised, Spent}

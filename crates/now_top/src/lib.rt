@@ -1,15 +1,19 @@
-//! The top call of the program: what its words ask for, and how that is delivered.
+//! The top call of the program: what its words ask for, and how that is kept and delivered.
 //!
-//! [`now`] makes a plan and delivers it. What it says is `Replies` in `specs/Replies.antt`: from what its devices tell and count as it begins to what they
-//! tell and count as it ends, stage by stage.
+//! [`now`] makes a plan, keeps its run, and delivers the plan. What it says is `RepliesWith` in `specs/Replies.antt`: from what its devices and the keeper tell and
+//! count as it begins to what they tell and count as it ends, stage by stage.
 //! - The words are a command by `command_words`, or none. What they mean over a world, the files of the folder and what the devices give, is
-//!   `Means` in `specs/Means.antt`, with a file for each command: `specs/CutCommand.antt`, `specs/RunCommand.antt`.
-//! - FILE is read only where it is a path. `run --bare` then runs its script over the devices, which are asked what the run asks and no more.
+//!   `Means` in `specs/Means.antt`, with a file for each command: `specs/CutCommand.antt`, `specs/RunCommand.antt`. `run` means what `run --bare` means.
+//! - FILE is read only where it is a path. `run` then runs its script over the devices, which are asked what the run asks and no more; without `--bare` the clock is
+//!   asked before it and after it.
+//! - Without `--bare` the run is kept as a trial: that of the script at FILE in what the devices gave (`specs/Kept.antt`). A fault there takes the place of how the
+//!   run ended, and its files and its output are delivered all the same.
 //! - The plan is delivered by `delivery`: files in order, text, closing line, status.
 //!
 //! The laws: a command has at most one meaning over a world ([`one_meaning`]). Where the words mean a plan, the status is that of its ending, or a fault that was
-//! counted, or want of memory ([`completes`]). Without such a fault all of the plan stands ([`does_whole`], [`does_as_meant`]). The console has a prefix of the text
-//! and of a closing line in any case ([`writes_prefixes`]). [`writes_slice`] says what `cut` has written with status 0.
+//! counted, or one of a store that does not take the trial, or want of memory ([`completes`]). Without such a fault all of the plan stands ([`does_whole`],
+//! [`does_as_meant`]). The console has a prefix of the text and of a closing line in any case ([`writes_prefixes`]). [`writes_slice`] says what `cut` has written with
+//! status 0. A run with a status of its own is kept as the next trial ([`keeps_trial`]), and no other command asks anything of the store ([`keeps_nothing_else`]).
 #![tactic(auto)]
 
 mod deliver;

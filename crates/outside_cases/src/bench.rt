@@ -1,19 +1,24 @@
 // What the commands have set up for the next call of the program, and the one place where a command is told from others.
+ghost use Rattle.std.specs.Prelude.{◌≡◌, false, IfOk};
+
 use crate::texts::{bytes_of, halves, number, write_rows};
 use crate::{base, devices, streams};
 use answer_source::Devices;
+use keeper::Keeper;
+use memory_keeper::{MemoryKeeper, Tables};
 use now_top::now;
 use prov_base::{Bytes, Name};
 use prov_outside::{MemoryConsole, MemoryFolder, MemoryMoments};
 use std::alloc::{AllocError, Global};
 
-/// The one file of the folder, and the numbers of the calls of the console and of the folder that fail. 0 is none.
+/// The one file of the folder, and the numbers of the calls of the console, of the folder and of the store of trials that fail. 0 is none.
 #[derive(Drop)]
 pub struct Bench {
     path: String,
     text: Vec<u8>,
     console_fails: u64,
     folder_fails: u64,
+    store_fails: u64,
 }
 
 impl Bench {
@@ -23,6 +28,7 @@ impl Bench {
             text: Vec::new(alloc),
             console_fails: 0,
             folder_fails: 0,
+            store_fails: 0,
         })
     }
 
@@ -68,6 +74,7 @@ impl Bench {
                 self.console_fails = number(console);
                 self.folder_fails = number(folder);
             }
+            "store" => self.store_fails = number(words),
             _ => return Ok(false),
         }
         Ok(true)
@@ -118,15 +125,31 @@ impl Bench {
         })
     }
 
+    /// An empty store of trials.
+    fn keeper(&self, alloc: Global) -> Result<MemoryKeeper, AllocError>
+        ensures { IfOk result (λ keeper. keeper.held.is_open ≡ false) }
+    {
+        let failing = vec![in alloc; self.store_fails]?;
+        let tables = Tables {
+            heads: Vec::new(alloc),
+            pages: Vec::new(alloc),
+            contents: Vec::new(alloc),
+            current: Vec::new(alloc),
+        };
+        Ok(MemoryKeeper::of(tables, failing))
+    }
+
     /// Makes a call of the program, its words with `|` between them. It writes the status, what stands on the console, whether the
-    /// file is another one afterwards, and what stands at `out.txt` and at `more.txt`.
+    /// file is another one afterwards, what stands at `out.txt` and at `more.txt`, and how many trials there are, if any.
     fn call(&mut self, alloc: Global, words: &str, out: &mut Vec<u8>) -> Result<(), AllocError> {
         let list = words_of(alloc, words)?;
-        let (status, devices) = now(alloc, &list, self.devices(alloc)?);
+        let mut keeper = self.keeper(alloc)?;
+        let (status, devices) = now(alloc, &list, self.devices(alloc)?, &mut keeper);
         let file = devices.folder.bytes(self.path.as_str());
         self.write_call(alloc, status, devices.console.written(), file, out)?;
         write_file(alloc, "out.txt", &devices.folder, out)?;
-        write_file(alloc, "more.txt", &devices.folder, out)
+        write_file(alloc, "more.txt", &devices.folder, out)?;
+        write_trials(alloc, &mut keeper, out)
     }
 
     fn write_call(
@@ -211,5 +234,17 @@ fn answer_device(
         "sinks" => streams::sinks(alloc, words, out),
         "real" => streams::folder(rt, words, out),
         _ => out.extend_from_slice(b"no such command"),
+    }
+}
+
+/// Writes how many trials a store has, where it has some.
+fn write_trials(
+    alloc: Global,
+    keeper: &mut MemoryKeeper,
+    out: &mut Vec<u8>,
+) -> Result<(), AllocError> {
+    match keeper.trials(alloc) {
+        Ok(0) | Err(_) => Ok(()),
+        Ok(trials) => out.extend_from_slice(format!(in alloc; ", trials {trials}")?.as_bytes()),
     }
 }

@@ -1,4 +1,3 @@
-use Rattle.std.proofs.Common.{refl}
 use Rattle.delivery.specs.Ending.{ending_of}
 use Rattle.py_tree.specs.Erasure.{script_of}
 use Rattle.now_top.specs.Planned.{plan_of}

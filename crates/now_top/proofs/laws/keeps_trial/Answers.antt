@@ -1,5 +1,4 @@
-use Rattle.std.proofs.Common.{◌≡◌, ℕ, ◌⊎◌, inl, inr, ⊎_elim, sym, ◌∙◌, arith}
-use Rattle.now_top.proofs.Completing.{keeps_so, planned_status, run_status}
+use Rattle.now_top.proofs.Completing.{keeps_so, run_status}
 use Rattle.now_top.proofs.laws.keeps_trial.Goals as goal
 
 pub returns : goal.returns

@@ -1,5 +1,5 @@
-use Rattle.std.proofs.Common.{◌≡◌, ℕ, false, sym, ap, ◌∙◌, arith}
-use Rattle.delivery.specs.Ending.{Ending, done, tells_of_store}
+use Rattle.std.proofs.Common.{ap, arith}
+use Rattle.delivery.specs.Ending.{Ending, tells_of_store}
 use Rattle.now_top.proofs.Completing.{as_meant_so, slices_so}
 use Rattle.now_top.proofs.laws.writes_slice.Goals as goal
 

@@ -1,4 +1,4 @@
-use Rattle.std.proofs.Common.{refl, ◌∙◌, ap}
+use Rattle.std.proofs.Common.{refl}
 use Rattle.now_top.proofs.run.script_at.Goals as goal
 
 pub returns-in-Err-At-clause-refused : goal.returns-in-Err-At-clause-refused

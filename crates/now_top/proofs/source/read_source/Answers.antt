@@ -1,4 +1,4 @@
-use Rattle.std.proofs.Common.{◌≡◌, refl, sym, ◌∙◌, Some, None, inl, inr, arith}
+use Rattle.std.proofs.Common.{refl, sym, ◌∙◌, Some, None, inl, inr, arith}
 use Rattle.prov_outside.specs.declared.folder.Found.TheVariants.{Bytes, Absent, TooLarge}
 use Rattle.now_top.proofs.Sources.{read_always, read_found, found_bytes, found_nothing, found_large, long_list}
 use Rattle.now_top.proofs.source.read_source.Goals as goal
