@@ -1,15 +1,19 @@
 -- What was read so far, before what is still read.
-use Rattle.std.proofs.Common.{◌≡◌, ℕ, suc, ◌+◌, ◌<◌, List, [], ◌∷◌, ◌++◌, length, get_or, drop, drop-cons, append_assoc, Option, Some, None, Ok, refl, sym, ap, subst, ◌∙◌, arith}
+use Rattle.std.proofs.Common.{◌≡◌, ℕ, suc, ◌+◌, ◌<◌, List, [], ◌∷◌, ◌++◌, length, get_or, drop, drop-cons, append_assoc, Option, Some, None, Ok, Err, refl, sym, ap, subst, ◌∙◌, arith}
 use Rattle.prov_outside.specs.Tells.{Tells}
 use Rattle.prov_outside.specs.declared.folder.Found.{Found}
 use Rattle.capture.specs.Files.{with_file}
-use Rattle.keeper.specs.Keeping.{KeeperView}
+use Rattle.keeper.specs.Keeping.{KeeperView, LeavesAmong}
 use Rattle.keeper.specs.Tables.{TablesView}
 use Rattle.trial_parts.specs.Found.{Finds}
 use Rattle.trial_parts.specs.Whole.{Check, fine, damaged, and_then}
+use Rattle.trial_parts.specs.declared.read_fault.ReadFault.{ReadFault}
+use Rattle.trial_parts.specs.declared.read_fault.ReadFault.TheVariants.{Damaged, Keeper, Memory}
 use Rattle.trial_records.specs.declared.record.FileRecord.{FileRecord}
+use Rattle.trial_records.specs.declared.record.FinalRecord.{FinalRecord}
+use Rattle.capture.specs.declared.ended.FileOut.{FileOut}
 use Rattle.trial_contents.specs.Checks.{filled}
-use Rattle.trial_contents.specs.Rest.{found_in, file_with, files_in}
+use Rattle.trial_contents.specs.Rest.{found_in, file_with, files_in, final_in, finals_in}
 use Rattle.trial_contents.proofs.FileOrder.{AreAhead, put_behind}
 
 -- what was read before what is still read
@@ -59,3 +63,50 @@ one_file done all front kept file files ahead old mid None so_far finds = tt
 one_file done all front kept file files ahead old None (Some c) so_far finds = absurd finds
 one_file done all front kept file files ahead None (Some b) (Some c) so_far finds = absurd so_far
 one_file done all front kept file files ahead (Some a) (Some b) (Some c) so_far finds = file_on done all front kept file files ahead a b c so_far finds
+
+-- ---- files that the run left
+
+-- nothing has changed, and these files were read before those that are still read
+abbrev pub FinalsSoFar : List FinalRecord → List FileOut → List FinalRecord → KeeperView → KeeperView → Type 0
+FinalsSoFar all front files before after = (after ≡ before) × (finals_in before.seen all ≡ behind front (finals_in before.seen files))
+
+final_on : (all : List FinalRecord) (front : List FileOut) (one : FileOut) (file : FinalRecord) (files : List FinalRecord) (a b c : KeeperView)
+    → FinalsSoFar all front (file ∷ files) a b → Finds (λ tables. final_in tables file) (Ok one) b c → FinalsSoFar all (front ++ one ∷ []) files a c
+final_on all front one file files a b c so_far finds =
+    let is : final_in a.seen file ≡ fine one = subst (λ (v : KeeperView). final_in v.seen file ≡ fine one) so_far.0 finds.0 in (
+      finds.1 ∙ so_far.0,
+      so_far.1 ∙ ap (λ (check : Check FileOut). behind front (and_then check (λ found. and_then (finals_in a.seen files) (λ others. fine (found ∷ others))))) is
+          ∙ behind_one front one (finals_in a.seen files),
+    )
+
+pub one_final : (all : List FinalRecord) (front : List FileOut) (one : FileOut) (file : FinalRecord) (files : List FinalRecord) (old mid new : Option KeeperView)
+    → Tells old mid (FinalsSoFar all front (file ∷ files)) → Tells mid new (Finds (λ tables. final_in tables file) (Ok one)) → Tells old new (FinalsSoFar all (front ++ one ∷ []) files)
+one_final all front one file files old mid None so_far finds = tt
+one_final all front one file files old None (Some c) so_far finds = absurd finds
+one_final all front one file files None (Some b) (Some c) so_far finds = absurd so_far
+one_final all front one file files (Some a) (Some b) (Some c) so_far finds = final_on all front one file files a b c so_far finds
+
+finals_end : (all : List FinalRecord) (front : List FileOut) (fault : ReadFault) (file : FinalRecord) (files : List FinalRecord) (a b c : KeeperView)
+    → FinalsSoFar all front (file ∷ files) a b → Finds (λ tables. final_in tables file) (Err fault) b c → Finds {A = List FileOut} (λ tables. finals_in tables all) (Err fault) a c
+finals_end all front (Damaged damage) file files a b c so_far finds =
+    let is : final_in a.seen file ≡ damaged damage = subst (λ (v : KeeperView). final_in v.seen file ≡ damaged damage) so_far.0 finds.0 in
+    (so_far.1 ∙ ap (λ (check : Check FileOut). behind front (and_then check (λ found. and_then (finals_in a.seen files) (λ others. fine (found ∷ others))))) is, finds.1 ∙ so_far.0)
+finals_end all front Keeper file files a b c so_far finds = finds ∙ so_far.0
+finals_end all front Memory file files a b c so_far finds = finds ∙ so_far.0
+
+pub final_stops : (all : List FinalRecord) (front : List FileOut) (fault : ReadFault) (file : FinalRecord) (files : List FinalRecord) (old mid new : Option KeeperView)
+    → Tells old mid (FinalsSoFar all front (file ∷ files)) → Tells mid new (Finds (λ tables. final_in tables file) (Err fault)) → Tells old new (Finds {A = List FileOut} (λ tables. finals_in tables all) (Err fault))
+final_stops all front fault file files old mid None so_far finds = tt
+final_stops all front fault file files old None (Some c) so_far finds = absurd finds
+final_stops all front fault file files None (Some b) (Some c) so_far finds = absurd so_far
+final_stops all front fault file files (Some a) (Some b) (Some c) so_far finds = finals_end all front fault file files a b c so_far finds
+
+-- ---- stops
+
+-- what a stop may leave after two calls is among what it might have left before them
+pub leaves_then : (old mid new : Option KeeperView) (may may' may'' : TablesView → Type 0) → Tells old mid (λ _ _. LeavesAmong may may') → Tells mid new (λ _ _. LeavesAmong may' may'')
+    → Tells old new (λ _ _. LeavesAmong may may'')
+leaves_then old mid None may may' may'' first second = tt
+leaves_then old None (Some c) may may' may'' first second = absurd second
+leaves_then None (Some b) (Some c) may may' may'' first second = absurd first
+leaves_then (Some a) (Some b) (Some c) may may' may'' first second = λ tables left. first tables (second tables left)

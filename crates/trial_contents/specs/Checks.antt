@@ -36,7 +36,7 @@ IsRecordWith spell fits bad digest bytes (damaged damage) = (byte : ℕ) × IsBa
 abbrev pub IsRecordIn : {A : Type 0} → (A → List ℕ) → (A → Type 0) → (List ℕ → ℕ → Type 0) → TablesView → Digest → Check A → Type 0
 IsRecordIn spell fits bad tables digest = Then (λ check. content_in tables digest ≡ check) (IsRecordWith spell fits bad digest)
 
--- what a list that was filled is, where all went well
-abbrev pub filled : {A T : Type 0} → List A → Result T ReadFault → Result (List A) ReadFault
-filled items (Ok done) = Ok items
-filled items (Err fault) = Err fault
+-- what was filled, where all went well
+abbrev pub filled : {A T : Type 0} → A → Result T ReadFault → Result A ReadFault
+filled whole (Ok done) = Ok whole
+filled whole (Err fault) = Err fault

@@ -1,11 +1,12 @@
 // What a trial's head and records name, read.
-ghost use Rattle.std.specs.Prelude.{◌≡◌, IfSome};
+ghost use Rattle.std.specs.Prelude.{◌≡◌, [], IfSome};
 ghost use Rattle.prov_outside.specs.Tells.{Tells};
 ghost use Rattle.keeper.specs.Keeping.{AreKept, LeavesAmong};
 ghost use Rattle.trial_parts.specs.Causes.{Causes};
 ghost use Rattle.trial_parts.specs.Found.{Finds};
 ghost use Rattle.trial_parts.specs.ReadFault.{has_failed};
 ghost use Rattle.trial_records.specs.RecordFits.{CaptureFits};
+ghost use Rattle.trial_contents.specs.Checks.{filled};
 ghost use Rattle.trial_contents.specs.Rest.{capture_in, contents_in};
 
 use crate::answers::keep_answers;
@@ -39,6 +40,29 @@ impl Model for Contents {
     ghost view = { λ c. record { output = c.output; capture = c.capture; finals = c.finals.items } };
 }
 
+/// Fills an empty capture by the record. After an `Err` it may hold anything of it.
+fn put_kept<K: Keeper>(
+    alloc: Global,
+    keeper: &mut K,
+    capture: &mut Capture,
+    kept: &CaptureRecord,
+) -> Result<(), ReadFault>
+    requires kept { IfSome (K.told keeper.old) (AreKept (K.is_open keeper.old)) }
+    requires fit { CaptureFits kept.now }
+    requires empty { capture.old ≡ record { answers = []; files = []; written = [] } }
+    ensures finds { Tells (K.told keeper.old) (K.told keeper.new) (Finds (λ tables. capture_in tables kept.now) (filled capture.new result)) }
+    ensures kept { IfSome (K.told keeper.new) (AreKept (K.is_open keeper.new)) }
+    ensures stops { Tells (K.told keeper.old) (K.told keeper.new) (λ _ _. LeavesAmong (K.may_leave keeper.old) (K.may_leave keeper.new)) }
+    ensures batch { K.is_open keeper.new ≡ K.is_open keeper.old }
+    ensures cause { Causes (has_failed result) (K.faults keeper.old) (K.faults keeper.new) }
+{
+    lists_are_in_order();
+    if keep_answers(alloc, capture, kept.answers()).is_err() {
+        return Err(ReadFault::Memory);
+    }
+    keep_files(alloc, keeper, capture, kept.files())
+}
+
 /// What the devices gave, by its record.
 fn fill_capture<K: Keeper>(
     alloc: Global,
@@ -53,14 +77,10 @@ fn fill_capture<K: Keeper>(
     ensures batch { K.is_open keeper.new ≡ K.is_open keeper.old }
     ensures cause { Causes (has_failed result) (K.faults keeper.old) (K.faults keeper.new) }
 {
-    lists_are_in_order();
     let Ok(mut capture) = Capture::new(alloc) else {
         return Err(ReadFault::Memory);
     };
-    if keep_answers(alloc, &mut capture, kept.answers()).is_err() {
-        return Err(ReadFault::Memory);
-    }
-    match keep_files(alloc, keeper, &mut capture, kept.files()) {
+    match put_kept(alloc, keeper, &mut capture, kept) {
         Ok(()) => Ok(capture),
         Err(fault) => Err(fault),
     }
