@@ -2,9 +2,10 @@
 use crate::outcome::{write_ended, write_line, write_shown};
 use crate::words::{add_bytes, bytes_of, halves};
 use answer_source::Devices;
+use capture::Ended;
 use prov_base::{Bytes, Memory, Name};
 use prov_outside::{MemoryConsole, MemoryFolder, MemoryMoments};
-use py_tree::drop_script;
+use py_tree::{Script, drop_script};
 use run_engine::run_bare;
 use script_reading::{Refusal, read_script};
 use std::alloc::{AllocError, Global};
@@ -129,19 +130,36 @@ impl Case {
         Ok(self.files.push((name_of(alloc, path)?, bytes))?)
     }
 
+    /// The console of the case.
+    fn console(&self, alloc: Global) -> Result<MemoryConsole, AllocError> {
+        let refused = Vec::from_slice(alloc, &self.console_refuses)?;
+        let input = Vec::from_slice(alloc, &self.input)?;
+        Ok(MemoryConsole::of(Bytes::of(input), refused))
+    }
+
+    /// The folder of the case, which holds no files afterwards.
+    fn folder(&mut self, alloc: Global) -> Result<MemoryFolder, AllocError> {
+        let refused = Vec::from_slice(alloc, &self.folder_refuses)?;
+        let files = mem::replace(&mut self.files, Vec::new(alloc));
+        Ok(MemoryFolder::of(files, refused))
+    }
+
+    /// What gives the times and words of the case.
+    fn moments(&self, alloc: Global) -> Result<MemoryMoments, AllocError> {
+        let refused = Vec::from_slice(alloc, &self.moments_refuse)?;
+        let words = Vec::from_slice(alloc, &self.words)?;
+        let times = Vec::from_slice(alloc, &self.times)?;
+        Ok(MemoryMoments::of(times, words, refused))
+    }
+
     /// The devices of the case, which holds no files afterwards.
     fn devices(
         &mut self,
         alloc: Global,
     ) -> Result<Devices<MemoryConsole, MemoryFolder, MemoryMoments>, AllocError> {
-        let input = Bytes::of(Vec::from_slice(alloc, &self.input)?);
-        let console = MemoryConsole::of(input, Vec::from_slice(alloc, &self.console_refuses)?);
-        let files = mem::replace(&mut self.files, Vec::new(alloc));
-        let folder = MemoryFolder::of(files, Vec::from_slice(alloc, &self.folder_refuses)?);
-        let times = Vec::from_slice(alloc, &self.times)?;
-        let words = Vec::from_slice(alloc, &self.words)?;
-        let refused = Vec::from_slice(alloc, &self.moments_refuse)?;
-        let moments = MemoryMoments::of(times, words, refused);
+        let console = self.console(alloc)?;
+        let moments = self.moments(alloc)?;
+        let folder = self.folder(alloc)?;
         Ok(Devices {
             console,
             folder,
@@ -149,32 +167,59 @@ impl Case {
         })
     }
 
+    /// How the run of a script comes out.
+    fn ran(&mut self, alloc: Global, script: &Script) -> Result<Result<Ended, Memory>, AllocError> {
+        let devices = self.devices(alloc)?;
+        let (path, steps) = (self.path.as_str(), self.steps);
+        let (ran, _) = run_bare(alloc, script, path, &self.arguments, steps, devices);
+        Ok(ran)
+    }
+
+    /// Runs a script, which is let go, and writes how that came out.
+    fn run_script(
+        &mut self,
+        alloc: Global,
+        script: Script,
+        whole: bool,
+        out: &mut Vec<u8>,
+    ) -> Result<(), AllocError> {
+        let ran = self.ran(alloc, &script);
+        drop_script(script);
+        write_ran(alloc, ran?, whole, out)
+    }
+
     /// Reads the script and runs it, and writes how that came out: all of it, or what a script shows.
     fn run(&mut self, alloc: Global, whole: bool, out: &mut Vec<u8>) -> Result<(), AllocError> {
         out.extend_from_slice(b"== ")?;
         write_line(self.name.as_str(), out)?;
-        let script = match read_script(alloc, &self.script) {
-            Ok(script) => script,
-            Err(Refusal::At(at)) => {
-                let (line, col) = (at.line, at.col);
-                return write_line(format!(in alloc; "refused at {line}:{col}")?.as_str(), out);
-            }
-            Err(Refusal::Memory) => return write_line("out of memory in reading", out),
-        };
-        let devices = match self.devices(alloc) {
-            Ok(devices) => devices,
-            Err(lack) => {
-                drop_script(script);
-                return Err(lack);
-            }
-        };
-        let (path, steps) = (self.path.as_str(), self.steps);
-        let (ran, _) = run_bare(alloc, &script, path, &self.arguments, steps, devices);
-        drop_script(script);
-        match ran {
-            Ok(over) if whole => write_ended(alloc, &over, out),
-            Ok(over) => write_shown(alloc, &over, out),
-            Err(Memory) => write_line("out of memory", out),
+        match read_script(alloc, &self.script) {
+            Ok(script) => self.run_script(alloc, script, whole, out),
+            Err(refusal) => write_refusal(alloc, refusal, out),
         }
+    }
+}
+
+/// Writes why a script was not read.
+fn write_refusal(alloc: Global, refusal: Refusal, out: &mut Vec<u8>) -> Result<(), AllocError> {
+    match refusal {
+        Refusal::At(at) => {
+            let (line, col) = (at.line, at.col);
+            write_line(format!(in alloc; "refused at {line}:{col}")?.as_str(), out)
+        }
+        Refusal::Memory => write_line("out of memory in reading", out),
+    }
+}
+
+/// Writes how a run came out: all of it, or what a script shows.
+fn write_ran(
+    alloc: Global,
+    ran: Result<Ended, Memory>,
+    whole: bool,
+    out: &mut Vec<u8>,
+) -> Result<(), AllocError> {
+    match ran {
+        Ok(over) if whole => write_ended(alloc, &over, out),
+        Ok(over) => write_shown(alloc, &over, out),
+        Err(Memory) => write_line("out of memory", out),
     }
 }
