@@ -19,15 +19,51 @@ pub fn play_rows(alloc: Global, rows: &str, out: &mut Vec<u8>) -> Result<(), Sto
     play_over(alloc, &mut values, rows, out)
 }
 
+/// What plays the rows of a section.
+trait Played {
+    /// The answers to the rows of a section.
+    fn play(
+        &mut self,
+        alloc: Global,
+        values: &mut Values,
+        rows: &str,
+        out: &mut Vec<u8>,
+    ) -> Result<(), Stop>;
+}
+
+impl Played for Store {
+    fn play(
+        &mut self,
+        alloc: Global,
+        values: &mut Values,
+        rows: &str,
+        out: &mut Vec<u8>,
+    ) -> Result<(), Stop> {
+        let last = name_all(alloc, values)?;
+        play_lines(alloc, self, values, last, rows, out)
+    }
+}
+
+fn play_and_drop<P: Played + Drop>(
+    alloc: Global,
+    mut store: P,
+    values: &mut Values,
+    rows: &str,
+    out: &mut Vec<u8>,
+) -> Result<(), Stop> {
+    store.play(alloc, values, rows, out)
+}
+
 fn play_over(
     alloc: Global,
     values: &mut Values,
     rows: &str,
     out: &mut Vec<u8>,
 ) -> Result<(), Stop> {
-    let mut store = Store::new(alloc, values, "p.py", &[])?;
-    let last = name_all(alloc, values)?;
-    play_lines(alloc, &mut store, values, last, rows, out)
+    match Store::new(alloc, values, "p.py", &[]) {
+        Ok(store) => play_and_drop(alloc, store, values, rows, out),
+        Err(_) => Err(Stop::Memory),
+    }
 }
 
 fn play_lines(

@@ -102,6 +102,42 @@ fn write_number_of_text(
     Ok(())
 }
 
+/// Writes what is known of a number that was given.
+fn write_known(
+    alloc: Global,
+    names: &mut Names,
+    command: &str,
+    words: &str,
+    out: &mut Vec<u8>,
+) -> Result<(), AllocError> {
+    let number = words.parse::<u32>().unwrap_or(0);
+    match command {
+        "text_of" => out.extend_from_slice(names.text_of(number).unwrap_or("not given").as_bytes()),
+        "tuple_of" => write_values(alloc, names.tuple_of(number).unwrap_or(&[]), out),
+        _ => write_key(alloc, names, parse_value(words).unwrap_or(Value::None), out),
+    }
+}
+
+fn write_order(
+    alloc: Global,
+    names: &mut Names,
+    words: &str,
+    out: &mut Vec<u8>,
+) -> Result<(), Stop> {
+    let are_in_order = are_numbered(alloc, names, words.parse::<u32>().unwrap_or(0))?;
+    out.extend_from_slice(if are_in_order {
+        b"in order"
+    } else {
+        b"another"
+    })?;
+    Ok(())
+}
+
+fn begin_anew(alloc: Global, names: &mut Names) -> Result<(), Stop> {
+    *names = Names::new(alloc)?;
+    Ok(())
+}
+
 fn write_row(
     alloc: Global,
     names: &mut Names,
@@ -109,24 +145,14 @@ fn write_row(
     words: &str,
     out: &mut Vec<u8>,
 ) -> Result<(), Stop> {
-    let number = words.parse::<u32>().unwrap_or(0);
     match command {
-        "text" => write_number_of_text(alloc, names, words, out)?,
-        "text_of" => out.extend_from_slice(
-            names.text_of(number).unwrap_or("not given").as_bytes(),
-        )?,
-        "tuple" => write_tuple(alloc, names, words, out)?,
-        "tuple_of" => write_values(alloc, names.tuple_of(number).unwrap_or(&[]), out)?,
-        "key" => write_key(alloc, names, parse_value(words).unwrap_or(Value::None), out)?,
-        "nest" => write_nest(alloc, names, words, out)?,
-        "words" => out.extend_from_slice(if are_numbered(alloc, names, number)? {
-            b"in order"
-        } else {
-            b"another"
-        })?,
-        _ => *names = Names::new(alloc)?,
+        "text" => write_number_of_text(alloc, names, words, out),
+        "tuple" => write_tuple(alloc, names, words, out),
+        "nest" => write_nest(alloc, names, words, out),
+        "words" => write_order(alloc, names, words, out),
+        "text_of" | "tuple_of" | "key" => Ok(write_known(alloc, names, command, words, out)?),
+        _ => begin_anew(alloc, names),
     }
-    Ok(())
 }
 
 fn answer_row(alloc: Global, names: &mut Names, row: &str, out: &mut Vec<u8>) -> Result<(), Stop> {
