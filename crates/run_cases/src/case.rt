@@ -210,7 +210,21 @@ fn write_refusal(alloc: Global, refusal: Refusal, out: &mut Vec<u8>) -> Result<(
     }
 }
 
-/// Writes how a run came out: all of it, or what a script shows.
+/// Writes the end of a run: all of it, or what a script shows.
+fn write_over(
+    alloc: Global,
+    over: &Ended,
+    whole: bool,
+    out: &mut Vec<u8>,
+) -> Result<(), AllocError> {
+    if whole {
+        write_ended(alloc, over, out)
+    } else {
+        write_shown(alloc, over, out)
+    }
+}
+
+/// Writes how a run came out.
 fn write_ran(
     alloc: Global,
     ran: Result<Ended, Memory>,
@@ -218,8 +232,7 @@ fn write_ran(
     out: &mut Vec<u8>,
 ) -> Result<(), AllocError> {
     match ran {
-        Ok(over) if whole => write_ended(alloc, &over, out),
-        Ok(over) => write_shown(alloc, &over, out),
+        Ok(over) => write_over(alloc, &over, whole, out),
         Err(Memory) => write_line("out of memory", out),
     }
 }
