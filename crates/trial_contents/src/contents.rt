@@ -5,9 +5,10 @@ ghost use Rattle.keeper.specs.Keeping.{AreKept, LeavesAmong};
 ghost use Rattle.trial_parts.specs.Causes.{Causes};
 ghost use Rattle.trial_parts.specs.Found.{Finds};
 ghost use Rattle.trial_parts.specs.ReadFault.{has_failed};
+ghost use Rattle.trial_parts.specs.Whole.{fine, and_then};
 ghost use Rattle.trial_records.specs.RecordFits.{CaptureFits};
 ghost use Rattle.trial_contents.specs.Checks.{filled};
-ghost use Rattle.trial_contents.specs.Rest.{capture_in, contents_in};
+ghost use Rattle.trial_contents.specs.Rest.{capture_in, contents_in, finals_in};
 
 use crate::answers::keep_answers;
 use crate::files::keep_files;
@@ -19,7 +20,7 @@ use prov_base::Bytes;
 use std::alloc::Global;
 use std::marker::Model;
 use trial_parts::{ReadFault, content};
-use trial_records::{CaptureRecord, lists_are_in_order};
+use trial_records::{CaptureRecord, FinalRecord, lists_are_in_order};
 
 /// The output of a run, what the devices gave, and the files that it left.
 #[derive(Drop)]
@@ -86,6 +87,31 @@ fn fill_capture<K: Keeper>(
     }
 }
 
+/// The output and what the devices gave, with the files that the run left.
+fn with_finals<K: Keeper>(
+    alloc: Global,
+    keeper: &mut K,
+    output: Bytes,
+    capture: Capture,
+    files: &[FinalRecord],
+) -> Result<Contents, ReadFault>
+    requires kept { IfSome (K.told keeper.old) (AreKept (K.is_open keeper.old)) }
+    ensures finds { Tells (K.told keeper.old) (K.told keeper.new) (Finds (λ tables. and_then (finals_in tables files.now) (λ finals. fine (record { output = output; capture = capture; finals = finals }))) result) }
+    ensures kept { IfSome (K.told keeper.new) (AreKept (K.is_open keeper.new)) }
+    ensures stops { Tells (K.told keeper.old) (K.told keeper.new) (λ _ _. LeavesAmong (K.may_leave keeper.old) (K.may_leave keeper.new)) }
+    ensures batch { K.is_open keeper.new ≡ K.is_open keeper.old }
+    ensures cause { Causes (has_failed result) (K.faults keeper.old) (K.faults keeper.new) }
+{
+    match read_final_files(alloc, keeper, files) {
+        Ok(finals) => Ok(Contents {
+            output,
+            capture,
+            finals,
+        }),
+        Err(fault) => Err(fault),
+    }
+}
+
 /// What a head and its records name: the output, the files that were found, and the files that the run left, in this order.
 pub(crate) fn read_contents<K: Keeper>(
     alloc: Global,
@@ -104,16 +130,8 @@ pub(crate) fn read_contents<K: Keeper>(
         Ok(output) => output,
         Err(fault) => return Err(fault),
     };
-    let capture = match fill_capture(alloc, keeper, &records.capture) {
-        Ok(capture) => capture,
-        Err(fault) => return Err(fault),
-    };
-    match read_final_files(alloc, keeper, records.finals.as_slice()) {
-        Ok(finals) => Ok(Contents {
-            output,
-            capture,
-            finals,
-        }),
+    match fill_capture(alloc, keeper, &records.capture) {
+        Ok(capture) => with_finals(alloc, keeper, output, capture, records.finals.as_slice()),
         Err(fault) => Err(fault),
     }
 }
