@@ -24,8 +24,8 @@ pub fn one_meaning()
     one_reading();
 }
 
-/// Completeness: where the words mean a plan, the status is that of its ending; or it is 5 and the console's count rose, or 6 and a count of the folder rose, or 7
-/// and the keeper's count rose, or 10 and other bytes stand under the digest of a content of the trial, or 13 and the store is full, or 8.
+/// Completeness: where the words mean a plan, the status is that of its ending, or it tells of a fault. 5, 6 and 7 come where the count of the console, of the
+/// folder or of the keeper rose. 10 comes where other bytes stand under the digest of a content of the trial, 13 where the store is full, and 8 for want of memory.
 /// The world is that of the call: the folder's files, and what the devices gave.
 pub fn completes()
     ensures { (words : List (List ℕ)) (before after : Seen) (was is : Stored) (status : ℕ) (so : Replies words before after was is status) (plan : Plan)
@@ -74,8 +74,8 @@ pub fn writes_slice()
     done_is_whole();
 }
 
-/// The law of trials: `run FILE` with the status of a run, which is 0, 1 or 9, has kept the run of the script at FILE in what the devices gave, as the next trial
-/// of the store, and nothing else is new in the store.
+/// The law of trials: the statuses of a run are 0, 1 and 9. With one of them `run FILE` has kept the run of the script at FILE, in what the devices gave, as the
+/// next trial of the store. Nothing else is new in the store.
 pub fn keeps_trial()
     ensures { (words : List (List ℕ)) (before after : Seen) (was is : Stored) (status : ℕ) (so : Replies words before after was is status) (steps : ℕ) (file : List ℕ) (arguments : List (List ℕ))
         → command_of words ≡ Some (run_kept steps file arguments) → (status ≡ 0) ⊎ ((status ≡ 1) ⊎ (status ≡ 9))
