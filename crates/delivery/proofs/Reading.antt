@@ -57,7 +57,7 @@ failed_behind (Err Memory) n = rises n
 
 -- how a command can end where a put failed
 abbrev pub FailsAs : Ending → List ℕ → Ending → Type 0
-FailsAs planned path ending = (ending ≡ folder_failed path) ⊎ ((tells_of_store planned ≡ true) × (ending ≡ planned))
+FailsAs planned path ending = ((ending ≡ folder_failed path) × (tells_of_store planned ≡ false)) ⊎ ((tells_of_store planned ≡ true) × (ending ≡ planned))
 
 -- how a command can end by its puts
 abbrev pub Ways : Ending → List OutFile → List Outcome → Ending → Type 0
@@ -65,7 +65,7 @@ Ways planned files puts ending = ((all_well puts ≡ true) × (ending ≡ planne
 
 fails_as : (planned : Ending) (path : List ℕ) (store : Bool) → tells_of_store planned ≡ store → FailsAs planned path (if store then planned else folder_failed path)
 fails_as planned path true is = inr (is, refl)
-fails_as planned path false is = inl refl
+fails_as planned path false is = inl (refl, is)
 
 well_lacks : (puts : List Outcome) → all_well puts ≡ true → lacks_memory puts ≡ false
 well_lacks [] good = refl
@@ -152,19 +152,34 @@ six_is store_full is = absurd (omega (arith, is))
 -- ---- behind the text
 
 -- a fault at the text leaves one of these
-pub fault_leaves : (ending : Ending) → let left : Ending = if outlasts_console ending then ending else console_failed in (left ≡ console_failed) ⊎ ((left ≡ ending) × (outlasts_console ending ≡ true))
-fault_leaves done = inl refl
-fault_leaves (uncaught class line text) = inl refl
-fault_leaves usage = inl refl
-fault_leaves (refused file line column) = inl refl
-fault_leaves nothing_there = inl refl
-fault_leaves console_failed = inl refl
+pub fault_leaves : (ending : Ending) → let left : Ending = if outlasts_console ending then ending else console_failed in ((left ≡ console_failed) × (outlasts_console ending ≡ false)) ⊎ ((left ≡ ending) × (outlasts_console ending ≡ true))
+fault_leaves done = inl (refl, refl)
+fault_leaves (uncaught class line text) = inl (refl, refl)
+fault_leaves usage = inl (refl, refl)
+fault_leaves (refused file line column) = inl (refl, refl)
+fault_leaves nothing_there = inl (refl, refl)
+fault_leaves console_failed = inl (refl, refl)
 fault_leaves (folder_failed path) = inr (refl, refl)
 fault_leaves store_failed = inr (refl, refl)
 fault_leaves out_of_memory = inr (refl, refl)
-fault_leaves out_of_steps = inl refl
+fault_leaves out_of_steps = inl (refl, refl)
 fault_leaves (collision digest kept given) = inr (refl, refl)
 fault_leaves store_full = inr (refl, refl)
+
+-- what does not outlast a fault at the text is no fault of the store
+pub not_outlasting : (ending : Ending) → outlasts_console ending ≡ false → tells_of_store ending ≡ false
+not_outlasting done is = refl
+not_outlasting (uncaught class line text) is = refl
+not_outlasting usage is = refl
+not_outlasting (refused file line column) is = refl
+not_outlasting nothing_there is = refl
+not_outlasting console_failed is = refl
+not_outlasting (folder_failed path) is = refl
+not_outlasting store_failed is = is
+not_outlasting out_of_memory is = refl
+not_outlasting out_of_steps is = refl
+not_outlasting (collision digest kept given) is = is
+not_outlasting store_full is = is
 
 -- what outlasts a fault at the text and is no fault of the store
 outlasting : (ending : Ending) → outlasts_console ending ≡ true → tells_of_store ending ≡ false → (status_of ending ≡ 6) ⊎ (status_of ending ≡ 8)
@@ -184,7 +199,7 @@ outlasting store_full lasts store = absurd (false≢true (sym store))
 text_done : (outcome : Outcome) (ending : Ending) → after_text outcome ending ≡ done → IsOk outcome × (ending ≡ done)
 text_done (Ok all) ending is = (refl, is)
 text_done (Err Failed) ending is = ⊎_elim
-    (λ left. absurd (cc))
+    (λ left. let at : console_failed ≡ done = sym left.0 ∙ is in absurd (cc))
     (λ left. absurd (false≢true (subst (λ (e : Ending). outlasts_console e ≡ true) (sym left.0 ∙ is) left.1)))
     (fault_leaves ending)
 text_done (Err Memory) ending is = absurd (cc)
@@ -197,7 +212,7 @@ text_console (Err Memory) ending n is = absurd (cc)
 text_folder : (outcome : Outcome) (ending : Ending) (path : List ℕ) → after_text outcome ending ≡ folder_failed path → ending ≡ folder_failed path
 text_folder (Ok all) ending path is = is
 text_folder (Err Failed) ending path is = ⊎_elim
-    (λ left. absurd (cc))
+    (λ left. let at : console_failed ≡ folder_failed path = sym left.0 ∙ is in absurd (cc))
     (λ left. sym left.0 ∙ is)
     (fault_leaves ending)
 text_folder (Err Memory) ending path is = absurd (cc)
@@ -317,7 +332,7 @@ text_stays : (outcome : Outcome) (ending : Ending) → tells_of_store ending ≡
     → IsOk outcome
 text_stays (Ok all) ending store five six eight = refl
 text_stays (Err Failed) ending store five six eight = ⊎_elim
-    (λ left. absurd (five (ap (λ (e : Ending). status_of e) left)))
+    (λ left. absurd (five (ap (λ (e : Ending). status_of e) left.0)))
     (λ left. ⊎_elim
     (λ is. absurd (six (ap (λ (e : Ending). status_of e) left.0 ∙ is)))
     (λ is. absurd (eight (ap (λ (e : Ending). status_of e) left.0 ∙ is)))
@@ -385,7 +400,7 @@ module _ (planned : Ending) (text : List ℕ) (files : List OutFile) (put_before
       (λ more. ⊎_elim
       (λ short. let at : done ≡ out_of_memory = sym shown.1 ∙ short in absurd (cc))
       (λ failed. ⊎_elim
-      (λ folder. let at : done ≡ folder_failed failed.0 = sym shown.1 ∙ folder in absurd (cc))
+      (λ folder. let at : done ≡ folder_failed failed.0 = sym shown.1 ∙ folder.0 in absurd (cc))
       (λ store. absurd (false≢true (subst (λ (e : Ending). tells_of_store e ≡ true) (sym store.1 ∙ shown.1) store.0)))
       failed.1)
       more)
@@ -400,7 +415,7 @@ module _ (planned : Ending) (text : List ℕ) (files : List OutFile) (put_before
       (λ more. ⊎_elim
       (λ short. let at : console_failed ≡ out_of_memory = sym at_puts ∙ short in absurd (cc))
       (λ failed. ⊎_elim
-      (λ folder. let at : console_failed ≡ folder_failed failed.0 = sym at_puts ∙ folder in absurd (cc))
+      (λ folder. let at : console_failed ≡ folder_failed failed.0 = sym at_puts ∙ folder.0 in absurd (cc))
       (λ store. absurd (other (sym store.1 ∙ at_puts)))
       failed.1)
       more)
@@ -444,7 +459,7 @@ module _ (planned : Ending) (text : List ℕ) (files : List OutFile) (put_before
       (λ more. ⊎_elim
       (λ short. ap (λ (e : Ending). tells_of_store e) short)
       (λ failed. ⊎_elim
-      (λ folder. ap (λ (e : Ending). tells_of_store e) folder)
+      (λ folder. ap (λ (e : Ending). tells_of_store e) folder.0)
       (λ kept. absurd (false≢true (sym store ∙ kept.0)))
       failed.1)
       more)
@@ -465,7 +480,7 @@ module _ (planned : Ending) (text : List ℕ) (files : List OutFile) (put_before
       (λ more. ⊎_elim
       (λ short. absurd (eight (of_puts ∙ ap (λ (e : Ending). status_of e) short)))
       (λ failed. ⊎_elim
-      (λ folder. absurd (six (of_puts ∙ ap (λ (e : Ending). status_of e) folder)))
+      (λ folder. absurd (six (of_puts ∙ ap (λ (e : Ending). status_of e) folder.0)))
       (λ kept. absurd (false≢true (sym store ∙ kept.0)))
       failed.1)
       more)

@@ -1,5 +1,5 @@
 -- The ways in which a delivery can end, and what is on the console in each of them.
-use Rattle.std.proofs.Common.{◌≡◌, ℕ, List, ◌++◌, length, take, Option, Ok, Err, IsOk, ◌⊎◌, inl, inr, ⊎_elim, refl, sym, ap, ◌∙◌, subst, arith}
+use Rattle.std.proofs.Common.{◌≡◌, ℕ, false, List, ◌++◌, length, take, Option, Ok, Err, IsOk, ◌⊎◌, inl, inr, ⊎_elim, refl, sym, ap, ◌∙◌, subst, arith}
 use Rattle.std.proofs.lemmas.List.{take_all}
 use Rattle.std.proofs.lemmas.Bool.{false≢true}
 use Rattle.prov_outside.specs.Console.{ConsoleView}
@@ -7,13 +7,13 @@ use Rattle.prov_outside.specs.Count.{Rose, faults_after}
 use Rattle.prov_outside.specs.Folder.{Files}
 use Rattle.prov_outside.specs.Tells.{Tells}
 use Rattle.prov_outside.specs.declared.trouble.Trouble.TheVariants.{Failed, Memory}
-use Rattle.delivery.specs.Ending.{Ending, console_failed, folder_failed, out_of_memory, status_of, closing_line}
+use Rattle.delivery.specs.Ending.{Ending, console_failed, folder_failed, out_of_memory, status_of, closing_line, tells_of_store}
 use Rattle.delivery.specs.PutsAll.{OutFile, Outcome, ending_after_puts}
-use Rattle.delivery.specs.Shown.{Closing, no_line, line_tried, line_unmade, Closes, Leaves, Shown, after_text, after_line, line_of, outcome_of}
+use Rattle.delivery.specs.Shown.{Closing, no_line, line_tried, line_unmade, Closes, Leaves, Shown, outlasts_console, after_text, after_line, line_of, outcome_of}
 use Rattle.delivery.specs.Delivered.{Delivered, ending_to_close}
 use Rattle.delivery.specs.Stands.{IsWell}
 use Rattle.delivery.specs.Ends.{Ends, as_planned, by_console, by_folder, no_memory, GetsPrefixes}
-use Rattle.delivery.proofs.Reading.{tells_more, rises, stays_risen, failed_rose, fault_leaves, ways, no_bytes, text_ok, line_ok, front_of, line_memory}
+use Rattle.delivery.proofs.Reading.{tells_more, rises, stays_risen, failed_rose, fault_leaves, not_outlasting, ways, no_bytes, text_ok, line_ok, front_of, line_memory}
 
 -- ---- the ending
 
@@ -25,10 +25,10 @@ line_ways (line_tried (Err Memory)) ending = inr refl
 line_ways (line_unmade outcome) ending = inr refl
 
 text_ways : (outcome : Outcome) (ending : Ending) (n : ℕ)
-    → (after_text outcome ending ≡ ending) ⊎ ((after_text outcome ending ≡ out_of_memory) ⊎ ((after_text outcome ending ≡ console_failed) × Rose n (faults_after outcome n)))
+    → (after_text outcome ending ≡ ending) ⊎ ((after_text outcome ending ≡ out_of_memory) ⊎ ((after_text outcome ending ≡ console_failed) × Rose n (faults_after outcome n) × (outlasts_console ending ≡ false)))
 text_ways (Ok all) ending n = inl refl
 text_ways (Err Failed) ending n = ⊎_elim
-    (λ left. inr (inr (left, rises n)))
+    (λ left. inr (inr (left.0, rises n, left.1)))
     (λ left. inl left.0)
     (fault_leaves ending)
 text_ways (Err Memory) ending n = inr (inl refl)
@@ -83,6 +83,19 @@ module _ (planned : Ending) (text : List ℕ) (files : List OutFile) (put_before
   ends_at : (ending : Ending) → after_line d.closing by_text ≡ ending → status ≡ status_of ending
   ends_at ending is = d.status_is ∙ ap (λ (e : Ending). status_of e) is
 
+  -- where the console's fault ends the command, no fault of the store was planned
+  console_planned : outlasts_console by_puts ≡ false → tells_of_store planned ≡ false
+  console_planned lasts = ⊎_elim
+      (λ good. ap (λ (e : Ending). tells_of_store e) (sym good.1) ∙ not_outlasting by_puts lasts)
+      (λ more. ⊎_elim
+      (λ short. absurd (false≢true (sym lasts ∙ ap (λ (e : Ending). outlasts_console e) short)))
+      (λ failed. ⊎_elim
+      (λ folder. folder.1)
+      (λ store. ap (λ (e : Ending). tells_of_store e) (sym store.1) ∙ not_outlasting by_puts lasts)
+      failed.1)
+      more)
+      (ways planned files d.puts d.each)
+
   pub ends_in_a_way : Ends planned put_before put_after out_before out_after status
   ends_in_a_way = ⊎_elim
       (λ stays. ⊎_elim
@@ -91,14 +104,14 @@ module _ (planned : Ending) (text : List ℕ) (files : List OutFile) (put_before
       (λ more. ⊎_elim
       (λ short. no_memory (ends_at out_of_memory (stays ∙ same ∙ short)))
       (λ failed. ⊎_elim
-      (λ folder. by_folder (ends_at (folder_failed failed.0) (stays ∙ same ∙ folder)) (subst (λ (n : ℕ). Rose put_before n) (sym d.put_faults) (failed_rose files d.puts failed.0 failed.2 put_before)))
+      (λ folder. by_folder folder.1 (ends_at (folder_failed failed.0) (stays ∙ same ∙ folder.0)) (subst (λ (n : ℕ). Rose put_before n) (sym d.put_faults) (failed_rose files d.puts failed.0 failed.2 put_before)))
       (λ store. as_planned (ends_at planned (stays ∙ same ∙ store.1)))
       failed.1)
       more)
       (ways planned files d.puts d.each))
       (λ more. ⊎_elim
       (λ short. no_memory (ends_at out_of_memory (stays ∙ short)))
-      (λ failed. by_console (ends_at console_failed (stays ∙ failed.0)) (subst (λ (n : ℕ). Rose out_before n) (sym d.out_faults) (stays_risen (outcome_of d.closing) out_before (faults_after d.text_outcome out_before) failed.1)))
+      (λ failed. by_console (console_planned failed.2) (ends_at console_failed (stays ∙ failed.0)) (subst (λ (n : ℕ). Rose out_before n) (sym d.out_faults) (stays_risen (outcome_of d.closing) out_before (faults_after d.text_outcome out_before) failed.1)))
       more)
       (text_ways d.text_outcome by_puts out_before))
       (λ short. no_memory (ends_at out_of_memory short))

@@ -135,6 +135,10 @@ module _ (words : List (List ℕ)) (before after : Seen) (was is : Stored) (stat
   abbrev prepares : Prepares command before so.ran so.plans.made
   prepares = so.plans.prepares
 
+  -- how the call ends where this ending is meant
+  abbrev Ending_is : Ending → Type 0
+  Ending_is ending = Completes world prepares.began prepares.clock so.plans.made ending before.faults after.faults was is status
+
   -- the counts, from the first moment to the last
   put_same : so.ran.faults.put ≡ before.faults.put
   put_same = asks_put prepares.clock.1 prepares.world.capture.ends (told_by so.ran) prepares.ends ∙ prepares.gave.untouched.put_faults ∙ asks_put prepares.clock.0 (told_by prepares.read) prepares.began prepares.starts ∙ prepares.reads.put
@@ -170,64 +174,73 @@ module _ (words : List (List ℕ)) (before after : Seen) (was is : Stored) (stat
   -- ---- the ways to end
 
   -- by the way in which the plan was delivered
-  by_way : (ending : Ending) → Ends ending so.ran.faults.put after.faults.put so.ran.faults.write after.faults.write status → Completes ending before.faults after.faults was is status
+  by_way : (ending : Ending) → Ends ending so.ran.faults.put after.faults.put so.ran.faults.write after.faults.write status → Ending_is ending
   by_way ending (as_planned is) = as_meant is
-  by_way ending (by_planned_console is rose) = by_console is (write_rose rose)
-  by_way ending (by_planned_folder is rose) = by_folder is (inr (put_rose rose))
+  by_way ending (by_planned_console store is rose) = by_console is (write_rose rose)
+  by_way ending (by_planned_folder store is rose) = by_folder is (inr (put_rose rose))
   by_way ending (lacked_memory is) = no_memory is
 
   -- where FILE could not be read, whatever the words mean
   by_unread : (file : List ℕ) (ending : Ending) → Rose before.faults.source after.faults.source
-      → Ends (folder_failed file) so.ran.faults.put after.faults.put so.ran.faults.write after.faults.write status → Completes ending before.faults after.faults was is status
+      → Ends (folder_failed file) so.ran.faults.put after.faults.put so.ran.faults.write after.faults.write status → Ending_is ending
   by_unread file ending rose (as_planned is) = by_folder is (inl rose)
-  by_unread file ending rose (by_planned_console is also) = by_console is (write_rose also)
-  by_unread file ending rose (by_planned_folder is also) = by_folder is (inl rose)
+  by_unread file ending rose (by_planned_console store is also) = by_console is (write_rose also)
+  by_unread file ending rose (by_planned_folder store is also) = by_folder is (inl rose)
   by_unread file ending rose (lacked_memory is) = no_memory is
 
   -- where memory ran out before anything was delivered
-  by_lack : (ending : Ending) → Ends out_of_memory so.ran.faults.put after.faults.put so.ran.faults.write after.faults.write status → Completes ending before.faults after.faults was is status
+  by_lack : (ending : Ending) → Ends out_of_memory so.ran.faults.put after.faults.put so.ran.faults.write after.faults.write status → Ending_is ending
   by_lack ending (as_planned is) = no_memory is
-  by_lack ending (by_planned_console is also) = by_console is (write_rose also)
-  by_lack ending (by_planned_folder is also) = by_folder is (inr (put_rose also))
+  by_lack ending (by_planned_console store is also) = by_console is (write_rose also)
+  by_lack ending (by_planned_folder store is also) = by_folder is (inr (put_rose also))
   by_lack ending (lacked_memory is) = no_memory is
 
   module _ (one_plan : (one other : Plan) → MeansCommand command world one → MeansCommand command world other → one ≡ other) where
     completes_by : (made plan : Plan) → Comes command before read world made → MeansCommand command world plan
-        → Ends made.ending so.ran.faults.put after.faults.put so.ran.faults.write after.faults.write status → Completes plan.ending before.faults after.faults was is status
+        → Ends made.ending so.ran.faults.put after.faults.put so.ran.faults.write after.faults.write status → Ending_is plan.ending
     completes_by made plan (meant one same is) means ends = by_way plan.ending (subst (λ (p : Plan). Ends p.ending so.ran.faults.put after.faults.put so.ran.faults.write after.faults.write status) (one_plan made plan is means) ends)
     completes_by made plan (unread one word path rose un) means ends = by_unread (file_of one) plan.ending (source_rose rose) ends
     completes_by made plan (lacks_memory same) means ends = by_lack plan.ending ends
 
     -- by what came of the keeping
-    unkept_by : (run : Run) (fault : TrialFault) (made plan : Plan) → KeepsIn run (Err fault) was is → Ends (with_keeping (Err fault) made).ending so.ran.faults.put after.faults.put so.ran.faults.write after.faults.write status
-        → Completes plan.ending before.faults after.faults was is status
-    unkept_by run Memory made plan kept ends = by_lack plan.ending ends
-    unkept_by run Keeper made plan kept (as_planned at) = by_store at (kept.cause.rose refl)
-    unkept_by run Keeper made plan kept (by_planned_console at rose) = by_console at (write_rose rose)
-    unkept_by run Keeper made plan kept (by_planned_folder at rose) = by_folder at (inr (put_rose rose))
-    unkept_by run Keeper made plan kept (lacked_memory at) = no_memory at
-    unkept_by run (Collision digest there given) made plan kept (as_planned at) = by_collision at run digest there given
-        (tells_as was.told is.told (KeepsTrial run (Err (Collision digest there given))) (λ (old new : KeeperView). with_trial_of run old.committed ≡ clash digest there given) (λ old new keeps. keeps.0.1) kept.keeps)
-    unkept_by run (Collision digest there given) made plan kept (by_planned_console at rose) = by_console at (write_rose rose)
-    unkept_by run (Collision digest there given) made plan kept (by_planned_folder at rose) = by_folder at (inr (put_rose rose))
-    unkept_by run (Collision digest there given) made plan kept (lacked_memory at) = no_memory at
-    unkept_by run Full made plan kept (as_planned at) = by_full at
+    unkept_by : (steps : ℕ) (file : List ℕ) (arguments : List (List ℕ)) (run : Run) (fault : TrialFault) (made plan : Plan) → KeepsRun file steps arguments world prepares.began prepares.clock so.plans.made run → KeepsIn run (Err fault) was is → Ends (with_keeping (Err fault) made).ending so.ran.faults.put after.faults.put so.ran.faults.write after.faults.write status
+        → Ending_is plan.ending
+    unkept_by steps file arguments run Memory made plan of kept ends = by_lack plan.ending ends
+    unkept_by steps file arguments run Keeper made plan of kept (as_planned at) = by_store at (kept.cause.rose refl)
+    unkept_by steps file arguments run Keeper made plan of kept (by_planned_console store at rose) = by_console at (write_rose rose)
+    unkept_by steps file arguments run Keeper made plan of kept (by_planned_folder store at rose) = by_folder at (inr (put_rose rose))
+    unkept_by steps file arguments run Keeper made plan of kept (lacked_memory at) = no_memory at
+    unkept_by steps file arguments run (Collision digest there given) made plan of kept (as_planned at) = by_collision at (record {
+      steps = steps;
+      file = file;
+      arguments = arguments;
+      run = run;
+      of = of;
+      digest = digest;
+      kept = there;
+      given = given;
+      tables = tells_as was.told is.told (KeepsTrial run (Err (Collision digest there given))) (λ (old new : KeeperView). with_trial_of run old.committed ≡ clash digest there given) (λ old new keeps. keeps.0.1) kept.keeps;
+    })
+    unkept_by steps file arguments run (Collision digest there given) made plan of kept (by_planned_console store at rose) = by_console at (write_rose rose)
+    unkept_by steps file arguments run (Collision digest there given) made plan of kept (by_planned_folder store at rose) = by_folder at (inr (put_rose rose))
+    unkept_by steps file arguments run (Collision digest there given) made plan of kept (lacked_memory at) = no_memory at
+    unkept_by steps file arguments run Full made plan of kept (as_planned at) = by_full at
         (tells_as was.told is.told (KeepsTrial run (Err Full)) (λ (old new : KeeperView). full_store ≤ length old.committed.heads) (λ old new keeps. keeps.0) kept.keeps)
-    unkept_by run Full made plan kept (by_planned_console at rose) = by_console at (write_rose rose)
-    unkept_by run Full made plan kept (by_planned_folder at rose) = by_folder at (inr (put_rose rose))
-    unkept_by run Full made plan kept (lacked_memory at) = no_memory at
-    unkept_by run (NoTrial number) made plan kept ends = absurd kept.of_keeping
-    unkept_by run (Damaged number damage) made plan kept ends = absurd kept.of_keeping
+    unkept_by steps file arguments run Full made plan of kept (by_planned_console store at rose) = by_console at (write_rose rose)
+    unkept_by steps file arguments run Full made plan of kept (by_planned_folder store at rose) = by_folder at (inr (put_rose rose))
+    unkept_by steps file arguments run Full made plan of kept (lacked_memory at) = no_memory at
+    unkept_by steps file arguments run (NoTrial number) made plan of kept ends = absurd kept.of_keeping
+    unkept_by steps file arguments run (Damaged number damage) made plan of kept ends = absurd kept.of_keeping
 
-    completes_kept : (made delivered plan : Plan) (began : Telling) (clock : Clock) → Keeps command world began clock made was is delivered → Comes command before read world made → MeansCommand command world plan
-        → Ends delivered.ending so.ran.faults.put after.faults.put so.ran.faults.write after.faults.write status → Completes plan.ending before.faults after.faults was is status
-    completes_kept made delivered plan began clock (no_run none still) comes means ends = completes_by made plan comes means ends
-    completes_kept made delivered plan began clock (a_run steps file arguments word run of (Ok number) kept) comes means ends = completes_by made plan comes means ends
-    completes_kept made delivered plan began clock (a_run steps file arguments word run of (Err fault) kept) comes means ends = unkept_by run fault made plan kept ends
+    completes_kept : (delivered plan : Plan) → Keeps command world prepares.began prepares.clock so.plans.made was is delivered → Comes command before read world so.plans.made → MeansCommand command world plan
+        → Ends delivered.ending so.ran.faults.put after.faults.put so.ran.faults.write after.faults.write status → Ending_is plan.ending
+    completes_kept delivered plan (no_run none still) comes means ends = completes_by so.plans.made plan comes means ends
+    completes_kept delivered plan (a_run steps file arguments word run of (Ok number) kept) comes means ends = completes_by so.plans.made plan comes means ends
+    completes_kept delivered plan (a_run steps file arguments word run of (Err fault) kept) comes means ends = unkept_by steps file arguments run fault so.plans.made plan of kept ends
 
     pub completes_so : (plan : Plan) → MeansCommand command world plan
-        → Ends so.plan.ending so.ran.faults.put after.faults.put so.ran.faults.write after.faults.write status → Completes plan.ending before.faults after.faults was is status
-    completes_so plan means ends = completes_kept so.plans.made so.plan plan prepares.began prepares.clock so.plans.keeps prepares.comes means ends
+        → Ends so.plan.ending so.ran.faults.put after.faults.put so.ran.faults.write after.faults.write status → Ending_is plan.ending
+    completes_so plan means ends = completes_kept so.plan plan so.plans.keeps prepares.comes means ends
 
   -- ---- what stands
 
@@ -278,8 +291,8 @@ module _ (words : List (List ℕ)) (before after : Seen) (was is : Stored) (stat
   -- a status that tells of no fault and of no want of memory is the planned one
   pub planned_status : Ends so.plan.ending so.ran.faults.put after.faults.put so.ran.faults.write after.faults.write status → (status ≡ 5 → ⊥) → (status ≡ 6 → ⊥) → (status ≡ 8 → ⊥) → status ≡ status_of so.plan.ending
   planned_status (as_planned at) five six eight = at
-  planned_status (by_planned_console at rose) five six eight = absurd (five at)
-  planned_status (by_planned_folder at rose) five six eight = absurd (six at)
+  planned_status (by_planned_console store at rose) five six eight = absurd (five at)
+  planned_status (by_planned_folder store at rose) five six eight = absurd (six at)
   planned_status (lacked_memory at) five six eight = absurd (eight at)
 
   pub no_store_planned : status ≡ status_of so.plan.ending → (status ≡ 7 → ⊥) → (status ≡ 10 → ⊥) → (status ≡ 13 → ⊥) → tells_of_store so.plan.ending ≡ false

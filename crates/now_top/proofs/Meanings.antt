@@ -1,5 +1,5 @@
 -- A run over devices is what its command means.
-use Rattle.std.proofs.Common.{false, ◌↔◌, ◌≡◌, refl, sym, ap, subst, ◌∙◌, ℕ, List, [], ◌∷◌, map, ◌⊎◌, inl, inr, Option, Some, None, is_some, Ok, Err}
+use Rattle.std.proofs.Common.{true, false, ◌↔◌, ◌≡◌, refl, sym, ap, subst, ◌∙◌, ℕ, List, [], ◌∷◌, map, ◌⊎◌, inl, inr, Option, Some, None, is_some, Ok, Err}
 use Rattle.std.specs.Option.{option_map}
 use Rattle.answer_source.proofs.Fitting.{own_fits}
 use Rattle.answer_source.proofs.Replaying.{found_exactly}
@@ -185,6 +185,12 @@ not_kept file text steps arguments read store may ending so = λ files stands. r
   stops = λ tables. (λ one. one, λ one. one);
 }
 
+-- a run ends as a run does
+ends_told : (end : EndTold) → ends_a_run (ending_told end) ≡ true
+ends_told Finished = refl
+ends_told (Raised class at text) = refl
+ends_told Spent = refl
+
 kept_ran : (file text : List ℕ) (steps : ℕ) (arguments : List (List ℕ)) (read after : Seen) (was is : Stored) (may may' : TablesView → Type 0) (script : ScriptTree) → HasScript text script → (it : KeptRun)
     → TimesRun script file arguments steps (told_by read) (told_by after) (Ok it) → KeepsIn (run_in text file arguments steps it) it.number was is
     → Tells was.told is.told (StopLeaves (run_in text file arguments steps it) it.number may may')
@@ -194,7 +200,7 @@ kept_ran file text steps arguments read after was is may may' script has it so k
   capture = capture_of so.records.0 so.ran;
   began = so.began;
   clock = (Some it.times.0, Some it.times.1);
-  asked = over_clock it.times.0 it.times.1 refl;
+  asked = over_clock it.times.0 it.times.1 refl (ends_told it.recorded.ended.end);
   starts = so.starts;
   gave = so.records.1.runs.0;
   ends = so.ends;

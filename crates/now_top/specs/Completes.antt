@@ -20,17 +20,28 @@ use Rattle.now_top.specs.Means.{MeansCommand}
 use Rattle.now_top.specs.Seen.{Seen}
 use Rattle.now_top.specs.World.{World, Plan, StandsAt}
 
+-- Other bytes stand in the store under the digest of a content of the run that was to be kept: it, their number, and how many were given.
+pub record Clashes (world : World) (began : Telling) (clock : Clock) (made : Plan) (was is : Stored) : Type 0 where
+  pub steps : ℕ
+  pub file : List ℕ
+  pub arguments : List (List ℕ)
+  pub run : Run
+  pub of : KeepsRun file steps arguments world began clock made run
+  pub digest : Digest
+  pub kept : ℕ
+  pub given : ℕ
+  pub tables : Tells was.told is.told (λ (old new : KeeperView). with_trial_of run old.committed ≡ clash digest kept given)
+
 -- The status is that of the ending; or a device or the keeper failed, whose count rose; or the store is full, or other bytes stand in it under the digest of a
 -- content of the trial; or memory ran out.
-pub data Completes (ending : Ending) (before after : Faults) (was is : Stored) (status : ℕ) : Type 0 where
-  as_meant : status ≡ status_of ending → Completes ending before after was is status
-  by_console : status ≡ 5 → Rose before.write after.write → Completes ending before after was is status
-  by_folder : status ≡ 6 → Rose before.source after.source ⊎ Rose before.put after.put → Completes ending before after was is status
-  by_store : status ≡ 7 → Rose was.faults is.faults → Completes ending before after was is status
-  by_collision : status ≡ 10 → (run : Run) (digest : Digest) (kept given : ℕ) → Tells was.told is.told (λ (old new : KeeperView). with_trial_of run old.committed ≡ clash digest kept given)
-      → Completes ending before after was is status
-  by_full : status ≡ 13 → Tells was.told is.told (λ (old new : KeeperView). full_store ≤ length old.committed.heads) → Completes ending before after was is status
-  no_memory : status ≡ 8 → Completes ending before after was is status
+pub data Completes (world : World) (began : Telling) (clock : Clock) (made : Plan) (ending : Ending) (before after : Faults) (was is : Stored) (status : ℕ) : Type 0 where
+  as_meant : status ≡ status_of ending → Completes world began clock made ending before after was is status
+  by_console : status ≡ 5 → Rose before.write after.write → Completes world began clock made ending before after was is status
+  by_folder : status ≡ 6 → Rose before.source after.source ⊎ Rose before.put after.put → Completes world began clock made ending before after was is status
+  by_store : status ≡ 7 → Rose was.faults is.faults → Completes world began clock made ending before after was is status
+  by_collision : status ≡ 10 → Clashes world began clock made was is → Completes world began clock made ending before after was is status
+  by_full : status ≡ 13 → Tells was.told is.told (λ (old new : KeeperView). full_store ≤ length old.committed.heads) → Completes world began clock made ending before after was is status
+  no_memory : status ≡ 8 → Completes world began clock made ending before after was is status
 
 -- The words mean the plan, and all of it stands: its files in the folder, its text and its closing line on the console, its status.
 pub record DoesWhole (command : Option Command) (world : World) (plan : Plan) (before after : Seen) (status : ℕ) : Type 0 where

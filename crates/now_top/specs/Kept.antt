@@ -49,11 +49,11 @@ Asks (Some time) before after = AsksClock time before after
 abbrev pub HasNoRun : Option Command → Plan → Type 0
 HasNoRun command plan = (keeps command ≡ false) ⊎ (ends_a_run plan.ending ≡ false)
 
--- The clock is asked before and after a run that is to be kept, and else not. Where memory ran out in the run it was asked before it alone.
+-- The clock is asked before and after a run that is to be kept, and else not. Where memory ran out it may have been asked before alone.
 pub data IsClockOf (command : Option Command) (plan : Plan) : Clock → Type 0 where
   not_asked : HasNoRun command plan → IsClockOf command plan (None, None)
   begun : (start : Option ℤ) → keeps command ≡ true → plan ≡ closing out_of_memory → IsClockOf command plan (Some start, None)
-  over : (start finish : Option ℤ) → keeps command ≡ true → IsClockOf command plan (Some start, Some finish)
+  over : (start finish : Option ℤ) → keeps command ≡ true → ends_a_run plan.ending ≡ true → IsClockOf command plan (Some start, Some finish)
 
 -- The run that is to be kept is that of the script that FILE has, in what the devices gave, with its moments of start and end. Its answers are kept in ascending
 -- order of place and number, and its pages are those of its moments.

@@ -1,4 +1,4 @@
--- What `run --bare` comes to (this project's profile): the run of the script at FILE in what the devices give.
+-- What `run` comes to, with `--bare` and without (this project's profile): the run of the script at FILE in what the devices give.
 use Rattle.std.specs.Prelude.{◌≡◌, ℕ, List, map, Option, Some, None, is_some}
 use Rattle.capture.specs.Capture.{is_among}
 use Rattle.delivery.specs.Ending.{Ending, done, uncaught, refused, nothing_there, out_of_steps}

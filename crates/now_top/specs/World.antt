@@ -11,7 +11,7 @@ pub record World : Type 0 where
   pub files : Files
   pub capture : Capture
 
--- how a command ends where nothing fails, the text that goes to the console then, and the files that are put before that, in their order
+-- how a command ends where no device fails from then on, the text that goes to the console then, and the files that are put before that, in their order
 pub record Plan : Type 0 where
   pub ending : Ending
   pub text : List ℕ

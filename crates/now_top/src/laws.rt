@@ -29,7 +29,7 @@ pub fn one_meaning()
 /// The world is that of the call: the folder's files, and what the devices gave.
 pub fn completes()
     ensures { (words : List (List ℕ)) (before after : Seen) (was is : Stored) (status : ℕ) (so : Replies words before after was is status) (plan : Plan)
-        → MeansCommand (command_of words) so.plans.prepares.world plan → Completes plan.ending before.faults after.faults was is status }
+        → MeansCommand (command_of words) so.plans.prepares.world plan → Completes so.plans.prepares.world so.plans.prepares.began so.plans.prepares.clock so.plans.made plan.ending before.faults after.faults was is status }
 {
     one_meaning();
     ends_in_one_way();
