@@ -4,14 +4,15 @@ ghost use Rattle.std.specs.Prelude.{◌≡◌, false, IfOk};
 use crate::texts::{bytes_of, halves, number, write_rows};
 use crate::{base, devices, streams};
 use answer_source::Devices;
-use keeper::Keeper;
+use keeper::{Head, Keeper};
 use memory_keeper::{MemoryKeeper, Tables};
 use now_top::now;
 use prov_base::{Bytes, Name};
 use prov_outside::{MemoryConsole, MemoryFolder, MemoryMoments};
 use std::alloc::{AllocError, Global};
 
-/// The one file of the folder, and the numbers of the calls of the console, of the folder and of the store of trials that fail. 0 is none.
+/// The one file of the folder, the numbers of the calls of the console, of the folder and of the store of trials that fail, where 0 is none, and whether a call of the
+/// program is made twice over one store.
 #[derive(Drop)]
 pub struct Bench {
     path: String,
@@ -19,6 +20,7 @@ pub struct Bench {
     console_fails: u64,
     folder_fails: u64,
     store_fails: u64,
+    is_twice: bool,
 }
 
 impl Bench {
@@ -29,6 +31,7 @@ impl Bench {
             console_fails: 0,
             folder_fails: 0,
             store_fails: 0,
+            is_twice: false,
         })
     }
 
@@ -75,6 +78,7 @@ impl Bench {
                 self.folder_fails = number(folder);
             }
             "store" => self.store_fails = number(words),
+            "twice" => self.is_twice = number(words) == 1,
             _ => return Ok(false),
         }
         Ok(true)
@@ -121,7 +125,7 @@ impl Bench {
         Ok(Devices {
             console: self.console(alloc)?,
             folder: self.folder(alloc)?,
-            moments: MemoryMoments::of(Vec::new(alloc), Vec::new(alloc), Vec::new(alloc)),
+            moments: MemoryMoments::of(vec![in alloc; 5, 8]?, Vec::new(alloc), Vec::new(alloc)),
         })
     }
 
@@ -140,10 +144,13 @@ impl Bench {
     }
 
     /// Makes a call of the program, its words with `|` between them. It writes the status, what stands on the console, whether the
-    /// file is another one afterwards, what stands at `out.txt` and at `more.txt`, and how many trials there are, if any.
+    /// file is another one afterwards, what stands at `out.txt` and at `more.txt`, and the last trial of the store, if there is one.
     fn call(&mut self, alloc: Global, words: &str, out: &mut Vec<u8>) -> Result<(), AllocError> {
         let list = words_of(alloc, words)?;
         let mut keeper = self.keeper(alloc)?;
+        if self.is_twice {
+            let _ = now(alloc, &list, self.devices(alloc)?, &mut keeper);
+        }
         let (status, devices) = now(alloc, &list, self.devices(alloc)?, &mut keeper);
         let file = devices.folder.bytes(self.path.as_str());
         self.write_call(alloc, status, devices.console.written(), file, out)?;
@@ -237,14 +244,35 @@ fn answer_device(
     }
 }
 
-/// Writes how many trials a store has, where it has some.
+/// Writes of the last trial of a store, where it has one, its number, its status, its parent, and when it began and ended.
 fn write_trials(
     alloc: Global,
     keeper: &mut MemoryKeeper,
     out: &mut Vec<u8>,
 ) -> Result<(), AllocError> {
-    match keeper.trials(alloc) {
-        Ok(0) | Err(_) => Ok(()),
-        Ok(trials) => out.extend_from_slice(format!(in alloc; ", trials {trials}")?.as_bytes()),
+    let last = keeper.trials(alloc).unwrap_or(0);
+    match keeper.head(alloc, last) {
+        Ok(Some(head)) => write_head(alloc, last, &head, out),
+        _ => Ok(()),
+    }
+}
+
+fn write_head(
+    alloc: Global,
+    number: u32,
+    head: &Head,
+    out: &mut Vec<u8>,
+) -> Result<(), AllocError> {
+    let (status, parent) = (head.status, head.parent);
+    out.extend_from_slice(format!(in alloc; ", trial {number} {status} {parent}")?.as_bytes())?;
+    write_time(alloc, head.started, out)?;
+    write_time(alloc, head.ended, out)
+}
+
+/// Writes a blank and a time, or `-` where there is none.
+fn write_time(alloc: Global, time: Option<i64>, out: &mut Vec<u8>) -> Result<(), AllocError> {
+    match time {
+        Some(time) => out.extend_from_slice(format!(in alloc; " {time}")?.as_bytes()),
+        None => out.extend_from_slice(b" -"),
     }
 }
