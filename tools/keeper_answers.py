@@ -6,7 +6,7 @@
 
 A store here is four dictionaries, and an open batch is a copy of them. Digests are those of `hashlib`.
 """
-import copy, hashlib, sys
+import ast, copy, hashlib, io, sys, tokenize
 
 
 class Failed(Exception):
@@ -431,6 +431,69 @@ def load_rows(store, number, pages, statements):
     return ' '.join(map(str, [sum(map(len, gathered))] + [len(rows) for rows in gathered]))
 
 
+def refused_place(text):
+    """The first token of a line that cannot stand where it is, for the scripts of the rows: one that the language never has, an `=` with no
+    expression before it, or a `)` that closes nothing."""
+    before, opened = None, 0
+    for token in tokenize.generate_tokens(io.StringIO(text).readline):
+        opened += (token.string == '(') - (token.string == ')')
+        if token.string in ('lambda', ';') or token.string == before == '=' or opened < 0:
+            return '%d:%d' % (token.start[0], token.start[1] + 1)
+        before = token.string
+    return None
+
+
+def statements_of(text):
+    """How many statements a script has. One that has no such token is a script of the language where it is one of Python."""
+    place = refused_place(text)
+    if place:
+        raise Bad('script at ' + place)
+    return sum(isinstance(node, ast.stmt) for node in ast.walk(ast.parse(text)))
+
+
+def loaded(store, number):
+    """The trial with this number, or what is amiss of it first."""
+    store.count_call()
+    heads = store.tables()[0]
+    if not 1 <= number <= len(heads):
+        return 'no trial %d' % number
+    fields = heads[number - 1].full.split(' ')
+    try:
+        text = load_script(store, fields)
+        statements = statements_of(text)
+        rest = load_rest(store, fields)
+        rows = load_rows(store, number, int(fields[11]), statements)
+    except Bad as bad:
+        return 'damaged %d: %s' % (number, bad)
+    return '%d %s %s %d / %s / %s' % (number, fields[2], text, statements, rest, rows)
+
+
+def listed_heads(store):
+    store.count_call()
+    heads, said = store.tables()[0], ''
+    for head in list(heads):
+        store.count_call()
+        fields = head.full.split(' ')
+        said += ' '.join([fields[2], fields[11], fields[12]]) + ';'
+    return said
+
+
+def again(store, number, words):
+    """Adds a head once more, with so many pages, and with a digest that names nothing in one place."""
+    store.count_call()
+    heads = store.tables()[0]
+    if not 1 <= number <= len(heads):
+        return 'no trial'
+    fields = heads[number - 1].full.split(' ')
+    pages, _, what = words.partition(' ')
+    fields[11] = pages
+    if what:
+        fields[['script', 'arguments', 'capture', 'output', 'finals'].index(what) + 3] = '0f' * 20
+    head = Head(fields[2])
+    head.full = ' '.join(fields)
+    return store.add('h', head)
+
+
 def load(store, words):
     number, _, statements = words.partition(' ')
     store.count_call()
@@ -460,6 +523,14 @@ def call(store, step):
         return 'open' if store.seen is not None else run(store, words)
     if name == 'load':
         return load(store, words)
+    if name == 'trial_whole':
+        return loaded(store, int(first))
+    if name == 'heads':
+        return listed_heads(store)
+    if name == 'trial_head':
+        store.count_call()
+        heads, trial = store.tables()[0], int(first)
+        return heads[trial - 1].full if 1 <= trial <= len(heads) else 'no trial %d' % trial
     if name == 'whole':
         store.count_call()
         heads, trial = store.tables()[0], int(first)
@@ -470,15 +541,19 @@ def call(store, step):
         return shown(store)
     if name == 'digits':
         return digits(store)
-    if name in ('trial', 'add', 'keep', 'set', 'put', 'commit') and store.seen is None:
+    if name in ('trial', 'again', 'add', 'keep', 'set', 'put', 'commit') and store.seen is None:
         return 'no batch'
+    if name == 'again':
+        return again(store, int(first), second)
     if name == 'trial':
         return store.add('h', plain_head(first))
     if name == 'add':
         number, _, text = second.partition(' ')
         if not 1 <= int(first) <= len(store.tables()[0]):
             return 'no trial'
-        return store.add('p', '%d:%d:%s' % (int(first), int(number), text))
+        added = store.add('p', '%d:%d:%s' % (int(first), int(number), text))
+        store.hashed.discard((str(int(first)), str(int(number))))
+        return added
     if name == 'keep':
         return store.add('c', first + ':' + second)
     if name == 'set':

@@ -3,12 +3,15 @@ ghost use Rattle.keeper.specs.Keeping.{AreKept};
 ghost use Rattle.memory_keeper.specs.Held.{told_of};
 
 use crate::texts::{halves, small, write, write_digest, write_fault, write_number};
+use crate::writes::write_collision;
 use capture::{Asked, Capture, FileOut, Given};
 use keeper::{Head, Keeper};
 use memory_keeper::MemoryKeeper;
+use prov_base::Name;
 use prov_outside::Found;
 use std::alloc::{AllocError, Global};
 use trial_contents::{Rest, rest_of, script_of};
+use trial_keeping::TrialFault;
 use trial_pages::{PagedRows, rows_of};
 use trial_parts::{Damage, ReadFault};
 
@@ -66,20 +69,27 @@ fn load_script(
 }
 
 fn write_rest(alloc: Global, out: &mut Vec<u8>, rest: &Rest) -> Result<(), AllocError> {
-    for argument in rest.arguments.as_slice() {
-        write(out, argument.as_str())?;
-        out.push(b';')?;
-    }
-    write(out, " ")?;
+    write_arguments(out, rest.arguments.as_slice())?;
     write_capture(alloc, out, &rest.capture)?;
-    for file in rest.finals.as_slice() {
-        write_final(out, file)?;
-    }
-    write(out, " ")?;
+    write_finals(out, rest.finals.as_slice())?;
     out.extend_from_slice(rest.output.as_slice())
 }
 
-fn write_capture(alloc: Global, out: &mut Vec<u8>, capture: &Capture) -> Result<(), AllocError> {
+/// Writes arguments, and a space.
+pub fn write_arguments(out: &mut Vec<u8>, arguments: &[Name]) -> Result<(), AllocError> {
+    for argument in arguments {
+        write(out, argument.as_str())?;
+        out.push(b';')?;
+    }
+    write(out, " ")
+}
+
+/// Writes what devices gave: the answers, and what was found at each path, with a space behind each of the two.
+pub fn write_capture(
+    alloc: Global,
+    out: &mut Vec<u8>,
+    capture: &Capture,
+) -> Result<(), AllocError> {
     for asked in capture.answers() {
         write_answer(alloc, out, asked)?;
     }
@@ -120,6 +130,14 @@ fn write_found(out: &mut Vec<u8>, found: &Found) -> Result<(), AllocError> {
     }
 }
 
+/// Writes final files, and a space.
+pub fn write_finals(out: &mut Vec<u8>, finals: &[FileOut]) -> Result<(), AllocError> {
+    for file in finals {
+        write_final(out, file)?;
+    }
+    write(out, " ")
+}
+
 fn write_final(out: &mut Vec<u8>, file: &FileOut) -> Result<(), AllocError> {
     write(out, file.path.as_str())?;
     write(out, "=")?;
@@ -128,8 +146,23 @@ fn write_final(out: &mut Vec<u8>, file: &FileOut) -> Result<(), AllocError> {
 }
 
 fn write_pages(alloc: Global, out: &mut Vec<u8>, read: &PagedRows) -> Result<(), AllocError> {
-    write_number(alloc, out, read.rows.as_slice().len() as u64)?;
-    for count in read.cuts.as_slice() {
+    write_counts(
+        alloc,
+        out,
+        read.rows.as_slice().len() as u64,
+        read.cuts.as_slice(),
+    )
+}
+
+/// Writes how many rows there are, and how many each page has.
+pub fn write_counts(
+    alloc: Global,
+    out: &mut Vec<u8>,
+    rows: u64,
+    cuts: &[u32],
+) -> Result<(), AllocError> {
+    write_number(alloc, out, rows)?;
+    for count in cuts {
         write(out, " ")?;
         write_number(alloc, out, u64::from(*count))?;
     }
@@ -141,6 +174,29 @@ fn write_read_fault(alloc: Global, out: &mut Vec<u8>, fault: ReadFault) -> Resul
         ReadFault::Damaged(damage) => write_damage(alloc, out, &damage),
         ReadFault::Keeper => write(out, "failed"),
         ReadFault::Memory => write(out, "memory"),
+    }
+}
+
+/// Writes why there is no trial.
+pub fn write_trial_fault(
+    alloc: Global,
+    out: &mut Vec<u8>,
+    fault: TrialFault,
+) -> Result<(), AllocError> {
+    match fault {
+        TrialFault::NoTrial(number) => write(out, format!(in alloc; "no trial {number}")?.as_str()),
+        TrialFault::Damaged(number, damage) => {
+            write(out, format!(in alloc; "damaged {number}: ")?.as_str())?;
+            write_damage(alloc, out, &damage)
+        }
+        TrialFault::Keeper => write(out, "failed"),
+        TrialFault::Collision {
+            digest,
+            kept_len,
+            given_len,
+        } => write_collision(alloc, out, &digest, kept_len, given_len),
+        TrialFault::Full => write(out, "full"),
+        TrialFault::Memory => write(out, "memory"),
     }
 }
 

@@ -1,6 +1,6 @@
-//! The cases of `keeper`, `content_store`, `trial_keeping`, `trial_contents` and `trial_pages`. Each line of the input is a row `TABLES|FAILING|CALL, CALL..`: the entries of the
-//! tables that a keeper in memory is made of, the numbers of its calls that fail, and calls. The answers are a line of the
-//! output, which the gate compares with the file `stdout`.
+//! The cases of `keeper`, `content_store`, `trial_keeping`, `trial_contents`, `trial_pages` and `trial_loading`. Each line of the input is a row
+//! `TABLES|FAILING|CALL, CALL..`: the entries of the tables that a keeper in memory is made of, the numbers of its calls that fail, and calls.
+//! The answers are a line of the output, which the gate compares with the file `stdout`.
 //!
 //! The real console reads the rows and writes the answers.
 #![tactic(auto)]
@@ -10,6 +10,7 @@ mod reads;
 mod runs;
 mod tables;
 mod texts;
+mod trials;
 mod writes;
 
 use keeper::Keeper;
@@ -23,6 +24,7 @@ use std::alloc::{AllocError, Global};
 use std::process::ExitCode;
 use tables::{tables_of, write_digits, write_tables};
 use texts::{halves, numbers, small, write, write_done};
+use trials::{list_heads, load_head, load_whole};
 use writes::write_into;
 
 /// Makes a call, and writes what it answers.
@@ -41,8 +43,11 @@ fn step(
         "digits" => write_digits(alloc, out, keeper.committed()),
         "run" => keep_run(alloc, keeper, words, out),
         "load" => load(alloc, keeper, words, out),
+        "trial_whole" => load_whole(alloc, keeper, small(words), out),
+        "trial_head" => load_head(alloc, keeper, small(words), out),
+        "heads" => list_heads(alloc, keeper, out),
         "whole" => write_whole(alloc, out, keeper.head(alloc, small(words))),
-        "trial" | "add" | "keep" | "set" | "put" | "commit" => write_into(
+        "trial" | "again" | "add" | "keep" | "set" | "put" | "commit" => write_into(
             alloc, keeper, call, words, out,
         ),
         _ => read(alloc, keeper, call, words, out),

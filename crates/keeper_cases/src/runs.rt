@@ -2,10 +2,10 @@
 ghost use Rattle.std.specs.Prelude.{IfOk};
 ghost use Rattle.capture.specs.Answers.{Fits};
 
+use crate::loads::write_trial_fault;
 use crate::texts::{
     bytes_of, halves, name_of, number, small, write, write_digest, write_fault, write_number,
 };
-use crate::writes::write_collision;
 use capture::{Ask, Capture, Ended, FileOut, Given, RunEnd};
 use keeper::{Head, KeepFault, Keeper};
 use memory_keeper::MemoryKeeper;
@@ -279,18 +279,7 @@ fn write_kept(
 ) -> Result<(), AllocError> {
     match kept {
         Ok(number) => write_number(alloc, out, u64::from(number)),
-        Err(TrialFault::NoTrial(_)) => write(out, "no trial"),
-        Err(TrialFault::Damaged(_, _)) => write(out, "damaged"),
-        Err(TrialFault::Keeper) => write(out, "failed"),
-        Err(
-            TrialFault::Collision {
-                digest,
-                kept_len,
-                given_len,
-            },
-        ) => write_collision(alloc, out, &digest, kept_len, given_len),
-        Err(TrialFault::Full) => write(out, "full"),
-        Err(TrialFault::Memory) => write(out, "memory"),
+        Err(fault) => write_trial_fault(alloc, out, fault),
     }
 }
 
@@ -307,7 +296,8 @@ pub fn write_whole(
     }
 }
 
-fn write_fields(alloc: Global, out: &mut Vec<u8>, head: &Head) -> Result<(), AllocError> {
+/// Writes a head with all its fields, a space between them.
+pub fn write_fields(alloc: Global, out: &mut Vec<u8>, head: &Head) -> Result<(), AllocError> {
     write_number(alloc, out, u64::from(head.format))?;
     out.push(b' ')?;
     write_number(alloc, out, u64::from(head.language))?;

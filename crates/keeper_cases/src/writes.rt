@@ -2,10 +2,10 @@
 use crate::reads::write_count;
 use crate::tables::page_of;
 use crate::texts::{
-    digest_of, halves, head_of, small, write, write_digest, write_done, write_number,
+    digest_of, halves, head_of, small, write, write_digest, write_done, write_fault, write_number,
 };
 use content_store::{ContentFault, put};
-use keeper::{KeepFault, Keeper};
+use keeper::{Head, KeepFault, Keeper};
 use memory_keeper::MemoryKeeper;
 use prov_base::Digest;
 use std::alloc::{AllocError, Global};
@@ -24,6 +24,7 @@ pub fn write_into(
     let (first, second) = halves(words, ' ');
     match call {
         "trial" => add_trial(alloc, keeper, first, out),
+        "again" => add_again(alloc, keeper, small(first), second, out),
         "add" => add_page(alloc, keeper, small(first), second, out),
         "keep" => write_done(
             out,
@@ -42,10 +43,51 @@ fn add_trial(
     out: &mut Vec<u8>,
 ) -> Result<(), AllocError> {
     let head = head_of(alloc, path)?;
+    add_head(alloc, keeper, &head, out)
+}
+
+fn add_head(
+    alloc: Global,
+    keeper: &mut MemoryKeeper,
+    head: &Head,
+    out: &mut Vec<u8>,
+) -> Result<(), AllocError> {
     if keeper.seen_trials() == u32::MAX || !keeper.is_open() {
         return write(out, "no room");
     }
-    write_count(alloc, out, keeper.add_trial(alloc, &head))
+    write_count(alloc, out, keeper.add_trial(alloc, head))
+}
+
+// Adds the head of a kept trial once more, changed: the words are how many pages it has, and which of its digests names nothing.
+fn add_again(
+    alloc: Global,
+    keeper: &mut MemoryKeeper,
+    number: u32,
+    words: &str,
+    out: &mut Vec<u8>,
+) -> Result<(), AllocError> {
+    match keeper.head(alloc, number) {
+        Ok(Some(mut head)) => {
+            change(&mut head, words);
+            add_head(alloc, keeper, &head, out)
+        }
+        Ok(None) => write(out, "no trial"),
+        Err(fault) => write_fault(out, fault),
+    }
+}
+
+fn change(head: &mut Head, words: &str) {
+    let (pages, digest) = halves(words, ' ');
+    let absent = Digest { bytes: [15; 20] };
+    head.pages = small(pages);
+    match digest {
+        "script" => head.script = absent,
+        "arguments" => head.arguments = absent,
+        "capture" => head.capture = absent,
+        "finals" => head.finals = absent,
+        "output" => head.output = absent,
+        _ => {}
+    }
 }
 
 fn add_page(
