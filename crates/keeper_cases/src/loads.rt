@@ -7,7 +7,7 @@ use crate::writes::write_collision;
 use capture::{Asked, Capture, FileOut, Given};
 use keeper::{Head, Keeper};
 use memory_keeper::MemoryKeeper;
-use prov_base::Name;
+use prov_base::{Digest, Name};
 use prov_outside::Found;
 use std::alloc::{AllocError, Global};
 use trial_contents::{Rest, rest_of, script_of};
@@ -43,15 +43,9 @@ fn load_parts(
 {
     load_script(alloc, keeper, head, out)?;
     write(out, " / ")?;
-    match rest_of(alloc, keeper, head) {
-        Ok(rest) => write_rest(alloc, out, &rest)?,
-        Err(fault) => write_read_fault(alloc, out, fault)?,
-    }
+    load_rest(alloc, keeper, head, out)?;
     write(out, " / ")?;
-    match rows_of(alloc, keeper, number, head.pages, statements) {
-        Ok(read) => write_pages(alloc, out, &read),
-        Err(fault) => write_read_fault(alloc, out, fault),
-    }
+    load_rows(alloc, keeper, head, number, statements, out)
 }
 
 fn load_script(
@@ -64,6 +58,36 @@ fn load_script(
 {
     match script_of(alloc, keeper, head) {
         Ok(text) => out.extend_from_slice(text.as_slice()),
+        Err(fault) => write_read_fault(alloc, out, fault),
+    }
+}
+
+fn load_rest(
+    alloc: Global,
+    keeper: &mut MemoryKeeper,
+    head: &Head,
+    out: &mut Vec<u8>,
+) -> Result<(), AllocError>
+    ensures { AreKept keeper.new.held.is_open (told_of keeper.new.held) }
+{
+    match rest_of(alloc, keeper, head) {
+        Ok(rest) => write_rest(alloc, out, &rest),
+        Err(fault) => write_read_fault(alloc, out, fault),
+    }
+}
+
+fn load_rows(
+    alloc: Global,
+    keeper: &mut MemoryKeeper,
+    head: &Head,
+    number: u32,
+    statements: u32,
+    out: &mut Vec<u8>,
+) -> Result<(), AllocError>
+    requires { AreKept keeper.old.held.is_open (told_of keeper.old.held) }
+{
+    match rows_of(alloc, keeper, number, head.pages, statements) {
+        Ok(read) => write_pages(alloc, out, &read),
         Err(fault) => write_read_fault(alloc, out, fault),
     }
 }
@@ -184,9 +208,10 @@ pub fn write_trial_fault(
     fault: TrialFault,
 ) -> Result<(), AllocError> {
     match fault {
-        TrialFault::NoTrial(number) => write(out, format!(in alloc; "no trial {number}")?.as_str()),
+        TrialFault::NoTrial(number) => write_counted(alloc, out, "no trial ", u64::from(number)),
         TrialFault::Damaged(number, damage) => {
-            write(out, format!(in alloc; "damaged {number}: ")?.as_str())?;
+            write_counted(alloc, out, "damaged ", u64::from(number))?;
+            write(out, ": ")?;
             write_damage(alloc, out, &damage)
         }
         TrialFault::Keeper => write(out, "failed"),
@@ -204,42 +229,61 @@ fn write_damage(alloc: Global, out: &mut Vec<u8>, damage: &Damage) -> Result<(),
     match damage {
         Damage::Path => write(out, "path"),
         Damage::PageDigest { page, kept, found } => {
-            write(out, format!(in alloc; "page {page} kept ")?.as_str())?;
-            write_digest(alloc, out, kept)?;
-            write(out, " found ")?;
-            write_digest(alloc, out, found)
+            write_counted(alloc, out, "page ", u64::from(*page))?;
+            write_both(alloc, out, " kept ", kept, found)
         }
-        Damage::PageAbsent { page } => write(
-            out,
-            format!(in alloc; "page {page} absent")?.as_str(),
-        ),
+        Damage::PageAbsent { page } => {
+            write_counted(alloc, out, "page ", u64::from(*page))?;
+            write(out, " absent")
+        }
         Damage::RowAt { page, byte } => {
-            write(
-                out,
-                format!(in alloc; "row at page {page} byte {byte}")?.as_str(),
-            )
+            write_counted(alloc, out, "row at page ", u64::from(*page))?;
+            write_counted(alloc, out, " byte ", *byte)
         }
-        Damage::ContentDigest { kept, found } => {
-            write(out, "content ")?;
-            write_digest(alloc, out, kept)?;
-            write(out, " found ")?;
-            write_digest(alloc, out, found)
-        }
+        Damage::ContentDigest { kept, found } => write_both(alloc, out, "content ", kept, found),
         Damage::ContentAbsent { digest } => {
-            write(out, "content ")?;
-            write_digest(alloc, out, digest)?;
+            write_named(alloc, out, "content ", digest)?;
             write(out, " absent")
         }
         Damage::RecordAt { digest, byte } => {
-            write(out, "record ")?;
-            write_digest(alloc, out, digest)?;
-            write(out, format!(in alloc; " byte {byte}")?.as_str())
+            write_named(alloc, out, "record ", digest)?;
+            write_counted(alloc, out, " byte ", *byte)
         }
         Damage::ScriptAt { at } => {
-            write(
-                out,
-                format!(in alloc; "script at {}:{}", at.line, at.col)?.as_str(),
-            )
+            write_counted(alloc, out, "script at ", u64::from(at.line))?;
+            write_counted(alloc, out, ":", u64::from(at.col))
         }
     }
+}
+
+fn write_counted(
+    alloc: Global,
+    out: &mut Vec<u8>,
+    words: &str,
+    number: u64,
+) -> Result<(), AllocError> {
+    write(out, words)?;
+    write_number(alloc, out, number)
+}
+
+fn write_named(
+    alloc: Global,
+    out: &mut Vec<u8>,
+    words: &str,
+    digest: &Digest,
+) -> Result<(), AllocError> {
+    write(out, words)?;
+    write_digest(alloc, out, digest)
+}
+
+// Writes a digest that is kept, and the digest that was found.
+fn write_both(
+    alloc: Global,
+    out: &mut Vec<u8>,
+    words: &str,
+    kept: &Digest,
+    found: &Digest,
+) -> Result<(), AllocError> {
+    write_named(alloc, out, words, kept)?;
+    write_named(alloc, out, " found ", found)
 }

@@ -1,5 +1,5 @@
 // The tables that a row begins with, and how committed tables are written.
-use crate::texts::{bytes_of, digest_of, halves, head_of, name_of, small, write};
+use crate::texts::{bytes_of, digest_of, halves, head_of, name_of, small, write, write_digest};
 use keeper::{Head, Page};
 use memory_keeper::Tables;
 use prov_base::{Bytes, Digest, Name};
@@ -99,22 +99,27 @@ pub fn write_digits(alloc: Global, out: &mut Vec<u8>, tables: &Tables) -> Result
     out.push(b'{')?;
     write_heads(alloc, out, &tables.heads)?;
     for (trial, number, page) in &tables.pages {
-        let digits = hex::encode(alloc, page.digest.bytes)?;
-        let key = format!(in alloc; "p:{trial}:{number}:{}:", digits.as_str())?;
-        write_entry(
-            out,
-            &key,
-            hex::encode(alloc, page.bytes.as_slice())?.as_bytes(),
-        )?;
+        write(out, format!(in alloc; "p:{trial}:{number}:")?.as_str())?;
+        write_digit_entry(alloc, out, &page.digest, page.bytes.as_slice())?;
     }
     for (digest, bytes) in &tables.contents {
-        let digits = hex::encode(alloc, digest.bytes)?;
-        let key = format!(in alloc; "c:{}:", digits.as_str())?;
-        write_entry(out, &key, hex::encode(alloc, bytes.as_slice())?.as_bytes())?;
+        write(out, "c:")?;
+        write_digit_entry(alloc, out, digest, bytes.as_slice())?;
     }
     write_current(alloc, out, &tables.current)?;
     out.push(b'}')?;
     Ok(())
+}
+
+fn write_digit_entry(
+    alloc: Global,
+    out: &mut Vec<u8>,
+    digest: &Digest,
+    bytes: &[u8],
+) -> Result<(), AllocError> {
+    write_digest(alloc, out, digest)?;
+    out.push(b':')?;
+    write_entry(out, hex::encode(alloc, bytes)?.as_str(), b"")
 }
 
 fn write_heads(alloc: Global, out: &mut Vec<u8>, heads: &[Head]) -> Result<(), AllocError> {
