@@ -11,7 +11,7 @@ use prov_base::{Bytes, Name};
 use prov_outside::{MemoryConsole, MemoryFolder, MemoryMoments};
 use std::alloc::{AllocError, Global};
 
-/// The one file of the folder, and the numbers of the calls of the console, of the folder and of the store of trials that fail. 0 is none. Whether a call of the
+/// The one file of the folder, the numbers of the calls of the console, of the folder and of the store of trials that fail, where 0 is none, and whether a call of the
 /// program is made twice over one store.
 #[derive(Drop)]
 pub struct Bench {
