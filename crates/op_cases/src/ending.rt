@@ -1,7 +1,7 @@
 // A doer that is made, answers rows, and comes to its end.
 use answer_source::Source;
 use capture::FileOut;
-use op_held::Held;
+use op_held::{Held, drop_held};
 use op_parts::Parts;
 use op_rows::answer_rows_with;
 use op_starts::{Left, Runner, closed};
@@ -10,7 +10,6 @@ use prov_outside::{Console, Trouble};
 use std::alloc::Global;
 
 /// What is held at the end of a run.
-#[derive(Drop)]
 struct Rest {
     held: Held,
 }
@@ -22,6 +21,10 @@ impl Left for Rest {
 
     fn finals(&self, alloc: Global) -> Result<Vec<FileOut>, Memory> {
         self.held.finals(alloc)
+    }
+
+    fn let_go(self) {
+        drop_held(self.held)
     }
 }
 

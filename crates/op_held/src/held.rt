@@ -23,3 +23,14 @@ impl Model for Held {
 
     ghost invariant = { λ h. AreNamedPaths h.work.values h.opened.items };
 }
+
+/// Lets what is held go. Crates above call this, so the drop of all that is held is proved here alone.
+pub fn drop_held(held: Held) {
+    let Held {
+        work,
+        opened,
+        output,
+    } = held;
+    drop((opened, output));
+    drop(work);
+}

@@ -9,6 +9,7 @@
 //! - [`Held::place`]: what a device has at a path is put into what is held, which goes on to stand for the same stores.
 //! - [`Held::enter`]: the parameters of an activation are set, each in order. [`Held::word`]: the number of a text.
 //! - [`Held::finals`]: the files that the run opened for writing. [`Held::uncaught`]: what is said of an exception that nothing caught.
+//! - [`drop_held`]: what is held is let go.
 //!
 //! An operation that made a file object whose file is not there would be refused as want of memory. No plan makes one.
 #![tactic(auto)]
@@ -26,4 +27,4 @@ mod uncaught;
 mod words;
 
 pub use beginning::begin;
-pub use held::Held;
+pub use held::{Held, drop_held};

@@ -32,6 +32,9 @@ pub trait Left {
 
     /// Each file that was opened for writing.
     fn finals(&self, alloc: Global) -> Result<Vec<FileOut>, Memory>;
+
+    /// Lets it go.
+    fn let_go(self);
 }
 
 /// Writes what a run left.
@@ -55,16 +58,28 @@ fn close<C: Console, L: Left>(
     console.write(alloc, &out)
 }
 
+/// Writes the row that begins anew, if there is one.
+fn close_next<C: Console, L: Left>(
+    alloc: Global,
+    console: &mut C,
+    left: &L,
+    next: &Result<Option<Bytes>, Trouble>,
+) -> Result<(), Trouble> {
+    match next {
+        Ok(Some(row)) => close(alloc, console, left, row.as_slice()),
+        _ => Ok(()),
+    }
+}
+
 /// Writes the row that begins anew, if there is one, and gives it back. What a run left is let go.
-pub fn closed<C: Console, L: Left + Drop>(
+pub fn closed<C: Console, L: Left>(
     alloc: Global,
     console: &mut C,
     left: L,
     next: Result<Option<Bytes>, Trouble>,
 ) -> Result<Option<Bytes>, Trouble> {
-    let next = next?;
-    if let Some(row) = &next {
-        close(alloc, console, &left, row.as_slice())?;
-    }
-    Ok(next)
+    let written = close_next(alloc, console, &left, &next);
+    left.let_go();
+    written?;
+    next
 }
