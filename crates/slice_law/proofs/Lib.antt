@@ -1,1 +1,3 @@
 pub mod ClosedSets
+pub mod Reachables
+mod Reaching

@@ -4,8 +4,11 @@ ghost use Rattle.py_tree.specs.Owners.{parent_of};
 ghost use Rattle.py_tree.specs.Tree.{ScriptTree};
 ghost use Rattle.py_model.specs.Moment.{Moment};
 ghost use Rattle.py_model.specs.Store.{RunStore};
-ghost use Rattle.slice_law.specs.Edges.{edges};
-ghost use Rattle.slice_law.specs.Closed.{StmtSet, IsClosed, IsLeast, IsAsked, has, needed, is_settled};
+ghost use Rattle.py_value.specs.Contents.{Contents};
+ghost use Rattle.py_value.specs.Seen.{SeenLocation};
+ghost use Rattle.slice_law.specs.Edges.{edges, reachable};
+ghost use Rattle.slice_law.specs.Closed.{StmtSet, IsIn, IsClosed, IsLeast, IsAsked, has, needed, is_settled};
+ghost use Rattle.slice_law.specs.Reached.{ReachesPlace};
 
 /// The law that what two closed sets have in common is closed.
 pub fn closed_sets_meet()
@@ -33,4 +36,9 @@ pub fn closed_sets_have_parents()
 pub fn needed_is_least()
     ensures { (script : ScriptTree) (opening : RunStore) (told : List Moment)
         → is_settled (edges script told) (needed script opening told) ≡ true → IsLeast script opening told (λ s. has s (needed script opening told)) }
+{}
+
+/// The law that the locations which a traversal of a store meets are those that are reached from the value, object by object.
+pub fn reachable_is_reached()
+    ensures { (store : RunStore) (v : Contents) (l : SeenLocation) → IsIn (reachable store v) l ↔ ReachesPlace store v l }
 {}

@@ -2,10 +2,13 @@
 //! control, jumps, calls and names.
 //!
 //! `specs/Edges.antt` says which statement asks for which, each at one moment, and which are asked for by the value itself.
-//! `specs/Closed.antt` says what a closed set is, and the least one. Sets are tests into `Bool`. `specs/Slices.antt` states what a slice
-//! promises, which is not proved yet.
+//! `specs/Closed.antt` says what a closed set is, and the least one. Sets are tests into `Bool`. `specs/Reached.antt` says as a relation what is
+//! reached from a value. `specs/Slices.antt` states what a slice promises, which is not proved yet.
 #![tactic(auto)]
 
 mod laws;
 
-pub use laws::{closed_sets_have_parents, closed_sets_meet, least_is_asked, needed_is_least};
+pub use laws::{
+    closed_sets_have_parents, closed_sets_meet, least_is_asked, needed_is_least,
+    reachable_is_reached,
+};

@@ -23,7 +23,6 @@ mod Functionless
 mod AtomicValues
 mod Opened
 mod Late
-mod Reachables
 mod SharedGraphs
 mod Nameless
 mod Values

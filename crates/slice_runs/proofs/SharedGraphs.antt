@@ -14,7 +14,7 @@ use Rattle.py_model.specs.Store.{item_of, entry_of, order_of}
 use Rattle.slice_law.specs.Closed.{IsIn}
 use Rattle.slice_law.specs.Edges.{Reachable}
 use Rattle.slice_runs.proofs.Ranks.{agreed_is_marked}
-use Rattle.slice_runs.proofs.Reachables.{within, parts_within, item_within, entry_within, within_both, item_both, entry_both, met, KeysCovered, Covered}
+use Rattle.slice_law.proofs.Reachables.{within, parts_within, item_within, entry_within, within_both, item_both, entry_both, met, KeysCovered, Covered}
 use Rattle.slice_runs.proofs.Readings.{len_read, item_read, entry_read, order_read, offset_read, closed_read}
 use Rattle.slice_runs.proofs.Renamings.{value_test}
 use Rattle.slice_runs.specs.Renaming.{is_marked, Fits, IsShifted, Matches, Marks}

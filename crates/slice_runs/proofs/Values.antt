@@ -26,7 +26,7 @@ use Rattle.slice_runs.proofs.AtomicValues.{value_text}
 use Rattle.slice_runs.proofs.Evaluations.{IsFound, found_is}
 use Rattle.slice_runs.proofs.Marks.{kind_at, counted_made, shifts}
 use Rattle.slice_runs.proofs.Nameless.{still_nameless}
-use Rattle.slice_runs.proofs.Reachables.{traversed, all_met, all_covered}
+use Rattle.slice_law.proofs.Reachables.{traversed, all_met, all_covered}
 use Rattle.slice_runs.proofs.SharedGraphs.{graphs_match}
 use Rattle.slice_runs.proofs.Standing.{in_front, in_behind}
 use Rattle.slice_runs.specs.Related.{kept_of}

@@ -1,5 +1,5 @@
 -- The traversal from a value is complete: it meets each object of the value, and of what stands at the locations of an object that it met.
-use Rattle.std.proofs.Common.{◌≡◌, ℕ, zero, suc, ◌+◌, ◌≤◌, ◌<◌, if◌then◌else◌, Bool, true, false, ◌&&◌, ◌||◌, ◌==◌, List, [], ◌∷◌, length, slice_get, Option, Some, None, inl, inr, refl, sym, ap, subst, ◌∙◌, arith, eqb-true, eq-eqb}
+use Rattle.std.proofs.Common.{◌≡◌, ℕ, zero, suc, ◌+◌, ◌≤◌, ◌<◌, if◌then◌else◌, Bool, true, false, ◌&&◌, ◌||◌, ◌==◌, List, [], ◌∷◌, ◌++◌, length, slice_get, Option, Some, None, inl, inr, refl, sym, ap, subst, ◌∙◌, arith, eqb-true, eq-eqb}
 use Rattle.std.specs.Prelude.{⊤, ◌⊎◌}
 use Rattle.std.proofs.lemmas.Bool.{false≢true, and_parts, and_from, eqb-false}
 use Rattle.std.proofs.lemmas.Option.{slice_get_within}
@@ -9,7 +9,15 @@ use Rattle.py_value.specs.Seen.{SeenLocation, SeenKind, a_list, a_dict, an_insta
 use Rattle.py_model.specs.Store.{RunStore, len_of, item_of, entry_of, order_of}
 use Rattle.slice_law.specs.Closed.{IsIn}
 use Rattle.slice_law.specs.Edges.{has_object, Reachable, with_places, from_value, from_parts, from_item, from_entry, from_items, from_entries, from_content, from_object_to}
-use Rattle.slice_runs.proofs.Standing.{in_front, in_behind}
+
+pub in_front : {A : Type 0} (xs ys : List A) (x : A) → IsIn xs x → IsIn (xs ++ ys) x
+in_front [] ys x there = absurd there
+in_front (y ∷ xs) ys x (inl is) = inl is
+in_front (y ∷ xs) ys x (inr there) = inr (in_front xs ys x there)
+
+pub in_behind : {A : Type 0} (xs ys : List A) (x : A) → IsIn ys x → IsIn (xs ++ ys) x
+in_behind [] ys x there = there
+in_behind (y ∷ xs) ys x there = inr (in_behind xs ys x there)
 
 -- all objects in a value pass a test
 abbrev mutual
