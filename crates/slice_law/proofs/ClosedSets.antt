@@ -48,7 +48,7 @@ module _ (script : ScriptTree) (opening : RunStore) (told : List Moment) where
   in_front (y ∷ xs) ys x (inr there) = inr (in_front xs ys x there)
 
   -- the parent of a statement that is listed is asked for
-  listed_asks : (xs : List Standing) (s p : ℕ) → option_and_then (λ (x : Standing). option_map number_of x.around.owner) (first_at s xs) ≡ Some p → IsIn (parents_asked script xs) (edge by_control s p)
+  pub listed_asks : (xs : List Standing) (s p : ℕ) → option_and_then (λ (x : Standing). option_map number_of x.around.owner) (first_at s xs) ≡ Some p → IsIn (parents_asked script xs) (edge by_control s p)
   listed_asks [] s p is = absurd cc
   listed_asks (x ∷ xs) s p is = by_number (number_at x == s) refl is (listed_asks xs s p)
     where

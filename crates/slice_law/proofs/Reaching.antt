@@ -1,15 +1,15 @@
 -- The locations that the traversal from a value meets are those that are reached from it.
-use Rattle.std.proofs.Common.{◌≡◌, ℕ, zero, suc, ◌+◌, ◌≤◌, ◌<◌, if◌then◌else◌, Bool, true, false, ◌&&◌, ◌||◌, ◌==◌, List, [], ◌∷◌, ◌++◌, length, slice_get, Option, Some, None, inl, inr, refl, sym, ap, subst, ◌∙◌, arith, eqb-true, eq-eqb}
-use Rattle.std.specs.Prelude.{⊤, ◌⊎◌, ◌↔◌}
-use Rattle.std.proofs.lemmas.Bool.{false≢true, and_parts}
+use Rattle.std.proofs.Common.{◌≡◌, ℕ, zero, suc, ◌+◌, ◌≤◌, ◌<◌, if◌then◌else◌, Bool, true, false, List, [], ◌∷◌, ◌++◌, length, slice_get, Option, Some, None, inl, inr, refl, sym, subst, arith}
+use Rattle.std.specs.Prelude.{◌⊎◌, ◌↔◌}
+use Rattle.std.proofs.lemmas.Bool.{and_parts}
 use Rattle.py_value.specs.Contents.{Contents, Parts, nothing, truth, int, text, tuple, range, function, class, exception_class, builtin, object, no_parts, part}
 use Rattle.py_value.specs.KeyOf.{normal}
 use Rattle.py_value.specs.Seen.{SeenLocation, SeenKind, a_list, a_dict, an_instance, a_file, len_at, item_at, entry_at, order_at, offset_at, closed_at}
 use Rattle.py_model.specs.Store.{RunStore, len_of, item_of, entry_of, order_of}
 use Rattle.slice_law.specs.Closed.{IsIn}
 use Rattle.slice_law.specs.Edges.{has_object, Reachable, with_places, from_value, from_parts, from_item, from_entry, from_items, from_entries, from_content, from_object_to, reachable}
-use Rattle.slice_law.specs.Reached.{StandsIn, StandsInParts, StandsInItem, StandsInEntry, IsItem, IsEntry, IsOwn, InItem, InEntry, Holds, IsReached, in_value, in_object, ReachesPlace}
-use Rattle.slice_law.proofs.Reachables.{within, parts_within, item_within, entry_within, met, KeysCovered, ItemCovered, Covered, traversed, all_met, all_covered}
+use Rattle.slice_law.specs.Reached.{StandsIn, StandsInParts, StandsInItem, StandsInEntry, IsEntry, IsOwn, InEntry, Holds, IsReached, in_value, in_object, ReachesPlace}
+use Rattle.slice_law.proofs.Reachables.{within, parts_within, item_within, entry_within, met, KeysCovered, Covered, traversed, all_met, all_covered}
 
 -- what is in one list behind another is in one of them
 in_either : {A : Type 0} (xs ys : List A) (x : A) → IsIn (xs ++ ys) x → IsIn xs x ⊎ IsIn ys x

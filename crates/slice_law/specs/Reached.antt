@@ -1,5 +1,5 @@
 -- What is reached from a value in a store, as a relation: objects, and the locations that are their own.
-use Rattle.std.specs.Prelude.{◌≡◌, ℕ, ◌<◌, List, slice_get, Option, Some, None, ◌⊎◌}
+use Rattle.std.specs.Prelude.{◌≡◌, ℕ, ◌<◌, slice_get, Option, Some, None, ◌⊎◌}
 use Rattle.py_value.specs.Contents.{Contents, Parts, tuple, object, no_parts, part}
 use Rattle.py_value.specs.KeyOf.{normal}
 use Rattle.py_value.specs.Seen.{SeenLocation, SeenKind, a_list, a_dict, an_instance, a_file, len_at, item_at, entry_at, order_at, offset_at, closed_at}

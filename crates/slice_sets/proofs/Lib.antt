@@ -1,0 +1,4 @@
+mod Along
+mod Lacking
+mod ParentPairs
+mod StandingBelow

@@ -1,0 +1,4 @@
+pub mod Along
+pub mod Lacking
+pub mod Pairs
+pub mod ParentPairs
