@@ -1,15 +1,15 @@
 -- Which statement asks for which, in the moments of a run, the latest first (Korel and Laski 1988, with objects, calls, jumps and names
 -- as in this project's profile). Each is seen at one moment.
-use Rattle.std.specs.Prelude.{ℕ, zero, suc, ◌==◌, ◌&&◌, Bool, true, false, List, [], ◌∷◌, ◌++◌, length, slice_get, Option, Some, None, if◌then◌else◌}
+use Rattle.std.specs.Prelude.{ℕ, zero, suc, ◌==◌, ◌&&◌, not, Bool, true, false, List, [], ◌∷◌, ◌++◌, length, slice_get, Option, Some, None, if◌then◌else◌}
 use Rattle.std.specs.Option.{option_map, option_and_then}
 use Rattle.std.specs.List.{list_any}
-use Rattle.py_tree.specs.Binds.{form_binds}
+use Rattle.py_tree.specs.Binds.{form_binds, is_method}
 use Rattle.py_tree.specs.Owners.{Standing, statements, number_at, form_in, standing_at}
 use Rattle.py_tree.specs.Tree.{ScriptTree, number_of}
 use Rattle.py_value.specs.Contents.{Contents, Parts, tuple, object, no_parts, part}
 use Rattle.py_value.specs.KeyOf.{normal}
 use Rattle.py_value.specs.Seen.{SeenLocation, SeenAccess, SeenKind, a_list, a_dict, an_instance, a_file, var_at, len_at, item_at, entry_at, order_at, offset_at, closed_at, reads}
-use Rattle.py_model.specs.Moment.{Moment, begins, does, ends, Ending, normal_end}
+use Rattle.py_model.specs.Moment.{Moment, begins, does, enters, ends, Ending, normal_end}
 use Rattle.py_model.specs.Occurrences.{Occurrence, Frame, in_occurrence, in_activation, frames_after, without_top, innermost, owner_after, block_parent, activation_parent, reach}
 use Rattle.py_model.specs.Plan.{value}
 use Rattle.py_model.specs.Store.{RunStore, len_of, item_of, entry_of, order_of}
@@ -62,7 +62,7 @@ in_function (Some f) x = elim x.around.function [ None ↦ false | Some g ↦ f 
 
 abbrev pub first_binder : Option ℕ → List ℕ → List Standing → Option ℕ
 first_binder f name [] = None
-first_binder f name (x ∷ xs) = if in_function f x && form_binds (form_in x.stmt) name then Some (number_at x) else first_binder f name xs
+first_binder f name (x ∷ xs) = if in_function f x && (not (is_method x) && form_binds (form_in x.stmt) name) then Some (number_at x) else first_binder f name xs
 
 module _ (script : ScriptTree) where
   abbrev pub function_of_stmt : ℕ → Option ℕ
@@ -95,9 +95,10 @@ module _ (script : ScriptTree) where
   abbrev pub asks_for_jump : List Frame → Option Occurrence
   asks_for_jump frames = elim (block_parent frames) [ None ↦ activation_parent frames | Some o ↦ Some o ]
 
-  -- what one moment asks for: data and names at what is done, the call at a Begin, a jump at an End
+  -- what one moment asks for: data and names at what is done and at what is entered, the call at a Begin, a jump at an End
   abbrev pub asks : Moment → List Moment → List Edge
   asks (does at number values answer made accesses weight) before = elim (owner_stmt before) [ None ↦ [] | Some s ↦ reads_ask s accesses before ]
+  asks (enters at def values accesses) before = elim (owner_stmt before) [ None ↦ [] | Some s ↦ reads_ask s accesses before ]
   asks (begins number) before = elim (caller (frames_after before)) [ None ↦ [] | Some o ↦ edge by_control number o.stmt ∷ [] ]
   asks (ends number ended) before =
       if is_abrupt ended then elim (asks_for_jump (without_top (frames_after before))) [ None ↦ [] | Some o ↦ edge by_jump o.stmt number ∷ [] ] else []
