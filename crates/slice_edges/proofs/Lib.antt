@@ -1,0 +1,9 @@
+pub mod AskLaws
+pub mod BelowCount
+pub mod BinderLaws
+pub mod FrameLaws
+pub mod ReachLaws
+pub mod ReadLaws
+pub mod StepLaws
+pub mod TestLaws
+pub mod WritersLaws

@@ -1,0 +1,167 @@
+-- What is known once one more moment was told.
+use Rattle.std.proofs.Common.{◌≡◌, ℕ, ◌==◌, ◌&&◌, ◌||◌, Bool, true, false, List, [], ◌∷◌, map, Option, Some, None, refl, sym, ap, subst, ◌∙◌, unwrap_or, if◌then◌else◌}
+use Rattle.std.specs.Option.{option_map}
+use Rattle.prov_base.specs.declared.place.Pos.{Pos}
+use Rattle.py_tree.specs.Tree.{ScriptTree}
+use Rattle.py_value.specs.declared.access.Access.{Access}
+use Rattle.py_value.specs.declared.access.Location.{Location}
+use Rattle.py_value.specs.Contents.{Contents}
+use Rattle.py_value.specs.Seen.{SeenKind, SeenAccess, location_seen, access_seen, IsNamedLocation}
+use Rattle.py_value.specs.Values.{ValuesView, AreInterned}
+use Rattle.py_model.specs.Going.{Open, a_statement, an_activation}
+use Rattle.py_model.specs.History.{accesses_by}
+use Rattle.py_model.specs.Moment.{Moment, begins, does, enters, leaves, ends}
+use Rattle.py_model.specs.Occurrences.{Occurrence, frames_after, without_top, sets_at, updates_at, open_of}
+use Rattle.py_model.specs.Plan.{Answer}
+use Rattle.py_model.specs.Told.{how_seen}
+use Rattle.py_model.specs.declared.moment.How.{How}
+use Rattle.row_words.specs.Fits.{Each}
+use Rattle.kept_rows.specs.NamedRows.{NamesAccess}
+use Rattle.slice_law.specs.Closed.{has}
+use Rattle.slice_law.specs.Edges.{edge, by_control, by_jump, from_option, owner_stmt, reach_stmts, reads_ask, caller, is_abrupt, asks_for_jump, asks, run_asks}
+use Rattle.slice_edges.specs.declared.asking.Asking.{Asking}
+use Rattle.slice_edges.specs.Asks.{among, some_asks, is_jump}
+use Rattle.slice_edges.specs.Frames.{owner_in, caller_in, without_first}
+use Rattle.slice_edges.specs.HasAsked.{HasAsked}
+use Rattle.slice_edges.specs.Reading.{owner_reads}
+use Rattle.slice_edges.specs.Writers.{noted_at, sets_in, updates_in}
+use Rattle.slice_edges.proofs.FrameLaws.{owner_is, caller_is, jump_is, closed_is, abrupt_is}
+use Rattle.slice_edges.proofs.ReachLaws.{now_reached, reach_next, sets_seen, updates_seen}
+use Rattle.slice_edges.proofs.ReadLaws.{asks_both, reads_asked}
+
+module _ (view : ValuesView) (script : ScriptTree) (old new : Asking) (told : List Moment) (before : HasAsked view script old told) where
+  owner_known : (frames : List Open) → frames ≡ old.frames → owner_in frames ≡ owner_stmt told
+  owner_known frames is = ap owner_in (is ∙ before.frames) ∙ sym (owner_is (frames_after told))
+
+  -- the pairs, with those of the moment
+  asks_next : (moment : Moment) (here : ℕ → ℕ → Bool) → ((s r : ℕ) → some_asks (asks script moment told) s r ≡ here s r) → ((s r : ℕ) → among new.asks.keys s r ≡ (here s r || among old.asks.keys s r))
+      → (s r : ℕ) → among new.asks.keys s r ≡ some_asks (run_asks script (moment ∷ told)) s r
+  asks_next moment here is noted s r =
+      noted s r ∙ ap (λ b. b || among old.asks.keys s r) (sym (is s r)) ∙ ap (λ b. some_asks (asks script moment told) s r || b) (before.asks s r)
+      ∙ sym (asks_both (asks script moment told) (run_asks script told) s r)
+
+  -- a moment that reads and writes nothing
+  quiet : (moment : Moment) → accesses_by moment ≡ [] → new.writers ≡ old.writers → (l : Location) → IsNamedLocation view l → (s : ℕ) → has s (noted_at new.writers.entries l) ≡ has s (reach_stmts (location_seen view l) (moment ∷ told))
+  quiet moment none same l named s =
+      ap (λ writers. has s (noted_at writers.entries l)) same ∙ before.writers l named s
+      ∙ sym (reach_next (location_seen view l) moment told s
+      ∙ ap (λ accesses. now_reached (sets_at (location_seen view l) accesses) (updates_at (location_seen view l) accesses) (has s (from_option (owner_stmt told))) (has s (reach_stmts (location_seen view l) told))) none)
+
+  -- ---- a Begin
+
+  begin_asks : (number : ℕ) (found : Option Occurrence) (s r : ℕ)
+      → some_asks (elim found [ None ↦ [] | Some o ↦ edge by_control number o.stmt ∷ [] ]) s r ≡ ((number == s) && has r (from_option (option_map (λ (o : Occurrence). o.stmt) found)))
+  begin_asks number None s r = none (number == s)
+    where
+      none : (a : Bool) → false ≡ (a && false)
+      none true = refl
+      none false = refl
+  begin_asks number (Some o) s r = one (number == s) (o.stmt == r)
+    where
+      one : (a b : Bool) → ((a && b) || false) ≡ (a && (b || false))
+      one true b = refl
+      one false b = refl
+
+  pub begin_step : (number : ℕ) → new.frames ≡ a_statement number ∷ old.frames → new.writers ≡ old.writers
+      → ((s r : ℕ) → among new.asks.keys s r ≡ (((number == s) && has r (from_option (caller_in old.frames))) || among old.asks.keys s r)) → HasAsked view script new (begins number ∷ told)
+  begin_step number frames writers noted = record {
+    frames = frames ∙ ap (λ open_ones. a_statement number ∷ open_ones) before.frames;
+    writers = quiet (begins number) refl writers;
+    asks = asks_next (begins number) (λ s r. (number == s) && has r (from_option (caller_in old.frames)))
+        (λ s r. begin_asks number (caller script (frames_after told)) s r
+        ∙ ap (λ found. (number == s) && has r (from_option found)) (caller_is script (frames_after told) ∙ ap caller_in (sym before.frames))) noted;
+  }
+
+  -- ---- a Leave
+
+  pub leave_step : (v : Contents) → new.frames ≡ without_first old.frames → new.writers ≡ old.writers → new.asks ≡ old.asks → HasAsked view script new (leaves v ∷ told)
+  leave_step v frames writers same = record {
+    frames = frames ∙ ap without_first before.frames ∙ sym (closed_is (frames_after told));
+    writers = quiet (leaves v) refl writers;
+    asks = λ s r. ap (λ known. among known.keys s r) same ∙ before.asks s r;
+  }
+
+  -- ---- an End
+
+  jump_asks : (number : ℕ) (abrupt : Bool) (found : Option Occurrence) (s r : ℕ)
+      → some_asks (if abrupt then elim found [ None ↦ [] | Some o ↦ edge by_jump o.stmt number ∷ [] ] else []) s r
+      ≡ (abrupt && (has s (from_option (option_map (λ (o : Occurrence). o.stmt) found)) && (number == r)))
+  jump_asks number false found s r = refl
+  jump_asks number true None s r = refl
+  jump_asks number true (Some o) s r = one (o.stmt == s) (number == r)
+    where
+      one : (a b : Bool) → ((a && b) || false) ≡ ((a || false) && b)
+      one true true = refl
+      one true false = refl
+      one false b = refl
+
+  pub end_step : (number : ℕ) (how : How) → number ≡ unwrap_or (owner_in old.frames) 0 → new.frames ≡ without_first old.frames → new.writers ≡ old.writers
+      → ((s r : ℕ) → among new.asks.keys s r ≡ ((is_jump how && (has s (from_option (owner_in new.frames)) && (number == r))) || among old.asks.keys s r))
+      → HasAsked view script new (ends (unwrap_or (owner_stmt told) 0) (how_seen how) ∷ told)
+  end_step number how is frames writers noted = subst (λ n. HasAsked view script new (ends n (how_seen how) ∷ told)) (is ∙ ap (λ found. unwrap_or found 0) (owner_known old.frames refl)) (record {
+    frames = closing;
+    writers = quiet (ends number (how_seen how)) refl writers;
+    asks = asks_next (ends number (how_seen how)) (λ s r. is_jump how && (has s (from_option (owner_in new.frames)) && (number == r)))
+        (λ s r. jump_asks number (is_abrupt script (how_seen how)) (asks_for_jump script (without_top (frames_after told))) s r
+        ∙ ap (λ found. is_abrupt script (how_seen how) && (has s (from_option found) && (number == r)))
+        (ap (option_map (λ (o : Occurrence). o.stmt)) (jump_is script (without_top (frames_after told))) ∙ owner_is (without_top (frames_after told)) ∙ ap owner_in (sym closing))
+        ∙ ap (λ abrupt. abrupt && (has s (from_option (owner_in new.frames)) && (number == r))) (abrupt_is script how)) noted;
+  })
+    where
+      closing : new.frames ≡ map open_of (without_top (frames_after told))
+      closing = frames ∙ ap without_first before.frames ∙ sym (closed_is (frames_after told))
+
+  -- ---- a Do
+
+  module _ (interned : AreInterned view) (accesses : List Access) (each : Each (NamesAccess view) accesses) where
+    owner_asked : (owner : Option ℕ) (s r : ℕ)
+        → some_asks (elim owner [ None ↦ [] | Some asker ↦ reads_ask script asker (map (access_seen view) accesses) told ]) s r ≡ owner_reads script view.texts old.writers.entries owner accesses s r
+    owner_asked None s r = refl
+    owner_asked (Some asker) s r = reads_asked view script asker old.writers.entries told before.writers accesses each s r
+
+    written : (set update : Bool) (own only : List ℕ) (earlier : List ℕ) (s : ℕ) → ((update && has s own) || has s (if set then own else earlier)) ≡ now_reached set update (has s own) (has s earlier)
+    written true true own only earlier s = twice (has s own)
+      where
+        twice : (b : Bool) → (b || b) ≡ b
+        twice true = refl
+        twice false = refl
+    written true false own only earlier s = refl
+    written false true own only earlier s = refl
+    written false false own only earlier s = refl
+
+    writes_next : (moment : Moment) → accesses_by moment ≡ map (access_seen view) accesses
+        → ((l : Location) (s : ℕ) → has s (noted_at new.writers.entries l) ≡ ((updates_in l accesses && has s (from_option (owner_in old.frames))) || has s (if sets_in l accesses then from_option (owner_in old.frames) else noted_at old.writers.entries l)))
+        → (l : Location) → IsNamedLocation view l → (s : ℕ) → has s (noted_at new.writers.entries l) ≡ has s (reach_stmts (location_seen view l) (moment ∷ told))
+    writes_next moment same noted l named s =
+        let own = from_option (owner_in old.frames) in
+        noted l s ∙ written (sets_in l accesses) (updates_in l accesses) own own (noted_at old.writers.entries l) s
+        ∙ ap (λ b. now_reached b (updates_in l accesses) (has s own) (has s (noted_at old.writers.entries l))) (sets_seen view interned l named accesses each)
+        ∙ ap (λ b. now_reached (sets_at (location_seen view l) (map (access_seen view) accesses)) b (has s own) (has s (noted_at old.writers.entries l))) (updates_seen view interned l named accesses each)
+        ∙ ap (λ b. now_reached (sets_at (location_seen view l) (map (access_seen view) accesses)) (updates_at (location_seen view l) (map (access_seen view) accesses)) (has s own) b) (before.writers l named s)
+        ∙ ap (λ found. now_reached (sets_at (location_seen view l) (map (access_seen view) accesses)) (updates_at (location_seen view l) (map (access_seen view) accesses)) (has s (from_option found)) (has s (reach_stmts (location_seen view l) told))) (owner_known old.frames refl)
+        ∙ ap (λ these. now_reached (sets_at (location_seen view l) these) (updates_at (location_seen view l) these) (has s (from_option (owner_stmt told))) (has s (reach_stmts (location_seen view l) told))) (sym same)
+        ∙ sym (reach_next (location_seen view l) moment told s)
+
+    pub do_step : (at : Pos) (op : ℕ) (values : List Contents) (answer : Answer) (made : Option SeenKind) (weight : ℕ) → new.frames ≡ old.frames
+        → ((l : Location) (s : ℕ) → has s (noted_at new.writers.entries l) ≡ ((updates_in l accesses && has s (from_option (owner_in old.frames))) || has s (if sets_in l accesses then from_option (owner_in old.frames) else noted_at old.writers.entries l)))
+        → ((s r : ℕ) → among new.asks.keys s r ≡ (owner_reads script view.texts old.writers.entries (owner_in old.frames) accesses s r || among old.asks.keys s r))
+        → HasAsked view script new (does at op values answer made (map (access_seen view) accesses) weight ∷ told)
+    do_step at op values answer made weight frames noted asked = record {
+      frames = frames ∙ before.frames;
+      writers = writes_next (does at op values answer made (map (access_seen view) accesses) weight) refl noted;
+      asks = asks_next (does at op values answer made (map (access_seen view) accesses) weight) (λ s r. owner_reads script view.texts old.writers.entries (owner_in old.frames) accesses s r)
+          (λ s r. owner_asked (owner_stmt told) s r ∙ ap (λ owner. owner_reads script view.texts old.writers.entries owner accesses s r) (sym (owner_known old.frames refl))) asked;
+    }
+
+-- ---- an Enter sees what a Do of its accesses sees, and is open
+
+module _ (view : ValuesView) (script : ScriptTree) (mid new : Asking) (told : List Moment) (at call def : Pos) (op : ℕ) (values others : List Contents) (answer : Answer) (made : Option SeenKind) (accesses : List SeenAccess) (weight : ℕ)
+    (done : HasAsked view script mid (does at op others answer made accesses weight ∷ told)) where
+  pub enter_step : new.frames ≡ an_activation ∷ mid.frames → new.writers ≡ mid.writers → new.asks ≡ mid.asks → HasAsked view script new (enters call def values accesses ∷ told)
+  enter_step frames writers same = record {
+    frames = frames ∙ ap (λ open_ones. an_activation ∷ open_ones) done.frames;
+    writers = λ l named s. ap (λ known. has s (noted_at known.entries l)) writers ∙ done.writers l named s
+        ∙ reach_next (location_seen view l) (does at op others answer made accesses weight) told s
+        ∙ sym (reach_next (location_seen view l) (enters call def values accesses) told s);
+    asks = λ s r. ap (λ known. among known.keys s r) same ∙ done.asks s r;
+  }

@@ -1,0 +1,20 @@
+-- What the pass knows after rows: what is open, the statements of the reach of each location, and which statement asks for which.
+use Rattle.std.specs.Prelude.{◌≡◌, ℕ, List, map}
+use Rattle.py_tree.specs.Tree.{ScriptTree}
+use Rattle.py_value.specs.declared.access.Location.{Location}
+use Rattle.py_value.specs.Seen.{location_seen, IsNamedLocation}
+use Rattle.py_value.specs.Values.{ValuesView}
+use Rattle.py_model.specs.Moment.{Moment}
+use Rattle.py_model.specs.Occurrences.{frames_after, open_of}
+use Rattle.slice_law.specs.Closed.{has}
+use Rattle.slice_law.specs.Edges.{reach_stmts, run_asks}
+use Rattle.slice_edges.specs.declared.asking.Asking.{Asking}
+use Rattle.slice_edges.specs.Asks.{among, some_asks}
+use Rattle.slice_edges.specs.Writers.{noted_at}
+
+-- After the moments that were told, the latest first: the same is open, at each location that is named the statements of its reach are
+-- noted, and a pair is noted exactly where one of the edges of these moments has it.
+pub record HasAsked (view : ValuesView) (script : ScriptTree) (asking : Asking) (told : List Moment) : Type 0 where
+  pub frames : asking.frames ≡ map open_of (frames_after told)
+  pub writers : (l : Location) → IsNamedLocation view l → (s : ℕ) → has s (noted_at asking.writers.entries l) ≡ has s (reach_stmts (location_seen view l) told)
+  pub asks : (s r : ℕ) → among asking.asks.keys s r ≡ some_asks (run_asks script told) s r

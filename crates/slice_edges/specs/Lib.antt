@@ -1,0 +1,6 @@
+pub mod Asks
+pub mod Binder
+pub mod Frames
+pub mod HasAsked
+pub mod Reading
+pub mod Writers

@@ -1,0 +1,28 @@
+//! Which statement asks for which in the rows of a trial: one pass over the rows, in order (dynamic slices, Korel and Laski 1988, in this
+//! project's profile).
+//!
+//! `specs/HasAsked.antt` says what is known after rows: what is open, the statements of the reach of each location, and which pairs of
+//! statements the edges of the moments so far have. Edges from a statement to the one that has it in its suite are not among these: they
+//! are the same for each trial of a script.
+//!
+//! - [`Asking::pass`]: what is known before a row becomes what is known after it, wherever the row's texts and tuples are found in a table
+//!   in which each stands once (`rows_in_order_are_interned` of `trace_moments`).
+//! - [`Asking::owner`], [`Asking::writers`], [`Asking::edges`]: what is known.
+//! - [`known_pairs_are_edges`]: what the tests in these clauses mean.
+//!
+//! A read costs as many steps as its location has statements in its reach, and a read of an unset local name as many as the script has
+//! statements. A call that always answers want of memory meets these clauses: that it succeeds is not tested yet.
+#![tactic(auto)]
+
+mod ask;
+mod asking;
+mod binder;
+mod frames;
+mod laws;
+mod reads;
+mod stmts;
+mod writers;
+
+pub use ask::Ask;
+pub use asking::Asking;
+pub use laws::known_pairs_are_edges;
