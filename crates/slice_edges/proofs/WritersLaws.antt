@@ -28,6 +28,18 @@ module _ {K S : Type 0} (eq : K → K → Bool) (same : (k l : K) → eq k l ≡
       by true here = is ∙ ap (with_stmt s) (ap (λ found. unwrap_or found []) there ∙ ap (noted eq old) (same at l here))
       by false here = refl
 
+  pub noted_alone : (only stmts written : List ℕ) → Some stmts ≡ get_by (eq at) old → WritesThrough eq (eq at) old written new → written ≡ only
+      → (l : K) → noted eq new l ≡ (if eq at l then only else noted eq old l)
+  noted_alone only stmts written there through is l = ap (λ found. unwrap_or found []) ((through.3 (some (get_by (eq at) old) there)).0 l) ∙ by (eq at l)
+    where
+      some : (found : Option (List ℕ)) → Some stmts ≡ found → IsSome found
+      some None is = absurd cc
+      some (Some x) is = refl
+
+      by : (b : Bool) → unwrap_or (if b then Some written else get_by (eq l) old) [] ≡ (if b then only else noted eq old l)
+      by true = is
+      by false = refl
+
   pub noted_nowhere : None ≡ get_by (eq at) old → ((l : K) → noted eq new l ≡ (if eq at l then s ∷ [] else noted eq old l))
       → (l : K) → noted eq new l ≡ (if eq at l then with_stmt s (noted eq old l) else noted eq old l)
   noted_nowhere none is l = is l ∙ by (eq at l) refl

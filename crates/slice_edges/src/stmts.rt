@@ -34,6 +34,17 @@ impl Stmts {
         Ok(Stmts { numbers })
     }
 
+    /// Makes it this statement alone, or none.
+    pub(crate) fn set_only(&mut self, stmt: Option<u32>) -> Result<(), Memory>
+        ensures { OnOk result (self.new ≡ from_option stmt) }
+    {
+        self.numbers.clear();
+        if let Some(stmt) = stmt {
+            self.numbers.push(stmt)?;
+        }
+        Ok(())
+    }
+
     /// The statements.
     pub(crate) fn as_slice(&self) -> &[u32]
         ensures { result.now ≡ self.now }

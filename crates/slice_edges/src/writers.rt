@@ -22,8 +22,8 @@ pub(crate) fn writers_at<'a>(writers: &'a IndexMap<Location, Stmts>, at: &Locati
     }
 }
 
-// What stands at a location is set: the statement that does it alone is noted there.
-fn set_one(
+// One statement alone, or none, is noted at a location.
+fn put_one(
     alloc: Global,
     writers: &mut IndexMap<Location, Stmts>,
     at: Location,
@@ -33,6 +33,21 @@ fn set_one(
 {
     writers.insert(at, Stmts::only(alloc, stmt)?)?;
     Ok(())
+}
+
+// What stands at a location is set: the statement that does it alone is noted there.
+fn set_one(
+    alloc: Global,
+    writers: &mut IndexMap<Location, Stmts>,
+    at: Location,
+    stmt: Option<u32>,
+) -> Result<(), Memory>
+    ensures { OnOk result ((l : OneLocation) → noted_at writers.new.entries l ≡ (if locations.eq at l then from_option stmt else noted_at writers.old.entries l)) }
+{
+    match writers.get_mut(&at) {
+        Some(stmts) => stmts.set_only(stmt),
+        None => put_one(alloc, writers, at, stmt),
+    }
 }
 
 // What stands at a location is changed: the statement that does it is noted there with the others.
@@ -46,7 +61,7 @@ fn update_one(
 {
     match writers.get_mut(&at) {
         Some(stmts) => stmts.add(stmt),
-        None => set_one(alloc, writers, at, Some(stmt)),
+        None => put_one(alloc, writers, at, Some(stmt)),
     }
 }
 

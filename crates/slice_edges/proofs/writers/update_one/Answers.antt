@@ -11,6 +11,6 @@ returns-in-Some c = on_ok c.add.result c.add.ensures (λ is.
     noted_there locations.eq location_same c.args.writers.now (c.get_mut.follows.lender c.add.new.self) c.args.at c.args.stmt c.in-Some.stmts.now c.add.new.self c.in-Some.ensures.value (c.get_mut.follows.holds c.add.new.self) is)
 
 pub returns-in-None : goal.returns-in-None
-returns-in-None c = on_ok c.set_one.result c.set_one.ensures (λ is.
-    noted_nowhere locations.eq location_same c.args.writers.now c.set_one.new.writers c.args.at c.args.stmt c.in-None.ensures.value
+returns-in-None c = on_ok c.put_one.result c.put_one.ensures (λ is.
+    noted_nowhere locations.eq location_same c.args.writers.now c.put_one.new.writers c.args.at c.args.stmt c.in-None.ensures.value
     (λ l. is l ∙ ap (λ (m : HashMap Location (List ℕ) _). if locations.eq c.args.at l then c.args.stmt ∷ [] else noted_at m.entries l) c.get_mut.follows.holds-at-none))
