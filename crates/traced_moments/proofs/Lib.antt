@@ -1,0 +1,3 @@
+pub mod OpenFrames
+pub mod ReadBack
+pub mod RowsBack
