@@ -1,0 +1,83 @@
+// The database file: its folder, and its opening at the first task.
+use crate::fault::fault_of;
+use crate::tasks::{Task, perform};
+use keeper::KeepFault;
+use prov_base::Name;
+use sqlite::{Connection, File, FileStore, Row};
+use std::fs;
+use std::io::ErrorKind;
+
+/// The database file of a store, its path, and whether it is known to have the tables.
+#[derive(Drop)]
+pub struct StoreFile<'a> {
+    rt: &'a HostRuntime,
+    path: Name,
+    database: Database,
+    has_tables: bool,
+}
+
+// A database, before and after it was opened.
+enum Database {
+    Unopened,
+    Opened(Connection<FileStore<File>>),
+}
+
+impl Drop for Database {
+    // Copies what stands in the log beside the file into the file. Where that fails, the log keeps it.
+    fn drop(self) {
+        match self {
+            Database::Unopened => {}
+            Database::Opened(connection) => {
+                let _ = connection.close();
+            }
+        }
+    }
+}
+
+impl<'a> StoreFile<'a> {
+    // The file at this path. It opens nothing and takes no memory.
+    pub(crate) fn at(rt: &'a HostRuntime, path: Name) -> StoreFile<'a> {
+        StoreFile {
+            rt,
+            path,
+            database: Database::Unopened,
+            has_tables: false,
+        }
+    }
+
+    // Performs a task. The first one opens the file; where that fails, the next one tries again.
+    pub(crate) fn perform(&mut self, task: Task<'_>) -> Result<Option<Row>, KeepFault> {
+        self.open()?;
+        match &mut self.database {
+            Database::Opened(connection) => perform(connection, &mut self.has_tables, task),
+            Database::Unopened => Err(KeepFault::Failed),
+        }
+    }
+
+    // Opens the file, or makes it, where it is not open yet.
+    fn open(&mut self) -> Result<(), KeepFault> {
+        if matches!(self.database, Database::Opened(_)) {
+            return Ok(());
+        }
+        make_folder(self.rt, self.path.as_str())?;
+        match Connection::open(self.rt, self.path.as_str()) {
+            Ok(connection) => {
+                self.database = Database::Opened(connection);
+                Ok(())
+            }
+            Err(error) => Err(fault_of(error)),
+        }
+    }
+}
+
+// Makes the folder in which the file stands, where it is absent.
+fn make_folder(rt: &HostRuntime, path: &str) -> Result<(), KeepFault> {
+    let Some((folder, _)) = path.rsplit_once('/') else {
+        return Ok(());
+    };
+    match fs::create_dir(rt, folder) {
+        Ok(()) => Ok(()),
+        Err(error) if error.kind() == ErrorKind::AlreadyExists => Ok(()),
+        Err(_) => Err(KeepFault::Failed),
+    }
+}
