@@ -1,5 +1,6 @@
 // The keeper over a database file.
-ghost use Rattle.std.specs.Prelude.{◌≡◌, None, false};
+ghost use Rattle.std.specs.Prelude.{◌≡◌, ◌+◌, Some, None, Ok, false, IfOk, IfSome};
+ghost use Rattle.keeper.specs.Batch.{last_head, last_page, last_content, last_current};
 
 use crate::fault::counted;
 use crate::file::StoreFile;
@@ -143,7 +144,9 @@ impl Keeper for SqliteKeeper<'_> {
 }
 
 // How many trials there are with those of a batch.
-fn trials_with(batch: &Batch) -> Result<u32, KeepFault> {
+fn trials_with(batch: &Batch) -> Result<u32, KeepFault>
+    ensures { IfOk result (λ trials. trials ≡ batch.now.committed + batch.now.added) }
+{
     match batch.committed.checked_add(batch.added) {
         Some(trials) => Ok(trials),
         None => Err(KeepFault::Failed),
@@ -156,7 +159,9 @@ fn head_seen(
     file: &mut StoreFile<'_>,
     batch: &Batch,
     trial: u32,
-) -> Result<Option<Head>, KeepFault> {
+) -> Result<Option<Head>, KeepFault>
+    ensures { IfSome (last_head batch.now.heads trial) (λ head. IfOk result (λ answer. answer ≡ Some head)) }
+{
     match batch.head(trial) {
         Some(head) => Ok(Some(head.copied(alloc)?)),
         None => read_head(file, trial),
@@ -170,7 +175,9 @@ fn page_seen(
     batch: &Batch,
     trial: u32,
     number: u32,
-) -> Result<Option<Page>, KeepFault> {
+) -> Result<Option<Page>, KeepFault>
+    ensures { IfSome (last_page batch.now.pages trial number) (λ page. IfOk result (λ answer. answer ≡ Some page)) }
+{
     match batch.page(trial, number) {
         Some(page) => Ok(Some(page.copied(alloc)?)),
         None => read_page(file, trial, number),
@@ -183,7 +190,9 @@ fn content_seen(
     file: &mut StoreFile<'_>,
     batch: &Batch,
     digest: &Digest,
-) -> Result<Option<Bytes>, KeepFault> {
+) -> Result<Option<Bytes>, KeepFault>
+    ensures { IfSome (last_content batch.now.contents digest.now) (λ bytes. IfOk result (λ answer. answer ≡ Some bytes)) }
+{
     match batch.content(digest) {
         Some(bytes) => Ok(Some(copied_bytes(alloc, bytes.as_slice())?)),
         None => read_content(file, digest),
@@ -195,7 +204,9 @@ fn current_seen(
     file: &mut StoreFile<'_>,
     batch: &Batch,
     path: &str,
-) -> Result<Option<u32>, KeepFault> {
+) -> Result<Option<u32>, KeepFault>
+    ensures { IfSome (last_current batch.now.current path.now) (λ trial. result ≡ Ok (Some trial)) }
+{
     match batch.current(path) {
         Some(trial) => Ok(Some(trial)),
         None => read_current(file, path),
