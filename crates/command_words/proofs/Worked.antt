@@ -1,6 +1,7 @@
 -- Worked rows of the definitions, each found by computation.
 use Rattle.std.proofs.Common.{◌≡◌, ℕ, List, [], ◌∷◌, codes, Option, Some, None, refl}
-use Rattle.command_words.specs.Command.{Command, cut, run_bare, run_kept, command_of}
+use Rattle.command_words.specs.Command.{Command, cut, run_bare, run_kept, reads, command_of}
+use Rattle.command_words.specs.declared.command.Query.TheVariants.{List as list_query}
 
 abbrev file : List ℕ
 file = codes "s.py"
@@ -120,3 +121,26 @@ all_behind_dashes = refl
 
 bare_behind_dashes : run (codes "--" ∷ codes "--bare" ∷ file ∷ []) ≡ Some (run_kept 1000000 (codes "--bare") (file ∷ []))
 bare_behind_dashes = refl
+
+-- ---- commands that read the store
+
+list_alone : command_of (codes "list" ∷ []) ≡ Some (reads list_query)
+list_alone = refl
+
+list_with_dashes : command_of (codes "list" ∷ codes "--" ∷ []) ≡ Some (reads list_query)
+list_with_dashes = refl
+
+list_of_one : command_of (codes "list" ∷ codes "1" ∷ []) ≡ None
+list_of_one = refl
+
+list_of_one_behind_dashes : command_of (codes "list" ∷ codes "--" ∷ codes "x" ∷ []) ≡ None
+list_of_one_behind_dashes = refl
+
+list_of_nothing : command_of (codes "list" ∷ [] ∷ []) ≡ None
+list_of_nothing = refl
+
+list_with_option : command_of (codes "list" ∷ codes "--steps=1" ∷ []) ≡ None
+list_with_option = refl
+
+list_with_dashes_twice : command_of (codes "list" ∷ codes "--" ∷ codes "--" ∷ []) ≡ None
+list_with_dashes_twice = refl

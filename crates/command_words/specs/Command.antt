@@ -3,6 +3,8 @@ use Rattle.std.specs.Prelude.{ℕ, ◌==◌, Bool, true, false, ◌&&◌, not, L
 use Rattle.std.specs.Option.{is_some}
 use Rattle.std.specs.Str.{bytes_eq}
 use Rattle.command_words.specs.Numbers.{number_to}
+use Rattle.command_words.specs.declared.command.Query.{Query}
+use Rattle.command_words.specs.declared.command.Query.TheVariants.{List as list_query}
 
 pub data Command : Type 0 where
   -- the cut of a file at a line
@@ -11,6 +13,8 @@ pub data Command : Type 0 where
   run_bare : (steps : ℕ) → (file : List ℕ) → (arguments : List (List ℕ)) → Command
   -- the same that is kept as a trial
   run_kept : (steps : ℕ) → (file : List ℕ) → (arguments : List (List ℕ)) → Command
+  -- what is read of the store of trials
+  reads : Query → Command
 
 -- what the words behind `run` have said so far
 pub record Reading : Type 0 where
@@ -87,7 +91,31 @@ cut_command words = None
 abbrev pub run_command : List (List ℕ) → Option Command
 run_command words = option_and_then run_of (with_words nothing_read words)
 
+-- The positionals among the words behind a command that has no options: the first `--` is dropped, and every word behind it is one. A word before it
+-- that begins with `-` and is not `-` alone may not stand there.
+abbrev pub positional_words : List (List ℕ) → Option (List (List ℕ))
+positional_words [] = Some []
+positional_words (word ∷ words) =
+    if bytes_eq word (codes "--") then Some words
+    else if is_option word then None
+    else option_map (λ more. word ∷ more) (positional_words words)
+
+-- these words are positionals, and there is none of them
+abbrev pub has_none : Option (List (List ℕ)) → Bool
+has_none (Some []) = true
+has_none (Some (word ∷ words)) = false
+has_none None = false
+
+-- what a command that reads the store asks for, by its positionals
+abbrev pub query_of : List ℕ → List (List ℕ) → Option Query
+query_of verb [] = if bytes_eq verb (codes "list") then Some list_query else None
+query_of verb (word ∷ words) = None
+
+-- a command that reads the store, by its command word and the words behind it
+abbrev pub query_command : List ℕ → List (List ℕ) → Option Command
+query_command verb words = option_map reads (option_and_then (query_of verb) (positional_words words))
+
 -- the command that the words are
 abbrev pub command_of : List (List ℕ) → Option Command
 command_of [] = None
-command_of (verb ∷ words) = if bytes_eq verb (codes "cut") then cut_command words else if bytes_eq verb (codes "run") then run_command words else None
+command_of (verb ∷ words) = if bytes_eq verb (codes "cut") then cut_command words else if bytes_eq verb (codes "run") then run_command words else query_command verb words

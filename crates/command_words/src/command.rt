@@ -1,6 +1,13 @@
 // What the words ask for.
 use prov_base::Name;
 
+/// A command that reads the store of trials, and changes nothing.
+#[derive(Clone, Copy)]
+pub enum Query {
+    /// `list`: all trials, by number.
+    List,
+}
+
 /// A command. Its file is one of the words as it stands there, which need not be a path.
 #[derive(Drop)]
 pub enum Command<'w> {
@@ -22,4 +29,6 @@ pub enum Command<'w> {
         steps: u32,
         arguments: Vec<Name>,
     },
+    /// A command that reads the store of trials.
+    Reads(Query),
 }

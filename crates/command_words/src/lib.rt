@@ -7,6 +7,7 @@
 //!     it is not said.
 //!   - Any other word before it that begins with `-` and is not `-` alone makes the words no command.
 //!   - The other words are positionals, the empty word too. The first is FILE, the others are ARG in order.
+//! - `list`: no positional. It has no options, and a `--` behind it is dropped likewise. It reads the store of trials alone, and is a [`Query`].
 //!
 //! [`read`] gives the command exactly where the words are one ([`Command`], `command_of` in `specs/Command.antt`). That FILE is
 //! a path is not asked here.
@@ -14,8 +15,9 @@
 
 mod command;
 mod number;
+mod query;
 mod reading;
 mod words;
 
-pub use command::Command;
+pub use command::{Command, Query};
 pub use words::read;

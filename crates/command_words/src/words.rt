@@ -6,6 +6,7 @@ ghost use Rattle.command_words.specs.Parsed.{command_of_code};
 
 use crate::command::Command;
 use crate::number::number;
+use crate::query::read_query;
 use crate::reading::Reading;
 use prov_base::Memory;
 use std::alloc::Global;
@@ -64,5 +65,5 @@ pub fn read(alloc: Global, words: &[String]) -> Result<Option<Command<'_>>, Memo
     if verb.as_str() == "run" {
         return read_run(alloc, rest);
     }
-    Ok(None)
+    Ok(read_query(verb.as_str(), rest))
 }

@@ -7,9 +7,9 @@ use Rattle.prov_outside.specs.Count.{Rose, one_more, faults_after}
 use Rattle.prov_outside.specs.Folder.{Files}
 use Rattle.prov_outside.specs.Tells.{Tells}
 use Rattle.prov_outside.specs.declared.trouble.Trouble.TheVariants.{Failed, Memory}
-use Rattle.delivery.specs.Ending.{Ending, done, uncaught, usage, refused, nothing_there, console_failed, folder_failed, store_failed, out_of_memory, out_of_steps, collision, store_full, status_of, closing_line, ending_of, tells_of_store}
+use Rattle.delivery.specs.Ending.{Ending, done, uncaught, usage, refused, nothing_there, console_failed, folder_failed, store_failed, out_of_memory, out_of_steps, collision, store_full, damaged_trial, status_of, closing_line, ending_of, tells_of_store}
 use Rattle.delivery.specs.declared.ending.Ending.{Ending as Planned}
-use Rattle.delivery.specs.declared.ending.Ending.TheVariants.{Done, Uncaught, Usage, Refused, NothingThere, FolderFailed, StoreFailed, OutOfSteps, Collision, StoreFull, OutOfMemory}
+use Rattle.delivery.specs.declared.ending.Ending.TheVariants.{Done, Uncaught, Usage, Refused, NothingThere, FolderFailed, StoreFailed, OutOfSteps, Collision, StoreFull, DamagedTrial, OutOfMemory}
 use Rattle.delivery.specs.PutsAll.{OutFile, Outcome, PutsAll, faults_of, first_failed, lacks_memory, ending_after_puts}
 use Rattle.delivery.specs.Shown.{Closing, no_line, line_tried, line_unmade, Closes, Leaves, Shown, has_line, outlasts_console, after_text, after_line, line_of, outcome_of}
 use Rattle.delivery.specs.Delivered.{Delivered, ending_to_close}
@@ -120,6 +120,7 @@ zero_is out_of_memory is = absurd (omega (arith, is))
 zero_is out_of_steps is = absurd (omega (arith, is))
 zero_is (collision digest kept given) is = absurd (omega (arith, is))
 zero_is store_full is = absurd (omega (arith, is))
+zero_is (damaged_trial trial detail) is = absurd (omega (arith, is))
 
 five_is : (ending : Ending) → status_of ending ≡ 5 → ending ≡ console_failed
 five_is done is = absurd (omega (arith, is))
@@ -134,6 +135,7 @@ five_is out_of_memory is = absurd (omega (arith, is))
 five_is out_of_steps is = absurd (omega (arith, is))
 five_is (collision digest kept given) is = absurd (omega (arith, is))
 five_is store_full is = absurd (omega (arith, is))
+five_is (damaged_trial trial detail) is = absurd (omega (arith, is))
 
 six_is : (ending : Ending) → status_of ending ≡ 6 → (path : List ℕ) × (ending ≡ folder_failed path)
 six_is done is = absurd (omega (arith, is))
@@ -148,6 +150,7 @@ six_is out_of_memory is = absurd (omega (arith, is))
 six_is out_of_steps is = absurd (omega (arith, is))
 six_is (collision digest kept given) is = absurd (omega (arith, is))
 six_is store_full is = absurd (omega (arith, is))
+six_is (damaged_trial trial detail) is = absurd (omega (arith, is))
 
 -- ---- behind the text
 
@@ -165,6 +168,7 @@ fault_leaves out_of_memory = inr (refl, refl)
 fault_leaves out_of_steps = inl (refl, refl)
 fault_leaves (collision digest kept given) = inr (refl, refl)
 fault_leaves store_full = inr (refl, refl)
+fault_leaves (damaged_trial trial detail) = inl (refl, refl)
 
 -- what does not outlast a fault at the text is no fault of the store
 pub not_outlasting : (ending : Ending) → outlasts_console ending ≡ false → tells_of_store ending ≡ false
@@ -180,6 +184,7 @@ not_outlasting out_of_memory is = refl
 not_outlasting out_of_steps is = refl
 not_outlasting (collision digest kept given) is = is
 not_outlasting store_full is = is
+not_outlasting (damaged_trial trial detail) is = refl
 
 -- what outlasts a fault at the text and is no fault of the store
 outlasting : (ending : Ending) → outlasts_console ending ≡ true → tells_of_store ending ≡ false → (status_of ending ≡ 6) ⊎ (status_of ending ≡ 8)
@@ -195,6 +200,7 @@ outlasting out_of_memory lasts store = inr refl
 outlasting out_of_steps lasts store = absurd (false≢true lasts)
 outlasting (collision digest kept given) lasts store = absurd (false≢true (sym store))
 outlasting store_full lasts store = absurd (false≢true (sym store))
+outlasting (damaged_trial trial detail) lasts store = absurd (false≢true lasts)
 
 text_done : (outcome : Outcome) (ending : Ending) → after_text outcome ending ≡ done → IsOk outcome × (ending ≡ done)
 text_done (Ok all) ending is = (refl, is)
@@ -285,6 +291,7 @@ no_bytes out_of_memory is = absurd (false≢true (sym is))
 no_bytes out_of_steps is = absurd (false≢true (sym is))
 no_bytes (collision digest kept given) is = absurd (false≢true (sym is))
 no_bytes store_full is = absurd (false≢true (sym is))
+no_bytes (damaged_trial trial detail) is = absurd (false≢true (sym is))
 
 -- the console got all of both
 abbrev GetsBoth : List ℕ → List ℕ → ConsoleView → ConsoleView → Type 0
@@ -506,4 +513,5 @@ not_console StoreFailed is = cc
 not_console OutOfSteps is = cc
 not_console (Collision digest kept given) is = cc
 not_console StoreFull is = cc
+not_console (DamagedTrial trial detail) is = cc
 not_console OutOfMemory is = cc

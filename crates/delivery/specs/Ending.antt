@@ -3,7 +3,7 @@ use Rattle.std.specs.Prelude.{ℕ, Bool, true, false, List, [], ◌∷◌, ◌++
 use Rattle.std.specs.Fmt.{decimal}
 use Rattle.hex.specs.Hex.{encode_lower}
 use Rattle.delivery.specs.declared.ending.Ending.{Ending as Planned}
-use Rattle.delivery.specs.declared.ending.Ending.TheVariants.{Done, Uncaught, Usage, Refused, NothingThere, FolderFailed, StoreFailed, OutOfSteps, Collision, StoreFull, OutOfMemory}
+use Rattle.delivery.specs.declared.ending.Ending.TheVariants.{Done, Uncaught, Usage, Refused, NothingThere, FolderFailed, StoreFailed, OutOfSteps, Collision, StoreFull, DamagedTrial, OutOfMemory}
 
 -- how a command ends
 pub data Ending : Type 0 where
@@ -20,6 +20,8 @@ pub data Ending : Type 0 where
   -- other bytes stand under a digest: it, their number, and how many were given
   collision : (digest : List ℕ) → (kept : ℕ) → (given : ℕ) → Ending
   store_full : Ending
+  -- a trial with this number is not well kept: what is amiss of it, in words
+  damaged_trial : (trial : ℕ) → (detail : List ℕ) → Ending
 
 -- the status that the program answers
 abbrev pub status_of : Ending → ℕ
@@ -35,6 +37,7 @@ status_of out_of_memory = 8
 status_of out_of_steps = 9
 status_of (collision digest kept given) = 10
 status_of store_full = 13
+status_of (damaged_trial trial detail) = 11
 
 -- a fault in keeping a trial
 abbrev pub tells_of_store : Ending → Bool
@@ -62,6 +65,7 @@ closing_line out_of_memory = codes "now: out of memory" ++ 10 ∷ []
 closing_line out_of_steps = codes "now: out of steps" ++ 10 ∷ []
 closing_line (collision digest kept given) = codes "now: collision " ++ encode_lower digest ++ codes " " ++ decimal kept ++ codes " " ++ decimal given ++ 10 ∷ []
 closing_line store_full = codes "now: store full" ++ 10 ∷ []
+closing_line (damaged_trial trial detail) = codes "now: damaged trial " ++ decimal trial ++ codes ": " ++ detail ++ 10 ∷ []
 
 -- the ending that the program's own type names
 abbrev pub ending_of : Planned → Ending
@@ -75,4 +79,5 @@ ending_of StoreFailed = store_failed
 ending_of OutOfSteps = out_of_steps
 ending_of (Collision digest kept given) = collision digest.bytes kept given
 ending_of StoreFull = store_full
+ending_of (DamagedTrial trial detail) = damaged_trial trial detail.now
 ending_of OutOfMemory = out_of_memory

@@ -2,7 +2,7 @@
 use Rattle.std.specs.Prelude.{◌≡◌, ℕ, List, [], ◌++◌, take, Bool, true, false, if◌then◌else◌, Ok, Err}
 use Rattle.prov_outside.specs.Console.{ConsoleView}
 use Rattle.prov_outside.specs.declared.trouble.Trouble.TheVariants.{Failed, Memory}
-use Rattle.delivery.specs.Ending.{Ending, done, uncaught, refused, console_failed, folder_failed, out_of_memory, collision, closing_line, tells_of_store}
+use Rattle.delivery.specs.Ending.{Ending, done, uncaught, refused, console_failed, folder_failed, out_of_memory, collision, damaged_trial, closing_line, tells_of_store}
 use Rattle.delivery.specs.PutsAll.{Outcome}
 
 -- a fault at the text does not change the ending: one of the store or of the folder, or want of memory
@@ -36,6 +36,7 @@ is_made (uncaught class line text) = true
 is_made (refused file line column) = true
 is_made (folder_failed path) = true
 is_made (collision digest kept given) = true
+is_made (damaged_trial trial detail) = true
 is_made ending = false
 
 -- this can become of the closing line of the ending

@@ -48,6 +48,13 @@ pub enum Ending<'t> {
     },
     /// The store has as many trials as it takes, and the run is not kept.
     StoreFull,
+    /// A trial is not well kept.
+    DamagedTrial {
+        /// Its number.
+        trial: u32,
+        /// What is amiss of it, in words.
+        detail: &'t str,
+    },
     /// Memory ran out.
     OutOfMemory,
 }
@@ -67,6 +74,7 @@ pub(crate) fn of_store(ending: Ending<'_>) -> bool
         Ending::NothingThere => false,
         Ending::FolderFailed(_) => false,
         Ending::OutOfSteps => false,
+        Ending::DamagedTrial { .. } => false,
         Ending::OutOfMemory => false,
     }
 }

@@ -6,7 +6,7 @@ ghost use Rattle.delivery.specs.Shown.{has_line, is_made};
 ghost use Rattle.delivery.specs.Stages.{TriesLine, ClosesWith, status_with};
 
 use crate::Ending;
-use crate::lines::{collision_line, folder_failed_line, refused_line, uncaught_line};
+use crate::lines::{collision_line, damaged_line, folder_failed_line, refused_line, uncaught_line};
 use prov_outside::{Console, Trouble};
 use std::alloc::{AllocError, Global};
 
@@ -46,6 +46,9 @@ pub(crate) fn close<C: Console>(alloc: Global, console: &mut C, ending: Ending<'
             collision_line(alloc, digest, kept, given),
             10,
         ),
+        Ending::DamagedTrial { trial, detail } => {
+            close_made(alloc, console, damaged_line(alloc, trial, detail), 11)
+        }
         Ending::StoreFull => write_line(alloc, console, b"now: store full\n", 13),
     }
 }

@@ -2,7 +2,7 @@
 ghost use Rattle.std.specs.Prelude.{◌≡◌, ℕ, List, IfOk, Some, None, option_copied};
 ghost use Rattle.hex.specs.Hex.{encode_lower};
 ghost use Rattle.std.specs.String.{string_bytes};
-ghost use Rattle.delivery.specs.Ending.{uncaught, refused, folder_failed, collision, closing_line};
+ghost use Rattle.delivery.specs.Ending.{uncaught, refused, folder_failed, collision, damaged_trial, closing_line};
 
 use prov_base::Digest;
 use std::alloc::{AllocError, Global};
@@ -53,6 +53,13 @@ pub(crate) fn folder_failed_line(alloc: Global, path: &str) -> Result<String, Al
     ensures { IfOk result (λ made. string_bytes made ≡ closing_line (folder_failed path.now)) }
 {
     format!(in alloc; "now: folder failed at {path}\n")
+}
+
+/// The closing line where this is amiss of a trial.
+pub(crate) fn damaged_line(alloc: Global, trial: u32, detail: &str) -> Result<String, AllocError>
+    ensures { IfOk result (λ made. string_bytes made ≡ closing_line (damaged_trial trial detail.now)) }
+{
+    format!(in alloc; "now: damaged trial {trial}: {detail}\n")
 }
 
 /// The closing line where other bytes stand under the digest that these digits spell.

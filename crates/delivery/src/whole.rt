@@ -19,7 +19,8 @@ use std::alloc::Global;
 
 /// Puts the files in their order, each whatever became of those before it, writes the text and then the closing line, and
 /// answers the status: 0 done, 1 not caught, 2 usage, 3 refused, 4 nothing there, 5 the console failed at the text, 6 the folder
-/// failed, 7 the store failed, 8 memory ran out, 9 out of steps, 10 a collision, 13 the store is full.
+/// failed, 7 the store failed, 8 memory ran out, 9 out of steps, 10 a collision, 11 a damaged
+/// trial, 13 the store is full.
 pub fn deliver<C: Console, F: Folder>(
     alloc: Global,
     console: &mut C,
@@ -126,5 +127,6 @@ fn outlasts(ending: Ending<'_>) -> bool
         Ending::Refused { .. } => false,
         Ending::NothingThere => false,
         Ending::OutOfSteps => false,
+        Ending::DamagedTrial { .. } => false,
     }
 }

@@ -4,8 +4,13 @@ use Rattle.std.proofs.lemmas.List.{append-nil}
 use Rattle.std.proofs.lemmas.Bool.{false≢true, cases_lt}
 use Rattle.std.proofs.lemmas.Option.{same_Some}
 use Rattle.std.specs.Option.{option_map}
-use Rattle.command_words.specs.Command.{Command, cut, run_bare, run_kept, command_of}
-use Rattle.delivery.specs.Ending.{Ending, done, uncaught, usage, refused, nothing_there, console_failed, folder_failed, store_failed, out_of_memory, out_of_steps, collision, store_full, status_of, closing_line, tells_of_store}
+use Rattle.std.specs.Prelude.{IsSome, IsTrue}
+use Rattle.prov_base.specs.Path.{is_path}
+use Rattle.now_top.proofs.OneMeaning.{one_reply}
+use Rattle.command_words.specs.Command.{Command, cut, run_bare, run_kept, reads, command_of}
+use Rattle.command_words.specs.declared.command.Query.{Query}
+use Rattle.command_words.specs.declared.command.Query.TheVariants.{List as list_query}
+use Rattle.delivery.specs.Ending.{Ending, done, uncaught, usage, refused, nothing_there, console_failed, folder_failed, store_failed, out_of_memory, out_of_steps, collision, store_full, damaged_trial, status_of, closing_line, tells_of_store}
 use Rattle.delivery.specs.Ends.{Ends, as_planned, by_console as by_planned_console, by_folder as by_planned_folder, no_memory as lacked_memory, GetsPrefixes}
 use Rattle.delivery.specs.PutsAll.{OutFile}
 use Rattle.delivery.specs.Stands.{HasAll, WentWell, DidAsPlanned}
@@ -16,19 +21,21 @@ use Rattle.prov_outside.specs.Tells.{Tells}
 use Rattle.py_model.specs.Capture.{Telling}
 use Rattle.straight_line.specs.Slice.{IsSliceOf, BindsTheSame}
 use Rattle.keeper.specs.Keeping.{KeeperView}
+use Rattle.keeper.specs.Tables.{TablesView}
 use Rattle.trial_keeping.specs.Keeping.{KeepsTrial, HasRoom, full_store}
 use Rattle.trial_keeping.specs.Trial.{Run, with_trial_of}
 use Rattle.trial_keeping.specs.declared.fault.TrialFault.{TrialFault}
 use Rattle.trial_keeping.specs.declared.fault.TrialFault.TheVariants.{NoTrial, Damaged, Keeper, Collision, Full, Memory}
 use Rattle.trial_parts.specs.Written.{put, clash}
-use Rattle.now_top.specs.Completes.{Completes, as_meant, by_console, by_folder, by_store, by_collision, by_full, no_memory, DoesWhole, DoesAsMeant, WritesPrefixes, WritesSlice, KeepsOne}
-use Rattle.now_top.specs.Kept.{keeps, ends_a_run, Clock, Asks, KeepsRun, Stored, IsUntouched, KeepsIn, Keeps, no_run, a_run}
+use Rattle.now_top.specs.Completes.{IsTold, Completes, as_meant, by_console, by_folder, by_store, by_collision, by_full, no_memory, DoesWhole, DoesAsMeant, WritesPrefixes, WritesSlice, KeepsOne, RepliesBy}
+use Rattle.now_top.specs.Kept.{keeps, reads_store, ends_a_run, Clock, Asks, HasNoReading, KeepsRun, Stored, IsUntouched, is_store_failed, KeepsIn, Keeps, no_run, a_run, a_reading, tables_told}
 use Rattle.now_top.specs.Unkept.{with_keeping}
 use Rattle.now_top.specs.CutCommand as cutting
 use Rattle.now_top.specs.Means.{MeansCommand, file_of}
-use Rattle.now_top.specs.Replies.{Comes, meant, unread, no_memory as lacks_memory, Prepares, Replies}
+use Rattle.now_top.specs.Replies.{Comes, meant, unread, store_unread, untold, no_memory as lacks_memory, Prepares, Replies}
 use Rattle.now_top.specs.Seen.{Seen, told_by}
-use Rattle.now_top.specs.World.{World, Plan, StandsAt}
+use Rattle.now_top.specs.Reply.{Reply}
+use Rattle.now_top.specs.World.{World, Plan, closing, StandsAt}
 
 -- what is told goes through what is told between
 tells_through : {T : Type 0} (a b c : Option T) (P Q R : T → T → Type 0) → ((x y z : T) → P x y → Q y z → R x z) → Tells a b P → Tells b c Q → Tells a c R
@@ -106,6 +113,7 @@ no_store out_of_memory seven ten full = refl
 no_store out_of_steps seven ten full = refl
 no_store (collision digest kept given) seven ten full = absurd (ten refl)
 no_store store_full seven ten full = absurd (full refl)
+no_store (damaged_trial trial detail) seven ten full = refl
 
 -- what ends with the status of a run is a run
 run_at : (ending : Ending) → (status_of ending ≡ 0) ⊎ ((status_of ending ≡ 1) ⊎ (status_of ending ≡ 9)) → ends_a_run ending ≡ true
@@ -121,6 +129,41 @@ run_at store_failed is = absurd (none_of 7 (λ e. omega (arith, e)) (λ e. omega
 run_at out_of_memory is = absurd (none_of 8 (λ e. omega (arith, e)) (λ e. omega (arith, e)) (λ e. omega (arith, e)) is)
 run_at (collision digest kept given) is = absurd (none_of 10 (λ e. omega (arith, e)) (λ e. omega (arith, e)) (λ e. omega (arith, e)) is)
 run_at store_full is = absurd (none_of 13 (λ e. omega (arith, e)) (λ e. omega (arith, e)) (λ e. omega (arith, e)) is)
+run_at (damaged_trial trial detail) is = absurd (none_of 11 (λ e. omega (arith, e)) (λ e. omega (arith, e)) (λ e. omega (arith, e)) is)
+
+-- a question names no file
+no_file : (query : Query) (one : Command) → Some one ≡ Some (reads query) → IsTrue (is_path (file_of one)) → ⊥
+no_file query one same path = false≢true (subst (λ (c : Command). is_path (file_of c) ≡ true) (same_Some _ _ same) path)
+
+none_told : (told : TablesView) → ◌≡◌ {A = Option TablesView} None (Some told) → ⊥
+none_told told is = cc
+
+told_alike : (one other : Option KeeperView) → other ≡ one → Tells one other (λ (old new : KeeperView). new ≡ old)
+told_alike None None same = tt
+told_alike (Some one) None same = tt
+told_alike None (Some other) same = cc
+told_alike (Some one) (Some other) same = same_Some _ _ same
+
+-- what reads the store keeps no run
+no_run_read : (query : Query) (steps : ℕ) (file : List ℕ) (arguments : List (List ℕ)) → ◌≡◌ {A = Option Command} (Some (reads query)) (Some (run_kept steps file arguments)) → ⊥
+no_run_read query steps file arguments is = cc
+
+-- a plan that tells of a fault of the store tells of no want of memory
+not_both : ◌≡◌ {A = ℕ} 7 8 → ⊥
+not_both is = omega (arith, is)
+
+no_reading_in : (command : Option Command) (query : Query) (made : Plan) → command ≡ Some (reads query) → HasNoReading command made → made ≡ closing store_failed → ⊥
+no_reading_in command query made word (inl none) same = false≢true (sym none ∙ ap (λ (c : Option Command). reads_store c) word)
+no_reading_in command query made word (inr lacks) same = not_both (ap (λ (p : Plan). status_of p.ending) (sym same ∙ lacks))
+
+not_told_in : (command : Option Command) (query : Query) (tables : Option TablesView) → command ≡ Some (reads query) → tables ≡ None → IsTold command tables → ⊥
+not_told_in command query tables word none told = false≢true (subst (λ (t : Option TablesView). IsSome t) none (told (ap (λ (c : Option Command). reads_store c) word)))
+
+-- ---- what a question is answered
+
+-- no reply tells of a fault of the store
+reply_is_fine : (query : Query) (tables : TablesView) (plan : Plan) → Reply query tables plan → tells_of_store plan.ending ≡ false
+reply_is_fine list_query tables plan is = ap (λ (p : Plan). tells_of_store p.ending) is
 
 module _ (words : List (List ℕ)) (before after : Seen) (was is : Stored) (status : ℕ) (so : Replies words before after was is status) where
   abbrev command : Option Command
@@ -132,7 +175,11 @@ module _ (words : List (List ℕ)) (before after : Seen) (was is : Stored) (stat
   abbrev read : Seen
   read = so.plans.prepares.read
 
-  abbrev prepares : Prepares command before so.ran so.plans.made
+  -- the tables that the store told before and after, if it did
+  abbrev tables : Option TablesView
+  tables = tables_told was is
+
+  abbrev prepares : Prepares command tables before so.ran so.plans.made
   prepares = so.plans.prepares
 
   -- how the call ends where this ending is meant
@@ -195,12 +242,31 @@ module _ (words : List (List ℕ)) (before after : Seen) (was is : Stored) (stat
   by_lack ending (by_planned_folder store is also) = by_folder is (inr (put_rose also))
   by_lack ending (lacked_memory is) = no_memory is
 
-  module _ (one_plan : (one other : Plan) → MeansCommand command world one → MeansCommand command world other → one ≡ other) where
-    completes_by : (made plan : Plan) → Comes command before read world made → MeansCommand command world plan
+  -- where the store failed, and counted that
+  by_fault : (ending : Ending) → Rose was.faults is.faults → Ends store_failed so.ran.faults.put after.faults.put so.ran.faults.write after.faults.write status → Ending_is ending
+  by_fault ending rose (as_planned at) = by_store at rose
+  by_fault ending rose (by_planned_console store at also) = by_console at (write_rose also)
+  by_fault ending rose (by_planned_folder store at also) = by_folder at (inr (put_rose also))
+  by_fault ending rose (lacked_memory at) = no_memory at
+
+  -- a question that is answered by a fault of the store, which counted it
+  store_rose : (made delivered : Plan) (began : Telling) (clock : Clock) → Keeps command world began clock made was is delivered → (query : Query) → command ≡ Some (reads query) → made ≡ closing store_failed → Rose was.faults is.faults
+  store_rose made delivered began clock (no_run none aside still) query word same = absurd (no_reading_in command query made word aside same)
+  store_rose made delivered began clock (a_reading one other read_so) query word same = read_so.cause.rose (ap (λ (p : Plan). is_store_failed p.ending) same)
+  store_rose made delivered began clock (a_run steps file arguments other run of number kept) query word same = absurd (no_run_read query steps file arguments (sym word ∙ other))
+
+  -- over a store that does not tell, a question means nothing
+  no_meaning : (query : Query) → command ≡ Some (reads query) → tables ≡ None → (plan : Plan) → MeansCommand command world tables plan → ⊥
+  no_meaning query word none plan means = subst (λ (c : Option Command). MeansCommand c world None plan) word (subst (λ (t : Option TablesView). MeansCommand command world t plan) none means)
+
+  module _ (one_plan : (one other : Plan) → MeansCommand command world tables one → MeansCommand command world tables other → one ≡ other) where
+    completes_by : (made plan : Plan) → Comes command before read world tables made → ((query : Query) → command ≡ Some (reads query) → made ≡ closing store_failed → Rose was.faults is.faults) → MeansCommand command world tables plan
         → Ends made.ending so.ran.faults.put after.faults.put so.ran.faults.write after.faults.write status → Ending_is plan.ending
-    completes_by made plan (meant one same is) means ends = by_way plan.ending (subst (λ (p : Plan). Ends p.ending so.ran.faults.put after.faults.put so.ran.faults.write after.faults.write status) (one_plan made plan is means) ends)
-    completes_by made plan (unread one word path rose un) means ends = by_unread (file_of one) plan.ending (source_rose rose) ends
-    completes_by made plan (lacks_memory same) means ends = by_lack plan.ending ends
+    completes_by made plan (meant one same is) fails means ends = by_way plan.ending (subst (λ (p : Plan). Ends p.ending so.ran.faults.put after.faults.put so.ran.faults.write after.faults.write status) (one_plan made plan is means) ends)
+    completes_by made plan (unread one word path rose un) fails means ends = by_unread (file_of one) plan.ending (source_rose rose) ends
+    completes_by made plan (store_unread query word same un) fails means ends = by_fault plan.ending (fails query word refl) ends
+    completes_by made plan (untold query one word none files same un) fails means ends = absurd (no_meaning query word none plan means)
+    completes_by made plan (lacks_memory same) fails means ends = by_lack plan.ending ends
 
     -- by what came of the keeping
     unkept_by : (steps : ℕ) (file : List ℕ) (arguments : List (List ℕ)) (run : Run) (fault : TrialFault) (made plan : Plan) → KeepsRun file steps arguments world prepares.began prepares.clock so.plans.made run → KeepsIn run (Err fault) was is → Ends (with_keeping (Err fault) made).ending so.ran.faults.put after.faults.put so.ran.faults.write after.faults.write status
@@ -232,13 +298,15 @@ module _ (words : List (List ℕ)) (before after : Seen) (was is : Stored) (stat
     unkept_by steps file arguments run (NoTrial number) made plan of kept ends = absurd kept.of_keeping
     unkept_by steps file arguments run (Damaged number damage) made plan of kept ends = absurd kept.of_keeping
 
-    completes_kept : (delivered plan : Plan) → Keeps command world prepares.began prepares.clock so.plans.made was is delivered → Comes command before read world so.plans.made → MeansCommand command world plan
+    completes_kept : (delivered plan : Plan) → Keeps command world prepares.began prepares.clock so.plans.made was is delivered → Comes command before read world tables so.plans.made → MeansCommand command world tables plan
         → Ends delivered.ending so.ran.faults.put after.faults.put so.ran.faults.write after.faults.write status → Ending_is plan.ending
-    completes_kept delivered plan (no_run none still) comes means ends = completes_by so.plans.made plan comes means ends
-    completes_kept delivered plan (a_run steps file arguments word run of (Ok number) kept) comes means ends = completes_by so.plans.made plan comes means ends
+    completes_kept delivered plan (no_run none aside still) comes means ends = completes_by so.plans.made plan comes (store_rose so.plans.made delivered prepares.began prepares.clock (no_run none aside still)) means ends
+    completes_kept delivered plan (a_reading query word read_so) comes means ends = completes_by so.plans.made plan comes (store_rose so.plans.made delivered prepares.began prepares.clock (a_reading query word read_so)) means ends
+    completes_kept delivered plan (a_run steps file arguments word run of (Ok number) kept) comes means ends =
+        completes_by so.plans.made plan comes (store_rose so.plans.made delivered prepares.began prepares.clock (a_run steps file arguments word run of (Ok number) kept)) means ends
     completes_kept delivered plan (a_run steps file arguments word run of (Err fault) kept) comes means ends = unkept_by steps file arguments run fault so.plans.made plan of kept ends
 
-    pub completes_so : (plan : Plan) → MeansCommand command world plan
+    pub completes_so : (plan : Plan) → MeansCommand command world tables plan
         → Ends so.plan.ending so.ran.faults.put after.faults.put so.ran.faults.write after.faults.write status → Ending_is plan.ending
     completes_so plan means ends = completes_kept so.plan plan so.plans.keeps prepares.comes means ends
 
@@ -248,7 +316,8 @@ module _ (words : List (List ℕ)) (before after : Seen) (was is : Stored) (stat
   as_made : (made delivered : Plan) (began : Telling) (clock : Clock) → Keeps command world began clock made was is delivered
       → ((Rose was.faults is.faults → ⊥) ⊎ (status_of delivered.ending ≡ 7 → ⊥)) → (status_of delivered.ending ≡ 8 → ⊥) → (status_of delivered.ending ≡ 10 → ⊥) → (status_of delivered.ending ≡ 13 → ⊥)
       → made ≡ delivered
-  as_made made delivered began clock (no_run none still) quiet room other full = refl
+  as_made made delivered began clock (no_run none aside still) quiet room other full = refl
+  as_made made delivered began clock (a_reading query word read_so) quiet room other full = refl
   as_made made delivered began clock (a_run steps file arguments word run of (Ok number) kept) quiet room other full = refl
   as_made made delivered began clock (a_run steps file arguments word run of (Err Memory) kept) quiet room other full = absurd (room refl)
   as_made made delivered began clock (a_run steps file arguments word run of (Err Keeper) kept) (inl quiet) room other full = absurd (quiet (kept.cause.rose refl))
@@ -262,18 +331,21 @@ module _ (words : List (List ℕ)) (before after : Seen) (was is : Stored) (stat
   made_is = as_made so.plans.made so.plan prepares.began prepares.clock so.plans.keeps
 
   -- a plan that came about otherwise shows by the status or by a count
-  meant_by : (made : Plan) → Comes command before read world made → (Rose before.faults.source after.faults.source → ⊥) → (status_of made.ending ≡ 8 → ⊥) → MeansCommand command world made
-  meant_by made (meant one same is) quiet room = is
-  meant_by made (unread one word path rose un) quiet room = absurd (quiet (source_rose rose))
-  meant_by made (lacks_memory same) quiet room = absurd (room refl)
+  meant_by : (made : Plan) → Comes command before read world tables made → IsTold command tables → ((query : Query) → command ≡ Some (reads query) → made ≡ closing store_failed → ⊥) → (Rose before.faults.source after.faults.source → ⊥) → (status_of made.ending ≡ 8 → ⊥) → MeansCommand command world tables made
+  meant_by made (meant one same is) told seven quiet room = is
+  meant_by made (unread one word path rose un) told seven quiet room = absurd (quiet (source_rose rose))
+  meant_by made (store_unread query word same un) told seven quiet room = absurd (seven query word refl)
+  meant_by made (untold query one word none files same un) told seven quiet room = absurd (not_told_in command query tables word none told)
+  meant_by made (lacks_memory same) told seven quiet room = absurd (room refl)
 
-  pub whole_so : (Rose before.faults.source after.faults.source → ⊥) → (Rose was.faults is.faults → ⊥) → (status ≡ 8 → ⊥) → (status ≡ 10 → ⊥) → (status ≡ 13 → ⊥)
+  pub whole_so : IsTold command tables → (Rose before.faults.source after.faults.source → ⊥) → (Rose was.faults is.faults → ⊥) → (status ≡ 8 → ⊥) → (status ≡ 10 → ⊥) → (status ≡ 13 → ⊥)
       → WentWell so.plan.ending so.plan.text so.plan.files so.ran.faults.put after.faults.put so.ran.folder after.folder so.ran.faults.write after.faults.write so.ran.console after.console status
-      → DoesWhole command world so.plan before after status
-  whole_so quiet still room other full well = record {
+      → DoesWhole command world tables so.plan before after status
+  whole_so told quiet still room other full well = record {
     means =
         let same : so.plans.made ≡ so.plan = made_is (inl still) (λ at. room (well.status_is ∙ at)) (λ at. other (well.status_is ∙ at)) (λ at. full (well.status_is ∙ at)) in
-        subst (λ (p : Plan). MeansCommand command world p) same (meant_by so.plans.made prepares.comes quiet (λ at. room (well.status_is ∙ ap (λ (p : Plan). status_of p.ending) (sym same) ∙ at)));
+        subst (λ (p : Plan). MeansCommand command world tables p) same (meant_by so.plans.made prepares.comes told
+        (λ query word failed. still (store_rose so.plans.made so.plan prepares.began prepares.clock so.plans.keeps query word failed)) quiet (λ at. room (well.status_is ∙ ap (λ (p : Plan). status_of p.ending) (sym same) ∙ at)));
     folder = tells_through before.folder so.ran.folder after.folder (λ (was is : Files). is ≡ was) (HasAll so.plan.files) (HasAll so.plan.files) (λ x y z same all. has_all_from so.plan.files x y z same all) folder_same well.folder;
     console = tells_through before.console so.ran.console after.console (λ (was is : ConsoleView). is.written ≡ was.written)
         (λ (was is : ConsoleView). (is.lines ≡ was.lines) × (is.written ≡ was.written ++ so.plan.text ++ closing_line so.plan.ending))
@@ -283,10 +355,12 @@ module _ (words : List (List ℕ)) (before after : Seen) (was is : Stored) (stat
   }
 
   -- the meaning by the status alone
-  meant_at : (made : Plan) → Comes command before read world made → (status_of made.ending ≡ 6 → ⊥) → (status_of made.ending ≡ 8 → ⊥) → MeansCommand command world made
-  meant_at made (meant one same is) six room = is
-  meant_at made (unread one word path rose un) six room = absurd (six refl)
-  meant_at made (lacks_memory same) six room = absurd (room refl)
+  meant_at : (made : Plan) → Comes command before read world tables made → IsTold command tables → (status_of made.ending ≡ 7 → ⊥) → (status_of made.ending ≡ 6 → ⊥) → (status_of made.ending ≡ 8 → ⊥) → MeansCommand command world tables made
+  meant_at made (meant one same is) told seven six room = is
+  meant_at made (unread one word path rose un) told seven six room = absurd (six refl)
+  meant_at made (store_unread query word same un) told seven six room = absurd (seven refl)
+  meant_at made (untold query one word none files same un) told seven six room = absurd (not_told_in command query tables word none told)
+  meant_at made (lacks_memory same) told seven six room = absurd (room refl)
 
   -- a status that tells of no fault and of no want of memory is the planned one
   pub planned_status : Ends so.plan.ending so.ran.faults.put after.faults.put so.ran.faults.write after.faults.write status → (status ≡ 5 → ⊥) → (status ≡ 6 → ⊥) → (status ≡ 8 → ⊥) → status ≡ status_of so.plan.ending
@@ -298,14 +372,14 @@ module _ (words : List (List ℕ)) (before after : Seen) (was is : Stored) (stat
   pub no_store_planned : status ≡ status_of so.plan.ending → (status ≡ 7 → ⊥) → (status ≡ 10 → ⊥) → (status ≡ 13 → ⊥) → tells_of_store so.plan.ending ≡ false
   no_store_planned at seven ten full = no_store so.plan.ending (λ e. seven (at ∙ e)) (λ e. ten (at ∙ e)) (λ e. full (at ∙ e))
 
-  pub as_meant_so : (status ≡ 6 → ⊥) → (status ≡ 7 → ⊥) → (status ≡ 8 → ⊥) → (status ≡ 10 → ⊥) → (status ≡ 13 → ⊥)
+  pub as_meant_so : IsTold command tables → (status ≡ 6 → ⊥) → (status ≡ 7 → ⊥) → (status ≡ 8 → ⊥) → (status ≡ 10 → ⊥) → (status ≡ 13 → ⊥)
       → DidAsPlanned so.plan.ending so.plan.text so.plan.files so.ran.faults.put after.faults.put so.ran.folder after.folder so.ran.console after.console status
-      → DoesAsMeant command world so.plan before after status
-  as_meant_so six seven room other full did = record {
+      → DoesAsMeant command world tables so.plan before after status
+  as_meant_so told six seven room other full did = record {
     means =
         let same : so.plans.made ≡ so.plan = made_is (inr (λ at. seven (did.status_is ∙ at))) (λ at. room (did.status_is ∙ at)) (λ at. other (did.status_is ∙ at)) (λ at. full (did.status_is ∙ at)) in
         let of : status_of so.plan.ending ≡ status_of so.plans.made.ending = ap (λ (p : Plan). status_of p.ending) (sym same) in
-        subst (λ (p : Plan). MeansCommand command world p) same (meant_at so.plans.made prepares.comes (λ at. six (did.status_is ∙ of ∙ at)) (λ at. room (did.status_is ∙ of ∙ at)));
+        subst (λ (p : Plan). MeansCommand command world tables p) same (meant_at so.plans.made prepares.comes told (λ at. seven (did.status_is ∙ of ∙ at)) (λ at. six (did.status_is ∙ of ∙ at)) (λ at. room (did.status_is ∙ of ∙ at)));
     folder = tells_through before.folder so.ran.folder after.folder (λ (was is : Files). is ≡ was) (HasAll so.plan.files) (HasAll so.plan.files) (λ x y z same all. has_all_from so.plan.files x y z same all) folder_same did.folder;
     console = tells_through before.console so.ran.console after.console (λ (was is : ConsoleView). is.written ≡ was.written)
         (λ (was is : ConsoleView). (is.lines ≡ was.lines) × ((n : ℕ) × (is.written ≡ was.written ++ so.plan.text ++ take n (closing_line so.plan.ending))))
@@ -344,11 +418,11 @@ module _ (words : List (List ℕ)) (before after : Seen) (was is : Stored) (stat
   slice_at file line plan (cutting.stands text st made cuts_so) is =
       let both : IsSliceOf text line made.text × BindsTheSame text line made.text = slice_text file text line made cuts_so is in (text, st, both.0, both.1)
 
-  pub slices_so : (file : List ℕ) (line : ℕ) → command ≡ Some (cut file line) → so.plan.ending ≡ done → DoesAsMeant command world so.plan before after status
+  pub slices_so : (file : List ℕ) (line : ℕ) → command ≡ Some (cut file line) → so.plan.ending ≡ done → DoesAsMeant command world tables so.plan before after status
       → Tells so.ran.console after.console (λ (was is : ConsoleView). (is.lines ≡ was.lines) × (is.written ≡ was.written ++ so.plan.text ++ closing_line so.plan.ending))
       → WritesSlice file line world before after
   slices_so file line word is does got =
-      let means : MeansCommand (Some (cut file line)) world so.plan = subst (λ (c : Option Command). MeansCommand c world so.plan) word does.means in
+      let means : MeansCommand (Some (cut file line)) world tables so.plan = subst (λ (c : Option Command). MeansCommand c world tables so.plan) word does.means in
       let of : (text : List ℕ) × StandsAt file world.files text × IsSliceOf text line so.plan.text × BindsTheSame text line so.plan.text = slice_at file line so.plan means.1 is in
       record {
         text = of.0;
@@ -369,17 +443,20 @@ module _ (words : List (List ℕ)) (before after : Seen) (was is : Stored) (stat
   steps_in (cut file line) = 0
   steps_in (run_bare steps file arguments) = steps
   steps_in (run_kept steps file arguments) = steps
+  steps_in (reads query) = 0
 
   abbrev arguments_in : Command → List (List ℕ)
   arguments_in (cut file line) = []
   arguments_in (run_bare steps file arguments) = arguments
   arguments_in (run_kept steps file arguments) = arguments
+  arguments_in (reads query) = []
 
   -- a command that keeps its run kept it, where the status is that of a run
   keeps_by : (made delivered : Plan) (began : Telling) (clock : Clock) (steps : ℕ) (file : List ℕ) (arguments : List (List ℕ)) → command ≡ Some (run_kept steps file arguments) → Keeps command world began clock made was is delivered
       → (status_of delivered.ending ≡ 0) ⊎ ((status_of delivered.ending ≡ 1) ⊎ (status_of delivered.ending ≡ 9)) → KeepsOne file steps arguments world began clock made was is
-  keeps_by made delivered began clock steps file arguments word (no_run (inl none) still) at = absurd (false≢true (sym none ∙ ap (λ (c : Option Command). keeps c) word))
-  keeps_by made delivered began clock steps file arguments word (no_run (inr none) still) at = absurd (false≢true (sym none ∙ run_at made.ending at))
+  keeps_by made delivered began clock steps file arguments word (no_run (inl none) aside still) at = absurd (false≢true (sym none ∙ ap (λ (c : Option Command). keeps c) word))
+  keeps_by made delivered began clock steps file arguments word (no_run (inr none) aside still) at = absurd (false≢true (sym none ∙ run_at made.ending at))
+  keeps_by made delivered began clock steps file arguments word (a_reading query other read_so) at = absurd (no_run_read query steps file arguments (sym other ∙ word))
   keeps_by made delivered began clock steps file arguments word (a_run steps' file' arguments' word' run of (Ok number) kept) at =
       let same : run_kept steps' file' arguments' ≡ run_kept steps file arguments = same_Some _ _ (sym word' ∙ word) in
       record {
@@ -398,12 +475,99 @@ module _ (words : List (List ℕ)) (before after : Seen) (was is : Stored) (stat
       → KeepsOne file steps arguments world prepares.began prepares.clock so.plans.made was is
   keeps_so steps file arguments word at = keeps_by so.plans.made so.plan prepares.began prepares.clock steps file arguments word so.plans.keeps at
 
-  untouched_by : (made delivered : Plan) (began : Telling) (clock : Clock) → keeps command ≡ false → Keeps command world began clock made was is delivered → IsUntouched was is
-  untouched_by made delivered began clock none (no_run other still) = still
-  untouched_by made delivered began clock none (a_run steps file arguments word run of number kept) = absurd (false≢true (sym none ∙ ap (λ (c : Option Command). keeps c) word))
+  untouched_by : (made delivered : Plan) (began : Telling) (clock : Clock) → keeps command ≡ false → reads_store command ≡ false → Keeps command world began clock made was is delivered → IsUntouched was is
+  untouched_by made delivered began clock none blind (no_run other aside still) = still
+  untouched_by made delivered began clock none blind (a_reading query word read_so) = absurd (false≢true (sym blind ∙ ap (λ (c : Option Command). reads_store c) word))
+  untouched_by made delivered began clock none blind (a_run steps file arguments word run of number kept) = absurd (false≢true (sym none ∙ ap (λ (c : Option Command). keeps c) word))
 
-  pub untouched_so : keeps command ≡ false → IsUntouched was is
-  untouched_so none = untouched_by so.plans.made so.plan prepares.began prepares.clock none so.plans.keeps
+  pub untouched_so : keeps command ≡ false → reads_store command ≡ false → IsUntouched was is
+  untouched_so none blind = untouched_by so.plans.made so.plan prepares.began prepares.clock none blind so.plans.keeps
+
+  tables_by : (made delivered : Plan) (began : Telling) (clock : Clock) → keeps command ≡ false → Keeps command world began clock made was is delivered → Tells was.told is.told (λ (old new : KeeperView). new ≡ old)
+  tables_by made delivered began clock none (no_run other aside still) = told_alike was.told is.told still.told
+  tables_by made delivered began clock none (a_reading query word read_so) = read_so.told
+  tables_by made delivered began clock none (a_run steps file arguments word run of number kept) = absurd (false≢true (sym none ∙ ap (λ (c : Option Command). keeps c) word))
+
+  pub tables_stay : keeps command ≡ false → Tells was.told is.told (λ (old new : KeeperView). new ≡ old)
+  tables_stay none = tables_by so.plans.made so.plan prepares.began prepares.clock none so.plans.keeps
+
+  -- ---- questions
+
+  -- what is planned of a question to a store that tells: its reply, or a fault of the store, or that memory ran out
+  abbrev IsPlanned : Query → TablesView → Plan → Type 0
+  IsPlanned query told plan = Reply query told plan ⊎ ((plan ≡ closing store_failed) ⊎ (plan ≡ closing out_of_memory))
+
+  planned_by : (query : Query) (told : TablesView) (made : Plan) → command ≡ Some (reads query) → tables ≡ Some told → Comes command before read world tables made → IsPlanned query told made
+  planned_by query told made word is_told (meant one same is) =
+      let means : MeansCommand (Some (reads query)) world (Some told) one = subst (λ (t : Option TablesView). MeansCommand (Some (reads query)) world t one) is_told (subst (λ (c : Option Command). MeansCommand c world tables one) word is) in
+      inl means.1
+  planned_by query told made word is_told (unread one other path rose un) = absurd (no_file query one (sym other ∙ word) path)
+  planned_by query told made word is_told (store_unread one other same un) = inr (inl refl)
+  planned_by query told made word is_told (untold one plan other none files same un) = absurd (none_told told (sym none ∙ is_told))
+  planned_by query told made word is_told (lacks_memory same) = inr (inr refl)
+
+  -- a question's plan stays as it was made
+  same_plan : (query : Query) (made delivered : Plan) (began : Telling) (clock : Clock) → command ≡ Some (reads query) → Keeps command world began clock made was is delivered → made ≡ delivered
+  same_plan query made delivered began clock word (no_run other aside still) = refl
+  same_plan query made delivered began clock word (a_reading one other read_so) = refl
+  same_plan query made delivered began clock word (a_run steps file arguments other run of number kept) = absurd (no_run_read query steps file arguments (sym word ∙ other))
+
+  planned_so : (query : Query) (told : TablesView) → command ≡ Some (reads query) → tables ≡ Some told → IsPlanned query told so.plan
+  planned_so query told word is_told = subst (λ (p : Plan). IsPlanned query told p) (same_plan query so.plans.made so.plan prepares.began prepares.clock word so.plans.keeps)
+      (planned_by query told so.plans.made word is_told prepares.comes)
+
+  replied_by : (query : Query) (told : TablesView) → IsPlanned query told so.plan → (status_of so.plan.ending ≡ 7 → ⊥) → (status_of so.plan.ending ≡ 8 → ⊥) → Reply query told so.plan
+  replied_by query told (inl reply) seven room = reply
+  replied_by query told (inr (inl failed)) seven room = absurd (seven (ap (λ (p : Plan). status_of p.ending) failed))
+  replied_by query told (inr (inr lacks)) seven room = absurd (room (ap (λ (p : Plan). status_of p.ending) lacks))
+
+  -- with a status that tells of no fault the reply is planned
+  pub reply_so : (query : Query) (told : TablesView) → command ≡ Some (reads query) → tables ≡ Some told
+      → Ends so.plan.ending so.ran.faults.put after.faults.put so.ran.faults.write after.faults.write status → (status ≡ 5 → ⊥) → (status ≡ 6 → ⊥) → (status ≡ 7 → ⊥) → (status ≡ 8 → ⊥) → Reply query told so.plan
+  reply_so query told word is_told ends five six seven room =
+      let at : status ≡ status_of so.plan.ending = planned_status ends five six room in
+      replied_by query told (planned_so query told word is_told) (λ e. seven (at ∙ e)) (λ e. room (at ∙ e))
+
+  pub fine_so : (query : Query) (told : TablesView) → Reply query told so.plan → tells_of_store so.plan.ending ≡ false
+  fine_so query told reply = reply_is_fine query told so.plan reply
+
+  pub replies_so : (query : Query) (told : TablesView) → command ≡ Some (reads query) → Reply query told so.plan
+      → DidAsPlanned so.plan.ending so.plan.text so.plan.files so.ran.faults.put after.faults.put so.ran.folder after.folder so.ran.console after.console status
+      → ((Rose so.ran.faults.put after.faults.put → ⊥) → (Rose so.ran.faults.write after.faults.write → ⊥)
+      → WentWell so.plan.ending so.plan.text so.plan.files so.ran.faults.put after.faults.put so.ran.folder after.folder so.ran.faults.write after.faults.write so.ran.console after.console status)
+      → RepliesBy query told before after was is status
+  replies_so query told word reply did well = record {
+    plan = so.plan;
+    is_reply = reply;
+    status_is = did.status_is;
+    console = tells_through before.console so.ran.console after.console (λ (was is : ConsoleView). is.written ≡ was.written)
+        (λ (was is : ConsoleView). (is.lines ≡ was.lines) × ((n : ℕ) × (is.written ≡ was.written ++ so.plan.text ++ take n (closing_line so.plan.ending))))
+        (λ (was is : ConsoleView). (n : ℕ) × (is.written ≡ was.written ++ so.plan.text ++ take n (closing_line so.plan.ending)))
+        (λ x y z same got. (got.1.0, got.1.1 ∙ ap (λ (xs : List ℕ). xs ++ so.plan.text ++ take got.1.0 (closing_line so.plan.ending)) same)) written_same did.console;
+    whole = λ no_put no_write. tells_through before.console so.ran.console after.console (λ (was is : ConsoleView). is.written ≡ was.written)
+        (λ (was is : ConsoleView). (is.lines ≡ was.lines) × (is.written ≡ was.written ++ so.plan.text ++ closing_line so.plan.ending))
+        (λ (was is : ConsoleView). is.written ≡ was.written ++ so.plan.text ++ closing_line so.plan.ending)
+        (λ x y z same got. got.1 ∙ ap (λ (xs : List ℕ). xs ++ so.plan.text ++ closing_line so.plan.ending) same) written_same
+        (well (λ rose. no_put (put_rose rose)) (λ rose. no_write (write_rose rose))).console;
+    store = tables_stay (ap (λ (c : Option Command). keeps c) word);
+  }
+
+  -- without a fault of the console, a put or the store the status is that of the reply, or 8
+  ends_by : (query : Query) (told : TablesView) (plan : Plan) → Reply query told plan → IsPlanned query told so.plan → (so.plan ≡ closing store_failed → Rose was.faults is.faults)
+      → Ends so.plan.ending so.ran.faults.put after.faults.put so.ran.faults.write after.faults.write status
+      → (Rose before.faults.put after.faults.put → ⊥) → (Rose before.faults.write after.faults.write → ⊥) → (Rose was.faults is.faults → ⊥) → (status ≡ status_of plan.ending) ⊎ (status ≡ 8)
+  ends_by query told plan reply planned fails (by_planned_console store at rose) no_put no_write still = absurd (no_write (write_rose rose))
+  ends_by query told plan reply planned fails (by_planned_folder store at rose) no_put no_write still = absurd (no_put (put_rose rose))
+  ends_by query told plan reply planned fails (lacked_memory at) no_put no_write still = inr at
+  ends_by query told plan reply (inl is_reply) fails (as_planned at) no_put no_write still = inl (at ∙ ap (λ (p : Plan). status_of p.ending) (one_reply query told so.plan plan is_reply reply))
+  ends_by query told plan reply (inr (inl failed)) fails (as_planned at) no_put no_write still = absurd (still (fails failed))
+  ends_by query told plan reply (inr (inr lacks)) fails (as_planned at) no_put no_write still = inr (at ∙ ap (λ (p : Plan). status_of p.ending) lacks)
+
+  pub ends_so : (query : Query) (told : TablesView) (plan : Plan) → command ≡ Some (reads query) → tables ≡ Some told → Reply query told plan
+      → Ends so.plan.ending so.ran.faults.put after.faults.put so.ran.faults.write after.faults.write status
+      → (Rose before.faults.put after.faults.put → ⊥) → (Rose before.faults.write after.faults.write → ⊥) → (Rose was.faults is.faults → ⊥) → (status ≡ status_of plan.ending) ⊎ (status ≡ 8)
+  ends_so query told plan word is_told reply ends no_put no_write still = ends_by query told plan reply (planned_so query told word is_told)
+      (λ failed. store_rose so.plans.made so.plan prepares.began prepares.clock so.plans.keeps query word (same_plan query so.plans.made so.plan prepares.began prepares.clock word so.plans.keeps ∙ failed)) ends no_put no_write still
 
   -- a status of a run is the planned one
   pub run_status : Ends so.plan.ending so.ran.faults.put after.faults.put so.ran.faults.write after.faults.write status → (status ≡ 0) ⊎ ((status ≡ 1) ⊎ (status ≡ 9))

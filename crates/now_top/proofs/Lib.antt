@@ -4,3 +4,4 @@ pub mod Preparing
 pub mod Meanings
 pub mod OneMeaning
 pub mod Words
+pub mod Answering

@@ -11,7 +11,7 @@ use Rattle.capture.specs.declared.answer.Asked.{Asked}
 use Rattle.capture.specs.declared.ended.Ended.{Ended as EndedRun}
 use Rattle.capture.specs.declared.ended.RunEnd.{RunEnd as EndTold}
 use Rattle.capture.specs.declared.ended.RunEnd.TheVariants.{Finished, Raised, Spent}
-use Rattle.delivery.specs.Ending.{Ending, uncaught, refused, out_of_memory, done, usage, nothing_there, console_failed, folder_failed, out_of_steps, store_failed, collision, store_full}
+use Rattle.delivery.specs.Ending.{Ending, uncaught, refused, out_of_memory, done, usage, nothing_there, console_failed, folder_failed, out_of_steps, store_failed, collision, store_full, damaged_trial}
 use Rattle.prov_base.specs.declared.refusal.Memory.{Memory}
 use Rattle.prov_outside.specs.declared.folder.Found.{Found as FoundThere}
 use Rattle.op_held.specs.Uncaught.{class_raised, text_raised}
@@ -142,6 +142,7 @@ not_run_so file text steps arguments read out_of_steps so = absurd so
 not_run_so file text steps arguments read store_failed so = absurd so
 not_run_so file text steps arguments read (collision digest kept given) so = absurd so
 not_run_so file text steps arguments read store_full so = absurd so
+not_run_so file text steps arguments read (damaged_trial trial detail) so = absurd so
 not_run_so file text steps arguments read (folder_failed path) so = absurd so
 not_run_so file text steps arguments read (uncaught class line words) so = absurd so
 
@@ -166,6 +167,7 @@ no_run_refused file text out_of_steps so = absurd so
 no_run_refused file text store_failed so = absurd so
 no_run_refused file text (collision digest kept given) so = absurd so
 no_run_refused file text store_full so = absurd so
+no_run_refused file text (damaged_trial trial detail) so = absurd so
 no_run_refused file text (folder_failed path) so = absurd so
 no_run_refused file text (uncaught class line words) so = absurd so
 
@@ -181,7 +183,7 @@ not_kept file text steps arguments read store may ending so = λ files stands. r
   gave = own_fits nothing_kept (told_by read) tt;
   ends = refl;
   comes = not_run_so file text steps arguments read ending so;
-  keeps = no_run (inr (no_run_refused file text ending so)) (record { told = refl; faults = refl });
+  keeps = no_run (inr (no_run_refused file text ending so)) (inl refl) (record { told = refl; faults = refl });
   stops = λ tables. (λ one. one, λ one. one);
 }
 
@@ -236,7 +238,7 @@ kept_short file text steps arguments read after was is may may' script want so s
   gave = so.records.1;
   ends = refl;
   comes = inr refl;
-  keeps = no_run (inr refl) still;
+  keeps = no_run (inr refl) (inl refl) still;
   stops = stops;
 }
 

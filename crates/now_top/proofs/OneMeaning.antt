@@ -1,8 +1,11 @@
 -- A command has at most one meaning over a world.
 use Rattle.std.proofs.Common.{◌≡◌, refl, sym, ap, subst, ◌∙◌, ℕ, true, false, List, [], inl, inr, Option, Some, None, arith}
 use Rattle.std.proofs.lemmas.Option.{same_Some}
-use Rattle.command_words.specs.Command.{Command, cut, run_bare, run_kept}
+use Rattle.command_words.specs.Command.{Command, cut, run_bare, run_kept, reads}
+use Rattle.command_words.specs.declared.command.Query.{Query}
+use Rattle.command_words.specs.declared.command.Query.TheVariants.{List as list_query}
 use Rattle.delivery.specs.Ending.{Ending, done, refused}
+use Rattle.keeper.specs.Tables.{TablesView}
 use Rattle.delivery.specs.PutsAll.{OutFile}
 use Rattle.prov_base.specs.declared.place.Pos.{Pos}
 use Rattle.prov_outside.specs.Folder.{Files}
@@ -14,6 +17,7 @@ use Rattle.now_top.specs.World.{World, Plan, closing, StandsAt, IsNowhere}
 use Rattle.now_top.specs.CutCommand as cutting
 use Rattle.now_top.specs.RunCommand as running
 use Rattle.now_top.specs.Means.{MeansCommand}
+use Rattle.now_top.specs.Reply.{Reply}
 
 false_is : false ≡ true → ⊥
 false_is is = cc
@@ -89,10 +93,16 @@ module _ (one_script : (text : List ℕ) (a b : ScriptTree) → HasScript text a
   one_run_plan file steps arguments world one other (running.stands text st plan is) (running.stands to also other_plan so) =
       one_runs file text steps arguments world.capture plan other_plan is (subst (λ (t : List ℕ). running.RunsText file t steps arguments world.capture other_plan) (one_text file world.files to text also st) so)
 
+-- a question has one reply by the tables
+pub one_reply : (query : Query) (tables : TablesView) (one other : Plan) → Reply query tables one → Reply query tables other → one ≡ other
+one_reply list_query tables one other a b = a ∙ sym b
+
 pub one_of : ((file : List ℕ) (line : ℕ) (files : Files) (one other : Plan) → cutting.MeansCut file line files one → cutting.MeansCut file line files other → one ≡ other)
     → ((file : List ℕ) (steps : ℕ) (arguments : List (List ℕ)) (world : World) (one other : Plan) → running.MeansRun file steps arguments world one → running.MeansRun file steps arguments world other → one ≡ other)
-    → (command : Option Command) (world : World) (one other : Plan) → MeansCommand command world one → MeansCommand command world other → one ≡ other
-one_of cuts runs None world one other a b = a.1 ∙ sym b.1
-one_of cuts runs (Some (cut file line)) world one other a b = cuts file line world.files one other a.1 b.1
-one_of cuts runs (Some (run_bare steps file arguments)) world one other a b = runs file steps arguments world one other a b
-one_of cuts runs (Some (run_kept steps file arguments)) world one other a b = runs file steps arguments world one other a b
+    → (command : Option Command) (world : World) (tables : Option TablesView) (one other : Plan) → MeansCommand command world tables one → MeansCommand command world tables other → one ≡ other
+one_of cuts runs None world tables one other a b = a.1 ∙ sym b.1
+one_of cuts runs (Some (cut file line)) world tables one other a b = cuts file line world.files one other a.1 b.1
+one_of cuts runs (Some (run_bare steps file arguments)) world tables one other a b = runs file steps arguments world one other a b
+one_of cuts runs (Some (run_kept steps file arguments)) world tables one other a b = runs file steps arguments world one other a b
+one_of cuts runs (Some (reads query)) world (Some tables) one other a b = one_reply query tables one other a.1 b.1
+one_of cuts runs (Some (reads query)) world None one other a b = absurd a

@@ -2,8 +2,9 @@
 use Rattle.std.proofs.Common.{false, ◌↔◌, ◌≡◌, refl, sym, ap, subst, ℕ, ◌<◌, List, length, ◌⊎◌, inl, inr, Option, Some, None, Ok, Err, arith}
 use Rattle.answer_source.proofs.Fitting.{own_fits}
 use Rattle.answer_source.specs.Live.{capture_of}
-use Rattle.command_words.specs.Command.{Command, cut, run_bare, run_kept}
-use Rattle.delivery.specs.Ending.{Ending, done, uncaught, usage, refused, nothing_there, console_failed, folder_failed, store_failed, out_of_memory, out_of_steps, collision, store_full}
+use Rattle.command_words.specs.Command.{Command, cut, run_bare, run_kept, reads as reads_command}
+use Rattle.command_words.specs.declared.command.Query.{Query}
+use Rattle.delivery.specs.Ending.{Ending, done, uncaught, usage, refused, nothing_there, console_failed, folder_failed, store_failed, out_of_memory, out_of_steps, collision, store_full, damaged_trial}
 use Rattle.prov_outside.specs.Folder.{Files, largest_file}
 use Rattle.prov_outside.specs.Tells.{Tells}
 use Rattle.run_engine.specs.Bare.{nothing_kept}
@@ -16,8 +17,9 @@ use Rattle.now_top.specs.Means.{MeansCommand, file_of}
 use Rattle.now_top.specs.Reading.{Agrees, IsReadAs, ReadsFile}
 use Rattle.now_top.specs.Running.{RunsOver}
 use Rattle.now_top.specs.Seen.{Seen, told_by, OnlyReads}
-use Rattle.now_top.specs.Replies.{Comes, meant, unread, no_memory, Prepares, PlansWith}
-use Rattle.now_top.specs.Kept.{keeps, ends_a_run, HasNoRun, not_asked, Stored, IsUntouched, no_run}
+use Rattle.now_top.specs.Replies.{Comes, meant, unread, store_unread, untold, no_memory, Prepares, PlansWith}
+use Rattle.now_top.specs.Kept.{keeps, ends_a_run, HasNoRun, HasNoReading, not_asked, Stored, IsUntouched, tables_told, no_run, a_reading}
+use Rattle.now_top.specs.Asking.{IsAnswer, AnswersQuery, replied, untold as untold_answer, failed, lacking}
 use Rattle.now_top.specs.KeepingRun.{KeepsOver, KeepsText}
 use Rattle.keeper.specs.Tables.{TablesView}
 use Rattle.keeper.specs.Keeping.{KeeperView}
@@ -45,8 +47,8 @@ still files seen = record { files = files; capture = capture_of nothing_kept (to
 unasked : (seen : Seen) → IsUnasked (capture_of nothing_kept (told_by seen))
 unasked seen = record { answers = refl; files = refl }
 
-unrun : (command : Option Command) (before read : Seen) (plan : Plan) (files : Files) → HasNoRun command plan → OnlyReads before read → Agrees read.folder files → Comes command before read (still files read) plan → Prepares command before read plan
-unrun command before read plan files still_none reads agrees comes = record {
+unrun : (command : Option Command) (tables : Option TablesView) (before read : Seen) (plan : Plan) (files : Files) → HasNoRun command plan → OnlyReads before read → Agrees read.folder files → Comes command before read (still files read) tables plan → Prepares command tables before read plan
+unrun command tables before read plan files still_none reads agrees comes = record {
   world = still files read;
   read = read;
   began = told_by read;
@@ -61,26 +63,22 @@ unrun command before read plan files still_none reads agrees comes = record {
 }
 
 -- the words are no command
-pub no_command : (before : Seen) → Prepares None before before (closing usage)
-no_command before = unrun None before before (closing usage) (files_of before.folder) (inl refl) (untouched before) (agrees_of before.folder) (meant (closing usage) refl (unasked before, refl))
+pub no_command : (tables : Option TablesView) (before : Seen) → Prepares None tables before before (closing usage)
+no_command tables before = unrun None tables before before (closing usage) (files_of before.folder) (inl refl) (untouched before) (agrees_of before.folder) (meant (closing usage) refl (unasked before, refl))
 
 -- memory runs out before anything is read
-pub lacks_memory : (command : Option Command) (before : Seen) → Prepares command before before (closing out_of_memory)
-lacks_memory command before = unrun command before before (closing out_of_memory) (files_of before.folder) (inr refl) (untouched before) (agrees_of before.folder) (no_memory refl)
-
--- by the command that the words are
-pub for_words : (command found : Option Command) (before ran : Seen) (plan : Plan) → found ≡ command → Prepares found before ran plan → Prepares command before ran plan
-for_words command found before ran plan same prepares = subst (λ (c : Option Command). Prepares c before ran plan) same prepares
+pub lacks_memory : (command : Option Command) (tables : Option TablesView) (before : Seen) → Prepares command tables before before (closing out_of_memory)
+lacks_memory command tables before = unrun command tables before before (closing out_of_memory) (files_of before.folder) (inr refl) (untouched before) (agrees_of before.folder) (no_memory refl)
 
 -- ---- FILE has no text that could be read
 
-module _ (one : Command) (before read : Seen) (reads : OnlyReads before read)
-    (nowhere : (files : Files) → IsNowhere (file_of one) files → MeansCommand (Some one) (still files read) (closing nothing_there))
-    (large : (files : Files) (text : List ℕ) → StandsAt (file_of one) files text → largest_file < length text → MeansCommand (Some one) (still files read) (closing (refused (file_of one) 1 1))) where
-  ends_so : (files : Files) (ending : Ending) → IsReadAs (file_of one) files before.faults.source read.faults.source (Err ending) → Comes (Some one) before read (still files read) (closing ending)
+module _ (one : Command) (tables : Option TablesView) (before read : Seen) (reads : OnlyReads before read)
+    (nowhere : (files : Files) → IsNowhere (file_of one) files → MeansCommand (Some one) (still files read) tables (closing nothing_there))
+    (large : (files : Files) (text : List ℕ) → StandsAt (file_of one) files text → largest_file < length text → MeansCommand (Some one) (still files read) tables (closing (refused (file_of one) 1 1))) where
+  ends_so : (files : Files) (ending : Ending) → IsReadAs (file_of one) files before.faults.source read.faults.source (Err ending) → Comes (Some one) before read (still files read) tables (closing ending)
   ends_so files nothing_there b = meant (closing nothing_there) b.0 (nowhere files b.1)
-  ends_so files (refused name line column) b = subst (λ e. Comes (Some one) before read (still files read) (closing e)) (sym b.1.3) (meant (closing (refused (file_of one) 1 1)) b.0 (large files b.1.0 b.1.1 b.1.2))
-  ends_so files (folder_failed path) b = subst (λ p. Comes (Some one) before read (still files read) (closing (folder_failed p))) (sym b.1.1) (unread one refl b.1.0 b.0 (unasked read))
+  ends_so files (refused name line column) b = subst (λ e. Comes (Some one) before read (still files read) tables (closing e)) (sym b.1.3) (meant (closing (refused (file_of one) 1 1)) b.0 (large files b.1.0 b.1.1 b.1.2))
+  ends_so files (folder_failed path) b = subst (λ p. Comes (Some one) before read (still files read) tables (closing (folder_failed p))) (sym b.1.1) (unread one refl b.1.0 b.0 (unasked read))
   ends_so files out_of_memory b = no_memory b
   ends_so files done b = absurd b
   ends_so files usage b = absurd b
@@ -89,6 +87,7 @@ module _ (one : Command) (before read : Seen) (reads : OnlyReads before read)
   ends_so files store_failed b = absurd b
   ends_so files (collision digest kept given) b = absurd b
   ends_so files store_full b = absurd b
+  ends_so files (damaged_trial trial detail) b = absurd b
   ends_so files (uncaught class line text) b = absurd b
 
   -- no run ends so
@@ -104,43 +103,44 @@ module _ (one : Command) (before read : Seen) (reads : OnlyReads before read)
   no_run_in files store_failed b = absurd b
   no_run_in files (collision digest kept given) b = absurd b
   no_run_in files store_full b = absurd b
+  no_run_in files (damaged_trial trial detail) b = absurd b
   no_run_in files (uncaught class line text) b = absurd b
 
-  pub without_text : (ending : Ending) → ReadsFile (file_of one) read.folder before.faults.source read.faults.source (Err ending) → Prepares (Some one) before read (closing ending)
-  without_text ending r = unrun (Some one) before read (closing ending) r.files (inr (no_run_in r.files ending r.because)) reads r.agrees (ends_so r.files ending r.because)
+  pub without_text : (ending : Ending) → ReadsFile (file_of one) read.folder before.faults.source read.faults.source (Err ending) → Prepares (Some one) tables before read (closing ending)
+  without_text ending r = unrun (Some one) tables before read (closing ending) r.files (inr (no_run_in r.files ending r.because)) reads r.agrees (ends_so r.files ending r.because)
 
 longer : (n : ℕ) → largest_file < n → 262144 < n
 longer n far = omega (arith, far)
 
-pub cut_without_text : (file : List ℕ) (line : ℕ) (before read : Seen) → OnlyReads before read → (ending : Ending) → ReadsFile file read.folder before.faults.source read.faults.source (Err ending)
-    → Prepares (Some (cut file line)) before read (closing ending)
-cut_without_text file line before read reads = without_text (cut file line) before read reads (λ files where_not. (unasked read, cutting.nowhere where_not))
+pub cut_without_text : (file : List ℕ) (line : ℕ) (tables : Option TablesView) (before read : Seen) → OnlyReads before read → (ending : Ending) → ReadsFile file read.folder before.faults.source read.faults.source (Err ending)
+    → Prepares (Some (cut file line)) tables before read (closing ending)
+cut_without_text file line tables before read reads = without_text (cut file line) tables before read reads (λ files where_not. (unasked read, cutting.nowhere where_not))
     (λ files text st far. (unasked read, cutting.stands text st (closing (refused file 1 1)) (cutting.too_long (longer (length text) far))))
 
-pub run_without_text : (file : List ℕ) (steps : ℕ) (arguments : List (List ℕ)) (before read : Seen) → OnlyReads before read → (ending : Ending) → ReadsFile file read.folder before.faults.source read.faults.source (Err ending)
-    → Prepares (Some (run_bare steps file arguments)) before read (closing ending)
-run_without_text file steps arguments before read reads = without_text (run_bare steps file arguments) before read reads (λ files where_not. running.nowhere where_not (unasked read))
+pub run_without_text : (file : List ℕ) (steps : ℕ) (arguments : List (List ℕ)) (tables : Option TablesView) (before read : Seen) → OnlyReads before read → (ending : Ending) → ReadsFile file read.folder before.faults.source read.faults.source (Err ending)
+    → Prepares (Some (run_bare steps file arguments)) tables before read (closing ending)
+run_without_text file steps arguments tables before read reads = without_text (run_bare steps file arguments) tables before read reads (λ files where_not. running.nowhere where_not (unasked read))
     (λ files text st far. running.stands text st (closing (refused file 1 1)) (running.no_script origin (too_large (longer (length text) far) refl) (unasked read)))
 
 -- ---- FILE has a text
 
-cut_so : (file : List ℕ) (line : ℕ) (before read : Seen) (files : Files) (text : List ℕ) (plan : Plan) → IsReadAs file files before.faults.source read.faults.source (Ok text)
-    → cutting.CutsText file text line plan ⊎ (plan ≡ closing out_of_memory) → Comes (Some (cut file line)) before read (still files read) plan
-cut_so file line before read files text plan b (inl cuts) = meant plan b.0 (unasked read, cutting.stands text b.1 plan cuts)
-cut_so file line before read files text plan b (inr lacks) = subst (Comes (Some (cut file line)) before read (still files read)) (sym lacks) (no_memory b.0)
+cut_so : (file : List ℕ) (line : ℕ) (tables : Option TablesView) (before read : Seen) (files : Files) (text : List ℕ) (plan : Plan) → IsReadAs file files before.faults.source read.faults.source (Ok text)
+    → cutting.CutsText file text line plan ⊎ (plan ≡ closing out_of_memory) → Comes (Some (cut file line)) before read (still files read) tables plan
+cut_so file line tables before read files text plan b (inl cuts) = meant plan b.0 (unasked read, cutting.stands text b.1 plan cuts)
+cut_so file line tables before read files text plan b (inr lacks) = subst (Comes (Some (cut file line)) before read (still files read) tables) (sym lacks) (no_memory b.0)
 
-pub cut_with_text : (file : List ℕ) (line : ℕ) (before read : Seen) → OnlyReads before read → (text : List ℕ) → ReadsFile file read.folder before.faults.source read.faults.source (Ok text) → (plan : Plan)
-    → cutting.CutsText file text line plan ⊎ (plan ≡ closing out_of_memory) → Prepares (Some (cut file line)) before read plan
-cut_with_text file line before read reads text r plan so = unrun (Some (cut file line)) before read plan r.files (inl refl) reads r.agrees (cut_so file line before read r.files text plan r.because so)
+pub cut_with_text : (file : List ℕ) (line : ℕ) (tables : Option TablesView) (before read : Seen) → OnlyReads before read → (text : List ℕ) → ReadsFile file read.folder before.faults.source read.faults.source (Ok text) → (plan : Plan)
+    → cutting.CutsText file text line plan ⊎ (plan ≡ closing out_of_memory) → Prepares (Some (cut file line)) tables before read plan
+cut_with_text file line tables before read reads text r plan so = unrun (Some (cut file line)) tables before read plan r.files (inl refl) reads r.agrees (cut_so file line tables before read r.files text plan r.because so)
 
-run_so : (file : List ℕ) (steps : ℕ) (arguments : List (List ℕ)) (before read : Seen) (files : Files) (text : List ℕ) (plan : Plan) (world : World) → world.files ≡ files → IsReadAs file files before.faults.source read.faults.source (Ok text)
-    → running.RunsText file text steps arguments world.capture plan ⊎ (plan ≡ closing out_of_memory) → Comes (Some (run_bare steps file arguments)) before read world plan
-run_so file steps arguments before read files text plan world same b (inl runs) = meant plan b.0 (running.stands text (subst (λ (f : Files). StandsAt file f text) (sym same) b.1) plan runs)
-run_so file steps arguments before read files text plan world same b (inr lacks) = subst (Comes (Some (run_bare steps file arguments)) before read world) (sym lacks) (no_memory b.0)
+run_so : (file : List ℕ) (steps : ℕ) (arguments : List (List ℕ)) (tables : Option TablesView) (before read : Seen) (files : Files) (text : List ℕ) (plan : Plan) (world : World) → world.files ≡ files → IsReadAs file files before.faults.source read.faults.source (Ok text)
+    → running.RunsText file text steps arguments world.capture plan ⊎ (plan ≡ closing out_of_memory) → Comes (Some (run_bare steps file arguments)) before read world tables plan
+run_so file steps arguments tables before read files text plan world same b (inl runs) = meant plan b.0 (running.stands text (subst (λ (f : Files). StandsAt file f text) (sym same) b.1) plan runs)
+run_so file steps arguments tables before read files text plan world same b (inr lacks) = subst (Comes (Some (run_bare steps file arguments)) before read world tables) (sym lacks) (no_memory b.0)
 
-pub run_with_text : (file : List ℕ) (steps : ℕ) (arguments : List (List ℕ)) (before read ran : Seen) → OnlyReads before read → (text : List ℕ) → ReadsFile file read.folder before.faults.source read.faults.source (Ok text) → (plan : Plan)
-    → RunsOver file text steps arguments read ran plan → Prepares (Some (run_bare steps file arguments)) before ran plan
-run_with_text file steps arguments before read ran reads text r plan over = record {
+pub run_with_text : (file : List ℕ) (steps : ℕ) (arguments : List (List ℕ)) (tables : Option TablesView) (before read ran : Seen) → OnlyReads before read → (text : List ℕ) → ReadsFile file read.folder before.faults.source read.faults.source (Ok text) → (plan : Plan)
+    → RunsOver file text steps arguments read ran plan → Prepares (Some (run_bare steps file arguments)) tables before ran plan
+run_with_text file steps arguments tables before read ran reads text r plan over = record {
   world = record { files = r.files; capture = over.capture };
   read = read;
   began = told_by read;
@@ -151,23 +151,24 @@ run_with_text file steps arguments before read ran reads text r plan over = reco
   starts = refl;
   gave = over.gave;
   ends = sym over.ends;
-  comes = run_so file steps arguments before read r.files text plan (record { files = r.files; capture = over.capture }) refl r.because over.comes;
+  comes = run_so file steps arguments tables before read r.files text plan (record { files = r.files; capture = over.capture }) refl r.because over.comes;
 }
 
 -- the same of the bytes of the text as they are shown
-pub run_with_shown : (file : List ℕ) (steps : ℕ) (arguments : List (List ℕ)) (before read ran : Seen) → OnlyReads before read → (text shown : List ℕ) → shown ≡ text
-    → ReadsFile file read.folder before.faults.source read.faults.source (Ok text) → (plan : Plan) → RunsOver file shown steps arguments read ran plan → Prepares (Some (run_bare steps file arguments)) before ran plan
-run_with_shown file steps arguments before read ran reads text shown same r plan over =
-    run_with_text file steps arguments before read ran reads text r plan (subst (λ (t : List ℕ). RunsOver file t steps arguments read ran plan) same over)
+pub run_with_shown : (file : List ℕ) (steps : ℕ) (arguments : List (List ℕ)) (tables : Option TablesView) (before read ran : Seen) → OnlyReads before read → (text shown : List ℕ) → shown ≡ text
+    → ReadsFile file read.folder before.faults.source read.faults.source (Ok text) → (plan : Plan) → RunsOver file shown steps arguments read ran plan → Prepares (Some (run_bare steps file arguments)) tables before ran plan
+run_with_shown file steps arguments tables before read ran reads text shown same r plan over =
+    run_with_text file steps arguments tables before read ran reads text r plan (subst (λ (t : List ℕ). RunsOver file t steps arguments read ran plan) same over)
 
 -- ---- a run that is to be kept
 
 pub same_store : (store : Stored) → IsUntouched store store
 same_store store = record { told = refl; faults = refl }
 
--- what keeps nothing leaves the store
-pub keeps_nothing : (command : Option Command) (before ran : Seen) (store : Stored) (may : TablesView → Type 0) (plan : Plan) → HasNoRun command plan → Prepares command before ran plan → PlansWith command before ran store store may may plan
-keeps_nothing command before ran store may plan none prepares = record { plans = record { made = plan; prepares = prepares; keeps = no_run none (same_store store) }; stops = λ tables. (λ one. one, λ one. one) }
+-- what asks nothing of the store leaves it
+pub keeps_nothing : (command : Option Command) (before ran : Seen) (store : Stored) (may : TablesView → Type 0) (plan : Plan) → HasNoRun command plan → HasNoReading command plan
+    → Prepares command (tables_told store store) before ran plan → PlansWith command before ran store store may may plan
+keeps_nothing command before ran store may plan none aside prepares = record { plans = record { made = plan; prepares = prepares; keeps = no_run none aside (same_store store) }; stops = λ tables. (λ one. one, λ one. one) }
 
 pub kept_without_text : (file : List ℕ) (steps : ℕ) (arguments : List (List ℕ)) (before read : Seen) (store : Stored) (may : TablesView → Type 0) → OnlyReads before read → (ending : Ending)
     → ReadsFile file read.folder before.faults.source read.faults.source (Err ending) → PlansWith (Some (run_kept steps file arguments)) before read store store may may (closing ending)
@@ -176,13 +177,13 @@ kept_without_text file steps arguments before read store may reads ending r =
     let large = λ (files : Files) (text : List ℕ) (st : StandsAt file files text) (far : largest_file < length text).
     running.stands text st (closing (refused file 1 1)) (running.no_script origin (too_large (longer (length text) far) refl) (unasked read)) in
     keeps_nothing (Some (run_kept steps file arguments)) before read store may (closing ending)
-    (inr (no_run_in (run_kept steps file arguments) before read reads gone large r.files ending r.because))
-    (without_text (run_kept steps file arguments) before read reads gone large ending r)
+    (inr (no_run_in (run_kept steps file arguments) (tables_told store store) before read reads gone large r.files ending r.because)) (inl refl)
+    (without_text (run_kept steps file arguments) (tables_told store store) before read reads gone large ending r)
 
-kept_so : (file : List ℕ) (steps : ℕ) (arguments : List (List ℕ)) (before read : Seen) (files : Files) (text : List ℕ) (plan : Plan) (world : World) → world.files ≡ files → IsReadAs file files before.faults.source read.faults.source (Ok text)
-    → running.RunsText file text steps arguments world.capture plan ⊎ (plan ≡ closing out_of_memory) → Comes (Some (run_kept steps file arguments)) before read world plan
-kept_so file steps arguments before read files text plan world same b (inl going) = meant plan b.0 (running.stands text (subst (λ (f : Files). StandsAt file f text) (sym same) b.1) plan going)
-kept_so file steps arguments before read files text plan world same b (inr lacks) = subst (Comes (Some (run_kept steps file arguments)) before read world) (sym lacks) (no_memory b.0)
+kept_so : (file : List ℕ) (steps : ℕ) (arguments : List (List ℕ)) (tables : Option TablesView) (before read : Seen) (files : Files) (text : List ℕ) (plan : Plan) (world : World) → world.files ≡ files → IsReadAs file files before.faults.source read.faults.source (Ok text)
+    → running.RunsText file text steps arguments world.capture plan ⊎ (plan ≡ closing out_of_memory) → Comes (Some (run_kept steps file arguments)) before read world tables plan
+kept_so file steps arguments tables before read files text plan world same b (inl going) = meant plan b.0 (running.stands text (subst (λ (f : Files). StandsAt file f text) (sym same) b.1) plan going)
+kept_so file steps arguments tables before read files text plan world same b (inr lacks) = subst (Comes (Some (run_kept steps file arguments)) before read world tables) (sym lacks) (no_memory b.0)
 
 kept_with_text : (file : List ℕ) (steps : ℕ) (arguments : List (List ℕ)) (before read ran : Seen) (was is : Stored) (may may' : TablesView → Type 0) → OnlyReads before read → (text : List ℕ)
     → (r : ReadsFile file read.folder before.faults.source read.faults.source (Ok text)) → (plan : Plan) → KeepsOver file text steps arguments r.files read ran was is may may' plan
@@ -201,7 +202,7 @@ kept_with_text file steps arguments before read ran was is may may' reads text r
       starts = over.starts;
       gave = over.gave;
       ends = over.ends;
-      comes = kept_so file steps arguments before read r.files text over.made (record { files = r.files; capture = over.capture }) refl r.because over.comes;
+      comes = kept_so file steps arguments (tables_told was is) before read r.files text over.made (record { files = r.files; capture = over.capture }) refl r.because over.comes;
     };
     keeps = over.keeps;
   };
@@ -225,3 +226,22 @@ untouched_store told faults old new same = record { told = ap told same; faults 
 
 pub same_stops : {T : Type 0} (may : T → TablesView → Type 0) (old new : T) → new ≡ old → (tables : TablesView) → may new tables ↔ may old tables
 same_stops {T = T} may old new same tables = subst (λ (k : T). may k tables ↔ may old tables) (sym same) (λ one. one, λ one. one)
+
+-- ---- a question to the store
+
+answer_comes : (query : Query) (before : Seen) (files : Files) (tables : Option TablesView) (plan : Plan) → IsAnswer query tables plan → Comes (Some (reads_command query)) before before (still files before) tables plan
+answer_comes query before files tables plan (replied told _ reply) = meant plan refl (unasked before, reply)
+answer_comes query before files tables plan (untold_answer _ none) = untold query plan refl refl none refl (unasked before)
+answer_comes query before files tables plan (failed _) = store_unread query refl refl (unasked before)
+answer_comes query before files tables plan (lacking _) = no_memory refl
+
+pub answers_so : (query : Query) (before : Seen) (was is : Stored) (may may' : TablesView → Type 0) (plan : Plan) → AnswersQuery query was is may may' plan → PlansWith (Some (reads_command query)) before before was is may may' plan
+answers_so query before was is may may' plan so = record {
+  plans = record {
+    made = plan;
+    prepares = unrun (Some (reads_command query)) (tables_told was is) before before plan (files_of before.folder) (inl refl) (untouched before) (agrees_of before.folder)
+        (answer_comes query before (files_of before.folder) (tables_told was is) plan so.answer);
+    keeps = a_reading query refl so.read;
+  };
+  stops = so.stops;
+}

@@ -4,7 +4,8 @@ use Rattle.std.proofs.lemmas.Bool.{and_parts, leb-true}
 use Rattle.std.proofs.lemmas.Option.{same_Some}
 use Rattle.std.specs.Prelude.{option_map, option_and_then, unwrap_or}
 use Rattle.std.specs.Str.{bytes_eq}
-use Rattle.command_words.specs.Command.{Command, cut, run_bare, run_kept, run_by, Reading, begins_with_zero, cut_command, run_of, with_words, nothing_read, run_command, command_of}
+use Rattle.command_words.specs.Command.{Command, cut, run_bare, run_kept, reads, run_by, Reading, begins_with_zero, cut_command, run_of, with_words, nothing_read, run_command, query_of, query_command, positional_words, command_of}
+use Rattle.command_words.specs.declared.command.Query.{Query}
 use Rattle.command_words.specs.Numbers.{is_number, number_of, number_to}
 
 none_is : (command : Command) → None ≡ Some command → ⊥
@@ -21,6 +22,7 @@ abbrev line_in : Command → ℕ
 line_in (cut file line) = line
 line_in (run_bare steps file arguments) = 0
 line_in (run_kept steps file arguments) = 0
+line_in (reads query) = 0
 
 -- a number up to some other is at least 1
 number_from_one : (most : ℕ) (word : List ℕ) (n : ℕ) → number_to most word ≡ Some n → 1 ≤ n
@@ -56,11 +58,15 @@ run_is_no_cut (Some reading) file line is = by_test reading.waits is
     by_test true same = none_is (cut file line) same
     by_test false same = run_of_found reading.bare (unwrap_or reading.steps 1000000) reading.arguments reading.file file line same
 
+query_is_no_cut : (found : Option Query) (file : List ℕ) (line : ℕ) → option_map reads found ≡ Some (cut file line) → ⊥
+query_is_no_cut None file line is = none_is (cut file line) is
+query_is_no_cut (Some query) file line is = cc
+
 pub from_one : (words : List (List ℕ)) (file : List ℕ) (line : ℕ) → command_of words ≡ Some (cut file line) → 1 ≤ line
 from_one [] file line is = absurd (none_is (cut file line) is)
 from_one (verb ∷ words) file line is = by_verb (bytes_eq verb (codes "cut")) (bytes_eq verb (codes "run")) is
   where
-    by_verb : (b d : Bool) → (if b then cut_command words else if d then run_command words else None) ≡ Some (cut file line) → 1 ≤ line
+    by_verb : (b d : Bool) → (if b then cut_command words else if d then run_command words else query_command verb words) ≡ Some (cut file line) → 1 ≤ line
     by_verb true d same = cut_from_one words file line same
     by_verb false true same = absurd (run_is_no_cut (with_words nothing_read words) file line same)
-    by_verb false false same = absurd (none_is (cut file line) same)
+    by_verb false false same = absurd (query_is_no_cut (option_and_then (query_of verb) (positional_words words)) file line same)

@@ -1,5 +1,5 @@
 -- How a call of the program ends, and what stands then, by what its words mean (this project's profile).
-use Rattle.std.specs.Prelude.{◌≡◌, ℕ, ◌≤◌, List, ◌++◌, length, take, ◌⊎◌, Option}
+use Rattle.std.specs.Prelude.{◌≡◌, ℕ, ◌≤◌, true, List, ◌++◌, length, take, ◌⊎◌, Option, IsSome}
 use Rattle.answer_source.specs.Live.{Faults}
 use Rattle.command_words.specs.Command.{Command}
 use Rattle.delivery.specs.Ending.{Ending, status_of, closing_line}
@@ -15,10 +15,17 @@ use Rattle.straight_line.specs.Slice.{IsSliceOf, BindsTheSame}
 use Rattle.trial_keeping.specs.Keeping.{HasRoom, full_store}
 use Rattle.trial_keeping.specs.Trial.{Run, with_trial_of}
 use Rattle.trial_parts.specs.Written.{put, clash}
-use Rattle.now_top.specs.Kept.{Clock, KeepsRun, Stored}
+use Rattle.command_words.specs.declared.command.Query.{Query}
+use Rattle.keeper.specs.Tables.{TablesView}
+use Rattle.now_top.specs.Kept.{Clock, reads_store, KeepsRun, Stored}
+use Rattle.now_top.specs.Reply.{Reply}
 use Rattle.now_top.specs.Means.{MeansCommand}
 use Rattle.now_top.specs.Seen.{Seen}
 use Rattle.now_top.specs.World.{World, Plan, StandsAt}
+
+-- the keeper tells its tables from the call's begin to its end, where the command reads them
+abbrev pub IsTold : Option Command → Option TablesView → Type 0
+IsTold command tables = reads_store command ≡ true → IsSome tables
 
 -- Other bytes stand in the store under the digest of a content of the run that was to be kept: it, their number, and how many were given.
 pub record Clashes (world : World) (began : Telling) (clock : Clock) (made : Plan) (was is : Stored) : Type 0 where
@@ -44,15 +51,15 @@ pub data Completes (world : World) (began : Telling) (clock : Clock) (made : Pla
   no_memory : status ≡ 8 → Completes world began clock made ending before after was is status
 
 -- The words mean the plan, and all of it stands: its files in the folder, its text and its closing line on the console, its status.
-pub record DoesWhole (command : Option Command) (world : World) (plan : Plan) (before after : Seen) (status : ℕ) : Type 0 where
-  pub means : MeansCommand command world plan
+pub record DoesWhole (command : Option Command) (world : World) (tables : Option TablesView) (plan : Plan) (before after : Seen) (status : ℕ) : Type 0 where
+  pub means : MeansCommand command world tables plan
   pub folder : Tells before.folder after.folder (HasAll plan.files)
   pub console : Tells before.console after.console (λ (was is : ConsoleView). is.written ≡ was.written ++ plan.text ++ closing_line plan.ending)
   pub status_is : status ≡ status_of plan.ending
 
 -- The words mean the plan, and all of it stands but perhaps the end of its closing line.
-pub record DoesAsMeant (command : Option Command) (world : World) (plan : Plan) (before after : Seen) (status : ℕ) : Type 0 where
-  pub means : MeansCommand command world plan
+pub record DoesAsMeant (command : Option Command) (world : World) (tables : Option TablesView) (plan : Plan) (before after : Seen) (status : ℕ) : Type 0 where
+  pub means : MeansCommand command world tables plan
   pub folder : Tells before.folder after.folder (HasAll plan.files)
   pub console : Tells before.console after.console (λ (was is : ConsoleView). (n : ℕ) × (is.written ≡ was.written ++ plan.text ++ take n (closing_line plan.ending)))
   pub status_is : status ≡ status_of plan.ending
@@ -75,3 +82,14 @@ pub record KeepsOne (file : List ℕ) (steps : ℕ) (arguments : List (List ℕ)
   pub run : Run
   pub of : KeepsRun file steps arguments world began clock made run
   pub tables : Tells was.told is.told (λ (old new : KeeperView). HasRoom old.committed × (with_trial_of run old.committed ≡ put new.committed))
+
+-- The status and the bytes on the console are those of the reply to the question by these tables: the text, and of the closing line as much as the console
+-- took, which is all where no count rose. The tables stay.
+pub record RepliesBy (query : Query) (tables : TablesView) (before after : Seen) (was is : Stored) (status : ℕ) : Type 0 where
+  pub plan : Plan
+  pub is_reply : Reply query tables plan
+  pub status_is : status ≡ status_of plan.ending
+  pub console : Tells before.console after.console (λ (old new : ConsoleView). (n : ℕ) × (new.written ≡ old.written ++ plan.text ++ take n (closing_line plan.ending)))
+  pub whole : (Rose before.faults.put after.faults.put → ⊥) → (Rose before.faults.write after.faults.write → ⊥)
+      → Tells before.console after.console (λ (old new : ConsoleView). new.written ≡ old.written ++ plan.text ++ closing_line plan.ending)
+  pub store : Tells was.told is.told (λ (old new : KeeperView). new ≡ old)

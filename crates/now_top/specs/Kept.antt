@@ -2,9 +2,10 @@
 use Rattle.std.specs.Prelude.{◌≡◌, ℕ, ℤ, Bool, true, false, List, ◌⊎◌, ◌↔◌, Option, Some, None, Result, IfErr}
 use Rattle.answer_source.specs.Live.{capture_of}
 use Rattle.capture.specs.Capture.{CaptureView}
-use Rattle.command_words.specs.Command.{Command, cut, run_bare, run_kept}
-use Rattle.delivery.specs.Ending.{Ending, done, uncaught, out_of_steps, out_of_memory}
-use Rattle.keeper.specs.Keeping.{KeeperView}
+use Rattle.command_words.specs.Command.{Command, cut, run_bare, run_kept, reads}
+use Rattle.command_words.specs.declared.command.Query.{Query}
+use Rattle.delivery.specs.Ending.{Ending, done, uncaught, out_of_steps, out_of_memory, store_failed}
+use Rattle.keeper.specs.Keeping.{KeeperView, LeavesAmong}
 use Rattle.keeper.specs.Tables.{TablesView}
 use Rattle.prov_outside.specs.Tells.{Tells}
 use Rattle.py_model.specs.Capture.{Telling}
@@ -28,6 +29,15 @@ keeps None = false
 keeps (Some (cut file line)) = false
 keeps (Some (run_bare steps file arguments)) = false
 keeps (Some (run_kept steps file arguments)) = true
+keeps (Some (reads query)) = false
+
+-- the command reads the store
+abbrev pub reads_store : Option Command → Bool
+reads_store None = false
+reads_store (Some (cut file line)) = false
+reads_store (Some (run_bare steps file arguments)) = false
+reads_store (Some (run_kept steps file arguments)) = false
+reads_store (Some (reads query)) = true
 
 -- a run comes to such an ending, and nothing else does
 abbrev pub ends_a_run : Ending → Bool
@@ -76,6 +86,15 @@ pub record Stored : Type 0 where
   pub told : Option KeeperView
   pub faults : ℕ
 
+-- the tables that the keeper told before and after, where it told them both times
+abbrev pub tables_in : Option KeeperView → Option KeeperView → Option TablesView
+tables_in (Some old) (Some new) = Some old.committed
+tables_in (Some old) None = None
+tables_in None after = None
+
+abbrev pub tables_told : Stored → Stored → Option TablesView
+tables_told was is = tables_in was.told is.told
+
 -- nothing was asked of the store
 pub record IsUntouched (was is : Stored) : Type 0 where
   pub told : is.told ≡ was.told
@@ -87,15 +106,31 @@ pub record KeepsIn (run : Run) (number : Result ℕ TrialFault) (was is : Stored
   pub of_keeping : IfErr number IsOfKeeping
   pub cause : Causes (has_failed number) was.faults is.faults
 
--- what a plan comes to by the keeping of its run, and what the store has then
+-- the command ends so because the store failed
+abbrev pub is_store_failed : Ending → Bool
+is_store_failed store_failed = true
+is_store_failed ending = false
+
+-- The store was read, and its tables stay. Its count rose where that failed.
+pub record IsRead (ending : Ending) (was is : Stored) : Type 0 where
+  pub told : Tells was.told is.told (λ (old new : KeeperView). new ≡ old)
+  pub cause : Causes (is_store_failed ending) was.faults is.faults
+
+-- the command does not read the store, or memory ran out before it was read
+abbrev pub HasNoReading : Option Command → Plan → Type 0
+HasNoReading command plan = (reads_store command ≡ false) ⊎ (plan ≡ closing out_of_memory)
+
+-- what a plan comes to by the keeping of its run or by the reading of the store, and what the store has then
 pub data Keeps (command : Option Command) (world : World) (began : Telling) (clock : Clock) (made : Plan) (was is : Stored) : Plan → Type 0 where
-  no_run : HasNoRun command made → IsUntouched was is → Keeps command world began clock made was is made
+  no_run : HasNoRun command made → HasNoReading command made → IsUntouched was is → Keeps command world began clock made was is made
   a_run : (steps : ℕ) (file : List ℕ) (arguments : List (List ℕ)) → command ≡ Some (run_kept steps file arguments) → (run : Run) → KeepsRun file steps arguments world began clock made run
       → (number : Result ℕ TrialFault) → KeepsIn run number was is → Keeps command world began clock made was is (with_keeping number made)
+  a_reading : (query : Query) → command ≡ Some (reads query) → IsRead made.ending was is → Keeps command world began clock made was is made
 
 -- Which tables a stop may leave then. Where nothing was asked of the store, those that one might have left before; where a run was kept, or was to be, what its
--- keeping says.
+-- keeping says; where the store was read, some of those.
 abbrev pub StopsBy : {command : Option Command} {world : World} {began : Telling} {clock : Clock} {made : Plan} {was is : Stored} {plan : Plan} → Keeps command world began clock made was is plan
     → (TablesView → Type 0) → (TablesView → Type 0) → Type 0
-StopsBy (no_run none still) may may' = (tables : TablesView) → may' tables ↔ may tables
+StopsBy (no_run none unread still) may may' = (tables : TablesView) → may' tables ↔ may tables
 StopsBy {was = was} {is = is} (a_run steps file arguments word run of number kept) may may' = Tells was.told is.told (StopLeaves run number may may')
+StopsBy {was = was} {is = is} (a_reading query word read) may may' = Tells was.told is.told (λ (old new : KeeperView). LeavesAmong may may')

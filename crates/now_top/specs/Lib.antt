@@ -2,6 +2,7 @@ pub mod World
 pub mod Completes
 pub mod CutCommand
 pub mod RunCommand
+pub mod Reply
 pub mod Means
 pub mod Unkept
 pub mod Kept
@@ -10,4 +11,5 @@ pub mod Seen
 pub mod Planned
 pub mod Running
 pub mod KeepingRun
+pub mod Asking
 pub mod Replies

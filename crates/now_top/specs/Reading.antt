@@ -1,6 +1,6 @@
 -- What the reading of FILE answers (this project's profile).
 use Rattle.std.specs.Prelude.{◌≡◌, ℕ, ◌<◌, List, length, Option, Some, None, Result, Ok, Err, IsTrue}
-use Rattle.delivery.specs.Ending.{Ending, done, uncaught, usage, refused, nothing_there, console_failed, folder_failed, store_failed, out_of_memory, out_of_steps, collision, store_full, ending_of}
+use Rattle.delivery.specs.Ending.{Ending, done, uncaught, usage, refused, nothing_there, console_failed, folder_failed, store_failed, out_of_memory, out_of_steps, collision, store_full, damaged_trial, ending_of}
 use Rattle.delivery.specs.declared.ending.Ending.{Ending as Planned}
 use Rattle.prov_base.specs.Path.{is_path}
 use Rattle.prov_base.specs.declared.place.Pos.{Pos}
@@ -28,6 +28,7 @@ IsReadAs file files was is (Err out_of_steps) = ⊥
 IsReadAs file files was is (Err store_failed) = ⊥
 IsReadAs file files was is (Err (collision digest kept given)) = ⊥
 IsReadAs file files was is (Err store_full) = ⊥
+IsReadAs file files was is (Err (damaged_trial trial detail)) = ⊥
 IsReadAs file files was is (Err (uncaught class line text)) = ⊥
 
 -- the same over some files that agree with what the folder tells
@@ -53,5 +54,6 @@ IsRefusedAs file text out_of_steps = ⊥
 IsRefusedAs file text store_failed = ⊥
 IsRefusedAs file text (collision digest kept given) = ⊥
 IsRefusedAs file text store_full = ⊥
+IsRefusedAs file text (damaged_trial trial detail) = ⊥
 IsRefusedAs file text (folder_failed path) = ⊥
 IsRefusedAs file text (uncaught class line words) = ⊥

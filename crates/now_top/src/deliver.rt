@@ -27,6 +27,9 @@ pub fn deliver_plan<C: Console, F: Folder>(
         Planned::Slice(text) => {
             deliver(alloc, console, folder, Ending::Done, text.as_slice(), &[])
         }
+        Planned::Text(text) => {
+            deliver(alloc, console, folder, Ending::Done, text.as_slice(), &[])
+        }
         Planned::Ran(over) => deliver(
             alloc,
             console,

@@ -1,11 +1,17 @@
 // The laws of the top call: public functions without a body, whose contracts are the laws.
 ghost use Rattle.std.specs.Prelude.{◌≡◌, ℕ, false, List, ◌⊎◌, Option, Some};
-ghost use Rattle.command_words.specs.Command.{Command, cut, run_kept, command_of};
+ghost use Rattle.command_words.specs.declared.command.Query.{Query as Question};
+ghost use Rattle.delivery.specs.Ending.{status_of};
+ghost use Rattle.keeper.specs.Keeping.{KeeperView};
+ghost use Rattle.keeper.specs.Tables.{TablesView};
+ghost use Rattle.command_words.specs.Command.{Command, cut, run_kept, reads, command_of};
 ghost use Rattle.prov_outside.specs.Count.{Rose};
-ghost use Rattle.now_top.specs.Completes.{Completes, DoesWhole, DoesAsMeant, WritesPrefixes, WritesSlice, KeepsOne};
-ghost use Rattle.now_top.specs.Kept.{keeps, Stored, IsUntouched};
+ghost use Rattle.prov_outside.specs.Tells.{Tells};
+ghost use Rattle.now_top.specs.Completes.{IsTold, Completes, DoesWhole, DoesAsMeant, WritesPrefixes, WritesSlice, KeepsOne, RepliesBy};
+ghost use Rattle.now_top.specs.Kept.{keeps, reads_store, Stored, IsUntouched, tables_told};
 ghost use Rattle.now_top.specs.Means.{MeansCommand};
 ghost use Rattle.now_top.specs.Replies.{Replies};
+ghost use Rattle.now_top.specs.Reply.{Reply};
 ghost use Rattle.now_top.specs.Seen.{Seen};
 ghost use Rattle.now_top.specs.World.{World, Plan};
 
@@ -15,10 +21,10 @@ use delivery::{
 use script_reading::one_reading;
 use straight_line::one_slice;
 
-/// The law that a command has at most one meaning over a world: one ending with one text and the same files, among them the place at which a script is
-/// refused, the slice, and what a run comes to.
+/// The law that a command has at most one meaning over a world and the tables of the store: one ending with one text and the same files, among them the place at which a script is
+/// refused, the slice, what a run comes to, and what is answered out of the store.
 pub fn one_meaning()
-    ensures { (command : Option Command) (world : World) (one other : Plan) → MeansCommand command world one → MeansCommand command world other → one ≡ other }
+    ensures { (command : Option Command) (world : World) (tables : Option TablesView) (one other : Plan) → MeansCommand command world tables one → MeansCommand command world tables other → one ≡ other }
 {
     one_slice();
     one_reading();
@@ -29,19 +35,19 @@ pub fn one_meaning()
 /// The world is that of the call: the folder's files, and what the devices gave.
 pub fn completes()
     ensures { (words : List (List ℕ)) (before after : Seen) (was is : Stored) (status : ℕ) (so : Replies words before after was is status) (plan : Plan)
-        → MeansCommand (command_of words) so.plans.prepares.world plan → Completes so.plans.prepares.world so.plans.prepares.began so.plans.prepares.clock so.plans.made plan.ending before.faults after.faults was is status }
+        → MeansCommand (command_of words) so.plans.prepares.world (tables_told was is) plan → Completes so.plans.prepares.world so.plans.prepares.began so.plans.prepares.clock so.plans.made plan.ending before.faults after.faults was is status }
 {
     one_meaning();
     ends_in_one_way();
 }
 
 /// The law of a call in which no device failed at the script's text, at a put or at a write, in which the keeper did not fail and took what it was given, and for
-/// which memory sufficed: the words mean a plan, and all of it stands.
+/// which memory sufficed: the words mean a plan, and all of it stands. What is read of the store is that of the tables that it told.
 pub fn does_whole()
     ensures { (words : List (List ℕ)) (before after : Seen) (was is : Stored) (status : ℕ) (so : Replies words before after was is status)
-        → (Rose before.faults.source after.faults.source → ⊥) → (Rose before.faults.put after.faults.put → ⊥) → (Rose before.faults.write after.faults.write → ⊥)
+        → IsTold (command_of words) (tables_told was is) → (Rose before.faults.source after.faults.source → ⊥) → (Rose before.faults.put after.faults.put → ⊥) → (Rose before.faults.write after.faults.write → ⊥)
         → (Rose was.faults is.faults → ⊥) → (status ≡ 8 → ⊥) → (status ≡ 10 → ⊥) → (status ≡ 13 → ⊥)
-        → DoesWhole (command_of words) so.plans.prepares.world so.plan before after status }
+        → DoesWhole (command_of words) so.plans.prepares.world (tables_told was is) so.plan before after status }
 {
     no_count_rose();
 }
@@ -50,7 +56,8 @@ pub fn does_whole()
 /// closing line.
 pub fn does_as_meant()
     ensures { (words : List (List ℕ)) (before after : Seen) (was is : Stored) (status : ℕ) (so : Replies words before after was is status)
-        → (status ≡ 5 → ⊥) → (status ≡ 6 → ⊥) → (status ≡ 7 → ⊥) → (status ≡ 8 → ⊥) → (status ≡ 10 → ⊥) → (status ≡ 13 → ⊥) → DoesAsMeant (command_of words) so.plans.prepares.world so.plan before after status }
+        → IsTold (command_of words) (tables_told was is) → (status ≡ 5 → ⊥) → (status ≡ 6 → ⊥) → (status ≡ 7 → ⊥) → (status ≡ 8 → ⊥) → (status ≡ 10 → ⊥) → (status ≡ 13 → ⊥)
+        → DoesAsMeant (command_of words) so.plans.prepares.world (tables_told was is) so.plan before after status }
 {
     no_fault_answered();
     ends_in_one_way();
@@ -84,7 +91,31 @@ pub fn keeps_trial()
     ends_in_one_way();
 }
 
-/// The law that no other command asks anything of the store.
+/// The law that no other command changes the store: its tables stay, and nothing is asked of it but by a command that reads it.
 pub fn keeps_nothing_else()
-    ensures { (words : List (List ℕ)) (before after : Seen) (was is : Stored) (status : ℕ) → Replies words before after was is status → keeps (command_of words) ≡ false → IsUntouched was is }
+    ensures tables { (words : List (List ℕ)) (before after : Seen) (was is : Stored) (status : ℕ) → Replies words before after was is status → keeps (command_of words) ≡ false
+        → Tells was.told is.told (λ (old new : KeeperView). new ≡ old) }
+    ensures unasked { (words : List (List ℕ)) (before after : Seen) (was is : Stored) (status : ℕ) → Replies words before after was is status → keeps (command_of words) ≡ false → reads_store (command_of words) ≡ false → IsUntouched was is }
 {}
+
+/// The law of what is read of the store: with a status that tells of no fault and of no want of memory, status and bytes are those of the one reply to the words by the
+/// tables that the keeper told from the call's begin to its end.
+pub fn replies_by_tables()
+    ensures one { (query : Question) (tables : TablesView) (one other : Plan) → Reply query tables one → Reply query tables other → one ≡ other }
+    ensures replies { (words : List (List ℕ)) (before after : Seen) (was is : Stored) (status : ℕ) → Replies words before after was is status → (query : Question) (tables : TablesView)
+        → command_of words ≡ Some (reads query) → tables_told was is ≡ Some tables → (status ≡ 5 → ⊥) → (status ≡ 6 → ⊥) → (status ≡ 7 → ⊥) → (status ≡ 8 → ⊥)
+        → RepliesBy query tables before after was is status }
+{
+    no_fault_answered();
+    ends_in_one_way();
+    no_count_rose();
+}
+
+/// Completeness of what is read of the store: where no put, no write and no call of the keeper failed, the status is that of the reply, or 8 for want of memory.
+pub fn reading_completes()
+    ensures { (words : List (List ℕ)) (before after : Seen) (was is : Stored) (status : ℕ) → Replies words before after was is status → (query : Question) (tables : TablesView) (plan : Plan)
+        → command_of words ≡ Some (reads query) → tables_told was is ≡ Some tables → Reply query tables plan
+        → (Rose before.faults.put after.faults.put → ⊥) → (Rose before.faults.write after.faults.write → ⊥) → (Rose was.faults is.faults → ⊥) → (status ≡ status_of plan.ending) ⊎ (status ≡ 8) }
+{
+    ends_in_one_way();
+}

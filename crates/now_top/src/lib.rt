@@ -4,6 +4,7 @@
 //! count as it begins to what they tell and count as it ends, stage by stage.
 //! - The words are a command by `command_words`, or none. What they mean over a world, the files of the folder and what the devices give, is
 //!   `Means` in `specs/Means.antt`, with a file for each command: `specs/CutCommand.antt`, `specs/RunCommand.antt`. `run` means what `run --bare` means.
+//! - What reads the store means its reply by the tables (`Reply` in `specs/Reply.antt`, a line for each question). The keeper is asked, and its tables stay.
 //! - FILE is read only where it is a path. `run` then runs its script over the devices, which are asked what the run asks and no more; without `--bare` the clock is
 //!   asked before it and after it.
 //! - Without `--bare` the run is kept as a trial: that of the script at FILE in what the devices gave (`specs/Kept.antt`). A fault there takes the place of how the
@@ -13,9 +14,11 @@
 //! The laws: a command has at most one meaning over a world ([`one_meaning`]). Where the words mean a plan, the status is that of its ending, or a fault that was
 //! counted, or one of a store that does not take the trial, or want of memory ([`completes`]). Without such a fault all of the plan stands ([`does_whole`],
 //! [`does_as_meant`]). The console has a prefix of the text and of a closing line in any case ([`writes_prefixes`]). [`writes_slice`] says what `cut` has written with
-//! status 0. A run with a status of its own is kept as the next trial ([`keeps_trial`]), and no other command asks anything of the store ([`keeps_nothing_else`]).
+//! status 0. A run with a status of its own is kept as the next trial ([`keeps_trial`]), and no other command changes the store ([`keeps_nothing_else`]). Over a keeper that
+//! tells its tables, status and bytes of what reads them are those of the one reply ([`replies_by_tables`]), or tell of a fault or of want of memory ([`reading_completes`]).
 #![tactic(auto)]
 
+mod asking;
 mod deliver;
 mod kept;
 mod laws;
@@ -27,6 +30,6 @@ mod top;
 
 pub use laws::{
     completes, does_as_meant, does_whole, keeps_nothing_else, keeps_trial, one_meaning,
-    writes_prefixes, writes_slice,
+    reading_completes, replies_by_tables, writes_prefixes, writes_slice,
 };
 pub use top::now;

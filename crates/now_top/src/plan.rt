@@ -1,13 +1,15 @@
 // What the words ask for, worked out before anything is delivered.
-ghost use Rattle.std.specs.Prelude.{◌≡◌, ◌≤◌, ◌⊎◌, false, Some, map};
+ghost use Rattle.std.specs.Prelude.{◌≡◌, ◌≤◌, ◌⊎◌, false, Option, Some, map};
 ghost use Rattle.std.specs.String.{string_bytes};
 ghost use Rattle.command_words.specs.Command.{cut, command_of};
 ghost use Rattle.delivery.specs.Ending.{out_of_memory};
+ghost use Rattle.keeper.specs.Tables.{TablesView};
 ghost use Rattle.now_top.specs.CutCommand.{CutsText};
 ghost use Rattle.now_top.specs.Planned.{plan_of};
 ghost use Rattle.now_top.specs.Replies.{Prepares, PlansWith};
 ghost use Rattle.now_top.specs.World.{closing};
 
+use crate::asking::answer_query;
 use crate::kept::plan_kept;
 use crate::planned::Planned;
 use crate::run::plan_run;
@@ -56,7 +58,7 @@ fn plan_cut<'w, C: Console + Drop, F: Folder + Drop, M: Moments + Drop>(
     mut devices: Devices<C, F, M>,
 ) -> (Planned<'w>, Devices<C, F, M>)
     requires { 1 ≤ line }
-    ensures { Prepares (Some (cut file.now line)) (record {
+    ensures { (tables : Option TablesView) → Prepares (Some (cut file.now line)) tables (record {
       console = C.told devices.console;
       folder = F.told devices.folder;
       moments = M.told devices.moments;
@@ -90,7 +92,7 @@ fn plan_cut<'w, C: Console + Drop, F: Folder + Drop, M: Moments + Drop>(
     }
 }
 
-/// What the words ask for over the devices, which it gives back; a run that is to be kept is kept. Nothing is written, and no file is put.
+/// What the words ask for over the devices, which it gives back; a run that is to be kept is kept, and what is read of the store is read. Nothing is written, and no file is put.
 pub fn plan<'w, K: Keeper, C: Console + Drop, F: Folder + Drop, M: Moments + Drop>(
     alloc: Global,
     words: &'w [String],
@@ -147,6 +149,7 @@ pub fn plan<'w, K: Keeper, C: Console + Drop, F: Folder + Drop, M: Moments + Dro
                 },
             ),
         ) => plan_kept(alloc, keeper, file, steps, &arguments, devices),
+        Ok(Some(Command::Reads(query))) => (answer_query(alloc, keeper, query), devices),
         Ok(None) => (Planned::Closes(Ending::Usage), devices),
         Err(Memory) => (Planned::Closes(Ending::OutOfMemory), devices),
     }

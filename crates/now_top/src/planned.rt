@@ -6,6 +6,7 @@ ghost use Rattle.now_top.specs.Unkept.{ending_without as ending_of_fault};
 
 use capture::{Ended, RunEnd};
 use delivery::Ending;
+use prov_base::Bytes;
 use trial_keeping::TrialFault;
 
 /// What a command comes to.
@@ -15,6 +16,8 @@ pub enum Planned<'w> {
     Closes(Ending<'w>),
     /// A cut text.
     Slice(Vec<u8>),
+    /// A text that was read of the store.
+    Text(Bytes),
     /// A run that is over, and kept where it is to be.
     Ran(Ended),
     /// A run that is over and could not be kept.

@@ -1,7 +1,8 @@
 // `run --bare`: a script that is read and run.
-ghost use Rattle.std.specs.Prelude.{◌≡◌, Some, IfOk, IfErr};
+ghost use Rattle.std.specs.Prelude.{◌≡◌, Option, Some, IfOk, IfErr};
 ghost use Rattle.command_words.specs.Command.{run_bare as run_bare_command};
 ghost use Rattle.delivery.specs.Ending.{ending_of};
+ghost use Rattle.keeper.specs.Tables.{TablesView};
 ghost use Rattle.now_top.specs.Planned.{plan_of};
 ghost use Rattle.now_top.specs.Reading.{IsRefusedAs};
 ghost use Rattle.now_top.specs.Replies.{Prepares};
@@ -93,7 +94,7 @@ pub fn plan_run<'w, C: Console + Drop, F: Folder + Drop, M: Moments + Drop>(
     arguments: &[Name],
     mut devices: Devices<C, F, M>,
 ) -> (Planned<'w>, Devices<C, F, M>)
-    ensures { Prepares (Some (run_bare_command steps file.now arguments.now)) (record {
+    ensures { (tables : Option TablesView) → Prepares (Some (run_bare_command steps file.now arguments.now)) tables (record {
       console = C.told devices.console;
       folder = F.told devices.folder;
       moments = M.told devices.moments;

@@ -1,5 +1,5 @@
 use Rattle.std.proofs.Common.{refl, option_copied}
-use Rattle.delivery.specs.Ending.{done, uncaught, usage, refused, nothing_there, folder_failed, store_failed, out_of_memory, out_of_steps, collision, store_full}
+use Rattle.delivery.specs.Ending.{done, uncaught, usage, refused, nothing_there, folder_failed, store_failed, out_of_memory, out_of_steps, collision, store_full, damaged_trial}
 use Rattle.delivery.proofs.Finishing.{closed, not_closed}
 use Rattle.delivery.proofs.last_line.close.Goals as goal
 
@@ -39,3 +39,7 @@ returns-in-Collision-clause-closes g c = rw c.in-Collision.is
 
 pub returns-in-StoreFull-clause-closes : goal.returns-in-StoreFull-clause-closes
 returns-in-StoreFull-clause-closes g c = rw c.in-StoreFull.is (closed store_full 13 _ _ _ _ _ refl refl c.write_line-in-StoreFull.ensures.tries)
+
+pub returns-in-DamagedTrial-clause-closes : goal.returns-in-DamagedTrial-clause-closes
+returns-in-DamagedTrial-clause-closes g c = rw c.in-DamagedTrial.is
+    (c.close_made-in-DamagedTrial.ensures.closes (damaged_trial c.in-DamagedTrial.trial c.in-DamagedTrial.detail.now) c.damaged_line.ensures refl refl refl)

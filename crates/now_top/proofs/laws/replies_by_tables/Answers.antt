@@ -1,0 +1,13 @@
+use Rattle.now_top.proofs.Completing.{reply_so, fine_so, replies_so}
+use Rattle.now_top.proofs.OneMeaning.{one_reply}
+use Rattle.now_top.proofs.laws.replies_by_tables.Goals as goal
+
+pub returns-clause-one : goal.returns-clause-one
+returns-clause-one c = λ query tables one other a b. one_reply query tables one other a b
+
+pub returns-clause-replies : goal.returns-clause-replies
+returns-clause-replies c = λ words before after was is status so query tables word told five six seven eight.
+    let reply = reply_so words before after was is status so query tables word told (c.ends_in_one_way.ensures so.plan.ending so.plan.text so.plan.files so.ran.faults.put after.faults.put so.ran.folder after.folder so.ran.faults.write after.faults.write so.ran.console after.console status so.delivers.delivered) five six seven eight in
+    replies_so words before after was is status so query tables word reply
+    (c.no_fault_answered.ensures so.plan.ending so.plan.text so.plan.files so.ran.faults.put after.faults.put so.ran.folder after.folder so.ran.faults.write after.faults.write so.ran.console after.console status so.delivers.delivered (fine_so words before after was is status so query tables reply) five six eight)
+    (λ no_put no_write. c.no_count_rose.ensures so.plan.ending so.plan.text so.plan.files so.ran.faults.put after.faults.put so.ran.folder after.folder so.ran.faults.write after.faults.write so.ran.console after.console status so.delivers.delivered no_put no_write eight)
