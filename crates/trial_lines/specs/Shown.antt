@@ -7,6 +7,7 @@ use Rattle.hex.specs.Hex.{encode_lower}
 use Rattle.keeper.specs.declared.records.Head.{Head}
 use Rattle.prov_base.specs.declared.place.Digest.{Digest}
 use Rattle.prov_outside.specs.declared.folder.Found.{Found}
+use Rattle.py_model.specs.Printing.{literal}
 use Rattle.prov_outside.specs.declared.folder.Found.TheVariants.{Bytes, Absent, TooLarge, Failed}
 
 -- a word, a blank, what it says, and LF
@@ -35,6 +36,16 @@ abbrev pub middle_lines : Head → List ℕ → List ℕ → List ℕ
 middle_lines head started ended =
     line (codes "budget") (decimal head.budget) ++ line (codes "steps") (decimal head.steps) ++ line (codes "status") (decimal head.status)
     ++ parent_line head.parent ++ line (codes "started") started ++ line (codes "ended") ended
+
+-- ---- arguments
+
+-- an argument, as a literal
+abbrev pub argument_line : List ℕ → List ℕ
+argument_line argument = line (codes "argument") (literal argument)
+
+abbrev pub argument_lines : List (List ℕ) → List ℕ
+argument_lines [] = []
+argument_lines (argument ∷ arguments) = argument_line argument ++ argument_lines arguments
 
 -- ---- contents
 

@@ -4,9 +4,13 @@
 //! A line is a word, a blank, what it says, and LF. Digests are SHA-1, in 40 lower-case hexadecimal digits.
 #![tactic(auto)]
 
+mod arguments;
 mod contents;
+mod functions;
 mod heads;
 mod lines;
 
+pub use arguments::push_arguments;
 pub use contents::{push_finals, push_inputs, push_output};
+pub use functions::push_functions;
 pub use heads::{push_middle, push_opening};
