@@ -6,11 +6,13 @@
 
 mod arguments;
 mod contents;
+mod details;
 mod functions;
 mod heads;
 mod lines;
 
 pub use arguments::push_arguments;
 pub use contents::{push_finals, push_inputs, push_output};
+pub use details::detail_text;
 pub use functions::push_functions;
 pub use heads::{push_middle, push_opening};
