@@ -11,8 +11,8 @@ use prov_base::{Bytes, Name};
 use prov_outside::{MemoryConsole, MemoryFolder, MemoryMoments};
 use std::alloc::{AllocError, Global};
 
-/// The one file of the folder, the numbers of the calls of the console, of the folder and of the store of trials that fail, where 0 is none, and whether a call of the
-/// program is made twice over one store.
+/// The one file of the folder, the numbers of the calls of the console, of the folder and of the store of trials that fail, where 0 is none, what the clock answers in
+/// each call of the program, the words of the calls that are made over the same store before, and whether a call of the program is made twice.
 #[derive(Drop)]
 pub struct Bench {
     path: String,
@@ -20,6 +20,8 @@ pub struct Bench {
     console_fails: u64,
     folder_fails: u64,
     store_fails: u64,
+    clock: Vec<i64>,
+    before: Vec<String>,
     is_twice: bool,
 }
 
@@ -31,6 +33,8 @@ impl Bench {
             console_fails: 0,
             folder_fails: 0,
             store_fails: 0,
+            clock: vec![in alloc; 5, 8]?,
+            before: Vec::new(alloc),
             is_twice: false,
         })
     }
@@ -78,10 +82,22 @@ impl Bench {
                 self.folder_fails = number(folder);
             }
             "store" => self.store_fails = number(words),
+            "clock" => self.clock = times_of(alloc, words)?,
+            "before" => self.put_before(alloc, words)?,
             "twice" => self.is_twice = number(words) == 1,
             _ => return Ok(false),
         }
         Ok(true)
+    }
+
+    /// Puts the words of a call behind those that are made before, or forgets these where there are none.
+    fn put_before(&mut self, alloc: Global, words: &str) -> Result<(), AllocError> {
+        if words.is_empty() {
+            self.before = Vec::new(alloc);
+            return Ok(());
+        }
+        self.before.push(String::from_str(alloc, words)?)?;
+        Ok(())
     }
 
     /// Puts a text behind the file's so many times.
@@ -125,7 +141,7 @@ impl Bench {
         Ok(Devices {
             console: self.console(alloc)?,
             folder: self.folder(alloc)?,
-            moments: MemoryMoments::of(vec![in alloc; 5, 8]?, Vec::new(alloc), Vec::new(alloc)),
+            moments: MemoryMoments::of(self.clock.clone()?, Vec::new(alloc), Vec::new(alloc)),
         })
     }
 
@@ -143,11 +159,24 @@ impl Bench {
         Ok(MemoryKeeper::of(tables, failing))
     }
 
+    /// Makes the calls of the program that come before.
+    fn call_before(&self, alloc: Global, keeper: &mut MemoryKeeper) -> Result<(), AllocError>
+        requires { keeper.old.held.is_open ≡ false }
+        ensures { keeper.new.held.is_open ≡ false }
+    {
+        for words in &self.before {
+            let list = words_of(alloc, words.as_str())?;
+            let _ = now(alloc, &list, self.devices(alloc)?, keeper);
+        }
+        Ok(())
+    }
+
     /// Makes a call of the program, its words with `|` between them. It writes the status, what stands on the console, whether the
     /// file is another one afterwards, what stands at `out.txt` and at `more.txt`, and the last trial of the store, if there is one.
     fn call(&mut self, alloc: Global, words: &str, out: &mut Vec<u8>) -> Result<(), AllocError> {
         let list = words_of(alloc, words)?;
         let mut keeper = self.keeper(alloc)?;
+        self.call_before(alloc, &mut keeper)?;
         if self.is_twice {
             let _ = now(alloc, &list, self.devices(alloc)?, &mut keeper);
         }
@@ -201,6 +230,15 @@ fn write_file(
         write_rows(alloc, out, bytes)?;
     }
     Ok(())
+}
+
+/// Times in nanoseconds, with blanks between them.
+fn times_of(alloc: Global, words: &str) -> Result<Vec<i64>, AllocError> {
+    let mut times = Vec::new(alloc);
+    for word in words.split_whitespace() {
+        times.push(word.parse::<i64>().unwrap_or(0))?;
+    }
+    Ok(times)
 }
 
 /// The words of a call, with `|` between them.
