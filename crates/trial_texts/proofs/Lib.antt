@@ -2,3 +2,4 @@ mod Columns
 mod Instants
 mod Periods
 mod Written
+pub mod Parts

@@ -1,4 +1,5 @@
 pub mod Dates
 pub mod Lines
 pub mod Lists
+pub mod Shows
 pub mod Stages

@@ -41,6 +41,16 @@ pub(crate) fn start_column(alloc: Global, started: Option<i64>) -> Result<String
     }
 }
 
+/// When a run began or ended.
+pub(crate) fn moment_text(alloc: Global, moment: Option<i64>) -> Result<String, AllocError>
+    ensures { IfOk result (λ text. string_bytes text ≡ start_text moment) }
+{
+    match moment {
+        Some(instant) => second_text(alloc, instant, second_of(instant)),
+        None => String::from_str(alloc, "-"),
+    }
+}
+
 /// How dates are written, at instants where a calendar may go wrong.
 pub fn dates_are_written()
     ensures epoch { instant_text (pos 0) ≡ codes "1970-01-01T00:00:00Z" }
