@@ -1,4 +1,5 @@
-// The database file: its folder, and its opening at the first task.
+// The database file: its folder, and its opening at the first task. One function alone performs tasks at the connection, for each that does costs a
+// check 25 s: it reads all of `sqlite` at this kind of file.
 use crate::fault::fault_of;
 use crate::tasks::{Task, perform};
 use keeper::KeepFault;

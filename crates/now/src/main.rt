@@ -1,14 +1,17 @@
-// The program: the top call over the real console, the current folder, the system's clock and random words, and a store of trials in memory, which ends with
-// it. Its exit status is the call's.
+// The program: the top call over the real console, the current folder, the system's clock and random words, and the store of trials in the current folder. Its
+// exit status is the call's.
 #![tactic(auto)]
 
-ghost use Rattle.std.specs.Prelude.{◌≡◌, false};
+ghost use Rattle.std.specs.Prelude.{◌≡◌, false, IfOk};
 
 use answer_source::Devices;
-use memory_keeper::{MemoryKeeper, Tables};
+use keeper::Keeper;
+use keeper_sqlite::SqliteKeeper;
 use now_top::now;
+use prov_base::Name;
 use prov_outside::Console;
 use prov_real::{RealConsole, RealFolder, RealMoments};
+use std::alloc::AllocError;
 use std::process::ExitCode;
 use std::{env, io};
 
@@ -17,18 +20,18 @@ fn words(rt: &HostRuntime) -> io::Result<Vec<String>> {
     Ok(env::args(rt)?.skip(1).collect(rt.alloc())?)
 }
 
-/// An empty store of trials.
-fn store(rt: &HostRuntime) -> MemoryKeeper
-    ensures { result.held.is_open ≡ false }
+/// The store of trials in the current folder, which nothing opens before its first call.
+fn store<'a>(rt: &'a HostRuntime) -> Result<SqliteKeeper<'a>, AllocError>
+    ensures { IfOk result (λ keeper. ⟦<SqliteKeeper<'a> as Keeper>⟧.is_open keeper ≡ false) }
 {
-    let alloc = rt.alloc();
-    let tables = Tables {
-        heads: Vec::new(alloc),
-        pages: Vec::new(alloc),
-        contents: Vec::new(alloc),
-        current: Vec::new(alloc),
-    };
-    MemoryKeeper::of(tables, Vec::new(alloc))
+    let path = String::from_str(rt.alloc(), ".noworkflow/db.sqlite")?;
+    Ok(SqliteKeeper::at(rt, Name::of(path)))
+}
+
+/// The end of the program for want of memory. The status stands, whether its line comes through or not.
+fn out_of_memory(rt: &HostRuntime, console: &mut RealConsole<'_>) -> ExitCode {
+    let _ = console.write(rt.alloc(), b"now: out of memory\n");
+    ExitCode::from(8)
 }
 
 fn main(rt: HostRuntime) -> ExitCode {
@@ -36,19 +39,19 @@ fn main(rt: HostRuntime) -> ExitCode {
     let words = match words(&rt) {
         Ok(words) => words,
         Err(error) if error.kind() == io::ErrorKind::OutOfMemory => {
-            // The status stands, whether its line comes through or not.
-            let _ = console.write(rt.alloc(), b"now: out of memory\n");
-            return ExitCode::from(8);
+            return out_of_memory(&rt, &mut console);
         }
         // Words that are no text are no command, and neither are none.
         Err(_) => Vec::new(rt.alloc()),
+    };
+    let Ok(mut keeper) = store(&rt) else {
+        return out_of_memory(&rt, &mut console);
     };
     let devices = Devices {
         console,
         folder: RealFolder::new(&rt),
         moments: RealMoments::new(&rt),
     };
-    let mut keeper = store(&rt);
     let (status, _) = now(rt.alloc(), &words, devices, &mut keeper);
     ExitCode::from(status)
 }
