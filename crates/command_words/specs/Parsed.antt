@@ -1,5 +1,5 @@
 -- What the program's values, whose parts are borrowed from the words, stand for.
-use Rattle.std.specs.Prelude.{ℕ, List, map, option_copied}
+use Rattle.std.specs.Prelude.{option_copied}
 use Rattle.command_words.specs.Command as spec
 use Rattle.command_words.specs.declared.command.Command as code
 use Rattle.command_words.specs.declared.command.Command.TheVariants.{Cut, RunBare, RunKept, Reads}

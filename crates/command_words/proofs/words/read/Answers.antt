@@ -1,4 +1,4 @@
-use Rattle.std.proofs.Common.{◌≡◌, sym, ap, ◌∙◌, map}
+use Rattle.std.proofs.Common.{sym, ap, ◌∙◌, map}
 use Rattle.std.specs.String.{string_bytes}
 use Rattle.command_words.proofs.Positionals.{other_words}
 use Rattle.command_words.proofs.words.read.Goals as goal
