@@ -26,8 +26,8 @@ stays None (Some new) same told = absurd told
 stays (Some old) (Some new) same told = same old new told
 
 listed : (was is : Option KeeperView) (is_open : Bool) (text : List ℕ) → Tells was is (ListsTrials (Ok text)) → IfSome is (AreKept is_open) → is_open ≡ false → IsAnswer list_query (tables_in was is) (telling text)
-listed None is is_open text lists kept closed = untold (telling text) refl
-listed (Some old) None is_open text lists kept closed = untold (telling text) refl
+listed None is is_open text lists kept closed = untold text
+listed (Some old) None is_open text lists kept closed = untold text
 listed (Some old) (Some new) is_open text lists kept closed =
     replied old.committed (telling text) (ap telling (lists.0 ∙ ap (λ (view : KeeperView). list_bytes view.seen.heads) (sym lists.1) ∙ ap (λ (tables : TablesView). list_bytes tables.heads) (kept.closed closed)
     ∙ ap (λ (view : KeeperView). list_bytes view.committed.heads) lists.1))

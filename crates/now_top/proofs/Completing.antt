@@ -265,7 +265,7 @@ module _ (words : List (List ℕ)) (before after : Seen) (was is : Stored) (stat
     completes_by made plan (meant one same is) fails means ends = by_way plan.ending (subst (λ (p : Plan). Ends p.ending so.ran.faults.put after.faults.put so.ran.faults.write after.faults.write status) (one_plan made plan is means) ends)
     completes_by made plan (unread one word path rose un) fails means ends = by_unread (file_of one) plan.ending (source_rose rose) ends
     completes_by made plan (store_unread query word same un) fails means ends = by_fault plan.ending (fails query word refl) ends
-    completes_by made plan (untold query one word none files same un) fails means ends = absurd (no_meaning query word none plan means)
+    completes_by made plan (untold query one word none same un) fails means ends = absurd (no_meaning query word none plan means)
     completes_by made plan (lacks_memory same) fails means ends = by_lack plan.ending ends
 
     -- by what came of the keeping
@@ -335,7 +335,7 @@ module _ (words : List (List ℕ)) (before after : Seen) (was is : Stored) (stat
   meant_by made (meant one same is) told seven quiet room = is
   meant_by made (unread one word path rose un) told seven quiet room = absurd (quiet (source_rose rose))
   meant_by made (store_unread query word same un) told seven quiet room = absurd (seven query word refl)
-  meant_by made (untold query one word none files same un) told seven quiet room = absurd (not_told_in command query tables word none told)
+  meant_by made (untold query one word none same un) told seven quiet room = absurd (not_told_in command query tables word none told)
   meant_by made (lacks_memory same) told seven quiet room = absurd (room refl)
 
   pub whole_so : IsTold command tables → (Rose before.faults.source after.faults.source → ⊥) → (Rose was.faults is.faults → ⊥) → (status ≡ 8 → ⊥) → (status ≡ 10 → ⊥) → (status ≡ 13 → ⊥)
@@ -359,7 +359,7 @@ module _ (words : List (List ℕ)) (before after : Seen) (was is : Stored) (stat
   meant_at made (meant one same is) told seven six room = is
   meant_at made (unread one word path rose un) told seven six room = absurd (six refl)
   meant_at made (store_unread query word same un) told seven six room = absurd (seven refl)
-  meant_at made (untold query one word none files same un) told seven six room = absurd (not_told_in command query tables word none told)
+  meant_at made (untold query one word none same un) told seven six room = absurd (not_told_in command query tables word none told)
   meant_at made (lacks_memory same) told seven six room = absurd (room refl)
 
   -- a status that tells of no fault and of no want of memory is the planned one
@@ -503,7 +503,7 @@ module _ (words : List (List ℕ)) (before after : Seen) (was is : Stored) (stat
       inl means.1
   planned_by query told made word is_told (unread one other path rose un) = absurd (no_file query one (sym other ∙ word) path)
   planned_by query told made word is_told (store_unread one other same un) = inr (inl refl)
-  planned_by query told made word is_told (untold one plan other none files same un) = absurd (none_told told (sym none ∙ is_told))
+  planned_by query told made word is_told (untold one text other none same un) = absurd (none_told told (sym none ∙ is_told))
   planned_by query told made word is_told (lacks_memory same) = inr (inr refl)
 
   -- a question's plan stays as it was made

@@ -1,18 +1,19 @@
 -- What a question to the store comes to over any keeper (this project's profile).
-use Rattle.std.specs.Prelude.{◌≡◌, [], Option, Some, None}
+use Rattle.std.specs.Prelude.{◌≡◌, ℕ, List, Option, Some, None}
 use Rattle.command_words.specs.declared.command.Query.{Query}
 use Rattle.delivery.specs.Ending.{store_failed, out_of_memory}
 use Rattle.keeper.specs.Keeping.{KeeperView, LeavesAmong}
 use Rattle.keeper.specs.Tables.{TablesView}
 use Rattle.prov_outside.specs.Tells.{Tells}
 use Rattle.now_top.specs.Kept.{Stored, IsRead, tables_told}
-use Rattle.now_top.specs.Reply.{Reply}
+use Rattle.now_top.specs.Reply.{Reply, telling}
 use Rattle.now_top.specs.World.{Plan, closing}
 
--- The reply by the tables, where they are told; or the store failed, or memory ran out. Over a store that does not tell nothing is said of the text.
+-- The reply by the tables, where they are told; or the store failed, or memory ran out. Over a store that does not tell it is some text, with no closing line and
+-- status 0.
 pub data IsAnswer (query : Query) : Option TablesView → Plan → Type 0 where
   replied : (tables : TablesView) (plan : Plan) → Reply query tables plan → IsAnswer query (Some tables) plan
-  untold : (plan : Plan) → plan.files ≡ [] → IsAnswer query None plan
+  untold : (text : List ℕ) → IsAnswer query None (telling text)
   failed : (tables : Option TablesView) → IsAnswer query tables (closing store_failed)
   lacking : (tables : Option TablesView) → IsAnswer query tables (closing out_of_memory)
 
