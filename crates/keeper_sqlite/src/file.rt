@@ -71,14 +71,17 @@ impl<'a> StoreFile<'a> {
     }
 }
 
-// Makes the folder in which the file stands, where it is absent.
+// Makes the folder in which the file stands, where it is absent, but none above it.
 fn make_folder(rt: &HostRuntime, path: &str) -> Result<(), KeepFault> {
     let Some((folder, _)) = path.rsplit_once('/') else {
         return Ok(());
     };
     match fs::create_dir(rt, folder) {
         Ok(()) => Ok(()),
-        Err(error) if error.kind() == ErrorKind::AlreadyExists => Ok(()),
-        Err(_) => Err(KeepFault::Failed),
+        Err(error) => match error.kind() {
+            ErrorKind::AlreadyExists => Ok(()),
+            ErrorKind::OutOfMemory => Err(KeepFault::Memory),
+            _ => Err(KeepFault::Failed),
+        },
     }
 }

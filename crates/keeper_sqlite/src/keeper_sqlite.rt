@@ -15,8 +15,8 @@ const MOST_TRIALS: u64 = 4_294_967_295;
 
 /// The store of trials in a database file. It tells nothing of its tables, and counts its faults.
 ///
-/// Its first call makes the file's folder and the file where they are absent, and opens it. It collects what is
-/// written in memory, and `commit` writes that in one transaction.
+/// Its first call that asks the file makes the file's folder and the file where they are absent, and opens it. It
+/// collects what is written in memory, and `commit` writes that in one transaction.
 #[derive(Drop)]
 pub struct SqliteKeeper<'a> {
     file: StoreFile<'a>,
