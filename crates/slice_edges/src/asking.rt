@@ -169,7 +169,7 @@ impl Asking {
         writers_at(&self.writers, at)
     }
 
-    /// Which statement asks for which, each pair once, in the order in which they came.
+    /// Which statement asks for which, each pair once.
     pub fn edges(&self) -> &[Ask]
         ensures asked { (view : ValuesView) (script : ScriptTree) (told : List Moment) → HasAsked view script self.now told
             → (s r : ℕ) → among result.now s r ≡ some_asks (run_asks script told) s r }
