@@ -3,3 +3,4 @@ mod Instants
 mod Periods
 mod Written
 pub mod Parts
+mod Shown
