@@ -24,7 +24,8 @@ impl Left for Rest {
     }
 
     fn let_go(self) {
-        drop_held(self.held)
+        let Rest { held } = self;
+        drop_held(held)
     }
 }
 
