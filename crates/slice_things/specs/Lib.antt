@@ -1,2 +1,4 @@
 pub mod Counts
 pub mod Forms
+pub mod Held
+pub mod Orders

@@ -9,6 +9,8 @@
 
 mod counts;
 mod forms;
+mod held;
 
 pub use counts::Counts;
 pub use forms::Forms;
+pub use held::Held;
