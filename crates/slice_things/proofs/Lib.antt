@@ -1,3 +1,4 @@
 pub mod CountLaws
 pub mod FormLaws
 pub mod OrderLaws
+pub mod OrderMaps

@@ -10,6 +10,7 @@
 mod counts;
 mod forms;
 mod held;
+mod orders;
 
 pub use counts::Counts;
 pub use forms::Forms;
