@@ -2,3 +2,4 @@ pub mod CountLaws
 pub mod FormLaws
 pub mod OrderLaws
 pub mod OrderMaps
+pub mod ThingLaws

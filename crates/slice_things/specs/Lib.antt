@@ -2,3 +2,4 @@ pub mod Counts
 pub mod Forms
 pub mod Held
 pub mod Orders
+pub mod Things

@@ -1,17 +1,23 @@
 //! What the rows of a trial leave of its objects, as far as it matters for what is reachable: kinds, lengths, what stands in items and entries,
-//! and which keys stand in orders.
+//! and which keys stand in orders. One pass over the rows, in order.
 //!
 //! Equal keys have one form ([`Forms`]): a truth value is the integer 0 or 1, inside tuples too. Forms are numbered apart from the tuples of
-//! the trial, so the trial's numbers stay as they are.
+//! the trial, so the trial's numbers stay as they are. `specs/Things.antt` says what is known after rows, of the store just after them.
 //!
 //! - [`Forms::of`]: the forms of all texts and tuples of a trial.
+//! - [`Things::new`]: what is known before all rows.
+//! - [`Things::pass`]: what is known before a row becomes what is known after it.
+//!
+//! A call that always answers want of memory meets these clauses: that it succeeds is not tested yet.
 #![tactic(auto)]
 
 mod counts;
 mod forms;
 mod held;
 mod orders;
+mod things;
 
 pub use counts::Counts;
 pub use forms::Forms;
 pub use held::Held;
+pub use things::{Shape, Things};
