@@ -10,11 +10,12 @@ use Rattle.py_value.specs.Values.{ValuesView, AreInterned, IsNamed}
 use Rattle.py_value.proofs.Equality.{value_same, value_own}
 use Rattle.py_value.proofs.SameContents.{same_contents}
 use Rattle.py_value.proofs.SameTests.{value_same as contents_same, value_own as contents_own}
+use Rattle.row_words.specs.Fits.{Each}
 use Rattle.slice_law.specs.Closed.{IsIn}
 use Rattle.slice_things.specs.declared.forms.Forms.{Forms}
 use Rattle.slice_things.specs.Counts.{count_of, at_least_one, inserted, deleted}
 use Rattle.slice_things.specs.Forms.{form_in, AreForms}
-use Rattle.slice_things.specs.Orders.{how_often, HasForm, AreCounts}
+use Rattle.slice_things.specs.Orders.{how_often, IsPlain, HasForm, AreCounts}
 
 pub same_tests : (a b : Bool) → (a ≡ true → b ≡ true) → (b ≡ true → a ≡ true) → a ≡ b
 same_tests true b there back = sym (there refl)
@@ -143,15 +144,15 @@ module _ (view : ValuesView) (forms : Forms) (are : AreForms view forms) where
       let formed = are.each key known in
       form_test f (form_in forms.numbers.items key) named formed.named ∙ ap (same_value (contents forms.values f)) formed.form_is
 
-  has_form : (key : Value) → IsNamed view key → HasForm forms (contents view key)
-  has_form key known = let formed = are.each key known in record { form = form_in forms.numbers.items key; named = formed.named; form_is = formed.form_is }
+  has_form : (key : Value) → IsNamed view key → IsPlain view key → HasForm forms (contents view key)
+  has_form key known plain = let formed = are.each key known in record { form = form_in forms.numbers.items key; named = formed.named; form_is = formed.form_is; plain = plain }
 
   pub none_counted : AreCounts forms (λ f. 0) []
   none_counted = record { counted = λ f named. refl; formed = λ key is. absurd is }
 
-  pub key_inserted : (counts : Value → ℕ) (keys : List Contents) (key : Value) → IsNamed view key → AreCounts forms counts keys
+  pub key_inserted : (counts : Value → ℕ) (keys : List Contents) (key : Value) → IsNamed view key → IsPlain view key → AreCounts forms counts keys
       → AreCounts forms (λ f. inserted (form_in forms.numbers.items key) f (counts f)) (with_key (contents view key) keys)
-  key_inserted counts keys key known before = record {
+  key_inserted counts keys key known plain before = record {
     counted = λ f named.
         ap (λ b. if b then at_least_one (counts f) else counts f) (key_test f key named known)
         ∙ ap (λ n. if same_value (contents forms.values f) (normal (contents view key)) then at_least_one n else n) (before.counted f named)
@@ -161,7 +162,7 @@ module _ (view : ValuesView) (forms : Forms) (are : AreForms view forms) where
     where
       by : (c : Contents) → IsIn keys c ⊎ (contents view key ≡ c) → HasForm forms c
       by c (inl is) = before.formed c is
-      by c (inr is) = subst (HasForm forms) is (has_form key known)
+      by c (inr is) = subst (HasForm forms) is (has_form key known plain)
 
   pub key_deleted : (counts : Value → ℕ) (keys : List Contents) (key : Value) → IsNamed view key → AreCounts forms counts keys
       → AreCounts forms (λ f. deleted (form_in forms.numbers.items key) f (counts f)) (without_key (contents view key) keys)
@@ -173,23 +174,23 @@ module _ (view : ValuesView) (forms : Forms) (are : AreForms view forms) where
     formed = λ c is. before.formed c (in_without (contents view key) c keys is);
   }
 
-  pub keys_counted : (keys : List Value) → ((i : ℕ) (key : Value) → slice_get keys i ≡ Some key → IsNamed view key) → AreCounts forms (λ f. count_of forms.numbers.items f keys) (map (contents view) keys)
-  keys_counted [] known = none_counted
-  keys_counted (key ∷ keys) known = both (known 0 key refl) (keys_counted keys (λ i other at. known (suc i) other at))
+  pub keys_counted : (keys : List Value) → ((i : ℕ) (key : Value) → slice_get keys i ≡ Some key → IsNamed view key) → Each (IsPlain view) keys → AreCounts forms (λ f. count_of forms.numbers.items f keys) (map (contents view) keys)
+  keys_counted [] known plain = none_counted
+  keys_counted (key ∷ keys) known plain = both (known 0 key refl) plain.0 (keys_counted keys (λ i other at. known (suc i) other at) plain.1)
     where
       one : (b : Bool) (n : ℕ) → (if b then 1 else 0) + n ≡ (if b then suc n else n)
       one true n = omega arith
       one false n = omega arith
 
-      by : IsNamed view key → AreCounts forms (λ f. count_of forms.numbers.items f keys) (map (contents view) keys) → (c : Contents) → (contents view key ≡ c) ⊎ IsIn (map (contents view) keys) c → HasForm forms c
-      by here rest c (inl is) = subst (HasForm forms) is (has_form key here)
-      by here rest c (inr later) = rest.formed c later
+      by : IsNamed view key → IsPlain view key → AreCounts forms (λ f. count_of forms.numbers.items f keys) (map (contents view) keys) → (c : Contents) → (contents view key ≡ c) ⊎ IsIn (map (contents view) keys) c → HasForm forms c
+      by here plainly rest c (inl is) = subst (HasForm forms) is (has_form key here plainly)
+      by here plainly rest c (inr later) = rest.formed c later
 
-      both : IsNamed view key → AreCounts forms (λ f. count_of forms.numbers.items f keys) (map (contents view) keys) → AreCounts forms (λ f. count_of forms.numbers.items f (key ∷ keys)) (map (contents view) (key ∷ keys))
-      both here rest = record {
+      both : IsNamed view key → IsPlain view key → AreCounts forms (λ f. count_of forms.numbers.items f keys) (map (contents view) keys) → AreCounts forms (λ f. count_of forms.numbers.items f (key ∷ keys)) (map (contents view) (key ∷ keys))
+      both here plainly rest = record {
         counted = λ f named.
             one (values.eq (form_in forms.numbers.items key) f) (count_of forms.numbers.items f keys)
             ∙ ap (λ b. if b then suc (count_of forms.numbers.items f keys) else count_of forms.numbers.items f keys) (key_test f key named here)
             ∙ ap (λ n. if same_value (contents forms.values f) (normal (contents view key)) then suc n else n) (rest.counted f named);
-        formed = λ c is. by here rest c is;
+        formed = λ c is. by here plainly rest c is;
       }

@@ -35,7 +35,7 @@ use Rattle.slice_things.specs.declared.things.Things.{Things}
 use Rattle.slice_things.specs.Counts.{often, count_of, inserted, deleted}
 use Rattle.slice_things.specs.Forms.{form_in, AreForms}
 use Rattle.slice_things.specs.Held.{held_in, placed, noted_at, noted_after, held_seen, holds_nothing, holds_length, what_stands, Agrees}
-use Rattle.slice_things.specs.Orders.{order_in, order_object, keys_in, at_object, changed_often, often_after, AreCounts}
+use Rattle.slice_things.specs.Orders.{order_in, order_object, keys_in, at_object, changed_often, often_after, AreCounts, IsPlain, IsPlainChange}
 use Rattle.slice_things.specs.Things.{HoldsStore, shape_seen, after_one, after_all, IsNormalLocation, IsNormalAccess}
 use Rattle.slice_things.proofs.OrderLaws.{same_tests, none_counted, key_inserted as key_in, key_deleted as key_out, keys_counted}
 
@@ -157,11 +157,25 @@ module _ (view : ValuesView) (forms : Forms) (interned : AreInterned view) (are 
   next_place (Read m) at l old named is also before = before
   next_place (Set m content) at l old named is also before =
       agrees_if (locations.eq (placed forms.numbers.items m) l) (same_location (location_seen view m) (location_seen forms.values l)) (held_in content) old (content_seen view content) (at (location_seen forms.values l))
-      (place_test m l named.0 is also) (content_stands view content) before
+      (place_test m l named.0 is.0 also) (content_stands view content) before
   next_place (Update m change) at l old named is also before =
       agrees_if (locations.eq (placed forms.numbers.items m) l) (same_location (location_seen view m) (location_seen forms.values l)) Nothing old
       (changed (change_seen view change) (at (location_seen view m))) (at (location_seen forms.values l))
-      (place_test m l named.0 is also) (sym (change_stands (change_seen view change) (at (location_seen view m)))) before
+      (place_test m l named.0 is.0 also) (sym (change_stands (change_seen view change) (at (location_seen view m)))) before
+
+  known_if : (m l : Location) (held old : Held) → IsNamedLocation view m → IsNamedLocation forms.values l ⊎ (old ≡ Nothing)
+      → IsNamedLocation forms.values l ⊎ ((if locations.eq (placed forms.numbers.items m) l then held else old) ≡ Nothing)
+  known_if m l held old named before = by (locations.eq (placed forms.numbers.items m) l) refl
+    where
+      by : (b : Bool) → locations.eq (placed forms.numbers.items m) l ≡ b → IsNamedLocation forms.values l ⊎ ((if b then held else old) ≡ Nothing)
+      by true is = inl (subst (IsNamedLocation forms.values) (number_same (placed forms.numbers.items m) l is) (placed_named m named))
+      by false is = before
+
+  next_known : (access : Access) (l : Location) (old : Held) → NamesAccess view access → IsNamedLocation forms.values l ⊎ (old ≡ Nothing)
+      → IsNamedLocation forms.values l ⊎ (noted_after forms.numbers.items access l old ≡ Nothing)
+  next_known (Read m) l old named before = before
+  next_known (Set m content) l old named before = known_if m l (held_in content) old named.0 before
+  next_known (Update m change) l old named before = known_if m l Nothing old named.0 before
 
   -- ---- orders
 
@@ -200,58 +214,58 @@ module _ (view : ValuesView) (forms : Forms) (interned : AreInterned view) (are 
       (counts_same (λ f. if is_object (order_object m) o then now f else old f) (λ f. at_object (order_object m) o (now f) (old f)) (standing (if is_object (order_object m) o then Some content else before))
       (λ f. at_object_is (order_object m) o (now f) (old f)) (counts_if (is_object (order_object m) o) now old content before here earlier))
 
-  content_counts : (content : Content) → IsNamedContent view content → AreCounts forms (λ f. count_of forms.numbers.items f (keys_in content)) (standing (Some (content_seen view content)))
-  content_counts content named = subst (AreCounts forms (λ f. count_of forms.numbers.items f (keys_in content))) (sym (content_keys view content)) (by content named)
+  content_counts : (content : Content) → IsNamedContent view content → Each (IsPlain view) (keys_in content) → AreCounts forms (λ f. count_of forms.numbers.items f (keys_in content)) (standing (Some (content_seen view content)))
+  content_counts content named plain = subst (AreCounts forms (λ f. count_of forms.numbers.items f (keys_in content))) (sym (content_keys view content)) (by content named plain)
     where
-      by : (content : Content) → IsNamedContent view content → AreCounts forms (λ f. count_of forms.numbers.items f (keys_in content)) (map (contents view) (keys_in content))
-      by (OrderContent keys) named = keys_counted view forms are keys named
-      by (VarContent v) named = none_counted view forms are
-      by (LenContent n) named = none_counted view forms are
-      by (ItemContent v) named = none_counted view forms are
-      by (EntryContent entry) named = none_counted view forms are
-      by (FileContent bytes) named = none_counted view forms are
-      by (OffsetContent n) named = none_counted view forms are
-      by (ClosedContent b) named = none_counted view forms are
-      by (MethodContent at) named = none_counted view forms are
-      by (BaseContent v) named = none_counted view forms are
+      by : (content : Content) → IsNamedContent view content → Each (IsPlain view) (keys_in content) → AreCounts forms (λ f. count_of forms.numbers.items f (keys_in content)) (map (contents view) (keys_in content))
+      by (OrderContent keys) named plain = keys_counted view forms are keys named plain
+      by (VarContent v) named plain = none_counted view forms are
+      by (LenContent n) named plain = none_counted view forms are
+      by (ItemContent v) named plain = none_counted view forms are
+      by (EntryContent entry) named plain = none_counted view forms are
+      by (FileContent bytes) named plain = none_counted view forms are
+      by (OffsetContent n) named plain = none_counted view forms are
+      by (ClosedContent b) named plain = none_counted view forms are
+      by (MethodContent at) named plain = none_counted view forms are
+      by (BaseContent v) named plain = none_counted view forms are
 
   -- the change is made at the order, or elsewhere
-  change_counts : (change : Change) → IsNamedChange view change → (old : Value → ℕ) (before : Option SeenContent) → AreCounts forms old (standing before)
+  change_counts : (change : Change) → IsNamedChange view change → IsPlainChange view change → (old : Value → ℕ) (before : Option SeenContent) → AreCounts forms old (standing before)
       → AreCounts forms (λ f. changed_often forms.numbers.items change f (old f)) (standing (Some (changed (change_seen view change) before)))
-  change_counts (Insert key) named old before earlier =
-      subst (AreCounts forms (λ f. inserted (form_in forms.numbers.items key) f (old f))) (sym (inserted_keys (contents view key) before)) (key_in view forms are old (standing before) key named earlier)
-  change_counts (Delete key) named old before earlier =
+  change_counts (Insert key) named plain old before earlier =
+      subst (AreCounts forms (λ f. inserted (form_in forms.numbers.items key) f (old f))) (sym (inserted_keys (contents view key) before)) (key_in view forms are old (standing before) key named plain earlier)
+  change_counts (Delete key) named plain old before earlier =
       subst (AreCounts forms (λ f. deleted (form_in forms.numbers.items key) f (old f))) (sym (deleted_keys (contents view key) before)) (key_out view forms are old (standing before) key named earlier)
-  change_counts (Append bytes) named old before earlier =
+  change_counts (Append bytes) named plain old before earlier =
       subst (AreCounts forms (λ f. 0)) (sym (appended_keys _ before)) (none_counted view forms are)
 
-  order_changed : (p o : ℕ) (at : SeenLocation → Option SeenContent) (old : Value → ℕ) (change : Change) → IsNamedChange view change → AreCounts forms old (standing (at (order_at o)))
+  order_changed : (p o : ℕ) (at : SeenLocation → Option SeenContent) (old : Value → ℕ) (change : Change) → IsNamedChange view change → IsPlainChange view change → AreCounts forms old (standing (at (order_at o)))
       → AreCounts forms (λ f. if p == o then changed_often forms.numbers.items change f (old f) else old f) (standing (if p == o then Some (changed (change_seen view change) (at (order_at p))) else at (order_at o)))
-  order_changed p o at old change named earlier = by (p == o) refl
+  order_changed p o at old change named plain earlier = by (p == o) refl
     where
       by : (b : Bool) → (p == o) ≡ b
           → AreCounts forms (λ f. if b then changed_often forms.numbers.items change f (old f) else old f) (standing (if b then Some (changed (change_seen view change) (at (order_at p))) else at (order_at o)))
       by true same =
           let is : o ≡ p = omega (arith, eqb-true p o same) in
           subst (λ q. AreCounts forms (λ f. changed_often forms.numbers.items change f (old f)) (standing (Some (changed (change_seen view change) (at (order_at q)))))) is
-          (change_counts change named old (at (order_at o)) earlier)
+          (change_counts change named plain old (at (order_at o)) earlier)
       by false same = earlier
 
-  next_order : (access : Access) (at : SeenLocation → Option SeenContent) (o : ℕ) (old : Value → ℕ) → NamesAccess view access → AreCounts forms old (standing (at (order_at o)))
+  next_order : (access : Access) (at : SeenLocation → Option SeenContent) (o : ℕ) (old : Value → ℕ) → NamesAccess view access → IsNormalAccess view access → AreCounts forms old (standing (at (order_at o)))
       → AreCounts forms (λ f. often_after forms.numbers.items access o f (old f)) (standing (after_access (access_seen view access) at (order_at o)))
-  next_order (Read m) at o old named earlier = earlier
-  next_order (Set m content) at o old named earlier =
-      counts_put m o (λ f. count_of forms.numbers.items f (keys_in content)) old (content_seen view content) (at (order_at o)) (content_counts content named.1) earlier
-  next_order (Update (Order p) change) at o old named earlier = order_changed p o at old change named.1 earlier
-  next_order (Update (Var scope name) change) at o old named earlier = earlier
-  next_order (Update (Len p) change) at o old named earlier = earlier
-  next_order (Update (Item p i) change) at o old named earlier = earlier
-  next_order (Update (Entry p key) change) at o old named earlier = earlier
-  next_order (Update (File path) change) at o old named earlier = earlier
-  next_order (Update (Offset p) change) at o old named earlier = earlier
-  next_order (Update (Closed p) change) at o old named earlier = earlier
-  next_order (Update (Method class name) change) at o old named earlier = earlier
-  next_order (Update (Base class) change) at o old named earlier = earlier
+  next_order (Read m) at o old named is earlier = earlier
+  next_order (Set m content) at o old named is earlier =
+      counts_put m o (λ f. count_of forms.numbers.items f (keys_in content)) old (content_seen view content) (at (order_at o)) (content_counts content named.1 is.1) earlier
+  next_order (Update (Order p) change) at o old named is earlier = order_changed p o at old change named.1 is.1 earlier
+  next_order (Update (Var scope name) change) at o old named is earlier = earlier
+  next_order (Update (Len p) change) at o old named is earlier = earlier
+  next_order (Update (Item p i) change) at o old named is earlier = earlier
+  next_order (Update (Entry p key) change) at o old named is earlier = earlier
+  next_order (Update (File path) change) at o old named is earlier = earlier
+  next_order (Update (Offset p) change) at o old named is earlier = earlier
+  next_order (Update (Closed p) change) at o old named is earlier = earlier
+  next_order (Update (Method class name) change) at o old named is earlier = earlier
+  next_order (Update (Base class) change) at o old named is earlier = earlier
 
   -- ---- all of it
 
@@ -263,9 +277,10 @@ module _ (view : ValuesView) (forms : Forms) (interned : AreInterned view) (are 
     kinds = ap (λ k. k.items) kinds ∙ before.kinds;
     places = λ l also. subst (λ held. Agrees (held_seen view held) (what_stands (after_access (access_seen view access) store.at (location_seen forms.values l)))) (sym (noted l))
         (next_place access store.at l (noted_at old.places.entries l) named is also (before.places l also));
+    known = λ l. subst (λ held. IsNamedLocation forms.values l ⊎ (held ≡ Nothing)) (sym (noted l)) (next_known access l (noted_at old.places.entries l) named (before.known l));
     orders = λ o. counts_same (λ f. often_after forms.numbers.items access o f (often f (order_in old.orders.entries o))) (λ f. often f (order_in new.orders.entries o))
         (standing (after_access (access_seen view access) store.at (order_at o))) (λ f. counted o f)
-        (next_order access store.at o (λ f. often f (order_in old.orders.entries o)) named (before.orders o));
+        (next_order access store.at o (λ f. often f (order_in old.orders.entries o)) named is (before.orders o));
   }
 
 -- ---- one access after the other
@@ -297,6 +312,7 @@ pub made_step : (view : ValuesView) (forms : Forms) (old new : Things) (store : 
 made_step view forms old new store kind shape before is kinds places orders = record {
   kinds = kinds ∙ ap (λ these. these ++ shape ∷ []) before.kinds ∙ ap (λ one. map shape_seen store.kinds ++ one ∷ []) is ∙ sym (map-append shape_seen store.kinds (kind ∷ []));
   places = λ l named. subst (λ map. Agrees (held_seen view (noted_at map.entries l)) (what_stands (store.at (location_seen forms.values l)))) (sym places) (before.places l named);
+  known = λ l. subst (λ map. IsNamedLocation forms.values l ⊎ (noted_at map.entries l ≡ Nothing)) (sym places) (before.known l);
   orders = λ o. subst (λ map. AreCounts forms (λ f. often f (order_in map.entries o)) (order_of store o)) (sym orders) (before.orders o);
 }
 
@@ -367,10 +383,23 @@ module _ (forms : Forms) (view : ValuesView) (files : List (List ℕ × List ℕ
     opening_place (Method class name) = items_plain 0 (path ∷ arguments) (location_seen forms.values (Method class name))
     opening_place (Base class) = items_plain 0 (path ∷ arguments) (base_at class)
 
+    opening_known : (l : Location) → IsNamedLocation forms.values l ⊎ (noted_at first_places l ≡ Nothing)
+    opening_known (Var scope name) = inr refl
+    opening_known (Len o) = inl tt
+    opening_known (Item o i) = inl tt
+    opening_known (Entry o key) = inr refl
+    opening_known (Order o) = inl tt
+    opening_known (File name) = inr refl
+    opening_known (Offset o) = inl tt
+    opening_known (Closed o) = inl tt
+    opening_known (Method class name) = inr refl
+    opening_known (Base class) = inl tt
+
     pub opening_holds : (things : Things) → things.kinds.items ≡ ListShape ∷ [] → things.places.entries ≡ first_places → things.orders.entries ≡ [] → HoldsStore view forms things (opening path arguments files)
     opening_holds things kinds places orders = record {
       kinds = kinds;
       places = λ l named. subst (λ entries. Agrees (held_seen view (noted_at entries l)) (what_stands ((opening path arguments files).at (location_seen forms.values l)))) (sym places) (opening_place l);
+      known = λ l. subst (λ entries. IsNamedLocation forms.values l ⊎ (noted_at entries l ≡ Nothing)) (sym places) (opening_known l);
       orders = λ o. subst (λ entries. AreCounts forms (λ f. often f (order_in entries o)) (order_of (opening path arguments files) o)) (sym orders)
           (subst (λ content. AreCounts forms (λ f. 0) (standing content)) (sym (items_order 0 (path ∷ arguments) o)) (record { counted = λ f named. refl; formed = λ key is. absurd is }));
     }

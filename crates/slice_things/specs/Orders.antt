@@ -1,5 +1,5 @@
 -- How often each key stands in an order, and what an access leaves of it.
-use Rattle.std.specs.Prelude.{◌≡◌, ℕ, suc, ◌==◌, List, [], ◌∷◌, unwrap_or, Option, Some, None, if◌then◌else◌}
+use Rattle.std.specs.Prelude.{◌≡◌, ℕ, suc, ◌==◌, List, [], ◌∷◌, unwrap_or, Option, Some, None, ⊤, if◌then◌else◌}
 use Rattle.std.specs.Map.{lookup}
 use Rattle.py_value.specs.declared.access.Access.{Access}
 use Rattle.py_value.specs.declared.access.Access.TheVariants.{Read, Set, Update}
@@ -13,8 +13,9 @@ use Rattle.py_value.specs.declared.value.Value.{Value}
 use Rattle.py_value.specs.Contents.{Contents, contents}
 use Rattle.py_value.specs.KeyOf.{normal}
 use Rattle.py_value.specs.Same.{same_value}
-use Rattle.py_value.specs.Values.{IsNamed}
+use Rattle.py_value.specs.Values.{ValuesView, IsNamed}
 use Rattle.slice_law.specs.Closed.{IsIn}
+use Rattle.slice_law.specs.Reached.{StandsIn}
 use Rattle.slice_things.specs.declared.forms.Forms.{Forms}
 use Rattle.slice_things.specs.Counts.{often, count_of, inserted, deleted}
 use Rattle.slice_things.specs.Forms.{form_in}
@@ -61,11 +62,21 @@ abbrev pub how_often : Contents → List Contents → ℕ
 how_often c [] = 0
 how_often c (key ∷ keys) = if same_value c (normal key) then suc (how_often c keys) else how_often c keys
 
--- the form of a key is there
+-- no object stands in a key
+abbrev pub IsPlain : ValuesView → Value → Type 0
+IsPlain view key = (p : ℕ) → StandsIn p (contents view key) → ⊥
+
+abbrev pub IsPlainChange : ValuesView → Change → Type 0
+IsPlainChange view (Insert key) = IsPlain view key
+IsPlainChange view (Delete key) = ⊤
+IsPlainChange view (Append bytes) = ⊤
+
+-- the form of a key is there, and no object stands in the key
 pub record HasForm (forms : Forms) (key : Contents) : Type 0 where
   pub form : Value
   pub named : IsNamed forms.values form
   pub form_is : contents forms.values form ≡ normal key
+  pub plain : (p : ℕ) → StandsIn p key → ⊥
 
 -- The counts are those of the keys, by their forms, and each key has one.
 pub record AreCounts (forms : Forms) (counts : Value → ℕ) (keys : List Contents) : Type 0 where
