@@ -1,3 +1,4 @@
+pub mod ChildLaws
 pub mod CountLaws
 pub mod FormLaws
 pub mod OrderLaws

@@ -7,16 +7,19 @@
 //! - [`Forms::of`]: the forms of all texts and tuples of a trial.
 //! - [`Things::new`]: what is known before all rows.
 //! - [`Things::pass`]: what is known before a row becomes what is known after it.
+//! - [`Things::children`]: the values that objects hold, and the law [`children_are_held`]: they are those of the store.
 //!
 //! A call that always answers want of memory meets these clauses: that it succeeds is not tested yet.
 #![tactic(auto)]
 
+mod children;
 mod counts;
 mod forms;
 mod held;
 mod orders;
 mod things;
 
+pub use children::children_are_held;
 pub use counts::Counts;
 pub use forms::Forms;
 pub use held::Held;

@@ -164,3 +164,13 @@ pub(crate) fn pass_order(
         Access::Update(at, change) => change_keys(alloc, forms, orders, *at, *change),
     }
 }
+
+/// How often a form stands in an object's order.
+pub(crate) fn count_in(orders: &IndexMap<u32, Counts>, o: u32, form: Value) -> u64
+    ensures { result ≡ often form (order_in orders.now.entries o) }
+{
+    match orders.get(&o) {
+        Some(counts) => counts.count(form),
+        None => 0,
+    }
+}

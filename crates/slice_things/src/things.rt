@@ -36,9 +36,9 @@ pub enum Shape {
 /// order.
 #[derive(Drop)]
 pub struct Things {
-    kinds: Vec<Shape>,
-    places: IndexMap<Location, Held>,
-    orders: IndexMap<u32, Counts>,
+    pub(crate) kinds: Vec<Shape>,
+    pub(crate) places: IndexMap<Location, Held>,
+    pub(crate) orders: IndexMap<u32, Counts>,
 }
 
 // What an object is.
