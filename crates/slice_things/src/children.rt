@@ -55,8 +55,8 @@ fn entry_of(own: bool, o: u32, held: Held) -> Option<(u32, Value)>
 }
 
 impl Things {
-    // What an object is.
-    fn shape(&self, o: u32) -> Option<Shape>
+    /// What an object is, if it was made.
+    pub fn shape(&self, o: u32) -> Option<Shape>
         ensures { result ≡ slice_get self.now.kinds.items o }
     {
         self.kinds.get(o as usize).copied()
@@ -72,15 +72,15 @@ impl Things {
         }
     }
 
-    // Whether an object is a list that has an item there.
-    pub(crate) fn has_item(&self, o: u32, i: u64) -> bool
+    /// Whether an object is a list that has an item there.
+    pub fn has_item(&self, o: u32, i: u64) -> bool
         ensures { result ≡ has_item_in self.now o i }
     {
         is_list(self.shape(o)) && i < self.length(o)
     }
 
-    // Whether a form stands in an object's order.
-    pub(crate) fn has_entry(&self, o: u32, form: Value) -> bool
+    /// Whether an object is a dictionary or an instance in whose order a form stands.
+    pub fn has_entry(&self, o: u32, form: Value) -> bool
         ensures { result ≡ has_entry_in self.now o form }
     {
         is_keyed(self.shape(o)) && 0 < count_in(&self.orders, o, form)

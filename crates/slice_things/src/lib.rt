@@ -7,6 +7,7 @@
 //! - [`Forms::of`]: the forms of all texts and tuples of a trial.
 //! - [`Things::new`]: what is known before all rows.
 //! - [`Things::pass`]: what is known before a row becomes what is known after it.
+//! - [`Things::shape`], [`Things::has_item`], [`Things::has_entry`]: what an object is, and whether a place is its own.
 //! - [`Things::children`]: the values that objects hold, and the law [`children_are_held`]: they are those of the store.
 //!
 //! A call that always answers want of memory meets these clauses: that it succeeds is not tested yet.

@@ -1,0 +1,4 @@
+pub mod GroupLaws
+pub mod JumpLaws
+pub mod ReachedLaws
+pub mod WalkLaws

@@ -1,0 +1,3 @@
+pub mod Groups
+pub mod Jumps
+pub mod Walk

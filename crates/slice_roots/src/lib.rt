@@ -1,0 +1,18 @@
+//! What is reached from a value of a run, object by object.
+//!
+//! - [`reached`]: the objects that are reached from a value, where these are the values that objects hold (`children` of `slice_things`), and the law
+//!   [`known_values_reach_the_same`]: that is what is reached in the store.
+//! - [`note_jump`]: what ends by a jump directly in the module, row by row.
+//!
+//! Each tuple and each object is gone into once, so a tuple that many share costs nothing twice, and nothing calls itself. A call that always
+//! answers want of memory meets these clauses: that it succeeds is not tested yet.
+#![tactic(auto)]
+
+mod groups;
+mod jumps;
+mod laws;
+mod walk;
+
+pub use jumps::note_jump;
+pub use laws::known_values_reach_the_same;
+pub use walk::reached;
