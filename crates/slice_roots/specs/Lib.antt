@@ -1,3 +1,4 @@
 pub mod Groups
 pub mod Jumps
+pub mod Own
 pub mod Walk

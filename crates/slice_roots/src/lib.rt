@@ -2,6 +2,7 @@
 //!
 //! - [`reached`]: the objects that are reached from a value, where these are the values that objects hold (`children` of `slice_things`), and the law
 //!   [`known_values_reach_the_same`]: that is what is reached in the store.
+//! - [`owner_of`]: the object whose own place a location is.
 //! - [`note_jump`]: what ends by a jump directly in the module, row by row.
 //!
 //! Each tuple and each object is gone into once, so a tuple that many share costs nothing twice, and nothing calls itself. A call that always
@@ -11,8 +12,10 @@
 mod groups;
 mod jumps;
 mod laws;
+mod own;
 mod walk;
 
 pub use jumps::note_jump;
 pub use laws::known_values_reach_the_same;
+pub use own::owner_of;
 pub use walk::reached;

@@ -216,7 +216,7 @@ len_noted view content held agrees = by content held agrees
 
 -- ---- how often a key stands in an order
 
-often_there : (c key : Contents) (keys : List Contents) → IsIn keys key → c ≡ normal key → nat_lt 0 (how_often c keys) ≡ true
+pub often_there : (c key : Contents) (keys : List Contents) → IsIn keys key → c ≡ normal key → nat_lt 0 (how_often c keys) ≡ true
 often_there c key [] is same = absurd is
 often_there c key (first ∷ keys) (inl is) same = ap (λ b. nat_lt 0 (if b then suc (how_often c keys) else how_often c keys)) (ap (λ d. same_value d (normal first)) (same ∙ ap normal (sym is)) ∙ contents_own (normal first)) ∙ positive (how_often c keys)
   where
@@ -228,12 +228,12 @@ often_there c key (first ∷ keys) (inr later) same = by (same_value c (normal f
     by true more = lt-ltb 0 (suc (how_often c keys)) (omega arith)
     by false more = more
 
-record KeyThere (c : Contents) (keys : List Contents) : Type 0 where
+pub record KeyThere (c : Contents) (keys : List Contents) : Type 0 where
   pub key : Contents
   pub ordered : IsIn keys key
   pub is : c ≡ normal key
 
-key_there : (c : Contents) (keys : List Contents) → nat_lt 0 (how_often c keys) ≡ true → KeyThere c keys
+pub key_there : (c : Contents) (keys : List Contents) → nat_lt 0 (how_often c keys) ≡ true → KeyThere c keys
 key_there c [] is = absurd (true≢false (sym is))
 key_there c (first ∷ keys) is = by (same_value c (normal first)) refl is (λ more. key_there c keys more)
   where
@@ -243,21 +243,21 @@ key_there c (first ∷ keys) is = by (same_value c (normal first)) refl is (λ m
 
 -- ---- held in the store, and noted
 
-both_true : (a b : Bool) → a ≡ true → b ≡ true → (a && b) ≡ true
+pub both_true : (a b : Bool) → a ≡ true → b ≡ true → (a && b) ≡ true
 both_true true true is also = refl
 both_true true false is also = also
 both_true false b is also = is
 
-first_true : (a b : Bool) → (a && b) ≡ true → (a ≡ true) × (b ≡ true)
+pub first_true : (a b : Bool) → (a && b) ≡ true → (a ≡ true) × (b ≡ true)
 first_true true true is = (refl, refl)
 first_true true false is = absurd (true≢false (sym is))
 first_true false b is = absurd (true≢false (sym is))
 
 module _ (view : ValuesView) (forms : Forms) (things : Things) (store : RunStore) (are : AreForms view forms) (known : HoldsStore view forms things store) where
-  shape_is : (o : ℕ) → slice_get things.kinds.items o ≡ option_map shape_seen (slice_get store.kinds o)
+  pub shape_is : (o : ℕ) → slice_get things.kinds.items o ≡ option_map shape_seen (slice_get store.kinds o)
   shape_is o = ap (λ kinds. slice_get kinds o) known.kinds ∙ slice_get-map shape_seen store.kinds o
 
-  length_is : (o : ℕ) → length_of things o ≡ len_of store o
+  pub length_is : (o : ℕ) → length_of things o ≡ len_of store o
   length_is o = len_noted view (store.at (len_at o)) (noted_at things.places.entries (Len o)) (known.places (Len o) tt)
 
   item_held : (o p : ℕ) → is_list (slice_get things.kinds.items o) ≡ true → InItem store o p → HoldsChild view (children_of things) o p
