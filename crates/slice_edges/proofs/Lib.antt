@@ -2,6 +2,7 @@ pub mod AskLaws
 pub mod BelowCount
 pub mod BinderLaws
 pub mod FrameLaws
+pub mod Noted
 pub mod ReachLaws
 pub mod ReadLaws
 pub mod StepLaws

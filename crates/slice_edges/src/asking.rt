@@ -1,5 +1,5 @@
 // One pass over rows, in order.
-ghost use Rattle.std.specs.Prelude.{◌≡◌, ◌∷◌, ℕ, List, [], map, unwrap_or, OnOk};
+ghost use Rattle.std.specs.Prelude.{◌≡◌, ◌∷◌, ℕ, true, nat_lt, List, [], length, map, unwrap_or, OnOk};
 ghost use Rattle.prov_base.specs.declared.place.Pos.{Pos};
 ghost use Rattle.py_tree.specs.Erasure.{script_of};
 ghost use Rattle.py_tree.specs.Numbering.{IsNumbered};
@@ -7,13 +7,15 @@ ghost use Rattle.py_tree.specs.Tree.{ScriptTree};
 ghost use Rattle.py_value.specs.Contents.{Contents};
 ghost use Rattle.py_value.specs.Seen.{SeenKind, access_seen, location_seen, IsNamedLocation};
 ghost use Rattle.py_value.specs.Values.{ValuesView, AreInterned, StandOnce};
+ghost use Rattle.py_value.specs.declared.access.Location.{Location as OneLocation};
+ghost use Rattle.py_model.specs.Occurrences.{frames_after};
 ghost use Rattle.py_model.specs.Moment.{Moment, begins, does, enters, leaves, ends};
 ghost use Rattle.py_model.specs.Plan.{Answer as OneAnswer};
 ghost use Rattle.py_model.specs.Told.{how_seen};
 ghost use Rattle.std.specs.Prelude.{Option};
 ghost use Rattle.row_words.specs.Fits.{Each};
 ghost use Rattle.kept_rows.specs.NamedRows.{NamesAccess, NamesRow};
-ghost use Rattle.slice_law.specs.Closed.{has};
+ghost use Rattle.slice_law.specs.Closed.{has, IsIn};
 ghost use Rattle.slice_law.specs.Edges.{owner_stmt, reach_stmts, run_asks};
 ghost use Rattle.slice_edges.specs.Asks.{among, some_asks};
 ghost use Rattle.slice_edges.specs.HasAsked.{HasAsked};
@@ -167,6 +169,21 @@ impl Asking {
             → (s : ℕ) → has s result.now ≡ has s (reach_stmts (location_seen view at.now) told) }
     {
         writers_at(&self.writers, at)
+    }
+
+    /// Whether something is open.
+    pub fn is_open(&self) -> bool
+        ensures { (view : ValuesView) (script : ScriptTree) (told : List Moment) → HasAsked view script self.now told → result ≡ nat_lt 0 (length (frames_after told)) }
+    {
+        self.frames.is_open()
+    }
+
+    /// The locations at which statements are noted: among them each that has a statement in its reach.
+    pub fn locations(&self) -> &[Location]
+        ensures { (view : ValuesView) (script : ScriptTree) (told : List Moment) → HasAsked view script self.now told
+            → (l : OneLocation) → IsNamedLocation view l → (s : ℕ) → has s (reach_stmts (location_seen view l) told) ≡ true → IsIn result.now l }
+    {
+        self.writers.keys().as_slice()
     }
 
     /// Which statement asks for which, each pair once.

@@ -1,5 +1,5 @@
 // What is open: statements and activations, each with the statement that owns what is done there, and the one that called.
-ghost use Rattle.std.specs.Prelude.{◌≡◌, ◌∷◌, [], OnOk};
+ghost use Rattle.std.specs.Prelude.{◌≡◌, ◌∷◌, [], length, nat_lt, OnOk};
 ghost use Rattle.py_model.specs.Going.{a_statement, an_activation};
 ghost use Rattle.slice_edges.specs.Frames.{owner_in, caller_in, without_first};
 
@@ -42,6 +42,13 @@ impl Frames {
         Frames {
             frames: Vec::new(alloc),
         }
+    }
+
+    /// Whether something is open.
+    pub(crate) fn is_open(&self) -> bool
+        ensures { result ≡ nat_lt 0 (length self.now) }
+    {
+        self.frames.len() > 0
     }
 
     /// The innermost statement.

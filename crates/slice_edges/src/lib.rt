@@ -7,7 +7,7 @@
 //!
 //! - [`Asking::pass`]: what is known before a row becomes what is known after it, wherever the row's texts and tuples are found in a table
 //!   in which each stands once (`rows_in_order_are_interned` of `trace_moments`).
-//! - [`Asking::owner`], [`Asking::writers`], [`Asking::edges`]: what is known.
+//! - [`Asking::owner`], [`Asking::is_open`], [`Asking::locations`], [`Asking::writers`], [`Asking::edges`]: what is known.
 //! - [`known_pairs_are_edges`]: what the tests in these clauses mean.
 //!
 //! A read and an Update cost as many steps as the location has statements in its reach, and a read of an unset local name two searches by halves
