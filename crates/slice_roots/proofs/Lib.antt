@@ -1,5 +1,6 @@
 pub mod GroupLaws
 pub mod JumpLaws
 pub mod OwnLaws
+pub mod PlainKeys
 pub mod ReachedLaws
 pub mod WalkLaws
