@@ -59,7 +59,7 @@ module _ {A : Type 0} where
 
 -- ---- a value more
 
-any_in : (v : Value) (keys : List Value) → list_any (values.eq v) keys ≡ true → IsIn keys v
+pub any_in : (v : Value) (keys : List Value) → list_any (values.eq v) keys ≡ true → IsIn keys v
 any_in v [] is = absurd (true≢false (sym is))
 any_in v (first ∷ keys) is = by (values.eq v first) refl is (λ more. any_in v keys more)
   where
