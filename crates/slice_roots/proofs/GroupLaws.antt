@@ -1,11 +1,10 @@
 -- The values of one object in the map of groups.
-use Rattle.std.proofs.Common.{◌≡◌, ℕ, ◌+◌, ◌==◌, Bool, true, false, List, [], ◌∷◌, ◌++◌, drop, length, get_or, unwrap_or, Option, Some, None, refl, sym, ap, ◌∙◌, if◌then◌else◌, HashMap, IsSome, arith, eqb-true}
+use Rattle.std.proofs.Common.{◌≡◌, ℕ, ◌==◌, Bool, true, false, List, [], ◌∷◌, ◌++◌, unwrap_or, Option, Some, None, refl, sym, ap, ◌∙◌, if◌then◌else◌, HashMap, IsSome, arith, eqb-true}
 use Rattle.std.specs.Map.{lookup}
 use Rattle.std.specs.HashMap.{WritesThrough, get_by}
 use Rattle.std.specs.Prelude.{Result, Ok, Err, OnOk}
 use Rattle.std.proofs.lemmas.List.{append_assoc}
 use Rattle.py_value.specs.declared.value.Value.{Value}
-use Rattle.slice_roots.specs.Groups.{values_of}
 
 pub on_ok : {T E : Type 0} {P Q : Type 0} (r : Result T E) → OnOk r P → (P → Q) → OnOk r Q
 on_ok (Ok done) holds follows = follows holds

@@ -1,8 +1,7 @@
 -- One row more: what ended by a jump directly in the module.
-use Rattle.std.proofs.Common.{◌≡◌, ℕ, suc, arith, nat_lt, length, ◌==◌, ◌&&◌, ◌||◌, not, Bool, true, false, List, [], ◌∷◌, ◌++◌, unwrap_or, Option, refl, sym, ap, ◌∙◌, if◌then◌else◌}
+use Rattle.std.proofs.Common.{◌≡◌, ℕ, suc, arith, nat_lt, length, ◌==◌, ◌&&◌, ◌||◌, not, Bool, true, false, List, [], ◌∷◌, ◌++◌, unwrap_or, Option, refl, ap, ◌∙◌, if◌then◌else◌}
 use Rattle.std.proofs.lemmas.Bool.{lt-ltb}
 use Rattle.py_value.specs.Values.{ValuesView}
-use Rattle.py_model.specs.declared.moment.How.{How}
 use Rattle.py_model.specs.declared.moment.How.TheVariants.{Normal, Break, Continue, Return, Raise}
 use Rattle.py_model.specs.Moment.{Moment}
 use Rattle.py_model.specs.Occurrences.{Frame, frames_after, without_top}

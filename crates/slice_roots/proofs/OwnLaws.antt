@@ -1,30 +1,28 @@
 -- Whose own place a location is.
-use Rattle.std.proofs.Common.{◌≡◌, ◌↔◌, ℕ, ◌<◌, ◌⊎◌, inl, inr, ◌&&◌, Bool, true, false, nat_lt, List, slice_get, Option, Some, None, refl, sym, ap, subst, ◌∙◌, arith, if◌then◌else◌, true≢false}
+use Rattle.std.proofs.Common.{◌≡◌, ℕ, ◌⊎◌, inl, inr, Bool, true, false, nat_lt, slice_get, Option, Some, None, refl, sym, ap, subst, ◌∙◌, arith, true≢false}
 use Rattle.std.specs.Option.{option_map}
 use Rattle.std.proofs.lemmas.Bool.{lt-ltb, ltb-true}
 use Rattle.std.proofs.lemmas.Option.{same_Some}
 use Rattle.py_value.specs.declared.key.Key.{Key}
 use Rattle.py_value.specs.declared.access.Location.{Location}
 use Rattle.py_value.specs.declared.access.Location.TheVariants.{Var, Len, Item, Entry, Order, File, Offset, Closed, Method, Base}
-use Rattle.py_value.specs.declared.value.Value.{Value}
 use Rattle.py_value.specs.Contents.{Contents, contents}
 use Rattle.py_value.specs.KeyOf.{normal}
 use Rattle.py_value.specs.Seen.{SeenLocation, SeenKind, a_list, a_dict, an_instance, a_file, len_at, item_at, entry_at, order_at, offset_at, closed_at, location_seen, location_at, IsNamedLocation}
 use Rattle.py_value.specs.Values.{ValuesView, AreInterned, IsNamed}
 use Rattle.py_value.proofs.SeenLocations.{location_back}
-use Rattle.py_model.specs.Store.{RunStore, len_of, order_of}
+use Rattle.py_model.specs.Store.{RunStore, order_of}
 use Rattle.slice_law.specs.Closed.{IsIn}
 use Rattle.slice_law.specs.Reached.{IsItem, IsEntry, IsOwn}
 use Rattle.slice_things.specs.declared.forms.Forms.{Forms}
-use Rattle.slice_things.specs.declared.things.Shape.TheVariants.{List as ListShape, Keyed, File as FileShape}
 use Rattle.slice_things.specs.declared.things.Things.{Things}
 use Rattle.slice_things.specs.Children.{is_list, is_keyed, length_of, has_item, has_entry}
 use Rattle.slice_roots.specs.Own.{is_file, own_if, owner_in}
 use Rattle.slice_things.specs.Counts.{often}
 use Rattle.slice_things.specs.Forms.{form_in, AreForms}
-use Rattle.slice_things.specs.Orders.{order_in, how_often}
+use Rattle.slice_things.specs.Orders.{order_in}
 use Rattle.slice_things.specs.Things.{HoldsStore, shape_seen, IsNormalLocation}
-use Rattle.slice_things.proofs.ChildLaws.{both_true, first_true, shape_is, length_is, often_there, KeyThere, key_there}
+use Rattle.slice_things.proofs.ChildLaws.{both_true, first_true, shape_is, length_is, often_there, key_there}
 
 module _ (b : Bool) (q o : ℕ) where
   own_true : own_if b q ≡ Some o → b ≡ true

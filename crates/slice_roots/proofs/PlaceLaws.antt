@@ -1,5 +1,5 @@
 -- Whether a location is reached.
-use Rattle.std.proofs.Common.{◌≡◌, ◌↔◌, ℕ, ◌<◌, ◌||◌, ◌⊎◌, inl, inr, nat_lt, Bool, true, false, List, [], ◌∷◌, length, slice_get, Option, Some, None, refl, sym, ap, subst, ◌∙◌, true≢false}
+use Rattle.std.proofs.Common.{◌≡◌, ◌↔◌, ℕ, ◌||◌, inl, inr, Bool, true, false, List, [], ◌∷◌, length, slice_get, Option, Some, None, refl, sym, ap, subst, ◌∙◌, true≢false}
 use Rattle.std.specs.List.{list_any}
 use Rattle.std.proofs.lemmas.Bool.{lt-ltb, ltb-true}
 use Rattle.std.proofs.lemmas.Option.{same_Some}
@@ -8,13 +8,12 @@ use Rattle.py_value.specs.declared.access.Location.TheVariants.{Var, Len, Item, 
 use Rattle.py_value.specs.declared.value.Value.{Value}
 use Rattle.py_value.specs.declared.value.Value.TheVariants.{None as Nothing, Bool as Truth, Int, Text, Tuple, Range, Fn, Class, Exc, Builtin, Object}
 use Rattle.py_value.specs.contracts.value.ValuePartialEq.TheImpl.{ghosts as values}
-use Rattle.py_value.specs.Contents.{contents}
 use Rattle.py_value.specs.Seen.{location_seen, IsNamedLocation}
 use Rattle.py_value.specs.Values.{ValuesView, IsNamed}
 use Rattle.py_value.proofs.Equality.{value_own}
 use Rattle.py_model.specs.Store.{RunStore}
 use Rattle.slice_law.specs.Closed.{IsIn}
-use Rattle.slice_law.specs.Reached.{IsReached, IsOwn}
+use Rattle.slice_law.specs.Reached.{IsOwn}
 use Rattle.slice_things.specs.declared.forms.Forms.{Forms}
 use Rattle.slice_things.specs.declared.things.Things.{Things}
 use Rattle.slice_things.specs.Children.{children_of}

@@ -1,5 +1,5 @@
 -- The keys in rows of a kept trial: in locations they are normal, and no object stands in them.
-use Rattle.std.proofs.Common.{◌≡◌, ℕ, zero, suc, ◌&&◌, ◌⊎◌, inl, inr, Bool, true, false, List, [], ◌∷◌, Option, Some, None, is_none, refl, sym, ap, ◌∙◌, true≢false}
+use Rattle.std.proofs.Common.{◌≡◌, ℕ, zero, suc, inl, inr, true, List, [], ◌∷◌, Option, Some, None, is_none, refl, sym, ◌∙◌, true≢false}
 use Rattle.std.specs.List.{list_all}
 use Rattle.std.specs.Option.{option_or}
 use Rattle.py_value.specs.declared.access.Access.{Access}
@@ -19,7 +19,7 @@ use Rattle.py_value.specs.Values.{ValuesView, AreInterned, IsNamed, AreNamed}
 use Rattle.py_value.specs.KeyOf.{fault_within}
 use Rattle.py_value.proofs.KeyFaults.{fault_is}
 use Rattle.row_words.specs.Fits.{Each}
-use Rattle.kept_rows.specs.Keys.{is_key, keys_of_location, keys_of_content, keys_of_change, keys_of_access, keys_of_accesses}
+use Rattle.kept_rows.specs.Keys.{is_key, keys_of_location, keys_of_content, keys_of_access, keys_of_accesses}
 use Rattle.kept_rows.proofs.KeyLaws.{key_is, splits}
 use Rattle.kept_rows.specs.NamedRows.{NamesAccess, NamesRow}
 use Rattle.kept_rows.specs.RowTests.{has_keys}

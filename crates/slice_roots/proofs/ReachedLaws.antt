@@ -1,5 +1,5 @@
 -- What is reached by the values that objects are known to hold is what is reached in the store.
-use Rattle.std.proofs.Common.{ℕ, List}
+use Rattle.std.proofs.Common.{ℕ}
 use Rattle.py_value.specs.declared.value.Value.{Value}
 use Rattle.py_value.specs.Contents.{contents}
 use Rattle.py_value.specs.Values.{ValuesView}

@@ -1,21 +1,20 @@
 -- What is found is what is reached.
-use Rattle.std.proofs.Common.{◌≡◌, ◌↔◌, ℕ, zero, suc, ◌+◌, ◌==◌, ◌<◌, ◌≤◌, ◌⊎◌, inl, inr, ◌||◌, Bool, true, false, nat_lt, List, [], ◌∷◌, ◌++◌, map, take, length, slice_get, get_or, unwrap_or, Option, Some, None, refl, sym, ap, subst, ◌∙◌, arith, if◌then◌else◌, true≢false, eqb-true, slice_index_or}
+use Rattle.std.proofs.Common.{◌≡◌, ℕ, zero, suc, ◌+◌, ◌==◌, ◌<◌, ◌≤◌, ◌⊎◌, inl, inr, ◌||◌, Bool, true, false, nat_lt, List, [], ◌∷◌, ◌++◌, take, length, slice_get, get_or, unwrap_or, Option, Some, None, refl, sym, ap, subst, ◌∙◌, arith, if◌then◌else◌, true≢false, eqb-true, slice_index_or}
 use Rattle.std.specs.Prelude.{⊤}
 use Rattle.std.specs.List.{list_any}
 use Rattle.std.proofs.lemmas.Bool.{ltb-true, ltb-false, eq-eqb}
-use Rattle.std.proofs.lemmas.List.{take_more, take_all}
+use Rattle.std.proofs.lemmas.List.{take_more}
 use Rattle.std.proofs.lemmas.Option.{slice_get_within, slice_get-get_or, same_Some}
 use Rattle.py_value.specs.declared.value.Value.{Value}
 use Rattle.py_value.specs.declared.value.Value.TheVariants.{None as Nothing, Bool as Truth, Int, Text, Tuple, Range, Fn, Class, Exc, Builtin, Object}
 use Rattle.py_value.specs.contracts.value.ValuePartialEq.TheImpl.{ghosts as values}
-use Rattle.py_value.specs.Contents.{Contents, Parts, tuple, parts_by, contents_to, contents}
+use Rattle.py_value.specs.Contents.{tuple, parts_by, contents_to, contents}
 use Rattle.py_value.specs.Values.{ValuesView, AreInterned, IsBelow, Keeps}
 use Rattle.py_value.proofs.Equality.{value_same}
 use Rattle.py_value.proofs.Interning.{keeps_behind}
 use Rattle.py_value.proofs.NormalForms.{tuple_contents}
 use Rattle.slice_law.specs.Closed.{IsIn}
 use Rattle.slice_law.specs.Reached.{StandsIn, StandsInParts}
-use Rattle.slice_things.specs.Children.{HoldsChild}
 use Rattle.slice_roots.specs.Groups.{group_in, values_of}
 use Rattle.slice_roots.specs.Walk.{Reaches, in_value, in_child, leads, inside, Grows, IsWalked, AreReached}
 

@@ -1,4 +1,4 @@
-use Rattle.std.proofs.Common.{◌≡◌, ◌∷◌, ◌++◌, [], ap, sym, ◌∙◌, false, unwrap_or}
+use Rattle.std.proofs.Common.{◌∷◌, ◌++◌, [], ap, sym, ◌∙◌, unwrap_or}
 use Rattle.slice_law.specs.Closed.{has}
 use Rattle.slice_roots.specs.Jumps.{ends_by_jump}
 use Rattle.slice_roots.proofs.JumpLaws.{jumps_next, pushed}

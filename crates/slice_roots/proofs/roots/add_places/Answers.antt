@@ -1,4 +1,4 @@
-use Rattle.std.proofs.Common.{◌≡◌, ◌↔◌, ◌⊎◌, true, take, length, sym, subst, arith}
+use Rattle.std.proofs.Common.{◌≡◌, ◌↔◌, ◌⊎◌, true, subst, arith}
 use Rattle.std.proofs.lemmas.List.{take_all}
 use Rattle.slice_law.specs.Closed.{has}
 use Rattle.slice_roots.specs.Roots.{AsksAmong}
