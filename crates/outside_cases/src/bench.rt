@@ -11,8 +11,8 @@ use prov_base::{Bytes, Name};
 use prov_outside::{MemoryConsole, MemoryFolder, MemoryMoments};
 use std::alloc::{AllocError, Global};
 
-/// The one file of the folder, the numbers of the calls of the console, of the folder and of the store of trials that fail, where 0 is none, what the clock answers in
-/// each call of the program, the words of the calls that are made over the same store before, and whether a call of the program is made twice.
+/// The one file of the folder, the numbers of the calls of the console, of the folder and of the store of trials that fail, where 0 is none, and what the clock answers
+/// in each call of the program. Then the words of the calls that are made over the same store before, and whether a call of the program is made twice.
 #[derive(Drop)]
 pub struct Bench {
     path: String,
