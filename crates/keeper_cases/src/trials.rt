@@ -5,7 +5,8 @@ use crate::texts::{write, write_number};
 use keeper::Head;
 use memory_keeper::MemoryKeeper;
 use std::alloc::{AllocError, Global};
-use trial_loading::{Trial, drop_trial, head, list, load_trial};
+use trial_keeping::{head, list};
+use trial_loading::{Trial, drop_trial, load_trial};
 
 /// Loads the trial with this number, and writes it, or why there is none.
 pub fn load_whole(

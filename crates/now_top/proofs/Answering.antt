@@ -10,10 +10,10 @@ use Rattle.prov_outside.specs.Tells.{Tells}
 use Rattle.trial_keeping.specs.Fault.{has_failed}
 use Rattle.trial_keeping.specs.declared.fault.TrialFault.{TrialFault}
 use Rattle.trial_keeping.specs.declared.fault.TrialFault.TheVariants.{NoTrial, Damaged, Keeper, Collision, Full, Memory}
-use Rattle.trial_loading.specs.Heads.{IsOfList}
+use Rattle.trial_keeping.specs.Heads.{IsOfList}
 use Rattle.trial_parts.specs.Causes.{Causes}
-use Rattle.trial_texts.specs.Lines.{list_bytes}
-use Rattle.trial_texts.specs.Lists.{ListsTrials}
+use Rattle.trial_list.specs.Lines.{list_bytes}
+use Rattle.trial_list.specs.Lists.{ListsTrials}
 use Rattle.now_top.specs.Asking.{IsAnswer, AnswersQuery, replied, untold, failed, lacking}
 use Rattle.now_top.specs.Kept.{Stored, tables_in}
 use Rattle.now_top.specs.Planned.{plan_of_text}

@@ -4,7 +4,7 @@ use Rattle.command_words.specs.declared.command.Query.{Query}
 use Rattle.command_words.specs.declared.command.Query.TheVariants.{List as list_query}
 use Rattle.delivery.specs.Ending.{done}
 use Rattle.keeper.specs.Tables.{TablesView}
-use Rattle.trial_texts.specs.Lines.{list_bytes}
+use Rattle.trial_list.specs.Lines.{list_bytes}
 use Rattle.now_top.specs.World.{Plan}
 
 -- a text with no closing line, and status 0

@@ -9,7 +9,7 @@ use keeper::Keeper;
 use prov_base::Bytes;
 use std::alloc::Global;
 use trial_keeping::TrialFault;
-use trial_texts::list_text;
+use trial_list::list_text;
 
 /// What a text that was read of the store comes to.
 fn planned_text<'w>(text: Result<Bytes, TrialFault>) -> Planned<'w>

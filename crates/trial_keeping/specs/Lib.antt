@@ -1,3 +1,4 @@
+pub mod Heads
 pub mod Fault
 pub mod Keeping
 pub mod Trial

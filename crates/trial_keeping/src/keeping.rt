@@ -8,7 +8,7 @@ ghost use Rattle.trial_keeping.specs.Keeping.{KeepsTrial, IsOfKeeping, ParentAns
 
 use crate::TrialFault;
 use crate::contents::{contents_of, records_of};
-use crate::head::{Given, head_of};
+use crate::run_head::{Given, head_of};
 use capture::Ended;
 use keeper::Keeper;
 use prov_base::{Bytes, Name};

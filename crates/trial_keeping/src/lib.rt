@@ -11,14 +11,18 @@
 //! - `stops` says what a stop of the program leaves: the whole trial, or none of it.
 //! - The count of faults of the keeper never falls, and it rose where `Keeper` is answered. Want of memory may be answered at any time.
 //!
+//! [`head`] answers one head, and [`list`] all of them in their order. Neither looks at what the heads name.
+//!
 //! The answers of the capture are kept in the order in which it has them: the caller puts them in order first, as a trial that is well kept has them.
 #![tactic(auto)]
 
 mod contents;
 mod fault;
-mod head;
+mod heads;
 mod keeping;
 mod records;
+mod run_head;
 
 pub use fault::TrialFault;
+pub use heads::{head, list};
 pub use keeping::keep_trial;

@@ -9,7 +9,7 @@ use Rattle.keeper.specs.declared.records.Head.{Head}
 use Rattle.keeper.specs.Keeping.{KeeperView, AreKept, LeavesAmong, Reads as Answers}
 use Rattle.keeper.specs.Tables.{TablesView, head_at}
 use Rattle.trial_keeping.specs.declared.fault.TrialFault.{TrialFault}
-use Rattle.trial_loading.specs.Heads.{FindsCounted, FindsFirst, FindsHeads}
+use Rattle.trial_keeping.specs.Heads.{FindsCounted, FindsFirst, FindsHeads}
 
 -- these heads are the first so many
 abbrev pub AreFirst : List Head → ℕ → KeeperView → KeeperView → Type 0

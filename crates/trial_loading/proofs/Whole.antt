@@ -10,7 +10,7 @@ use Rattle.trial_contents.specs.Rest.{script_in}
 use Rattle.trial_keeping.specs.declared.fault.TrialFault.{TrialFault}
 use Rattle.trial_keeping.specs.declared.fault.TrialFault.TheVariants.{NoTrial, Damaged, Keeper, Collision, Full, Memory}
 use Rattle.trial_loading.specs.declared.trial.Trial.{Trial}
-use Rattle.trial_loading.specs.Heads.{FindsHead}
+use Rattle.trial_keeping.specs.Heads.{FindsHead}
 use Rattle.trial_loading.specs.Loading.{IsLoaded, IsDamagedFrom, bad_from, Loads}
 use Rattle.trial_loading.specs.Stages.{IsFrom, LoadsFrom}
 

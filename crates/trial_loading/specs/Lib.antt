@@ -1,4 +1,3 @@
-pub mod Heads
 pub mod Loading
 pub mod OneTrial
 pub mod Stages

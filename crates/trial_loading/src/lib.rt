@@ -8,7 +8,6 @@
 //! - A text that is no script is told as `ScriptAt`, at the one place where it is refused: 1:1 where it is too large.
 //! - `in_form`: the statements of a loaded script are numbered from 0, it is well formed, and its targets are flat.
 //! - [`trials_are_loaded_one_way`]: a number has one trial, or one first damage, and never both.
-//! - [`head`] answers one head, and [`list`] all of them in their order. Neither looks at what the heads name.
 //!
 //! Whatever is answered, the keeper's tables stay, and so does its batch. `Keeper` is answered only where its count of faults rose. `Collision`
 //! and `Full` are never answered. Want of memory may be answered at any time, and a call that always answers it meets these clauses: that
@@ -17,12 +16,10 @@
 
 mod behind;
 mod faults;
-mod heads;
 mod laws;
 mod loading;
 mod trial;
 
-pub use heads::{head, list};
 pub use laws::trials_are_loaded_one_way;
 pub use loading::load_trial;
 pub use trial::{Trial, drop_trial};

@@ -11,7 +11,6 @@ ghost use Rattle.trial_loading.specs.Stages.{IsOfStage, LoadsFrom};
 use crate::Trial;
 use crate::behind::read_behind;
 use crate::faults::{fault_of, refusal_of};
-use crate::heads::head;
 use crate::trial::trial_of;
 use keeper::{Head, Keeper};
 use prov_base::Bytes;
@@ -19,7 +18,7 @@ use py_tree::drop_script;
 use script_reading::read_script;
 use std::alloc::Global;
 use trial_contents::script_of;
-use trial_keeping::TrialFault;
+use trial_keeping::{TrialFault, head};
 
 /// The trial with this head and this text: first its script, and then what stands behind it.
 fn load_from<K: Keeper>(

@@ -1,6 +1,2 @@
-mod Columns
-mod Instants
-mod Periods
-mod Written
 pub mod Parts
 mod Shown

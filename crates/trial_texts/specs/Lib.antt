@@ -1,5 +1,1 @@
-pub mod Dates
-pub mod Lines
-pub mod Lists
 pub mod Shows
-pub mod Stages

@@ -9,7 +9,7 @@ use Rattle.trial_lines.specs.Functions.{lines_in}
 use Rattle.trial_lines.specs.Shown.{opening_lines, argument_lines, middle_lines, input_lines, output_line, final_lines}
 use Rattle.trial_loading.specs.Loading.{IsLoaded, IsDamaged}
 use Rattle.trial_loading.specs.declared.trial.Trial.{Trial}
-use Rattle.trial_texts.specs.Lines.{start_text}
+use Rattle.trial_list.specs.Lines.{start_text}
 
 -- the head up to the script's digest, the arguments, the rest of the head, the files that were found, the printed text, the files that the run left, and the functions
 abbrev pub show_bytes : Trial → List ℕ

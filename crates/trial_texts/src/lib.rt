@@ -1,24 +1,12 @@
-//! The texts of the commands `list` and `show` over any keeper.
+//! The text of the command `show`, over any keeper.
 //!
-//! - [`list_text`] answers a line for each trial, by number: number, status, steps, start and path in their columns, and LF. `lists` pins each byte
-//!   (`list_bytes` of `specs/Lines.antt`), and says that the keeper's tables stay as they were, whatever is answered.
-//! - [`show_text`] answers the lines of one trial, which is loaded whole: `shows` pins each byte by the trial (`show_bytes` of `specs/Shows.antt`, with the lines
-//!   of `trial_lines`), and says where there is none and what is amiss of one first, in the form of `load_trial`.
-//! - A start is written as `YYYY-MM-DDTHH:MM:SSZ` in UTC, rounded down to the second also before 1970, and as `-` where the clock failed.
-//!   `specs/Dates.antt` says it with the lengths of years and months alone. The code takes date and time from `jiff`, whose contract counts days
-//!   from the year -10000; that both come to the same is proved for every instant of an `i64`.
-//! - [`dates_are_written`] has worked rows: the epoch, one nanosecond before it, a leap day, the last day of February 1900, and the first and
-//!   the last instant.
+//! [`show_text`] answers the lines of one trial, which is loaded whole: `shows` pins each byte by the trial (`show_bytes` of `specs/Shows.antt`), and says where
+//! there is none and what is amiss of one first, in the form of `load_trial`.
 //!
-//! `Keeper` is answered only where its count of faults rose. `list_text` never answers `NoTrial` or `Damaged`, and neither call `Collision` or `Full`. Want of memory may
-//! be answered at any time, and a call that always answers it meets these clauses: that calls succeed is not said here.
+//! `Keeper` is answered only where its count of faults rose. `Collision` and `Full` are never answered. A call that is always out of memory meets these
+//! clauses: that calls succeed is not said here.
 #![tactic(auto)]
 
-mod dates;
-mod lines;
-mod lists;
 mod show;
 
-pub use dates::dates_are_written;
-pub use lists::list_text;
 pub use show::show_text;

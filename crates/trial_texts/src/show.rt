@@ -7,7 +7,6 @@ ghost use Rattle.trial_keeping.specs.Fault.{has_failed};
 ghost use Rattle.trial_loading.specs.Loading.{IsOfLoading};
 ghost use Rattle.trial_texts.specs.Shows.{ShowsTrial, show_bytes};
 
-use crate::dates::moment_text;
 use keeper::Keeper;
 use prov_base::{Bytes, Memory};
 use std::alloc::Global;
@@ -16,6 +15,7 @@ use trial_lines::{
     push_arguments, push_finals, push_functions, push_inputs, push_middle, push_opening,
     push_output,
 };
+use trial_list::moment_text;
 use trial_loading::{Trial, drop_trial, load_trial};
 
 /// Writes the lines of a trial.

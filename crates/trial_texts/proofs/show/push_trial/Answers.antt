@@ -5,7 +5,7 @@ use Rattle.trace_rows.specs.declared.row.Row.{Row}
 use Rattle.trial_lines.specs.Functions.{lines_in}
 use Rattle.trial_lines.specs.Shown.{opening_lines, argument_lines, middle_lines, input_lines, output_line, final_lines}
 use Rattle.trial_loading.specs.declared.trial.Trial.{Trial}
-use Rattle.trial_texts.specs.Lines.{start_text}
+use Rattle.trial_list.specs.Lines.{start_text}
 use Rattle.trial_texts.specs.Shows.{show_bytes}
 use Rattle.trial_texts.proofs.Parts.{seven_parts}
 use Rattle.trial_texts.proofs.show.push_trial.Goals as goal

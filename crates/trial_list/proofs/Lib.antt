@@ -1,0 +1,4 @@
+mod Columns
+mod Instants
+mod Periods
+mod Written

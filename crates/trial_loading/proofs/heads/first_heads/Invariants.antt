@@ -1,7 +1,0 @@
-use Rattle.trial_loading.proofs.Stepping.{Reads}
-use Rattle.trial_loading.proofs.heads.first_heads.Given as goal
-
-abbrev pub invariant-loop-earlier : goal.invariant-loop-earlier
-invariant-loop-earlier g l =
-    Reads l.heads.items l.earlier (g.K.Keeper.told l.fn.keeper) (g.K.Keeper.told l.keeper) (g.K.Keeper.may_leave l.fn.keeper) (g.K.Keeper.may_leave l.keeper)
-    (g.K.Keeper.is_open l.fn.keeper) (g.K.Keeper.is_open l.keeper) (g.K.Keeper.faults l.fn.keeper) (g.K.Keeper.faults l.keeper)
