@@ -390,7 +390,7 @@ def load_rest(store, fields):
 
 
 def rows_in(data):
-    """How many rows a page of Begins and Ends alone has: other rows are for `row_cases` and `kept_cases`."""
+    """How many rows a page of Begins and Ends alone has: other rows are for `row_cases`."""
     at, rows = 0, []
     while at < len(data):
         if data[at] == 3 and at + 1 < len(data) and data[at + 1] < 128:

@@ -1,5 +1,6 @@
 #!/usr/bin/env python3
-"""Works out the answers of the program `row_cases` by a reading of its own of the grammar of rows.
+"""Works out the answers of the program `row_cases` about pages by a reading of its own of the grammar of rows. Rows that say how many statements a
+script has, before their page, keep their answers, which are worked out by hand.
 
     python3 tools/row_answers.py crates/row_cases          says whether `stdout` has them
     python3 tools/row_answers.py --write crates/row_cases  puts them there
@@ -185,14 +186,16 @@ def answer(page):
     return kinds + page.hex()
 
 
-def answers(rows):
-    return ''.join(f'{row}\n    {answer(bytes.fromhex(row))}\n' for row in rows if not row.startswith('#'))
+def answers(rows, kept):
+    return ''.join(f'{row}\n    {kept.get(row) if " " in row else answer(bytes.fromhex(row))}\n' for row in rows if not row.startswith('#'))
 
 
 def main(words):
     is_writing = words[:1] == ['--write']
     folder = pathlib.Path(words[-1])
-    found = answers((folder / 'stdin').read_text().splitlines())
+    written = (folder / 'stdout').read_text().splitlines()
+    kept = {row: told.strip() for row, told in zip(written[::2], written[1::2]) if ' ' in row}
+    found = answers((folder / 'stdin').read_text().splitlines(), kept)
     if is_writing:
         (folder / 'stdout').write_text(found)
         return 0

@@ -1,7 +1,12 @@
-//! The cases of `trace_rows`. Each line of the input is a page as digits of base 16. Below it the output has the kinds of its rows and the page
-//! that these rows make again, or the byte at which the bytes stop being rows. The gate compares the output with the file `stdout`.
+//! The cases of `trace_rows` and `kept_rows`. A line of the input is a page as digits of base 16. Below it the output has the kinds of its rows and the
+//! page that these rows make again, or the byte at which the bytes stop being rows. Where a number and a blank stand before the page, they are how many
+//! statements a script has: the output then says whether the page's rows are kept, or which row is the first that is not. The gate compares the output
+//! with the file `stdout`.
 #![tactic(auto)]
 
+mod keeping;
+
+use keeping::write_words;
 use prov_outside::{Console, Trouble};
 use prov_real::RealConsole;
 use std::alloc::{AllocError, Global};
@@ -51,16 +56,24 @@ fn write_decoded(
     }
 }
 
+/// Writes what the page with these digits is decoded as.
+fn write_page(alloc: Global, digits: &str, out: &mut Vec<u8>) -> Result<(), AllocError> {
+    match hex::decode(alloc, digits) {
+        Ok(page) => write_decoded(alloc, decode_page(alloc, &page), out),
+        Err(_) => out.extend_from_slice(b"no digits of base 16"),
+    }
+}
+
 /// Answers a line of the input: the line, and the answer below it. A line that begins with `#` answers nothing.
-fn answer_line(alloc: Global, line: &[u8], out: &mut Vec<u8>) -> Result<(), AllocError> {
-    if line.starts_with(b"#") {
+fn answer_line(alloc: Global, line: &str, out: &mut Vec<u8>) -> Result<(), AllocError> {
+    if line.starts_with('#') {
         return Ok(());
     }
-    out.extend_from_slice(line)?;
+    out.extend_from_slice(line.as_bytes())?;
     out.extend_from_slice(b"\n    ")?;
-    match hex::decode(alloc, line) {
-        Ok(page) => write_decoded(alloc, decode_page(alloc, &page), out)?,
-        Err(_) => out.extend_from_slice(b"no digits of base 16")?,
+    match line.split_once(' ') {
+        Some((count, digits)) => write_words(alloc, count, digits, out)?,
+        None => write_page(alloc, line, out)?,
     }
     out.push(b'\n')?;
     Ok(())
@@ -73,7 +86,10 @@ fn answer_all(alloc: Global, console: &mut RealConsole<'_>) -> Result<(), Troubl
             return Ok(());
         };
         let mut out = Vec::new(alloc);
-        answer_line(alloc, line.as_slice(), &mut out)?;
+        match std::str::from_utf8(line.as_slice()) {
+            Ok(text) => answer_line(alloc, text, &mut out)?,
+            Err(_) => out.extend_from_slice(b"no text\n")?,
+        }
         console.write(alloc, &out)?;
     }
     Ok(())
