@@ -7,7 +7,7 @@ use Rattle.prov_base.specs.declared.refusal.Memory.{Memory}
 use Rattle.prov_outside.specs.Count.{faults_after}
 use Rattle.prov_outside.specs.Folder.{Files, IsAnswer, Gets}
 use Rattle.prov_outside.specs.Console.{ConsoleView}
-use Rattle.prov_outside.specs.Moments.{MomentsView}
+use Rattle.prov_outside.specs.ClockAndRandom.{ClockAndRandomView}
 use Rattle.prov_outside.specs.Tells.{Tells}
 use Rattle.prov_outside.specs.declared.folder.Found.{Found as FoundThere}
 use Rattle.prov_outside.specs.declared.folder.Found.TheVariants.{Bytes, Absent, TooLarge, Failed as Unfound}
@@ -210,7 +210,7 @@ module _ {F : Type 0} (folder_told : F → Option Files) (get_faults : F → ℕ
   has_fetched (Ok done) kept = more (Ok done) kept refl path ∙ ap (λ b. b || has_file old path) ((bytes_eq-Decides path path).1 refl)
   has_fetched (Err want) kept = tt
 
-  module _ (console : Option ConsoleView) (moments : Option MomentsView) (line write time word : ℕ) (source_faults put_faults : F → ℕ) where
+  module _ (console : Option ConsoleView) (moments : Option ClockAndRandomView) (line write time word : ℕ) (source_faults put_faults : F → ℕ) where
     abbrev told_at : F → Telling
     told_at h = telling console (folder_told h) moments
         (record { line = line; write = write; file = get_faults h; source = source_faults h; put = put_faults h; time = time; word = word })

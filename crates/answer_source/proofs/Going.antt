@@ -5,7 +5,7 @@ use Rattle.prov_base.specs.declared.place.Pos.{Pos}
 use Rattle.prov_outside.specs.Console.{ConsoleView}
 use Rattle.prov_outside.specs.Count.{faults_after}
 use Rattle.prov_outside.specs.Folder.{Files}
-use Rattle.prov_outside.specs.Moments.{MomentsView}
+use Rattle.prov_outside.specs.ClockAndRandom.{ClockAndRandomView}
 use Rattle.prov_outside.specs.Tells.{Tells}
 use Rattle.capture.specs.Answers.{Fits}
 use Rattle.capture.specs.Asking.{ForAsk, AsksTime, AsksWord, AsksLine, as_answer, IsOneLine}
@@ -87,13 +87,13 @@ goes_from (kept ∷ rest) a b c none goes = (
 abbrev pub lines_of : ConsoleView → List (List ℕ)
 lines_of view = view.lines
 
-abbrev pub times_of : MomentsView → List ℤ
+abbrev pub times_of : ClockAndRandomView → List ℤ
 times_of view = view.times
 
-abbrev pub words_of : MomentsView → List ℕ
+abbrev pub words_of : ClockAndRandomView → List ℕ
 words_of view = view.words
 
-module _ {C M : Type 0} (console_told : C → Option ConsoleView) (in_faults out_faults : C → ℕ) (moments_told : M → Option MomentsView) (time_faults word_faults : M → ℕ)
+module _ {C M : Type 0} (console_told : C → Option ConsoleView) (in_faults out_faults : C → ℕ) (moments_told : M → Option ClockAndRandomView) (time_faults word_faults : M → ℕ)
     (files : Option Files) (file_faults source_faults put_faults : ℕ) where
   abbrev pub told_by : C → M → Telling
   told_by c m = telling (console_told c) files (moments_told m)

@@ -24,7 +24,7 @@ use Rattle.capture.proofs.Lasts.{place_itself, same_place, last_more}
 use Rattle.prov_outside.specs.Console.{ConsoleView}
 use Rattle.prov_outside.specs.Count.{faults_after}
 use Rattle.prov_outside.specs.Folder.{Files}
-use Rattle.prov_outside.specs.Moments.{MomentsView}
+use Rattle.prov_outside.specs.ClockAndRandom.{ClockAndRandomView}
 use Rattle.prov_outside.specs.Tells.{Tells}
 use Rattle.capture.specs.Asking.{ForAsk, AsksTime, AsksWord, AsksLine, as_answer, IsOneLine}
 use Rattle.py_model.specs.Capture.{Capture, Kept, Telling, given_in}
@@ -138,7 +138,7 @@ fit_refused view now next capture nothing folder faults same fit = record {
   untouched = untouched_then now next capture.ends same fit.untouched;
 }
 
-module _ {C M : Type 0} (console_told : C → Option ConsoleView) (in_faults out_faults : C → ℕ) (moments_told : M → Option MomentsView) (time_faults word_faults : M → ℕ)
+module _ {C M : Type 0} (console_told : C → Option ConsoleView) (in_faults out_faults : C → ℕ) (moments_told : M → Option ClockAndRandomView) (time_faults word_faults : M → ℕ)
     (folder : Option Files) (file_faults source_faults put_faults : ℕ) where
   abbrev told : C → M → Telling
   told c m = told_by console_told in_faults out_faults moments_told time_faults word_faults folder file_faults source_faults put_faults c m

@@ -4,7 +4,7 @@ use Rattle.std.specs.Option.{option_map}
 use Rattle.prov_base.specs.declared.place.Pos.{Pos}
 use Rattle.prov_outside.specs.Console.{ConsoleView}
 use Rattle.prov_outside.specs.Folder.{Files}
-use Rattle.prov_outside.specs.Moments.{MomentsView}
+use Rattle.prov_outside.specs.ClockAndRandom.{ClockAndRandomView}
 use Rattle.prov_outside.specs.Tells.{Tells}
 use Rattle.prov_outside.specs.declared.folder.Found.{Found as FoundThere}
 use Rattle.capture.specs.Answers.{IsLast}
@@ -69,13 +69,13 @@ pub record Faults : Type 0 where
   pub time : ℕ
   pub word : ℕ
 
-abbrev pub telling : Option ConsoleView → Option Files → Option MomentsView → Faults → Telling
+abbrev pub telling : Option ConsoleView → Option Files → Option ClockAndRandomView → Faults → Telling
 telling console folder moments faults = record {
   lines = option_map (λ (view : ConsoleView). view.lines) console;
   written = option_map (λ (view : ConsoleView). view.written) console;
   files = folder;
-  times = option_map (λ (view : MomentsView). view.times) moments;
-  words = option_map (λ (view : MomentsView). view.words) moments;
+  times = option_map (λ (view : ClockAndRandomView). view.times) moments;
+  words = option_map (λ (view : ClockAndRandomView). view.words) moments;
   line_faults = faults.line;
   write_faults = faults.write;
   file_faults = faults.file;

@@ -5,12 +5,12 @@ ghost use Rattle.answer_source.specs.Live.{IsCaptureOf, AreNumbered, AreFetched,
 use crate::Source;
 use capture::{Ask, Capture, Given};
 use prov_base::{Memory, Pos};
-use prov_outside::{Console, Folder, Found, Moments};
+use prov_outside::{ClockAndRandom, Console, Folder, Found};
 use std::alloc::Global;
 
 /// The devices of a run: its console, its folder, and its clock with random words.
 #[derive(Drop)]
-pub struct Devices<C: Console, F: Folder, M: Moments> {
+pub struct Devices<C: Console, F: Folder, M: ClockAndRandom> {
     /// Lines that come in, and bytes that go out.
     pub console: C,
     /// Files by path.
@@ -21,13 +21,13 @@ pub struct Devices<C: Console, F: Folder, M: Moments> {
 
 /// The devices of a run, and the capture of what they gave so far. It owns its devices, and [`Live::finish`] gives them back.
 #[derive(Drop)]
-pub struct Live<C: Console, F: Folder, M: Moments> {
+pub struct Live<C: Console, F: Folder, M: ClockAndRandom> {
     capture: Capture,
     devices: Devices<C, F, M>,
     ghost unwritten: { capture.written ≡ [] },
 }
 
-impl<C: Console + Drop, F: Folder + Drop, M: Moments + Drop> Live<C, F, M> {
+impl<C: Console + Drop, F: Folder + Drop, M: ClockAndRandom + Drop> Live<C, F, M> {
     /// A source over devices, whose capture notes no path as written.
     pub fn new(capture: Capture, devices: Devices<C, F, M>) -> Live<C, F, M>
         requires { capture.written ≡ [] }
@@ -56,7 +56,7 @@ impl<C: Console + Drop, F: Folder + Drop, M: Moments + Drop> Live<C, F, M> {
     }
 }
 
-impl<C: Console + Drop, F: Folder + Drop, M: Moments + Drop> Source for Live<C, F, M> {
+impl<C: Console + Drop, F: Folder + Drop, M: ClockAndRandom + Drop> Source for Live<C, F, M> {
     ghost fits = { λ s held. IsCaptureOf s.capture (telling (C.told s.devices.console) (F.told s.devices.folder) (M.told s.devices.moments) (record {
       line = C.in_faults s.devices.console;
       write = C.out_faults s.devices.console;

@@ -6,7 +6,7 @@ use Rattle.prov_outside.specs.declared.trouble.Trouble.TheVariants.{Failed as Fa
 use Rattle.prov_outside.specs.declared.folder.Found.{Found}
 use Rattle.prov_outside.specs.declared.folder.Found.TheVariants.{Bytes, Absent, TooLarge, Failed as Unfound}
 use Rattle.prov_outside.specs.Console.{ConsoleView, IsLine}
-use Rattle.prov_outside.specs.Moments.{MomentsView}
+use Rattle.prov_outside.specs.ClockAndRandom.{ClockAndRandomView}
 use Rattle.capture.specs.declared.answer.Ask.{Ask as Question}
 use Rattle.capture.specs.declared.answer.Ask.TheVariants.{Time, Word, Line}
 use Rattle.capture.specs.declared.answer.Given.{Given}
@@ -28,7 +28,7 @@ as_answer (Ok End) = Ok End
 as_answer (Err want) = Err NoMemory
 
 -- The time that is kept is the one that was given. Where none was, nothing has changed.
-abbrev pub AsksTime : Result Given Want → MomentsView → MomentsView → Type 0
+abbrev pub AsksTime : Result Given Want → ClockAndRandomView → ClockAndRandomView → Type 0
 AsksTime (Ok (Number time)) before after = (after.times ≡ before.times ++ time ∷ []) × (after.words ≡ before.words)
 AsksTime (Ok Failed) before after = after ≡ before
 AsksTime (Ok (WordGiven word)) before after = ⊥
@@ -37,7 +37,7 @@ AsksTime (Ok End) before after = ⊥
 AsksTime (Err want) before after = after ≡ before
 
 -- The word that is kept is the one that was given. Where none was, nothing has changed.
-abbrev pub AsksWord : Result Given Want → MomentsView → MomentsView → Type 0
+abbrev pub AsksWord : Result Given Want → ClockAndRandomView → ClockAndRandomView → Type 0
 AsksWord (Ok (WordGiven word)) before after = (after.words ≡ before.words ++ word ∷ []) × (after.times ≡ before.times)
 AsksWord (Ok Failed) before after = after ≡ before
 AsksWord (Ok (Number time)) before after = ⊥

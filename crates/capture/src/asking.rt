@@ -8,11 +8,11 @@ ghost use Rattle.capture.specs.Asking.{ForAsk, AsksTime, AsksWord, AsksLine, as_
 
 use crate::answer::{Ask, Given};
 use prov_base::{Bytes, Memory};
-use prov_outside::{Console, Folder, Found, Moments, Trouble};
+use prov_outside::{ClockAndRandom, Console, Folder, Found, Trouble};
 use std::alloc::Global;
 
 /// Asks the device that the question is for, and leaves the other.
-pub(crate) fn ask<C: Console, M: Moments>(
+pub(crate) fn ask<C: Console, M: ClockAndRandom>(
     alloc: Global,
     what: Ask,
     console: &mut C,

@@ -19,7 +19,7 @@ use crate::asking::{ask, copy_of_found, copy_of_given, fetch};
 use crate::files::Files;
 use crate::paths::Paths;
 use prov_base::{Memory, Name, Pos};
-use prov_outside::{Console, Folder, Found, Moments};
+use prov_outside::{ClockAndRandom, Console, Folder, Found};
 use std::alloc::Global;
 use std::marker::Model;
 
@@ -56,7 +56,7 @@ impl Capture {
     /// Asks a device and keeps what it gave, under the place and the number behind the last one there, which it answers; a fault
     /// of the device is kept as `Failed`. After an `Err` nothing was asked: the capture is as before, so is what the devices
     /// tell, and no device has failed. It fails where memory runs out, or numbers do.
-    pub fn ask_live<C: Console, M: Moments>(
+    pub fn ask_live<C: Console, M: ClockAndRandom>(
         &mut self,
         alloc: Global,
         what: Ask,

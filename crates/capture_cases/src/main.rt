@@ -1,4 +1,4 @@
-//! The cases of `capture` and of `Moments`, in memory and real. Each line of the input is a command; what it answers is a
+//! The cases of `capture` and of `ClockAndRandom`, in memory and real. Each line of the input is a command; what it answers is a
 //! line of the output, which the gate compares with the file `stdout`. Lines that begin with `#` answer nothing.
 //!
 //! `start LINES|TIMES|WORDS|FILES|NUMBERS|NUMBERS|NUMBERS` makes devices in memory and a new capture: the lines to read, the

@@ -9,8 +9,8 @@ use crate::rows::{
 use crate::texts::{files, halves, lines, number, numbers, place, times};
 use capture::{Ask, Capture, Given};
 use prov_base::{Bytes, Memory, Pos};
-use prov_outside::{Console, Found, MemoryConsole, MemoryFolder, MemoryMoments, Moments};
-use prov_real::RealMoments;
+use prov_outside::{Console, Found, MemoryConsole, MemoryFolder, MemoryClockAndRandom, ClockAndRandom};
+use prov_real::RealClockAndRandom;
 use std::alloc::{AllocError, Global};
 
 /// Devices in memory and a capture.
@@ -18,7 +18,7 @@ use std::alloc::{AllocError, Global};
 pub struct Session {
     capture: Box<Capture>,
     console: Box<MemoryConsole>,
-    moments: Box<MemoryMoments>,
+    moments: Box<MemoryClockAndRandom>,
     folder: Box<MemoryFolder>,
 }
 
@@ -33,11 +33,11 @@ fn moments_of(
     clock: &str,
     random: &str,
     fails: &str,
-) -> Result<Box<MemoryMoments>, AllocError> {
+) -> Result<Box<MemoryClockAndRandom>, AllocError> {
     let clock = times(alloc, clock)?;
     let random = numbers(alloc, random)?;
     let fails = numbers(alloc, fails)?;
-    Ok(Box::new(alloc, MemoryMoments::of(clock, random, fails))?)
+    Ok(Box::new(alloc, MemoryClockAndRandom::of(clock, random, fails))?)
 }
 
 fn folder_of(alloc: Global, found: &str, fails: &str) -> Result<Box<MemoryFolder>, AllocError> {
@@ -296,7 +296,7 @@ impl Session {
 /// The real clock and random words: a time behind the first of January 2020, no earlier time at the next call, and two words
 /// that are not both zero.
 fn real(rt: &HostRuntime, out: &mut Vec<u8>) -> Result<(), AllocError> {
-    let mut moments = RealMoments::new(rt);
+    let mut moments = RealClockAndRandom::new(rt);
     let (first, second) = (moments.now_ns(), moments.now_ns());
     let (word, other) = (moments.word(), moments.word());
     match (first, second, word, other) {

@@ -10,7 +10,7 @@ use keeper_sqlite::SqliteKeeper;
 use now_top::now;
 use prov_base::Name;
 use prov_outside::Console;
-use prov_real::{RealConsole, RealFolder, RealMoments};
+use prov_real::{RealConsole, RealFolder, RealClockAndRandom};
 use std::alloc::AllocError;
 use std::process::ExitCode;
 use std::{env, io};
@@ -50,7 +50,7 @@ fn main(rt: HostRuntime) -> ExitCode {
     let devices = Devices {
         console,
         folder: RealFolder::new(&rt),
-        moments: RealMoments::new(&rt),
+        moments: RealClockAndRandom::new(&rt),
     };
     let (status, _) = now(rt.alloc(), &words, devices, &mut keeper);
     ExitCode::from(status)

@@ -3,7 +3,7 @@ use Rattle.std.specs.Prelude.{◌≡◌, ℕ, Option}
 use Rattle.answer_source.specs.Live.{Faults, telling}
 use Rattle.prov_outside.specs.Console.{ConsoleView}
 use Rattle.prov_outside.specs.Folder.{Files}
-use Rattle.prov_outside.specs.Moments.{MomentsView}
+use Rattle.prov_outside.specs.ClockAndRandom.{ClockAndRandomView}
 use Rattle.prov_outside.specs.Tells.{Tells}
 use Rattle.delivery.specs.Delivered.{Delivered}
 use Rattle.py_model.specs.Capture.{Telling}
@@ -13,7 +13,7 @@ use Rattle.now_top.specs.World.{Plan}
 pub record Seen : Type 0 where
   pub console : Option ConsoleView
   pub folder : Option Files
-  pub moments : Option MomentsView
+  pub moments : Option ClockAndRandomView
   pub faults : Faults
 
 abbrev pub told_by : Seen → Telling

@@ -13,7 +13,7 @@ use answer_source::Devices;
 use delivery::Ending;
 use keeper::Keeper;
 use prov_base::{Memory, Name};
-use prov_outside::{Console, Folder, Moments};
+use prov_outside::{Console, Folder, ClockAndRandom};
 use py_tree::drop_script;
 use recorded_runs::{KeptRun, Recorded, keep_run};
 use std::alloc::Global;
@@ -37,7 +37,7 @@ fn planned_kept<'w>(kept: KeptRun) -> Planned<'w>
 }
 
 /// What a text at FILE comes to: its script is run over the devices, which are given back, and the run is kept.
-fn keep_text<'w, K: Keeper, C: Console + Drop, F: Folder + Drop, M: Moments + Drop>(
+fn keep_text<'w, K: Keeper, C: Console + Drop, F: Folder + Drop, M: ClockAndRandom + Drop>(
     alloc: Global,
     keeper: &mut K,
     file: &'w str,
@@ -91,7 +91,7 @@ fn keep_text<'w, K: Keeper, C: Console + Drop, F: Folder + Drop, M: Moments + Dr
 }
 
 /// What `run` comes to over the devices, which it gives back. The run is kept. Nothing is written, and no file is put.
-pub fn plan_kept<'w, K: Keeper, C: Console + Drop, F: Folder + Drop, M: Moments + Drop>(
+pub fn plan_kept<'w, K: Keeper, C: Console + Drop, F: Folder + Drop, M: ClockAndRandom + Drop>(
     alloc: Global,
     keeper: &mut K,
     file: &'w str,

@@ -19,7 +19,7 @@ use command_words::{Command, read};
 use delivery::Ending;
 use keeper::Keeper;
 use prov_base::Memory;
-use prov_outside::{Console, Folder, Moments};
+use prov_outside::{Console, Folder, ClockAndRandom};
 use std::alloc::Global;
 use straight_line::{Sliced, slice_at};
 
@@ -51,7 +51,7 @@ fn plan_text<'w>(alloc: Global, file: &'w str, text: &[u8], line: u32) -> Planne
 }
 
 /// What `cut FILE LINE` comes to over the devices, which it gives back. Nothing is changed.
-fn plan_cut<'w, C: Console + Drop, F: Folder + Drop, M: Moments + Drop>(
+fn plan_cut<'w, C: Console + Drop, F: Folder + Drop, M: ClockAndRandom + Drop>(
     alloc: Global,
     file: &'w str,
     line: u32,
@@ -93,7 +93,7 @@ fn plan_cut<'w, C: Console + Drop, F: Folder + Drop, M: Moments + Drop>(
 }
 
 /// What the words ask for over the devices, which it gives back; a run that is to be kept is kept, and what is read of the store is read. Nothing is written, and no file is put.
-pub fn plan<'w, K: Keeper, C: Console + Drop, F: Folder + Drop, M: Moments + Drop>(
+pub fn plan<'w, K: Keeper, C: Console + Drop, F: Folder + Drop, M: ClockAndRandom + Drop>(
     alloc: Global,
     words: &'w [String],
     devices: Devices<C, F, M>,

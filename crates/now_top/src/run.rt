@@ -15,7 +15,7 @@ use crate::source::read_source;
 use answer_source::Devices;
 use delivery::Ending;
 use prov_base::{Memory, Name};
-use prov_outside::{Console, Folder, Moments};
+use prov_outside::{Console, Folder, ClockAndRandom};
 use py_tree::{Script, drop_script};
 use run_engine::run_bare;
 use script_reading::{Refusal, read_script};
@@ -38,7 +38,7 @@ pub(crate) fn script_at<'w>(alloc: Global, file: &'w str, text: &[u8]) -> Result
 }
 
 /// What a text at FILE comes to: its script is run over the devices, which are given back.
-fn run_text<'w, C: Console + Drop, F: Folder + Drop, M: Moments + Drop>(
+fn run_text<'w, C: Console + Drop, F: Folder + Drop, M: ClockAndRandom + Drop>(
     alloc: Global,
     file: &'w str,
     text: &[u8],
@@ -87,7 +87,7 @@ fn run_text<'w, C: Console + Drop, F: Folder + Drop, M: Moments + Drop>(
 }
 
 /// What `run --bare` comes to over the devices, which it gives back. Nothing is written, and no file is put.
-pub fn plan_run<'w, C: Console + Drop, F: Folder + Drop, M: Moments + Drop>(
+pub fn plan_run<'w, C: Console + Drop, F: Folder + Drop, M: ClockAndRandom + Drop>(
     alloc: Global,
     file: &'w str,
     steps: u32,

@@ -7,7 +7,7 @@ use crate::deliver::deliver_plan;
 use crate::plan::plan;
 use answer_source::Devices;
 use keeper::Keeper;
-use prov_outside::{Console, Folder, Moments};
+use prov_outside::{Console, Folder, ClockAndRandom};
 use std::alloc::Global;
 
 /// Does what the words ask for over the devices and the store of trials, gives the devices back, and answers the exit status.
@@ -20,7 +20,7 @@ use std::alloc::Global;
 /// The statuses are 0 done, 1 an exception that nothing caught, 2 the words are no command, 3 the script is refused, 4 nothing there. 5 is a console
 /// that failed, 6 a folder that failed, 7 a keeper that failed, 8 want of memory, 9 want of steps, 10 other bytes under the digest of a content, 13 a store that is
 /// full.
-pub fn now<C: Console + Drop, F: Folder + Drop, M: Moments + Drop, K: Keeper>(
+pub fn now<C: Console + Drop, F: Folder + Drop, M: ClockAndRandom + Drop, K: Keeper>(
     alloc: Global,
     words: &[String],
     devices: Devices<C, F, M>,

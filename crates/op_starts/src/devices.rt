@@ -2,14 +2,14 @@
 use answer_source::Devices;
 use op_words::{add_spelled, halves, spelled};
 use prov_base::{Bytes, Name};
-use prov_outside::{MemoryConsole, MemoryFolder, MemoryMoments};
+use prov_outside::{MemoryConsole, MemoryFolder, MemoryClockAndRandom};
 use std::alloc::{AllocError, Global};
 
 /// The bytes of a file that is too large.
 const TOO_MANY_BYTES: usize = 16_777_217;
 
 /// The devices of a row.
-pub(crate) type RowDevices = Devices<MemoryConsole, MemoryFolder, MemoryMoments>;
+pub(crate) type RowDevices = Devices<MemoryConsole, MemoryFolder, MemoryClockAndRandom>;
 
 fn name_of(alloc: Global, word: &str) -> Result<Name, AllocError> {
     Ok(Name::of(String::from_str(alloc, word)?))
@@ -99,17 +99,17 @@ fn folder(alloc: Global, words: &str) -> Result<MemoryFolder, AllocError> {
     Ok(MemoryFolder::of(files(alloc, words)?, refused))
 }
 
-fn moments(alloc: Global, words: &str) -> Result<MemoryMoments, AllocError> {
+fn moments(alloc: Global, words: &str) -> Result<MemoryClockAndRandom, AllocError> {
     let given = numbers(alloc, words, "word")?;
     let refused = numbers(alloc, words, "moments")?;
-    Ok(MemoryMoments::of(times(alloc, words)?, given, refused))
+    Ok(MemoryClockAndRandom::of(times(alloc, words)?, given, refused))
 }
 
 /// The devices that the words of a row have, with these moments.
 fn devices_with(
     alloc: Global,
     words: &str,
-    moments: MemoryMoments,
+    moments: MemoryClockAndRandom,
 ) -> Result<RowDevices, AllocError> {
     let folder = folder(alloc, words)?;
     let console = console(alloc, words)?;

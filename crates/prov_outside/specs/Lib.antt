@@ -3,8 +3,8 @@ pub mod Count
 pub mod Folder
 pub mod MemoryConsole
 pub mod MemoryFolder
-pub mod MemoryMoments
-pub mod Moments
+pub mod MemoryClockAndRandom
+pub mod ClockAndRandom
 pub mod Numbering
 pub mod Tells
 pub mod Trouble

@@ -5,19 +5,19 @@
 #![tactic(auto)]
 
 mod calls;
+mod clock_and_random;
 mod console;
 mod folder;
+mod memory_clock_and_random;
 mod memory_console;
 mod memory_folder;
-mod memory_moments;
-mod moments;
 mod trouble;
 
 pub use calls::Calls;
+pub use clock_and_random::ClockAndRandom;
 pub use console::Console;
 pub use folder::{Folder, Found};
+pub use memory_clock_and_random::MemoryClockAndRandom;
 pub use memory_console::MemoryConsole;
 pub use memory_folder::MemoryFolder;
-pub use memory_moments::MemoryMoments;
-pub use moments::Moments;
 pub use trouble::Trouble;

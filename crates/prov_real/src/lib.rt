@@ -16,15 +16,15 @@
 //! `outside_cases` does so, and runs each real call.
 #![tactic(auto)]
 
+mod clock_and_random;
 mod console;
 mod faults;
 mod folder;
 mod lines;
-mod moments;
 mod stream;
 
+pub use clock_and_random::RealClockAndRandom;
 pub use console::RealConsole;
 pub use folder::RealFolder;
 pub use lines::Unread;
-pub use moments::RealMoments;
 pub use stream::{read_whole, write_whole};

@@ -3,7 +3,7 @@ use Rattle.std.specs.Prelude.{◌≡◌, ℕ, ℤ, List, [], ◌∷◌, ◌++◌
 use Rattle.answer_source.specs.Going.{Same}
 use Rattle.prov_base.specs.declared.refusal.Memory.{Memory}
 use Rattle.prov_outside.specs.Count.{one_more}
-use Rattle.prov_outside.specs.Moments.{MomentsView}
+use Rattle.prov_outside.specs.ClockAndRandom.{ClockAndRandomView}
 use Rattle.prov_outside.specs.Tells.{Tells}
 use Rattle.py_model.specs.Capture.{Telling}
 use Rattle.py_tree.specs.Tree.{ScriptTree}
@@ -14,7 +14,7 @@ use Rattle.recorded_runs.specs.declared.keeping.Timed.{Timed}
 use Rattle.recorded_runs.specs.RecordedRun.{RecordsRun}
 
 -- A clock that is asked gives one time more, or it fails and nothing has changed.
-abbrev pub ClockGives : Option ℤ → MomentsView → MomentsView → Type 0
+abbrev pub ClockGives : Option ℤ → ClockAndRandomView → ClockAndRandomView → Type 0
 ClockGives (Some time) before after = (after.times ≡ before.times ++ time ∷ []) × (after.words ≡ before.words)
 ClockGives None before after = after ≡ before
 

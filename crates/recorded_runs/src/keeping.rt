@@ -13,7 +13,7 @@ use crate::recording::{Recorded, record_run};
 use answer_source::Devices;
 use keeper::Keeper;
 use prov_base::{Memory, Name};
-use prov_outside::{Console, Folder, Moments};
+use prov_outside::{Console, Folder, ClockAndRandom};
 use py_tree::Script;
 use std::alloc::Global;
 use trial_keeping::{TrialFault, keep_trial};
@@ -37,7 +37,7 @@ pub(crate) struct Timed {
 }
 
 /// The time, where the clock gives it.
-fn time_of<M: Moments>(moments: &mut M) -> Option<i64>
+fn time_of<M: ClockAndRandom>(moments: &mut M) -> Option<i64>
     ensures time { Tells (M.told moments.old) (M.told moments.new) (ClockGives result) }
     ensures faults { M.time_faults moments.new ≡ clock_faults result (M.time_faults moments.old) }
     ensures words { M.word_faults moments.new ≡ M.word_faults moments.old }
@@ -49,7 +49,7 @@ fn time_of<M: Moments>(moments: &mut M) -> Option<i64>
 }
 
 /// Asks for the start time, records the run, and asks for the end time. Where memory runs out the end time is not asked for.
-fn time_run<C: Console + Drop, F: Folder + Drop, M: Moments + Drop>(
+fn time_run<C: Console + Drop, F: Folder + Drop, M: ClockAndRandom + Drop>(
     alloc: Global,
     script: &Script,
     path: &str,
@@ -88,7 +88,7 @@ fn time_run<C: Console + Drop, F: Folder + Drop, M: Moments + Drop>(
 
 /// Runs and records the script at a path over devices, which it gives back, and keeps the run as a trial with the script's text, its start time and its end
 /// time. A fault in keeping loses nothing of the run: it is told beside it. Where memory runs out before the keeping, the keeper is not called.
-pub fn keep_run<K: Keeper, C: Console + Drop, F: Folder + Drop, M: Moments + Drop>(
+pub fn keep_run<K: Keeper, C: Console + Drop, F: Folder + Drop, M: ClockAndRandom + Drop>(
     alloc: Global,
     keeper: &mut K,
     text: &[u8],

@@ -4,7 +4,7 @@ use crate::words::{add_bytes, bytes_of, halves};
 use answer_source::Devices;
 use capture::Ended;
 use prov_base::{Bytes, Memory, Name};
-use prov_outside::{MemoryConsole, MemoryFolder, MemoryMoments};
+use prov_outside::{MemoryConsole, MemoryFolder, MemoryClockAndRandom};
 use py_tree::{Script, drop_script};
 use run_engine::run_bare;
 use script_reading::{Refusal, read_script};
@@ -145,18 +145,18 @@ impl Case {
     }
 
     /// What gives the times and words of the case.
-    fn moments(&self, alloc: Global) -> Result<MemoryMoments, AllocError> {
+    fn moments(&self, alloc: Global) -> Result<MemoryClockAndRandom, AllocError> {
         let refused = Vec::from_slice(alloc, &self.moments_refuse)?;
         let words = Vec::from_slice(alloc, &self.words)?;
         let times = Vec::from_slice(alloc, &self.times)?;
-        Ok(MemoryMoments::of(times, words, refused))
+        Ok(MemoryClockAndRandom::of(times, words, refused))
     }
 
     /// The devices of the case, which holds no files afterwards.
     fn devices(
         &mut self,
         alloc: Global,
-    ) -> Result<Devices<MemoryConsole, MemoryFolder, MemoryMoments>, AllocError> {
+    ) -> Result<Devices<MemoryConsole, MemoryFolder, MemoryClockAndRandom>, AllocError> {
         let console = self.console(alloc)?;
         let moments = self.moments(alloc)?;
         let folder = self.folder(alloc)?;

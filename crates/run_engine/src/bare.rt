@@ -9,7 +9,7 @@ use answer_source::{Devices, Live};
 use capture::{Capture, Ended};
 use op_parts::Parts;
 use prov_base::{Memory, Name};
-use prov_outside::{Console, Folder, Moments};
+use prov_outside::{Console, Folder, ClockAndRandom};
 use py_model::{Doer, NoWatch, Watch};
 use py_tree::Script;
 use py_value::Value;
@@ -17,7 +17,7 @@ use std::alloc::Global;
 
 /// Runs the script at a path, with these arguments and so many steps, over devices, which it gives back. What it answers is the run of the script in
 /// the capture that it answers, and that capture is what the devices gave, in the order of asking. Nothing is written and no file is put.
-pub fn run_bare<C: Console + Drop, F: Folder + Drop, M: Moments + Drop>(
+pub fn run_bare<C: Console + Drop, F: Folder + Drop, M: ClockAndRandom + Drop>(
     alloc: Global,
     script: &Script,
     path: &str,
@@ -57,7 +57,7 @@ pub fn run_bare<C: Console + Drop, F: Folder + Drop, M: Moments + Drop>(
 /// Runs the script at a path, with these arguments and so many steps, over devices, which it gives back, and tells the watch each moment of the run
 /// before the next. Its answer is the run in the capture that it answers, as that of [`run_bare`] is, whatever the watch. Where the watch tells what it
 /// was told, that has grown by exactly the moments of that run.
-pub fn run_recorded<C: Console + Drop, F: Folder + Drop, M: Moments + Drop, W: Watch>(
+pub fn run_recorded<C: Console + Drop, F: Folder + Drop, M: ClockAndRandom + Drop, W: Watch>(
     alloc: Global,
     script: &Script,
     path: &str,

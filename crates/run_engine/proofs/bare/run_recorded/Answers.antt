@@ -11,42 +11,42 @@ run-end-requires g c = λ table capture fit. (standing (starting capture c.args.
 
 pub returns-in-Err : goal.returns-in-Err
 returns-in-Err g c = (
-  nothing_done c.args.devices c.args.devices (λ devices. telling (g.C.Console.told devices.console) (g.F.Folder.told devices.folder) (g.M.Moments.told devices.moments) (record {
+  nothing_done c.args.devices c.args.devices (λ devices. telling (g.C.Console.told devices.console) (g.F.Folder.told devices.folder) (g.M.ClockAndRandom.told devices.moments) (record {
     line = g.C.Console.in_faults devices.console;
     write = g.C.Console.out_faults devices.console;
     file = g.F.Folder.get_faults devices.folder;
     source = g.F.Folder.source_faults devices.folder;
     put = g.F.Folder.put_faults devices.folder;
-    time = g.M.Moments.time_faults devices.moments;
-    word = g.M.Moments.word_faults devices.moments;
+    time = g.M.ClockAndRandom.time_faults devices.moments;
+    word = g.M.ClockAndRandom.word_faults devices.moments;
   })) refl,
   tt,
 )
 
 pub returns-in-Err-new : goal.returns-in-Err-new
 returns-in-Err-new g c = (
-  nothing_done c.args.devices c.finish-devices.result.1 (λ devices. telling (g.C.Console.told devices.console) (g.F.Folder.told devices.folder) (g.M.Moments.told devices.moments) (record {
+  nothing_done c.args.devices c.finish-devices.result.1 (λ devices. telling (g.C.Console.told devices.console) (g.F.Folder.told devices.folder) (g.M.ClockAndRandom.told devices.moments) (record {
     line = g.C.Console.in_faults devices.console;
     write = g.C.Console.out_faults devices.console;
     file = g.F.Folder.get_faults devices.folder;
     source = g.F.Folder.source_faults devices.folder;
     put = g.F.Folder.put_faults devices.folder;
-    time = g.M.Moments.time_faults devices.moments;
-    word = g.M.Moments.word_faults devices.moments;
+    time = g.M.ClockAndRandom.time_faults devices.moments;
+    word = g.M.ClockAndRandom.word_faults devices.moments;
   }))
       (c.finish-devices.ensures.devices ∙ (field c.in-Err-new.ensures.back (λ s. s.devices) ∙ c.new-2.ensures.devices)),
   tt,
 )
 
 pub returns : goal.returns
-returns g c = ran_by c.in-Ok-new.parts.source.devices c.args.devices c.run-end.new.doer.source.devices c.finish-capture.result.1 (λ devices. telling (g.C.Console.told devices.console) (g.F.Folder.told devices.folder) (g.M.Moments.told devices.moments) (record {
+returns g c = ran_by c.in-Ok-new.parts.source.devices c.args.devices c.run-end.new.doer.source.devices c.finish-capture.result.1 (λ devices. telling (g.C.Console.told devices.console) (g.F.Folder.told devices.folder) (g.M.ClockAndRandom.told devices.moments) (record {
   line = g.C.Console.in_faults devices.console;
   write = g.C.Console.out_faults devices.console;
   file = g.F.Folder.get_faults devices.folder;
   source = g.F.Folder.source_faults devices.folder;
   put = g.F.Folder.put_faults devices.folder;
-  time = g.M.Moments.time_faults devices.moments;
-  word = g.M.Moments.word_faults devices.moments;
+  time = g.M.ClockAndRandom.time_faults devices.moments;
+  word = g.M.ClockAndRandom.word_faults devices.moments;
 }))
     (script_of c.args.script.now) c.args.path.now c.args.arguments.now c.args.budget c.run-end.new.left c.saturating_sub.result _ _
     c.in-Ok-new.parts.held c.run-end.new.doer.held c.finish-held.result.0 c.in-Ok-new.parts.entered c.run-end.new.doer.entered _

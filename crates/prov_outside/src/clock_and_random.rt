@@ -1,15 +1,15 @@
 // The clock, and the source of random words.
 ghost use Rattle.std.specs.Prelude.{◌≡◌, Option, ℕ};
 ghost use Rattle.prov_outside.specs.Count.{Counts, as_trouble};
-ghost use Rattle.prov_outside.specs.Moments.{MomentsView, GivesTime, GivesWord};
+ghost use Rattle.prov_outside.specs.ClockAndRandom.{ClockAndRandomView, GivesTime, GivesWord};
 ghost use Rattle.prov_outside.specs.Tells.{Tells};
 
 use prov_base::Failed;
 
 /// The time of day, and random words. No call takes memory.
-pub trait Moments {
+pub trait ClockAndRandom {
     /// The times and words that were given so far, where it tells them.
-    ghost told: { Self → Option MomentsView };
+    ghost told: { Self → Option ClockAndRandomView };
 
     /// How often `now_ns` has failed.
     ghost time_faults: { Self → ℕ };

@@ -1,11 +1,11 @@
-// Moments in memory: the times and the words are there from the start, each list in the order of asking.
+// Clock and random words in memory: the times and the words are there from the start, each list in the order of asking.
 ghost use Rattle.std.specs.Prelude.{◌≡◌, ◌↔◌, ◌⊎◌, Some, [], IsErr};
 ghost use Rattle.prov_outside.specs.Count.{Counts, as_trouble};
-ghost use Rattle.prov_outside.specs.MemoryMoments.{TakesFirst};
-ghost use Rattle.prov_outside.specs.Moments.{GivesTime, GivesWord};
+ghost use Rattle.prov_outside.specs.MemoryClockAndRandom.{TakesFirst};
+ghost use Rattle.prov_outside.specs.ClockAndRandom.{GivesTime, GivesWord};
 ghost use Rattle.prov_outside.specs.Numbering.{NextFails, after_call};
 
-use crate::Moments;
+use crate::ClockAndRandom;
 use crate::calls::Calls;
 use prov_base::Failed;
 use std::marker::Model;
@@ -14,7 +14,7 @@ use std::marker::Model;
 /// whatever their kind; a call fails, and raises its own count by one, exactly where its number is in a list that was
 /// given, or where no answer of its kind is left.
 #[derive(Drop, Debug)]
-pub struct MemoryMoments {
+pub struct MemoryClockAndRandom {
     times: Vec<i64>,
     words: Vec<u64>,
     times_given: usize,
@@ -24,11 +24,11 @@ pub struct MemoryMoments {
     word_faults: u64,
 }
 
-impl Model for MemoryMoments {
+impl Model for MemoryClockAndRandom {
     ghost use Rattle.std.specs.Prelude.{◌≤◌, length, take, drop};
-    ghost use Rattle.prov_outside.specs.MemoryMoments.{MemoryMomentsView};
+    ghost use Rattle.prov_outside.specs.MemoryClockAndRandom.{MemoryClockAndRandomView};
 
-    ghost Value = { MemoryMomentsView };
+    ghost Value = { MemoryClockAndRandomView };
 
     ghost view = { λ m. record {
       times = drop m.times_given m.times.items;
@@ -42,9 +42,9 @@ impl Model for MemoryMoments {
     ghost invariant = { λ m. (m.times_given ≤ length m.times.items) × (m.words_given ≤ length m.words.items) };
 }
 
-impl MemoryMoments {
-    /// Moments with these times and words, at which the calls with the listed numbers fail.
-    pub fn of(times: Vec<i64>, words: Vec<u64>, failing: Vec<u64>) -> MemoryMoments
+impl MemoryClockAndRandom {
+    /// A clock and random words with these times and words, at which the calls with the listed numbers fail.
+    pub fn of(times: Vec<i64>, words: Vec<u64>, failing: Vec<u64>) -> MemoryClockAndRandom
         ensures times { result.times ≡ times.items }
         ensures words { result.words ≡ words.items }
         ensures given { result.given ≡ record { times = []; words = [] } }
@@ -52,7 +52,7 @@ impl MemoryMoments {
         ensures time_faults { result.time_faults ≡ 0 }
         ensures word_faults { result.word_faults ≡ 0 }
     {
-        MemoryMoments {
+        MemoryClockAndRandom {
             times,
             words,
             times_given: 0,
@@ -64,7 +64,7 @@ impl MemoryMoments {
     }
 }
 
-impl Moments for MemoryMoments {
+impl ClockAndRandom for MemoryClockAndRandom {
     ghost told = { λ m. Some m.given };
 
     ghost time_faults = { λ m. m.time_faults };

@@ -1,13 +1,13 @@
 -- What moments in memory hold (this project's profile).
 use Rattle.std.specs.Prelude.{◌≡◌, ℕ, ℤ, List, [], ◌∷◌, Result, Ok, Err}
-use Rattle.prov_outside.specs.Moments.{MomentsView}
+use Rattle.prov_outside.specs.ClockAndRandom.{ClockAndRandomView}
 use Rattle.prov_outside.specs.Numbering.{Numbering}
 
 -- the times and the words that are left, those that were given, the numbering of the calls and the counts of the faults
-pub record MemoryMomentsView : Type 0 where
+pub record MemoryClockAndRandomView : Type 0 where
   pub times : List ℤ
   pub words : List ℕ
-  pub given : MomentsView
+  pub given : ClockAndRandomView
   pub calls : Numbering
   pub time_faults : ℕ
   pub word_faults : ℕ

@@ -3,25 +3,25 @@ ghost use Rattle.std.specs.Prelude.{◌≡◌, None};
 
 use crate::faults::counted_fault;
 use prov_base::Failed;
-use prov_outside::Moments;
+use prov_outside::ClockAndRandom;
 use std::random::RandomSource;
 use std::time::{SystemTime, UNIX_EPOCH};
 
 /// The system's clock and its source of random bits. It tells nothing of what they give, and counts the faults of each.
 #[derive(Drop)]
-pub struct RealMoments<'a> {
+pub struct RealClockAndRandom<'a> {
     rt: &'a HostRuntime,
     time_faults: u64,
     word_faults: u64,
 }
 
-impl<'a> RealMoments<'a> {
+impl<'a> RealClockAndRandom<'a> {
     /// The clock and the random bits of the system, with no fault so far. It opens nothing and takes no memory.
-    pub fn new(rt: &'a HostRuntime) -> RealMoments<'a>
-        ensures time_faults { ⟦<RealMoments<'a> as Moments>⟧.time_faults result ≡ 0 }
-        ensures word_faults { ⟦<RealMoments<'a> as Moments>⟧.word_faults result ≡ 0 }
+    pub fn new(rt: &'a HostRuntime) -> RealClockAndRandom<'a>
+        ensures time_faults { ⟦<RealClockAndRandom<'a> as ClockAndRandom>⟧.time_faults result ≡ 0 }
+        ensures word_faults { ⟦<RealClockAndRandom<'a> as ClockAndRandom>⟧.word_faults result ≡ 0 }
     {
-        RealMoments {
+        RealClockAndRandom {
             rt,
             time_faults: 0,
             word_faults: 0,
@@ -29,7 +29,7 @@ impl<'a> RealMoments<'a> {
     }
 }
 
-impl Moments for RealMoments<'_> {
+impl ClockAndRandom for RealClockAndRandom<'_> {
     ghost told = { λ _. None };
 
     ghost time_faults = { λ moments. moments.time_faults };
