@@ -84,3 +84,13 @@ telling console folder moments faults = record {
   time_faults = faults.time;
   word_faults = faults.word;
 }
+
+-- what each device exposes, where it exposes, and how often each of their calls has failed so far
+pub record Seen : Type 0 where
+  pub console : Option ConsoleView
+  pub folder : Option Files
+  pub moments : Option ClockAndRandomView
+  pub faults : Faults
+
+abbrev pub told_by : Seen → Telling
+told_by seen = telling seen.console seen.folder seen.moments seen.faults

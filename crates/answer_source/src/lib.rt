@@ -17,5 +17,5 @@ mod live;
 mod source;
 
 pub use kept::Kept;
-pub use live::{Devices, Live};
+pub use live::{Devices, Exposes, Live};
 pub use source::Source;

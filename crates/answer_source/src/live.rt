@@ -1,6 +1,6 @@
 // A source over devices.
 ghost use Rattle.std.specs.Prelude.{◌≡◌, [], IsTrue};
-ghost use Rattle.answer_source.specs.Live.{IsCaptureOf, AreNumbered, AreFetched, has_file, telling, capture_of};
+ghost use Rattle.answer_source.specs.Live.{IsCaptureOf, AreNumbered, AreFetched, Seen, has_file, telling, capture_of};
 
 use crate::Source;
 use capture::{Ask, Capture, Given};
@@ -17,6 +17,29 @@ pub struct Devices<C: Console, F: Folder, M: ClockAndRandom> {
     pub folder: F,
     /// A clock, and random words.
     pub moments: M,
+}
+
+/// What exposes what it holds, and how often each of its calls has failed.
+pub trait Exposes {
+    /// What is seen of it.
+    ghost seen: { Self → Seen };
+}
+
+impl<C: Console, F: Folder, M: ClockAndRandom> Exposes for Devices<C, F, M> {
+    ghost seen = { λ devices. record {
+      console = C.told devices.console;
+      folder = F.told devices.folder;
+      moments = M.told devices.moments;
+      faults = record {
+        line = C.in_faults devices.console;
+        write = C.out_faults devices.console;
+        file = F.get_faults devices.folder;
+        source = F.source_faults devices.folder;
+        put = F.put_faults devices.folder;
+        time = M.time_faults devices.moments;
+        word = M.word_faults devices.moments;
+      };
+    } };
 }
 
 /// The devices of a run, and the capture of what they gave so far. It owns its devices, and [`Live::finish`] gives them back.

@@ -1,23 +1,9 @@
 -- What is seen of the devices at one moment (this project's profile), and what a stage of a command leaves as it is.
-use Rattle.std.specs.Prelude.{◌≡◌, ℕ, Option}
-use Rattle.answer_source.specs.Live.{Faults, telling}
-use Rattle.prov_outside.specs.Console.{ConsoleView}
-use Rattle.prov_outside.specs.Folder.{Files}
-use Rattle.prov_outside.specs.ClockAndRandom.{ClockAndRandomView}
+use Rattle.std.specs.Prelude.{◌≡◌, ℕ}
+pub use Rattle.answer_source.specs.Live.{Seen, told_by}
 use Rattle.prov_outside.specs.Tells.{Tells}
 use Rattle.delivery.specs.Delivered.{Delivered}
-use Rattle.py_model.specs.Capture.{Telling}
 use Rattle.now_top.specs.World.{Plan}
-
--- what each device tells, where it tells, and how often each of their calls has failed so far
-pub record Seen : Type 0 where
-  pub console : Option ConsoleView
-  pub folder : Option Files
-  pub moments : Option ClockAndRandomView
-  pub faults : Faults
-
-abbrev pub told_by : Seen → Telling
-told_by seen = telling seen.console seen.folder seen.moments seen.faults
 
 -- A script's own text may have been read, and nothing else was done.
 pub record OnlyReads (before after : Seen) : Type 0 where

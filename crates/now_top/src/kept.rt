@@ -9,11 +9,11 @@ ghost use Rattle.now_top.specs.Unkept.{with_keeping};
 use crate::planned::Planned;
 use crate::run::script_at;
 use crate::source::read_source;
-use answer_source::Devices;
+use answer_source::{Devices, Exposes};
 use delivery::Ending;
 use keeper::Keeper;
 use prov_base::{Memory, Name};
-use prov_outside::{Console, Folder, ClockAndRandom};
+use prov_outside::{ClockAndRandom, Console, Folder};
 use py_tree::drop_script;
 use recorded_runs::{KeptRun, Recorded, keep_run};
 use std::alloc::Global;
@@ -47,33 +47,7 @@ fn keep_text<'w, K: Keeper, C: Console + Drop, F: Folder + Drop, M: ClockAndRand
     devices: Devices<C, F, M>,
 ) -> (Planned<'w>, Devices<C, F, M>)
     requires batch { K.is_open keeper.old ≡ false }
-    ensures keeps { KeepsText file.now text.now steps arguments.now (record {
-      console = C.told devices.console;
-      folder = F.told devices.folder;
-      moments = M.told devices.moments;
-      faults = record {
-        line = C.in_faults devices.console;
-        write = C.out_faults devices.console;
-        file = F.get_faults devices.folder;
-        source = F.source_faults devices.folder;
-        put = F.put_faults devices.folder;
-        time = M.time_faults devices.moments;
-        word = M.word_faults devices.moments;
-      };
-    }) (record {
-      console = C.told result.1.console;
-      folder = F.told result.1.folder;
-      moments = M.told result.1.moments;
-      faults = record {
-        line = C.in_faults result.1.console;
-        write = C.out_faults result.1.console;
-        file = F.get_faults result.1.folder;
-        source = F.source_faults result.1.folder;
-        put = F.put_faults result.1.folder;
-        time = M.time_faults result.1.moments;
-        word = M.word_faults result.1.moments;
-      };
-    }) (record { told = K.told keeper.old; faults = K.faults keeper.old }) (record { told = K.told keeper.new; faults = K.faults keeper.new }) (K.may_leave keeper.old) (K.may_leave keeper.new) (plan_of result.0) }
+    ensures keeps { KeepsText file.now text.now steps arguments.now (⟦<Devices<C, F, M> as Exposes>⟧.seen devices) (⟦<Devices<C, F, M> as Exposes>⟧.seen result.1) (record { told = K.told keeper.old; faults = K.faults keeper.old }) (record { told = K.told keeper.new; faults = K.faults keeper.new }) (K.may_leave keeper.old) (K.may_leave keeper.new) (plan_of result.0) }
     ensures batch { K.is_open keeper.new ≡ false }
 {
     let script = match script_at(alloc, file, text) {
@@ -100,33 +74,7 @@ pub fn plan_kept<'w, K: Keeper, C: Console + Drop, F: Folder + Drop, M: ClockAnd
     mut devices: Devices<C, F, M>,
 ) -> (Planned<'w>, Devices<C, F, M>)
     requires batch { K.is_open keeper.old ≡ false }
-    ensures plans { PlansWith (Some (run_kept_command steps file.now arguments.now)) (record {
-      console = C.told devices.console;
-      folder = F.told devices.folder;
-      moments = M.told devices.moments;
-      faults = record {
-        line = C.in_faults devices.console;
-        write = C.out_faults devices.console;
-        file = F.get_faults devices.folder;
-        source = F.source_faults devices.folder;
-        put = F.put_faults devices.folder;
-        time = M.time_faults devices.moments;
-        word = M.word_faults devices.moments;
-      };
-    }) (record {
-      console = C.told result.1.console;
-      folder = F.told result.1.folder;
-      moments = M.told result.1.moments;
-      faults = record {
-        line = C.in_faults result.1.console;
-        write = C.out_faults result.1.console;
-        file = F.get_faults result.1.folder;
-        source = F.source_faults result.1.folder;
-        put = F.put_faults result.1.folder;
-        time = M.time_faults result.1.moments;
-        word = M.word_faults result.1.moments;
-      };
-    }) (record { told = K.told keeper.old; faults = K.faults keeper.old }) (record { told = K.told keeper.new; faults = K.faults keeper.new }) (K.may_leave keeper.old) (K.may_leave keeper.new) (plan_of result.0) }
+    ensures plans { PlansWith (Some (run_kept_command steps file.now arguments.now)) (⟦<Devices<C, F, M> as Exposes>⟧.seen devices) (⟦<Devices<C, F, M> as Exposes>⟧.seen result.1) (record { told = K.told keeper.old; faults = K.faults keeper.old }) (record { told = K.told keeper.new; faults = K.faults keeper.new }) (K.may_leave keeper.old) (K.may_leave keeper.new) (plan_of result.0) }
     ensures batch { K.is_open keeper.new ≡ false }
 {
     match read_source(alloc, file, &mut devices.folder) {

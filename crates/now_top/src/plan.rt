@@ -14,12 +14,12 @@ use crate::kept::plan_kept;
 use crate::planned::Planned;
 use crate::run::plan_run;
 use crate::source::read_source;
-use answer_source::Devices;
+use answer_source::{Devices, Exposes};
 use command_words::{Command, read};
 use delivery::Ending;
 use keeper::Keeper;
 use prov_base::Memory;
-use prov_outside::{Console, Folder, ClockAndRandom};
+use prov_outside::{ClockAndRandom, Console, Folder};
 use std::alloc::Global;
 use straight_line::{Sliced, slice_at};
 
@@ -58,33 +58,7 @@ fn plan_cut<'w, C: Console + Drop, F: Folder + Drop, M: ClockAndRandom + Drop>(
     mut devices: Devices<C, F, M>,
 ) -> (Planned<'w>, Devices<C, F, M>)
     requires { 1 ≤ line }
-    ensures { (tables : Option TablesView) → Prepares (Some (cut file.now line)) tables (record {
-      console = C.told devices.console;
-      folder = F.told devices.folder;
-      moments = M.told devices.moments;
-      faults = record {
-        line = C.in_faults devices.console;
-        write = C.out_faults devices.console;
-        file = F.get_faults devices.folder;
-        source = F.source_faults devices.folder;
-        put = F.put_faults devices.folder;
-        time = M.time_faults devices.moments;
-        word = M.word_faults devices.moments;
-      };
-    }) (record {
-      console = C.told result.1.console;
-      folder = F.told result.1.folder;
-      moments = M.told result.1.moments;
-      faults = record {
-        line = C.in_faults result.1.console;
-        write = C.out_faults result.1.console;
-        file = F.get_faults result.1.folder;
-        source = F.source_faults result.1.folder;
-        put = F.put_faults result.1.folder;
-        time = M.time_faults result.1.moments;
-        word = M.word_faults result.1.moments;
-      };
-    }) (plan_of result.0) }
+    ensures { (tables : Option TablesView) → Prepares (Some (cut file.now line)) tables (⟦<Devices<C, F, M> as Exposes>⟧.seen devices) (⟦<Devices<C, F, M> as Exposes>⟧.seen result.1) (plan_of result.0) }
 {
     match read_source(alloc, file, &mut devices.folder) {
         Ok(text) => (plan_text(alloc, file, text.as_slice(), line), devices),
@@ -100,33 +74,7 @@ pub fn plan<'w, K: Keeper, C: Console + Drop, F: Folder + Drop, M: ClockAndRando
     keeper: &mut K,
 ) -> (Planned<'w>, Devices<C, F, M>)
     requires batch { K.is_open keeper.old ≡ false }
-    ensures plans { PlansWith (command_of (map string_bytes words.now)) (record {
-      console = C.told devices.console;
-      folder = F.told devices.folder;
-      moments = M.told devices.moments;
-      faults = record {
-        line = C.in_faults devices.console;
-        write = C.out_faults devices.console;
-        file = F.get_faults devices.folder;
-        source = F.source_faults devices.folder;
-        put = F.put_faults devices.folder;
-        time = M.time_faults devices.moments;
-        word = M.word_faults devices.moments;
-      };
-    }) (record {
-      console = C.told result.1.console;
-      folder = F.told result.1.folder;
-      moments = M.told result.1.moments;
-      faults = record {
-        line = C.in_faults result.1.console;
-        write = C.out_faults result.1.console;
-        file = F.get_faults result.1.folder;
-        source = F.source_faults result.1.folder;
-        put = F.put_faults result.1.folder;
-        time = M.time_faults result.1.moments;
-        word = M.word_faults result.1.moments;
-      };
-    }) (record { told = K.told keeper.old; faults = K.faults keeper.old }) (record { told = K.told keeper.new; faults = K.faults keeper.new }) (K.may_leave keeper.old) (K.may_leave keeper.new) (plan_of result.0) }
+    ensures plans { PlansWith (command_of (map string_bytes words.now)) (⟦<Devices<C, F, M> as Exposes>⟧.seen devices) (⟦<Devices<C, F, M> as Exposes>⟧.seen result.1) (record { told = K.told keeper.old; faults = K.faults keeper.old }) (record { told = K.told keeper.new; faults = K.faults keeper.new }) (K.may_leave keeper.old) (K.may_leave keeper.new) (plan_of result.0) }
     ensures batch { K.is_open keeper.new ≡ false }
 {
     match read(alloc, words) {

@@ -12,10 +12,10 @@ ghost use Rattle.script_reading.specs.Reading.{HasScript};
 
 use crate::planned::Planned;
 use crate::source::read_source;
-use answer_source::Devices;
+use answer_source::{Devices, Exposes};
 use delivery::Ending;
 use prov_base::{Memory, Name};
-use prov_outside::{Console, Folder, ClockAndRandom};
+use prov_outside::{ClockAndRandom, Console, Folder};
 use py_tree::{Script, drop_script};
 use run_engine::run_bare;
 use script_reading::{Refusal, read_script};
@@ -46,33 +46,7 @@ fn run_text<'w, C: Console + Drop, F: Folder + Drop, M: ClockAndRandom + Drop>(
     arguments: &[Name],
     devices: Devices<C, F, M>,
 ) -> (Planned<'w>, Devices<C, F, M>)
-    ensures { RunsOver file.now text.now steps arguments.now (record {
-      console = C.told devices.console;
-      folder = F.told devices.folder;
-      moments = M.told devices.moments;
-      faults = record {
-        line = C.in_faults devices.console;
-        write = C.out_faults devices.console;
-        file = F.get_faults devices.folder;
-        source = F.source_faults devices.folder;
-        put = F.put_faults devices.folder;
-        time = M.time_faults devices.moments;
-        word = M.word_faults devices.moments;
-      };
-    }) (record {
-      console = C.told result.1.console;
-      folder = F.told result.1.folder;
-      moments = M.told result.1.moments;
-      faults = record {
-        line = C.in_faults result.1.console;
-        write = C.out_faults result.1.console;
-        file = F.get_faults result.1.folder;
-        source = F.source_faults result.1.folder;
-        put = F.put_faults result.1.folder;
-        time = M.time_faults result.1.moments;
-        word = M.word_faults result.1.moments;
-      };
-    }) (plan_of result.0) }
+    ensures { RunsOver file.now text.now steps arguments.now (⟦<Devices<C, F, M> as Exposes>⟧.seen devices) (⟦<Devices<C, F, M> as Exposes>⟧.seen result.1) (plan_of result.0) }
 {
     let script = match script_at(alloc, file, text) {
         Ok(script) => script,
@@ -94,33 +68,7 @@ pub fn plan_run<'w, C: Console + Drop, F: Folder + Drop, M: ClockAndRandom + Dro
     arguments: &[Name],
     mut devices: Devices<C, F, M>,
 ) -> (Planned<'w>, Devices<C, F, M>)
-    ensures { (tables : Option TablesView) → Prepares (Some (run_bare_command steps file.now arguments.now)) tables (record {
-      console = C.told devices.console;
-      folder = F.told devices.folder;
-      moments = M.told devices.moments;
-      faults = record {
-        line = C.in_faults devices.console;
-        write = C.out_faults devices.console;
-        file = F.get_faults devices.folder;
-        source = F.source_faults devices.folder;
-        put = F.put_faults devices.folder;
-        time = M.time_faults devices.moments;
-        word = M.word_faults devices.moments;
-      };
-    }) (record {
-      console = C.told result.1.console;
-      folder = F.told result.1.folder;
-      moments = M.told result.1.moments;
-      faults = record {
-        line = C.in_faults result.1.console;
-        write = C.out_faults result.1.console;
-        file = F.get_faults result.1.folder;
-        source = F.source_faults result.1.folder;
-        put = F.put_faults result.1.folder;
-        time = M.time_faults result.1.moments;
-        word = M.word_faults result.1.moments;
-      };
-    }) (plan_of result.0) }
+    ensures { (tables : Option TablesView) → Prepares (Some (run_bare_command steps file.now arguments.now)) tables (⟦<Devices<C, F, M> as Exposes>⟧.seen devices) (⟦<Devices<C, F, M> as Exposes>⟧.seen result.1) (plan_of result.0) }
 {
     match read_source(alloc, file, &mut devices.folder) {
         Ok(text) => run_text(alloc, file, text.as_slice(), steps, arguments, devices),

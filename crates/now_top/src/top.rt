@@ -5,9 +5,9 @@ ghost use Rattle.now_top.specs.Replies.{RepliesWith};
 
 use crate::deliver::deliver_plan;
 use crate::plan::plan;
-use answer_source::Devices;
+use answer_source::{Devices, Exposes};
 use keeper::Keeper;
-use prov_outside::{Console, Folder, ClockAndRandom};
+use prov_outside::{ClockAndRandom, Console, Folder};
 use std::alloc::Global;
 
 /// Does what the words ask for over the devices and the store of trials, gives the devices back, and answers the exit status.
@@ -29,33 +29,7 @@ pub fn now<C: Console + Drop, F: Folder + Drop, M: ClockAndRandom + Drop, K: Kee
     requires batch { K.is_open keeper.old ≡ false }
     // FILE is read, its script is run over the devices and kept, and what the words mean over the folder's files and what the devices gave is
     // delivered; or a fault that was counted, or want of memory, stands in its place.
-    ensures reply { RepliesWith (map string_bytes words.now) (record {
-      console = C.told devices.console;
-      folder = F.told devices.folder;
-      moments = M.told devices.moments;
-      faults = record {
-        line = C.in_faults devices.console;
-        write = C.out_faults devices.console;
-        file = F.get_faults devices.folder;
-        source = F.source_faults devices.folder;
-        put = F.put_faults devices.folder;
-        time = M.time_faults devices.moments;
-        word = M.word_faults devices.moments;
-      };
-    }) (record {
-      console = C.told result.1.console;
-      folder = F.told result.1.folder;
-      moments = M.told result.1.moments;
-      faults = record {
-        line = C.in_faults result.1.console;
-        write = C.out_faults result.1.console;
-        file = F.get_faults result.1.folder;
-        source = F.source_faults result.1.folder;
-        put = F.put_faults result.1.folder;
-        time = M.time_faults result.1.moments;
-        word = M.word_faults result.1.moments;
-      };
-    }) (record { told = K.told keeper.old; faults = K.faults keeper.old }) (record { told = K.told keeper.new; faults = K.faults keeper.new }) (K.may_leave keeper.old) (K.may_leave keeper.new) result.0 }
+    ensures reply { RepliesWith (map string_bytes words.now) (⟦<Devices<C, F, M> as Exposes>⟧.seen devices) (⟦<Devices<C, F, M> as Exposes>⟧.seen result.1) (record { told = K.told keeper.old; faults = K.faults keeper.old }) (record { told = K.told keeper.new; faults = K.faults keeper.new }) (K.may_leave keeper.old) (K.may_leave keeper.new) result.0 }
     ensures batch { K.is_open keeper.new ≡ false }
 {
     let (planned, mut devices) = plan(alloc, words, devices, keeper);

@@ -1,6 +1,6 @@
 // A run that is kept as a trial, with its times of start and end.
 ghost use Rattle.std.specs.Prelude.{◌≡◌, false, IfOk, IfErr, OnErr, IfSome};
-ghost use Rattle.answer_source.specs.Live.{telling};
+ghost use Rattle.answer_source.specs.Live.{told_by};
 ghost use Rattle.keeper.specs.Keeping.{AreKept};
 ghost use Rattle.prov_outside.specs.Tells.{Tells};
 ghost use Rattle.py_tree.specs.Erasure.{script_of};
@@ -10,10 +10,10 @@ ghost use Rattle.trial_parts.specs.Causes.{Causes};
 ghost use Rattle.recorded_runs.specs.KeptRun.{ClockGives, clock_faults, TimesRun, TimedRuns, run_in};
 
 use crate::recording::{Recorded, record_run};
-use answer_source::Devices;
+use answer_source::{Devices, Exposes};
 use keeper::Keeper;
 use prov_base::{Memory, Name};
-use prov_outside::{Console, Folder, ClockAndRandom};
+use prov_outside::{ClockAndRandom, Console, Folder};
 use py_tree::Script;
 use std::alloc::Global;
 use trial_keeping::{TrialFault, keep_trial};
@@ -57,23 +57,7 @@ fn time_run<C: Console + Drop, F: Folder + Drop, M: ClockAndRandom + Drop>(
     budget: u32,
     mut devices: Devices<C, F, M>,
 ) -> (Result<Timed, Memory>, Devices<C, F, M>)
-    ensures { TimedRuns (script_of script.now) path.now arguments.now budget (telling (C.told devices.console) (F.told devices.folder) (M.told devices.moments) (record {
-      line = C.in_faults devices.console;
-      write = C.out_faults devices.console;
-      file = F.get_faults devices.folder;
-      source = F.source_faults devices.folder;
-      put = F.put_faults devices.folder;
-      time = M.time_faults devices.moments;
-      word = M.word_faults devices.moments;
-    })) (telling (C.told result.1.console) (F.told result.1.folder) (M.told result.1.moments) (record {
-      line = C.in_faults result.1.console;
-      write = C.out_faults result.1.console;
-      file = F.get_faults result.1.folder;
-      source = F.source_faults result.1.folder;
-      put = F.put_faults result.1.folder;
-      time = M.time_faults result.1.moments;
-      word = M.word_faults result.1.moments;
-    })) result.0 }
+    ensures { TimedRuns (script_of script.now) path.now arguments.now budget (told_by (⟦<Devices<C, F, M> as Exposes>⟧.seen devices)) (told_by (⟦<Devices<C, F, M> as Exposes>⟧.seen result.1)) result.0 }
 {
     let started = time_of(&mut devices.moments);
     let (ran, mut devices) = record_run(alloc, script, path, arguments, budget, devices);
@@ -99,23 +83,7 @@ pub fn keep_run<K: Keeper, C: Console + Drop, F: Folder + Drop, M: ClockAndRando
     devices: Devices<C, F, M>,
 ) -> (Result<KeptRun, Memory>, Devices<C, F, M>)
     requires batch { K.is_open keeper.old ≡ false }
-    ensures runs { TimesRun (script_of script.now) path.now arguments.now budget (telling (C.told devices.console) (F.told devices.folder) (M.told devices.moments) (record {
-      line = C.in_faults devices.console;
-      write = C.out_faults devices.console;
-      file = F.get_faults devices.folder;
-      source = F.source_faults devices.folder;
-      put = F.put_faults devices.folder;
-      time = M.time_faults devices.moments;
-      word = M.word_faults devices.moments;
-    })) (telling (C.told result.1.console) (F.told result.1.folder) (M.told result.1.moments) (record {
-      line = C.in_faults result.1.console;
-      write = C.out_faults result.1.console;
-      file = F.get_faults result.1.folder;
-      source = F.source_faults result.1.folder;
-      put = F.put_faults result.1.folder;
-      time = M.time_faults result.1.moments;
-      word = M.word_faults result.1.moments;
-    })) result.0 }
+    ensures runs { TimesRun (script_of script.now) path.now arguments.now budget (told_by (⟦<Devices<C, F, M> as Exposes>⟧.seen devices)) (told_by (⟦<Devices<C, F, M> as Exposes>⟧.seen result.1)) result.0 }
     ensures keeps { IfOk result.0 (λ it. Tells (K.told keeper.old) (K.told keeper.new) (KeepsTrial (run_in text.now path.now arguments.now budget it) it.number)) }
     ensures of_keeping { IfOk result.0 (λ it. IfErr it.number IsOfKeeping) }
     ensures stops { IfOk result.0 (λ it. Tells (K.told keeper.old) (K.told keeper.new)

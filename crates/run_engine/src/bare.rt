@@ -1,15 +1,15 @@
 // A run over devices, with a watch or none.
-ghost use Rattle.answer_source.specs.Live.{telling};
+ghost use Rattle.answer_source.specs.Live.{told_by};
 ghost use Rattle.py_tree.specs.Erasure.{script_of};
 ghost use Rattle.run_engine.specs.Bare.{RunsBare, RunsRecorded};
 
 use crate::ending::over;
 use crate::engine::run;
-use answer_source::{Devices, Live};
+use answer_source::{Devices, Exposes, Live};
 use capture::{Capture, Ended};
 use op_parts::Parts;
 use prov_base::{Memory, Name};
-use prov_outside::{Console, Folder, ClockAndRandom};
+use prov_outside::{ClockAndRandom, Console, Folder};
 use py_model::{Doer, NoWatch, Watch};
 use py_tree::Script;
 use py_value::Value;
@@ -25,23 +25,7 @@ pub fn run_bare<C: Console + Drop, F: Folder + Drop, M: ClockAndRandom + Drop>(
     budget: u32,
     devices: Devices<C, F, M>,
 ) -> (Result<Ended, Memory>, Devices<C, F, M>)
-    ensures { RunsBare (script_of script.now) path.now arguments.now budget (telling (C.told devices.console) (F.told devices.folder) (M.told devices.moments) (record {
-      line = C.in_faults devices.console;
-      write = C.out_faults devices.console;
-      file = F.get_faults devices.folder;
-      source = F.source_faults devices.folder;
-      put = F.put_faults devices.folder;
-      time = M.time_faults devices.moments;
-      word = M.word_faults devices.moments;
-    })) (telling (C.told result.1.console) (F.told result.1.folder) (M.told result.1.moments) (record {
-      line = C.in_faults result.1.console;
-      write = C.out_faults result.1.console;
-      file = F.get_faults result.1.folder;
-      source = F.source_faults result.1.folder;
-      put = F.put_faults result.1.folder;
-      time = M.time_faults result.1.moments;
-      word = M.word_faults result.1.moments;
-    })) result.0 }
+    ensures { RunsBare (script_of script.now) path.now arguments.now budget (told_by (⟦<Devices<C, F, M> as Exposes>⟧.seen devices)) (told_by (⟦<Devices<C, F, M> as Exposes>⟧.seen result.1)) result.0 }
 {
     run_recorded(
         alloc,
@@ -66,23 +50,7 @@ pub fn run_recorded<C: Console + Drop, F: Folder + Drop, M: ClockAndRandom + Dro
     devices: Devices<C, F, M>,
     watch: &mut W,
 ) -> (Result<Ended, Memory>, Devices<C, F, M>)
-    ensures { RunsRecorded (script_of script.now) path.now arguments.now budget (telling (C.told devices.console) (F.told devices.folder) (M.told devices.moments) (record {
-      line = C.in_faults devices.console;
-      write = C.out_faults devices.console;
-      file = F.get_faults devices.folder;
-      source = F.source_faults devices.folder;
-      put = F.put_faults devices.folder;
-      time = M.time_faults devices.moments;
-      word = M.word_faults devices.moments;
-    })) (telling (C.told result.1.console) (F.told result.1.folder) (M.told result.1.moments) (record {
-      line = C.in_faults result.1.console;
-      write = C.out_faults result.1.console;
-      file = F.get_faults result.1.folder;
-      source = F.source_faults result.1.folder;
-      put = F.put_faults result.1.folder;
-      time = M.time_faults result.1.moments;
-      word = M.word_faults result.1.moments;
-    })) (W.history watch.old) (W.history watch.new) result.0 }
+    ensures { RunsRecorded (script_of script.now) path.now arguments.now budget (told_by (⟦<Devices<C, F, M> as Exposes>⟧.seen devices)) (told_by (⟦<Devices<C, F, M> as Exposes>⟧.seen result.1)) (W.history watch.old) (W.history watch.new) result.0 }
 {
     let capture = match Capture::new(alloc) {
         Ok(capture) => capture,
