@@ -5,3 +5,4 @@ pub mod Meanings
 pub mod OneMeaning
 pub mod Words
 pub mod Answering
+pub mod Promising

@@ -86,6 +86,10 @@ pub record Stored : Type 0 where
   pub told : Option KeeperView
   pub faults : ℕ
 
+-- what a keeper exposes and has counted
+abbrev pub stored : {K : Type 0} → (K → Option KeeperView) → (K → ℕ) → K → Stored
+stored told faults keeper = record { told = told keeper; faults = faults keeper }
+
 -- the tables that the keeper told before and after, where it told them both times
 abbrev pub tables_in : Option KeeperView → Option KeeperView → Option TablesView
 tables_in (Some old) (Some new) = Some old.committed

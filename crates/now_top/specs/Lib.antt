@@ -13,3 +13,4 @@ pub mod Running
 pub mod KeepingRun
 pub mod Asking
 pub mod Replies
+pub mod Promises

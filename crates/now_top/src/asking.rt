@@ -1,6 +1,7 @@
 // What is read of the store of trials.
 ghost use Rattle.std.specs.Prelude.{◌≡◌, false};
 ghost use Rattle.now_top.specs.Asking.{AnswersQuery};
+ghost use Rattle.now_top.specs.Kept.{stored};
 ghost use Rattle.now_top.specs.Planned.{plan_of, plan_of_text};
 
 use crate::planned::{Planned, ending_without};
@@ -24,7 +25,7 @@ fn planned_text<'w>(text: Result<Bytes, TrialFault>) -> Planned<'w>
 /// What a question to the store comes to. Nothing is changed there.
 pub fn answer_query<'w, K: Keeper>(alloc: Global, keeper: &mut K, query: Query) -> Planned<'w>
     requires batch { K.is_open keeper.old ≡ false }
-    ensures answers { AnswersQuery query (record { told = K.told keeper.old; faults = K.faults keeper.old }) (record { told = K.told keeper.new; faults = K.faults keeper.new })
+    ensures answers { AnswersQuery query (stored K.told K.faults keeper.old) (stored K.told K.faults keeper.new)
         (K.may_leave keeper.old) (K.may_leave keeper.new) (plan_of result) }
     ensures batch { K.is_open keeper.new ≡ false }
 {

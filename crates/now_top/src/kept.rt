@@ -2,6 +2,7 @@
 ghost use Rattle.std.specs.Prelude.{◌≡◌, false, Some};
 ghost use Rattle.command_words.specs.Command.{run_kept as run_kept_command};
 ghost use Rattle.now_top.specs.KeepingRun.{KeepsText};
+ghost use Rattle.now_top.specs.Kept.{stored};
 ghost use Rattle.now_top.specs.Planned.{plan_of, plan_of_run};
 ghost use Rattle.now_top.specs.Replies.{PlansWith};
 ghost use Rattle.now_top.specs.Unkept.{with_keeping};
@@ -47,7 +48,7 @@ fn keep_text<'w, K: Keeper, C: Console + Drop, F: Folder + Drop, M: ClockAndRand
     devices: Devices<C, F, M>,
 ) -> (Planned<'w>, Devices<C, F, M>)
     requires batch { K.is_open keeper.old ≡ false }
-    ensures keeps { KeepsText file.now text.now steps arguments.now (⟦<Devices<C, F, M> as Exposes>⟧.seen devices) (⟦<Devices<C, F, M> as Exposes>⟧.seen result.1) (record { told = K.told keeper.old; faults = K.faults keeper.old }) (record { told = K.told keeper.new; faults = K.faults keeper.new }) (K.may_leave keeper.old) (K.may_leave keeper.new) (plan_of result.0) }
+    ensures keeps { KeepsText file.now text.now steps arguments.now (⟦<Devices<C, F, M> as Exposes>⟧.seen devices) (⟦<Devices<C, F, M> as Exposes>⟧.seen result.1) (stored K.told K.faults keeper.old) (stored K.told K.faults keeper.new) (K.may_leave keeper.old) (K.may_leave keeper.new) (plan_of result.0) }
     ensures batch { K.is_open keeper.new ≡ false }
 {
     let script = match script_at(alloc, file, text) {
@@ -74,7 +75,7 @@ pub fn plan_kept<'w, K: Keeper, C: Console + Drop, F: Folder + Drop, M: ClockAnd
     mut devices: Devices<C, F, M>,
 ) -> (Planned<'w>, Devices<C, F, M>)
     requires batch { K.is_open keeper.old ≡ false }
-    ensures plans { PlansWith (Some (run_kept_command steps file.now arguments.now)) (⟦<Devices<C, F, M> as Exposes>⟧.seen devices) (⟦<Devices<C, F, M> as Exposes>⟧.seen result.1) (record { told = K.told keeper.old; faults = K.faults keeper.old }) (record { told = K.told keeper.new; faults = K.faults keeper.new }) (K.may_leave keeper.old) (K.may_leave keeper.new) (plan_of result.0) }
+    ensures plans { PlansWith (Some (run_kept_command steps file.now arguments.now)) (⟦<Devices<C, F, M> as Exposes>⟧.seen devices) (⟦<Devices<C, F, M> as Exposes>⟧.seen result.1) (stored K.told K.faults keeper.old) (stored K.told K.faults keeper.new) (K.may_leave keeper.old) (K.may_leave keeper.new) (plan_of result.0) }
     ensures batch { K.is_open keeper.new ≡ false }
 {
     match read_source(alloc, file, &mut devices.folder) {

@@ -5,6 +5,7 @@ ghost use Rattle.command_words.specs.Command.{cut, command_of};
 ghost use Rattle.delivery.specs.Ending.{out_of_memory};
 ghost use Rattle.keeper.specs.Tables.{TablesView};
 ghost use Rattle.now_top.specs.CutCommand.{CutsText};
+ghost use Rattle.now_top.specs.Kept.{stored};
 ghost use Rattle.now_top.specs.Planned.{plan_of};
 ghost use Rattle.now_top.specs.Replies.{Prepares, PlansWith};
 ghost use Rattle.now_top.specs.World.{closing};
@@ -74,7 +75,7 @@ pub fn plan<'w, K: Keeper, C: Console + Drop, F: Folder + Drop, M: ClockAndRando
     keeper: &mut K,
 ) -> (Planned<'w>, Devices<C, F, M>)
     requires batch { K.is_open keeper.old ≡ false }
-    ensures plans { PlansWith (command_of (map string_bytes words.now)) (⟦<Devices<C, F, M> as Exposes>⟧.seen devices) (⟦<Devices<C, F, M> as Exposes>⟧.seen result.1) (record { told = K.told keeper.old; faults = K.faults keeper.old }) (record { told = K.told keeper.new; faults = K.faults keeper.new }) (K.may_leave keeper.old) (K.may_leave keeper.new) (plan_of result.0) }
+    ensures plans { PlansWith (command_of (map string_bytes words.now)) (⟦<Devices<C, F, M> as Exposes>⟧.seen devices) (⟦<Devices<C, F, M> as Exposes>⟧.seen result.1) (stored K.told K.faults keeper.old) (stored K.told K.faults keeper.new) (K.may_leave keeper.old) (K.may_leave keeper.new) (plan_of result.0) }
     ensures batch { K.is_open keeper.new ≡ false }
 {
     match read(alloc, words) {

@@ -1,9 +1,14 @@
 // The top call.
-ghost use Rattle.std.specs.Prelude.{◌≡◌, false, map};
+ghost use Rattle.std.specs.Prelude.{◌≡◌, ◌⊎◌, ℕ, false, List, map, Some};
 ghost use Rattle.std.specs.String.{string_bytes};
+ghost use Rattle.command_words.specs.Command.{command_of, run_kept};
+ghost use Rattle.now_top.specs.Completes.{IsTold};
+ghost use Rattle.now_top.specs.Promises.{DidAll, KeptRun, WrotePrefix};
 ghost use Rattle.now_top.specs.Replies.{RepliesWith};
+ghost use Rattle.now_top.specs.Kept.{stored, tables_told};
 
 use crate::deliver::deliver_plan;
+use crate::laws::{does_as_meant, keeps_trial, writes_prefixes};
 use crate::plan::plan;
 use answer_source::{Devices, Exposes};
 use keeper::Keeper;
@@ -29,9 +34,20 @@ pub fn now<C: Console + Drop, F: Folder + Drop, M: ClockAndRandom + Drop, K: Kee
     requires batch { K.is_open keeper.old ≡ false }
     // FILE is read, its script is run over the devices and kept, and what the words mean over the folder's files and what the devices gave is
     // delivered; or a fault that was counted, or want of memory, stands in its place.
-    ensures reply { RepliesWith (map string_bytes words.now) (⟦<Devices<C, F, M> as Exposes>⟧.seen devices) (⟦<Devices<C, F, M> as Exposes>⟧.seen result.1) (record { told = K.told keeper.old; faults = K.faults keeper.old }) (record { told = K.told keeper.new; faults = K.faults keeper.new }) (K.may_leave keeper.old) (K.may_leave keeper.new) result.0 }
+    ensures reply { RepliesWith (map string_bytes words.now) (⟦<Devices<C, F, M> as Exposes>⟧.seen devices) (⟦<Devices<C, F, M> as Exposes>⟧.seen result.1) (stored K.told K.faults keeper.old) (stored K.told K.faults keeper.new) (K.may_leave keeper.old) (K.may_leave keeper.new) result.0 }
+    // With status 0 all that the words mean stands.
+    ensures status_0_did_all { result.0 ≡ 0 → IsTold (command_of (map string_bytes words.now)) (tables_told (stored K.told K.faults keeper.old) (stored K.told K.faults keeper.new))
+        → DidAll (map string_bytes words.now) (⟦<Devices<C, F, M> as Exposes>⟧.seen devices) (⟦<Devices<C, F, M> as Exposes>⟧.seen result.1) (stored K.told K.faults keeper.old) (stored K.told K.faults keeper.new) result.0 }
+    // With status 0, 1 or 9 `run` has kept its run as the next trial.
+    ensures kept { (steps : ℕ) (file : List ℕ) (arguments : List (List ℕ)) → command_of (map string_bytes words.now) ≡ Some (run_kept steps file arguments) → (result.0 ≡ 0) ⊎ ((result.0 ≡ 1) ⊎ (result.0 ≡ 9))
+        → KeptRun (map string_bytes words.now) steps file arguments (⟦<Devices<C, F, M> as Exposes>⟧.seen devices) (⟦<Devices<C, F, M> as Exposes>⟧.seen result.1) (stored K.told K.faults keeper.old) (stored K.told K.faults keeper.new) result.0 }
+    // Whatever came, the console got a prefix of the text and then of a closing line.
+    ensures wrote_prefix { WrotePrefix (map string_bytes words.now) (⟦<Devices<C, F, M> as Exposes>⟧.seen devices) (⟦<Devices<C, F, M> as Exposes>⟧.seen result.1) (stored K.told K.faults keeper.old) (stored K.told K.faults keeper.new) result.0 }
     ensures batch { K.is_open keeper.new ≡ false }
 {
+    does_as_meant();
+    keeps_trial();
+    writes_prefixes();
     let (planned, mut devices) = plan(alloc, words, devices, keeper);
     let status = deliver_plan(alloc, &planned, &mut devices.console, &mut devices.folder);
     (status, devices)

@@ -1,5 +1,6 @@
 use Rattle.std.proofs.Common.{refl}
 use Rattle.now_top.specs.Planned.{plan_of}
+use Rattle.now_top.proofs.Promising.{did_all, kept_run, wrote_prefix}
 use Rattle.now_top.proofs.top.now.Goals as goal
 
 pub returns-clause-reply : goal.returns-clause-reply
@@ -20,3 +21,51 @@ returns-clause-reply g c = record {
   };
   stops = c.plan-planned.ensures.plans.stops;
 }
+
+pub returns-clause-status_0_did_all : goal.returns-clause-status_0_did_all
+returns-clause-status_0_did_all g c = λ zero told. did_all c.does_as_meant.ensures _ _ _ _ _ _ (record {
+  plan = plan_of c.plan-planned.result.0;
+  ran = _;
+  plans = c.plan-planned.ensures.plans.plans;
+  delivers = record {
+    delivered = c.deliver_plan-status.ensures.delivered;
+    moments = refl;
+    line = c.deliver_plan-status.ensures.in_faults;
+    file = c.deliver_plan-status.ensures.get_faults;
+    source = c.deliver_plan-status.ensures.source_faults;
+    time = refl;
+    word = refl;
+  };
+}) zero told
+
+pub returns-clause-kept : goal.returns-clause-kept
+returns-clause-kept g c = λ steps file arguments word at. kept_run c.keeps_trial.ensures _ _ _ _ _ _ (record {
+  plan = plan_of c.plan-planned.result.0;
+  ran = _;
+  plans = c.plan-planned.ensures.plans.plans;
+  delivers = record {
+    delivered = c.deliver_plan-status.ensures.delivered;
+    moments = refl;
+    line = c.deliver_plan-status.ensures.in_faults;
+    file = c.deliver_plan-status.ensures.get_faults;
+    source = c.deliver_plan-status.ensures.source_faults;
+    time = refl;
+    word = refl;
+  };
+}) steps file arguments word at
+
+pub returns-clause-wrote_prefix : goal.returns-clause-wrote_prefix
+returns-clause-wrote_prefix g c = wrote_prefix c.writes_prefixes.ensures _ _ _ _ _ _ (record {
+  plan = plan_of c.plan-planned.result.0;
+  ran = _;
+  plans = c.plan-planned.ensures.plans.plans;
+  delivers = record {
+    delivered = c.deliver_plan-status.ensures.delivered;
+    moments = refl;
+    line = c.deliver_plan-status.ensures.in_faults;
+    file = c.deliver_plan-status.ensures.get_faults;
+    source = c.deliver_plan-status.ensures.source_faults;
+    time = refl;
+    word = refl;
+  };
+})
