@@ -1,7 +1,7 @@
 use Rattle.std.proofs.Common.{◌≡◌, List, ℕ, Bool, true, false, if◌then◌else◌, Some, None, refl, sym, ap, ◌∙◌}
 use Rattle.std.specs.Str.{is_utf8, IsUtf8}
 use Rattle.std.proofs.lemmas.Str.{IsUtf8-from_is_utf8, is_utf8-from_IsUtf8}
-use Rattle.trial_records.proofs.reading_words.text_of.Goals as goal
+use Rattle.row_words.proofs.texts.text_of.Goals as goal
 
 -- a text is one, and what is none is none
 a_text : (bytes made : List ℕ) → IsUtf8 bytes → bytes ≡ made → (if is_utf8 bytes then Some bytes else None) ≡ Some made

@@ -4,14 +4,14 @@ ghost use Rattle.std.specs.Str.{is_utf8};
 ghost use Rattle.row_words.specs.Bytes.{text_bytes};
 ghost use Rattle.row_words.specs.Reading.{Gives, front_at, text_at};
 
+use crate::{ReadFault, read_number, write_number};
 use prov_base::{Memory, Name};
-use row_words::{ReadFault, read_number, write_number};
 use std::alloc::Global;
 use std::str;
 
-// A length and that many bytes at the front.
-#[tactic(auto, unfolding(row_words::specs::Reading::front_at))]
-fn read_front(bytes: &[u8]) -> Result<(&[u8], &[u8]), ReadFault>
+/// A length and that many bytes at the front.
+#[tactic(auto, unfolding(crate::specs::Reading::front_at))]
+pub fn read_front(bytes: &[u8]) -> Result<(&[u8], &[u8]), ReadFault>
     ensures { Gives (λ x. (x.0.now, x.1.now)) result (front_at bytes.now) }
 {
     let (count, rest) = read_number(bytes)?;
@@ -36,7 +36,7 @@ fn text_of(alloc: Global, bytes: &[u8]) -> Result<Name, ReadFault>
 }
 
 /// The text at the front.
-#[tactic(auto, unfolding(row_words::specs::Reading::text_at))]
+#[tactic(auto, unfolding(crate::specs::Reading::text_at))]
 pub fn read_text(alloc: Global, bytes: &[u8]) -> Result<(Name, &[u8]), ReadFault>
     ensures { Gives (λ x. (x.0, x.1.now)) result (text_at bytes.now) }
 {
