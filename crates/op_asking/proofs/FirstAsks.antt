@@ -11,9 +11,9 @@ use Rattle.op_devices.proofs.Known.{ask_go}
 use Rattle.op_devices.proofs.DrawPlans.{number_is, by_width}
 use Rattle.op_devices.proofs.LinePlans.{line_go}
 use Rattle.op_devices.proofs.Noting.{Unnoted, time_noted, randint_noted, randrange_noted, input_noted}
-use Rattle.op_numbers.specs.Numbers.{number_of_value}
+use Rattle.py_value.specs.Numbers.{number_of_value}
 use Rattle.op_table.specs.Table.{planned_at}
-use Rattle.op_work.proofs.Tuples.{some_tuple}
+use Rattle.py_model.proofs.Tuples.{some_tuple}
 use Rattle.prov_base.specs.declared.place.Pos.{Pos}
 use Rattle.py_model.specs.Effect.{Answers, Effect, Outcome, unanswered, effect, lacking}
 use Rattle.py_model.specs.Files.{not_utf8, time_ns_plan, drawn, draw_between, draw_below, randint_plan, randrange_plan, input_with, input_plan}

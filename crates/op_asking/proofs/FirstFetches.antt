@@ -3,7 +3,7 @@ use Rattle.std.proofs.Common.{◌≡◌, ◌∙◌, refl, sym, ap, subst, ℕ, B
 use Rattle.op_devices.specs.Opening.{mode_named, is_fetched, if_fetched, path_in, bad_path, with_mode, of_texts}
 use Rattle.op_devices.proofs.OpenPlans.{opened_go, fetch_go, content_go, open_mode, open_texts, open_is}
 use Rattle.op_asking.proofs.FirstAsks.{AnswersAll}
-use Rattle.op_work.proofs.Tuples.{some_tuple}
+use Rattle.py_model.proofs.Tuples.{some_tuple}
 use Rattle.prov_base.specs.Path.{is_path}
 use Rattle.py_model.specs.Effect.{Answers, Effect, Outcome, unanswered, effect, lacking}
 use Rattle.py_model.specs.Files.{open_to_read, open_to_append, open_plan}

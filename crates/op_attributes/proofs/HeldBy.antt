@@ -12,7 +12,7 @@ use Rattle.op_attributes.specs.Holders.{holder_in}
 use Rattle.op_attributes.specs.Owns.{builtin_refused}
 use Rattle.op_attributes.specs.declared.kinds.Holder.{Holder}
 use Rattle.op_attributes.specs.declared.kinds.Holder.TheVariants.{Object as ObjectHolder, Class as ClassHolder, Text as TextHolder, Tuple as TupleHolder, Builtin as BuiltinHolder, Plain}
-use Rattle.op_work.proofs.Tuples.{some_tuple}
+use Rattle.py_model.proofs.Tuples.{some_tuple}
 
 abbrev pub get_by : ValuesView → List ℕ → Value → Holder → Plan
 get_by table name v (ObjectHolder o) = getattr name (object o)

@@ -11,7 +11,7 @@ use crate::methods::{
     dict_method, file_method, list_method, operation, random_method, text_method, time_method,
 };
 use crate::owns::{class_method, no_attribute, own_attribute};
-use op_work::{Stop, Work};
+use op_work::{Exception, Stop, Work};
 use py_model::Answer;
 use py_value::{Kind, Value};
 use std::alloc::Global;
@@ -65,7 +65,7 @@ fn find_in_object(work: &mut Work, alloc: Global, name: u32, o: u32) -> Result<A
             let method = file_method(work.text_of(name));
             operation(work, alloc, method)
         }
-        None => Err(work.fault(alloc, 13, "not in this profile")),
+        None => Err(work.fault(alloc, Exception::NotImplementedError, "not in this profile")),
     }
 }
 
@@ -105,7 +105,11 @@ pub fn find(work: &mut Work, alloc: Global, name: u32, v: Value) -> Result<Answe
             let method = text_method(work.text_of(name));
             operation(work, alloc, method)
         }
-        Holder::Tuple => Err(work.fault(alloc, 13, "not in this profile")),
+        Holder::Tuple => Err(work.fault(
+            alloc,
+            Exception::NotImplementedError,
+            "not in this profile",
+        )),
         Holder::Builtin(number) => find_in_builtin(work, alloc, name, number),
         Holder::Plain => Err(no_attribute(work, alloc, name)),
     }

@@ -5,9 +5,10 @@ ghost use Rattle.py_model.specs.Classes.{class_attribute, instance_attribute, no
 ghost use Rattle.py_value.specs.Contents.{contents, object, builtin};
 ghost use Rattle.py_value.specs.Seen.{bytes_of};
 
-use crate::kinds::{Holder, class_of_instance, holder_of, is_argv, is_module};
+use crate::kinds::{Holder, holder_of, is_argv, is_module};
 use crate::owns::{class_method, no_attribute, own_attribute};
-use op_work::{Stop, Work};
+use op_classes::class_of_instance;
+use op_work::{Exception, Stop, Work};
 use py_model::Answer;
 use py_value::Value;
 use std::alloc::Global;
@@ -20,7 +21,7 @@ fn get_of_class(work: &mut Work, alloc: Global, name: u32, of: Value) -> Result<
 {
     let at = class_method(work, alloc, name, of)?;
     let _ = at;
-    Err(work.fault(alloc, 13, "not in this profile"))
+    Err(work.fault(alloc, Exception::NotImplementedError, "not in this profile"))
 }
 
 // An attribute of an instance: its entry, or else what its class has.
@@ -50,7 +51,7 @@ fn get_of_object(work: &mut Work, alloc: Global, name: u32, o: u32) -> Result<An
 {
     match class_of_instance(work.kind(o)) {
         Some(of) => get_of_instance(work, alloc, name, o, of),
-        None => Err(work.fault(alloc, 13, "not in this profile")),
+        None => Err(work.fault(alloc, Exception::NotImplementedError, "not in this profile")),
     }
 }
 
@@ -71,7 +72,7 @@ pub(crate) fn get_of_builtin(
     }
     let module = is_module(number);
     if module {
-        return Err(work.fault(alloc, 13, "not in this profile"));
+        return Err(work.fault(alloc, Exception::NotImplementedError, "not in this profile"));
     }
     Err(no_attribute(work, alloc, name))
 }
@@ -85,8 +86,16 @@ pub fn getattr(work: &mut Work, alloc: Global, name: u32, v: Value) -> Result<An
     match holder_of(v) {
         Holder::Object(o) => get_of_object(work, alloc, name, o),
         Holder::Class => get_of_class(work, alloc, name, v),
-        Holder::Text => Err(work.fault(alloc, 13, "not in this profile")),
-        Holder::Tuple => Err(work.fault(alloc, 13, "not in this profile")),
+        Holder::Text => Err(work.fault(
+            alloc,
+            Exception::NotImplementedError,
+            "not in this profile",
+        )),
+        Holder::Tuple => Err(work.fault(
+            alloc,
+            Exception::NotImplementedError,
+            "not in this profile",
+        )),
         Holder::Builtin(number) => get_of_builtin(work, alloc, name, number),
         Holder::Plain => Err(no_attribute(work, alloc, name)),
     }

@@ -2,10 +2,9 @@
 ghost use Rattle.std.specs.Prelude.{◌≡◌, ◌==◌, ◌&&◌, codes};
 ghost use Rattle.std.specs.Str.{bytes_eq};
 ghost use Rattle.op_attributes.specs.Holders.{holder_in};
-ghost use Rattle.op_classes.specs.Kinds.{instance_of};
 ghost use Rattle.py_model.specs.Classes.{is_module as model_is_module, sys_module};
 
-use py_value::{Kind, Value};
+use py_value::Value;
 
 /// What a value is to operations on attributes.
 #[derive(Clone, Copy)]
@@ -36,16 +35,6 @@ pub(crate) fn holder_of(v: Value) -> Holder
         Value::Tuple(_) => Holder::Tuple,
         Value::Builtin(number) => Holder::Builtin(number),
         _ => Holder::Plain,
-    }
-}
-
-/// The class of an object that is an instance.
-pub(crate) fn class_of_instance(kind: Option<Kind>) -> Option<Value>
-    ensures { result ≡ instance_of kind }
-{
-    match kind {
-        Some(Kind::Instance(of)) => Some(of),
-        _ => None,
     }
 }
 

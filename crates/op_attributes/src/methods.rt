@@ -4,7 +4,7 @@ ghost use Rattle.op_attributes.specs.Methods.{numbered, given};
 ghost use Rattle.op_work.specs.Work.{Ends};
 ghost use Rattle.py_model.specs.Classes.{list_methods, dict_methods, text_methods, file_methods, time_methods, random_methods};
 
-use op_work::{Stop, Work};
+use op_work::{Exception, Stop, Work};
 use py_model::Answer;
 use py_value::Value;
 use std::alloc::Global;
@@ -102,6 +102,6 @@ pub(crate) fn operation(work: &mut Work, alloc: Global, number: Option<u64>) -> 
 {
     match number {
         Some(method) => Ok(Answer::Value(Value::Builtin(method))),
-        None => Err(work.fault(alloc, 13, "not in this profile")),
+        None => Err(work.fault(alloc, Exception::NotImplementedError, "not in this profile")),
     }
 }

@@ -8,7 +8,7 @@ ghost use Rattle.py_value.specs.Contents.{contents, text};
 ghost use Rattle.py_value.specs.Seen.{bytes_of};
 
 use op_classes::{method_of_class, named_fault};
-use op_work::{Stop, Work};
+use op_work::{Exception, Stop, Work};
 use prov_base::Pos;
 use py_value::{Key, Value};
 use std::alloc::Global;
@@ -18,7 +18,14 @@ pub(crate) fn no_attribute(work: &mut Work, alloc: Global, name: u32) -> Stop
     requires name { name < length work.old.values.texts }
     ensures { Faults 11 (codes "no attribute '" ++ bytes_of work.old.values name ++ codes "'") work.old work.new result }
 {
-    named_fault(work, alloc, 11, "no attribute '", name, "'")
+    named_fault(
+        work,
+        alloc,
+        Exception::AttributeError,
+        "no attribute '",
+        name,
+        "'",
+    )
 }
 
 /// The entry of an instance at a name.

@@ -9,9 +9,10 @@ ghost use Rattle.py_value.specs.Contents.{contents, object, text};
 ghost use Rattle.py_value.specs.Seen.{bytes_of};
 ghost use Rattle.py_value.specs.Values.{IsNamed};
 
-use crate::kinds::{Holder, class_of_instance, holder_of, is_module};
+use crate::kinds::{Holder, holder_of, is_module};
 use crate::owns::{no_attribute, own_attribute};
-use op_work::{Stop, Work};
+use op_classes::class_of_instance;
+use op_work::{Exception, Stop, Work};
 use py_model::Answer;
 use py_value::{Change, Content, Key, Location, Value};
 use std::alloc::Global;
@@ -77,7 +78,7 @@ fn set_of_object(
 {
     match class_of_instance(work.kind_there(o)) {
         Some(_) => set_of_instance(work, name, o, v),
-        None => Err(work.fault(alloc, 13, "not in this profile")),
+        None => Err(work.fault(alloc, Exception::NotImplementedError, "not in this profile")),
     }
 }
 
@@ -88,7 +89,7 @@ fn set_of_builtin(work: &mut Work, alloc: Global, name: u32, number: u64) -> Sto
 {
     let module = is_module(number);
     if module {
-        return work.fault(alloc, 13, "not in this profile");
+        return work.fault(alloc, Exception::NotImplementedError, "not in this profile");
     }
     no_attribute(work, alloc, name)
 }
@@ -108,9 +109,21 @@ pub fn setattr(
 {
     match holder_of(holder) {
         Holder::Object(o) => set_of_object(work, alloc, name, o, v),
-        Holder::Class => Err(work.fault(alloc, 13, "not in this profile")),
-        Holder::Text => Err(work.fault(alloc, 13, "not in this profile")),
-        Holder::Tuple => Err(work.fault(alloc, 13, "not in this profile")),
+        Holder::Class => Err(work.fault(
+            alloc,
+            Exception::NotImplementedError,
+            "not in this profile",
+        )),
+        Holder::Text => Err(work.fault(
+            alloc,
+            Exception::NotImplementedError,
+            "not in this profile",
+        )),
+        Holder::Tuple => Err(work.fault(
+            alloc,
+            Exception::NotImplementedError,
+            "not in this profile",
+        )),
         Holder::Builtin(number) => Err(set_of_builtin(work, alloc, name, number)),
         Holder::Plain => Err(no_attribute(work, alloc, name)),
     }

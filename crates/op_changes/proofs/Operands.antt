@@ -1,8 +1,9 @@
 -- Operations that change lists, as plans of their operands.
 use Rattle.std.proofs.Common.{◌≡◌, ◌∙◌, refl, sym, ap, arith, eqb-true, ℕ, suc, ◌==◌, List, [], ◌∷◌, map, length, slice_index_or, Some, None}
-use Rattle.op_sums.specs.Receivers.{object_first, with_list}
+use Rattle.op_sums.specs.Receivers.{with_list}
+use Rattle.op_walks.specs.Operands.{object_first}
 use Rattle.op_sums.proofs.ReceiverPlans.{by_false, no_list, list_is, other_count, second, second_is}
-use Rattle.op_work.proofs.Tuples.{some_tuple}
+use Rattle.py_model.proofs.Tuples.{some_tuple}
 use Rattle.py_model.specs.Faults.{wrong_kind, wrong_number}
 use Rattle.py_model.specs.Lists.{append, insert, insert_item, pop, delitem, when_list}
 use Rattle.py_model.specs.Operands.{of_two}

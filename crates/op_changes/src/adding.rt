@@ -1,32 +1,21 @@
 // Items that are put into a list.
 ghost use Rattle.std.specs.Prelude.{◌≡◌, ◌<◌, ◌≤◌, ◌-◌, suc, None, length, map};
 ghost use Rattle.object_store.specs.Store.{count_with};
-ghost use Rattle.op_sums.specs.Receivers.{object_first};
 ghost use Rattle.op_work.specs.Work.{Ends, WroteAll};
 ghost use Rattle.py_model.specs.Lists.{append as append_plan, insert as insert_plan, insert_item as insert_item_plan, move_up as up_plan};
-ghost use Rattle.py_model.specs.Places.{clipped as clipped_place};
 ghost use Rattle.py_model.specs.Plan.{write, done};
 ghost use Rattle.py_value.specs.Contents.{contents, nothing};
 ghost use Rattle.py_value.specs.Seen.{item_at, item_is, len_at, len_is};
 ghost use Rattle.py_value.specs.Values.{IsNamed, AreNamed};
 
 use crate::moving::move_up;
-use op_lists::{append_to, index};
+use op_lists::{append_to, clipped, index};
 use op_sums::list_operand;
-use op_work::{Stop, Work};
+use op_walks::first_object;
+use op_work::{Exception, Stop, Work};
 use py_model::Answer;
 use py_value::{Content, Location, Value};
 use std::alloc::Global;
-
-/// The object that comes first.
-pub(crate) fn first_object(operands: &[Value]) -> Option<u32>
-    ensures { result ≡ object_first operands.now }
-{
-    match operands {
-        [Value::Object(o), ..] => Some(*o),
-        _ => None,
-    }
-}
 
 /// `l.append(v)` (80): the item is set behind the others of a list.
 pub fn append(work: &mut Work, alloc: Global, operands: &[Value]) -> Result<Answer, Stop>
@@ -35,25 +24,12 @@ pub fn append(work: &mut Work, alloc: Global, operands: &[Value]) -> Result<Answ
     ensures { Ends (λ table. append_plan (map (contents table) operands.now)) work.old work.new result }
 {
     let Some(o) = first_object(operands) else {
-        return Err(work.fault(alloc, 9, "wrong kind of value"));
+        return Err(work.fault(alloc, Exception::TypeError, "wrong kind of value"));
     };
     if operands.len() != 2 {
-        return Err(work.fault(alloc, 9, "wrong number of arguments"));
+        return Err(work.fault(alloc, Exception::TypeError, "wrong number of arguments"));
     }
     append_to(work, alloc, o, operands[1])
-}
-
-// The nearest place of an index among so many items, from the end where it is below 0.
-fn clipped(i: i64, n: u64) -> u64
-    ensures place { result ≡ clipped_place i n }
-    ensures within { result ≤ n }
-{
-    let far = i.unsigned_abs();
-    if i >= 0 {
-        if far < n { far } else { n }
-    } else {
-        n.saturating_sub(far)
-    }
 }
 
 // An item is set at a place among so many, behind which each item moves up, and then the length.

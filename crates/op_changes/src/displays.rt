@@ -9,7 +9,7 @@ ghost use Rattle.py_value.specs.Values.{AreNamed};
 
 use crate::making::new_dict;
 use crate::pairs::{Pair, put_value};
-use op_work::{Stop, Work};
+use op_work::{Exception, Stop, Work};
 use py_model::Answer;
 use py_value::{
     Value, contents_stay, equality_is_same, same_key_same_normal_contents, tests_are_equality,
@@ -33,7 +33,7 @@ fn display_pairs(work: &mut Work, alloc: Global, operands: &[Value]) -> Result<V
         put_value(&mut pairs, key, operands[2 * i], operands[2 * i + 1])?;
     }
     if operands.len() % 2 != 0 {
-        return Err(work.fault(alloc, 9, "wrong number of arguments"));
+        return Err(work.fault(alloc, Exception::TypeError, "wrong number of arguments"));
     }
     Ok(pairs)
 }

@@ -7,13 +7,12 @@ ghost use Rattle.py_model.specs.Places.{with_index};
 ghost use Rattle.py_value.specs.Contents.{contents, object};
 ghost use Rattle.py_value.specs.Values.{IsNamed, AreNamed};
 
-use crate::adding::first_object;
 use crate::moving::move_down;
 use op_dicts::del_entry;
 use op_lists::{index, list, place};
 use op_numbers::two;
-use op_walks::value_at;
-use op_work::{Stop, Work};
+use op_walks::{first_object, value_at};
+use op_work::{Exception, Stop, Work};
 use py_model::Answer;
 use py_value::{Content, Kind, Location, Value};
 use std::alloc::Global;
@@ -76,7 +75,7 @@ pub fn pop(work: &mut Work, alloc: Global, operands: &[Value]) -> Result<Answer,
     ensures { Ends (λ table. pop_plan (map (contents table) operands.now)) work.old work.new result }
 {
     let Some(o) = first_object(operands) else {
-        return Err(work.fault(alloc, 9, "wrong kind of value"));
+        return Err(work.fault(alloc, Exception::TypeError, "wrong kind of value"));
     };
     if operands.len() == 1 {
         return pop_last(work, alloc, o);
@@ -84,7 +83,7 @@ pub fn pop(work: &mut Work, alloc: Global, operands: &[Value]) -> Result<Answer,
     if operands.len() == 2 {
         return pop_at(work, alloc, o, operands[1]);
     }
-    Err(work.fault(alloc, 9, "wrong number of arguments"))
+    Err(work.fault(alloc, Exception::TypeError, "wrong number of arguments"))
 }
 
 // The item at an index of a list is deleted.
@@ -108,9 +107,17 @@ fn del_in_object(work: &mut Work, alloc: Global, o: u32, w: Value) -> Result<Ans
     match work.kind_there(o) {
         Some(Kind::List) => del_in_list(work, alloc, o, w),
         Some(Kind::Dict) => del_entry(work, alloc, o, w),
-        Some(Kind::Instance(_)) => Err(work.fault(alloc, 9, "wrong kind of value")),
-        Some(Kind::File(_, _)) => Err(work.fault(alloc, 9, "wrong kind of value")),
-        None => Err(work.fault(alloc, 9, "wrong kind of value")),
+        Some(Kind::Instance(_)) => Err(work.fault(
+            alloc,
+            Exception::TypeError,
+            "wrong kind of value",
+        )),
+        Some(Kind::File(_, _)) => Err(work.fault(
+            alloc,
+            Exception::TypeError,
+            "wrong kind of value",
+        )),
+        None => Err(work.fault(alloc, Exception::TypeError, "wrong kind of value")),
     }
 }
 
@@ -122,7 +129,7 @@ fn del_in_value(work: &mut Work, alloc: Global, v: Value, w: Value) -> Result<An
 {
     match v {
         Value::Object(o) => del_in_object(work, alloc, o, w),
-        _ => Err(work.fault(alloc, 9, "wrong kind of value")),
+        _ => Err(work.fault(alloc, Exception::TypeError, "wrong kind of value")),
     }
 }
 

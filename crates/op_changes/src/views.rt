@@ -2,31 +2,18 @@
 ghost use Rattle.std.specs.Prelude.{◌≡◌, map, List, None};
 ghost use Rattle.op_changes.specs.Entries.{value_at};
 ghost use Rattle.op_walks.specs.Items.{values_seen};
-ghost use Rattle.op_work.specs.Entries.{IsKeyOf, value_seen};
 ghost use Rattle.op_work.specs.Work.{Comes, Ends};
-ghost use Rattle.py_model.specs.Dicts.{values_method, items_method, read_entries, paired};
-ghost use Rattle.py_model.specs.Plan.{Plan};
-ghost use Rattle.py_value.specs.Contents.{Contents, contents, tuple, part, no_parts};
+ghost use Rattle.py_model.specs.Dicts.{values_method, items_method, read_entries};
+ghost use Rattle.py_value.specs.Contents.{contents};
 ghost use Rattle.py_value.specs.Values.{IsNamed, AreNamed};
 
-use op_making::new_list;
+use op_making::{new_list, pair_up};
 use op_views::dict_operand;
-use op_walks::walk_keys;
+use op_walks::{order_key, walk_keys};
 use op_work::{Stop, Work};
 use py_model::Answer;
-use py_value::{Key, Value};
+use py_value::Value;
 use std::alloc::Global;
-
-// The key that a value of an order is; one that is no key is answered as want of memory.
-fn order_key(work: &mut Work, alloc: Global, v: Value) -> Result<Key, Stop>
-    requires { IsNamed work.old.values v }
-    ensures { Comes (IsKeyOf v) (value_seen v) (λ table (go : Contents → Plan). go (contents table v)) work.old work.new result }
-{
-    match work.key_of(alloc, v) {
-        Ok(key) => Ok(key),
-        Err(_) => Err(Stop::Memory),
-    }
-}
 
 // The value at a key of an order.
 fn entry_value(work: &mut Work, alloc: Global, o: u32, v: Value) -> Result<Value, Stop>
@@ -65,34 +52,6 @@ pub fn values(work: &mut Work, alloc: Global, operands: &[Value]) -> Result<Answ
     new_list(work, found.as_slice())
 }
 
-// The tuple of two values.
-fn pair(work: &mut Work, alloc: Global, left: Value, right: Value) -> Result<Value, Stop>
-    requires left { IsNamed work.old.values left }
-    requires right { IsNamed work.old.values right }
-    ensures { Comes IsNamed contents (λ table (go : Contents → Plan). go (tuple (part (contents table left) (part (contents table right) no_parts)))) work.old work.new result }
-{
-    work.tuple(alloc, &[left, right])
-}
-
-// The pairs of two lists, up to the end of the shorter.
-fn pairs(
-    work: &mut Work,
-    alloc: Global,
-    lefts: &[Value],
-    rights: &[Value],
-) -> Result<Vec<Value>, Stop>
-    requires lefts { AreNamed work.old.values lefts.now }
-    requires rights { AreNamed work.old.values rights.now }
-    ensures { Comes (λ values vs. AreNamed values vs.items) (λ table vs. values_seen table vs.items) (λ table (go : List Contents → Plan). go (paired (values_seen table lefts.now) (values_seen table rights.now))) work.old work.new result }
-{
-    let mut items = Vec::new(alloc);
-    for i in 0..lefts.len().min(rights.len()) {
-        let item = pair(work, alloc, lefts[i], rights[i])?;
-        items.push(item)?;
-    }
-    Ok(items)
-}
-
 /// `d.items()` (88): the order and each entry are read, and a list of the pairs is made.
 pub fn items(work: &mut Work, alloc: Global, operands: &[Value]) -> Result<Answer, Stop>
     requires fresh { work.old.made ≡ None }
@@ -101,6 +60,6 @@ pub fn items(work: &mut Work, alloc: Global, operands: &[Value]) -> Result<Answe
     let o = dict_operand(work, alloc, operands, 1)?;
     let keys = walk_keys(work, alloc, o)?;
     let found = entry_values(work, alloc, o, keys.as_slice())?;
-    let both = pairs(work, alloc, keys.as_slice(), found.as_slice())?;
+    let both = pair_up(work, alloc, keys.as_slice(), found.as_slice())?;
     new_list(work, both.as_slice())
 }

@@ -9,7 +9,7 @@ use Rattle.py_value.specs.Contents.{Contents, contents, parts_by, tuple}
 use Rattle.py_value.specs.Values.{ValuesView}
 use Rattle.py_value.specs.declared.value.Value.{Value}
 use Rattle.py_value.specs.declared.value.Value.TheVariants.{None as NoneValue, Bool as TruthValue, Int, Text, Tuple, Range, Fn, Class, Exc, Builtin, Object}
-use Rattle.op_work.proofs.Tuples.{some_tuple}
+use Rattle.py_model.proofs.Tuples.{some_tuple}
 use Rattle.op_classes.specs.Kinds.{tuple_in}
 use Rattle.op_classes.specs.Matching.{are_classes, is_class_value}
 use Rattle.op_classes.proofs.MatchedKinds.{next_left}

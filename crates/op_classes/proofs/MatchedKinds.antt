@@ -14,7 +14,7 @@ use Rattle.py_value.specs.declared.value.Value.TheVariants.{None as NoneValue, B
 use Rattle.op_work.specs.declared.stop.Stop.{Stop}
 use Rattle.op_work.specs.Work.{WorkView, Comes, is_any, as_is}
 use Rattle.op_work.proofs.Going.{comes_then}
-use Rattle.op_work.proofs.Tuples.{some_tuple}
+use Rattle.py_model.proofs.Tuples.{some_tuple}
 use Rattle.op_classes.specs.Kinds.{object_in, instance_of}
 use Rattle.op_classes.specs.Matching.{are_classes, is_class_value}
 use Rattle.op_classes.proofs.WithFiles.{Known}

@@ -8,7 +8,7 @@ use Rattle.py_value.specs.Values.{ValuesView}
 use Rattle.py_value.specs.declared.value.Value.{Value}
 use Rattle.py_value.specs.declared.value.Value.TheVariants.{None as NoneValue, Bool as TruthValue, Int, Text, Tuple, Range, Fn, Class, Exc, Builtin, Object}
 use Rattle.op_work.specs.Work.{seen_maybe}
-use Rattle.op_work.proofs.Tuples.{some_tuple}
+use Rattle.py_model.proofs.Tuples.{some_tuple}
 use Rattle.op_classes.specs.Chains.{next_value}
 
 abbrev pub onward : Pos → ValuesView → Option Contents → (Option Contents → Plan) → Plan

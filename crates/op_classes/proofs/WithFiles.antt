@@ -15,7 +15,7 @@ use Rattle.py_value.specs.declared.value.Value.TheVariants.{None as NoneValue, B
 use Rattle.op_work.specs.declared.stop.Stop.{Stop}
 use Rattle.op_work.specs.Work.{WorkView, Comes, Ends, is_any, as_is, seen_kind}
 use Rattle.op_work.proofs.Ending.{ends_then, ends_stop}
-use Rattle.op_work.proofs.Tuples.{some_tuple}
+use Rattle.py_model.proofs.Tuples.{some_tuple}
 use Rattle.op_classes.specs.Kinds.{object_in, is_file_kind}
 
 pub object_is : (v : Value) (o : ℕ) → object_in v ≡ Some o → v ≡ Object o

@@ -5,7 +5,7 @@ ghost use Rattle.py_model.specs.Raising.{call_failed as plan_failed};
 ghost use Rattle.py_value.specs.Contents.{contents};
 
 use crate::kinds::reason_of;
-use op_work::{Stop, Work};
+use op_work::{Exception, Stop, Work};
 use py_value::Value;
 use std::alloc::Global;
 
@@ -16,10 +16,10 @@ pub fn call_failed(work: &mut Work, alloc: Global, reason: Value) -> Stop
 {
     let number = reason_of(reason);
     if number == 0 {
-        return work.fault(alloc, 9, "not callable");
+        return work.fault(alloc, Exception::TypeError, "not callable");
     }
     if number == 1 {
-        return work.fault(alloc, 9, "wrong number of arguments");
+        return work.fault(alloc, Exception::TypeError, "wrong number of arguments");
     }
-    work.fault(alloc, 14, "nested too deep")
+    work.fault(alloc, Exception::RecursionError, "nested too deep")
 }

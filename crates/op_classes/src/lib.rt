@@ -14,9 +14,9 @@ mod words;
 
 pub use chains::{class_walk, end_of_chain, method_of_class, next_of};
 pub use failures::call_failed;
-pub use kinds::{class_of, object_of};
+pub use kinds::{class_of, class_of_instance, object_of, tuple_number};
 pub use language::known;
-pub use matching::{matches, value_matches};
+pub use matching::{is_class, matches, value_matches};
 pub use names::{bind, import_module, load, unbind, unset_name};
 pub use withs::{begin_with, end_with};
 pub use words::named_fault;

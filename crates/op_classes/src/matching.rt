@@ -11,13 +11,13 @@ ghost use Rattle.py_value.specs.declared.value.Value.TheVariants.{Object, Tuple}
 
 use crate::chains::class_walk;
 use crate::kinds::{class_of_instance, object_of, tuple_number};
-use op_work::{Stop, Work};
+use op_work::{Exception, Stop, Work};
 use py_model::Answer;
 use py_value::{Value, tuples_are_their_parts};
 use std::alloc::Global;
 
-// Whether a value is a class.
-fn is_class(v: Value) -> bool
+/// Whether a value is a class.
+pub fn is_class(v: Value) -> bool
     ensures { result ≡ is_class_value v }
 {
     match v {
@@ -96,7 +96,7 @@ fn matches_class(work: &mut Work, alloc: Global, v: Value, sought: Value) -> Res
         let hit = value_matches(work, v, sought)?;
         return Ok(Answer::Value(Value::Bool(hit)));
     }
-    Err(work.fault(alloc, 9, "wrong kind of value"))
+    Err(work.fault(alloc, Exception::TypeError, "wrong kind of value"))
 }
 
 // Whether an exception is of one of a tuple of classes.
@@ -112,5 +112,5 @@ fn matches_tuple(work: &mut Work, alloc: Global, v: Value, id: u32) -> Result<An
         let hit = matches_one(work, v, classes.as_slice())?;
         return Ok(Answer::Value(Value::Bool(hit)));
     }
-    Err(work.fault(alloc, 9, "wrong kind of value"))
+    Err(work.fault(alloc, Exception::TypeError, "wrong kind of value"))
 }

@@ -9,7 +9,7 @@ ghost use Rattle.py_value.specs.Values.{IsNamed};
 
 use crate::known;
 use crate::words::named_fault;
-use op_work::{Stop, Work};
+use op_work::{Exception, Stop, Work};
 use py_model::Answer;
 use py_value::{Content, Location, Value};
 use std::alloc::Global;
@@ -102,7 +102,21 @@ pub fn unset_name(work: &mut Work, alloc: Global, scope: u32, name: u32) -> Stop
     ensures { Ends (λ table. plan_no_name scope (bytes_of table name)) work.old work.new (Err result) }
 {
     if scope == 0 {
-        return named_fault(work, alloc, 7, "name '", name, "' is not defined");
+        return named_fault(
+            work,
+            alloc,
+            Exception::NameError,
+            "name '",
+            name,
+            "' is not defined",
+        );
     }
-    named_fault(work, alloc, 8, "local name '", name, "' is not set")
+    named_fault(
+        work,
+        alloc,
+        Exception::UnboundLocalError,
+        "local name '",
+        name,
+        "' is not set",
+    )
 }

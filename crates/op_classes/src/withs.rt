@@ -5,7 +5,7 @@ ghost use Rattle.py_model.specs.Names.{begin_with as plan_begin, end_with as pla
 ghost use Rattle.py_value.specs.Contents.{contents, object};
 
 use crate::kinds::{is_file, object_of};
-use op_work::{Stop, Work};
+use op_work::{Exception, Stop, Work};
 use py_model::Answer;
 use py_value::{Content, Location, Value};
 use std::alloc::Global;
@@ -17,7 +17,7 @@ pub fn begin_with(work: &mut Work, alloc: Global, v: Value) -> Result<Answer, St
 {
     match object_of(v) {
         Some(o) => begin_of_object(work, alloc, o),
-        None => Err(work.fault(alloc, 9, "wrong kind of value")),
+        None => Err(work.fault(alloc, Exception::TypeError, "wrong kind of value")),
     }
 }
 
@@ -30,11 +30,11 @@ fn begin_of_object(work: &mut Work, alloc: Global, o: u32) -> Result<Answer, Sto
     if there {
         let is_closed = work.read_closed(o)?;
         if is_closed {
-            return Err(work.fault(alloc, 10, "file is closed"));
+            return Err(work.fault(alloc, Exception::ValueError, "file is closed"));
         }
         return Ok(Answer::Value(Value::Object(o)));
     }
-    Err(work.fault(alloc, 9, "wrong kind of value"))
+    Err(work.fault(alloc, Exception::TypeError, "wrong kind of value"))
 }
 
 /// Ends a `with` (operation 45): the file is closed.
@@ -44,7 +44,7 @@ pub fn end_with(work: &mut Work, alloc: Global, v: Value) -> Result<Answer, Stop
 {
     match object_of(v) {
         Some(o) => end_of_object(work, alloc, o),
-        None => Err(work.fault(alloc, 9, "wrong kind of value")),
+        None => Err(work.fault(alloc, Exception::TypeError, "wrong kind of value")),
     }
 }
 
@@ -58,5 +58,5 @@ fn end_of_object(work: &mut Work, alloc: Global, o: u32) -> Result<Answer, Stop>
         work.set(Location::Closed(o), Content::Closed(true))?;
         return Ok(Answer::Value(Value::None));
     }
-    Err(work.fault(alloc, 9, "wrong kind of value"))
+    Err(work.fault(alloc, Exception::TypeError, "wrong kind of value"))
 }

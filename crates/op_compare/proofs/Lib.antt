@@ -2,7 +2,6 @@ pub mod Decided
 pub mod EntryWalks
 pub mod ItemWalks
 pub mod Lengths
-pub mod OrderKeys
 pub mod OrderPlans
 pub mod Plain
 pub mod SameNumbers

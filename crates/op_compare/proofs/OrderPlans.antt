@@ -11,7 +11,7 @@ use Rattle.py_value.specs.Seen.{SeenKind, a_list, a_dict, an_instance, a_file}
 use Rattle.py_value.specs.Values.{ValuesView}
 use Rattle.py_value.specs.declared.value.Value.{Value}
 use Rattle.py_value.specs.declared.value.Value.TheVariants.{Text, Tuple, Object}
-use Rattle.op_work.proofs.Tuples.{some_tuple}
+use Rattle.py_model.proofs.Tuples.{some_tuple}
 use Rattle.op_compare.specs.Pairs.{shape_seen}
 use Rattle.op_compare.specs.declared.pairs.Shape.{Shape}
 use Rattle.op_compare.specs.declared.pairs.Shape.TheVariants.{Lists, Dicts, Others}

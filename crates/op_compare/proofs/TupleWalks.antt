@@ -1,25 +1,17 @@
 -- The parts of two tuples, one pair after another.
-use Rattle.std.proofs.Common.{◌≡◌, refl, sym, ap, subst, ap₂, ◌∙◌, arith, ◌⊎◌, inl, inr, ℕ, zero, suc, ◌+◌, ◌<◌, ◌≤◌, length, Bool, List, [], ◌∷◌, drop, Some, slice_get, unwrap_or}
+use Rattle.std.proofs.Common.{◌≡◌, refl, sym, ap, subst, ap₂, ◌∙◌, arith, ◌⊎◌, inl, inr, ℕ, zero, suc, ◌+◌, ◌<◌, ◌≤◌, length, Bool, List, [], ◌∷◌, drop, Some, slice_get}
 use Rattle.py_model.specs.Plan.{Plan, looks}
 use Rattle.py_model.specs.Walks.{Comparison, Pairs, compare_parts, by_length, decided, compare_within}
 use Rattle.py_value.specs.Contents.{Contents, contents, parts_by, tuple}
-use Rattle.py_value.specs.Values.{ValuesView, AreInterned}
+use Rattle.py_value.specs.Values.{ValuesView}
 use Rattle.py_value.specs.declared.value.Value.{Value}
-use Rattle.py_value.specs.declared.value.Value.TheVariants.{None as NoneValue, Tuple}
-use Rattle.op_work.proofs.Tuples.{some_tuple}
+use Rattle.py_value.specs.declared.value.Value.TheVariants.{Tuple}
+use Rattle.py_model.proofs.Tuples.{some_tuple}
 use Rattle.op_work.specs.Work.{Extends}
 use Rattle.py_model.specs.Faults.{too_deep}
 use Rattle.op_compare.proofs.Lengths.{by_length_suc, none_longer, longer_none}
-use Rattle.op_compare.specs.Pairs.{items_at, part_in, parts_in}
-
--- the values of a tuple that is there
-pub items_are : (values : ValuesView) (id : ℕ) (items : List Value) → slice_get values.tuples id ≡ Some items → items_at values id ≡ items
-items_are values id items is = ap (λ found. unwrap_or found []) is
-
-drop_next : (xs : List Value) (i : ℕ) → i < length xs → drop i xs ≡ unwrap_or (slice_get xs i) NoneValue ∷ drop (suc i) xs
-drop_next [] i less = absurd (omega (arith, less))
-drop_next (x ∷ xs) zero less = refl
-drop_next (x ∷ xs) (suc i) less = drop_next xs i (omega (arith, less))
+use Rattle.op_walks.proofs.TupleParts.{items_are, drop_next}
+use Rattle.op_walks.specs.Parts.{items_at, part_in, parts_in}
 
 -- what is left of the parts from a place on
 abbrev pub left : Pairs → Bool → ℕ → ℕ → ℕ → ValuesView → (Comparison → Plan) → Plan
@@ -51,29 +43,6 @@ pub tuples_step : (levels : ℕ) (ordered : Bool) (table : ValuesView) (a b : �
     → contents table (Tuple a) ≡ tuple (parts_in table a) → contents table (Tuple b) ≡ tuple (parts_in table b)
     → compare_within (suc levels) ordered (contents table (Tuple a)) (contents table (Tuple b)) go ≡ compare_parts (compare_within levels) ordered (parts_in table a) (parts_in table b) go
 tuples_step levels ordered table a b go one other = ap₂ (λ v w. compare_within (suc levels) ordered v w go) one other
-
--- a part stands where it stood
-pub more_tuples : {old table : ValuesView} → Extends old table → (id : ℕ) → id < length old.tuples → id < length table.tuples
-more_tuples extends id within = omega (arith, within, extends.few.1)
-
-found_at : (tuples : List (List Value)) (id : ℕ) → id < length tuples → (items : List Value) × (slice_get tuples id ≡ Some items)
-found_at [] id within = absurd (omega (arith, within))
-found_at (items ∷ tuples) zero within = (items, refl)
-found_at (items ∷ tuples) (suc id) within = found_at tuples id (omega (arith, within))
-
-pub part_stays : {old table : ValuesView} → Extends old table → (id i : ℕ) → id < length old.tuples → part_in table id i ≡ part_in old id i
-part_stays {old} {table} extends id i within =
-    let found = found_at old.tuples id within in
-    ap (λ vs. unwrap_or (slice_get vs i) NoneValue) (items_are table id found.0 (extends.tuples id found.0 found.1) ∙ sym (items_are old id found.0 found.1))
-
--- a tuple is its parts
-abbrev pub TuplesAreTheirParts : Type 0
-TuplesAreTheirParts = (view : ValuesView) (id : ℕ) (items : List Value) → AreInterned view → slice_get view.tuples id ≡ Some items → contents view (Tuple id) ≡ tuple (parts_by (contents view) items)
-
-pub tuple_is : TuplesAreTheirParts → (table : ValuesView) → AreInterned table → (id : ℕ) → id < length table.tuples → contents table (Tuple id) ≡ tuple (parts_in table id)
-tuple_is law table interned id within =
-    let found = found_at table.tuples id within in
-    law table id found.0 interned found.1 ∙ ap (λ vs. tuple (parts_by (contents table) vs)) (sym (items_are table id found.0 found.1))
 
 pub tuples_deep : (levels : ℕ) (ordered : Bool) (table : ValuesView) (a b : ℕ) (go : Comparison → Plan) → levels ≡ 0
     → compare_within levels ordered (contents table (Tuple a)) (contents table (Tuple b)) go ≡ too_deep

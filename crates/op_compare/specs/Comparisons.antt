@@ -3,7 +3,7 @@ use Rattle.std.specs.Prelude.{ℕ, ℤ, Bool, List, true, ◌==◌, ◌&&◌, if
 use Rattle.prov_base.specs.contracts.place.PosPartialEq.TheImpl.{ghosts as places}
 use Rattle.op_compare.specs.declared.comparison.Comparison.{Comparison as OneComparison}
 use Rattle.op_compare.specs.declared.comparison.Comparison.TheVariants.{Alike, Before, Behind, Apart}
-use Rattle.op_numbers.specs.Numbers.{number_of_value}
+use Rattle.py_value.specs.Numbers.{number_of_value}
 use Rattle.py_model.specs.Walks.{Comparison, alike, before, behind, apart, by_number, when_same, same_range, shorter, order_of_texts}
 use Rattle.py_model.specs.Plan.{Plan, counts}
 use Rattle.py_value.specs.Values.{ValuesView}

@@ -1,26 +1,14 @@
 -- Pairs of items that are compared, and what objects are compared as.
-use Rattle.std.specs.Prelude.{ℕ, List, [], Option, Some, None, slice_get, unwrap_or}
+use Rattle.std.specs.Prelude.{ℕ, Option, Some, None}
 use Rattle.op_compare.specs.declared.pairs.Shape.{Shape}
 use Rattle.op_compare.specs.declared.pairs.Shape.TheVariants.{Lists, Dicts, Others}
 use Rattle.py_model.specs.Plan.{Plan, read_entry}
 use Rattle.py_model.specs.Walks.{read_value}
-use Rattle.py_value.specs.Contents.{Contents, Parts, contents, parts_by}
+use Rattle.py_value.specs.Contents.{Contents}
 use Rattle.py_value.specs.Seen.{SeenKind, a_list, a_dict}
-use Rattle.py_value.specs.Values.{ValuesView}
 use Rattle.py_value.specs.declared.access.Kind.{Kind}
 use Rattle.py_value.specs.declared.access.Kind.TheVariants.{List as ListKind, Dict as DictKind}
 use Rattle.py_value.specs.declared.value.Value.{Value}
-use Rattle.py_value.specs.declared.value.Value.TheVariants.{None as NoneValue}
-
--- the values of a tuple, one of them, and the parts that they are
-abbrev pub items_at : ValuesView → ℕ → List Value
-items_at values id = unwrap_or (slice_get values.tuples id) []
-
-abbrev pub part_in : ValuesView → ℕ → ℕ → Value
-part_in values id i = unwrap_or (slice_get (items_at values id) i) NoneValue
-
-abbrev pub parts_in : ValuesView → ℕ → Parts
-parts_in table id = parts_by (contents table) (items_at table id)
 
 -- the items of two lists at one place, each read
 abbrev pub read_both : ℕ → ℕ → ℕ → (Contents × Contents → Plan) → Plan

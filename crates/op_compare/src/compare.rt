@@ -2,7 +2,7 @@
 ghost use Rattle.std.specs.Prelude.{◌≡◌, ◌<◌, length, map, if◌then◌else◌, nat_lt};
 ghost use Rattle.object_store.specs.Store.{keys_at};
 ghost use Rattle.op_compare.specs.Comparisons.{how, how_seen};
-ghost use Rattle.op_compare.specs.Pairs.{parts_in};
+ghost use Rattle.op_walks.specs.Parts.{parts_in};
 ghost use Rattle.op_work.specs.Work.{Comes, is_any, as_is};
 ghost use Rattle.py_model.specs.Walks.{compare_within as plan_within, compare_parts as plan_parts, compare_lists as plan_lists, compare_items as plan_items, compare_dicts as plan_dicts, compare_entries as plan_entries, compare_to as plan_to, equals as plan_equals};
 ghost use Rattle.py_value.specs.Contents.{contents, object};
@@ -13,7 +13,7 @@ use crate::Comparison;
 use crate::comparison::{by_length, plain, shorter_length};
 use crate::pairs::{Shape, entry_pair, item_pair, part_pair, shape_at};
 use crate::texts::compare_texts;
-use op_work::{Stop, Work};
+use op_work::{Exception, Stop, Work};
 use py_value::{Value, tuples_are_their_parts};
 use std::alloc::Global;
 
@@ -67,7 +67,7 @@ fn compare_tuples(
 {
     tuples_are_their_parts();
     if levels == 0 {
-        return Err(work.fault(alloc, 14, "nested too deep"));
+        return Err(work.fault(alloc, Exception::RecursionError, "nested too deep"));
     }
     compare_parts(work, alloc, levels - 1, ordered, a, b)
 }
@@ -117,13 +117,13 @@ fn compare_objects(
         Shape::Others => Ok(Comparison::Apart),
         Shape::Lists => {
             if levels == 0 {
-                return Err(work.fault(alloc, 14, "nested too deep"));
+                return Err(work.fault(alloc, Exception::RecursionError, "nested too deep"));
             }
             compare_lists(work, alloc, levels - 1, ordered, o, p)
         }
         Shape::Dicts => {
             if levels == 0 {
-                return Err(work.fault(alloc, 14, "nested too deep"));
+                return Err(work.fault(alloc, Exception::RecursionError, "nested too deep"));
             }
             compare_dicts(work, alloc, levels - 1, o, p)
         }

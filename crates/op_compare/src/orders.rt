@@ -13,7 +13,7 @@ use crate::pairs::{Shape, shape_at};
 use crate::texts::ordered_texts;
 use crate::{Comparison, compare_to};
 use op_numbers::number;
-use op_work::{Stop, Work};
+use op_work::{Exception, Stop, Work};
 use py_value::Value;
 use std::alloc::Global;
 
@@ -25,7 +25,7 @@ fn ordered(work: &mut Work, alloc: Global, v: Value, w: Value) -> Result<Compari
 {
     let compared = compare_to(work, alloc, true, v, w)?;
     match compared {
-        Comparison::Apart => Err(work.fault(alloc, 9, "wrong kind of value")),
+        Comparison::Apart => Err(work.fault(alloc, Exception::TypeError, "wrong kind of value")),
         Comparison::Alike => Ok(Comparison::Alike),
         Comparison::Before => Ok(Comparison::Before),
         Comparison::Behind => Ok(Comparison::Behind),
@@ -38,8 +38,8 @@ fn two_lists(work: &mut Work, alloc: Global, o: u32, p: u32) -> Result<(), Stop>
 {
     match shape_at(work, o, p) {
         Shape::Lists => Ok(()),
-        Shape::Dicts => Err(work.fault(alloc, 9, "wrong kind of value")),
-        Shape::Others => Err(work.fault(alloc, 9, "wrong kind of value")),
+        Shape::Dicts => Err(work.fault(alloc, Exception::TypeError, "wrong kind of value")),
+        Shape::Others => Err(work.fault(alloc, Exception::TypeError, "wrong kind of value")),
     }
 }
 
@@ -62,18 +62,18 @@ pub fn in_order(work: &mut Work, alloc: Global, v: Value, w: Value) -> Result<Co
     match v {
         Value::Text(a) => match w {
             Value::Text(b) => ordered_texts(work, a, b),
-            _ => Err(work.fault(alloc, 9, "wrong kind of value")),
+            _ => Err(work.fault(alloc, Exception::TypeError, "wrong kind of value")),
         },
         Value::Tuple(_) => match w {
             Value::Tuple(_) => ordered(work, alloc, v, w),
-            _ => Err(work.fault(alloc, 9, "wrong kind of value")),
+            _ => Err(work.fault(alloc, Exception::TypeError, "wrong kind of value")),
         },
         Value::Object(o) => match w {
             Value::Object(p) => {
                 two_lists(work, alloc, o, p)?;
                 ordered(work, alloc, Value::Object(o), Value::Object(p))
             }
-            _ => Err(work.fault(alloc, 9, "wrong kind of value")),
+            _ => Err(work.fault(alloc, Exception::TypeError, "wrong kind of value")),
         },
         _ => {
             numbers_both(work, alloc, v, w)?;

@@ -1,16 +1,17 @@
 // Two items that are compared: parts of tuples, items of lists, values of dictionaries, and what two objects are compared as.
 ghost use Rattle.std.specs.Prelude.{◌≡◌, ◌<◌, length};
-ghost use Rattle.op_compare.specs.Pairs.{part_in, read_both, both_of, read_entries, shape_of as shape_of_kinds, shape_seen};
+ghost use Rattle.op_compare.specs.Pairs.{read_both, both_of, read_entries, shape_of as shape_of_kinds, shape_seen};
+ghost use Rattle.op_walks.specs.Parts.{part_in};
 ghost use Rattle.op_numbers.specs.Numbers.{IsNamedPair, seen_pair};
-ghost use Rattle.op_work.specs.Entries.{IsKeyOf, IsNamedEntry, seen_entry, value_seen};
+ghost use Rattle.op_work.specs.Entries.{IsNamedEntry, seen_entry};
 ghost use Rattle.op_work.specs.Work.{Comes, is_any, as_is};
-ghost use Rattle.py_model.specs.Plan.{Plan, looks, kind_of, read_entry as plan_entry};
+ghost use Rattle.py_model.specs.Plan.{Plan, looks, kind_of};
 ghost use Rattle.py_value.specs.Contents.{Contents, contents};
 ghost use Rattle.py_value.specs.Values.{IsNamed};
 
-use op_walks::value_at;
+use op_walks::{entry_at, part_at, value_at};
 use op_work::{Stop, Work};
-use py_value::{Key, Kind, Value};
+use py_value::{Kind, Value};
 use std::alloc::Global;
 
 /// What two objects are compared as.
@@ -42,18 +43,6 @@ pub(crate) fn shape_at(work: &Work, o: u32, p: u32) -> Shape
     shape_of(work.kind(o), work.kind(p))
 }
 
-// The part of a tuple at a place, None behind the last.
-fn part_at(work: &Work, id: u32, i: usize) -> Value
-    requires { id < length work.now.values.tuples }
-    ensures part { result ≡ part_in work.now.values id i }
-    ensures named { IsNamed work.now.values result }
-{
-    match work.tuple_of(id).get(i) {
-        Some(v) => *v,
-        None => Value::None,
-    }
-}
-
 // The parts of two tuples at one place, both looked at.
 pub(crate) fn part_pair(work: &mut Work, a: u32, b: u32, i: usize) -> Result<(Value, Value), Stop>
     requires one { a < length work.old.values.tuples }
@@ -71,31 +60,6 @@ pub(crate) fn item_pair(work: &mut Work, o: u32, p: u32, i: u64) -> Result<(Valu
     let v = value_at(work, o, i)?;
     let w = value_at(work, p, i)?;
     Ok((v, w))
-}
-
-// The key that a value of an order is; one that is no key is answered as want of memory.
-fn order_key(work: &mut Work, alloc: Global, v: Value) -> Result<Key, Stop>
-    requires { IsNamed work.old.values v }
-    ensures { Comes (IsKeyOf v) (value_seen v) (λ table (go : Contents → Plan). go (contents table v)) work.old work.new result }
-{
-    match work.key_of(alloc, v) {
-        Ok(key) => Ok(key),
-        Err(_) => Err(Stop::Memory),
-    }
-}
-
-// The entry of a dictionary at a key of an order.
-fn entry_at(
-    work: &mut Work,
-    alloc: Global,
-    o: u32,
-    v: Value,
-) -> Result<Option<(Value, Value)>, Stop>
-    requires { IsNamed work.old.values v }
-    ensures { Comes IsNamedEntry seen_entry (λ table. plan_entry o (contents table v)) work.old work.new result }
-{
-    let key = order_key(work, alloc, v)?;
-    work.read_entry(o, v, key)
 }
 
 // The values of two entries, where both are there.

@@ -5,8 +5,8 @@ use Rattle.op_devices.specs.Asking.{Known, answered_by}
 use Rattle.op_devices.specs.Draws.{many_of, many_between, many_below, word_for, between_asked, below_asked, word_given}
 use Rattle.op_devices.specs.Given.{asks}
 use Rattle.op_devices.proofs.Known.{known_ask, ask_go}
-use Rattle.op_numbers.specs.Numbers.{number_of_value}
-use Rattle.op_work.proofs.Tuples.{some_tuple}
+use Rattle.py_value.specs.Numbers.{number_of_value}
+use Rattle.py_model.proofs.Tuples.{some_tuple}
 use Rattle.py_model.specs.Faults.{wrong_kind, wrong_number}
 use Rattle.py_model.specs.Files.{drawn, no_range, draw_between, draw_below, randint_plan, randrange_plan}
 use Rattle.py_model.specs.Operands.{number_in}

@@ -5,7 +5,7 @@ use Rattle.prov_base.specs.Path.{is_path}
 use Rattle.op_devices.specs.Opening.{mode_named, is_fetched, if_fetched, path_in, bad_path, with_mode, of_texts, noted_fetch}
 use Rattle.op_devices.proofs.Noting.{Unnoted}
 use Rattle.op_devices.proofs.OpenPlans.{opened_go, fetch_go, content_go, open_mode, open_texts, open_is}
-use Rattle.op_work.proofs.Tuples.{some_tuple}
+use Rattle.py_model.proofs.Tuples.{some_tuple}
 use Rattle.py_model.specs.Effect.{Answers, Effect, effect, lacking}
 use Rattle.py_model.specs.Files.{open_to_read, open_to_append, open_plan}
 use Rattle.py_model.specs.Plan.{Found, found_bytes, absent, too_large, found_failed, Plan, fetch}

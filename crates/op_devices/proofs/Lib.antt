@@ -3,7 +3,6 @@ pub mod Known
 pub mod DrawPlans
 pub mod LinePlans
 pub mod Noting
-pub mod PieceLemmas
 pub mod EndsAt
 pub mod OpenPlans
 pub mod Fetching

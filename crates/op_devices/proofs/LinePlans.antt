@@ -7,7 +7,7 @@ use Rattle.op_devices.specs.Given.{asks, line_given, of_prompt}
 use Rattle.op_devices.proofs.Known.{known_ask, ask_go}
 use Rattle.op_files.specs.Operands.{text_in}
 use Rattle.op_files.proofs.ObjectOperands.{text_is}
-use Rattle.op_work.proofs.Tuples.{some_tuple}
+use Rattle.py_model.proofs.Tuples.{some_tuple}
 use Rattle.py_model.specs.Faults.{wrong_kind, wrong_number}
 use Rattle.py_model.specs.Files.{not_utf8, input_with, input_plan}
 use Rattle.py_model.specs.Plan.{line, Given, number, random_word, a_line, no_line, failed, done, Plan, ask, counts, prints, writes}

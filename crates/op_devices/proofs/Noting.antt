@@ -10,8 +10,8 @@ use Rattle.op_devices.specs.Given.{asks, noted_as}
 use Rattle.op_devices.proofs.Known.{ask_go}
 use Rattle.op_devices.proofs.DrawPlans.{number_is, by_width}
 use Rattle.op_devices.proofs.LinePlans.{line_go}
-use Rattle.op_numbers.specs.Numbers.{number_of_value}
-use Rattle.op_work.proofs.Tuples.{some_tuple}
+use Rattle.py_value.specs.Numbers.{number_of_value}
+use Rattle.py_model.proofs.Tuples.{some_tuple}
 use Rattle.py_model.specs.Effect.{Answers, Effect, effect, lacking}
 use Rattle.py_model.specs.Files.{not_utf8, time_ns_plan, drawn, draw_between, draw_below, randint_plan, randrange_plan, input_with, input_plan}
 use Rattle.py_model.specs.Operands.{number_in}

@@ -8,7 +8,7 @@ use Rattle.op_devices.specs.Asking.{Known, answered_by}
 use Rattle.op_devices.specs.Opening.{mode_named, is_fetched, if_fetched, path_in, IsFound, IsOpened, is_readable, bad_mode, bad_path, with_mode, of_texts, rest_of, opening_in}
 use Rattle.op_files.specs.Operands.{text_in}
 use Rattle.op_files.proofs.ObjectOperands.{text_is}
-use Rattle.op_work.proofs.Tuples.{some_tuple}
+use Rattle.py_model.proofs.Tuples.{some_tuple}
 use Rattle.prov_outside.specs.declared.folder.Found.{Found as FoundThere}
 use Rattle.prov_outside.specs.declared.folder.Found.TheVariants.{Bytes, Absent, TooLarge, Failed as Unfound}
 use Rattle.py_model.specs.Faults.{wrong_kind, wrong_number}

@@ -2,7 +2,7 @@
 use Rattle.std.specs.Prelude.{ℕ, zero, suc, ◌%◌, ℤ, pos, negsuc, ◌+ℤ◌, ◌-ℤ◌, List, [], ◌∷◌, Option, Some, None}
 use Rattle.capture.specs.declared.answer.Ask.{Ask as Question}
 use Rattle.capture.specs.declared.answer.Ask.TheVariants.{Word}
-use Rattle.op_numbers.specs.Numbers.{number_of_value}
+use Rattle.py_value.specs.Numbers.{number_of_value}
 use Rattle.py_model.specs.Files.{device_failed}
 use Rattle.py_model.specs.Plan.{Given, random_word, done, Plan, writes}
 use Rattle.py_value.specs.Contents.{int}

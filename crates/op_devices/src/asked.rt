@@ -3,9 +3,9 @@ ghost use Rattle.std.specs.Prelude.{◌≡◌};
 ghost use Rattle.op_devices.specs.Draws.{word_for as word_for_many, randint_asked as randint_asked_by, randrange_asked as randrange_asked_by};
 ghost use Rattle.op_devices.specs.Given.{asks, line_asked as line_asked_by, time_asked as time_asked_by};
 
-use crate::numbers::{below, between, number_of};
+use crate::numbers::{below, between};
 use capture::Ask;
-use py_value::Value;
+use py_value::{Value, number_of};
 
 /// Which device the operation with a number asks first, by its operands.
 pub fn asking(no: u8, operands: &[Value]) -> Option<Ask>

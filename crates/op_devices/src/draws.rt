@@ -10,11 +10,11 @@ ghost use Rattle.py_model.specs.Files.{drawn as drawn_plan, randint_plan, randra
 ghost use Rattle.py_value.specs.Contents.{contents};
 ghost use Rattle.py_value.specs.Values.{AreNamed};
 
-use crate::numbers::{below, between, number_drawn, number_of};
+use crate::numbers::{below, between, number_drawn};
 use capture::Given;
-use op_work::{Stop, Work};
+use op_work::{Exception, Stop, Work};
 use py_model::Answer;
-use py_value::Value;
+use py_value::{Value, number_of};
 use std::alloc::Global;
 
 // The number that the given word draws.
@@ -32,10 +32,10 @@ fn word_answer(
 {
     match given {
         Given::Word(word) => Ok(Answer::Value(Value::Int(number_drawn(start, many, *word)))),
-        Given::Number(_) => Err(work.fault(alloc, 15, "device failed")),
-        Given::Line(_) => Err(work.fault(alloc, 15, "device failed")),
-        Given::End => Err(work.fault(alloc, 15, "device failed")),
-        Given::Failed => Err(work.fault(alloc, 15, "device failed")),
+        Given::Number(_) => Err(work.fault(alloc, Exception::OSError, "device failed")),
+        Given::Line(_) => Err(work.fault(alloc, Exception::OSError, "device failed")),
+        Given::End => Err(work.fault(alloc, Exception::OSError, "device failed")),
+        Given::Failed => Err(work.fault(alloc, Exception::OSError, "device failed")),
     }
 }
 
@@ -70,16 +70,16 @@ pub fn randint(
     ensures { (k : Known) → IsGiven k (asks 110 operands.now) (option_copied given.entry) → Ends (λ table. answered_by k (randint_plan (map (contents table) operands.now))) work.old work.new result }
 {
     if operands.len() != 3 {
-        return Err(work.fault(alloc, 9, "wrong number of arguments"));
+        return Err(work.fault(alloc, Exception::TypeError, "wrong number of arguments"));
     }
     let Some(low) = number_of(operands[1]) else {
-        return Err(work.fault(alloc, 9, "wrong kind of value"));
+        return Err(work.fault(alloc, Exception::TypeError, "wrong kind of value"));
     };
     let Some(high) = number_of(operands[2]) else {
-        return Err(work.fault(alloc, 9, "wrong kind of value"));
+        return Err(work.fault(alloc, Exception::TypeError, "wrong kind of value"));
     };
     let Some(many) = between(low, high) else {
-        return Err(work.fault(alloc, 10, "empty or zero"));
+        return Err(work.fault(alloc, Exception::ValueError, "empty or zero"));
     };
     drawn(work, alloc, low, many, given)
 }
@@ -96,13 +96,13 @@ pub fn randrange(
     ensures { (k : Known) → IsGiven k (asks 111 operands.now) (option_copied given.entry) → Ends (λ table. answered_by k (randrange_plan (map (contents table) operands.now))) work.old work.new result }
 {
     if operands.len() != 2 {
-        return Err(work.fault(alloc, 9, "wrong number of arguments"));
+        return Err(work.fault(alloc, Exception::TypeError, "wrong number of arguments"));
     }
     let Some(bound) = number_of(operands[1]) else {
-        return Err(work.fault(alloc, 9, "wrong kind of value"));
+        return Err(work.fault(alloc, Exception::TypeError, "wrong kind of value"));
     };
     let Some(many) = below(bound) else {
-        return Err(work.fault(alloc, 10, "empty or zero"));
+        return Err(work.fault(alloc, Exception::ValueError, "empty or zero"));
     };
     drawn(work, alloc, 0, many, given)
 }

@@ -14,7 +14,7 @@ ghost use Rattle.py_value.specs.Values.{AreNamed};
 use capture::Given;
 use op_numbers::value_answer;
 use op_texts::size;
-use op_work::{Stop, Work};
+use op_work::{Exception, Stop, Work};
 use py_model::Answer;
 use py_value::Value;
 use std::alloc::Global;
@@ -26,7 +26,7 @@ fn text_answer(work: &mut Work, alloc: Global, bytes: &[u8]) -> Result<Answer, S
     ensures { Ends (λ table. line_given (a_line bytes.now)) work.old work.new result }
 {
     let Ok(line) = str::from_utf8(bytes) else {
-        return Err(work.fault(alloc, 10, "not UTF-8"));
+        return Err(work.fault(alloc, Exception::ValueError, "not UTF-8"));
     };
     work.count(size(line))?;
     let text = work.text(alloc, line)?;
@@ -40,10 +40,10 @@ fn line_answer(work: &mut Work, alloc: Global, given: &Given) -> Result<Answer, 
 {
     match given {
         Given::Line(bytes) => text_answer(work, alloc, bytes.as_slice()),
-        Given::End => Err(work.fault(alloc, 17, "end of input")),
-        Given::Number(_) => Err(work.fault(alloc, 15, "device failed")),
-        Given::Word(_) => Err(work.fault(alloc, 15, "device failed")),
-        Given::Failed => Err(work.fault(alloc, 15, "device failed")),
+        Given::End => Err(work.fault(alloc, Exception::EOFError, "end of input")),
+        Given::Number(_) => Err(work.fault(alloc, Exception::OSError, "device failed")),
+        Given::Word(_) => Err(work.fault(alloc, Exception::OSError, "device failed")),
+        Given::Failed => Err(work.fault(alloc, Exception::OSError, "device failed")),
     }
 }
 
@@ -67,10 +67,10 @@ fn prompt(work: &mut Work, alloc: Global, operands: &[Value]) -> Result<String, 
         return Ok(String::new(alloc));
     }
     if operands.len() != 1 {
-        return Err(work.fault(alloc, 9, "wrong number of arguments"));
+        return Err(work.fault(alloc, Exception::TypeError, "wrong number of arguments"));
     }
     let Some(id) = text_in(operands[0]) else {
-        return Err(work.fault(alloc, 9, "wrong kind of value"));
+        return Err(work.fault(alloc, Exception::TypeError, "wrong kind of value"));
     };
     let text = String::from_str(alloc, work.text_of(id))?;
     Ok(text)

@@ -14,8 +14,8 @@ ghost use Rattle.py_value.specs.declared.access.Mode.{Mode as OneMode};
 ghost use Rattle.py_value.specs.declared.access.Mode.TheVariants.{Read as ReadMode, Append as AppendMode};
 
 use crate::lines::text_in;
-use crate::paths::is_path;
-use op_work::{Stop, Work};
+use op_work::{Exception, Stop, Work};
+use paths::is_path;
 use prov_outside::Found;
 use py_model::Answer;
 use py_value::{Content, Kind, Location, Mode, Value};
@@ -147,10 +147,10 @@ fn read_rest(work: &mut Work, alloc: Global, path: u32, readable: bool) -> Resul
     ensures { Ends (λ table. rest_of readable ReadMode (bytes_of table path) (held_file work.old.store path)) work.old work.new result }
 {
     if !readable {
-        return Err(work.fault(alloc, 15, "file cannot be read"));
+        return Err(work.fault(alloc, Exception::OSError, "file cannot be read"));
     }
     if work.file(path).is_none() {
-        return Err(work.fault(alloc, 16, "no such file"));
+        return Err(work.fault(alloc, Exception::FileNotFoundError, "no such file"));
     }
     open_there(work, path)
 }
@@ -162,7 +162,7 @@ fn append_rest(work: &mut Work, alloc: Global, path: u32, readable: bool) -> Res
     ensures { Ends (λ table. rest_of readable AppendMode (bytes_of table path) (held_file work.old.store path)) work.old work.new result }
 {
     if !readable {
-        return Err(work.fault(alloc, 15, "file cannot be read"));
+        return Err(work.fault(alloc, Exception::OSError, "file cannot be read"));
     }
     if work.file(path).is_none() {
         return open_new(work, alloc, path, Mode::Append);
@@ -222,10 +222,10 @@ fn open_tested(
     ensures { EndsAt (path_if_fetched path (bytes_of work.old.values path) mode) (λ table. with_mode (bytes_of table path) mode (opening_in readable)) work.old work.new result }
 {
     let Some(mode) = mode else {
-        return Err(work.fault(alloc, 10, "bad mode"));
+        return Err(work.fault(alloc, Exception::ValueError, "bad mode"));
     };
     if !is_path(work.text_of(path)) {
-        return Err(work.fault(alloc, 15, "bad path"));
+        return Err(work.fault(alloc, Exception::OSError, "bad path"));
     }
     open_in(work, alloc, path, mode, readable)
 }
@@ -238,19 +238,19 @@ fn texts(work: &mut Work, alloc: Global, operands: &[Value]) -> Result<(u32, Opt
     ensures path { IfOk result (λ found. path_in work.old.values operands.now ≡ path_if_fetched found.0 (bytes_of work.old.values found.0) found.1) }
 {
     if operands.is_empty() {
-        return Err(work.fault(alloc, 9, "wrong number of arguments"));
+        return Err(work.fault(alloc, Exception::TypeError, "wrong number of arguments"));
     }
     if operands.len() > 2 {
-        return Err(work.fault(alloc, 9, "wrong number of arguments"));
+        return Err(work.fault(alloc, Exception::TypeError, "wrong number of arguments"));
     }
     let Some(path) = text_in(operands[0]) else {
-        return Err(work.fault(alloc, 9, "wrong kind of value"));
+        return Err(work.fault(alloc, Exception::TypeError, "wrong kind of value"));
     };
     if operands.len() == 1 {
         return Ok((path, Some(Mode::Read)));
     }
     let Some(mode) = text_in(operands[1]) else {
-        return Err(work.fault(alloc, 9, "wrong kind of value"));
+        return Err(work.fault(alloc, Exception::TypeError, "wrong kind of value"));
     };
     Ok((path, mode_of(work.text_of(mode))))
 }

@@ -9,7 +9,7 @@ ghost use Rattle.py_value.specs.Contents.{contents};
 ghost use Rattle.py_value.specs.Values.{AreNamed};
 
 use capture::Given;
-use op_work::{Stop, Work};
+use op_work::{Exception, Stop, Work};
 use py_model::Answer;
 use py_value::Value;
 use std::alloc::Global;
@@ -21,10 +21,10 @@ fn time_answer(work: &mut Work, alloc: Global, given: &Given) -> Result<Answer, 
 {
     match given {
         Given::Number(i) => Ok(Answer::Value(Value::Int(*i))),
-        Given::Word(_) => Err(work.fault(alloc, 15, "device failed")),
-        Given::Line(_) => Err(work.fault(alloc, 15, "device failed")),
-        Given::End => Err(work.fault(alloc, 15, "device failed")),
-        Given::Failed => Err(work.fault(alloc, 15, "device failed")),
+        Given::Word(_) => Err(work.fault(alloc, Exception::OSError, "device failed")),
+        Given::Line(_) => Err(work.fault(alloc, Exception::OSError, "device failed")),
+        Given::End => Err(work.fault(alloc, Exception::OSError, "device failed")),
+        Given::Failed => Err(work.fault(alloc, Exception::OSError, "device failed")),
     }
 }
 
@@ -40,7 +40,7 @@ pub fn time_ns(
     ensures { (k : Known) → IsGiven k (asks 109 operands.now) (option_copied given.entry) → Ends (λ table. answered_by k (time_ns_plan (map (contents table) operands.now))) work.old work.new result }
 {
     if operands.len() != 1 {
-        return Err(work.fault(alloc, 9, "wrong number of arguments"));
+        return Err(work.fault(alloc, Exception::TypeError, "wrong number of arguments"));
     }
     let Some(given) = given else {
         return Err(Stop::Memory);

@@ -1,7 +1,7 @@
 -- What operands of methods are as plans.
 use Rattle.std.proofs.Common.{◌≡◌, refl, ap, arith, ℕ, List, [], ◌∷◌, map, length, slice_index_or, Option, Some, None}
 use Rattle.op_dicts.specs.Operands.{first_object}
-use Rattle.op_work.proofs.Tuples.{some_tuple}
+use Rattle.py_model.proofs.Tuples.{some_tuple}
 use Rattle.py_model.specs.Dicts.{get_method}
 use Rattle.py_model.specs.Faults.{wrong_kind, wrong_number}
 use Rattle.py_model.specs.Plan.{Plan, read_len, read_order}

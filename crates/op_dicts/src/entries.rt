@@ -7,7 +7,7 @@ ghost use Rattle.py_value.specs.Contents.{contents};
 ghost use Rattle.py_value.specs.Values.{IsNamed};
 
 use crate::puts::{add_pair, put_pair, remove_pair};
-use op_work::{Stop, Work};
+use op_work::{Exception, Stop, Work};
 use py_model::Answer;
 use py_value::{Key, Value, contents_stay};
 use std::alloc::Global;
@@ -40,7 +40,7 @@ pub fn get_entry(work: &mut Work, alloc: Global, o: u32, v: Value) -> Result<Ans
     let _ = key;
     match entry {
         Some(pair) => Ok(Answer::Value(pair.1)),
-        None => Err(Stop::Raises(6, v)),
+        None => Err(Stop::Raises(Exception::KeyError.number(), v)),
     }
 }
 
@@ -77,6 +77,6 @@ pub fn del_entry(work: &mut Work, alloc: Global, o: u32, v: Value) -> Result<Ans
     let (key, entry) = entry_at(work, alloc, o, v)?;
     match entry {
         Some(pair) => remove_pair(work, o, key, pair.0),
-        None => Err(Stop::Raises(6, v)),
+        None => Err(Stop::Raises(Exception::KeyError.number(), v)),
     }
 }

@@ -7,7 +7,7 @@ ghost use Rattle.py_value.specs.Contents.{contents, object};
 ghost use Rattle.py_value.specs.Values.{IsNamed};
 
 use crate::entry_at;
-use op_work::{Stop, Work};
+use op_work::{Exception, Stop, Work};
 use py_model::Answer;
 use py_value::{Kind, Value};
 use std::alloc::Global;
@@ -19,10 +19,18 @@ pub fn dict(work: &mut Work, alloc: Global, o: u32) -> Result<(), Stop>
 {
     match work.kind_there(o) {
         Some(Kind::Dict) => Ok(()),
-        Some(Kind::List) => Err(work.fault(alloc, 9, "wrong kind of value")),
-        Some(Kind::Instance(_)) => Err(work.fault(alloc, 9, "wrong kind of value")),
-        Some(Kind::File(_, _)) => Err(work.fault(alloc, 9, "wrong kind of value")),
-        None => Err(work.fault(alloc, 9, "wrong kind of value")),
+        Some(Kind::List) => Err(work.fault(alloc, Exception::TypeError, "wrong kind of value")),
+        Some(Kind::Instance(_)) => Err(work.fault(
+            alloc,
+            Exception::TypeError,
+            "wrong kind of value",
+        )),
+        Some(Kind::File(_, _)) => Err(work.fault(
+            alloc,
+            Exception::TypeError,
+            "wrong kind of value",
+        )),
+        None => Err(work.fault(alloc, Exception::TypeError, "wrong kind of value")),
     }
 }
 

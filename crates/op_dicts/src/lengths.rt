@@ -3,7 +3,7 @@ ghost use Rattle.op_work.specs.Work.{Comes, is_any, as_is};
 ghost use Rattle.py_model.specs.Arithmetic.{length_of};
 ghost use Rattle.py_value.specs.Contents.{object};
 
-use op_work::{Stop, Work};
+use op_work::{Exception, Stop, Work};
 use py_value::Kind;
 use std::alloc::Global;
 
@@ -17,8 +17,16 @@ pub fn object_length(work: &mut Work, alloc: Global, o: u32) -> Result<u64, Stop
             let count = work.read_order(o)?;
             Ok(u64::from(count))
         }
-        Some(Kind::Instance(_)) => Err(work.fault(alloc, 9, "wrong kind of value")),
-        Some(Kind::File(_, _)) => Err(work.fault(alloc, 9, "wrong kind of value")),
-        None => Err(work.fault(alloc, 9, "wrong kind of value")),
+        Some(Kind::Instance(_)) => Err(work.fault(
+            alloc,
+            Exception::TypeError,
+            "wrong kind of value",
+        )),
+        Some(Kind::File(_, _)) => Err(work.fault(
+            alloc,
+            Exception::TypeError,
+            "wrong kind of value",
+        )),
+        None => Err(work.fault(alloc, Exception::TypeError, "wrong kind of value")),
     }
 }

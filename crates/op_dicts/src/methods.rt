@@ -7,7 +7,7 @@ ghost use Rattle.py_value.specs.Contents.{contents};
 ghost use Rattle.py_value.specs.Values.{AreNamed};
 
 use crate::{get, get_or};
-use op_work::{Stop, Work};
+use op_work::{Exception, Stop, Work};
 use py_model::Answer;
 use py_value::Value;
 use std::alloc::Global;
@@ -29,7 +29,7 @@ pub fn get_method(work: &mut Work, alloc: Global, operands: &[Value]) -> Result<
     ensures { Ends (λ table. plan_get (map (contents table) operands.now)) work.old work.new result }
 {
     let Some(o) = object_first(operands) else {
-        return Err(work.fault(alloc, 9, "wrong kind of value"));
+        return Err(work.fault(alloc, Exception::TypeError, "wrong kind of value"));
     };
     if operands.len() == 2 {
         return get(work, alloc, o, operands[1]);
@@ -37,5 +37,5 @@ pub fn get_method(work: &mut Work, alloc: Global, operands: &[Value]) -> Result<
     if operands.len() == 3 {
         return get_or(work, alloc, o, operands[1], operands[2]);
     }
-    Err(work.fault(alloc, 9, "wrong number of arguments"))
+    Err(work.fault(alloc, Exception::TypeError, "wrong number of arguments"))
 }

@@ -10,7 +10,7 @@ use Rattle.py_value.specs.declared.access.Kind.TheVariants.{List as ListKind, Di
 use Rattle.py_value.specs.declared.access.Mode.{Mode}
 use Rattle.py_value.specs.declared.value.Value.{Value}
 use Rattle.py_value.specs.declared.value.Value.TheVariants.{None as NoneValue, Bool as TruthValue, Int, Text, Tuple, Range, Fn, Class, Exc, Builtin, Object}
-use Rattle.op_work.proofs.Tuples.{some_tuple}
+use Rattle.py_model.proofs.Tuples.{some_tuple}
 use Rattle.op_files.specs.Operands.{object_in, text_in, file_in, of_object, of_object_text}
 
 -- the number of operands

@@ -8,7 +8,7 @@ ghost use Rattle.py_value.specs.Seen.{closed_at, closed_is};
 ghost use Rattle.py_value.specs.Values.{AreNamed};
 
 use crate::operands::{one_object, open_file};
-use op_work::{Stop, Work};
+use op_work::{Exception, Stop, Work};
 use py_model::Answer;
 use py_value::{Content, Location, Value};
 use std::alloc::Global;
@@ -29,7 +29,7 @@ pub fn close(work: &mut Work, alloc: Global, operands: &[Value]) -> Result<Answe
 {
     let o = one_object(work, alloc, operands)?;
     let Some((path, mode)) = open_file(work, o) else {
-        return Err(work.fault(alloc, 9, "wrong kind of value"));
+        return Err(work.fault(alloc, Exception::TypeError, "wrong kind of value"));
     };
     let _ = (path, mode);
     set_closed(work, o)

@@ -9,7 +9,7 @@ ghost use Rattle.py_value.specs.Contents.{contents};
 ghost use Rattle.py_value.specs.Seen.{bytes_of};
 ghost use Rattle.py_value.specs.Values.{AreNamed};
 
-use op_work::{Stop, Work};
+use op_work::{Exception, Stop, Work};
 use py_value::{Kind, Mode, Value};
 use std::alloc::Global;
 
@@ -56,11 +56,11 @@ pub(crate) fn one_object(work: &mut Work, alloc: Global, operands: &[Value]) -> 
     ensures { Comes is_any as_is (λ table. of_object (map (contents table) operands.now)) work.old work.new result }
 {
     if operands.len() != 1 {
-        return Err(work.fault(alloc, 9, "wrong number of arguments"));
+        return Err(work.fault(alloc, Exception::TypeError, "wrong number of arguments"));
     }
     match object_in(operands[0]) {
         Some(o) => Ok(o),
-        None => Err(work.fault(alloc, 9, "wrong kind of value")),
+        None => Err(work.fault(alloc, Exception::TypeError, "wrong kind of value")),
     }
 }
 
@@ -75,13 +75,13 @@ pub(crate) fn object_and_text(
     ensures named { IfOk result (λ found. found.1 < length work.old.values.texts) }
 {
     if operands.len() != 2 {
-        return Err(work.fault(alloc, 9, "wrong number of arguments"));
+        return Err(work.fault(alloc, Exception::TypeError, "wrong number of arguments"));
     }
     let Some(o) = object_in(operands[0]) else {
-        return Err(work.fault(alloc, 9, "wrong kind of value"));
+        return Err(work.fault(alloc, Exception::TypeError, "wrong kind of value"));
     };
     let Some(id) = text_in(operands[1]) else {
-        return Err(work.fault(alloc, 9, "wrong kind of value"));
+        return Err(work.fault(alloc, Exception::TypeError, "wrong kind of value"));
     };
     Ok((o, id))
 }

@@ -4,26 +4,14 @@ ghost use Rattle.std.specs.Str.{is_utf8};
 ghost use Rattle.object_store.specs.Store.{file_at};
 ghost use Rattle.op_files.specs.Pieces.{piece as piece_of, piece_in};
 ghost use Rattle.op_slices.specs.Lines.{bytes_in};
-ghost use Rattle.py_model.specs.Files.{first_line as first_line_of};
 ghost use Rattle.py_model.specs.Texts.{size as size_of};
 
+use op_slices::first_line;
 use op_texts::size;
 use op_work::Work;
 use prov_base::Memory;
 use std::alloc::Global;
 use std::str;
-
-// The bytes up to the first line feed and with it, or all.
-fn first_line(bytes: &[u8]) -> &[u8]
-    ensures { result.now ≡ first_line_of bytes.now }
-{
-    for i in 0..bytes.len() {
-        if bytes[i] == 10 {
-            return &bytes[..i + 1];
-        }
-    }
-    bytes
-}
 
 // The bytes of a file behind an offset.
 fn left_at(work: &Work, path: u32, offset: u64) -> &[u8]

@@ -2,7 +2,6 @@
 ghost use Rattle.std.specs.Prelude.{◌≡◌, ◌<◌, None, Some, length, map, slice_get};
 ghost use Rattle.object_store.specs.Store.{file_at, kinds};
 ghost use Rattle.op_files.specs.Pieces.{piece_behind, piece_plan, piece_unless};
-ghost use Rattle.op_slices.specs.Lines.{is_reading};
 ghost use Rattle.op_work.specs.Work.{Comes, Ends, WroteAll, is_any};
 ghost use Rattle.py_model.specs.Files.{read_plan, readline_plan};
 ghost use Rattle.py_model.specs.Plan.{read_closed, read_file as plan_file, write, done};
@@ -13,7 +12,8 @@ ghost use Rattle.py_value.specs.declared.access.Kind.TheVariants.{File};
 
 use crate::operands::{one_object, open_file};
 use crate::pieces::{piece_at, piece_size, piece_text};
-use op_work::{Stop, Work};
+use op_slices::is_read;
+use op_work::{Exception, Stop, Work};
 use py_model::Answer;
 use py_value::{Content, Location, Mode, Value};
 use std::alloc::Global;
@@ -51,7 +51,7 @@ fn take_piece(
 {
     let length = piece_at(work, whole, path, offset).len() as u64;
     let Some(count) = piece_size(work, whole, path, offset) else {
-        return Err(work.fault(alloc, 10, "not UTF-8"));
+        return Err(work.fault(alloc, Exception::ValueError, "not UTF-8"));
     };
     work.count(count)?;
     let words = piece_text(work, alloc, whole, path, offset)?;
@@ -60,17 +60,6 @@ fn take_piece(
         return Err(Stop::Memory);
     };
     behind(work, o, end, piece)
-}
-
-// Whether a mode is that of reading.
-fn is_read(mode: Mode) -> bool
-    ensures { result ≡ is_reading mode }
-{
-    match mode {
-        Mode::Read => true,
-        Mode::Write => false,
-        Mode::Append => false,
-    }
 }
 
 // The next piece of an open file, which is not closed and was opened for reading.
@@ -89,10 +78,10 @@ fn file_piece(
 {
     let closed = work.read_closed(o)?;
     if closed {
-        return Err(work.fault(alloc, 10, "file is closed"));
+        return Err(work.fault(alloc, Exception::ValueError, "file is closed"));
     }
     if !is_read(mode) {
-        return Err(work.fault(alloc, 15, "wrong mode"));
+        return Err(work.fault(alloc, Exception::OSError, "wrong mode"));
     }
     let offset = work.read_offset(o)?;
     read_opened(work, o, path, mode)?;
@@ -105,7 +94,7 @@ fn object_piece(work: &mut Work, alloc: Global, whole: bool, o: u32) -> Result<A
     ensures { Ends (λ table. piece_plan whole o) work.old work.new result }
 {
     let Some((path, mode)) = open_file(work, o) else {
-        return Err(work.fault(alloc, 9, "wrong kind of value"));
+        return Err(work.fault(alloc, Exception::TypeError, "wrong kind of value"));
     };
     file_piece(work, alloc, whole, o, path, mode)
 }

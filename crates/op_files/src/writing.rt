@@ -2,7 +2,6 @@
 ghost use Rattle.std.specs.Prelude.{◌≡◌, ◌<◌, None, Some, length, map, pos, IsSome};
 ghost use Rattle.object_store.specs.Store.{file_at as held_file};
 ghost use Rattle.op_files.specs.Written.{appended, written_unless};
-ghost use Rattle.op_slices.specs.Lines.{is_reading};
 ghost use Rattle.op_work.specs.Work.{Ends, WroteAll};
 ghost use Rattle.py_model.specs.Files.{write_plan, write_to};
 ghost use Rattle.py_model.specs.Plan.{read_closed, change, done};
@@ -11,8 +10,9 @@ ghost use Rattle.py_value.specs.Seen.{bytes_of, file_at, bytes_appended};
 ghost use Rattle.py_value.specs.Values.{AreNamed};
 
 use crate::operands::{object_and_text, open_file};
+use op_slices::is_read;
 use op_texts::size;
-use op_work::{Stop, Work};
+use op_work::{Exception, Stop, Work};
 use py_model::Answer;
 use py_value::{Change, Location, Mode, Value};
 use std::alloc::Global;
@@ -46,17 +46,6 @@ fn append_text(work: &mut Work, path: u32, id: u32) -> Result<Answer, Stop>
     put_behind(work, path, id, count)
 }
 
-// Whether a mode is that of reading.
-fn is_read(mode: Mode) -> bool
-    ensures { result ≡ is_reading mode }
-{
-    match mode {
-        Mode::Read => true,
-        Mode::Write => false,
-        Mode::Append => false,
-    }
-}
-
 // A text is written into an open file, which is not closed and was not opened for reading.
 fn file_write(
     work: &mut Work,
@@ -73,10 +62,10 @@ fn file_write(
 {
     let closed = work.read_closed(o)?;
     if closed {
-        return Err(work.fault(alloc, 10, "file is closed"));
+        return Err(work.fault(alloc, Exception::ValueError, "file is closed"));
     }
     if is_read(mode) {
-        return Err(work.fault(alloc, 15, "wrong mode"));
+        return Err(work.fault(alloc, Exception::OSError, "wrong mode"));
     }
     append_text(work, path, id)
 }
@@ -88,7 +77,7 @@ fn object_write(work: &mut Work, alloc: Global, o: u32, id: u32) -> Result<Answe
     ensures { Ends (λ table. write_to o (bytes_of table id)) work.old work.new result }
 {
     let Some((path, mode)) = open_file(work, o) else {
-        return Err(work.fault(alloc, 9, "wrong kind of value"));
+        return Err(work.fault(alloc, Exception::TypeError, "wrong kind of value"));
     };
     file_write(work, alloc, o, path, mode, id)
 }

@@ -5,7 +5,7 @@ use Rattle.object_store.specs.Named.{IsNamedStore}
 use Rattle.object_store.specs.Store.{StoreView, content_at}
 use Rattle.op_held.specs.Uncaught.{text_raised, one_text, text_alone, IsArgsKey, AreWordsOf, IsTextOf}
 use Rattle.op_work.proofs.EntryReads.{ContentsStay, form_on, named_on, entry_read, entry_named}
-use Rattle.op_work.proofs.Tuples.{some_tuple}
+use Rattle.py_model.proofs.Tuples.{some_tuple}
 use Rattle.op_work.specs.Entries.{entry_in, IsNamedEntry}
 use Rattle.op_work.specs.Work.{WorkView, Extends, IsSeen}
 use Rattle.py_model.specs.Store.{RunStore, entry_of}

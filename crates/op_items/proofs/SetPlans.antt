@@ -2,7 +2,7 @@
 use Rattle.std.proofs.Common.{◌≡◌, refl, sym, ap, subst, ℕ, ◌<◌, length, Option, None, List, [], ◌∷◌}
 use Rattle.object_store.specs.Store.{StoreView, count_with}
 use Rattle.op_items.specs.Operands.{of_three}
-use Rattle.op_work.proofs.Tuples.{some_tuple}
+use Rattle.py_model.proofs.Tuples.{some_tuple}
 use Rattle.py_model.specs.Faults.{wrong_kind}
 use Rattle.py_model.specs.Lists.{setitem}
 use Rattle.py_model.specs.Plan.{Plan, writes, write, done}

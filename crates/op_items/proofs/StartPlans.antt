@@ -1,6 +1,6 @@
 -- The start of a `for`, as a plan.
 use Rattle.std.proofs.Common.{◌≡◌, refl, ap, ℕ, ℤ, List, [], ◌∷◌}
-use Rattle.op_work.proofs.Tuples.{some_tuple}
+use Rattle.py_model.proofs.Tuples.{some_tuple}
 use Rattle.py_model.specs.Faults.{wrong_kind}
 use Rattle.py_model.specs.Lists.{iter}
 use Rattle.py_model.specs.Operands.{of_one, gives}

@@ -1,7 +1,7 @@
 -- A value that is taken apart, as a plan.
 use Rattle.std.proofs.Common.{◌≡◌, ◌∙◌, refl, sym, ap, eqb-true, eq-eqb, ℕ, ◌==◌, Bool, true, false, List, [], ◌∷◌, map, length, if◌then◌else◌}
 use Rattle.std.proofs.lemmas.List.{length-map}
-use Rattle.op_work.proofs.Tuples.{parts_same}
+use Rattle.py_model.proofs.Tuples.{parts_same}
 use Rattle.op_walks.proofs.Tuples.{items_are}
 use Rattle.py_model.specs.Faults.{wrong_kind}
 use Rattle.py_model.specs.Lists.{unpack, wrong_count, tuple_display}

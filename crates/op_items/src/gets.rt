@@ -16,7 +16,7 @@ use op_lists::{get_item, index};
 use op_numbers::{two, value_answer};
 use op_texts::size;
 use op_walks::range_count;
-use op_work::{Stop, Work};
+use op_work::{Exception, Stop, Work};
 use py_model::Answer;
 use py_value::{Kind, Value, tuples_are_their_parts};
 use std::alloc::Global;
@@ -81,9 +81,17 @@ fn object_item(work: &mut Work, alloc: Global, o: u32, w: Value) -> Result<Answe
     match work.kind_there(o) {
         Some(Kind::List) => list_item(work, alloc, o, w),
         Some(Kind::Dict) => get_entry(work, alloc, o, w),
-        Some(Kind::Instance(_)) => Err(work.fault(alloc, 9, "wrong kind of value")),
-        Some(Kind::File(_, _)) => Err(work.fault(alloc, 9, "wrong kind of value")),
-        None => Err(work.fault(alloc, 9, "wrong kind of value")),
+        Some(Kind::Instance(_)) => Err(work.fault(
+            alloc,
+            Exception::TypeError,
+            "wrong kind of value",
+        )),
+        Some(Kind::File(_, _)) => Err(work.fault(
+            alloc,
+            Exception::TypeError,
+            "wrong kind of value",
+        )),
+        None => Err(work.fault(alloc, Exception::TypeError, "wrong kind of value")),
     }
 }
 
@@ -99,7 +107,7 @@ fn value_item(work: &mut Work, alloc: Global, v: Value, w: Value) -> Result<Answ
         Value::Tuple(id) => tuple_item(work, alloc, id, w),
         Value::Range(start, end, step) => range_item(work, alloc, start, end, step, w),
         Value::Object(o) => object_item(work, alloc, o, w),
-        _ => Err(work.fault(alloc, 9, "wrong kind of value")),
+        _ => Err(work.fault(alloc, Exception::TypeError, "wrong kind of value")),
     }
 }
 

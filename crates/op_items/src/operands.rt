@@ -6,12 +6,12 @@ ghost use Rattle.py_model.specs.Plan.{Plan};
 ghost use Rattle.py_value.specs.Contents.{Contents, contents};
 ghost use Rattle.py_value.specs.Values.{AreNamed};
 
-use op_work::{Stop, Work};
+use op_work::{Exception, Stop, Work};
 use py_value::Value;
 use std::alloc::Global;
 
 /// The operands of an operation that takes three.
-pub(crate) fn three(
+pub fn three(
     work: &mut Work,
     alloc: Global,
     operands: &[Value],
@@ -20,7 +20,7 @@ pub(crate) fn three(
     ensures { Comes IsNamedThree seen_three (λ table (go : Contents × (Contents × Contents) → Plan). of_three (λ v w x. go (v, (w, x))) (map (contents table) operands.now)) work.old work.new result }
 {
     if operands.len() != 3 {
-        return Err(work.fault(alloc, 9, "wrong number of arguments"));
+        return Err(work.fault(alloc, Exception::TypeError, "wrong number of arguments"));
     }
     Ok((operands[0], (operands[1], operands[2])))
 }

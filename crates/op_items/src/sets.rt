@@ -13,7 +13,7 @@ use crate::operands::three;
 use crate::places::length_and_place;
 use op_dicts::set_entry;
 use op_lists::index;
-use op_work::{Stop, Work};
+use op_work::{Exception, Stop, Work};
 use py_model::Answer;
 use py_value::{Content, Kind, Location, Value};
 use std::alloc::Global;
@@ -50,9 +50,17 @@ fn set_in_object(work: &mut Work, alloc: Global, o: u32, w: Value, x: Value) -> 
     match work.kind_there(o) {
         Some(Kind::List) => set_in_list(work, alloc, o, w, x),
         Some(Kind::Dict) => set_entry(work, alloc, o, w, x),
-        Some(Kind::Instance(_)) => Err(work.fault(alloc, 9, "wrong kind of value")),
-        Some(Kind::File(_, _)) => Err(work.fault(alloc, 9, "wrong kind of value")),
-        None => Err(work.fault(alloc, 9, "wrong kind of value")),
+        Some(Kind::Instance(_)) => Err(work.fault(
+            alloc,
+            Exception::TypeError,
+            "wrong kind of value",
+        )),
+        Some(Kind::File(_, _)) => Err(work.fault(
+            alloc,
+            Exception::TypeError,
+            "wrong kind of value",
+        )),
+        None => Err(work.fault(alloc, Exception::TypeError, "wrong kind of value")),
     }
 }
 
@@ -71,7 +79,7 @@ fn set_in_value(
 {
     match v {
         Value::Object(o) => set_in_object(work, alloc, o, w, x),
-        _ => Err(work.fault(alloc, 9, "wrong kind of value")),
+        _ => Err(work.fault(alloc, Exception::TypeError, "wrong kind of value")),
     }
 }
 

@@ -8,7 +8,7 @@ ghost use Rattle.py_value.specs.Contents.{contents, object, int};
 ghost use Rattle.py_value.specs.Values.{AreNamed};
 
 use op_numbers::{one, value_answer};
-use op_work::{Stop, Work};
+use op_work::{Exception, Stop, Work};
 use py_model::Answer;
 use py_value::{Kind, Value};
 use std::alloc::Global;
@@ -31,8 +31,12 @@ fn iter_object(work: &mut Work, alloc: Global, o: u32) -> Result<Answer, Stop>
         Some(Kind::List) => value_answer(work, Value::None),
         Some(Kind::Dict) => key_count(work, o),
         Some(Kind::File(_, _)) => value_answer(work, Value::None),
-        Some(Kind::Instance(_)) => Err(work.fault(alloc, 9, "wrong kind of value")),
-        None => Err(work.fault(alloc, 9, "wrong kind of value")),
+        Some(Kind::Instance(_)) => Err(work.fault(
+            alloc,
+            Exception::TypeError,
+            "wrong kind of value",
+        )),
+        None => Err(work.fault(alloc, Exception::TypeError, "wrong kind of value")),
     }
 }
 
@@ -46,7 +50,7 @@ fn iter_value(work: &mut Work, alloc: Global, v: Value) -> Result<Answer, Stop>
         Value::Tuple(_) => value_answer(work, Value::None),
         Value::Range(_, _, _) => value_answer(work, Value::None),
         Value::Object(o) => iter_object(work, alloc, o),
-        _ => Err(work.fault(alloc, 9, "wrong kind of value")),
+        _ => Err(work.fault(alloc, Exception::TypeError, "wrong kind of value")),
     }
 }
 

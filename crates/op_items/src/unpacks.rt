@@ -10,7 +10,7 @@ use op_lists::list;
 use op_making::tuple_display;
 use op_numbers::{one, value_answer};
 use op_walks::items_from;
-use op_work::{Stop, Work};
+use op_work::{Exception, Stop, Work};
 use py_model::Answer;
 use py_value::{Value, tuples_are_their_parts};
 use std::alloc::Global;
@@ -24,7 +24,7 @@ fn unpack_tuple(work: &mut Work, alloc: Global, targets: u64, id: u32) -> Result
     tuples_are_their_parts();
     let count = work.tuple_of(id).len() as u64;
     if count != targets {
-        return Err(work.fault(alloc, 10, "wrong number of values"));
+        return Err(work.fault(alloc, Exception::ValueError, "wrong number of values"));
     }
     work.look(targets)?;
     value_answer(work, Value::Tuple(id))
@@ -38,7 +38,7 @@ fn unpack_list(work: &mut Work, alloc: Global, targets: u64, o: u32) -> Result<A
     list(work, alloc, o)?;
     let n = work.read_len(o)?;
     if n != targets {
-        return Err(work.fault(alloc, 10, "wrong number of values"));
+        return Err(work.fault(alloc, Exception::ValueError, "wrong number of values"));
     }
     let items = items_from(work, alloc, n, o, 0)?;
     tuple_display(work, alloc, items.as_slice())
@@ -53,7 +53,7 @@ fn unpack_value(work: &mut Work, alloc: Global, targets: u64, v: Value) -> Resul
     match v {
         Value::Tuple(id) => unpack_tuple(work, alloc, targets, id),
         Value::Object(o) => unpack_list(work, alloc, targets, o),
-        _ => Err(work.fault(alloc, 9, "wrong kind of value")),
+        _ => Err(work.fault(alloc, Exception::TypeError, "wrong kind of value")),
     }
 }
 

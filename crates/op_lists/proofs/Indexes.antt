@@ -8,8 +8,8 @@ use Rattle.py_model.specs.Faults.{wrong_kind, bad_index}
 use Rattle.py_model.specs.Lists.{with_place}
 use Rattle.py_model.specs.Places.{with_index, place_in}
 use Rattle.py_model.specs.Plan.{Plan}
-use Rattle.op_work.proofs.Tuples.{some_tuple}
-use Rattle.op_lists.specs.Numbers.{number_of_value}
+use Rattle.py_model.proofs.Tuples.{some_tuple}
+use Rattle.py_value.specs.Numbers.{number_of_value}
 
 abbrev pub or_wrong : Option ℤ → (ℤ → Plan) → Plan
 or_wrong (Some i) go = go i

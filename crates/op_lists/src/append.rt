@@ -8,7 +8,7 @@ ghost use Rattle.py_value.specs.Contents.{contents, object, nothing};
 ghost use Rattle.py_value.specs.Seen.{item_at, item_is, len_at, len_is};
 ghost use Rattle.py_value.specs.Values.{IsNamed};
 
-use op_work::{Stop, Work};
+use op_work::{Exception, Stop, Work};
 use py_model::Answer;
 use py_value::{Content, Kind, Location, Value};
 use std::alloc::Global;
@@ -20,10 +20,18 @@ pub fn list(work: &mut Work, alloc: Global, o: u32) -> Result<(), Stop>
 {
     match work.kind_there(o) {
         Some(Kind::List) => Ok(()),
-        Some(Kind::Dict) => Err(work.fault(alloc, 9, "wrong kind of value")),
-        Some(Kind::Instance(_)) => Err(work.fault(alloc, 9, "wrong kind of value")),
-        Some(Kind::File(_, _)) => Err(work.fault(alloc, 9, "wrong kind of value")),
-        None => Err(work.fault(alloc, 9, "wrong kind of value")),
+        Some(Kind::Dict) => Err(work.fault(alloc, Exception::TypeError, "wrong kind of value")),
+        Some(Kind::Instance(_)) => Err(work.fault(
+            alloc,
+            Exception::TypeError,
+            "wrong kind of value",
+        )),
+        Some(Kind::File(_, _)) => Err(work.fault(
+            alloc,
+            Exception::TypeError,
+            "wrong kind of value",
+        )),
+        None => Err(work.fault(alloc, Exception::TypeError, "wrong kind of value")),
     }
 }
 

@@ -1,16 +1,15 @@
 // Places in sequences.
-ghost use Rattle.std.specs.Prelude.{◌≡◌};
+ghost use Rattle.std.specs.Prelude.{◌≡◌, ◌≤◌};
 ghost use Rattle.op_lists.specs.Items.{item_at_index};
 ghost use Rattle.op_work.specs.Work.{Comes, is_any, as_is};
-ghost use Rattle.py_model.specs.Places.{with_index, place_in as place_of};
+ghost use Rattle.py_model.specs.Places.{with_index, place_in as place_of, clipped as clipped_of};
 ghost use Rattle.py_model.specs.Lists.{with_place};
 ghost use Rattle.py_value.specs.Contents.{contents};
 ghost use Rattle.py_value.specs.Values.{IsNamed};
 
-use crate::numbers::number_of;
 use op_walks::value_at;
-use op_work::{Stop, Work};
-use py_value::Value;
+use op_work::{Exception, Stop, Work};
+use py_value::{Value, number_of};
 use std::alloc::Global;
 
 /// The number of an index, where a truth value is 0 or 1.
@@ -19,7 +18,7 @@ pub fn index(work: &mut Work, alloc: Global, v: Value) -> Result<i64, Stop>
 {
     match number_of(v) {
         Some(i) => Ok(i),
-        None => Err(work.fault(alloc, 9, "wrong kind of value")),
+        None => Err(work.fault(alloc, Exception::TypeError, "wrong kind of value")),
     }
 }
 
@@ -29,7 +28,7 @@ pub fn place(work: &mut Work, alloc: Global, i: i64, n: u64) -> Result<u64, Stop
 {
     match place_in(i, n) {
         Some(p) => Ok(p),
-        None => Err(work.fault(alloc, 5, "index out of range")),
+        None => Err(work.fault(alloc, Exception::IndexError, "index out of range")),
     }
 }
 
@@ -44,6 +43,19 @@ fn place_in(i: i64, n: u64) -> Option<u64>
         Some(n - far)
     } else {
         None
+    }
+}
+
+/// The nearest place of an index among so many items, from the end where it is below 0.
+pub fn clipped(i: i64, n: u64) -> u64
+    ensures place { result ≡ clipped_of i n }
+    ensures within { result ≤ n }
+{
+    let far = i.unsigned_abs();
+    if i >= 0 {
+        if far < n { far } else { n }
+    } else {
+        n.saturating_sub(far)
     }
 }
 

@@ -26,8 +26,8 @@ fn pair(work: &mut Work, alloc: Global, left: Value, right: Value) -> Result<Val
     work.tuple(alloc, &[left, right])
 }
 
-// The pairs of two lists, up to the end of the shorter.
-fn pairs(
+/// The pairs of two lists, up to the end of the shorter.
+pub fn pair_up(
     work: &mut Work,
     alloc: Global,
     lefts: &[Value],
@@ -71,7 +71,7 @@ fn zipped(work: &mut Work, alloc: Global, left: Value, right: Value) -> Result<V
     if_walked(work, alloc, right)?;
     let lefts = walk_value(work, alloc, left)?;
     let rights = walk_value(work, alloc, right)?;
-    pairs(work, alloc, lefts.as_slice(), rights.as_slice())
+    pair_up(work, alloc, lefts.as_slice(), rights.as_slice())
 }
 
 /// `zip(v, w)` (71): the list of the pairs of the items of two sequences, up to the end of the shorter.

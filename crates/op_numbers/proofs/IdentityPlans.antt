@@ -6,7 +6,7 @@ use Rattle.py_value.specs.Contents.{Parts, contents, tuple}
 use Rattle.py_value.specs.Values.{ValuesView}
 use Rattle.py_value.specs.declared.value.Value.{Value}
 use Rattle.py_value.specs.declared.value.Value.TheVariants.{Tuple}
-use Rattle.op_work.proofs.Tuples.{some_tuple}
+use Rattle.py_model.proofs.Tuples.{some_tuple}
 use Rattle.op_numbers.specs.Identity.{identity_of, or_not_there}
 
 module _ (table : ValuesView) (go : Bool → Plan) where

@@ -9,8 +9,8 @@ use Rattle.py_model.specs.Numbers.{is_int, absolute}
 use Rattle.py_model.specs.Operands.{with_number, of_one, of_two, gives, gives_int}
 use Rattle.py_model.specs.Operations.{of_none}
 use Rattle.py_model.specs.Plan.{Plan}
-use Rattle.op_work.proofs.Tuples.{some_tuple}
-use Rattle.op_numbers.specs.Numbers.{number_of_value}
+use Rattle.py_model.proofs.Tuples.{some_tuple}
+use Rattle.py_value.specs.Numbers.{number_of_value}
 
 abbrev pub or_wrong : Option ℤ → (ℤ → Plan) → Plan
 or_wrong (Some i) go = go i

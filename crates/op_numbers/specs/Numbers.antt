@@ -1,18 +1,10 @@
 -- What operands are as numbers, and pairs of values.
-use Rattle.std.specs.Prelude.{ℤ, pos, true, false, List, Option, Some, None}
+use Rattle.std.specs.Prelude.{ℤ, List}
 use Rattle.py_model.specs.Operands.{of_one, of_two, with_number, with_numbers}
 use Rattle.py_model.specs.Plan.{Plan}
 use Rattle.py_value.specs.Contents.{Contents, contents}
 use Rattle.py_value.specs.Values.{ValuesView, IsNamed}
 use Rattle.py_value.specs.declared.value.Value.{Value}
-use Rattle.py_value.specs.declared.value.Value.TheVariants.{Int, Bool}
-
--- the number that a value is
-abbrev pub number_of_value : Value → Option ℤ
-number_of_value (Int i) = Some i
-number_of_value (Bool true) = Some (pos 1)
-number_of_value (Bool false) = Some (pos 0)
-number_of_value other = None
 
 -- two values are named, and what they are
 abbrev pub IsNamedPair : ValuesView → Value × Value → Type 0

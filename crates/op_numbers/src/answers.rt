@@ -6,7 +6,7 @@ ghost use Rattle.py_model.specs.Operands.{gives, gives_truth, gives_int};
 ghost use Rattle.py_value.specs.Contents.{contents};
 ghost use Rattle.py_value.specs.Values.{IsNamed};
 
-use op_work::{Stop, Work};
+use op_work::{Exception, Stop, Work};
 use py_model::Answer;
 use py_value::Value;
 use std::alloc::Global;
@@ -35,6 +35,6 @@ pub fn int_answer(work: &mut Work, alloc: Global, found: Option<i64>) -> Result<
 {
     match found {
         Some(i) => Ok(Answer::Value(Value::Int(i))),
-        None => Err(work.fault(alloc, 3, "integer out of range")),
+        None => Err(work.fault(alloc, Exception::OverflowError, "integer out of range")),
     }
 }

@@ -9,7 +9,7 @@ ghost use Rattle.py_value.specs.Seen.{bytes_of};
 ghost use Rattle.py_value.specs.Values.{IsNamed, AreNamed};
 
 use crate::{int_answer, one, one_number};
-use op_work::{Stop, Work};
+use op_work::{Exception, Stop, Work};
 use py_model::Answer;
 use py_value::Value;
 use std::alloc::Global;
@@ -21,7 +21,7 @@ pub fn text_number(work: &mut Work, alloc: Global, v: Value) -> Result<u32, Stop
 {
     match text_in(v) {
         Some(id) => Ok(id),
-        None => Err(work.fault(alloc, 9, "wrong kind of value")),
+        None => Err(work.fault(alloc, Exception::TypeError, "wrong kind of value")),
     }
 }
 
@@ -77,7 +77,7 @@ pub fn chr(work: &mut Work, alloc: Global, operands: &[Value]) -> Result<Answer,
     let i = one_number(work, alloc, operands)?;
     match character(i) {
         Some(c) => character_answer(work, alloc, c),
-        None => Err(work.fault(alloc, 10, "not a character")),
+        None => Err(work.fault(alloc, Exception::ValueError, "not a character")),
     }
 }
 
@@ -91,6 +91,6 @@ pub fn ord(work: &mut Work, alloc: Global, operands: &[Value]) -> Result<Answer,
     let id = text_number(work, alloc, v)?;
     match only_character(work.text_of(id)) {
         Some(c) => int_answer(work, alloc, Some(i64::from(u32::from(c)))),
-        None => Err(work.fault(alloc, 10, "not a character")),
+        None => Err(work.fault(alloc, Exception::ValueError, "not a character")),
     }
 }

@@ -8,7 +8,7 @@ ghost use Rattle.py_value.specs.Contents.{contents};
 ghost use Rattle.py_value.specs.Values.{AreNamed};
 
 use crate::{int_answer, two_numbers};
-use op_work::{Stop, Work};
+use op_work::{Exception, Stop, Work};
 use py_model::Answer;
 use py_value::Value;
 use std::alloc::Global;
@@ -52,7 +52,7 @@ pub fn floor_div(work: &mut Work, alloc: Global, operands: &[Value]) -> Result<A
 {
     let (i, j) = two_numbers(work, alloc, operands)?;
     if j == 0 {
-        return Err(work.fault(alloc, 2, "division by zero"));
+        return Err(work.fault(alloc, Exception::ZeroDivisionError, "division by zero"));
     }
     int_answer(work, alloc, floor_quotient(i, j))
 }
@@ -65,7 +65,7 @@ pub fn remainder(work: &mut Work, alloc: Global, operands: &[Value]) -> Result<A
 {
     let (i, j) = two_numbers(work, alloc, operands)?;
     if j == 0 {
-        return Err(work.fault(alloc, 2, "division by zero"));
+        return Err(work.fault(alloc, Exception::ZeroDivisionError, "division by zero"));
     }
     int_answer(work, alloc, Some(floor_remainder(i, j)))
 }

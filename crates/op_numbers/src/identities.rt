@@ -7,7 +7,7 @@ ghost use Rattle.py_value.specs.Contents.{contents};
 ghost use Rattle.py_value.specs.Values.{AreNamed};
 
 use crate::{truth_answer, two};
-use op_work::{Stop, Work};
+use op_work::{Exception, Stop, Work};
 use py_model::Answer;
 use py_value::Value;
 use std::alloc::Global;
@@ -38,7 +38,7 @@ fn identical(work: &mut Work, alloc: Global, v: Value, w: Value) -> Result<bool,
 {
     match identity(v, w) {
         Some(b) => Ok(b),
-        None => Err(work.fault(alloc, 13, "not in this profile")),
+        None => Err(work.fault(alloc, Exception::NotImplementedError, "not in this profile")),
     }
 }
 

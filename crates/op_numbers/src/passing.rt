@@ -8,7 +8,7 @@ ghost use Rattle.py_value.specs.Contents.{contents};
 ghost use Rattle.py_value.specs.Values.{IsNamed, AreNamed};
 
 use crate::{one, value_answer};
-use op_work::{Stop, Work};
+use op_work::{Exception, Stop, Work};
 use py_model::Answer;
 use py_value::Value;
 use std::alloc::Global;
@@ -25,7 +25,7 @@ pub fn constant(
     ensures { Ends (λ table. of_none (const_plan (contents table v)) (map (contents table) operands.now)) work.old work.new result }
 {
     if operands.len() != 0 {
-        return Err(work.fault(alloc, 9, "wrong number of arguments"));
+        return Err(work.fault(alloc, Exception::TypeError, "wrong number of arguments"));
     }
     Ok(Answer::Value(v))
 }

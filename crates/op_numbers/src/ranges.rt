@@ -8,7 +8,7 @@ ghost use Rattle.py_value.specs.Contents.{contents};
 ghost use Rattle.py_value.specs.Values.{AreNamed};
 
 use crate::number;
-use op_work::{Stop, Work};
+use op_work::{Exception, Stop, Work};
 use py_model::Answer;
 use py_value::Value;
 use std::alloc::Global;
@@ -37,7 +37,7 @@ fn range_answer(
     ensures { Ends (λ table. a_range start end step) work.old work.new result }
 {
     if step == 0 {
-        return Err(work.fault(alloc, 10, "empty or zero"));
+        return Err(work.fault(alloc, Exception::ValueError, "empty or zero"));
     }
     Ok(Answer::Value(Value::Range(start, end, step)))
 }
@@ -55,6 +55,6 @@ pub fn range(work: &mut Work, alloc: Global, operands: &[Value]) -> Result<Answe
             let step = number(work, alloc, x)?;
             range_answer(work, alloc, start, end, step)
         }
-        None => Err(work.fault(alloc, 9, "wrong number of arguments")),
+        None => Err(work.fault(alloc, Exception::TypeError, "wrong number of arguments")),
     }
 }

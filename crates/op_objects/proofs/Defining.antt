@@ -16,7 +16,7 @@ use Rattle.op_classes.specs.Kinds.{class_in}
 use Rattle.op_classes.specs.Matching.{is_class_value}
 use Rattle.op_objects.specs.Kinds.{function_in}
 use Rattle.op_work.proofs.EntryReads.{named_on}
-use Rattle.op_work.proofs.Tuples.{some_tuple}
+use Rattle.py_model.proofs.Tuples.{some_tuple}
 use Rattle.op_work.specs.Work.{IsNamedMaybe, Extends}
 use Rattle.op_objects.proofs.OfClasses.{when_class}
 

@@ -13,7 +13,7 @@ use Rattle.py_value.specs.declared.value.Value.{Value}
 use Rattle.py_value.specs.declared.value.Value.TheVariants.{None as NoneValue, Bool as TruthValue, Int, Text, Tuple, Range, Fn, Class, Exc, Builtin, Object}
 use Rattle.op_classes.specs.Kinds.{object_in}
 use Rattle.op_classes.specs.Matching.{is_class_value}
-use Rattle.op_work.proofs.Tuples.{some_tuple}
+use Rattle.py_model.proofs.Tuples.{some_tuple}
 
 -- by whether a value is a class
 abbrev pub when_class : Plan → Bool → Plan

@@ -15,7 +15,7 @@ use Rattle.op_classes.specs.Kinds.{object_in, instance_of}
 use Rattle.op_classes.proofs.WithFiles.{Known}
 use Rattle.op_objects.specs.Kinds.{builtin_in, kind_named, value_named, plain_named}
 use Rattle.op_work.proofs.Going.{comes_then}
-use Rattle.op_work.proofs.Tuples.{some_tuple}
+use Rattle.py_model.proofs.Tuples.{some_tuple}
 use Rattle.op_work.specs.Work.{WorkView, Comes, is_any, as_is, seen_kind}
 use Rattle.op_work.specs.declared.stop.Stop.{Stop}
 

@@ -8,9 +8,9 @@ ghost use Rattle.py_value.specs.Contents.{contents, function, class as class_con
 ghost use Rattle.py_value.specs.Seen.{bytes_of};
 ghost use Rattle.py_value.specs.Values.{AreNamed};
 
-use crate::kinds::{function_of, is_class};
-use op_classes::class_of;
-use op_work::{Stop, Work};
+use crate::kinds::function_of;
+use op_classes::{class_of, is_class};
+use op_work::{Exception, Stop, Work};
 use prov_base::Pos;
 use py_model::Answer;
 use py_value::{Content, Location, Value};
@@ -37,7 +37,7 @@ fn define(work: &mut Work, alloc: Global, name: u32, v: Value) -> Result<Answer,
 {
     match function_of(v) {
         Some(place) => set_function(work, name, place),
-        None => Err(work.fault(alloc, 9, "wrong kind of value")),
+        None => Err(work.fault(alloc, Exception::TypeError, "wrong kind of value")),
     }
 }
 
@@ -68,7 +68,7 @@ fn method_at(
 {
     match class_of(of) {
         Some(at) => set_method(work, name, place, at),
-        None => Err(work.fault(alloc, 9, "wrong kind of value")),
+        None => Err(work.fault(alloc, Exception::TypeError, "wrong kind of value")),
     }
 }
 
@@ -87,7 +87,7 @@ fn define_method(
 {
     match function_of(v) {
         Some(place) => method_at(work, alloc, name, place, of),
-        None => Err(work.fault(alloc, 9, "wrong kind of value")),
+        None => Err(work.fault(alloc, Exception::TypeError, "wrong kind of value")),
     }
 }
 
@@ -108,7 +108,7 @@ pub fn def(
         return define(work, alloc, name, v);
     };
     if rest.len() > 0 {
-        return Err(work.fault(alloc, 9, "wrong number of arguments"));
+        return Err(work.fault(alloc, Exception::TypeError, "wrong number of arguments"));
     }
     define_method(work, alloc, name, v, *of)
 }
@@ -142,7 +142,7 @@ fn class_begun(
 {
     match class_of(v) {
         Some(place) => set_base(work, name, place, base),
-        None => Err(work.fault(alloc, 9, "wrong kind of value")),
+        None => Err(work.fault(alloc, Exception::TypeError, "wrong kind of value")),
     }
 }
 
@@ -164,11 +164,11 @@ pub fn class(
         return class_begun(work, alloc, name, v, None);
     };
     if rest.len() > 0 {
-        return Err(work.fault(alloc, 9, "wrong number of arguments"));
+        return Err(work.fault(alloc, Exception::TypeError, "wrong number of arguments"));
     }
     let there = is_class(*base);
     if there {
         return class_begun(work, alloc, name, v, Some(*base));
     }
-    Err(work.fault(alloc, 9, "wrong kind of value"))
+    Err(work.fault(alloc, Exception::TypeError, "wrong kind of value"))
 }

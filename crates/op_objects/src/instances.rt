@@ -10,10 +10,9 @@ ghost use Rattle.py_value.specs.Contents.{contents};
 ghost use Rattle.py_value.specs.Seen.{an_instance};
 ghost use Rattle.py_value.specs.Values.{IsNamed, AreNamed};
 
-use crate::kinds::is_class;
 use crate::texts::begin_method;
-use op_classes::end_of_chain;
-use op_work::{Stop, Work};
+use op_classes::{end_of_chain, is_class};
+use op_work::{Exception, Stop, Work};
 use py_model::Answer;
 use py_value::{Content, Key, Keys, Kind, Location, Value};
 use std::alloc::Global;
@@ -104,11 +103,11 @@ pub fn make(work: &mut Work, alloc: Global, operands: &[Value]) -> Result<Answer
     ensures { Ends (λ table. make_plan (map (contents table) operands.now)) work.old work.new result }
 {
     let Some((of, arguments)) = operands.split_first() else {
-        return Err(work.fault(alloc, 9, "wrong number of arguments"));
+        return Err(work.fault(alloc, Exception::TypeError, "wrong number of arguments"));
     };
     let there = is_class(*of);
     if there {
         return make_of(work, alloc, *of, arguments);
     }
-    Err(work.fault(alloc, 9, "wrong kind of value"))
+    Err(work.fault(alloc, Exception::TypeError, "wrong kind of value"))
 }

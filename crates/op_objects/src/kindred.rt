@@ -8,9 +8,9 @@ ghost use Rattle.py_value.specs.Contents.{contents, parts_by};
 ghost use Rattle.py_value.specs.Values.{IsNamed};
 ghost use Rattle.py_value.specs.declared.value.Value.TheVariants.{Object, Tuple};
 
-use crate::kinds::{builtin_of, class_of_instance, tuple_number};
-use op_classes::{class_walk, object_of};
-use op_work::{Stop, Work};
+use crate::kinds::builtin_of;
+use op_classes::{class_of_instance, class_walk, object_of, tuple_number};
+use op_work::{Exception, Stop, Work};
 use py_model::Answer;
 use py_value::{Kind, Value, tuples_are_their_parts};
 use std::alloc::Global;
@@ -148,7 +148,7 @@ fn is_of_kind(work: &mut Work, alloc: Global, v: Value, sought: Value) -> Result
         let hit = value_is(work, v, sought)?;
         return Ok(Answer::Value(Value::Bool(hit)));
     }
-    Err(work.fault(alloc, 9, "wrong kind of value"))
+    Err(work.fault(alloc, Exception::TypeError, "wrong kind of value"))
 }
 
 // Whether a value is of one of a tuple of kinds.
@@ -164,5 +164,5 @@ fn is_of_tuple(work: &mut Work, alloc: Global, v: Value, id: u32) -> Result<Answ
         let hit = is_of_one(work, v, kinds.as_slice())?;
         return Ok(Answer::Value(Value::Bool(hit)));
     }
-    Err(work.fault(alloc, 9, "wrong kind of value"))
+    Err(work.fault(alloc, Exception::TypeError, "wrong kind of value"))
 }

@@ -6,10 +6,9 @@ ghost use Rattle.py_model.specs.Raising.{raise as plan_raise, raise_class as pla
 ghost use Rattle.py_value.specs.Contents.{contents, object};
 ghost use Rattle.py_value.specs.Values.{IsNamed, AreNamed};
 
-use crate::kinds::{class_of_instance, is_class};
 use crate::texts::begin_method;
-use op_classes::{end_of_chain, object_of};
-use op_work::{Stop, Work};
+use op_classes::{class_of_instance, end_of_chain, is_class, object_of};
+use op_work::{Exception, Stop, Work};
 use py_model::Answer;
 use py_value::Value;
 use std::alloc::Global;
@@ -22,7 +21,7 @@ fn raise_instance(work: &mut Work, alloc: Global, o: u32, of: Value) -> Result<A
     let end = end_of_chain(work, of)?;
     match end {
         Some(_) => Ok(Answer::Raised(o)),
-        None => Err(work.fault(alloc, 9, "wrong kind of value")),
+        None => Err(work.fault(alloc, Exception::TypeError, "wrong kind of value")),
     }
 }
 
@@ -33,7 +32,7 @@ fn raise_object(work: &mut Work, alloc: Global, o: u32) -> Result<Answer, Stop>
 {
     match class_of_instance(work.kind(o)) {
         Some(of) => raise_instance(work, alloc, o, of),
-        None => Err(work.fault(alloc, 9, "wrong kind of value")),
+        None => Err(work.fault(alloc, Exception::TypeError, "wrong kind of value")),
     }
 }
 
@@ -45,7 +44,7 @@ fn raise_made(work: &mut Work, alloc: Global, of: Value) -> Result<Answer, Stop>
 {
     let method = begin_method(work, alloc, of)?;
     match method {
-        Some(_) => Err(work.fault(alloc, 13, "not in this profile")),
+        Some(_) => Err(work.fault(alloc, Exception::NotImplementedError, "not in this profile")),
         None => raise_without(work, alloc, of),
     }
 }
@@ -70,7 +69,7 @@ fn raise_class(work: &mut Work, alloc: Global, of: Value) -> Result<Answer, Stop
     let end = end_of_chain(work, of)?;
     match end {
         Some(_) => raise_made(work, alloc, of),
-        None => Err(work.fault(alloc, 9, "wrong kind of value")),
+        None => Err(work.fault(alloc, Exception::TypeError, "wrong kind of value")),
     }
 }
 
@@ -87,7 +86,7 @@ pub fn raise(work: &mut Work, alloc: Global, v: Value) -> Result<Answer, Stop>
     if there {
         return raise_class(work, alloc, v);
     }
-    Err(work.fault(alloc, 9, "wrong kind of value"))
+    Err(work.fault(alloc, Exception::TypeError, "wrong kind of value"))
 }
 
 /// What a failed assertion raises (operation 47), with the message or with nothing.

@@ -4,6 +4,5 @@ pub mod Merges
 pub mod MetPairs
 pub mod Places
 pub mod Rankings
-pub mod Ranks
 pub mod Refusals
 pub mod Rows

@@ -10,7 +10,7 @@ ghost use Rattle.py_value.specs.Values.{AreNamed};
 
 use op_rendering::put_words;
 use op_texts::{searched, text};
-use op_work::{Stop, Work};
+use op_work::{Exception, Stop, Work};
 use py_model::Answer;
 use py_value::Value;
 use std::alloc::Global;
@@ -53,7 +53,7 @@ fn replaced(
     let piece = String::from_str(alloc, work.text_of(sought))?;
     let place = String::from_str(alloc, work.text_of(other))?;
     if piece.as_str().is_empty() {
-        return Err(work.fault(alloc, 13, "not in this profile"));
+        return Err(work.fault(alloc, Exception::NotImplementedError, "not in this profile"));
     }
     searched(work, id)?;
     let mut out = String::new(alloc);
@@ -75,7 +75,7 @@ pub fn replace(work: &mut Work, alloc: Global, operands: &[Value]) -> Result<Ans
     ensures { Ends (λ table. replace_plan (map (contents table) operands.now)) work.old work.new result }
 {
     if operands.len() != 3 {
-        return Err(work.fault(alloc, 9, "wrong number of arguments"));
+        return Err(work.fault(alloc, Exception::TypeError, "wrong number of arguments"));
     }
     let id = text(work, alloc, operands[0])?;
     let sought = text(work, alloc, operands[1])?;

@@ -10,7 +10,7 @@ ghost use Rattle.py_value.specs.Values.{AreNamed};
 
 use op_making::new_list;
 use op_texts::{searched, size, text, two_texts};
-use op_work::{Stop, Work};
+use op_work::{Exception, Stop, Work};
 use py_model::Answer;
 use py_value::Value;
 use std::alloc::Global;
@@ -103,7 +103,7 @@ fn split_between(work: &mut Work, alloc: Global, id: u32, separator: u32) -> Res
     let words = String::from_str(alloc, work.text_of(id))?;
     let piece = String::from_str(alloc, work.text_of(separator))?;
     if piece.as_str().is_empty() {
-        return Err(work.fault(alloc, 10, "empty or zero"));
+        return Err(work.fault(alloc, Exception::ValueError, "empty or zero"));
     }
     searched(work, id)?;
     let mut made = Vec::new(alloc);

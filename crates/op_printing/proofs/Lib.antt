@@ -1,6 +1,5 @@
 pub mod Levels
 pub mod Lines
-pub mod OrderKeys
 pub mod Putting
 pub mod Rows
 pub mod Stepping

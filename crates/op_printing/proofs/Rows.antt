@@ -12,7 +12,7 @@ use Rattle.op_spelling.specs.Spelling.{follow, end_words}
 use Rattle.op_spelling.proofs.KeyParts.{tuple_words}
 use Rattle.op_rendering.specs.Parts.{separator}
 use Rattle.op_rendering.proofs.Following.{not_first, place, followed, follow_none}
-use Rattle.op_rendering.proofs.TupleParts.{drop_next, item_at}
+use Rattle.op_walks.proofs.TupleParts.{drop_next, item_at}
 
 -- items that are left from a place on, what is left behind a text, and what is left once an item more stands there
 abbrev pub Items : Type 0

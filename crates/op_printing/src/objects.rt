@@ -14,7 +14,7 @@ use crate::plain::{push_class_between, push_file, push_plain};
 use crate::reads::read_args;
 use op_classes::end_of_chain;
 use op_rendering::{Piece, push_word};
-use op_work::{Stop, Work};
+use op_work::{Exception, Stop, Work};
 use py_value::{Kind, Value, tuples_are_their_parts};
 use std::alloc::{AllocError, Global};
 
@@ -169,7 +169,7 @@ fn object_step(
         (λ table (go : Next → Plan). kind_of o (λ kind. plan_object quoted within.old.items (pieces_bytes table out.old.items) o kind go)) work.old work.new result }
 {
     match work.kind(o) {
-        None => Err(work.fault(alloc, 9, "wrong kind of value")),
+        None => Err(work.fault(alloc, Exception::TypeError, "wrong kind of value")),
         Some(Kind::List) => {
             let step = container_step(out, within, o, "[...]", Rest::Items(o))?;
             Ok(step)

@@ -11,7 +11,7 @@ ghost use Rattle.py_value.specs.Values.{ValuesView, IsNamed};
 
 use crate::names::{push_class, push_noted};
 use op_rendering::{Piece, push, push_word};
-use op_texts::truth_text;
+use op_spelling::truth_text;
 use op_work::{Stop, Work};
 use prov_base::Pos;
 use py_value::Value;

@@ -1,7 +1,6 @@
 // What the print walk reads: parts of tuples, entries of dictionaries, and the arguments of exceptions.
-ghost use Rattle.std.specs.Prelude.{◌≡◌, ◌<◌, length};
-ghost use Rattle.op_rendering.specs.Parts.{part_in};
-ghost use Rattle.op_work.specs.Entries.{IsKeyOf, IsNamedEntry, seen_entry, value_seen};
+ghost use Rattle.std.specs.Prelude.{◌<◌, length};
+ghost use Rattle.op_walks.specs.Parts.{part_in};
 ghost use Rattle.op_work.specs.Work.{Comes};
 ghost use Rattle.py_model.specs.Plan.{Plan, looks, read_entry as plan_entry};
 ghost use Rattle.py_model.specs.Raising.{read_args as plan_args};
@@ -9,21 +8,10 @@ ghost use Rattle.py_model.specs.Printing.{value_in};
 ghost use Rattle.py_value.specs.Contents.{Contents, contents};
 ghost use Rattle.py_value.specs.Values.{IsNamed};
 
+use op_walks::{entry_at, part_at};
 use op_work::{Stop, Work};
-use py_value::{Key, Value};
+use py_value::Value;
 use std::alloc::Global;
-
-// The part of a tuple at a place, None behind the last.
-fn part_at(work: &Work, id: u32, i: usize) -> Value
-    requires { id < length work.now.values.tuples }
-    ensures part { result ≡ part_in work.now.values id i }
-    ensures named { IsNamed work.now.values result }
-{
-    match work.tuple_of(id).get(i) {
-        Some(v) => *v,
-        None => Value::None,
-    }
-}
 
 // The part of a tuple at a place, looked at.
 pub(crate) fn look_part(work: &mut Work, id: u32, i: usize) -> Result<Value, Stop>
@@ -32,31 +20,6 @@ pub(crate) fn look_part(work: &mut Work, id: u32, i: usize) -> Result<Value, Sto
 {
     work.look(1)?;
     Ok(part_at(work, id, i))
-}
-
-// The key that a value of an order is. Only values that are keys stand there; of any other this would be want of memory.
-fn order_key(work: &mut Work, alloc: Global, v: Value) -> Result<Key, Stop>
-    requires { IsNamed work.old.values v }
-    ensures { Comes (IsKeyOf v) (value_seen v) (λ table (go : Contents → Plan). go (contents table v)) work.old work.new result }
-{
-    match work.key_of(alloc, v) {
-        Ok(key) => Ok(key),
-        Err(_) => Err(Stop::Memory),
-    }
-}
-
-// The entry of a dictionary at a key of an order.
-pub(crate) fn entry_at(
-    work: &mut Work,
-    alloc: Global,
-    o: u32,
-    v: Value,
-) -> Result<Option<(Value, Value)>, Stop>
-    requires { IsNamed work.old.values v }
-    ensures { Comes IsNamedEntry seen_entry (λ table. plan_entry o (contents table v)) work.old work.new result }
-{
-    let key = order_key(work, alloc, v)?;
-    work.read_entry(o, v, key)
 }
 
 // The arguments of an exception, which are none where none stand there.

@@ -2,7 +2,8 @@
 ghost use Rattle.std.specs.Prelude.{◌≡◌, ◌≤◌, ◌<◌, ◌-◌, ◌++◌, length, map, codes, List, ℕ, OnOk};
 ghost use Rattle.object_store.specs.Store.{keys_at};
 ghost use Rattle.op_printing.specs.Forms.{closed, inner_seen, IsRest};
-ghost use Rattle.op_rendering.specs.Parts.{parts_in, separator};
+ghost use Rattle.op_rendering.specs.Parts.{separator};
+ghost use Rattle.op_walks.specs.Parts.{parts_in};
 ghost use Rattle.op_printing.specs.Inside.{deeper, inner_text, listed, print_row, keyed, print_keyed, tupled, print_joined};
 ghost use Rattle.op_rendering.specs.Pieces.{Adds, ArePieces, pieces_bytes};
 ghost use Rattle.op_printing.specs.Puts.{Puts};
@@ -17,7 +18,7 @@ use crate::reads::{entry_value, look_part};
 use op_rendering::{Piece, push, push_word};
 use op_spelling::{is_low, tuple_end};
 use op_walks::value_at;
-use op_work::{Stop, Work};
+use op_work::{Exception, Stop, Work};
 use py_value::{Value, contents_stay};
 use std::alloc::{AllocError, Global};
 
@@ -95,7 +96,7 @@ fn print_inner(
         return Ok(());
     }
     if levels == 0 {
-        return Err(work.fault(alloc, 14, "nested too deep"));
+        return Err(work.fault(alloc, Exception::RecursionError, "nested too deep"));
     }
     match rest {
         Rest::Whole => Ok(()),
@@ -193,7 +194,7 @@ fn print_entries(
         let key = work.key(o, i);
         let v = entry_value(work, alloc, o, key)?;
         if !is_low(work.values(), levels, key) {
-            return Err(work.fault(alloc, 14, "nested too deep"));
+            return Err(work.fault(alloc, Exception::RecursionError, "nested too deep"));
         }
         push_key(out, i == 0, key)?;
         print_value(work, alloc, out, levels, true, inside, v)?;

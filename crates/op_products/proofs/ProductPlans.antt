@@ -11,9 +11,9 @@ use Rattle.py_value.specs.Contents.{Contents, contents, parts_by, tuple}
 use Rattle.py_value.specs.Values.{ValuesView}
 use Rattle.py_value.specs.declared.value.Value.{Value}
 use Rattle.py_value.specs.declared.value.Value.TheVariants.{None as NoneValue, Bool as TruthValue, Int, Text, Tuple, Range, Fn, Class, Exc, Builtin, Object}
-use Rattle.op_numbers.specs.Numbers.{number_of_value}
+use Rattle.py_value.specs.Numbers.{number_of_value}
 use Rattle.op_walks.proofs.Tuples.{items_are}
-use Rattle.op_work.proofs.Tuples.{some_tuple}
+use Rattle.py_model.proofs.Tuples.{some_tuple}
 use Rattle.op_products.proofs.ManyTimes.{length_times, map_times}
 
 -- a product, by the numbers that its factors are

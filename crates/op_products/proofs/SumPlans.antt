@@ -11,7 +11,7 @@ use Rattle.py_value.specs.declared.value.Value.{Value}
 use Rattle.py_value.specs.declared.value.Value.TheVariants.{None as NoneValue, Bool as TruthValue, Int, Text, Tuple, Range, Fn, Class, Exc, Builtin, Object}
 use Rattle.op_making.proofs.Writing.{drop_next}
 use Rattle.op_numbers.proofs.NumberPlans.{int_fits}
-use Rattle.op_work.proofs.Tuples.{some_tuple}
+use Rattle.py_model.proofs.Tuples.{some_tuple}
 use Rattle.op_products.specs.Summed.{number_value, all_numbers, number_or_zero, sum_found}
 
 abbrev pub when_number : Bool → ℤ → (ℤ → Plan) → Plan

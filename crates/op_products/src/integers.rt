@@ -2,7 +2,7 @@
 ghost use Rattle.std.specs.Prelude.{◌≡◌, ◌<◌, ◌^◌, SomeIff, FitsSigned};
 ghost use Rattle.std.specs.Int.{w64};
 ghost use Rattle.op_products.specs.Written.{behind_sign as digits_behind, is_negative as begins_negative, with_sign};
-ghost use Rattle.py_model.specs.Texts.{is_white as byte_is_white, is_digit as byte_is_digit, are_digits as text_are_digits, all_digits as text_all_digits, without_white_front, without_white_back, without_white, digits_value};
+ghost use Rattle.py_model.specs.Texts.{is_white as byte_is_white, without_white_front, without_white_back, without_white, digits_value};
 
 // Whether a byte is white space.
 fn is_white(byte: u8) -> bool
@@ -55,32 +55,6 @@ pub fn behind_sign(bytes: &[u8]) -> &[u8]
         return &bytes[1..];
     }
     bytes
-}
-
-// Whether a byte is a digit.
-fn is_digit(byte: u8) -> bool
-    ensures { result ≡ byte_is_digit byte }
-{
-    48 <= byte && byte <= 57
-}
-
-// Whether all bytes are digits.
-fn are_digits(bytes: &[u8]) -> bool
-    ensures { result ≡ text_are_digits bytes.now }
-{
-    for byte in bytes {
-        if !is_digit(*byte) {
-            return false;
-        }
-    }
-    true
-}
-
-/// Whether bytes are digits, and some are there.
-pub fn all_digits(bytes: &[u8]) -> bool
-    ensures { result ≡ text_all_digits bytes.now }
-{
-    !bytes.is_empty() && are_digits(bytes)
 }
 
 // The number that digits write, where it has 64 bits.

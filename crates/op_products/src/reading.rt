@@ -10,9 +10,10 @@ ghost use Rattle.py_value.specs.Contents.{contents};
 ghost use Rattle.py_value.specs.Seen.{bytes_of};
 ghost use Rattle.py_value.specs.Values.{AreNamed};
 
-use crate::integers::{all_digits, behind_sign, is_negative, signed_value, trimmed};
+use crate::integers::{behind_sign, is_negative, signed_value, trimmed};
 use op_numbers::{int_answer, number, one};
-use op_work::{Stop, Work};
+use op_texts::all_digits;
+use op_work::{Exception, Stop, Work};
 use py_model::Answer;
 use py_value::Value;
 use std::alloc::Global;
@@ -37,7 +38,7 @@ fn int_of_text(work: &mut Work, alloc: Global, id: u32) -> Result<Answer, Stop>
     let digits = behind_sign(word);
     let found = signed_value(is_negative(word), digits);
     if !all_digits(digits) {
-        return Err(work.fault(alloc, 10, "not an integer"));
+        return Err(work.fault(alloc, Exception::ValueError, "not an integer"));
     }
     int_answer(work, alloc, found)
 }

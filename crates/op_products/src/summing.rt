@@ -8,7 +8,7 @@ ghost use Rattle.py_value.specs.Values.{AreNamed};
 
 use op_numbers::{one, value_answer};
 use op_walks::walk_value;
-use op_work::{Stop, Work};
+use op_work::{Exception, Stop, Work};
 use py_model::Answer;
 use py_value::Value;
 use std::alloc::Global;
@@ -70,10 +70,10 @@ pub fn sum(work: &mut Work, alloc: Global, operands: &[Value]) -> Result<Answer,
     let sequence = one(work, alloc, operands)?;
     let items = walk_value(work, alloc, sequence)?;
     if !are_numbers(items.as_slice()) {
-        return Err(work.fault(alloc, 9, "wrong kind of value"));
+        return Err(work.fault(alloc, Exception::TypeError, "wrong kind of value"));
     }
     match sum_of(items.as_slice()) {
         Some(i) => value_answer(work, Value::Int(i)),
-        None => Err(work.fault(alloc, 3, "integer out of range")),
+        None => Err(work.fault(alloc, Exception::OverflowError, "integer out of range")),
     }
 }

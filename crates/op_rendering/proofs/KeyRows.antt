@@ -14,7 +14,7 @@ use Rattle.op_rendering.specs.Pieces.{piece_bytes}
 use Rattle.op_rendering.specs.declared.pieces.Piece.{Piece}
 use Rattle.op_rendering.specs.declared.pieces.Piece.TheVariants.{Word, Number, Span, Plain, Quoted, Class as ClassPiece, Builtin as BuiltinPiece, Key}
 use Rattle.op_rendering.proofs.Following.{followed, follow_none, not_first, place}
-use Rattle.op_rendering.proofs.TupleParts.{drop_next, item_at}
+use Rattle.op_walks.proofs.TupleParts.{drop_next, item_at}
 
 pub leaf_is : (table : ValuesView) (v : Value) → ((id : ℕ) → v ≡ Tuple id → ⊥) → leaf_bytes table v ≡ key_text (contents table v)
 leaf_is table (Tuple id) other = absurd (other id refl)

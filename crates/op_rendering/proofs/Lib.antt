@@ -2,4 +2,3 @@ pub mod Counting
 pub mod Following
 pub mod Joining
 pub mod KeyRows
-pub mod TupleParts

@@ -10,7 +10,7 @@ use Rattle.py_value.specs.Seen.{bytes_of}
 use Rattle.py_value.specs.Values.{ValuesView, AreInterned}
 use Rattle.py_value.specs.declared.value.Value.{Value}
 use Rattle.py_value.specs.declared.value.Value.TheVariants.{None as NoneValue, Bool as BoolValue, Int, Text}
-use Rattle.op_rendering.specs.Parts.{parts_in}
+use Rattle.op_walks.specs.Parts.{parts_in}
 use Rattle.op_rendering.specs.Pieces.{piece_bytes}
 use Rattle.op_rendering.specs.declared.pieces.Piece.{Piece}
 use Rattle.op_rendering.specs.declared.pieces.Piece.TheVariants.{Key}

@@ -1,7 +1,8 @@
 // The text that pieces are. It is counted as it grows, so no more is built than the steps pay for.
 ghost use Rattle.std.specs.Prelude.{◌≡◌, ◌<◌, ◌++◌, length, codes, string_bytes, IfOk};
 ghost use Rattle.op_rendering.specs.Counted.{Counted, word_bytes, leaf_bytes, keys_row};
-ghost use Rattle.op_rendering.specs.Parts.{items_at, part_in, separator};
+ghost use Rattle.op_rendering.specs.Parts.{separator};
+ghost use Rattle.op_walks.specs.Parts.{items_at};
 ghost use Rattle.op_rendering.specs.Pieces.{IsPiece, ArePieces, piece_bytes, pieces_bytes};
 ghost use Rattle.op_spelling.specs.Spelling.{end_words};
 ghost use Rattle.op_work.specs.Work.{Extends};
@@ -10,8 +11,11 @@ ghost use Rattle.py_value.specs.Contents.{contents};
 ghost use Rattle.py_value.specs.Values.{ValuesView, IsNamed};
 
 use crate::pieces::Piece;
-use op_spelling::{angled, builtin_text, class_word, literal, range_text, tuple_end};
-use op_texts::{int_text, size, truth_text};
+use op_spelling::{
+    angled, builtin_text, class_word, int_text, literal, range_text, truth_text, tuple_end,
+};
+use op_texts::size;
+use op_walks::part_at;
 use op_work::{Stop, Work};
 use py_value::{Value, Values, tuples_are_their_parts};
 use std::alloc::{AllocError, Global};
@@ -115,18 +119,6 @@ fn comma(first: bool) -> &'static str
     if first { "" } else { ", " }
 }
 
-// The part of a tuple at a place, None behind the last.
-fn part(work: &Work, id: u32, i: usize) -> Value
-    requires { id < length work.now.values.tuples }
-    ensures part { result ≡ part_in work.now.values id i }
-    ensures named { IsNamed work.now.values result }
-{
-    match work.tuple_of(id).get(i) {
-        Some(v) => *v,
-        None => Value::None,
-    }
-}
-
 // The parts of a key that is a tuple, with commas between.
 #[cycle(key)]
 fn put_key_parts(
@@ -141,7 +133,7 @@ fn put_key_parts(
 {
     for i in 0..work.tuple_of(id).len() {
         put_words(work, text, comma(i == 0))?;
-        let v = part(work, id, i);
+        let v = part_at(work, id, i);
         put_key(work, alloc, text, levels, v)?;
     }
     Ok(())

@@ -5,8 +5,8 @@ use Rattle.std.proofs.lemmas.Bool.Decides.{Decides-int_eq}
 use Rattle.std.proofs.lemmas.Int.{ints}
 use Rattle.std.proofs.Math.Nat.{div-add-mod', div-eq_of_lt}
 use Rattle.std.specs.Ordering.{int_eq}
-use Rattle.op_numbers.specs.Numbers.{number_of_value}
-use Rattle.op_work.proofs.Tuples.{some_tuple}
+use Rattle.py_value.specs.Numbers.{number_of_value}
+use Rattle.py_model.proofs.Tuples.{some_tuple}
 use Rattle.py_model.specs.Arithmetic.{contained}
 use Rattle.py_model.specs.Numbers.{floor_mod, floor_div, range_count, place_at}
 use Rattle.py_model.specs.Operands.{number_in}

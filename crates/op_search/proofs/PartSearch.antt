@@ -8,8 +8,9 @@ use Rattle.py_value.specs.Values.{ValuesView}
 use Rattle.py_value.specs.declared.value.Value.{Value}
 use Rattle.py_value.specs.declared.value.Value.TheVariants.{None as NoneValue}
 use Rattle.op_work.specs.Work.{Extends}
-use Rattle.op_compare.specs.Pairs.{items_at, part_in}
-use Rattle.op_compare.proofs.TupleWalks.{items_are, within_both}
+use Rattle.op_walks.specs.Parts.{items_at, part_in}
+use Rattle.op_compare.proofs.TupleWalks.{within_both}
+use Rattle.op_walks.proofs.TupleParts.{items_are}
 
 -- what is left of the items from a place on
 abbrev pub left : ℕ → Value → ℕ → ValuesView → (Bool → Plan) → Plan

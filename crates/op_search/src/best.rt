@@ -10,7 +10,7 @@ ghost use Rattle.py_value.specs.Values.{IsNamed, AreNamed};
 use op_compare::{Comparison, in_order};
 use op_numbers::value_answer;
 use op_walks::walk_value;
-use op_work::{Stop, Work};
+use op_work::{Exception, Stop, Work};
 use py_model::Answer;
 use py_value::Value;
 use std::alloc::Global;
@@ -39,7 +39,7 @@ fn best_among(work: &mut Work, alloc: Global, most: bool, items: &[Value]) -> Re
     ensures { Comes IsNamed contents (λ table. among_plan (better_of most) (map (contents table) items.now)) work.old work.new result }
 {
     if items.is_empty() {
-        return Err(work.fault(alloc, 10, "empty or zero"));
+        return Err(work.fault(alloc, Exception::ValueError, "empty or zero"));
     }
     let mut best = items[0];
     for i in 1..items.len() {
@@ -66,7 +66,7 @@ fn best(work: &mut Work, alloc: Global, most: bool, operands: &[Value]) -> Resul
     ensures { Ends (λ table. best_plan (better_of most) (map (contents table) operands.now)) work.old work.new result }
 {
     if operands.is_empty() {
-        return Err(work.fault(alloc, 9, "wrong number of arguments"));
+        return Err(work.fault(alloc, Exception::TypeError, "wrong number of arguments"));
     }
     if operands.len() != 1 {
         return best_answer(work, alloc, most, operands);

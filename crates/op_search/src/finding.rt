@@ -7,7 +7,7 @@ ghost use Rattle.py_value.specs.Values.{AreNamed};
 
 use crate::seek;
 use op_sums::list_operand;
-use op_work::{Stop, Work};
+use op_work::{Exception, Stop, Work};
 use py_model::Answer;
 use py_value::Value;
 use std::alloc::Global;
@@ -18,7 +18,7 @@ fn place_answer(work: &mut Work, alloc: Global, place: Option<u64>) -> Result<An
     ensures { Ends (λ table. answer_place place) work.old work.new result }
 {
     let Some(p) = place else {
-        return Err(work.fault(alloc, 10, "not found"));
+        return Err(work.fault(alloc, Exception::ValueError, "not found"));
     };
     let Ok(i) = i64::try_from(p) else {
         return Err(Stop::Memory);

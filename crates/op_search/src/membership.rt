@@ -10,7 +10,7 @@ use crate::objects::in_object;
 use crate::parts::in_tuple;
 use crate::texts::in_text;
 use op_numbers::{truth_answer, two};
-use op_work::{Stop, Work};
+use op_work::{Exception, Stop, Work};
 use py_model::Answer;
 use py_value::Value;
 use std::alloc::Global;
@@ -26,7 +26,7 @@ pub fn contained(work: &mut Work, alloc: Global, v: Value, w: Value) -> Result<b
         Value::Tuple(id) => in_tuple(work, alloc, v, id),
         Value::Range(start, end, step) => in_range(work, v, start, end, step),
         Value::Object(o) => in_object(work, alloc, v, o),
-        _ => Err(work.fault(alloc, 9, "wrong kind of value")),
+        _ => Err(work.fault(alloc, Exception::TypeError, "wrong kind of value")),
     }
 }
 

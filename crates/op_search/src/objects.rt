@@ -9,7 +9,7 @@ ghost use Rattle.py_value.specs.Values.{IsNamed};
 
 use crate::seek;
 use op_dicts::entry_at;
-use op_work::{Stop, Work};
+use op_work::{Exception, Stop, Work};
 use py_value::{Kind, Value};
 use std::alloc::Global;
 
@@ -41,8 +41,16 @@ pub(crate) fn in_object(work: &mut Work, alloc: Global, v: Value, o: u32) -> Res
     match work.kind_there(o) {
         Some(Kind::List) => in_list(work, alloc, v, o),
         Some(Kind::Dict) => in_dict(work, alloc, v, o),
-        Some(Kind::Instance(_)) => Err(work.fault(alloc, 9, "wrong kind of value")),
-        Some(Kind::File(_, _)) => Err(work.fault(alloc, 9, "wrong kind of value")),
-        None => Err(work.fault(alloc, 9, "wrong kind of value")),
+        Some(Kind::Instance(_)) => Err(work.fault(
+            alloc,
+            Exception::TypeError,
+            "wrong kind of value",
+        )),
+        Some(Kind::File(_, _)) => Err(work.fault(
+            alloc,
+            Exception::TypeError,
+            "wrong kind of value",
+        )),
+        None => Err(work.fault(alloc, Exception::TypeError, "wrong kind of value")),
     }
 }

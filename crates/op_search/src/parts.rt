@@ -1,6 +1,6 @@
 // A value is sought among the items of a tuple.
-ghost use Rattle.std.specs.Prelude.{◌≡◌, ◌<◌, length};
-ghost use Rattle.op_compare.specs.Pairs.{part_in, parts_in};
+ghost use Rattle.std.specs.Prelude.{◌<◌, length};
+ghost use Rattle.op_walks.specs.Parts.{part_in, parts_in};
 ghost use Rattle.op_work.specs.Work.{Comes, is_any, as_is};
 ghost use Rattle.py_model.specs.Arithmetic.{contained as contained_plan, among_parts as among_plan};
 ghost use Rattle.py_model.specs.Plan.{Plan, looks};
@@ -9,21 +9,10 @@ ghost use Rattle.py_value.specs.Values.{IsNamed};
 ghost use Rattle.py_value.specs.declared.value.Value.TheVariants.{Tuple};
 
 use op_compare::equals;
+use op_walks::part_at;
 use op_work::{Stop, Work};
 use py_value::{Value, tuples_are_their_parts};
 use std::alloc::Global;
-
-// The item of a tuple at a place, None behind the last.
-fn part_at(work: &Work, id: u32, i: usize) -> Value
-    requires { id < length work.now.values.tuples }
-    ensures part { result ≡ part_in work.now.values id i }
-    ensures named { IsNamed work.now.values result }
-{
-    match work.tuple_of(id).get(i) {
-        Some(v) => *v,
-        None => Value::None,
-    }
-}
 
 // The item of a tuple at a place, looked at.
 fn part_looked(work: &mut Work, id: u32, i: usize) -> Result<Value, Stop>

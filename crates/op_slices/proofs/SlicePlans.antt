@@ -5,7 +5,7 @@ use Rattle.op_items.specs.Operands.{of_three}
 use Rattle.op_slices.specs.Bounds.{bound_of_value}
 use Rattle.op_walks.proofs.Tuples.{items_are}
 use Rattle.op_walks.proofs.TextParts.{characters_are}
-use Rattle.op_work.proofs.Tuples.{some_tuple}
+use Rattle.py_model.proofs.Tuples.{some_tuple}
 use Rattle.py_model.specs.Effect.{parts_of}
 use Rattle.py_model.specs.Faults.{wrong_kind}
 use Rattle.py_model.specs.Lists.{slice, with_bounds, with_part}

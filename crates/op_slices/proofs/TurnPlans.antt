@@ -6,7 +6,7 @@ use Rattle.std.proofs.Math.Path.{fun_ext}
 use Rattle.std.proofs.lemmas.List.{length-map}
 use Rattle.op_items.specs.Operands.{of_three}
 use Rattle.op_slices.specs.Turns.{turn_of_value, size_of_value, is_size}
-use Rattle.op_work.proofs.Tuples.{some_tuple}
+use Rattle.py_model.proofs.Tuples.{some_tuple}
 use Rattle.py_model.specs.Faults.{wrong_kind}
 use Rattle.py_model.specs.Files.{next_line}
 use Rattle.py_model.specs.Lists.{next, next_of, item_or_end, changed_size}

@@ -2,10 +2,11 @@
 ghost use Rattle.std.specs.Prelude.{◌≡◌, ◌≤◌, ◌+◌};
 ghost use Rattle.op_slices.specs.Bounds.{bound_of_value, both_bounds, part_of};
 ghost use Rattle.op_work.specs.Work.{Comes, is_any, as_is};
-ghost use Rattle.py_model.specs.Places.{with_bound, clipped as clipped_place, low_bound, high_bound};
+ghost use Rattle.py_model.specs.Places.{with_bound, low_bound, high_bound};
 ghost use Rattle.py_value.specs.Contents.{contents};
 
-use op_work::{Stop, Work};
+use op_lists::clipped;
+use op_work::{Exception, Stop, Work};
 use py_value::Value;
 use std::alloc::Global;
 
@@ -28,7 +29,7 @@ fn bound(work: &mut Work, alloc: Global, v: Value) -> Result<Option<i64>, Stop>
 {
     match bound_in(v) {
         Some(found) => Ok(found),
-        None => Err(work.fault(alloc, 9, "wrong kind of value")),
+        None => Err(work.fault(alloc, Exception::TypeError, "wrong kind of value")),
     }
 }
 
@@ -44,19 +45,6 @@ pub(crate) fn bounds(
     let from = bound(work, alloc, low)?;
     let to = bound(work, alloc, high)?;
     Ok((from, to))
-}
-
-// The nearest bound of a part among so many items, from the end where it is below 0.
-fn clipped(i: i64, n: u64) -> u64
-    ensures place { result ≡ clipped_place i n }
-    ensures within { result ≤ n }
-{
-    let far = i.unsigned_abs();
-    if i >= 0 {
-        if far < n { far } else { n }
-    } else {
-        n.saturating_sub(far)
-    }
 }
 
 // Where a part begins among so many items.

@@ -2,15 +2,15 @@
 //!
 //! - [`slice`] (27): a part of a text, a list or a tuple.
 //! - [`next`] (37): the next turn of a `for`, over every kind of sequence. [`next_line`]: over an open file.
+//! - [`first_line`]: the bytes up to the first line feed. [`is_read`]: whether a mode is that of reading.
 #![tactic(auto)]
 
 mod bounds;
 mod letters;
 mod lines;
-mod operands;
 mod slices;
 mod turns;
 
-pub use lines::next_line;
+pub use lines::{first_line, is_read, next_line};
 pub use slices::slice;
 pub use turns::next;

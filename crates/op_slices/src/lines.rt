@@ -13,15 +13,15 @@ ghost use Rattle.py_value.specs.Values.{IsNamed};
 ghost use Rattle.py_value.specs.declared.access.Kind.TheVariants.{File};
 
 use op_texts::size;
-use op_work::{Stop, Work};
+use op_work::{Exception, Stop, Work};
 use prov_base::Memory;
 use py_model::Answer;
 use py_value::{Content, Kind, Location, Mode, Value};
 use std::alloc::Global;
 use std::str;
 
-// The bytes up to the first line feed and with it, or all.
-fn first_line(bytes: &[u8]) -> &[u8]
+/// The bytes up to the first line feed and with it, or all.
+pub fn first_line(bytes: &[u8]) -> &[u8]
     ensures { result.now ≡ first_line_of bytes.now }
 {
     for i in 0..bytes.len() {
@@ -109,7 +109,7 @@ fn take_line(work: &mut Work, alloc: Global, o: u32, path: u32, offset: u64) -> 
         return at_end(work, o, offset);
     }
     let Some(count) = line_size(work, path, offset) else {
-        return Err(work.fault(alloc, 10, "not UTF-8"));
+        return Err(work.fault(alloc, Exception::ValueError, "not UTF-8"));
     };
     work.count(count)?;
     let words = line_text(work, alloc, path, offset)?;
@@ -120,8 +120,8 @@ fn take_line(work: &mut Work, alloc: Global, o: u32, path: u32, offset: u64) -> 
     behind(work, o, end, line)
 }
 
-// Whether a mode is that of reading.
-fn is_read(mode: Mode) -> bool
+/// Whether a mode is that of reading.
+pub fn is_read(mode: Mode) -> bool
     ensures { result ≡ is_reading mode }
 {
     match mode {
@@ -140,10 +140,10 @@ fn file_line(work: &mut Work, alloc: Global, o: u32, path: u32, mode: Mode) -> R
 {
     let closed = work.read_closed(o)?;
     if closed {
-        return Err(work.fault(alloc, 10, "file is closed"));
+        return Err(work.fault(alloc, Exception::ValueError, "file is closed"));
     }
     if !is_read(mode) {
-        return Err(work.fault(alloc, 15, "wrong mode"));
+        return Err(work.fault(alloc, Exception::OSError, "wrong mode"));
     }
     let offset = work.read_offset(o)?;
     read_opened(work, o, path, mode)?;
@@ -157,9 +157,13 @@ pub fn next_line(work: &mut Work, alloc: Global, o: u32) -> Result<Answer, Stop>
 {
     match work.kind_there(o) {
         Some(Kind::File(path, mode)) => file_line(work, alloc, o, path, mode),
-        Some(Kind::List) => Err(work.fault(alloc, 9, "wrong kind of value")),
-        Some(Kind::Dict) => Err(work.fault(alloc, 9, "wrong kind of value")),
-        Some(Kind::Instance(_)) => Err(work.fault(alloc, 9, "wrong kind of value")),
-        None => Err(work.fault(alloc, 9, "wrong kind of value")),
+        Some(Kind::List) => Err(work.fault(alloc, Exception::TypeError, "wrong kind of value")),
+        Some(Kind::Dict) => Err(work.fault(alloc, Exception::TypeError, "wrong kind of value")),
+        Some(Kind::Instance(_)) => Err(work.fault(
+            alloc,
+            Exception::TypeError,
+            "wrong kind of value",
+        )),
+        None => Err(work.fault(alloc, Exception::TypeError, "wrong kind of value")),
     }
 }

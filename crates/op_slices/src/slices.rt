@@ -10,13 +10,13 @@ ghost use Rattle.py_value.specs.declared.value.Value.TheVariants.{Text, Tuple};
 
 use crate::bounds::{bounds, part};
 use crate::letters::letters_from;
-use crate::operands::three;
+use op_items::three;
 use op_lists::list;
 use op_making::new_list;
 use op_numbers::value_answer;
 use op_texts::size;
 use op_walks::items_from;
-use op_work::{Stop, Work};
+use op_work::{Exception, Stop, Work};
 use prov_base::Memory;
 use py_model::Answer;
 use py_value::{Value, tuples_are_their_parts};
@@ -119,7 +119,7 @@ fn value_slice(
         Value::Text(id) => text_slice(work, alloc, id, low, high),
         Value::Tuple(id) => tuple_slice(work, alloc, id, low, high),
         Value::Object(o) => list_slice(work, alloc, o, low, high),
-        _ => Err(work.fault(alloc, 9, "wrong kind of value")),
+        _ => Err(work.fault(alloc, Exception::TypeError, "wrong kind of value")),
     }
 }
 

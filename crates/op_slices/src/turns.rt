@@ -9,10 +9,9 @@ ghost use Rattle.py_value.specs.Seen.{a_dict};
 ghost use Rattle.py_value.specs.Values.{IsNamed, AreNamed};
 
 use crate::lines::next_line;
-use crate::operands::three;
-use op_items::{next_in_list, next_in_range, next_in_text, next_in_tuple};
+use op_items::{next_in_list, next_in_range, next_in_text, next_in_tuple, three};
 use op_numbers::value_answer;
-use op_work::{Stop, Work};
+use op_work::{Exception, Stop, Work};
 use py_model::Answer;
 use py_value::{Kind, Value};
 use std::alloc::Global;
@@ -59,11 +58,11 @@ fn next_in_dict(
     ensures { Ends (λ table. next_of line_plan o n (contents table begun) (Some a_dict)) work.old work.new result }
 {
     let Some(size) = size_in(begun) else {
-        return Err(work.fault(alloc, 9, "wrong kind of value"));
+        return Err(work.fault(alloc, Exception::TypeError, "wrong kind of value"));
     };
     let count = work.read_order(o)?;
     if !is_size(size, count) {
-        return Err(work.fault(alloc, 12, "dictionary changed size"));
+        return Err(work.fault(alloc, Exception::RuntimeError, "dictionary changed size"));
     }
     if n < u64::from(count) {
         let key = work.key(o, n as u32);
@@ -87,8 +86,12 @@ fn next_in_object(
         Some(Kind::List) => next_in_list(work, o, n),
         Some(Kind::Dict) => next_in_dict(work, alloc, o, n, begun),
         Some(Kind::File(_, _)) => next_line(work, alloc, o),
-        Some(Kind::Instance(_)) => Err(work.fault(alloc, 9, "wrong kind of value")),
-        None => Err(work.fault(alloc, 9, "wrong kind of value")),
+        Some(Kind::Instance(_)) => Err(work.fault(
+            alloc,
+            Exception::TypeError,
+            "wrong kind of value",
+        )),
+        None => Err(work.fault(alloc, Exception::TypeError, "wrong kind of value")),
     }
 }
 
@@ -109,7 +112,7 @@ fn next_in_value(
         Value::Tuple(id) => next_in_tuple(work, id, n),
         Value::Range(start, end, step) => next_in_range(work, start, end, step, n),
         Value::Object(o) => next_in_object(work, alloc, o, n, begun),
-        _ => Err(work.fault(alloc, 9, "wrong kind of value")),
+        _ => Err(work.fault(alloc, Exception::TypeError, "wrong kind of value")),
     }
 }
 
@@ -121,7 +124,7 @@ pub fn next(work: &mut Work, alloc: Global, operands: &[Value]) -> Result<Answer
 {
     let (v, (w, begun)) = three(work, alloc, operands)?;
     let Some(n) = turn_of(w) else {
-        return Err(work.fault(alloc, 9, "wrong kind of value"));
+        return Err(work.fault(alloc, Exception::TypeError, "wrong kind of value"));
     };
     next_in_value(work, alloc, v, n, begun)
 }

@@ -1,3 +1,4 @@
+pub mod Integers
 pub mod Letters
 pub mod Ranges
 pub mod KeyParts

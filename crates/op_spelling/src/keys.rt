@@ -6,7 +6,7 @@ ghost use Rattle.py_value.specs.Values.{IsNamed, AreNamed};
 
 use crate::items::{push_item, tuple_end};
 use crate::literals::literal;
-use op_texts::{int_text, truth_text};
+use crate::printed::{int_text, truth_text};
 use py_value::{Value, Values, tuples_are_their_parts};
 use std::alloc::{AllocError, Global};
 

@@ -6,7 +6,7 @@ ghost use Rattle.py_model.specs.Classes.{is_module as module_number};
 ghost use Rattle.py_model.specs.Numbers.{int_text as int_words};
 ghost use Rattle.py_model.specs.Printing.{named_in, module_names, angled as angled_text, builtin_text as builtin_words, range_text as range_words};
 
-use op_texts::int_text;
+use crate::printed::int_text;
 use std::alloc::{AllocError, Global};
 
 /// The name of a class of the language, by its number.

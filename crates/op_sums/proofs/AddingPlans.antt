@@ -16,7 +16,7 @@ use Rattle.py_value.specs.declared.access.Kind.{Kind}
 use Rattle.py_value.specs.declared.access.Kind.TheVariants.{List as ListKind, Dict as DictKind, Instance, File as FileKind}
 use Rattle.py_value.specs.declared.value.Value.{Value}
 use Rattle.py_value.specs.declared.value.Value.TheVariants.{Text, Tuple, Object}
-use Rattle.op_work.proofs.Tuples.{some_tuple}
+use Rattle.py_model.proofs.Tuples.{some_tuple}
 use Rattle.op_work.specs.Work.{Extends, seen_kind}
 use Rattle.op_sums.specs.declared.adding.Pair.TheVariants.{Texts, Tuples}
 use Rattle.op_sums.specs.Adding.{pair_of_values, added_as, list_kind}

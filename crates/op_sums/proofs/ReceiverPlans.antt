@@ -8,9 +8,10 @@ use Rattle.py_value.specs.Contents.{Contents, contents, object, nothing}
 use Rattle.py_value.specs.Values.{ValuesView}
 use Rattle.py_value.specs.declared.value.Value.{Value}
 use Rattle.py_value.specs.declared.value.Value.TheVariants.{None as NoneValue, Bool as TruthValue, Int, Text, Tuple, Range, Fn, Class, Exc, Builtin, Object}
-use Rattle.op_work.proofs.Tuples.{some_tuple}
+use Rattle.py_model.proofs.Tuples.{some_tuple}
 use Rattle.op_sums.specs.Extended.{extended}
-use Rattle.op_sums.specs.Receivers.{object_first, with_list}
+use Rattle.op_sums.specs.Receivers.{with_list}
+use Rattle.op_walks.specs.Operands.{object_first}
 
 by_true : (b : Bool) (one other : Plan) → b ≡ true → (if b then one else other) ≡ one
 by_true true one other is = refl

@@ -13,7 +13,7 @@ use op_making::new_list;
 use op_numbers::{add_numbers, join_tuples, two, value_answer};
 use op_texts::size;
 use op_walks::walk_value;
-use op_work::{Stop, Work};
+use op_work::{Exception, Stop, Work};
 use prov_base::Memory;
 use py_model::Answer;
 use py_value::{Kind, Value};
@@ -96,7 +96,7 @@ fn two_lists(work: &mut Work, alloc: Global, o: u32, p: u32) -> Result<(), Stop>
     if are_lists(left, right) {
         return Ok(());
     }
-    Err(work.fault(alloc, 9, "wrong kind of value"))
+    Err(work.fault(alloc, Exception::TypeError, "wrong kind of value"))
 }
 
 // The items of two lists.

@@ -1,23 +1,14 @@
 // The list that a method is called on.
 ghost use Rattle.std.specs.Prelude.{◌≡◌, ◌<◌, length, map, IfOk, OnOk};
-ghost use Rattle.op_sums.specs.Receivers.{object_first, with_list};
+ghost use Rattle.op_sums.specs.Receivers.{with_list};
 ghost use Rattle.op_work.specs.Work.{Comes, is_any, as_is};
 ghost use Rattle.py_value.specs.Contents.{contents};
 
 use op_lists::list;
-use op_work::{Stop, Work};
+use op_walks::first_object;
+use op_work::{Exception, Stop, Work};
 use py_value::Value;
 use std::alloc::Global;
-
-// The object that comes first.
-fn first_object(operands: &[Value]) -> Option<u32>
-    ensures { result ≡ object_first operands.now }
-{
-    match operands {
-        [Value::Object(o), ..] => Some(*o),
-        _ => None,
-    }
-}
 
 /// The list that a method is called on, where there are so many operands with it.
 pub fn list_operand(
@@ -31,10 +22,10 @@ pub fn list_operand(
     ensures count { OnOk result (length operands.now ≡ count) }
 {
     let Some(o) = first_object(operands) else {
-        return Err(work.fault(alloc, 9, "wrong kind of value"));
+        return Err(work.fault(alloc, Exception::TypeError, "wrong kind of value"));
     };
     if operands.len() != count {
-        return Err(work.fault(alloc, 9, "wrong number of arguments"));
+        return Err(work.fault(alloc, Exception::TypeError, "wrong number of arguments"));
     }
     list(work, alloc, o)?;
     Ok(o)

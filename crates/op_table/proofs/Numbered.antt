@@ -7,7 +7,7 @@ use Rattle.py_model.specs.Plan.{Plan}
 use Rattle.py_model.specs.Told.{is_operation}
 use Rattle.op_objects.specs.Definitions.{defining, beginning}
 use Rattle.op_table.specs.Operands.{silent_value, targets_value}
-use Rattle.op_work.proofs.Tuples.{some_tuple}
+use Rattle.py_model.proofs.Tuples.{some_tuple}
 use Rattle.py_value.specs.Contents.{Contents, contents}
 use Rattle.py_value.specs.declared.value.Value.TheVariants.{None as NoneValue, Bool as TruthValue, Int, Text, Tuple, Range, Fn, Class, Exc, Builtin, Object}
 use Rattle.py_model.specs.declared.moment.Answer.{Answer as OneAnswer}

@@ -12,7 +12,7 @@ use crate::methods::{list_methods, text_methods, word_methods};
 use crate::naming::{constants, definitions, names, statements};
 use crate::operators::{comparisons, memberships, numbers};
 use crate::wrapped::missing;
-use op_work::{Stop, Work};
+use op_work::{Exception, Stop, Work};
 use py_model::{Answer, Op};
 use py_value::Value;
 use std::alloc::Global;
@@ -27,7 +27,7 @@ pub fn perform(work: &mut Work, alloc: Global, op: Op, operands: &[Value]) -> Re
     ensures { Ends (planned op operands.now) work.old work.new result }
 {
     if !is_operation(op.no) {
-        return Err(work.fault(alloc, 9, "wrong number of arguments"));
+        return Err(work.fault(alloc, Exception::TypeError, "wrong number of arguments"));
     }
     match op.no {
         0..=2 => constants(work, alloc, op, operands),

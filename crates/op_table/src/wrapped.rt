@@ -15,7 +15,7 @@ use op_classes::{begin_with, bind, call_failed, end_with, import_module, load, m
 use op_items::unpack;
 use op_numbers::{constant, one, two};
 use op_objects::{class, def, isinstance, raise};
-use op_work::{Stop, Work};
+use op_work::{Exception, Stop, Work};
 use py_model::{Answer, Op};
 use py_value::Value;
 use std::alloc::Global;
@@ -25,7 +25,7 @@ fn none(work: &mut Work, alloc: Global, operands: &[Value]) -> Result<(), Stop>
     ensures { Comes is_any as_is (λ table (go : Unit {0} → Plan). of_none (go tt) (map (contents table) operands.now)) work.old work.new result }
 {
     if operands.len() != 0 {
-        return Err(work.fault(alloc, 9, "wrong number of arguments"));
+        return Err(work.fault(alloc, Exception::TypeError, "wrong number of arguments"));
     }
     Ok(())
 }

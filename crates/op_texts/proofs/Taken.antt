@@ -8,9 +8,10 @@ use Rattle.py_value.specs.declared.value.Value.TheVariants.{None as NoneValue, B
 use Rattle.py_model.specs.Faults.{wrong_kind, wrong_number}
 use Rattle.py_model.specs.Operands.{with_text, with_number, of_one, of_two}
 use Rattle.py_model.specs.Plan.{Plan}
-use Rattle.op_work.proofs.Tuples.{some_tuple}
+use Rattle.py_model.proofs.Tuples.{some_tuple}
 use Rattle.op_work.specs.Work.{Extends}
-use Rattle.op_texts.specs.Operands.{one_value, two_values, text_of_value, number_of_value, with_two_texts, with_text_number}
+use Rattle.op_texts.specs.Operands.{one_value, two_values, text_of_value, with_two_texts, with_text_number}
+use Rattle.py_value.specs.Numbers.{number_of_value}
 
 module _ (old new : ValuesView) (extends : Extends old new) where
   pub named_stays : (v : Value) → IsNamed old v → IsNamed new v

@@ -1,5 +1,5 @@
 -- What operands are taken as, as parts of plans.
-use Rattle.std.specs.Prelude.{ℕ, ℤ, pos, true, false, ◌<◌, List, [], ◌∷◌, length, Option, Some, None}
+use Rattle.std.specs.Prelude.{ℕ, ℤ, ◌<◌, List, [], ◌∷◌, length, Option, Some, None}
 use Rattle.py_model.specs.Operands.{with_text, with_number, of_one, of_two}
 use Rattle.py_model.specs.Plan.{Plan}
 use Rattle.py_model.specs.TextMethods.{searched}
@@ -7,7 +7,7 @@ use Rattle.py_value.specs.Contents.{Contents}
 use Rattle.py_value.specs.Seen.{bytes_of}
 use Rattle.py_value.specs.Values.{ValuesView}
 use Rattle.py_value.specs.declared.value.Value.{Value}
-use Rattle.py_value.specs.declared.value.Value.TheVariants.{Text, Int, Bool}
+use Rattle.py_value.specs.declared.value.Value.TheVariants.{Text}
 
 -- the only value, or both
 abbrev pub one_value : List Value → Option Value
@@ -43,13 +43,6 @@ with_two_texts operands go = of_two (λ v w. with_text v (λ bytes. with_text w 
 -- the text that is the only operand, whose characters count first
 abbrev pub with_one_searched : List Contents → (List ℕ → Plan) → Plan
 with_one_searched operands go = of_one (λ v. with_text v (λ bytes. searched bytes (go bytes))) operands
-
--- the number that a value is
-abbrev pub number_of_value : Value → Option ℤ
-number_of_value (Int i) = Some i
-number_of_value (Bool true) = Some (pos 1)
-number_of_value (Bool false) = Some (pos 0)
-number_of_value other = None
 
 -- a text has the first number; the second stands for itself
 abbrev pub IsTextNumber : ValuesView → ℕ × ℤ → Type 0

@@ -2,17 +2,15 @@
 //! kind, and a wrong number of operands, are faults. Characters are counted before the text is put among the texts of the run, so one
 //! that costs too much has no number.
 //!
-//! Performed are strip (91), lstrip (92), rstrip (93), find (97), startswith (98), endswith (99), upper (100), lower (101), isdigit (102),
+//! Performed are strip (91), lstrip (92), rstrip (93), find (97), startswith (98), endswith (99), upper (100), lower (101), isdigit (102, [`all_digits`]),
 //! ljust (103) and rjust (104).
-//! Of the printed forms there are those of integers and truth values.
-//! Not there yet are split (94), join (95), replace (96), the other printed forms, repr (66) and str (68).
+//! Not there yet are split (94), join (95), replace (96), repr (66) and str (68).
 #![tactic(auto)]
 
 mod answers;
 mod cases;
 mod characters;
 mod operands;
-mod printed;
 mod searches;
 mod strips;
 mod widths;
@@ -21,7 +19,6 @@ pub use answers::{gives_text, searched};
 pub use cases::{lower, upper};
 pub use characters::{size, size_of};
 pub use operands::{one_text, text, two_texts};
-pub use printed::{int_text, truth_text};
-pub use searches::{endswith, find, isdigit, startswith};
+pub use searches::{all_digits, endswith, find, isdigit, startswith};
 pub use strips::{lstrip, rstrip, strip};
 pub use widths::{ljust, number, rjust};

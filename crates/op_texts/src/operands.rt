@@ -7,7 +7,7 @@ ghost use Rattle.py_value.specs.Contents.{contents};
 ghost use Rattle.py_value.specs.Seen.{bytes_of};
 ghost use Rattle.py_value.specs.Values.{IsNamed, AreNamed};
 
-use op_work::{Stop, Work};
+use op_work::{Exception, Stop, Work};
 use py_value::Value;
 use std::alloc::Global;
 
@@ -48,7 +48,7 @@ pub fn text(work: &mut Work, alloc: Global, v: Value) -> Result<u32, Stop>
 {
     match text_number(v) {
         Some(id) => Ok(id),
-        None => Err(work.fault(alloc, 9, "wrong kind of value")),
+        None => Err(work.fault(alloc, Exception::TypeError, "wrong kind of value")),
     }
 }
 
@@ -58,7 +58,7 @@ pub fn one_text(work: &mut Work, alloc: Global, operands: &[Value]) -> Result<u3
     ensures { Comes IsText bytes_of (λ table. with_one_text (map (contents table) operands.now)) work.old work.new result }
 {
     let Some(v) = one(operands) else {
-        return Err(work.fault(alloc, 9, "wrong number of arguments"));
+        return Err(work.fault(alloc, Exception::TypeError, "wrong number of arguments"));
     };
     text(work, alloc, v)
 }
@@ -69,7 +69,7 @@ pub fn two_texts(work: &mut Work, alloc: Global, operands: &[Value]) -> Result<(
     ensures { Comes IsTwoTexts bytes_of_two (λ table. with_two_texts (map (contents table) operands.now)) work.old work.new result }
 {
     let Some((v, w)) = two(operands) else {
-        return Err(work.fault(alloc, 9, "wrong number of arguments"));
+        return Err(work.fault(alloc, Exception::TypeError, "wrong number of arguments"));
     };
     let first = text(work, alloc, v)?;
     let second = text(work, alloc, w)?;

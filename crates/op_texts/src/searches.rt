@@ -47,8 +47,8 @@ fn are_digits(bytes: &[u8]) -> bool
     true
 }
 
-// Whether bytes are digits, and some are there.
-fn all_digits(bytes: &[u8]) -> bool
+/// Whether bytes are digits, and some are there.
+pub fn all_digits(bytes: &[u8]) -> bool
     ensures { result ≡ text_all_digits bytes.now }
 {
     !bytes.is_empty() && are_digits(bytes)

@@ -8,8 +8,9 @@ use Rattle.py_value.specs.Contents.{contents}
 use Rattle.py_value.specs.Values.{ValuesView}
 use Rattle.py_value.specs.declared.value.Value.{Value}
 use Rattle.py_value.specs.declared.value.Value.TheVariants.{None as NoneValue, Bool as TruthValue, Int, Text, Tuple, Range, Fn, Class, Exc, Builtin, Object}
-use Rattle.op_work.proofs.Tuples.{some_tuple}
-use Rattle.op_views.specs.Receivers.{object_first, with_dict}
+use Rattle.py_model.proofs.Tuples.{some_tuple}
+use Rattle.op_views.specs.Receivers.{with_dict}
+use Rattle.op_walks.specs.Operands.{object_first}
 
 by_true : (b : Bool) (one other : Plan) → b ≡ true → (if b then one else other) ≡ one
 by_true true one other is = refl

@@ -1,16 +1,9 @@
 -- The dictionary that a method is called on.
-use Rattle.std.specs.Prelude.{ℕ, ◌==◌, List, ◌∷◌, length, Option, Some, None, if◌then◌else◌}
+use Rattle.std.specs.Prelude.{ℕ, ◌==◌, List, ◌∷◌, length, if◌then◌else◌}
 use Rattle.py_model.specs.Faults.{wrong_kind, wrong_number}
 use Rattle.py_model.specs.Dicts.{when_dict}
 use Rattle.py_model.specs.Plan.{Plan, kind_of}
 use Rattle.py_value.specs.Contents.{Contents, object}
-use Rattle.py_value.specs.declared.value.Value.{Value}
-use Rattle.py_value.specs.declared.value.Value.TheVariants.{Object}
-
--- the object that comes first
-abbrev pub object_first : List Value → Option ℕ
-object_first (Object o ∷ others) = Some o
-object_first other = None
 
 -- it goes on with the dictionary that comes first, where there are so many operands
 abbrev pub with_dict : ℕ → List Contents → (ℕ → Plan) → Plan

@@ -9,7 +9,7 @@ use op_dicts::object_length;
 use op_numbers::{int_answer, one};
 use op_texts::size;
 use op_walks::range_count;
-use op_work::{Stop, Work};
+use op_work::{Exception, Stop, Work};
 use py_model::Answer;
 use py_value::{Value, tuples_are_their_parts};
 use std::alloc::Global;
@@ -25,7 +25,7 @@ pub fn length_of(work: &mut Work, alloc: Global, v: Value) -> Result<u64, Stop>
         Value::Tuple(id) => Ok(work.tuple_of(id).len() as u64),
         Value::Range(start, end, step) => Ok(range_count(start, end, step)),
         Value::Object(o) => object_length(work, alloc, o),
-        _ => Err(work.fault(alloc, 9, "wrong kind of value")),
+        _ => Err(work.fault(alloc, Exception::TypeError, "wrong kind of value")),
     }
 }
 

@@ -11,7 +11,7 @@ ghost use Rattle.py_value.specs.Values.{AreNamed};
 use crate::dict_operand;
 use op_making::new_list;
 use op_walks::walk_keys;
-use op_work::{Stop, Work};
+use op_work::{Exception, Stop, Work};
 use py_model::Answer;
 use py_value::{Content, Keys, Kind, Location, Value};
 use std::alloc::Global;
@@ -44,7 +44,7 @@ pub fn dict_builtin(work: &mut Work, alloc: Global, operands: &[Value]) -> Resul
     ensures { Ends (λ table. dict_plan (map (contents table) operands.now)) work.old work.new result }
 {
     if !operands.is_empty() {
-        return Err(work.fault(alloc, 9, "wrong number of arguments"));
+        return Err(work.fault(alloc, Exception::TypeError, "wrong number of arguments"));
     }
     let o = work.make(Kind::Dict);
     set_empty(work, alloc, o)

@@ -3,7 +3,9 @@ pub mod ManyLetters
 pub mod NamedValues
 pub mod Objects
 pub mod OneItem
+pub mod OrderKeys
 pub mod OtherKinds
 pub mod RangeNumbers
 pub mod TextParts
+pub mod TupleParts
 pub mod Tuples

@@ -10,7 +10,7 @@ ghost use Rattle.py_value.specs.Values.{IsNamed, AreNamed};
 ghost use Rattle.py_value.specs.declared.value.Value.TheVariants.{Tuple};
 
 use crate::{items_from, walk_range, walk_text};
-use op_work::{Stop, Work};
+use op_work::{Exception, Stop, Work};
 use prov_base::Memory;
 use py_value::{Kind, Value, tuples_are_their_parts};
 use std::alloc::Global;
@@ -57,9 +57,17 @@ pub fn walk_object(work: &mut Work, alloc: Global, o: u32) -> Result<Vec<Value>,
             items_from(work, alloc, n, o, 0)
         }
         Some(Kind::Dict) => walk_keys(work, alloc, o),
-        Some(Kind::File(_, _)) => Err(work.fault(alloc, 13, "not in this profile")),
-        Some(Kind::Instance(_)) => Err(work.fault(alloc, 9, "wrong kind of value")),
-        None => Err(work.fault(alloc, 9, "wrong kind of value")),
+        Some(Kind::File(_, _)) => Err(work.fault(
+            alloc,
+            Exception::NotImplementedError,
+            "not in this profile",
+        )),
+        Some(Kind::Instance(_)) => Err(work.fault(
+            alloc,
+            Exception::TypeError,
+            "wrong kind of value",
+        )),
+        None => Err(work.fault(alloc, Exception::TypeError, "wrong kind of value")),
     }
 }
 
@@ -73,6 +81,6 @@ pub fn walk_value(work: &mut Work, alloc: Global, v: Value) -> Result<Vec<Value>
         Value::Tuple(id) => walk_tuple(work, alloc, id),
         Value::Range(start, end, step) => walk_range(work, alloc, start, end, step),
         Value::Object(o) => walk_object(work, alloc, o),
-        _ => Err(work.fault(alloc, 9, "wrong kind of value")),
+        _ => Err(work.fault(alloc, Exception::TypeError, "wrong kind of value")),
     }
 }

@@ -4,7 +4,7 @@ ghost use Rattle.py_model.specs.Plan.{Plan, kind_of};
 ghost use Rattle.py_model.specs.Walks.{if_walked, when_walked};
 ghost use Rattle.py_value.specs.Contents.{contents};
 
-use op_work::{Stop, Work};
+use op_work::{Exception, Stop, Work};
 use py_value::{Kind, Value};
 use std::alloc::Global;
 
@@ -15,9 +15,17 @@ fn object_walked(work: &mut Work, alloc: Global, o: u32) -> Result<(), Stop>
     match work.kind(o) {
         Some(Kind::List) => Ok(()),
         Some(Kind::Dict) => Ok(()),
-        Some(Kind::File(_, _)) => Err(work.fault(alloc, 13, "not in this profile")),
-        Some(Kind::Instance(_)) => Err(work.fault(alloc, 9, "wrong kind of value")),
-        None => Err(work.fault(alloc, 9, "wrong kind of value")),
+        Some(Kind::File(_, _)) => Err(work.fault(
+            alloc,
+            Exception::NotImplementedError,
+            "not in this profile",
+        )),
+        Some(Kind::Instance(_)) => Err(work.fault(
+            alloc,
+            Exception::TypeError,
+            "wrong kind of value",
+        )),
+        None => Err(work.fault(alloc, Exception::TypeError, "wrong kind of value")),
     }
 }
 
@@ -30,6 +38,6 @@ pub fn if_walked(work: &mut Work, alloc: Global, v: Value) -> Result<(), Stop>
         Value::Tuple(_) => Ok(()),
         Value::Range(_, _, _) => Ok(()),
         Value::Object(o) => object_walked(work, alloc, o),
-        _ => Err(work.fault(alloc, 9, "wrong kind of value")),
+        _ => Err(work.fault(alloc, Exception::TypeError, "wrong kind of value")),
     }
 }

@@ -356,12 +356,13 @@ abbrev pub one_text : List ℕ → Plans Contents
 one_text words table go = go (text words)
 
 module _ (class : ℕ) (words : List ℕ) {old new : WorkView} where
-  pub faults_ok : (argument : Value) → Comes IsNamed contents (one_text words) old new (Ok argument) → Faults class words old new (Raises class argument)
-  faults_ok argument comes = record {
+  pub faults_ok : (number : ℕ) → number ≡ class → (argument : Value) → Comes IsNamed contents (one_text words) old new (Ok argument)
+      → Faults class words old new (Raises number argument)
+  faults_ok number is argument comes = subst (λ (n : ℕ). Faults class words old new (Raises n argument)) (sym is) (record {
     kept = comes.kept;
     is_named = comes.is_named;
     came = λ table store extends seen. comes.came table store extends seen (λ c. raises (exception_class class) (c ∷ []));
-  }
+  })
 
   pub faults_err : (stop : Stop) → stop ≡ Memory → Comes IsNamed contents (one_text words) old new (Err stop) → Faults class words old new stop
   faults_err stop is comes = subst (λ e. Faults class words old new e) (sym is) (record { kept = comes.kept; is_named = tt; came = λ table store extends seen. tt })

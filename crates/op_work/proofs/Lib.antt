@@ -9,5 +9,4 @@ pub mod Named
 pub mod Raising
 pub mod Reading
 pub mod Saying
-pub mod Tuples
 pub mod Turning

@@ -1,4 +1,5 @@
 pub mod Entries
+pub mod Exceptions
 pub mod Finish
 pub mod Raise
 pub mod Turns

@@ -12,7 +12,7 @@ ghost use Rattle.py_value.specs.Values.{AreInterned, IsNamed};
 ghost use Rattle.py_value.specs.declared.access.Location.TheVariants.{Entry};
 ghost use Rattle.py_value.specs.declared.key.KeyFault.TheVariants.{Memory as OutOfMemory};
 
-use crate::{Stop, Work, sayings_stay};
+use crate::{Exception, Stop, Work, sayings_stay};
 use object_store::named_stays;
 use py_value::{
     Content, Key, KeyFault, Kind, Location, Value, contents_stay, key_faults_of_contents,
@@ -30,8 +30,16 @@ impl Work {
         match self.form(alloc, v) {
             Ok(key) => Ok(key),
             Err(KeyFault::NoKey(o)) => Err(self.no_key(alloc, o)),
-            Err(KeyFault::NotHere) => Err(self.fault(alloc, 13, "not in this profile")),
-            Err(KeyFault::TooDeep) => Err(self.fault(alloc, 14, "nested too deep")),
+            Err(KeyFault::NotHere) => Err(self.fault(
+                alloc,
+                Exception::NotImplementedError,
+                "not in this profile",
+            )),
+            Err(KeyFault::TooDeep) => Err(self.fault(
+                alloc,
+                Exception::RecursionError,
+                "nested too deep",
+            )),
             Err(KeyFault::Memory) => Err(Stop::Memory),
         }
     }
@@ -57,11 +65,19 @@ impl Work {
         ensures { Comes is_any as_is (λ table (go : Unit {0} → Plan). kind_of o no_key_of) self.old self.new (Err result) }
     {
         match self.kind_there(o) {
-            Some(Kind::List) => self.fault(alloc, 9, "not usable as a key"),
-            Some(Kind::Dict) => self.fault(alloc, 9, "not usable as a key"),
-            Some(Kind::Instance(_)) => self.fault(alloc, 13, "not in this profile"),
-            Some(Kind::File(_, _)) => self.fault(alloc, 13, "not in this profile"),
-            None => self.fault(alloc, 13, "not in this profile"),
+            Some(Kind::List) => self.fault(alloc, Exception::TypeError, "not usable as a key"),
+            Some(Kind::Dict) => self.fault(alloc, Exception::TypeError, "not usable as a key"),
+            Some(Kind::Instance(_)) => self.fault(
+                alloc,
+                Exception::NotImplementedError,
+                "not in this profile",
+            ),
+            Some(Kind::File(_, _)) => self.fault(
+                alloc,
+                Exception::NotImplementedError,
+                "not in this profile",
+            ),
+            None => self.fault(alloc, Exception::NotImplementedError, "not in this profile"),
         }
     }
 

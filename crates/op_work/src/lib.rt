@@ -6,7 +6,7 @@
 //! - [`Work::begin`] takes the steps that are left. A step that they do not pay for answers `TooDear`, before anything is built; that what the
 //!   operation costs never passes them is an invariant.
 //! - [`Work::look`], [`Work::count`], [`Work::text`], [`Work::tuple`], [`Work::fault`]: items and characters, new texts and tuples, and the
-//!   exceptions of the language with a text.
+//!   exceptions of the language ([`Exception`]) with a text.
 //! - [`Work::key_of`], [`Work::read_entry`]: the key that a value is, its normal form, and the entry of a dictionary that stands there.
 //! - [`Work::make`], [`Work::set`], [`Work::update`]: the writes (`Wrote`). They are noted, and nothing is done to the store yet.
 //! - [`Work::print`], [`Work::note`], [`Work::open`]: what it prints, the name of a function or class, a path that was opened for writing. They are kept
@@ -25,6 +25,7 @@
 #![tactic(auto)]
 
 mod entries;
+mod exceptions;
 mod files;
 mod finish;
 mod raise;
@@ -36,6 +37,7 @@ mod stop;
 mod work;
 mod writes;
 
+pub use exceptions::Exception;
 pub use sayings::sayings_stay;
 pub use stop::Stop;
 pub use work::Work;

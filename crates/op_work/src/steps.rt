@@ -2,6 +2,7 @@
 ghost use Rattle.std.specs.Prelude.{◌≡◌, Ok, Some, IfOk, IfErr, slice_get, map};
 ghost use Rattle.object_store.specs.Store.{kinds, name_at};
 ghost use Rattle.object_store.specs.Named.{IsNamedStore};
+ghost use Rattle.op_work.specs.Exceptions.{class_number};
 ghost use Rattle.op_work.specs.Work.{Comes, Faults, is_any, as_is, seen_kind, seen_name, IsNamedName, Extends};
 ghost use Rattle.op_work.specs.declared.stop.Stop.TheVariants.{Memory as NoMemory};
 ghost use Rattle.py_model.specs.Effect.{parts_of};
@@ -10,7 +11,7 @@ ghost use Rattle.py_value.specs.Contents.{Contents, contents, text as text_conte
 ghost use Rattle.py_value.specs.Values.{IsNamed, AreNamed, AreInterned};
 ghost use Rattle.py_value.specs.Named.{IsNamedKind};
 
-use crate::{Stop, Work, sayings_stay};
+use crate::{Exception, Stop, Work, sayings_stay};
 use object_store::named_stays;
 use prov_base::{Memory, Pos};
 use py_value::{Kind, Value, tuples_are_their_parts};
@@ -108,12 +109,12 @@ impl Work {
         Ok(number)
     }
 
-    /// The exception of a class of the language, by its number, with a text.
-    pub fn fault(&mut self, alloc: Global, class: u64, words: &str) -> Stop
-        ensures { Faults class words.now self.old self.new result }
+    /// The exception of a class of the language with a text.
+    pub fn fault(&mut self, alloc: Global, class: Exception, words: &str) -> Stop
+        ensures { Faults (class_number class) words.now self.old self.new result }
     {
         match self.text(alloc, words) {
-            Ok(argument) => Stop::Raises(class, argument),
+            Ok(argument) => Stop::Raises(class.number(), argument),
             Err(stop) => stop,
         }
     }

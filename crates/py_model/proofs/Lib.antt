@@ -38,8 +38,10 @@ pub mod Budgets
 pub mod Payments
 pub mod Quiets
 pub mod RaisedAgain
+pub mod Ranks
 pub mod RenamedEffects
 pub mod SameGraphs
+pub mod Tuples
 pub mod WorkedArithmetic
 pub mod WorkedClasses
 pub mod WorkedDataOperations

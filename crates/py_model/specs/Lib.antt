@@ -14,6 +14,7 @@ pub mod Going
 pub mod Graph
 pub mod History
 pub mod Keys
+pub mod Kin
 pub mod Lists
 pub mod Making
 pub mod Meaning

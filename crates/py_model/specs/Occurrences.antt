@@ -1,6 +1,7 @@
 -- Occurrences of statements in the moments of a run, latest first; and evaluations by place and number (this project's profile, after
 -- Korel and Laski 1988). A moment's time is how many moments were before it.
 use Rattle.std.specs.Prelude.{ℕ, suc, ◌==◌, ◌&&◌, ◌||◌, not, nat_lt, nat_le, Bool, true, false, List, [], ◌∷◌, length, Option, Some, None, if◌then◌else◌}
+use Rattle.std.specs.Option.{option_map}
 use Rattle.prov_base.specs.declared.place.Pos.{Pos}
 use Rattle.prov_base.specs.contracts.place.PosPartialEq.TheImpl.{ghosts as places}
 use Rattle.py_value.specs.Same.{same_location}
@@ -42,6 +43,10 @@ innermost (in_activation time ∷ frames) = innermost frames
 -- the occurrence whose own moment the next one is
 abbrev pub owner_after : List Moment → Option Occurrence
 owner_after before = innermost (frames_after before)
+
+-- the statement whose own moment the next one is
+abbrev pub owner_stmt : List Moment → Option ℕ
+owner_stmt before = option_map (λ (o : Occurrence). o.stmt) (owner_after before)
 
 -- A statement that begins now is a block child of the occurrence directly around it, or an activation child of the occurrence that
 -- entered the activation directly around it.

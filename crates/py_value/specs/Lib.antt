@@ -4,6 +4,7 @@ pub mod Key
 pub mod KeyOf
 pub mod Named
 pub mod Notes
+pub mod Numbers
 pub mod Same
 pub mod Seen
 pub mod Values

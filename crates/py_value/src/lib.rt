@@ -12,6 +12,7 @@
 //! - `Values::key_of`: a value is a key exactly where nothing of it is refused, and the first part that is refused is answered. A
 //!   key is the value with each truth value as 0 or 1, inside tuples too. Only normal forms of the value's tuples are put behind
 //!   the tuples. [`key_faults_of_contents`] and [`same_key_same_normal_contents`] say the same of contents.
+//! - [`number_of`]: the integer that a number or truth value is.
 //! - What accesses make of a map over contents is defined in `specs/Changes.antt`, and what names only texts and tuples that have
 //!   numbers in `specs/Named.antt`, for the crates above.
 #![tactic(auto)]
@@ -19,6 +20,7 @@
 mod access;
 mod key;
 mod laws;
+mod numbers;
 mod value;
 mod values;
 
@@ -28,5 +30,6 @@ pub use access::{
 };
 pub use key::{Key, KeyFault};
 pub use laws::{key_faults_of_contents, same_key_same_normal_contents, tests_are_equality};
+pub use numbers::number_of;
 pub use value::{Keys, Value};
 pub use values::{Values, contents_stay, same_contents_same_value, tuples_are_their_parts};

@@ -1,4 +1,4 @@
-//! The parts of a trace's rows as bytes, both ways: texts, answers, endings, and where an operation is done, what it answers and makes, what it
+//! The parts of a trace's rows as bytes, both ways: answers, endings, and where an operation is done, what it answers and makes, what it
 //! touches and weighs.
 //!
 //! `specs/PartBytes.antt` says which bytes they are. What is read is what `specs/PartReading.antt` computes, and [`parts_are_read_exactly`] says
@@ -8,10 +8,8 @@
 mod laws;
 mod reading;
 mod tags;
-mod texts;
 mod writing;
 
 pub use laws::parts_are_read_exactly;
 pub use reading::{read_deed, read_how, read_outcome, read_touches};
-pub use texts::{read_text, write_text};
 pub use writing::{how_byte, write_deed, write_outcome, write_touches};

@@ -11,14 +11,14 @@ use Rattle.py_value.specs.Values.{ValuesView, AreInterned}
 use Rattle.py_model.specs.Going.{Open, a_statement, an_activation}
 use Rattle.py_model.specs.History.{accesses_by}
 use Rattle.py_model.specs.Moment.{Moment, begins, does, enters, leaves, ends}
-use Rattle.py_model.specs.Occurrences.{Occurrence, frames_after, without_top, sets_at, updates_at, open_of}
+use Rattle.py_model.specs.Occurrences.{Occurrence, frames_after, without_top, sets_at, updates_at, open_of, owner_stmt}
 use Rattle.py_model.specs.Plan.{Answer}
 use Rattle.py_model.specs.Told.{how_seen}
 use Rattle.py_model.specs.declared.moment.How.{How}
 use Rattle.row_words.specs.Fits.{Each}
 use Rattle.kept_rows.specs.NamedRows.{NamesAccess}
 use Rattle.slice_law.specs.Closed.{has}
-use Rattle.slice_law.specs.Edges.{edge, by_control, by_jump, from_option, owner_stmt, reach_stmts, reads_ask, caller, is_abrupt, asks_for_jump, asks, run_asks}
+use Rattle.slice_law.specs.Edges.{edge, by_control, by_jump, from_option, reach_stmts, reads_ask, caller, is_abrupt, asks_for_jump, asks, run_asks}
 use Rattle.slice_edges.specs.declared.asking.Asking.{Asking}
 use Rattle.slice_edges.specs.Asks.{among, some_asks, is_jump}
 use Rattle.slice_edges.specs.Frames.{owner_in, caller_in, without_first}

@@ -1,7 +1,7 @@
 -- Which statement asks for which, in the moments of a run, the latest first (Korel and Laski 1988, with objects, calls, jumps and names
 -- as in this project's profile). Each is seen at one moment.
 use Rattle.std.specs.Prelude.{ℕ, zero, suc, ◌==◌, ◌&&◌, not, Bool, true, false, List, [], ◌∷◌, ◌++◌, length, slice_get, Option, Some, None, if◌then◌else◌}
-use Rattle.std.specs.Option.{option_map, option_and_then}
+use Rattle.std.specs.Option.{option_and_then}
 use Rattle.std.specs.List.{list_any}
 use Rattle.py_tree.specs.Binds.{form_binds, is_method}
 use Rattle.py_tree.specs.Owners.{Standing, statements, number_at, form_in, standing_at}
@@ -10,7 +10,7 @@ use Rattle.py_value.specs.Contents.{Contents, Parts, tuple, object, no_parts, pa
 use Rattle.py_value.specs.KeyOf.{normal}
 use Rattle.py_value.specs.Seen.{SeenLocation, SeenAccess, SeenKind, a_list, a_dict, an_instance, a_file, var_at, len_at, item_at, entry_at, order_at, offset_at, closed_at, reads}
 use Rattle.py_model.specs.Moment.{Moment, begins, does, enters, ends, Ending, normal_end}
-use Rattle.py_model.specs.Occurrences.{Occurrence, Frame, in_occurrence, in_activation, frames_after, without_top, innermost, owner_after, block_parent, activation_parent, reach}
+use Rattle.py_model.specs.Occurrences.{Occurrence, Frame, in_occurrence, in_activation, frames_after, without_top, innermost, owner_stmt, block_parent, activation_parent, reach}
 use Rattle.py_model.specs.Plan.{value}
 use Rattle.py_model.specs.Store.{RunStore, len_of, item_of, entry_of, order_of}
 
@@ -37,10 +37,6 @@ to_each reason s (r ∷ rs) = edge reason s r ∷ to_each reason s rs
 abbrev pub from_option : Option ℕ → List ℕ
 from_option None = []
 from_option (Some s) = s ∷ []
-
--- the statement whose own moment the next one is
-abbrev pub owner_stmt : List Moment → Option ℕ
-owner_stmt before = option_map (λ (o : Occurrence). o.stmt) (owner_after before)
 
 -- the statement of the moment at a time, and those of times
 abbrev pub stmt_at : ℕ → List Moment → Option ℕ

@@ -4,9 +4,9 @@ use Rattle.std.proofs.lemmas.Bool.{lt-ltb}
 use Rattle.py_value.specs.Values.{ValuesView}
 use Rattle.py_model.specs.declared.moment.How.TheVariants.{Normal, Break, Continue, Return, Raise}
 use Rattle.py_model.specs.Moment.{Moment}
-use Rattle.py_model.specs.Occurrences.{Frame, frames_after, without_top}
+use Rattle.py_model.specs.Occurrences.{Frame, frames_after, without_top, owner_stmt}
 use Rattle.slice_law.specs.Closed.{has}
-use Rattle.slice_law.specs.Edges.{owner_stmt, module_jumps}
+use Rattle.slice_law.specs.Edges.{module_jumps}
 use Rattle.trace_moments.specs.Moments.{told_with}
 use Rattle.trace_rows.specs.declared.row.Row.{Row}
 use Rattle.trace_rows.specs.declared.row.Row.TheVariants.{Text, Tuple, Begin, Do, Enter, Leave, End}

@@ -12,7 +12,8 @@ use Rattle.py_model.specs.Moment.{Moment, does}
 use Rattle.py_model.specs.Plan.{value}
 use Rattle.py_model.specs.Store.{RunStore}
 use Rattle.slice_law.specs.Closed.{IsIn, has}
-use Rattle.slice_law.specs.Edges.{from_option, owner_stmt, reach_stmts, reaches_stmts, reachable, asked_by_value}
+use Rattle.slice_law.specs.Edges.{from_option, reach_stmts, reaches_stmts, reachable, asked_by_value}
+use Rattle.py_model.specs.Occurrences.{owner_stmt}
 use Rattle.slice_law.specs.Reached.{ReachesPlace, IsOwn}
 use Rattle.py_value.specs.Contents.{Contents, contents}
 use Rattle.slice_things.specs.Things.{IsNormalLocation}

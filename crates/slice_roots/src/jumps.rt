@@ -2,9 +2,9 @@
 ghost use Rattle.std.specs.Prelude.{◌≡◌, ℕ, List, length, nat_lt, OnOk};
 ghost use Rattle.py_value.specs.Values.{ValuesView};
 ghost use Rattle.py_model.specs.Moment.{Moment};
-ghost use Rattle.py_model.specs.Occurrences.{frames_after};
+ghost use Rattle.py_model.specs.Occurrences.{frames_after, owner_stmt};
 ghost use Rattle.slice_law.specs.Closed.{has};
-ghost use Rattle.slice_law.specs.Edges.{owner_stmt, module_jumps};
+ghost use Rattle.slice_law.specs.Edges.{module_jumps};
 ghost use Rattle.trace_moments.specs.Moments.{told_with};
 ghost use Rattle.slice_roots.specs.Jumps.{ends_by_jump as row_ends_by_jump};
 

@@ -8,11 +8,10 @@ use Rattle.py_value.specs.Seen.{SeenLocation, SeenAccess, file_at, var_at, var_i
 use Rattle.py_model.specs.Capture.{Capture}
 use Rattle.py_model.specs.History.{spent_on}
 use Rattle.py_model.specs.Moment.{Moment, enters, leaves, parameters_set}
-use Rattle.py_model.specs.Occurrences.{sets_at, updates_at}
+use Rattle.py_model.specs.Occurrences.{sets_at, updates_at, owner_stmt}
 use Rattle.py_model.specs.Renaming.{Renaming, renamed, renamed_list, renamed_location, renamed_content, renamed_access}
 use Rattle.py_model.specs.Running.{State, entering, tell}
 use Rattle.slice_law.specs.Closed.{StmtSet}
-use Rattle.slice_law.specs.Edges.{owner_stmt}
 use Rattle.slice_runs.proofs.Happenings.{Laws}
 use Rattle.slice_runs.proofs.KeptMoments.{by_access}
 use Rattle.slice_runs.proofs.Marks.{next_at, marked_at, Grows, activations_grow, kept_longer, kept_as_long, one_longer, spent_joined, shifts}

@@ -10,10 +10,10 @@ use Rattle.py_value.specs.Seen.{SeenLocation, SeenAccess, var_at, len_at, item_a
 use Rattle.py_model.specs.Going.{Open, a_statement, an_activation}
 use Rattle.py_model.specs.History.{accesses_by}
 use Rattle.py_model.specs.Moment.{Moment, begins, does, enters, leaves, ends, Ending, normal_end, break_end, continue_end, return_end, raise_end}
-use Rattle.py_model.specs.Occurrences.{Occurrence, Frame, in_occurrence, in_activation, frames_after, without_top, innermost, open_of, reach, sets_at, updates_at}
+use Rattle.py_model.specs.Occurrences.{Occurrence, Frame, in_occurrence, in_activation, frames_after, without_top, innermost, open_of, reach, sets_at, updates_at, owner_stmt}
 use Rattle.py_model.specs.Store.{RunStore}
 use Rattle.slice_law.specs.Closed.{StmtSet, IsIn, store_after, IsClosed}
-use Rattle.slice_law.specs.Edges.{Edge, edge, by_data, by_control, by_jump, to_each, from_option, owner_stmt, stmt_at, stmts_at, reach_stmts, unset_local, read_asks, reads_ask, is_abrupt, caller, asks_for_jump, asks, run_asks, parents_asked, module_jumps, asked_by_value}
+use Rattle.slice_law.specs.Edges.{Edge, edge, by_data, by_control, by_jump, to_each, from_option, stmt_at, stmts_at, reach_stmts, unset_local, read_asks, reads_ask, is_abrupt, caller, asks_for_jump, asks, run_asks, parents_asked, module_jumps, asked_by_value}
 use Rattle.slice_runs.proofs.Beside.{InnermostIs, TopIsKept, CallerIsOut}
 use Rattle.std.proofs.lemmas.Bool.{false≢true}
 use Rattle.slice_runs.specs.Related.{ByAccess, OwnerIsKept, IsInReach, AllInReach}

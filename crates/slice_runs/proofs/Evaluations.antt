@@ -12,11 +12,11 @@ use Rattle.py_tree.specs.WellFormed.{IsWellFormed}
 use Rattle.py_model.specs.Capture.{Capture, opening_in}
 use Rattle.py_model.specs.History.{spent_on}
 use Rattle.py_model.specs.Moment.{Moment, begins, does, enters, leaves, ends}
-use Rattle.py_model.specs.Occurrences.{evaluates, is_value, is_evaluation_at, evaluations_at, up_to_evaluation}
+use Rattle.py_model.specs.Occurrences.{evaluates, is_value, is_evaluation_at, evaluations_at, up_to_evaluation, owner_stmt}
 use Rattle.py_model.specs.Plan.{Answer, value, raised, at_end}
 use Rattle.py_model.specs.Renaming.{Renaming, renamed_answer}
 use Rattle.slice_law.specs.Closed.{StmtSet, IsIn, IsClosed, store_after}
-use Rattle.slice_law.specs.Edges.{owner_stmt, from_option, asked_by_value, module_jumps}
+use Rattle.slice_law.specs.Edges.{from_option, asked_by_value, module_jumps}
 use Rattle.slice_law.specs.Slices.{told_by}
 use Rattle.slice_runs.proofs.Happenings.{Laws}
 use Rattle.slice_runs.proofs.Marks.{shifts}

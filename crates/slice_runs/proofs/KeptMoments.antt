@@ -11,7 +11,7 @@ use Rattle.py_model.specs.Capture.{Capture, answers_at, found_in}
 use Rattle.py_model.specs.Effect.{Touch, answered, Answers, Effect, effect, accesses_in, after, after_accesses, weight, cost}
 use Rattle.py_model.specs.History.{spent_on, with_kind}
 use Rattle.py_model.specs.Moment.{Moment, does}
-use Rattle.py_model.specs.Occurrences.{sets_at, updates_at}
+use Rattle.py_model.specs.Occurrences.{sets_at, updates_at, owner_stmt}
 use Rattle.py_model.specs.Operations.{Op, plan}
 use Rattle.py_model.specs.Plan.{Answer}
 use Rattle.py_model.specs.Quiet.{may_ask}
@@ -19,7 +19,6 @@ use Rattle.py_model.specs.Renaming.{Renaming, renamed_touch, renamed_answer, ren
 use Rattle.py_model.specs.Running.{Asking, State, did, askings_at, walked, performed, effect_of, operation}
 use Rattle.py_model.specs.Store.{RunStore, has_path}
 use Rattle.slice_law.specs.Closed.{StmtSet}
-use Rattle.slice_law.specs.Edges.{owner_stmt}
 use Rattle.slice_runs.proofs.Happenings.{Laws, DidSo, did_so, do_so, asked_after, fetched_after, with_asked, note_as, asked_alike}
 use Rattle.slice_runs.proofs.Marks.{kind_at, next_at, marked_at, kinds_made, counted_made, Grows, marks_grow, spent_joined, shifts}
 use Rattle.slice_runs.proofs.Late.{SameBut, but_accesses, but_weight, but_cost, but_opens, but_askings, but_store, AreOpened, opened_at, all_opened, late}

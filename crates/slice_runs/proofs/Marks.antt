@@ -6,7 +6,7 @@ use Rattle.py_value.specs.Seen.{SeenKind}
 use Rattle.py_model.specs.History.{made_by, with_kind, spent_on}
 use Rattle.py_model.specs.Moment.{Moment, begins, does, enters, leaves, ends}
 use Rattle.slice_law.specs.Closed.{StmtSet}
-use Rattle.slice_law.specs.Edges.{owner_stmt}
+use Rattle.py_model.specs.Occurrences.{owner_stmt}
 use Rattle.slice_runs.proofs.Ranks.{shifted_fits}
 use Rattle.slice_runs.specs.Related.{kept_of}
 use Rattle.slice_runs.specs.Renaming.{activations_after, Marks, is_kept, with_mark, marks_after, is_marked, rank, IsShifted, all_marks}

@@ -9,7 +9,7 @@ use Rattle.py_model.specs.Capture.{Capture, answers_at, found_in}
 use Rattle.py_model.specs.Effect.{Effect, accesses_in, after, weight}
 use Rattle.py_model.specs.History.{spent_on}
 use Rattle.py_model.specs.Moment.{Moment, begins, does, ends, Ending, normal_end}
-use Rattle.py_model.specs.Occurrences.{sets_at, updates_at}
+use Rattle.py_model.specs.Occurrences.{sets_at, updates_at, owner_stmt}
 use Rattle.py_model.specs.Operations.{Op, plan}
 use Rattle.py_model.specs.Act.{Walked}
 use Rattle.py_model.specs.Plan.{Answer}
@@ -18,7 +18,6 @@ use Rattle.py_model.specs.Renaming.{Renaming, renamed_location, renamed_content,
 use Rattle.py_model.specs.Running.{Asking, State, did, askings_at, effect_of, operation, performed, beginning, tell}
 use Rattle.py_model.specs.Store.{has_path}
 use Rattle.slice_law.specs.Closed.{StmtSet}
-use Rattle.slice_law.specs.Edges.{owner_stmt}
 use Rattle.slice_runs.proofs.Happenings.{Laws, DidSo, did_so, asked_after, fetched_after, with_asked, note_as, asked_elsewhere}
 use Rattle.slice_runs.proofs.Marks.{kinds_alone, counted_made, spent_joined}
 use Rattle.slice_runs.proofs.Renamings.{untouched}

@@ -14,13 +14,12 @@ use Rattle.py_tree.specs.Functions.{function_at}
 use Rattle.py_model.specs.Going.{Open, a_statement, an_activation}
 use Rattle.py_model.specs.Meaning.{level, meaning, at_start, starting}
 use Rattle.py_model.specs.Moment.{Moment, begins, does, leaves, ends}
-use Rattle.py_model.specs.Occurrences.{frames_after, open_of, evaluates}
+use Rattle.py_model.specs.Occurrences.{frames_after, open_of, evaluates, owner_stmt}
 use Rattle.py_model.specs.Plan.{Answer}
 use Rattle.py_model.specs.Running.{State, spent, lacking, Happened, did, too_dear, lacked, effect_of, operation, outcome, beginning, entering, tell}
 use Rattle.py_model.specs.Store.{RunStore}
 use Rattle.py_model.specs.Quiet.{may_ask}
 use Rattle.slice_law.specs.Closed.{StmtSet, IsIn}
-use Rattle.slice_law.specs.Edges.{owner_stmt}
 use Rattle.slice_runs.proofs.Onwards.{CameBy, came_by, same_end}
 use Rattle.slice_runs.proofs.PlacedRules.{FoundPlaced, suite_placed, bodies_placed, levels_placed, found_placed}
 use Rattle.slice_runs.proofs.Simulating.{Through, told_within, not_yet, owner_in, closed_frames, left_frames}

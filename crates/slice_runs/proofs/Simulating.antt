@@ -12,7 +12,7 @@ use Rattle.py_model.specs.Effect.{Effect, accesses_in, weight}
 use Rattle.py_model.specs.Going.{Open, a_statement, an_activation}
 use Rattle.py_model.specs.History.{held, kinds_after, with_kind}
 use Rattle.py_model.specs.Moment.{Moment, begins, does, leaves, ends, Ending, normal_end, parameters_set}
-use Rattle.py_model.specs.Occurrences.{Occurrence, Frame, in_occurrence, in_activation, frames_after, without_top, innermost, open_of}
+use Rattle.py_model.specs.Occurrences.{Occurrence, Frame, in_occurrence, in_activation, frames_after, without_top, innermost, open_of, owner_stmt}
 use Rattle.py_model.specs.Operations.{Op}
 use Rattle.py_model.specs.Plan.{Answer, value, raised, at_end}
 use Rattle.py_model.specs.Quiet.{may_ask}
@@ -20,7 +20,6 @@ use Rattle.py_model.specs.Renaming.{renamed, renamed_answer}
 use Rattle.py_model.specs.Running.{State, askings_at, Ended, spent, lacking, state_in, Happened, did, too_dear, lacked, effect_of, operation, outcome, beginning, entering, tell}
 use Rattle.py_model.specs.Store.{RunStore}
 use Rattle.slice_law.specs.Closed.{StmtSet}
-use Rattle.slice_law.specs.Edges.{owner_stmt}
 use Rattle.slice_runs.proofs.Beside.{TopIsKept, CallerIsOut, Beside, unreached, both_ret, stopped, both_perform, alone_perform, both_begin, alone_begin, pass_begin, both_close, alone_close, abrupt_close, both_enter, alone_enter, both_leave, alone_leave, barred_begin}
 use Rattle.slice_runs.proofs.Activations.{alone_enter_related, same_activation, enter_paid, both_enter_related, both_leave_related, alone_leave_related}
 use Rattle.slice_runs.proofs.Happenings.{Laws}

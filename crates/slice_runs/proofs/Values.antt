@@ -14,13 +14,13 @@ use Rattle.py_model.specs.Capture.{Capture, opening_in}
 use Rattle.py_model.specs.Graph.{first_name, names_in, graph_text}
 use Rattle.py_model.specs.History.{kinds_after, made_by}
 use Rattle.py_model.specs.Moment.{Moment, begins, does, enters, leaves, ends}
-use Rattle.py_model.specs.Occurrences.{evaluates, is_evaluation_at, up_to_evaluation}
+use Rattle.py_model.specs.Occurrences.{evaluates, is_evaluation_at, up_to_evaluation, owner_stmt}
 use Rattle.py_model.specs.Plan.{value, raised, at_end}
 use Rattle.py_model.specs.Renaming.{Renaming, renamed, renamed_answer, renamed_kind}
 use Rattle.py_model.specs.SameGraph.{Setting, HaveSameGraph}
 use Rattle.py_model.specs.Store.{RunStore}
 use Rattle.slice_law.specs.Closed.{StmtSet, IsIn, IsClosed, store_after}
-use Rattle.slice_law.specs.Edges.{owner_stmt, from_option, reach_stmts, reaches_stmts, reachable, asked_by_value, module_jumps}
+use Rattle.slice_law.specs.Edges.{from_option, reach_stmts, reaches_stmts, reachable, asked_by_value, module_jumps}
 use Rattle.slice_law.specs.Slices.{told_by, Reproduces}
 use Rattle.slice_runs.proofs.AtomicValues.{value_text}
 use Rattle.slice_runs.proofs.Evaluations.{IsFound, found_is}

@@ -11,12 +11,11 @@ use Rattle.py_model.specs.Store.{RunStore, has_path}
 use Rattle.py_model.specs.Tidy.{is_there}
 use Rattle.py_model.specs.History.{accesses_by, spent_on}
 use Rattle.py_model.specs.Moment.{Moment, begins, does, enters, leaves, ends, Ending, normal_end}
-use Rattle.py_model.specs.Occurrences.{sets_at, updates_at}
+use Rattle.py_model.specs.Occurrences.{sets_at, updates_at, owner_stmt}
 use Rattle.py_model.specs.Plan.{Answer, Found}
 use Rattle.py_model.specs.Renaming.{Renaming, renamed, renamed_list, renamed_answer, renamed_kind, renamed_access}
 use Rattle.py_model.specs.Running.{State, did, askings_at, operation}
 use Rattle.slice_law.specs.Closed.{StmtSet}
-use Rattle.slice_law.specs.Edges.{owner_stmt}
 use Rattle.slice_runs.specs.Renaming.{marks_after, activations_after, Fits, Matches, Marks, all_marks}
 
 -- What stands at a location was set, and updated since, by moments of kept statements alone: its reach lies in the set.

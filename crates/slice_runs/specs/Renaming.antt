@@ -11,7 +11,7 @@ use Rattle.py_model.specs.Operations.{Op}
 use Rattle.py_model.specs.AlikeOperations.{renamed_op}
 use Rattle.py_model.specs.Renaming.{Renaming, renamed, renamed_list, renamed_location, renamed_content}
 use Rattle.slice_law.specs.Closed.{StmtSet}
-use Rattle.slice_law.specs.Edges.{owner_stmt}
+use Rattle.py_model.specs.Occurrences.{owner_stmt}
 
 -- a statement is kept; a moment of none is not
 abbrev pub is_kept : StmtSet → Option ℕ → Bool

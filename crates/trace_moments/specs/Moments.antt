@@ -6,7 +6,7 @@ use Rattle.py_value.specs.Seen.{access_seen, kind_seen}
 use Rattle.py_value.specs.Values.{ValuesView}
 use Rattle.py_model.specs.Moment.{Moment, begins, does, enters, leaves, ends}
 use Rattle.py_model.specs.Told.{answer_seen, how_seen}
-use Rattle.slice_law.specs.Edges.{owner_stmt}
+use Rattle.py_model.specs.Occurrences.{owner_stmt}
 use Rattle.trace_rows.specs.declared.row.Row.{Row}
 use Rattle.trace_rows.specs.declared.row.Row.TheVariants.{Text, Tuple, Begin, Do, Enter, Leave, End}
 use Rattle.kept_rows.specs.KeptRows.{view_in}

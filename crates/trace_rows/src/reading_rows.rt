@@ -9,8 +9,8 @@ use crate::tags::{RowTag, row_tag};
 use py_model::Args;
 use py_value::Accesses;
 use row_accesses::read_accesses;
-use row_parts::{read_deed, read_how, read_outcome, read_text, read_touches};
-use row_words::{ReadFault, read_place, read_short, read_value, read_values};
+use row_parts::{read_deed, read_how, read_outcome, read_touches};
+use row_words::{ReadFault, read_place, read_short, read_text, read_value, read_values};
 use std::alloc::Global;
 
 #[tactic(auto, unfolding(crate::specs::RowReading::row_behind))]

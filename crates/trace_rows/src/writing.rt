@@ -8,9 +8,9 @@ use crate::Row;
 use prov_base::{Memory, Pos};
 use py_value::{Access, Value};
 use row_accesses::write_accesses;
-use row_parts::{how_byte, write_deed, write_outcome, write_text, write_touches};
+use row_parts::{how_byte, write_deed, write_outcome, write_touches};
 use row_words::{
-    write_byte, write_numbered, write_place, write_placed, write_tagged, write_values,
+    write_byte, write_numbered, write_place, write_placed, write_tagged, write_text, write_values,
 };
 
 #[tactic(auto, using(std::proofs::Common::append_assoc))]

@@ -4,9 +4,8 @@ use Rattle.std.specs.Option.{option_map, option_and_then}
 use Rattle.py_model.specs.Going.{Open, a_statement, an_activation}
 use Rattle.py_model.specs.History.{closed_by, opened_by, open_after}
 use Rattle.py_model.specs.Moment.{Moment}
-use Rattle.py_model.specs.Occurrences.{Occurrence, Frame, in_occurrence, in_activation, frames_after, innermost, open_of}
+use Rattle.py_model.specs.Occurrences.{Occurrence, Frame, in_occurrence, in_activation, frames_after, innermost, open_of, owner_stmt}
 use Rattle.py_model.proofs.Frames.{frames_are_open}
-use Rattle.slice_law.specs.Edges.{owner_stmt}
 
 -- what is open before the last moment
 pub before_last : (moment : Moment) (found : Option (List Open)) (after : List Open) → option_and_then (opened_by moment) found ≡ Some after → (before : List Open) × ((found ≡ Some before) × (opened_by moment before ≡ Some after))

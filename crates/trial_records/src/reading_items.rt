@@ -5,12 +5,12 @@ ghost use Rattle.row_words.specs.Reading.{Gives, into, front_at, number_at, sign
 ghost use Rattle.trial_records.specs.RecordFits.{is_next, is_earlier as is_earlier_answer, is_ahead as is_ahead_file, is_final as is_final_path};
 ghost use Rattle.trial_records.specs.RecordReading.{made_time, made_line, made_failed, ask_at, given_behind as behind_given, given_at, asking_at, answer_at, next_answer as next_answer_at, found_behind as behind_found, found_at, file_at, next_file as next_file_at, final_at, next_final as next_final_at};
 
-use crate::reading_words::{read_digest, read_front, read_path};
+use crate::reading_words::{read_digest, read_path};
 use crate::record::{FileRecord, FinalRecord, FoundRecord};
 use crate::tags::{FoundTag, GivenTag, ask_tag, found_tag, given_tag};
 use capture::{Ask, Asked, Given};
 use prov_base::Bytes;
-use row_words::{ReadFault, read_number, read_place, read_short, read_signed};
+use row_words::{ReadFault, read_front, read_number, read_place, read_short, read_signed};
 use std::alloc::Global;
 
 #[tactic(auto, unfolding(crate::specs::RecordReading::ask_at))]

@@ -9,11 +9,10 @@ ghost use Rattle.trial_records.specs.RecordReading.{AreSoMany, Leads};
 
 use crate::fault::Stop;
 use crate::reading_items::{next_answer, next_file, next_final};
-use crate::reading_words::read_text;
 use crate::record::{FileRecord, FinalRecord};
 use capture::Asked;
 use prov_base::Name;
-use row_words::{ReadFault, read_number};
+use row_words::{ReadFault, read_number, read_text};
 use std::alloc::Global;
 
 // The count of a list.

@@ -9,8 +9,9 @@ use Rattle.value_table.specs.Comparing.{comes, compared, comes_first, comes_last
 use Rattle.value_table.specs.InOrder.{IsFirstBest, BetterThanEach, NoneBetter}
 use Rattle.value_table.specs.Results.{Result, gives}
 use Rattle.value_table.specs.TableComparisons.{answers_by, unless_apart, by_order, have_order, wrong_kinds, best_from_is, best_is, max_is, min_is}
-use Rattle.value_table.proofs.Kin.{In, AreKin, AreRanked, AreAllRanked, all_ranked, IsOrdered, rank_ordered}
-use Rattle.value_table.proofs.Ranks.{Joins, values_join}
+use Rattle.value_table.proofs.Kin.{AreRanked, AreAllRanked, all_ranked, IsOrdered, rank_ordered}
+use Rattle.py_model.specs.Kin.{In, AreKin}
+use Rattle.py_model.proofs.Ranks.{Joins, values_join}
 
 -- A test of ranks that says that one value is better: it passes on, and who is better than one that is no better than a third is better than this.
 pub record IsBetter (better : Comparison → Bool) : Type 0 where

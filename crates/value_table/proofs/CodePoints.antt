@@ -5,7 +5,8 @@ use Rattle.std.proofs.lemmas.Str.{chars_from_encodes, encode_ascii}
 use lib.Utf8.{encode, encodes, next}
 use Rattle.py_model.specs.Walks.{before, behind, order_of_texts}
 use Rattle.value_table.specs.Comparing.{codes_compared}
-use Rattle.value_table.proofs.Ranks.{order_step, length_before, length_same, text_turned}
+use Rattle.value_table.proofs.Ranks.{length_before, length_same, text_turned}
+use Rattle.py_model.proofs.Ranks.{order_step}
 
 less_not : (n m : ℕ) → m ≤ n → nat_lt n m ≡ false
 less_not n m most = by_test (nat_lt n m) refl

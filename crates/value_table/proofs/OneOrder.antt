@@ -8,7 +8,8 @@ use Rattle.py_model.specs.Walks.{Comparison, alike, before, behind, apart, is_al
 use Rattle.py_value.specs.Contents.{Contents}
 use Rattle.value_table.specs.Comparing.{precedes, as_great}
 use Rattle.value_table.specs.InOrder.{NoneLess, InOrder, IsSortedOf}
-use Rattle.value_table.proofs.Kin.{In, AreAllRanked, all_ranked, IsOrdered, rank_ordered}
+use Rattle.value_table.proofs.Kin.{AreAllRanked, all_ranked, IsOrdered, rank_ordered}
+use Rattle.py_model.specs.Kin.{In}
 use Rattle.value_table.proofs.Ranks.{rank_itself, rank_turned, turn}
 use Rattle.value_table.proofs.Sorting.{Within, first_is, level_is, contained}
 

@@ -5,7 +5,7 @@ use Rattle.std.proofs.lemmas.Bool.Decides.{Decides-int_eq}
 use Rattle.std.proofs.lemmas.Int.{ints}
 use Rattle.std.specs.Ordering.{int_eq}
 use Rattle.py_model.specs.Walks.{numbers_from}
-use Rattle.value_table.proofs.Kin.{In}
+use Rattle.py_model.specs.Kin.{In}
 use Rattle.value_table.proofs.OneOrder.{contains}
 use Rattle.value_table.proofs.Sorting.{contained}
 use Rattle.py_value.specs.Contents.{int, Contents, truth, range}

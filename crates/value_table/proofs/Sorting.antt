@@ -8,8 +8,10 @@ use Rattle.py_model.specs.Walks.{Comparison, alike, before, behind, apart, is_al
 use Rattle.py_value.specs.Contents.{Contents}
 use Rattle.value_table.specs.Comparing.{comes, comes_first, are_level, precedes, as_great}
 use Rattle.value_table.specs.InOrder.{NoneLess, InOrder, IsSortedOf}
-use Rattle.value_table.proofs.Kin.{In, AreAllRanked, all_ranked}
-use Rattle.value_table.proofs.Ranks.{Joins, values_join, none_joins, rank_itself}
+use Rattle.value_table.proofs.Kin.{AreAllRanked, all_ranked}
+use Rattle.py_model.specs.Kin.{In}
+use Rattle.value_table.proofs.Ranks.{rank_itself}
+use Rattle.py_model.proofs.Ranks.{Joins, values_join, none_joins}
 
 abbrev pub first_rank : Contents → Contents → Bool
 first_rank v w = is_first (ranked v w)

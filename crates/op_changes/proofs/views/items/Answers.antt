@@ -45,15 +45,15 @@ returns-in_err-found c =
     (ends_then (with_keys c.in_ok-o.o) c.in_ok-keys.ensures (λ table interned extends. ap (λ vs. with_keys c.in_ok-o.o table (map (contents table) vs)) (sym c.as_slice.ensures.value))
     (ends_stop (with_found c.as_slice.result.now) _ c.in_err-found.ensures))))
 
-pub pairs-requires-clause-lefts : goal.pairs-requires-clause-lefts
-pairs-requires-clause-lefts c = subst (AreNamed c.entry_values.new.work.values) (sym c.as_slice-2.ensures.value)
+pub pair_up-requires-clause-lefts : goal.pair_up-requires-clause-lefts
+pair_up-requires-clause-lefts c = subst (AreNamed c.entry_values.new.work.values) (sym c.as_slice-2.ensures.value)
     (all_named_stay c.walk_keys.new.work.values c.entry_values.new.work.values c.entry_values.ensures.kept.extends.few c.in_ok-keys.keys.items c.in_ok-keys.ensures.is_named)
 
 pub returns-in_err-both : goal.returns-in_err-both
 returns-in_err-both c =
     let ops = c.args.operands.now in
     let keys_same = c.as_slice.ensures.value ∙ sym c.as_slice-2.ensures.value in
-    passes_err (λ result. Ends (λ table. items_method (map (contents table) ops)) c.args.work.now c.pairs.new.work result) c.from_residual-in_err-both.result c.from_residual-in_err-both.ensures.1
+    passes_err (λ result. Ends (λ table. items_method (map (contents table) ops)) c.args.work.now c.pair_up.new.work result) c.from_residual-in_err-both.result c.from_residual-in_err-both.ensures.1
     (ends_as (λ table. items_method (map (contents table) ops)) (λ table. with_dict 1 (map (contents table) ops) items_of) (λ table interned extends. items_is (map (contents table) ops))
     (ends_then (λ table o. items_of o) c.in_ok-o.ensures.comes (λ table interned extends. refl)
     (ends_then (with_keys c.in_ok-o.o) c.in_ok-keys.ensures (λ table interned extends. ap (λ vs. with_keys c.in_ok-o.o table (map (contents table) vs)) (sym c.as_slice.ensures.value))

@@ -12,7 +12,7 @@ use Rattle.op_work.specs.Work.{Comes, is_any}
 use Rattle.op_work.proofs.Going.{comes_same, comes_stop, comes_then, comes_as, at_once, fault_comes, passes_err, extends_then}
 use Rattle.op_work.proofs.Turning.{turns_then, turns_more, turns_same}
 use Rattle.op_compare.specs.Comparisons.{how, how_seen}
-use Rattle.op_compare.specs.Pairs.{parts_in}
+use Rattle.op_walks.specs.Parts.{parts_in}
 use Rattle.op_compare.proofs.Decided.{decided_on, decided_at, alike_or_apart, alike_on, apart_at}
 use Rattle.op_compare.proofs.EntryWalks.{with_found, sizes, sizes_same, sizes_differ, left as entries_left, left_is as entries_left_is, left_none as entries_left_none, left_more as entries_left_more}
 use Rattle.op_compare.proofs.ItemWalks.{lengths, lengths_differ, lengths_pass, next as items_next, left_is as items_left_is, left_more as items_left_more}
@@ -20,7 +20,8 @@ use Rattle.op_compare.proofs.Plain.{inside_of, text_plain, tuple_plain, object_p
 use Rattle.op_compare.proofs.Shapes.{by_shape, objects_at, ShapeComes, others_apart}
 use Rattle.op_compare.proofs.TextOrder.{end_on}
 use Rattle.op_compare.specs.declared.pairs.Shape.TheVariants.{Lists, Dicts, Others}
-use Rattle.op_compare.proofs.TupleWalks.{left as parts_left, next as parts_next, left_is as parts_left_is, left_more as parts_left_more, tuple_is, tuples_step, tuples_deep, within_both, more_tuples, left_end_at as parts_left_end_at}
+use Rattle.op_compare.proofs.TupleWalks.{left as parts_left, next as parts_next, left_is as parts_left_is, left_more as parts_left_more, tuples_step, tuples_deep, within_both, left_end_at as parts_left_end_at}
+use Rattle.op_walks.proofs.TupleParts.{tuple_is, more_tuples}
 use Rattle.op_compare.proofs.compare.+compare.Goals as goal
 
 -- lists

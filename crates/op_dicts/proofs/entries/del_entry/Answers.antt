@@ -1,6 +1,6 @@
-use Rattle.std.proofs.Common.{refl, sym, ap, ◌∙◌, subst, Some, None, Ok}
+use Rattle.std.proofs.Common.{refl, sym, ap, ◌∙◌, subst, ℕ, Some, None, Ok}
 use Rattle.op_dicts.specs.Founds.{IsFound, found_seen, with_entry, pair_removed}
-use Rattle.op_work.specs.Work.{Comes, Ends}
+use Rattle.op_work.specs.Work.{Comes, Ends, raising}
 use Rattle.py_model.specs.Dicts.{del_entry as plan_del}
 use Rattle.py_model.specs.Plan.{writes}
 use Rattle.py_value.specs.Contents.{contents}
@@ -25,4 +25,4 @@ pub returns-in-None : goal.returns-in-None
 returns-in-None c =
     let found = subst (λ entry. Comes (IsFound c.args.v) (found_seen c.args.v) (λ table. with_entry c.args.o (contents table c.args.v)) c.args.work.now c.entry_at.new.work (Ok (c.in_ok-key.key, entry))) c.in-None.is c.in_ok-key.ensures in
     ends_then (del_next c.args.o) found (λ table interned extends. refl)
-    (ends_raises (λ table. del_next c.args.o table (found_seen c.args.v table (c.in_ok-key.key, None))) c.entry_at.new.work 6 c.args.v found.is_named.1.0.0 (λ table interned extends. refl))
+    (ends_raises (λ table. del_next c.args.o table (found_seen c.args.v table (c.in_ok-key.key, None))) c.entry_at.new.work c.number.result c.args.v found.is_named.1.0.0 (λ table interned extends. ap (λ (n : ℕ). raising table n c.args.v) (sym c.number.ensures)))

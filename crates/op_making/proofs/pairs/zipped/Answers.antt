@@ -57,9 +57,9 @@ returns c =
     (comes_then (third c.args.right) c.in_ok-lefts.ensures (λ table interned extends go. refl)
     (comes_then (fourth c.in_ok-lefts.lefts.items) c.in_ok-rights.ensures
     (λ table interned extends go. ap (λ vs. go (paired (values_seen table vs) (values_seen table c.in_ok-rights.rights.items))) (sym c.as_slice.ensures.value)
-    ∙ ap (λ vs. go (paired (values_seen table c.as_slice.result.now) (values_seen table vs))) (sym c.as_slice-2.ensures.value)) c.pairs.ensures)))
+    ∙ ap (λ vs. go (paired (values_seen table c.as_slice.result.now) (values_seen table vs))) (sym c.as_slice-2.ensures.value)) c.pair_up.ensures)))
 
-pub pairs-requires-clause-lefts : goal.pairs-requires-clause-lefts
-pairs-requires-clause-lefts c =
+pub pair_up-requires-clause-lefts : goal.pair_up-requires-clause-lefts
+pair_up-requires-clause-lefts c =
     let later = c.walk_value-2.new.work.values in
     subst (AreNamed later) (sym c.as_slice.ensures.value) (all_named_stay c.walk_value.new.work.values later c.walk_value-2.ensures.kept.extends.few c.in_ok-lefts.lefts.items c.in_ok-lefts.ensures.is_named)

@@ -6,10 +6,10 @@ use Rattle.py_value.specs.Values.{IsNamed}
 use Rattle.op_spelling.specs.Spelling.{follow, end_words}
 use Rattle.op_work.proofs.Going.{extends_then, passes_err}
 use Rattle.op_rendering.specs.Counted.{Counted, keys_row}
-use Rattle.op_rendering.specs.Parts.{items_at, part_in}
+use Rattle.op_walks.specs.Parts.{items_at, part_in}
 use Rattle.op_rendering.proofs.Counting.{counted_same, counted_then, counted_stop, counted_none}
 use Rattle.op_rendering.proofs.KeyRows.{leaf_is, tuple_is_key, row_more, row_done}
-use Rattle.op_rendering.proofs.TupleParts.{items_are, part_stays, tuple_is, more_tuples}
+use Rattle.op_walks.proofs.TupleParts.{items_are, part_stays, tuple_is, more_tuples}
 use Rattle.op_rendering.proofs.texts.+key.Goals as goal
 
 -- a key
@@ -68,17 +68,17 @@ put_key_parts-returns-in_err-put_key t c =
     passes_err (λ result. Counted (λ table. keys_row table id) (string_bytes c.args.text.now) (string_bytes c.put_key.new.text) c.args.work.now c.put_key.new.work result)
     c.from_residual-in_err-put_key.result c.from_residual-in_err-put_key.ensures.1
     (counted_same (λ table. keys_row table id) _ (counted_stop (λ table. follow ((i + 1) == 0) (key_texts (parts_by (contents table) (drop (i + 1) (items_at table id))))) (counted_then (counted_then one c.in_ok-put_words.ensures) c.in_err-put_key.ensures))
-    (λ table interned extends. row_more (contents table) (items_at table id) i c.part-v.result (bytes table) c.comma.result.now (keys_row table id)
-    (subst (λ vs. i < length vs) (sym (items_are table id items ((extends_then one.comes.kept.extends (extends_then c.put_words.ensures.comes.kept.extends (extends_then c.put_key.ensures.comes.kept.extends extends))).tuples id items c.tuple_of-i-end.ensures.items))) c.loop-i-test.true) (c.part-v.ensures.part ∙ sym (part_stays (extends_then c.put_key.ensures.comes.kept.extends extends) id i (more_tuples (extends_then one.comes.kept.extends c.put_words.ensures.comes.kept.extends) id c.requires))) c.comma.ensures (c.loop-i.invariant.1.1 table (extends_then c.put_words.ensures.comes.kept.extends (extends_then c.put_key.ensures.comes.kept.extends extends)))))
+    (λ table interned extends. row_more (contents table) (items_at table id) i c.part_at-v.result (bytes table) c.comma.result.now (keys_row table id)
+    (subst (λ vs. i < length vs) (sym (items_are table id items ((extends_then one.comes.kept.extends (extends_then c.put_words.ensures.comes.kept.extends (extends_then c.put_key.ensures.comes.kept.extends extends))).tuples id items c.tuple_of-i-end.ensures.items))) c.loop-i-test.true) (c.part_at-v.ensures.part ∙ sym (part_stays (extends_then c.put_key.ensures.comes.kept.extends extends) id i (more_tuples (extends_then one.comes.kept.extends c.put_words.ensures.comes.kept.extends) id c.requires))) c.comma.ensures (c.loop-i.invariant.1.1 table (extends_then c.put_words.ensures.comes.kept.extends (extends_then c.put_key.ensures.comes.kept.extends extends)))))
 
 pub put_key_parts-loop-i-preserved : goal.put_key_parts-loop-i-preserved
 put_key_parts-loop-i-preserved t c =
     let id = c.args.id in let i = c.loop-i.i in let items = c.tuple_of-i-end.result.now in let bytes = c.loop-i.invariant.0 in let one = c.loop-i.invariant.1.0 in (
-      (λ table. (bytes table ++ c.comma.result.now) ++ key_text (contents table c.part-v.result)),
+      (λ table. (bytes table ++ c.comma.result.now) ++ key_text (contents table c.part_at-v.result)),
       (
         counted_then (counted_then one c.in_ok-put_words.ensures) c.in_ok-put_key.ensures,
-        (λ table extends. row_more (contents table) (items_at table id) i c.part-v.result (bytes table) c.comma.result.now (keys_row table id)
-            (subst (λ vs. i < length vs) (sym (items_are table id items ((extends_then one.comes.kept.extends (extends_then c.put_words.ensures.comes.kept.extends (extends_then c.put_key.ensures.comes.kept.extends extends))).tuples id items c.tuple_of-i-end.ensures.items))) c.loop-i-test.true) (c.part-v.ensures.part ∙ sym (part_stays (extends_then c.put_key.ensures.comes.kept.extends extends) id i (more_tuples (extends_then one.comes.kept.extends c.put_words.ensures.comes.kept.extends) id c.requires))) c.comma.ensures (c.loop-i.invariant.1.1 table (extends_then c.put_words.ensures.comes.kept.extends (extends_then c.put_key.ensures.comes.kept.extends extends)))),
+        (λ table extends. row_more (contents table) (items_at table id) i c.part_at-v.result (bytes table) c.comma.result.now (keys_row table id)
+            (subst (λ vs. i < length vs) (sym (items_are table id items ((extends_then one.comes.kept.extends (extends_then c.put_words.ensures.comes.kept.extends (extends_then c.put_key.ensures.comes.kept.extends extends))).tuples id items c.tuple_of-i-end.ensures.items))) c.loop-i-test.true) (c.part_at-v.ensures.part ∙ sym (part_stays (extends_then c.put_key.ensures.comes.kept.extends extends) id i (more_tuples (extends_then one.comes.kept.extends c.put_words.ensures.comes.kept.extends) id c.requires))) c.comma.ensures (c.loop-i.invariant.1.1 table (extends_then c.put_words.ensures.comes.kept.extends (extends_then c.put_key.ensures.comes.kept.extends extends)))),
       ),
     )
 

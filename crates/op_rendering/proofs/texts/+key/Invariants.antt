@@ -1,6 +1,6 @@
 use Rattle.std.proofs.Common.{◌≡◌, ◌+◌, ◌*◌, ◌==◌, ◌++◌, ℕ, List, drop, string_bytes, Ok}
 use Rattle.op_rendering.specs.Counted.{Counted, keys_row}
-use Rattle.op_rendering.specs.Parts.{items_at}
+use Rattle.op_walks.specs.Parts.{items_at}
 use Rattle.op_spelling.specs.Spelling.{follow}
 use Rattle.op_work.specs.Work.{Extends}
 use Rattle.py_model.specs.Printing.{key_texts}

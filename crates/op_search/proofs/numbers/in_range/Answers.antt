@@ -1,5 +1,5 @@
 use Rattle.std.proofs.Common.{rules, w64, to_z, of_z, ◌≡◌, ◌∙◌, refl, sym, ap, true, false}
-use Rattle.op_numbers.specs.Numbers.{number_of_value}
+use Rattle.py_value.specs.Numbers.{number_of_value}
 use Rattle.op_search.specs.Places.{looked_up_to}
 use Rattle.op_walks.proofs.RangeNumbers.{of_three}
 use Rattle.py_model.specs.Arithmetic.{contained}

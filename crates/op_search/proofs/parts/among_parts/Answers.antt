@@ -1,6 +1,6 @@
 use Rattle.std.proofs.Common.{rules, refl, arith, true, false, Bool}
-use Rattle.op_compare.specs.Pairs.{parts_in}
-use Rattle.op_compare.proofs.TupleWalks.{more_tuples}
+use Rattle.op_walks.specs.Parts.{parts_in}
+use Rattle.op_walks.proofs.TupleParts.{more_tuples}
 use Rattle.op_work.specs.Work.{Comes, is_any, as_is}
 use Rattle.op_work.proofs.EntryReads.{named_on}
 use Rattle.op_work.proofs.Going.{comes_stop, comes_as, at_once, passes_err, extends_then}

@@ -1,4 +1,4 @@
-use Rattle.op_compare.specs.Pairs.{parts_in}
+use Rattle.op_walks.specs.Parts.{parts_in}
 use Rattle.op_search.proofs.PartSearch.{left}
 use Rattle.op_work.specs.Turns.{Turns}
 use Rattle.py_model.specs.Arithmetic.{among_parts}

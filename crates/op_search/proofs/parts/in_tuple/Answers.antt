@@ -2,7 +2,7 @@ use Rattle.std.proofs.Common.{ap}
 use Rattle.py_model.specs.Arithmetic.{contained}
 use Rattle.py_value.specs.Contents.{contents}
 use Rattle.py_value.specs.declared.value.Value.TheVariants.{Tuple}
-use Rattle.op_compare.proofs.TupleWalks.{tuple_is, more_tuples}
+use Rattle.op_walks.proofs.TupleParts.{tuple_is, more_tuples}
 use Rattle.op_work.proofs.Going.{comes_same, extends_then}
 use Rattle.op_search.proofs.parts.in_tuple.Goals as goal
 

@@ -2,7 +2,7 @@ use Rattle.std.proofs.Common.{sym, ap, ◌∙◌, subst, arith, not, nat_lt}
 use Rattle.py_model.specs.Printing.{height, height_in}
 use Rattle.py_value.specs.Contents.{contents, parts_by}
 use Rattle.py_value.specs.Values.{IsNamed}
-use Rattle.op_work.proofs.Tuples.{parts_named}
+use Rattle.py_model.proofs.Tuples.{parts_named}
 use Rattle.op_spelling.proofs.KeyParts.{item_named, low_tuple}
 use Rattle.op_spelling.proofs.keys.+low.Goals as goal
 

@@ -1,6 +1,6 @@
 use Rattle.std.proofs.Common.{◌≡◌, sym, ap, ◌∙◌, subst, arith, suc, ◌≤◌, ◌==◌, string_bytes, ◌++◌, IfOk}
 use Rattle.py_value.specs.Contents.{contents, parts_by}
-use Rattle.op_work.proofs.Tuples.{parts_named}
+use Rattle.py_model.proofs.Tuples.{parts_named}
 use Rattle.py_model.specs.Printing.{height, height_in, key_text}
 use Rattle.py_value.specs.Values.{IsNamed}
 use Rattle.op_spelling.proofs.KeyParts.{item_named, item_low, all_spelled}

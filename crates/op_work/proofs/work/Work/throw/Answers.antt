@@ -9,7 +9,7 @@ use Rattle.op_work.specs.Work.{WorkView, Ends, WroteAll}
 use Rattle.py_model.specs.declared.moment.Answer.TheVariants.{Raised}
 use Rattle.op_work.proofs.Going.{extends_then, passes_err}
 use Rattle.op_work.proofs.EntryReads.{all_on}
-use Rattle.op_work.proofs.Tuples.{parts_same}
+use Rattle.py_model.proofs.Tuples.{parts_same}
 use Rattle.op_work.proofs.Raising.{raised_ends}
 use Rattle.op_work.proofs.work.Work.throw.Goals as goal
 

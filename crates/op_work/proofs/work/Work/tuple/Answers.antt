@@ -5,7 +5,7 @@ use Rattle.py_model.specs.Plan.{Plan}
 use Rattle.py_value.specs.Contents.{Contents, contents, tuple as tuple_contents}
 use Rattle.py_value.specs.declared.value.Value.TheVariants.{Tuple}
 use Rattle.op_work.proofs.Going.{gives_comes}
-use Rattle.op_work.proofs.Tuples.{parts_same}
+use Rattle.py_model.proofs.Tuples.{parts_same}
 use Rattle.op_work.proofs.work.Work.tuple.Goals as goal
 
 pub returns : goal.returns

@@ -1,7 +1,7 @@
 use Rattle.std.proofs.Common.{sym, subst, ◌<◌, length}
 use Rattle.py_value.specs.Values.{AreNamed}
 use Rattle.op_work.specs.Work.{WorkView}
-use Rattle.op_work.proofs.Tuples.{parts_named}
+use Rattle.py_model.proofs.Tuples.{parts_named}
 use Rattle.op_work.proofs.work.Work.tuple_of.Goals as goal
 
 pub returns-clause-named : goal.returns-clause-named
