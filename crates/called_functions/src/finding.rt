@@ -63,7 +63,7 @@ fn found_in<'a>(suite: &'a Suite, key: Key) -> Option<Found<'a>>
 fn found_by<'a>(stmt: &'a Stmt, key: Key) -> Option<Found<'a>>
     ensures { option_map found_seen result ≡ first_def (key_test key) (defs_of (stmt_of stmt.entry.now)) }
 {
-    found_at(stmt.no, stmt.pos, &stmt.form, key)
+    found_at(stmt.no, stmt.pos, &*stmt.form, key)
 }
 
 /// The same of the form of a statement with a number and a place.

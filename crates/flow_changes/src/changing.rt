@@ -17,7 +17,7 @@ ghost use Rattle.flow_changes.specs.Changing.{augmenting, change_seen};
 use flow_parts::{Code, End, Now, Part, Stage, on_none, on_one, on_three, on_two, start};
 use interp_eval::Scope;
 use prov_base::{Memory, Pos};
-use py_tree::{BinOp, Expr, Form, Target};
+use py_tree::{BinOp, Expr, Form, Stmt, Target};
 use py_value::Value;
 use std::alloc::Global;
 
@@ -36,10 +36,10 @@ pub(crate) struct Change<'a> {
 
 /// What a statement changes; `None` where it is no augmented assignment.
 #[tactic(auto, using(py_tree::proofs::StmtTrees::form_trees))]
-fn change_in<'a>(form: &'a Form) -> Option<Change<'a>>
-    ensures { option_map change_seen result ≡ change_in (form_of form.entry.now) }
+fn change_in<'a>(stmt: &'a Stmt) -> Option<Change<'a>>
+    ensures { option_map change_seen result ≡ change_in (form_of stmt.entry.now.form.value) }
 {
-    match form {
+    match &*stmt.form {
         Form::Aug(target, sign, place, right) => Some(Change {
             target,
             sign: *sign,
@@ -69,10 +69,10 @@ fn change_in<'a>(form: &'a Form) -> Option<Change<'a>>
 /// An augmented assignment begins: a name is loaded at once, a container is evaluated first.
 pub fn augmented<'a>(alloc: Global, part: Part<'a>, scope: Scope) -> Result<Now<'a>, Memory>
     ensures means { IfOk result (λ now. (script : ScriptTree) (next : Task → Act) (here : Here) (table : ValuesView)
-        → now_act script next here (now_seen table now) ≡ augmenting script next here (change_in (form_of part.entry.form.now))) }
+        → now_act script next here (now_seen table now) ≡ augmenting script next here (change_in (form_of part.entry.stmt.now.form.value))) }
     ensures held { IfOk result (λ now. (table : ValuesView) → IsHeldNow table scope now) }
 {
-    let Some(change) = change_in(part.form) else {
+    let Some(change) = change_in(part.stmt) else {
         return Ok(Now::Ended(End::Normal));
     };
     let target = change.target;
@@ -92,10 +92,10 @@ pub fn based<'a>(
     scope: Scope,
 ) -> Result<Now<'a>, Memory>
     ensures means { IfOk result (λ now. (script : ScriptTree) (next : Task → Act) (here : Here) (table : ValuesView)
-        → now_act script next here (now_seen table now) ≡ based_act script next here (change_in (form_of part.entry.form.now)) (contents table owner)) }
+        → now_act script next here (now_seen table now) ≡ based_act script next here (change_in (form_of part.entry.stmt.now.form.value)) (contents table owner)) }
     ensures held { IfOk result (λ now. (table : ValuesView) → IsNamed table owner → IsHeldNow table scope now) }
 {
-    let Some(change) = change_in(part.form) else {
+    let Some(change) = change_in(part.stmt) else {
         return Ok(Now::Ended(End::Normal));
     };
     let target = change.target;
@@ -115,10 +115,10 @@ pub fn slotted<'a>(
     index: Value,
 ) -> Result<Now<'a>, Memory>
     ensures means { IfOk result (λ now. (script : ScriptTree) (next : Task → Act) (here : Here) (table : ValuesView)
-        → now_act script next here (now_seen table now) ≡ slotted_act script next here (change_in (form_of part.entry.form.now)) (contents table owner) (contents table index)) }
+        → now_act script next here (now_seen table now) ≡ slotted_act script next here (change_in (form_of part.entry.stmt.now.form.value)) (contents table owner) (contents table index)) }
     ensures held { IfOk result (λ now. (table : ValuesView) (scope : OneScope) → IsNamed table owner → IsNamed table index → IsHeldNow table scope now) }
 {
-    let Some(change) = change_in(part.form) else {
+    let Some(change) = change_in(part.stmt) else {
         return Ok(Now::Ended(End::Normal));
     };
     let loaded = part.to(Stage::Loaded(owner, index));
@@ -141,10 +141,10 @@ pub fn loaded<'a>(
     scope: Scope,
 ) -> Result<Now<'a>, Memory>
     ensures means { IfOk result (λ now. (script : ScriptTree) (next : Task → Act) (here : Here) (table : ValuesView)
-        → now_act script next here (now_seen table now) ≡ loaded_act script next here (change_in (form_of part.entry.form.now)) (contents table owner) (contents table index) (contents table standing)) }
+        → now_act script next here (now_seen table now) ≡ loaded_act script next here (change_in (form_of part.entry.stmt.now.form.value)) (contents table owner) (contents table index) (contents table standing)) }
     ensures held { IfOk result (λ now. (table : ValuesView) → IsNamed table owner → IsNamed table index → IsNamed table standing → IsHeldNow table scope now) }
 {
-    let Some(change) = change_in(part.form) else {
+    let Some(change) = change_in(part.stmt) else {
         return Ok(Now::Ended(End::Normal));
     };
     let sided = part.to(Stage::Sided(owner, index, standing));
@@ -161,10 +161,10 @@ pub fn sided<'a>(
     value: Value,
 ) -> Result<Now<'a>, Memory>
     ensures means { IfOk result (λ now. (script : ScriptTree) (next : Task → Act) (here : Here) (table : ValuesView)
-        → now_act script next here (now_seen table now) ≡ sided_act script next here (change_in (form_of part.entry.form.now)) (contents table owner) (contents table index) (contents table standing) (contents table value)) }
+        → now_act script next here (now_seen table now) ≡ sided_act script next here (change_in (form_of part.entry.stmt.now.form.value)) (contents table owner) (contents table index) (contents table standing) (contents table value)) }
     ensures held { IfOk result (λ now. (table : ValuesView) (scope : OneScope) → IsNamed table owner → IsNamed table index → IsNamed table standing → IsNamed table value → IsHeldNow table scope now) }
 {
-    let Some(change) = change_in(part.form) else {
+    let Some(change) = change_in(part.stmt) else {
         return Ok(Now::Ended(End::Normal));
     };
     let changed = part.to(Stage::Changed(owner, index));
@@ -181,10 +181,10 @@ pub fn changed<'a>(
     value: Value,
 ) -> Result<Now<'a>, Memory>
     ensures means { IfOk result (λ now. (script : ScriptTree) (next : Task → Act) (here : Here) (table : ValuesView)
-        → now_act script next here (now_seen table now) ≡ changed_act script next here (change_in (form_of part.entry.form.now)) (contents table owner) (contents table index) (contents table value)) }
+        → now_act script next here (now_seen table now) ≡ changed_act script next here (change_in (form_of part.entry.stmt.now.form.value)) (contents table owner) (contents table index) (contents table value)) }
     ensures held { IfOk result (λ now. (table : ValuesView) (scope : OneScope) → IsNamed table owner → IsNamed table index → IsNamed table value → IsHeldNow table scope now) }
 {
-    let Some(change) = change_in(part.form) else {
+    let Some(change) = change_in(part.stmt) else {
         return Ok(Now::Ended(End::Normal));
     };
     let done = part.to(Stage::Done);

@@ -23,7 +23,7 @@ use std::alloc::Global;
 /// How a loop goes on after a turn that ended so: with the next one, or not.
 fn looped<'a>(next: Part<'a>, end: End) -> Now<'a>
     ensures means { (script : ScriptTree) (rest : Task → Act) (here : Here) (table : ValuesView)
-        → now_act script rest here (now_seen table result) ≡ turned (open_act script rest here next.entry.at (form_of next.entry.form.now) (stage_seen table next.entry.stage)) (end_seen table end) }
+        → now_act script rest here (now_seen table result) ≡ turned (open_act script rest here next.entry.stmt.now.pos (form_of next.entry.stmt.now.form.value) (stage_seen table next.entry.stage)) (end_seen table end) }
     ensures held { (table : ValuesView) (scope : OneScope) → IsHeldStage table next.entry.stage → IsHeldEnd table end → IsHeldNow table scope result }
 {
     match end {
@@ -39,10 +39,10 @@ fn looped<'a>(next: Part<'a>, end: End) -> Now<'a>
 #[tactic(auto, using(py_tree::proofs::StmtTrees::form_trees))]
 fn body_ended<'a>(part: Part<'a>, end: End) -> Now<'a>
     ensures means { (script : ScriptTree) (next : Task → Act) (here : Here) (table : ValuesView)
-        → now_act script next here (now_seen table result) ≡ body_ended script next (task script next) here part.entry.at (form_of part.entry.form.now) (end_seen table end) }
+        → now_act script next here (now_seen table result) ≡ body_ended script next (task script next) here part.entry.stmt.now.pos (form_of part.entry.stmt.now.form.value) (end_seen table end) }
     ensures held { (table : ValuesView) (scope : OneScope) → IsHeldEnd table end → IsHeldNow table scope result }
 {
-    match part.form {
+    match &*part.stmt.form {
         Form::While(_, _) => looped(part.to(Stage::Tested(0)), end),
         Form::Try(_, _) => match end {
             End::Threw(o, line) => Now::Opens(part.to(Stage::Handler(0, o, line))),
@@ -90,11 +90,11 @@ fn turn_ended<'a>(
     end: End,
 ) -> Result<Now<'a>, Memory>
     ensures means { IfOk result (λ now. (script : ScriptTree) (next : Task → Act) (here : Here) (table : ValuesView)
-        → now_act script next here (now_seen table now) ≡ turn_ended script next (task script next) here part.entry.at (form_of part.entry.form.now) (contents table items) number (contents table size) (end_seen table end)) }
+        → now_act script next here (now_seen table now) ≡ turn_ended script next (task script next) here part.entry.stmt.now.pos (form_of part.entry.stmt.now.form.value) (contents table items) number (contents table size) (end_seen table end)) }
     ensures held { IfOk result (λ now. (table : ValuesView) (scope : OneScope) → IsNamed table items → IsNamed table size → IsHeldEnd table end → IsHeldNow table scope now) }
 {
     let after = next_turn(number)?;
-    match part.form {
+    match &*part.stmt.form {
         Form::For(_, _, _) => Ok(looped(part.to(Stage::Turn(items, after, size)), end)),
         Form::Do(_) => Ok(Now::Ended(end)),
         Form::Assign(_, _) => Ok(Now::Ended(end)),
@@ -125,13 +125,13 @@ fn class_ended<'a>(
     end: End,
 ) -> Result<Now<'a>, Memory>
     ensures means { IfOk result (λ now. (script : ScriptTree) (next : Task → Act) (here : Here) (table : ValuesView)
-        → now_act script next here (now_seen table now) ≡ class_ended here part.entry.at name.entry.now (contents table class) (end_seen table end)) }
+        → now_act script next here (now_seen table now) ≡ class_ended here part.entry.stmt.now.pos name.entry.now (contents table class) (end_seen table end)) }
     ensures held { IfOk result (λ now. (table : ValuesView) (scope : OneScope) → IsNamed table class → IsHeldEnd table end → IsHeldNow table scope now) }
 {
     match end {
         End::Normal => on_one(
             alloc,
-            part.at,
+            part.stmt.pos,
             Code::Bind(name),
             class,
             part.to(Stage::Done),
@@ -152,14 +152,14 @@ fn inside_ended<'a>(
     end: End,
 ) -> Result<Now<'a>, Memory>
     ensures means { IfOk result (λ now. (script : ScriptTree) (next : Task → Act) (here : Here) (table : ValuesView)
-        → now_act script next here (now_seen table now) ≡ inside_ended script next here part.entry.at (form_of part.entry.form.now) (contents table value) (end_seen table end)) }
+        → now_act script next here (now_seen table now) ≡ inside_ended script next here part.entry.stmt.now.pos (form_of part.entry.stmt.now.form.value) (contents table value) (end_seen table end)) }
     ensures held { IfOk result (λ now. (table : ValuesView) (scope : OneScope) → IsNamed table value → IsHeldEnd table end → IsHeldNow table scope now) }
 {
-    match part.form {
+    match &*part.stmt.form {
         Form::With(_, _, _) => {
             on_one(
                 alloc,
-                part.at,
+                part.stmt.pos,
                 Code::Close,
                 value,
                 part.to(Stage::Closes(end)),
@@ -193,10 +193,10 @@ fn handled_ended<'a>(
     end: End,
 ) -> Result<Now<'a>, Memory>
     ensures means { IfOk result (λ now. (script : ScriptTree) (next : Task → Act) (here : Here) (table : ValuesView)
-        → now_act script next here (now_seen table now) ≡ handled_end script next here (handler_in (form_of part.entry.form.now) number) (end_seen table end)) }
+        → now_act script next here (now_seen table now) ≡ handled_end script next here (handler_in (form_of part.entry.stmt.now.form.value) number) (end_seen table end)) }
     ensures held { IfOk result (λ now. (table : ValuesView) (scope : OneScope) → IsHeldEnd table end → IsHeldNow table scope now) }
 {
-    let Some(handler) = handler_in(part.form, number) else {
+    let Some(handler) = handler_in(part.stmt, number) else {
         return Ok(Now::Ended(end));
     };
     match &handler.1 {
@@ -227,7 +227,7 @@ fn spread_ended<'a>(
     end: End,
 ) -> Result<Now<'a>, Memory>
     ensures means { IfOk result (λ now. (script : ScriptTree) (next : Task → Act) (here : Here) (table : ValuesView)
-        → now_act script next here (now_seen table now) ≡ spread_ended script next here part.entry.at (form_of part.entry.form.now) (goal_seen table goal) number (contents table value) (end_seen table end)) }
+        → now_act script next here (now_seen table now) ≡ spread_ended script next here part.entry.stmt.now.pos (form_of part.entry.stmt.now.form.value) (goal_seen table goal) number (contents table value) (end_seen table end)) }
     ensures held { IfOk result (λ now. (table : ValuesView) (scope : OneScope) → IsHeldGoal table goal → IsNamed table value → IsHeldEnd table end → IsHeldNow table scope now) }
 {
     match end {
@@ -245,7 +245,7 @@ fn spread_ended<'a>(
 /// The suite that a part of a statement waits for has ended. A further turn is what such a task is.
 pub fn part_ended<'a>(alloc: Global, part: Part<'a>, end: End) -> Result<Now<'a>, Memory>
     ensures means { IfOk result (λ now. (script : ScriptTree) (next : Task → Act) (here : Here) (table : ValuesView)
-        → now_act script next here (now_seen table now) ≡ suite_ended script next (task script next) here part.entry.at (form_of part.entry.form.now) (stage_seen table part.entry.stage) (end_seen table end)) }
+        → now_act script next here (now_seen table now) ≡ suite_ended script next (task script next) here part.entry.stmt.now.pos (form_of part.entry.stmt.now.form.value) (stage_seen table part.entry.stage) (end_seen table end)) }
     ensures held { IfOk result (λ now. (table : ValuesView) (scope : OneScope) → IsHeldStage table part.entry.stage → IsHeldEnd table end → IsHeldNow table scope now) }
 {
     match part.stage {

@@ -6,17 +6,17 @@ ghost use Rattle.flow_parts.specs.Machine.{bound_in, handler_in, suite_in};
 ghost use Rattle.flow_openings.specs.Opening.{first_in};
 ghost use Rattle.flow_openings.specs.Handlers.{handler_seen};
 
-use py_tree::{Bound, Expr, Form, Suite};
+use py_tree::{Bound, Expr, Form, Stmt, Suite};
 
 /// A handler: its class, the name that it binds, and its suite.
 pub type Handler = (Option<Expr>, Option<Bound>, Suite);
 
 /// The expression whose value a statement awaits first.
 #[tactic(auto, using(py_tree::proofs::StmtTrees::form_trees))]
-pub(crate) fn first_in<'a>(form: &'a Form) -> Option<&'a Expr>
-    ensures { option_map (λ e. expr_of e.now) result ≡ first_in (form_of form.entry.now) }
+pub(crate) fn first_in<'a>(stmt: &'a Stmt) -> Option<&'a Expr>
+    ensures { option_map (λ e. expr_of e.now) result ≡ first_in (form_of stmt.entry.now.form.value) }
 {
-    match form {
+    match &*stmt.form {
         Form::Do(e) => Some(e),
         Form::Assign(_, e) => Some(e),
         Form::Return(e) => e.as_ref(),
@@ -40,10 +40,10 @@ pub(crate) fn first_in<'a>(form: &'a Form) -> Option<&'a Expr>
 
 /// The suite of a statement that has one.
 #[tactic(auto, using(py_tree::proofs::StmtTrees::form_trees))]
-pub fn suite_in<'a>(form: &'a Form) -> Option<&'a Suite>
-    ensures { option_map (λ s. suite_of s.now) result ≡ suite_in (form_of form.entry.now) }
+pub fn suite_in<'a>(stmt: &'a Stmt) -> Option<&'a Suite>
+    ensures { option_map (λ s. suite_of s.now) result ≡ suite_in (form_of stmt.entry.now.form.value) }
 {
-    match form {
+    match &*stmt.form {
         Form::While(_, suite) => Some(suite),
         Form::For(_, _, suite) => Some(suite),
         Form::Try(suite, _) => Some(suite),
@@ -67,10 +67,10 @@ pub fn suite_in<'a>(form: &'a Form) -> Option<&'a Suite>
 
 /// The name after the `as` of a `with`.
 #[tactic(auto, using(py_tree::proofs::StmtTrees::form_trees))]
-pub fn bound_in<'a>(form: &'a Form) -> Option<&'a Bound>
-    ensures { option_map (λ b. b.now) result ≡ bound_in (form_of form.entry.now) }
+pub fn bound_in<'a>(stmt: &'a Stmt) -> Option<&'a Bound>
+    ensures { option_map (λ b. b.now) result ≡ bound_in (form_of stmt.entry.now.form.value) }
 {
-    match form {
+    match &*stmt.form {
         Form::With(_, bound, _) => bound.as_ref(),
         Form::Do(_) => None,
         Form::Assign(_, _) => None,
@@ -101,10 +101,10 @@ fn handler_at<'a>(handlers: &'a [Handler], number: usize) -> Option<&'a Handler>
 
 /// The handler of a `try` with a number.
 #[tactic(auto, using(py_tree::proofs::StmtTrees::form_trees))]
-pub fn handler_in<'a>(form: &'a Form, number: usize) -> Option<&'a Handler>
-    ensures { option_map (λ h. handler_seen h.now) result ≡ handler_in (form_of form.entry.now) number }
+pub fn handler_in<'a>(stmt: &'a Stmt, number: usize) -> Option<&'a Handler>
+    ensures { option_map (λ h. handler_seen h.now) result ≡ handler_in (form_of stmt.entry.now.form.value) number }
 {
-    match form {
+    match &*stmt.form {
         Form::Try(_, handlers) => handler_at(handlers.list.as_slice(), number),
         Form::Do(_) => None,
         Form::Assign(_, _) => None,

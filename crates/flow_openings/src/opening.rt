@@ -19,8 +19,8 @@ use crate::forms::first_in;
 use flow_changes::augmented;
 use flow_parts::{Code, End, Now, Part, Spot, Stage, on_none, on_one, start};
 use interp_eval::Scope;
-use prov_base::{Memory, Name, Pos};
-use py_tree::{Form, Target};
+use prov_base::{Memory, Name};
+use py_tree::{Form, Stmt, Target};
 use py_value::Value;
 use std::alloc::Global;
 
@@ -33,7 +33,7 @@ fn deleted<'a>(
     scope: Scope,
 ) -> Result<Now<'a>, Memory>
     ensures means { IfOk result (λ now. (script : ScriptTree) (next : Task → Act) (here : Here) (table : ValuesView)
-        → now_act script next here (now_seen table now) ≡ deleting script next here part.entry.at (form_of part.entry.form.now) (target_of target.entry.now)) }
+        → now_act script next here (now_seen table now) ≡ deleting script next here part.entry.stmt.now.pos (form_of part.entry.stmt.now.form.value) (target_of target.entry.now)) }
     ensures held { IfOk result (λ now. (table : ValuesView) → IsHeldNow table scope now) }
 {
     match target {
@@ -47,14 +47,14 @@ fn deleted<'a>(
 /// The exception that is handled is raised again.
 fn raised<'a>(alloc: Global, handled: Option<u32>, part: Part<'a>) -> Result<Now<'a>, Memory>
     ensures means { IfOk result (λ now. (script : ScriptTree) (next : Task → Act) (here : Here) (table : ValuesView)
-        → now_act script next here (now_seen table now) ≡ raising here part.entry.at (raised_value handled)) }
+        → now_act script next here (now_seen table now) ≡ raising here part.entry.stmt.now.pos (raised_value handled)) }
     ensures held { IfOk result (λ now. (table : ValuesView) (scope : OneScope) → IsHeldNow table scope now) }
 {
     match handled {
-        None => on_none(alloc, part.at, Code::Raise, part.to(Stage::Done)),
+        None => on_none(alloc, part.stmt.pos, Code::Raise, part.to(Stage::Done)),
         Some(o) => on_one(
             alloc,
-            part.at,
+            part.stmt.pos,
             Code::Raise,
             Value::Object(o),
             part.to(Stage::Done),
@@ -70,29 +70,29 @@ fn defined<'a>(
     part: Part<'a>,
 ) -> Result<Now<'a>, Memory>
     ensures means { IfOk result (λ now. (script : ScriptTree) (next : Task → Act) (here : Here) (table : ValuesView)
-        → now_act script next here (now_seen table now) ≡ defining script next here part.entry.at name.entry.now (option_map (contents table) class)) }
+        → now_act script next here (now_seen table now) ≡ defining script next here part.entry.stmt.now.pos name.entry.now (option_map (contents table) class)) }
     ensures held { IfOk result (λ now. (table : ValuesView) (scope : OneScope) → IsHeldClass table class → IsHeldNow table scope now) }
 {
-    let code = Code::Function(name, part.at);
+    let code = Code::Function(name, part.stmt.pos);
     match class {
-        None => on_none(alloc, part.at, code, part.to(Stage::Done)),
-        Some(of) => on_one(alloc, part.at, code, of, part.to(Stage::Done)),
+        None => on_none(alloc, part.stmt.pos, code, part.to(Stage::Done)),
+        Some(of) => on_one(alloc, part.stmt.pos, code, of, part.to(Stage::Done)),
     }
 }
 
 /// A whole statement is opened that does not begin with the value of an expression.
 #[tactic(auto, using(py_tree::proofs::StmtTrees::form_trees))]
-fn plainly<'a>(alloc: Global, at: Pos, form: &'a Form, spot: Spot) -> Result<Now<'a>, Memory>
+fn plainly<'a>(alloc: Global, stmt: &'a Stmt, spot: Spot) -> Result<Now<'a>, Memory>
     ensures means { IfOk result (λ now. (script : ScriptTree) (next : Task → Act) (here : Here) (table : ValuesView) → StandsIn table spot here
-        → now_act script next here (now_seen table now) ≡ plain_rule script next here at (form_of form.entry.now)) }
+        → now_act script next here (now_seen table now) ≡ plain_rule script next here stmt.entry.now.pos (form_of stmt.entry.now.form.value)) }
     ensures held { IfOk result (λ now. (table : ValuesView) → IsHeldClass table spot.in_class → IsHeldNow table spot.scope now) }
 {
+    let at = stmt.pos;
     let part = Part {
-        at,
-        form,
+        stmt,
         stage: Stage::Done,
     };
-    match form {
+    match &*stmt.form {
         Form::Aug(_, _, _, _) => augmented(alloc, part, spot.scope),
         Form::Del(target) => deleted(alloc, target, part, spot.scope),
         Form::Pass => Ok(Now::Ended(End::Normal)),
@@ -124,17 +124,16 @@ fn plainly<'a>(alloc: Global, at: Pos, form: &'a Form, spot: Spot) -> Result<Now
 }
 
 /// A whole statement is opened: what is done now means what the statement means.
-pub fn opened<'a>(alloc: Global, at: Pos, form: &'a Form, spot: Spot) -> Result<Now<'a>, Memory>
+pub fn opened<'a>(alloc: Global, stmt: &'a Stmt, spot: Spot) -> Result<Now<'a>, Memory>
     ensures means { IfOk result (λ now. (script : ScriptTree) (next : Task → Act) (here : Here) (table : ValuesView) → StandsIn table spot here
-        → now_act script next here (now_seen table now) ≡ rule script next here at (form_of form.entry.now)) }
+        → now_act script next here (now_seen table now) ≡ rule script next here stmt.entry.now.pos (form_of stmt.entry.now.form.value)) }
     ensures held { IfOk result (λ now. (table : ValuesView) → IsHeldClass table spot.in_class → IsHeldNow table spot.scope now) }
 {
-    match first_in(form) {
-        None => plainly(alloc, at, form, spot),
+    match first_in(stmt) {
+        None => plainly(alloc, stmt, spot),
         Some(e) => {
             let part = Part {
-                at,
-                form,
+                stmt,
                 stage: Stage::Valued,
             };
             start(alloc, e, spot.scope, part)

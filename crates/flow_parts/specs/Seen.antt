@@ -82,7 +82,7 @@ stage_seen table (Catches n o) = catches n o
 stage_seen table (Handles n o) = handles n o
 
 abbrev pub part_seen : ValuesView → PartRefs → Part
-part_seen table p = part p.at (form_of p.form.now) (stage_seen table p.stage)
+part_seen table p = part p.stmt.now.pos (form_of p.stmt.now.form.value) (stage_seen table p.stage)
 
 abbrev pub callee_seen : ValuesView → CalleeCode → Callee
 callee_seen table (Function place) = a_function place

@@ -121,10 +121,8 @@ pub enum Stage {
 /// A statement from a stage on.
 #[derive(Clone, Copy)]
 pub struct Part<'a> {
-    /// The place of the statement.
-    pub at: Pos,
     /// The statement.
-    pub form: &'a Form,
+    pub stmt: &'a Stmt,
     /// How far it is.
     pub stage: Stage,
 }
@@ -183,11 +181,10 @@ pub enum Now<'a> {
 impl<'a> Part<'a> {
     /// The statement at another stage.
     pub fn to(self, stage: Stage) -> Part<'a>
-        ensures { result ≡ record { at = self.entry.at; form = self.entry.form; stage = stage } }
+        ensures { result ≡ record { stmt = self.entry.stmt; stage = stage } }
     {
         Part {
-            at: self.at,
-            form: self.form,
+            stmt: self.stmt,
             stage,
         }
     }
@@ -202,7 +199,7 @@ pub fn start<'a>(
     part: Part<'a>,
 ) -> Result<Now<'a>, Memory>
     ensures means { IfOk result (λ now. (script : ScriptTree) (next : Task → Act) (here : Here) (table : ValuesView)
-        → now_act script next here (now_seen table now) ≡ eval script next here (expr_of expr.entry.now) (then_act script next here part.entry.at (form_of part.entry.form.now) (stage_seen table part.entry.stage))) }
+        → now_act script next here (now_seen table now) ≡ eval script next here (expr_of expr.entry.now) (then_act script next here part.entry.stmt.now.pos (form_of part.entry.stmt.now.form.value) (stage_seen table part.entry.stage))) }
     ensures held { IfOk result (λ now. (table : ValuesView) → IsHeldStage table part.entry.stage → IsHeldNow table scope now) }
 {
     let work = Work::Evaluates(EvalFrames::start(alloc, expr, scope)?);
@@ -219,7 +216,7 @@ fn operates<'a>(
     part: Part<'a>,
 ) -> Result<Now<'a>, Memory>
     ensures means { IfOk result (λ now. (script : ScriptTree) (next : Task → Act) (here : Here) (table : ValuesView)
-        → now_act script next here (now_seen table now) ≡ doing here at (flow_op here (code_number code.entry) (code_want code.entry) (code_value code.entry)) (map (contents table) values.items) (then_act script next here part.entry.at (form_of part.entry.form.now) (stage_seen table part.entry.stage))) }
+        → now_act script next here (now_seen table now) ≡ doing here at (flow_op here (code_number code.entry) (code_want code.entry) (code_value code.entry)) (map (contents table) values.items) (then_act script next here part.entry.stmt.now.pos (form_of part.entry.stmt.now.form.value) (stage_seen table part.entry.stage))) }
     ensures held { IfOk result (λ now. (table : ValuesView) (scope : OneScope) → AreAllNamed table values.items → IsHeldStage table part.entry.stage → IsHeldNow table scope now) }
 {
     let work = Work::Operation(at, code, values);
@@ -234,7 +231,7 @@ pub fn on_none<'a>(
     part: Part<'a>,
 ) -> Result<Now<'a>, Memory>
     ensures means { IfOk result (λ now. (script : ScriptTree) (next : Task → Act) (here : Here) (table : ValuesView)
-        → now_act script next here (now_seen table now) ≡ doing here at (flow_op here (code_number code.entry) (code_want code.entry) (code_value code.entry)) [] (then_act script next here part.entry.at (form_of part.entry.form.now) (stage_seen table part.entry.stage))) }
+        → now_act script next here (now_seen table now) ≡ doing here at (flow_op here (code_number code.entry) (code_want code.entry) (code_value code.entry)) [] (then_act script next here part.entry.stmt.now.pos (form_of part.entry.stmt.now.form.value) (stage_seen table part.entry.stage))) }
     ensures held { IfOk result (λ now. (table : ValuesView) (scope : OneScope) → IsHeldStage table part.entry.stage → IsHeldNow table scope now) }
 {
     operates(alloc, at, code, Vec::new(alloc), part)
@@ -250,7 +247,7 @@ pub fn on_one<'a>(
     part: Part<'a>,
 ) -> Result<Now<'a>, Memory>
     ensures means { IfOk result (λ now. (script : ScriptTree) (next : Task → Act) (here : Here) (table : ValuesView)
-        → now_act script next here (now_seen table now) ≡ doing here at (flow_op here (code_number code.entry) (code_want code.entry) (code_value code.entry)) (contents table value ∷ []) (then_act script next here part.entry.at (form_of part.entry.form.now) (stage_seen table part.entry.stage))) }
+        → now_act script next here (now_seen table now) ≡ doing here at (flow_op here (code_number code.entry) (code_want code.entry) (code_value code.entry)) (contents table value ∷ []) (then_act script next here part.entry.stmt.now.pos (form_of part.entry.stmt.now.form.value) (stage_seen table part.entry.stage))) }
     ensures held { IfOk result (λ now. (table : ValuesView) (scope : OneScope) → IsNamed table value → IsHeldStage table part.entry.stage → IsHeldNow table scope now) }
 {
     let mut values = Vec::new(alloc);
@@ -269,7 +266,7 @@ pub fn on_two<'a>(
     part: Part<'a>,
 ) -> Result<Now<'a>, Memory>
     ensures means { IfOk result (λ now. (script : ScriptTree) (next : Task → Act) (here : Here) (table : ValuesView)
-        → now_act script next here (now_seen table now) ≡ doing here at (flow_op here (code_number code.entry) (code_want code.entry) (code_value code.entry)) (contents table first ∷ contents table second ∷ []) (then_act script next here part.entry.at (form_of part.entry.form.now) (stage_seen table part.entry.stage))) }
+        → now_act script next here (now_seen table now) ≡ doing here at (flow_op here (code_number code.entry) (code_want code.entry) (code_value code.entry)) (contents table first ∷ contents table second ∷ []) (then_act script next here part.entry.stmt.now.pos (form_of part.entry.stmt.now.form.value) (stage_seen table part.entry.stage))) }
     ensures held { IfOk result (λ now. (table : ValuesView) (scope : OneScope) → IsNamed table first → IsNamed table second → IsHeldStage table part.entry.stage → IsHeldNow table scope now) }
 {
     let mut values = Vec::new(alloc);
@@ -290,7 +287,7 @@ pub fn on_three<'a>(
     part: Part<'a>,
 ) -> Result<Now<'a>, Memory>
     ensures means { IfOk result (λ now. (script : ScriptTree) (next : Task → Act) (here : Here) (table : ValuesView)
-        → now_act script next here (now_seen table now) ≡ doing here at (flow_op here (code_number code.entry) (code_want code.entry) (code_value code.entry)) (contents table first ∷ contents table second ∷ contents table third ∷ []) (then_act script next here part.entry.at (form_of part.entry.form.now) (stage_seen table part.entry.stage))) }
+        → now_act script next here (now_seen table now) ≡ doing here at (flow_op here (code_number code.entry) (code_want code.entry) (code_value code.entry)) (contents table first ∷ contents table second ∷ contents table third ∷ []) (then_act script next here part.entry.stmt.now.pos (form_of part.entry.stmt.now.form.value) (stage_seen table part.entry.stage))) }
     ensures held { IfOk result (λ now. (table : ValuesView) (scope : OneScope) → IsNamed table first → IsNamed table second → IsNamed table third → IsHeldStage table part.entry.stage → IsHeldNow table scope now) }
 {
     let mut values = Vec::new(alloc);
@@ -328,10 +325,10 @@ pub fn branch_at<'a>(branches: &'a [(Expr, Suite)], number: usize) -> Option<&'a
 
 /// The target of a statement.
 #[tactic(auto, using(py_tree::proofs::StmtTrees::form_trees))]
-pub fn target_in<'a>(form: &'a Form) -> Option<&'a Target>
-    ensures { option_map (λ t. target_of t.now) result ≡ target_in (form_of form.entry.now) }
+pub fn target_in<'a>(stmt: &'a Stmt) -> Option<&'a Target>
+    ensures { option_map (λ t. target_of t.now) result ≡ target_in (form_of stmt.entry.now.form.value) }
 {
-    match form {
+    match &*stmt.form {
         Form::Assign(target, _) => Some(target),
         Form::Aug(target, _, _, _) => Some(target),
         Form::Del(target) => Some(target),

@@ -26,11 +26,11 @@ use std::alloc::Global;
 #[tactic(auto, using(py_tree::proofs::StmtTrees::form_trees))]
 fn valued<'a>(alloc: Global, part: Part<'a>, value: Value, scope: Scope) -> Result<Now<'a>, Memory>
     ensures means { IfOk result (λ now. (script : ScriptTree) (next : Task → Act) (here : Here) (table : ValuesView)
-        → now_act script next here (now_seen table now) ≡ valued_act script next here part.entry.at (form_of part.entry.form.now) (contents table value)) }
+        → now_act script next here (now_seen table now) ≡ valued_act script next here part.entry.stmt.now.pos (form_of part.entry.stmt.now.form.value) (contents table value)) }
     ensures held { IfOk result (λ now. (table : ValuesView) → IsNamed table value → IsHeldNow table scope now) }
 {
-    let at = part.at;
-    match part.form {
+    let at = part.stmt.pos;
+    match &*part.stmt.form {
         Form::Assign(_, _) => stored(alloc, part, Goal::Finishes, value, scope),
         Form::Return(_) => Ok(Now::Ended(End::Returned(value))),
         Form::Raise(_) => on_one(alloc, at, Code::Raise, value, part.to(Stage::Done)),
@@ -63,14 +63,20 @@ pub fn after<'a>(
     scope: Scope,
 ) -> Result<Now<'a>, Memory>
     ensures means { IfOk result (λ now. (script : ScriptTree) (next : Task → Act) (here : Here) (table : ValuesView)
-        → now_act script next here (now_seen table now) ≡ then_act script next here part.entry.at (form_of part.entry.form.now) (stage_seen table part.entry.stage) (contents table value)) }
+        → now_act script next here (now_seen table now) ≡ then_act script next here part.entry.stmt.now.pos (form_of part.entry.stmt.now.form.value) (stage_seen table part.entry.stage) (contents table value)) }
     ensures held { IfOk result (λ now. (table : ValuesView) → IsHeldStage table part.entry.stage → IsNamed table value → IsHeldNow table scope now) }
 {
     match part.stage {
         Stage::Valued => valued(alloc, part, value, scope),
         Stage::Tested(number) => tested(alloc, part, number, value),
         Stage::Answered(number) => answered(alloc, part, number, value, scope),
-        Stage::Failed => on_one(alloc, part.at, Code::Fail, value, part.to(Stage::Done)),
+        Stage::Failed => on_one(
+            alloc,
+            part.stmt.pos,
+            Code::Fail,
+            value,
+            part.to(Stage::Done),
+        ),
         Stage::Holder(goal, v) => held(alloc, part, goal, v, value, scope),
         Stage::Index(goal, v, owner) => indexed(alloc, part, goal, v, owner, value),
         Stage::Stored(goal) => Ok(reached(part, goal)),
@@ -95,7 +101,7 @@ pub fn after<'a>(
             let matched = part.to(Stage::Matched(number, o, line));
             on_two(
                 alloc,
-                part.at,
+                part.stmt.pos,
                 Code::Match,
                 Value::Object(o),
                 value,

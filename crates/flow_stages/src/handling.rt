@@ -23,10 +23,10 @@ use std::alloc::Global;
 /// The file of a `with` is bound where it has a name, or a class is there; then its suite is next.
 pub(crate) fn entered<'a>(alloc: Global, part: Part<'a>, value: Value) -> Result<Now<'a>, Memory>
     ensures means { IfOk result (λ now. (script : ScriptTree) (next : Task → Act) (here : Here) (table : ValuesView)
-        → now_act script next here (now_seen table now) ≡ entered_act script next here part.entry.at (form_of part.entry.form.now) (contents table value)) }
+        → now_act script next here (now_seen table now) ≡ entered_act script next here part.entry.stmt.now.pos (form_of part.entry.stmt.now.form.value) (contents table value)) }
     ensures held { IfOk result (λ now. (table : ValuesView) (scope : OneScope) → IsNamed table value → IsHeldNow table scope now) }
 {
-    match bound_in(part.form) {
+    match bound_in(part.stmt) {
         None => Ok(Now::Opens(part.to(Stage::Inside(value)))),
         Some(bound) => {
             let named = part.to(Stage::Named(value));
@@ -38,10 +38,10 @@ pub(crate) fn entered<'a>(alloc: Global, part: Part<'a>, value: Value) -> Result
 /// The clause of a handler begins: its name is bound where it has one.
 fn claused<'a>(alloc: Global, part: Part<'a>, number: usize, o: u32) -> Result<Now<'a>, Memory>
     ensures means { IfOk result (λ now. (script : ScriptTree) (next : Task → Act) (here : Here) (table : ValuesView)
-        → now_act script next here (now_seen table now) ≡ clause_act script next here part.entry.at (form_of part.entry.form.now) number o (handler_in (form_of part.entry.form.now) number)) }
+        → now_act script next here (now_seen table now) ≡ clause_act script next here part.entry.stmt.now.pos (form_of part.entry.stmt.now.form.value) number o (handler_in (form_of part.entry.stmt.now.form.value) number)) }
     ensures held { IfOk result (λ now. (table : ValuesView) (scope : OneScope) → IsHeldNow table scope now) }
 {
-    let Some(handler) = handler_in(part.form, number) else {
+    let Some(handler) = handler_in(part.stmt, number) else {
         return Ok(Now::Ended(End::Normal));
     };
     match &handler.1 {
@@ -64,10 +64,10 @@ pub fn handled<'a>(
     scope: Scope,
 ) -> Result<Now<'a>, Memory>
     ensures means { IfOk result (λ now. (script : ScriptTree) (next : Task → Act) (here : Here) (table : ValuesView)
-        → now_act script next here (now_seen table now) ≡ handle script next here part.entry.at (handlers_from number (handlers_in (form_of part.entry.form.now))) o line) }
+        → now_act script next here (now_seen table now) ≡ handle script next here part.entry.stmt.now.pos (handlers_from number (handlers_in (form_of part.entry.stmt.now.form.value))) o line) }
     ensures held { IfOk result (λ now. (table : ValuesView) → IsHeldNow table scope now) }
 {
-    let Some(handler) = handler_in(part.form, number) else {
+    let Some(handler) = handler_in(part.stmt, number) else {
         return Ok(Now::Ended(End::Threw(o, line)));
     };
     match &handler.0 {
@@ -86,7 +86,7 @@ pub(crate) fn matched<'a>(
     value: Value,
 ) -> Result<Now<'a>, Memory>
     ensures means { IfOk result (λ now. (script : ScriptTree) (next : Task → Act) (here : Here) (table : ValuesView)
-        → now_act script next here (now_seen table now) ≡ match_act script next here part.entry.at (form_of part.entry.form.now) number o line (contents table value)) }
+        → now_act script next here (now_seen table now) ≡ match_act script next here part.entry.stmt.now.pos (form_of part.entry.stmt.now.form.value) number o line (contents table value)) }
     ensures held { IfOk result (λ now. (table : ValuesView) (scope : OneScope) → IsHeldNow table scope now) }
 {
     if is_true(value) {

@@ -12,7 +12,7 @@ ghost use Rattle.flow_stores.specs.Spreading.{IsTupleId};
 
 use crate::storing::several_of;
 use flow_parts::Goal;
-use py_tree::{Form, Targets};
+use py_tree::{Stmt, Targets};
 use py_value::{Value, Values, contents_stay, tuples_are_their_parts};
 
 /// The number of a tuple; `None` where this is none.
@@ -71,12 +71,12 @@ pub fn item_at(values: &Values, value: Value, number: usize) -> Value
 }
 
 /// The several targets that what a value is taken apart into is stored in.
-pub fn several_in<'a>(goal: Goal, form: &'a Form) -> Option<&'a Targets>
-    ensures { (table : ValuesView) → option_map (λ ts. targets_of ts.now) result ≡ several_in (goal_seen table goal) (form_of form.entry.now) }
+pub fn several_in<'a>(goal: Goal, stmt: &'a Stmt) -> Option<&'a Targets>
+    ensures { (table : ValuesView) → option_map (λ ts. targets_of ts.now) result ≡ several_in (goal_seen table goal) (form_of stmt.entry.now.form.value) }
 {
     match goal {
-        Goal::Finishes => several_of(form),
-        Goal::Turns(_, _, _) => several_of(form),
+        Goal::Finishes => several_of(stmt),
+        Goal::Turns(_, _, _) => several_of(stmt),
         Goal::Breaks(_) => None,
     }
 }

@@ -16,7 +16,7 @@ ghost use Rattle.flow_parts.specs.Seen.{goal_seen, now_seen};
 use flow_parts::{Code, End, Goal, Now, Part, Stage, on_one, on_three, on_two, start, target_in};
 use interp_eval::Scope;
 use prov_base::Memory;
-use py_tree::{Form, Target, Targets};
+use py_tree::{Stmt, Target, Targets};
 use py_value::Value;
 use std::alloc::Global;
 
@@ -34,10 +34,10 @@ fn many_of<'a>(target: &'a Target) -> Option<&'a Targets>
 }
 
 /// The targets of a statement, where it has several.
-pub fn several_of<'a>(form: &'a Form) -> Option<&'a Targets>
-    ensures { option_map (λ ts. targets_of ts.now) result ≡ many_of (target_in (form_of form.entry.now)) }
+pub fn several_of<'a>(stmt: &'a Stmt) -> Option<&'a Targets>
+    ensures { option_map (λ ts. targets_of ts.now) result ≡ many_of (target_in (form_of stmt.entry.now.form.value)) }
 {
-    match target_in(form) {
+    match target_in(stmt) {
         None => None,
         Some(target) => many_of(target),
     }
@@ -51,23 +51,23 @@ pub fn target_at<'a>(targets: &'a [Target], number: usize) -> Option<&'a Target>
 }
 
 /// The target of a statement with a number, where it has several.
-fn nth_target<'a>(form: &'a Form, number: usize) -> Option<&'a Target>
-    ensures { option_map (λ t. target_of t.now) result ≡ nth_target number (many_of (target_in (form_of form.entry.now))) }
+fn nth_target<'a>(stmt: &'a Stmt, number: usize) -> Option<&'a Target>
+    ensures { option_map (λ t. target_of t.now) result ≡ nth_target number (many_of (target_in (form_of stmt.entry.now.form.value))) }
 {
-    match several_of(form) {
+    match several_of(stmt) {
         None => None,
         Some(targets) => target_at(targets.list.as_slice(), number),
     }
 }
 
 /// The target of a value that is stored: that of the statement, or one of several.
-pub fn goal_target<'a>(goal: Goal, form: &'a Form) -> Option<&'a Target>
-    ensures { (table : ValuesView) → option_map (λ t. target_of t.now) result ≡ goal_target (goal_seen table goal) (form_of form.entry.now) }
+pub fn goal_target<'a>(goal: Goal, stmt: &'a Stmt) -> Option<&'a Target>
+    ensures { (table : ValuesView) → option_map (λ t. target_of t.now) result ≡ goal_target (goal_seen table goal) (form_of stmt.entry.now.form.value) }
 {
     match goal {
-        Goal::Finishes => target_in(form),
-        Goal::Turns(_, _, _) => target_in(form),
-        Goal::Breaks(number) => nth_target(form, number),
+        Goal::Finishes => target_in(stmt),
+        Goal::Turns(_, _, _) => target_in(stmt),
+        Goal::Breaks(number) => nth_target(stmt, number),
     }
 }
 
@@ -105,10 +105,10 @@ pub fn stored<'a>(
     scope: Scope,
 ) -> Result<Now<'a>, Memory>
     ensures means { IfOk result (λ now. (script : ScriptTree) (next : Task → Act) (here : Here) (table : ValuesView)
-        → now_act script next here (now_seen table now) ≡ stored_act script next here part.entry.at (form_of part.entry.form.now) (goal_seen table goal) (goal_target (goal_seen table goal) (form_of part.entry.form.now)) (contents table value)) }
+        → now_act script next here (now_seen table now) ≡ stored_act script next here part.entry.stmt.now.pos (form_of part.entry.stmt.now.form.value) (goal_seen table goal) (goal_target (goal_seen table goal) (form_of part.entry.stmt.now.form.value)) (contents table value)) }
     ensures held { IfOk result (λ now. (table : ValuesView) → IsHeldGoal table goal → IsNamed table value → IsHeldNow table scope now) }
 {
-    let Some(target) = goal_target(goal, part.form) else {
+    let Some(target) = goal_target(goal, part.stmt) else {
         return Ok(Now::Ended(End::Normal));
     };
     let holder = part.to(Stage::Holder(goal, value));
@@ -125,7 +125,7 @@ pub fn stored<'a>(
             }
             let count = counted(targets)?;
             let unpacked = part.to(Stage::Unpacked(goal));
-            on_one(alloc, part.at, Code::Unpack(count), value, unpacked)
+            on_one(alloc, part.stmt.pos, Code::Unpack(count), value, unpacked)
         }
     }
 }
@@ -141,10 +141,10 @@ pub fn held<'a>(
     scope: Scope,
 ) -> Result<Now<'a>, Memory>
     ensures means { IfOk result (λ now. (script : ScriptTree) (next : Task → Act) (here : Here) (table : ValuesView)
-        → now_act script next here (now_seen table now) ≡ holder_act script next here part.entry.at (form_of part.entry.form.now) (goal_seen table goal) (goal_target (goal_seen table goal) (form_of part.entry.form.now)) (contents table value) (contents table owner)) }
+        → now_act script next here (now_seen table now) ≡ holder_act script next here part.entry.stmt.now.pos (form_of part.entry.stmt.now.form.value) (goal_seen table goal) (goal_target (goal_seen table goal) (form_of part.entry.stmt.now.form.value)) (contents table value) (contents table owner)) }
     ensures held { IfOk result (λ now. (table : ValuesView) → IsHeldGoal table goal → IsNamed table value → IsNamed table owner → IsHeldNow table scope now) }
 {
-    let Some(target) = goal_target(goal, part.form) else {
+    let Some(target) = goal_target(goal, part.stmt) else {
         return Ok(Now::Ended(End::Normal));
     };
     match target {
@@ -172,10 +172,10 @@ pub fn indexed<'a>(
     index: Value,
 ) -> Result<Now<'a>, Memory>
     ensures means { IfOk result (λ now. (script : ScriptTree) (next : Task → Act) (here : Here) (table : ValuesView)
-        → now_act script next here (now_seen table now) ≡ index_act script next here part.entry.at (form_of part.entry.form.now) (goal_seen table goal) (goal_target (goal_seen table goal) (form_of part.entry.form.now)) (contents table value) (contents table owner) (contents table index)) }
+        → now_act script next here (now_seen table now) ≡ index_act script next here part.entry.stmt.now.pos (form_of part.entry.stmt.now.form.value) (goal_seen table goal) (goal_target (goal_seen table goal) (form_of part.entry.stmt.now.form.value)) (contents table value) (contents table owner) (contents table index)) }
     ensures held { IfOk result (λ now. (table : ValuesView) (scope : OneScope) → IsHeldGoal table goal → IsNamed table value → IsNamed table owner → IsNamed table index → IsHeldNow table scope now) }
 {
-    let Some(target) = goal_target(goal, part.form) else {
+    let Some(target) = goal_target(goal, part.stmt) else {
         return Ok(Now::Ended(End::Normal));
     };
     match target {
@@ -192,7 +192,7 @@ pub fn indexed<'a>(
 /// What follows a value that was stored.
 pub fn reached<'a>(part: Part<'a>, goal: Goal) -> Now<'a>
     ensures means { (script : ScriptTree) (next : Task → Act) (here : Here) (table : ValuesView)
-        → now_act script next here (now_seen table result) ≡ goal_act script next here part.entry.at (goal_seen table goal) (form_of part.entry.form.now) }
+        → now_act script next here (now_seen table result) ≡ goal_act script next here part.entry.stmt.now.pos (goal_seen table goal) (form_of part.entry.stmt.now.form.value) }
     ensures held { (table : ValuesView) (scope : OneScope) → IsHeldGoal table goal → IsHeldNow table scope result }
 {
     match goal {
@@ -213,10 +213,10 @@ pub fn owned<'a>(
     scope: Scope,
 ) -> Result<Now<'a>, Memory>
     ensures means { IfOk result (λ now. (script : ScriptTree) (next : Task → Act) (here : Here) (table : ValuesView)
-        → now_act script next here (now_seen table now) ≡ owner_act script next here (target_in (form_of part.entry.form.now)) (contents table owner)) }
+        → now_act script next here (now_seen table now) ≡ owner_act script next here (target_in (form_of part.entry.stmt.now.form.value)) (contents table owner)) }
     ensures held { IfOk result (λ now. (table : ValuesView) → IsNamed table owner → IsHeldNow table scope now) }
 {
-    let Some(target) = target_in(part.form) else {
+    let Some(target) = target_in(part.stmt) else {
         return Ok(Now::Ended(End::Normal));
     };
     match target {
@@ -236,10 +236,10 @@ pub fn keyed<'a>(
     index: Value,
 ) -> Result<Now<'a>, Memory>
     ensures means { IfOk result (λ now. (script : ScriptTree) (next : Task → Act) (here : Here) (table : ValuesView)
-        → now_act script next here (now_seen table now) ≡ key_act script next here (target_in (form_of part.entry.form.now)) (contents table owner) (contents table index)) }
+        → now_act script next here (now_seen table now) ≡ key_act script next here (target_in (form_of part.entry.stmt.now.form.value)) (contents table owner) (contents table index)) }
     ensures held { IfOk result (λ now. (table : ValuesView) (scope : OneScope) → IsNamed table owner → IsNamed table index → IsHeldNow table scope now) }
 {
-    let Some(target) = target_in(part.form) else {
+    let Some(target) = target_in(part.stmt) else {
         return Ok(Now::Ended(End::Normal));
     };
     match target {

@@ -18,10 +18,10 @@ use Rattle.flow_suites.specs.declared.running.Way.TheVariants.{Becomes, Runs}
 -- with their numbers
 abbrev pub OpensBy : ValuesView → Part → Spot → Now → Way → Type 0
 OpensBy own p spot now Becomes = (script : ScriptTree) (next : Task → Act) (table : ValuesView) → Keeps own.texts table.texts → Keeps own.tuples table.tuples
-    → now_act script next (here_seen script table spot) (now_seen table now) ≡ open_act script next (here_seen script table spot) p.at (form_of p.form.now) (stage_seen table p.stage)
+    → now_act script next (here_seen script table spot) (now_seen table now) ≡ open_act script next (here_seen script table spot) p.stmt.now.pos (form_of p.stmt.now.form.value) (stage_seen table p.stage)
 OpensBy own p spot now (Runs inner) = (script : ScriptTree) (next : Task → Act) (table : ValuesView) → Keeps own.texts table.texts → Keeps own.tuples table.tuples
-    → to (now_act script next (here_seen script table inner) (now_seen table now)) (suite_ended script next next (here_seen script table spot) p.at (form_of p.form.now) (stage_seen table p.stage))
-    ≡ open_act script next (here_seen script table spot) p.at (form_of p.form.now) (stage_seen table p.stage)
+    → to (now_act script next (here_seen script table inner) (now_seen table now)) (suite_ended script next next (here_seen script table spot) p.stmt.now.pos (form_of p.stmt.now.form.value) (stage_seen table p.stage))
+    ≡ open_act script next (here_seen script table spot) p.stmt.now.pos (form_of p.stmt.now.form.value) (stage_seen table p.stage)
 
 abbrev pub HoldsOpened : ValuesView → Spot → Now → Way → Type 0
 HoldsOpened table spot now Becomes = IsHeldNow table spot.scope now

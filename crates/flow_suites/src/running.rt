@@ -63,13 +63,13 @@ fn turned<'a>(
     size: Value,
 ) -> Result<Now<'a>, Memory>
     ensures means { IfOk result (λ now. (script : ScriptTree) (next : Task → Act) (here : Here) (table : ValuesView)
-        → now_act script next here (now_seen table now) ≡ turn_act script next here part.entry.at (form_of part.entry.form.now) (contents table items) number (contents table size)) }
+        → now_act script next here (now_seen table now) ≡ turn_act script next here part.entry.stmt.now.pos (form_of part.entry.stmt.now.form.value) (contents table items) number (contents table size)) }
     ensures held { IfOk result (λ now. (table : ValuesView) (scope : OneScope) → IsNamed table items → IsNamed table size → IsHeldNow table scope now) }
 {
-    match part.form {
+    match &*part.stmt.form {
         Form::For(_, _, _) => on_three(
             alloc,
-            part.at,
+            part.stmt.pos,
             Code::Next,
             items,
             counted(number),
@@ -98,11 +98,11 @@ fn turned<'a>(
 
 /// Where the suite of a `with` or a class stands.
 #[tactic(auto, using(py_tree::proofs::StmtTrees::form_trees))]
-fn inside_spot(form: &Form, value: Value, spot: Spot) -> Spot
-    ensures means { (script : ScriptTree) (table : ValuesView) → here_seen script table result ≡ inside_here (form_of form.now) (contents table value) (here_seen script table spot) }
+fn inside_spot(stmt: &Stmt, value: Value, spot: Spot) -> Spot
+    ensures means { (script : ScriptTree) (table : ValuesView) → here_seen script table result ≡ inside_here (form_of stmt.now.form.value) (contents table value) (here_seen script table spot) }
     ensures held { (table : ValuesView) → IsNamed table value → IsHeldClass table spot.in_class → IsHeldClass table result.in_class }
 {
-    match form {
+    match &*stmt.form {
         Form::Class(_, _, _) => Spot {
             in_class: Some(value),
             ..spot
@@ -128,20 +128,20 @@ fn inside_spot(form: &Form, value: Value, spot: Spot) -> Spot
 }
 
 /// The statements of the suite of a statement; none where it has no suite.
-fn stmts_in<'a>(form: &'a Form) -> &'a [Stmt]
-    ensures { (script : ScriptTree) (next : Task → Act) (here : Here) → suite script next here (stmts_seen result.now) ≡ suite_act script next here (suite_in (form_of form.entry.now)) }
+fn stmts_in<'a>(stmt: &'a Stmt) -> &'a [Stmt]
+    ensures { (script : ScriptTree) (next : Task → Act) (here : Here) → suite script next here (stmts_seen result.now) ≡ suite_act script next here (suite_in (form_of stmt.entry.now.form.value)) }
 {
-    match suite_in(form) {
+    match suite_in(stmt) {
         None => &[],
         Some(suite) => suite.list.as_slice(),
     }
 }
 
 /// The statements of the suite of a handler; none where there is no handler.
-fn handler_stmts<'a>(form: &'a Form, number: usize) -> &'a [Stmt]
-    ensures { (script : ScriptTree) (next : Task → Act) (here : Here) → suite script next here (stmts_seen result.now) ≡ handled_act script next here (handler_in (form_of form.entry.now) number) }
+fn handler_stmts<'a>(stmt: &'a Stmt, number: usize) -> &'a [Stmt]
+    ensures { (script : ScriptTree) (next : Task → Act) (here : Here) → suite script next here (stmts_seen result.now) ≡ handled_act script next here (handler_in (form_of stmt.entry.now.form.value) number) }
 {
-    match handler_in(form, number) {
+    match handler_in(stmt, number) {
         None => &[],
         Some(handler) => handler.2.list.as_slice(),
     }
@@ -188,7 +188,7 @@ fn spread_opened<'a>(
     ensures means { part.entry.stage ≡ Spreads goal number value → OpensBy values.now part.entry spot result.now result.way }
     ensures held { (table : ValuesView) → Keeps values.now.texts table.texts → Keeps values.now.tuples table.tuples → IsHeldGoal table goal → IsHeldClass table spot.in_class → HoldsOpened table spot result.now result.way }
 {
-    let Some(targets) = several_in(goal, part.form) else {
+    let Some(targets) = several_in(goal, part.stmt) else {
         return ended();
     };
     let targets = targets.list.as_slice();
@@ -216,10 +216,10 @@ pub fn part_opened<'a>(
     ensures means { IfOk result (λ opened. OpensBy values.now part.entry spot opened.now opened.way) }
     ensures held { IfOk result (λ opened. (table : ValuesView) → Keeps values.now.texts table.texts → Keeps values.now.tuples table.tuples → IsHeldStage table part.entry.stage → IsHeldClass table spot.in_class → HoldsOpened table spot opened.now opened.way) }
 {
-    let form = part.form;
+    let stmt = part.stmt;
     match part.stage {
         Stage::Tested(number) => {
-            let now = test_opened(alloc, part.at, form, number, spot.scope)?;
+            let now = test_opened(alloc, stmt, number, spot.scope)?;
             Ok(becomes(now))
         }
         Stage::Turn(items, number, size) => {
@@ -233,11 +233,11 @@ pub fn part_opened<'a>(
         Stage::Handles(number, o) => {
             let handled = Some(o);
             let inner = Spot { handled, ..spot };
-            Ok(runs(handler_stmts(form, number), inner))
+            Ok(runs(handler_stmts(stmt, number), inner))
         }
         Stage::Inside(value) => {
-            let inner = inside_spot(form, value, spot);
-            Ok(runs(stmts_in(form), inner))
+            let inner = inside_spot(stmt, value, spot);
+            Ok(runs(stmts_in(stmt), inner))
         }
         Stage::Stores(goal, value) => {
             let now = stored(alloc, part, goal, value, spot.scope)?;
@@ -246,8 +246,8 @@ pub fn part_opened<'a>(
         Stage::Spreads(goal, number, value) => {
             Ok(spread_opened(part, goal, number, value, spot, values))
         }
-        Stage::Body => Ok(runs(stmts_in(form), spot)),
-        Stage::Repeats(_, _, _) => Ok(runs(stmts_in(form), spot)),
+        Stage::Body => Ok(runs(stmts_in(stmt), spot)),
+        Stage::Repeats(_, _, _) => Ok(runs(stmts_in(stmt), spot)),
         Stage::Valued => Ok(ended()),
         Stage::Answered(_) => Ok(ended()),
         Stage::Done => Ok(ended()),

@@ -15,17 +15,17 @@ ghost use Rattle.flow_parts.specs.Seen.{now_seen};
 
 use flow_parts::{Code, End, Now, Part, Stage, branch_at, is_true, on_none, on_one, start};
 use interp_eval::{Scope, place_of};
-use prov_base::{Memory, Pos};
-use py_tree::{Expr, Form, Suite};
+use prov_base::Memory;
+use py_tree::{Expr, Form, Stmt, Suite};
 use py_value::Value;
 use std::alloc::Global;
 
 /// The test of a statement with a number: that of the branch of an `if`, or the only one of a `while` and of an assertion.
 #[tactic(auto, using(py_tree::proofs::StmtTrees::form_trees))]
-fn test_in<'a>(form: &'a Form, number: usize) -> Option<&'a Expr>
-    ensures { option_map (λ e. expr_of e.now) result ≡ test_of (form_of form.entry.now) number }
+fn test_in<'a>(stmt: &'a Stmt, number: usize) -> Option<&'a Expr>
+    ensures { option_map (λ e. expr_of e.now) result ≡ test_of (form_of stmt.entry.now.form.value) number }
 {
-    match form {
+    match &*stmt.form {
         Form::If(branches, _) => match branch_at(branches.list.as_slice(), number) {
             None => None,
             Some(branch) => Some(&branch.0),
@@ -65,21 +65,19 @@ fn otherwise<'a>(orelse: &'a Option<Suite>) -> Now<'a>
 #[tactic(auto, using(py_tree::proofs::StmtTrees::form_trees))]
 pub fn test_opened<'a>(
     alloc: Global,
-    at: Pos,
-    form: &'a Form,
+    stmt: &'a Stmt,
     number: usize,
     scope: Scope,
 ) -> Result<Now<'a>, Memory>
     ensures means { IfOk result (λ now. (script : ScriptTree) (next : Task → Act) (here : Here) (table : ValuesView)
-        → now_act script next here (now_seen table now) ≡ from_test script next here (form_of form.entry.now) number) }
+        → now_act script next here (now_seen table now) ≡ from_test script next here (form_of stmt.entry.now.form.value) number) }
     ensures held { IfOk result (λ now. (table : ValuesView) → IsHeldNow table scope now) }
 {
     let part = Part {
-        at,
-        form,
+        stmt,
         stage: Stage::Tested(number),
     };
-    match form {
+    match &*stmt.form {
         Form::If(branches, orelse) => match branch_at(branches.list.as_slice(), number) {
             None => Ok(otherwise(orelse)),
             Some(branch) => start(alloc, &branch.0, scope, part),
@@ -112,11 +110,11 @@ pub fn tested<'a>(
     value: Value,
 ) -> Result<Now<'a>, Memory>
     ensures means { IfOk result (λ now. (script : ScriptTree) (next : Task → Act) (here : Here) (table : ValuesView)
-        → now_act script next here (now_seen table now) ≡ test_act script next here part.entry.at (form_of part.entry.form.now) number (test_of (form_of part.entry.form.now) number) (contents table value)) }
+        → now_act script next here (now_seen table now) ≡ test_act script next here part.entry.stmt.now.pos (form_of part.entry.stmt.now.form.value) number (test_of (form_of part.entry.stmt.now.form.value) number) (contents table value)) }
     ensures held { IfOk result (λ now. (table : ValuesView) (scope : OneScope) → IsNamed table value → IsHeldNow table scope now) }
 {
     let next = part.to(Stage::Answered(number));
-    match test_in(part.form, number) {
+    match test_in(part.stmt, number) {
         None => Ok(Now::Ended(End::Normal)),
         Some(test) => on_one(alloc, place_of(test), Code::Truth, value, next),
     }
@@ -125,10 +123,10 @@ pub fn tested<'a>(
 /// What a statement does where its test with a number is true.
 #[tactic(auto, using(py_tree::proofs::StmtTrees::form_trees))]
 fn where_true<'a>(part: Part<'a>, number: usize) -> Now<'a>
-    ensures means { (script : ScriptTree) (next : Task → Act) (here : Here) (table : ValuesView) → now_act script next here (now_seen table result) ≡ when_true script next here (form_of part.entry.form.now) number }
+    ensures means { (script : ScriptTree) (next : Task → Act) (here : Here) (table : ValuesView) → now_act script next here (now_seen table result) ≡ when_true script next here (form_of part.entry.stmt.now.form.value) number }
     ensures held { (table : ValuesView) (scope : OneScope) → IsHeldNow table scope result }
 {
-    match part.form {
+    match &*part.stmt.form {
         Form::If(branches, _) => match branch_at(branches.list.as_slice(), number) {
             None => Now::Ended(End::Normal),
             Some(branch) => Now::InSuite(branch.1.list.as_slice()),
@@ -161,11 +159,11 @@ fn fails<'a>(
     scope: Scope,
 ) -> Result<Now<'a>, Memory>
     ensures means { IfOk result (λ now. (script : ScriptTree) (next : Task → Act) (here : Here) (table : ValuesView)
-        → now_act script next here (now_seen table now) ≡ failed_assert script next here part.entry.at (option_map expr_of message.entry.now)) }
+        → now_act script next here (now_seen table now) ≡ failed_assert script next here part.entry.stmt.now.pos (option_map expr_of message.entry.now)) }
     ensures held { IfOk result (λ now. (table : ValuesView) → IsHeldNow table scope now) }
 {
     match message {
-        None => { on_none(alloc, part.at, Code::Fail, part.to(Stage::Done)) }
+        None => { on_none(alloc, part.stmt.pos, Code::Fail, part.to(Stage::Done)) }
         Some(e) => start(alloc, e, scope, part.to(Stage::Failed)),
     }
 }
@@ -179,10 +177,10 @@ fn where_false<'a>(
     scope: Scope,
 ) -> Result<Now<'a>, Memory>
     ensures means { IfOk result (λ now. (script : ScriptTree) (next : Task → Act) (here : Here) (table : ValuesView)
-        → now_act script next here (now_seen table now) ≡ when_false script next here part.entry.at (form_of part.entry.form.now) number) }
+        → now_act script next here (now_seen table now) ≡ when_false script next here part.entry.stmt.now.pos (form_of part.entry.stmt.now.form.value) number) }
     ensures held { IfOk result (λ now. (table : ValuesView) → IsHeldNow table scope now) }
 {
-    match part.form {
+    match &*part.stmt.form {
         Form::If(branches, _) => match branch_at(branches.list.as_slice(), number) {
             None => Ok(Now::Ended(End::Normal)),
             Some(_) => Ok(Now::Opens(part.to(Stage::Tested(number + 1)))),
@@ -216,7 +214,7 @@ pub fn answered<'a>(
     scope: Scope,
 ) -> Result<Now<'a>, Memory>
     ensures means { IfOk result (λ now. (script : ScriptTree) (next : Task → Act) (here : Here) (table : ValuesView)
-        → now_act script next here (now_seen table now) ≡ by_truth (when_true script next here (form_of part.entry.form.now) number) (when_false script next here part.entry.at (form_of part.entry.form.now) number) (contents table value)) }
+        → now_act script next here (now_seen table now) ≡ by_truth (when_true script next here (form_of part.entry.stmt.now.form.value) number) (when_false script next here part.entry.stmt.now.pos (form_of part.entry.stmt.now.form.value) number) (contents table value)) }
     ensures held { IfOk result (λ now. (table : ValuesView) → IsHeldNow table scope now) }
 {
     if is_true(value) {

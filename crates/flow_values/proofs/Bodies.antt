@@ -65,7 +65,7 @@ module _ (script : ScriptTree) (frames : FlowFrames) (caller : Caller) (at place
   -- what follows the call, what waits behind it, and the suite of an activation
   abbrev pub follows_call : ValuesView → (Task → Act) → How → Act
   follows_call table next =
-      left_with script next (gives_back script next (here_seen script table frames.spot) (machine_seen table caller.eval) (then_act script next (here_seen script table frames.spot) p.at (form_of p.form.now) (stage_seen table p.stage))
+      left_with script next (gives_back script next (here_seen script table frames.spot) (machine_seen table caller.eval) (then_act script next (here_seen script table frames.spot) p.stmt.now.pos (form_of p.stmt.now.form.value) (stage_seen table p.stage))
       (option_map (contents table) caller.made))
 
   abbrev pub waits_behind : ValuesView → (Task → Act) → How → Act
@@ -83,12 +83,12 @@ module _ (script : ScriptTree) (frames : FlowFrames) (caller : Caller) (at place
   runs_so : (table : ValuesView) (next : Task → Act)
       → calling_so script frames caller at (Function place) values p table next
       ≡ to (running script next (here_seen script table frames.spot) at (found_function found) (map (contents table) values)
-      (gives_back script next (here_seen script table frames.spot) (machine_seen table caller.eval) (then_act script next (here_seen script table frames.spot) p.at (form_of p.form.now) (stage_seen table p.stage)) (option_map (contents table) caller.made)))
+      (gives_back script next (here_seen script table frames.spot) (machine_seen table caller.eval) (then_act script next (here_seen script table frames.spot) p.stmt.now.pos (form_of p.stmt.now.form.value) (stage_seen table p.stage)) (option_map (contents table) caller.made)))
       (waits_behind table next)
   runs_so table next =
       ap (λ a. to a (waits_behind table next))
       (runs_when script next (here_seen script table frames.spot) at (function place) (function_at script place) (found_function found) (map (contents table) values)
-      (gives_back script next (here_seen script table frames.spot) (machine_seen table caller.eval) (then_act script next (here_seen script table frames.spot) p.at (form_of p.form.now) (stage_seen table p.stage)) (option_map (contents table) caller.made))
+      (gives_back script next (here_seen script table frames.spot) (machine_seen table caller.eval) (then_act script next (here_seen script table frames.spot) p.stmt.now.pos (form_of p.stmt.now.form.value) (stage_seen table p.stage)) (option_map (contents table) caller.made))
       may.is_there (may.counted ∙ sym (length-map values (contents table))) may.room)
 
   module _ (unfolds : Unfolds) where
@@ -201,7 +201,7 @@ fails_on script frames caller at place values p after count reason left fits sto
     steps_on script (calling_so script frames caller at (Function place) values p) after left fits stood was (λ table capture s n enough.
     ap (λ a. outcome capture a s) (ap (λ a. to a (waits_for script frames table (level script n)))
     (fails (level script n) (here_seen script table frames.spot) at (function place) (map (contents table) values)
-    (gives_back script (level script n) (here_seen script table frames.spot) (machine_seen table caller.eval) (then_act script (level script n) (here_seen script table frames.spot) p.at (form_of p.form.now) (stage_seen table p.stage))
+    (gives_back script (level script n) (here_seen script table frames.spot) (machine_seen table caller.eval) (then_act script (level script n) (here_seen script table frames.spot) p.stmt.now.pos (form_of p.stmt.now.form.value) (stage_seen table p.stage))
     (option_map (contents table) caller.made)) refl (length-map values (contents table) ∙ counted)) ∙ means script table (level script n)))
 fails_on script frames caller at place values p after count reason left fits stood was fails counted (Err want) means = cut_from script (calling_so script frames caller at (Function place) values p) after left fits stood was want
 fails_on script frames caller at place values p after count reason left fits stood was fails counted (Ok Finished) means = absurd means

@@ -60,7 +60,7 @@ module _ (script : ScriptTree) (frames : FlowFrames) (eval gone : EvalFrames) (p
     (was is : Option (List Moment)) (n : ℕ) where
   -- what follows the value; what waits
   abbrev pub follows : Contents → Act
-  follows = then_act script (level script n) (here_seen script table frames.spot) p.at (form_of p.form.now) (stage_seen table p.stage)
+  follows = then_act script (level script n) (here_seen script table frames.spot) p.stmt.now.pos (form_of p.stmt.now.form.value) (stage_seen table p.stage)
 
   abbrev pub beyond : How → Act
   beyond = resumes script (level script n) (map (frame_seen script table) frames.below.items) (λ how. ret how)
@@ -182,9 +182,9 @@ module _ (script : ScriptTree) (frames : FlowFrames) (eval gone : EvalFrames) (p
       → StepsFrom script (evaluating script frames eval p) after left rest last stood stands was is result
   taken_from next result steps_so taken table capture fit s stood_so steps n enough =
       step_taken script frames eval gone p after rest table capture s (stands table capture) was is n next result
-      (steps_so (level script n) (here_seen script table frames.spot) (then_act script (level script n) (here_seen script table frames.spot) p.at (form_of p.form.now) (stage_seen table p.stage)) (stands_at table capture fit) table capture fit s stood_so steps) taken
+      (steps_so (level script n) (here_seen script table frames.spot) (then_act script (level script n) (here_seen script table frames.spot) p.stmt.now.pos (form_of p.stmt.now.form.value) (stage_seen table p.stage)) (stands_at table capture fit) table capture fit s stood_so steps) taken
 
   pub cut_evaluated : (want : Memory) → EvalSteps {E = Memory} script eval gone left rest last stood stands was is (Err want) → StepsFrom script (evaluating script frames eval p) after left rest last stood stands was is (Err want)
   cut_evaluated want steps_so table capture fit s stood_so steps n enough =
       step_cut script frames eval gone p after rest table capture s (stands table capture) was is n want
-      (steps_so (level script n) (here_seen script table frames.spot) (then_act script (level script n) (here_seen script table frames.spot) p.at (form_of p.form.now) (stage_seen table p.stage)) (stands_at table capture fit) table capture fit s stood_so steps)
+      (steps_so (level script n) (here_seen script table frames.spot) (then_act script (level script n) (here_seen script table frames.spot) p.stmt.now.pos (form_of p.stmt.now.form.value) (stage_seen table p.stage)) (stands_at table capture fit) table capture fit s stood_so steps)

@@ -26,13 +26,13 @@ module _ (script : ScriptTree) (next : Task → Act) (table : ValuesView) (frame
   -- what follows the begin of the first statement
   abbrev pub behind_begin : Stmt → List Stmt → Act
   behind_begin stmt rest =
-      to (to (rule script next (on_line stmt.pos.line (here_seen script table frames.spot)) stmt.pos (form_of stmt.form)) (waits_act script next (here_seen script table frames.spot) (a_stmt stmt.no (stmts_seen rest))))
+      to (to (rule script next (on_line stmt.pos.line (here_seen script table frames.spot)) stmt.pos (form_of stmt.form.value)) (waits_act script next (here_seen script table frames.spot) (a_stmt stmt.no (stmts_seen rest))))
       (resumes script next (map (frame_seen script table) frames.below.items) (λ how. ret how))
 
   pub begins_first : (stmt : Stmt) (rest : List Stmt) → stmts.now ≡ stmt ∷ rest → doing_now script frames (InSuite stmts) table next ≡ begin stmt.no (behind_begin stmt rest)
   begins_first stmt rest split =
       in_front stmt rest split
-      ∙ stmt_opened script next (here_seen script table frames.spot) stmt.no stmt.pos stmt.span (form_of stmt.form) (stmts_seen rest) (map (frame_seen script table) frames.below.items) (stmt_of stmt) _ (stmt_tree stmt) refl
+      ∙ stmt_opened script next (here_seen script table frames.spot) stmt.no stmt.pos stmt.span (form_of stmt.form.value) (stmts_seen rest) (map (frame_seen script table) frames.below.items) (stmt_of stmt) _ (stmt_tree stmt) refl
 
   pub at_end : stmts.now ≡ [] → doing_now script frames (InSuite stmts) table next ≡ remaining script next (flow (here_seen script table frames.spot) (ended normal) (map (frame_seen script table) frames.below.items))
   unfolding remaining

@@ -45,7 +45,7 @@ module _ (script : ScriptTree) (frames : FlowFrames) (at : Pos) (code : Code) (v
   -- what follows the answer
   abbrev pub answers : ValuesView → (Task → Act) → Answer → Act
   answers table next answer =
-      to (by_answer (here_seen script table frames.spot) (ret normal) (then_act script next (here_seen script table frames.spot) p.at (form_of p.form.now) (stage_seen table p.stage)) answer)
+      to (by_answer (here_seen script table frames.spot) (ret normal) (then_act script next (here_seen script table frames.spot) p.stmt.now.pos (form_of p.stmt.now.form.value) (stage_seen table p.stage)) answer)
       (resumes script next (map (frame_seen script table) frames.below.items) (λ how. ret how))
 
   comes : (table : ValuesView) (capture : Capture) (s : State) (next : Task → Act) (h : Happened) → IsCodeOp script frames.spot.scope code op (between table capture) table s
@@ -97,7 +97,7 @@ module _ (script : ScriptTree) (frames : FlowFrames) (at : Pos) (code : Code) (v
 
   module _ (answer : OneAnswer) (method : Option Pos) (performed : HasPerformed {E = Memory} at op values left rest last between stands was is (Ok (Did answer method))) where
     pub did_from : ((script : ScriptTree) (next : Task → Act) (table : ValuesView)
-        → to (by_answer (here_seen script table frames.spot) (ret normal) (then_act script next (here_seen script table frames.spot) p.at (form_of p.form.now) (stage_seen table p.stage)) (answer_seen table answer))
+        → to (by_answer (here_seen script table frames.spot) (ret normal) (then_act script next (here_seen script table frames.spot) p.stmt.now.pos (form_of p.stmt.now.form.value) (stage_seen table p.stage)) (answer_seen table answer))
         (resumes script next (map (frame_seen script table) frames.below.items) (λ how. ret how)) ≡ meant script after table next)
         → StepsFrom {E = Memory} script (operating script frames at code values p) after left rest last stood stands was is (Ok More)
     did_from took table capture fit s stood_so steps n enough =

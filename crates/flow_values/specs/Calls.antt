@@ -40,7 +40,7 @@ callee_for v = None
 abbrev pub calling_so : ScriptTree → FlowFrames → Caller → Pos → Callee → List Value → Part → Before
 calling_so script frames caller at callee values p table next =
     to (call_act script next (here_seen script table frames.spot) (machine_seen table caller.eval) (option_map (contents table) caller.made) at (callee_seen table callee) (map (contents table) values)
-    (then_act script next (here_seen script table frames.spot) p.at (form_of p.form.now) (stage_seen table p.stage)))
+    (then_act script next (here_seen script table frames.spot) p.stmt.now.pos (form_of p.stmt.now.form.value) (stage_seen table p.stage)))
     (resumes script next (map (frame_seen script table) frames.below.items) (λ how. ret how))
 
 -- a failing call is next, with what is called and the arguments
@@ -51,7 +51,7 @@ failing_so script frames at reason values table next =
 -- what remains of an expression whose call has an object as its value
 abbrev pub gives_object : ScriptTree → FlowFrames → EvalFrames → Part → ValuesView → (Task → Act) → Contents → Act
 gives_object script frames eval p table next o =
-    remains script next (here_seen script table frames.spot) (given_to (machine_seen table eval) o) (then_act script next (here_seen script table frames.spot) p.at (form_of p.form.now) (stage_seen table p.stage))
+    remains script next (here_seen script table frames.spot) (given_to (machine_seen table eval) o) (then_act script next (here_seen script table frames.spot) p.stmt.now.pos (form_of p.stmt.now.form.value) (stage_seen table p.stage))
 
 -- an object was made, and no method was found; or some method; or this is the answer of the operation
 abbrev pub alone_so : ScriptTree → FlowFrames → EvalFrames → Pos → Value → List Value → Value → Bool → Part → Before

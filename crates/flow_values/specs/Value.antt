@@ -52,7 +52,7 @@ MakesCode script scope code fits before after (Err refused) = ForEach fits befor
 abbrev pub operating : ScriptTree → FlowFrames → Pos → Code → List Value → Part → Before
 operating script frames at code values p table next =
     to (doing (here_seen script table frames.spot) at (flow_op (here_seen script table frames.spot) (code_number code) (code_want code) (code_value code)) (map (contents table) values)
-    (then_act script next (here_seen script table frames.spot) p.at (form_of p.form.now) (stage_seen table p.stage)))
+    (then_act script next (here_seen script table frames.spot) p.stmt.now.pos (form_of p.stmt.now.form.value) (stage_seen table p.stage)))
     (resumes script next (map (frame_seen script table) frames.below.items) (λ how. ret how))
 
 abbrev pub AreHeldValues : Fits → List Value → Type 0
@@ -64,13 +64,13 @@ AreHeldStages fits stage = (table : ValuesView) (capture : Capture) → fits tab
 -- what is still to be done where an expression is evaluated, at the spot of frames
 abbrev pub evaluating : ScriptTree → FlowFrames → EvalFrames → Part → Before
 evaluating script frames eval p table next =
-    to (eval_remaining script next (here_seen script table frames.spot) (then_act script next (here_seen script table frames.spot) p.at (form_of p.form.now) (stage_seen table p.stage)) table eval)
+    to (eval_remaining script next (here_seen script table frames.spot) (then_act script next (here_seen script table frames.spot) p.stmt.now.pos (form_of p.stmt.now.form.value) (stage_seen table p.stage)) table eval)
     (resumes script next (map (frame_seen script table) frames.below.items) (λ how. ret how))
 
 -- what is still to be done where a part has got an answer
 abbrev pub answering : ScriptTree → FlowFrames → Part → Answer → Before
 answering script frames p answer table next =
-    to (by_answer (here_seen script table frames.spot) (ret normal) (then_act script next (here_seen script table frames.spot) p.at (form_of p.form.now) (stage_seen table p.stage)) (answer_seen table answer))
+    to (by_answer (here_seen script table frames.spot) (ret normal) (then_act script next (here_seen script table frames.spot) p.stmt.now.pos (form_of p.stmt.now.form.value) (stage_seen table p.stage)) (answer_seen table answer))
     (resumes script next (map (frame_seen script table) frames.below.items) (λ how. ret how))
 
 -- the run goes on, and as much remains
@@ -97,7 +97,7 @@ IsInScope fits eval frames = (table : ValuesView) (capture : Capture) → fits t
 -- what is still to be done where this gives a value
 abbrev pub working : ScriptTree → FlowFrames → Work → Part → Before
 working script frames work p table next =
-    to (work_act script next (here_seen script table frames.spot) (work_seen table work) (then_act script next (here_seen script table frames.spot) p.at (form_of p.form.now) (stage_seen table p.stage)))
+    to (work_act script next (here_seen script table frames.spot) (work_seen table work) (then_act script next (here_seen script table frames.spot) p.stmt.now.pos (form_of p.stmt.now.form.value) (stage_seen table p.stage)))
     (resumes script next (map (frame_seen script table) frames.below.items) (λ how. ret how))
 
 abbrev pub IsHeldWorkBy : Fits → FlowFrames → Work → Type 0
@@ -113,7 +113,7 @@ resuming script frames eval made p v table next = leave (contents table v) (eval
 
 abbrev pub returning : ScriptTree → FlowFrames → EvalFrames → Option Value → Part → End → Before
 returning script frames eval made p end table next =
-    to (left_with script next (gives_back script next (here_seen script table frames.spot) (machine_seen table eval) (then_act script next (here_seen script table frames.spot) p.at (form_of p.form.now) (stage_seen table p.stage))
+    to (left_with script next (gives_back script next (here_seen script table frames.spot) (machine_seen table eval) (then_act script next (here_seen script table frames.spot) p.stmt.now.pos (form_of p.stmt.now.form.value) (stage_seen table p.stage))
     (option_map (contents table) made)) (end_seen table end)) (resumes script next (map (frame_seen script table) frames.below.items) (λ how. ret how))
 
 abbrev pub IsNamedBy : Fits → Value → Type 0

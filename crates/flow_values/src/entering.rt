@@ -104,8 +104,7 @@ fn wait_fail<'a>(
 {
     let work = Work::Operation(at, Code::NoCall(reason), values);
     let part = Part {
-        at: part.at,
-        form: part.form,
+        stmt: part.stmt,
         stage: Stage::Done,
     };
     let giving = Box::new(alloc, Giving { work, part })?;
@@ -143,7 +142,7 @@ pub fn run_body<'a>(
     requires { frames.old.spot.open_activations < 1000 }
     ensures means { OnOk result ((script : ScriptTree) (next : Task → Act) (table : ValuesView) → function_in script (JustOne found.entry.number) ≡ JustOne (found_function found.entry)
         → to (to (suite script next (inside script next (here_seen script table frames.old.spot) (found_function found.entry) activation) (found_function found.entry).body)
-        (left_with script next (gives_back script next (here_seen script table frames.old.spot) (machine_seen table caller.entry.value.eval) (then_act script next (here_seen script table frames.old.spot) part.entry.at (form_of part.entry.form.now) (stage_seen table part.entry.stage))
+        (left_with script next (gives_back script next (here_seen script table frames.old.spot) (machine_seen table caller.entry.value.eval) (then_act script next (here_seen script table frames.old.spot) part.entry.stmt.now.pos (form_of part.entry.stmt.now.form.value) (stage_seen table part.entry.stage))
         (option_map (contents table) caller.entry.value.made)))) (resumes script next (map (frame_seen script table) frames.old.below.items) (λ how. ret how)) ≡ meant script frames.new table next) }
     ensures held { OnOk result ((table : ValuesView) → IsHeldFlow table frames.old → IsHeldCaller table frames.old.spot.scope caller.entry.value → IsHeldStage table part.entry.stage → IsHeldFlow table frames.new) }
 {

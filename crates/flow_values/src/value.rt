@@ -51,7 +51,7 @@ pub(crate) fn take<'a>(
     answer: Answer,
 ) -> Result<(), Memory>
     ensures means { OnOk result ((script : ScriptTree) (next : Task → Act) (table : ValuesView)
-        → to (by_answer (here_seen script table frames.old.spot) (ret normal) (then_act script next (here_seen script table frames.old.spot) part.entry.at (form_of part.entry.form.now) (stage_seen table part.entry.stage)) (answer_seen table answer))
+        → to (by_answer (here_seen script table frames.old.spot) (ret normal) (then_act script next (here_seen script table frames.old.spot) part.entry.stmt.now.pos (form_of part.entry.stmt.now.form.value) (stage_seen table part.entry.stage)) (answer_seen table answer))
         (resumes script next (map (frame_seen script table) frames.old.below.items) (λ how. ret how)) ≡ meant script frames.new table next) }
     ensures held { OnOk result ((table : ValuesView) → IsHeldFlow table frames.old → IsHeldStage table part.entry.stage → IsNamedAnswer table answer → IsHeldFlow table frames.new) }
 {

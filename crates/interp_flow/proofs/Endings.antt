@@ -26,14 +26,14 @@ use Rattle.flow_values.proofs.Stepping.{steps_on}
 pub part_on : Unfolds → (script : ScriptTree) (b : Before) (popped after : FlowFrames) (p : Part) (end : End) (left : ℕ) (fits : Fits) (stood : Stands) (was : Option (List Moment))
     → ((table : ValuesView) (next : Task → Act) → b table next ≡ handed script popped (PartWaits None p) end table next)
     → ((script : ScriptTree) (next : Task → Act) (table : ValuesView)
-    → to (suite_ended script next (task script next) (here_seen script table popped.spot) p.at (form_of p.form.now) (stage_seen table p.stage) (end_seen table end)) (resumes script next (map (frame_seen script table) popped.below.items) (λ how. ret how))
+    → to (suite_ended script next (task script next) (here_seen script table popped.spot) p.stmt.now.pos (form_of p.stmt.now.form.value) (stage_seen table p.stage) (end_seen table end)) (resumes script next (map (frame_seen script table) popped.below.items) (λ how. ret how))
     ≡ meant script after table next)
     → StepsFrom {E = Memory} script b after left left fits stood stood was was (Ok More)
 part_on unfolds script b popped after p end left fits stood was is means =
     steps_on script b after left fits stood was (λ table capture s n enough.
     ap (λ a. outcome capture a s) (is table (level script n))
     ∙ same_behind capture (resumes script (level script n) (map (frame_seen script table) popped.below.items) (λ how. ret how))
-    (suite_ended script (level script n) (level script n) (here_seen script table popped.spot) p.at (form_of p.form.now) (stage_seen table p.stage) (end_seen table end))
-    (suite_ended script (level script n) (task script (level script n)) (here_seen script table popped.spot) p.at (form_of p.form.now) (stage_seen table p.stage) (end_seen table end)) s s
-    (ended_so unfolds capture script n s enough (here_seen script table popped.spot) p.at (form_of p.form.now) (stage_seen table p.stage) (end_seen table end))
+    (suite_ended script (level script n) (level script n) (here_seen script table popped.spot) p.stmt.now.pos (form_of p.stmt.now.form.value) (stage_seen table p.stage) (end_seen table end))
+    (suite_ended script (level script n) (task script (level script n)) (here_seen script table popped.spot) p.stmt.now.pos (form_of p.stmt.now.form.value) (stage_seen table p.stage) (end_seen table end)) s s
+    (ended_so unfolds capture script n s enough (here_seen script table popped.spot) p.stmt.now.pos (form_of p.stmt.now.form.value) (stage_seen table p.stage) (end_seen table end))
     ∙ ap (λ a. outcome capture a s) (means script (level script n) table))

@@ -102,7 +102,7 @@ GivesValue end = ⊤
 
 -- the value of the call is what was made for it, and else what the function returns
 gives_value : (script : ScriptTree) (frames : FlowFrames) (eval : EvalFrames) (made : Option Value) (p : Part) (v : Value) (table : ValuesView) (next : Task → Act)
-    → leave (contents table v) (to (gives_back script next (here_seen script table frames.spot) (machine_seen table eval) (then_act script next (here_seen script table frames.spot) p.at (form_of p.form.now) (stage_seen table p.stage))
+    → leave (contents table v) (to (gives_back script next (here_seen script table frames.spot) (machine_seen table eval) (then_act script next (here_seen script table frames.spot) p.stmt.now.pos (form_of p.stmt.now.form.value) (stage_seen table p.stage))
     (option_map (contents table) made) (contents table v)) (resumes script next (map (frame_seen script table) frames.below.items) (λ how. ret how)))
     ≡ resuming script frames eval made p v table next
 gives_value script frames eval None p v table next = refl
@@ -116,7 +116,7 @@ call_named table (Some o) v held named = held
 module _ (script : ScriptTree) (frames : FlowFrames) (eval : EvalFrames) (made : Option Value) (p : Part) (v : Value) (table : ValuesView) (next : Task → Act) where
   abbrev pub with_value : Contents → Act
   with_value w =
-      leave w (to (gives_back script next (here_seen script table frames.spot) (machine_seen table eval) (then_act script next (here_seen script table frames.spot) p.at (form_of p.form.now) (stage_seen table p.stage)) (option_map (contents table) made) w)
+      leave w (to (gives_back script next (here_seen script table frames.spot) (machine_seen table eval) (then_act script next (here_seen script table frames.spot) p.stmt.now.pos (form_of p.stmt.now.form.value) (stage_seen table p.stage)) (option_map (contents table) made) w)
       (resumes script next (map (frame_seen script table) frames.below.items) (λ how. ret how)))
 
   value_so : (w : Contents) → contents table v ≡ w → with_value w ≡ resuming script frames eval made p v table next

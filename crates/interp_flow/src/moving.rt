@@ -38,7 +38,7 @@ pub(crate) fn open_stmt<'a>(
         line: stmt.pos.line,
         ..frames.spot
     };
-    let now = opened(alloc, stmt.pos, &stmt.form, spot)?;
+    let now = opened(alloc, stmt, spot)?;
     frames.push(Waits::Stmt(stmt.no, rest), spot, now)
 }
 
@@ -72,7 +72,7 @@ pub(crate) fn end_part<'a>(
     end: End,
 ) -> Result<(), Memory>
     ensures means { OnOk result ((script : ScriptTree) (next : Task → Act) (table : ValuesView)
-        → to (suite_ended script next (task script next) (here_seen script table frames.old.spot) part.entry.at (form_of part.entry.form.now) (stage_seen table part.entry.stage) (end_seen table end))
+        → to (suite_ended script next (task script next) (here_seen script table frames.old.spot) part.entry.stmt.now.pos (form_of part.entry.stmt.now.form.value) (stage_seen table part.entry.stage) (end_seen table end))
         (resumes script next (map (frame_seen script table) frames.old.below.items) (λ how. ret how)) ≡ meant script frames.new table next) }
     ensures held { OnOk result ((table : ValuesView) → IsHeldFlow table frames.old → IsHeldStage table part.entry.stage → IsHeldEnd table end → IsHeldFlow table frames.new) }
 {

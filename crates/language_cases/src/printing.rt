@@ -457,7 +457,7 @@ fn show_stmt(
         stmt.no, stmt.pos.line, stmt.pos.col, stmt.span.from, stmt.span.to
     )?;
     show_line(out, depth, head.as_str())?;
-    show_form(alloc, out, style, depth, &stmt.form)
+    show_form(alloc, out, style, depth, &*stmt.form)
 }
 
 #[cycle(show_suite)]

@@ -110,7 +110,7 @@ fn suite_binds(suite: &Suite, name: &str) -> bool
 fn stmt_binds(stmt: &Stmt, name: &str) -> bool
     ensures { result ≡ stmt_binds (stmt_of stmt.now) name.now }
 {
-    form_binds(&stmt.form, name) || inner_binds(&stmt.form, name)
+    form_binds(&*stmt.form, name) || inner_binds(&*stmt.form, name)
 }
 
 /// Whether a statement in the suites of this form binds the name. A `def` and a `class` have names of their own.
@@ -198,7 +198,7 @@ fn local_in(suite: &Suite, number: u32, name: &str) -> Option<bool>
 fn local_by(stmt: &Stmt, number: u32, name: &str) -> Option<bool>
     ensures { result ≡ local_by number name.now (stmt_of stmt.now) }
 {
-    local_at(stmt.no, &stmt.form, number, name)
+    local_at(stmt.no, &*stmt.form, number, name)
 }
 
 /// The same of the form of a statement with its own number.

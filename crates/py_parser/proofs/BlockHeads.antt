@@ -1,5 +1,5 @@
 -- The statements of a suite grow by what a line begins.
-use Rattle.std.proofs.Common.{◌≡◌, ℕ, true, false, not, ◌&&◌, List, [], ◌∷◌, ◌++◌, map, Option, Some, None, option_map, refl, ap, sym, ◌∙◌}
+use Rattle.std.proofs.Common.{◌≡◌, ℕ, true, false, not, ◌&&◌, List, [], ◌∷◌, ◌++◌, map, Option, Some, None, option_map, Box, Global, refl, ap, sym, ◌∙◌}
 use Rattle.std.specs.Prelude.{slice_get}
 use Rattle.std.proofs.lemmas.Bool.{false≢true}
 use Rattle.std.proofs.lemmas.Option.{same_Some}
@@ -38,16 +38,18 @@ begun_none [] n to f is = refl
 begun_none (u ∷ us) n to f is = cc
 
 -- the place and the first byte of these tokens' first
-pub stmt_first : (n : ℕ) (from : Pos × ℕ) (to : ℕ) (form : Form) (ts us : List Token) (t : Token) → from ≡ (t.at, t.span.from) → Some t ≡ slice_get us 0 → us ≡ ts
-    → stmt_of (roll-Stmt (record { no = n; pos = from.0; span = record { from = from.1; to = to }; form = form })) ≡ begun n ts to (form_of form)
-stmt_first n from to form ts us t from_is first same =
-    stmt_tree _ ∙ ap (λ (p : Pos × ℕ). one_stmt n p.0 (record { from = p.1; to = to }) (form_of form)) from_is
+pub stmt_first : (n : ℕ) (from : Pos × ℕ) (to : ℕ) (boxed : Box Form Global) (form : Form) (ts us : List Token) (t : Token) → boxed.value ≡ form → from ≡ (t.at, t.span.from) → Some t ≡ slice_get us 0 → us ≡ ts
+    → stmt_of (roll-Stmt (record { no = n; pos = from.0; span = record { from = from.1; to = to }; form = boxed })) ≡ begun n ts to (form_of form)
+stmt_first n from to boxed form ts us t boxed_is from_is first same =
+    stmt_tree _ ∙ ap (λ f. one_stmt n from.0 (record { from = from.1; to = to }) (form_of f)) boxed_is
+    ∙ ap (λ (p : Pos × ℕ). one_stmt n p.0 (record { from = p.1; to = to }) (form_of form)) from_is
     ∙ begun_first ts t n to (form_of form) (first ∙ ap (λ (l : List Token). slice_get l 0) same)
 
-pub stmt_none : (n : ℕ) (from : Pos × ℕ) (to : ℕ) (form : Form) (ts us : List Token) → from ≡ (record { line = 0; col = 0 }, 0) → None ≡ slice_get us 0 → us ≡ ts
-    → stmt_of (roll-Stmt (record { no = n; pos = from.0; span = record { from = from.1; to = to }; form = form })) ≡ begun n ts to (form_of form)
-stmt_none n from to form ts us from_is first same =
-    stmt_tree _ ∙ ap (λ (p : Pos × ℕ). one_stmt n p.0 (record { from = p.1; to = to }) (form_of form)) from_is
+pub stmt_none : (n : ℕ) (from : Pos × ℕ) (to : ℕ) (boxed : Box Form Global) (form : Form) (ts us : List Token) → boxed.value ≡ form → from ≡ (record { line = 0; col = 0 }, 0) → None ≡ slice_get us 0 → us ≡ ts
+    → stmt_of (roll-Stmt (record { no = n; pos = from.0; span = record { from = from.1; to = to }; form = boxed })) ≡ begun n ts to (form_of form)
+stmt_none n from to boxed form ts us boxed_is from_is first same =
+    stmt_tree _ ∙ ap (λ f. one_stmt n from.0 (record { from = from.1; to = to }) (form_of f)) boxed_is
+    ∙ ap (λ (p : Pos × ℕ). one_stmt n p.0 (record { from = p.1; to = to }) (form_of form)) from_is
     ∙ begun_none ts n to (form_of form) (first ∙ ap (λ (l : List Token). slice_get l 0) same)
 
 begun_there : (ts : List Token) (at : Pos) (from n to : ℕ) (f : FormTree) → begins_at ts at from → one_stmt n at (record { from = from; to = to }) f ≡ begun n ts to f
@@ -55,16 +57,18 @@ begun_there [] at from n to f is = absurd is
 begun_there (u ∷ us) at from n to f is = ap (λ p. one_stmt n p (record { from = from; to = to }) f) is.0 ∙ ap (λ i. one_stmt n u.at (record { from = i; to = to }) f) is.1
 
 -- the suite of a line that has a statement behind its `:`
-pub suite_of_one : (n to : ℕ) (b : Behind) (s : Simple) (old new : List Stmt) → old ≡ [] → new ≡ old ++ roll-Stmt (record { no = n; pos = b.at; span = record { from = b.from; to = to }; form = b.form }) ∷ [] → IsThere b s
+pub suite_of_one : (n to : ℕ) (b : Behind) (boxed : Box Form Global) (s : Simple) (old new : List Stmt) → boxed.value ≡ b.form → old ≡ [] → new ≡ old ++ roll-Stmt (record { no = n; pos = b.at; span = record { from = b.from; to = to }; form = boxed }) ∷ [] → IsThere b s
     → suite_list (map stmt_of new) ≡ more_suite (begun n (simple_tokens s) to (simple_form s)) end_suite
-suite_of_one n to b s old new empty new_is is =
-    let one : stmt_of (roll-Stmt (record { no = n; pos = b.at; span = record { from = b.from; to = to }; form = b.form })) ≡ begun n (simple_tokens s) to (simple_form s) =
-    stmt_tree _ ∙ ap (one_stmt n b.at (record { from = b.from; to = to })) is.form_is ∙ begun_there (simple_tokens s) b.at b.from n to (simple_form s) is.begins in
-    ap (λ l. suite_list (map stmt_of l)) (new_is ∙ ap (λ l. l ++ roll-Stmt (record { no = n; pos = b.at; span = record { from = b.from; to = to }; form = b.form }) ∷ []) empty) ∙ ap (λ s. more_suite s end_suite) one
+suite_of_one n to b boxed s old new boxed_is empty new_is is =
+    let one : stmt_of (roll-Stmt (record { no = n; pos = b.at; span = record { from = b.from; to = to }; form = boxed })) ≡ begun n (simple_tokens s) to (simple_form s) =
+    stmt_tree _ ∙ ap (λ f. one_stmt n b.at (record { from = b.from; to = to }) (form_of f)) boxed_is ∙ ap (one_stmt n b.at (record { from = b.from; to = to })) is.form_is ∙ begun_there (simple_tokens s) b.at b.from n to (simple_form s) is.begins in
+    ap (λ l. suite_list (map stmt_of l)) (new_is ∙ ap (λ l. l ++ roll-Stmt (record { no = n; pos = b.at; span = record { from = b.from; to = to }; form = boxed }) ∷ []) empty) ∙ ap (λ s. more_suite s end_suite) one
 
-pub stmt_longer : (s : Stmt) (f : Form) (g : FormTree → FormTree) (to : ℕ) → form_of f ≡ g (form_of s.form)
-    → stmt_of (roll-Stmt (record { no = s.no; pos = s.pos; span = record { from = s.span.from; to = to }; form = f })) ≡ longer g to (stmt_of s)
-stmt_longer s f g to is = stmt_tree _ ∙ ap (one_stmt s.no s.pos (record { from = s.span.from; to = to })) is ∙ ap (longer g to) (sym (stmt_tree s))
+pub stmt_longer : (s : Stmt) (boxed : Box Form Global) (f : Form) (g : FormTree → FormTree) (to : ℕ) → boxed.value ≡ f → form_of f ≡ g (form_of s.form.value)
+    → stmt_of (roll-Stmt (record { no = s.no; pos = s.pos; span = record { from = s.span.from; to = to }; form = boxed })) ≡ longer g to (stmt_of s)
+stmt_longer s boxed f g to boxed_is is =
+    stmt_tree _ ∙ ap (λ f. one_stmt s.no s.pos (record { from = s.span.from; to = to }) (form_of f)) boxed_is
+    ∙ ap (one_stmt s.no s.pos (record { from = s.span.from; to = to })) is ∙ ap (longer g to) (sym (stmt_tree s))
 
 -- ---- what a line begins
 

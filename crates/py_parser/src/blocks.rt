@@ -463,34 +463,35 @@ fn grown(
         let Some(stmt) = list.pop() else {
             return Ok(list);
         };
-        list.push(with_part(stmt, what, under)?)?;
+        list.push(with_part(alloc, stmt, what, under)?)?;
         return Ok(list);
     }
     let to = under.to;
     let form = form_of(alloc, what, under)?;
-    list.push(statement(line, no, to, form))?;
+    list.push(statement(alloc, line, no, to, form)?)?;
     Ok(list)
 }
 
 /// A statement that begins with a line and ends here.
-fn statement(line: &Line, no: u32, to: u32, form: Form) -> Stmt
-    ensures { stmt_of result ≡ begun no line.now.tokens to (form_tree form) }
+fn statement(alloc: Global, line: &Line, no: u32, to: u32, form: Form) -> Result<Stmt, AllocError>
+    ensures { IfOk result (λ stmt. stmt_of stmt ≡ begun no line.now.tokens to (form_tree form)) }
 {
+    let form = Box::new(alloc, form)?;
     let (pos, from) = match line.tokens.as_slice().first() {
         Some(first) => (first.at, first.span.from),
         None => (Pos { line: 0, col: 0 }, 0),
     };
     let span = Span { from, to };
-    Stmt {
+    Ok(Stmt {
         no,
         pos,
         span,
         form,
-    }
+    })
 }
 
 /// A statement with one part more: an `elif`, an `else` or a handler.
-fn with_part(stmt: Stmt, what: What, under: Built) -> Result<Stmt, AllocError>
+fn with_part(alloc: Global, stmt: Stmt, what: What, under: Built) -> Result<Stmt, AllocError>
     ensures { (h : Head) → IsWhat what h → IfOk result (λ more. stmt_of more ≡ longer (with_part_tree h (suite_list (trees_of under))) under.to (stmt_of stmt)) }
 {
     let Stmt {
@@ -504,7 +505,8 @@ fn with_part(stmt: Stmt, what: What, under: Built) -> Result<Stmt, AllocError>
         from: span.from,
         to,
     };
-    let form = form_with_part(form, what, Suite { list })?;
+    let changed = form_with_part(Box::into_inner(form), what, Suite { list })?;
+    let form = Box::new(alloc, changed)?;
     Ok(Stmt {
         no,
         pos,
@@ -614,12 +616,13 @@ fn one_line(alloc: Global, no: u32, behind: Behind, to: u32) -> Result<Built, Al
         from: behind.from,
         to,
     };
+    let form = Box::new(alloc, behind.form)?;
     let mut list = Vec::new(alloc);
     list.push(Stmt {
         no,
         pos: behind.at,
         span,
-        form: behind.form,
+        form,
     })?;
     Ok(Built {
         list,

@@ -143,9 +143,10 @@ try_kept keep f body body' handlers handlers' n k m is on on2 =
     (record { result_is = cc (try_tree body' handlers'); to_is = omega (arith, on.to_is, on2.to_is) })
 
 -- a statement, where its form is
-pub stmt_added : (keep : ℕ → Bool) (s r : Stmt) (n k m own : ℕ) (form : Form) → own ≡ n → k ≡ n + 1 → stmt_of r ≡ one_stmt own s.pos s.span (form_of form)
-    → IsNumberedOn numbered_form size_form k m (kept_form keep (form_of s.form)) (form_of form) → IsNumberedOn numbered_stmt size_stmt n m (kept_stmt keep (stmt_of s)) (stmt_of r)
-stmt_added keep s r n k m own form number next is on =
+pub stmt_added : (keep : ℕ → Bool) (s r : Stmt) (n k m own : ℕ) (f form : Form) → own ≡ n → k ≡ n + 1 → f ≡ s.form.value → stmt_of r ≡ one_stmt own s.pos s.span (form_of form)
+    → IsNumberedOn numbered_form size_form k m (kept_form keep (form_of f)) (form_of form) → IsNumberedOn numbered_stmt size_stmt n m (kept_stmt keep (stmt_of s)) (stmt_of r)
+stmt_added keep s r n k m own f form number next same is before =
+    let on = subst (λ f. IsNumberedOn numbered_form size_form k m (kept_form keep (form_of f)) (form_of form)) same before in
     subst (λ t. IsNumberedOn numbered_stmt size_stmt n m (kept_stmt keep t) (stmt_of r)) (sym (stmt_tree s))
     (record { result_is = cc; to_is = omega (arith, on.to_is) })
 

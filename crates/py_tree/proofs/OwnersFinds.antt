@@ -42,7 +42,7 @@ stmt_length : (around : Around) (stmt : StmtTree) → length (listed_form (withi
 stmt_length around (one_stmt k at span form) = omega arith
 
 -- below the statement that the way goes through, where that is not the one
-below : (s : ℕ) (around : Around) (row : SuiteTree) (wanted : Option Standing) (stmt : Stmt) → Looks s around row wanted → Some (stmt_of stmt) ≡ last_by s row → (stmt.no ≡ s → ⊥) → in_body s (within (stmt_of stmt) around) (suite_by s (form_of stmt.form)) ≡ wanted
+below : (s : ℕ) (around : Around) (row : SuiteTree) (wanted : Option Standing) (stmt : Stmt) → Looks s around row wanted → Some (stmt_of stmt) ≡ last_by s row → (stmt.no ≡ s → ⊥) → in_body s (within (stmt_of stmt) around) (suite_by s (form_of stmt.form.value)) ≡ wanted
 below s around row wanted stmt looks is other =
     let inside = within (stmt_of stmt) around in
     let rise : Rise 0 (listed_form inside (form_in (stmt_of stmt))) = stmt_rise 0 around (stmt_of stmt) (rise_within 0 (listed_stmt around (stmt_of stmt)) (listed_suite around row) (row_within s around row (stmt_of stmt) (sym is)) looks.rise) in
@@ -51,17 +51,17 @@ below s around row wanted stmt looks is other =
     ∙ sym (first_below s around (stmt_of stmt) (ne_eqb (number_of (stmt_of stmt)) s (λ same. other (sym (ap number_of (stmt_tree stmt)) ∙ same))))
     ∙ in_last s around row wanted (stmt_of stmt) looks is
 
-pub no_suite : (s : ℕ) (around : Around) (row : SuiteTree) (wanted : Option Standing) (stmt : Stmt) → Looks s around row wanted → Some (stmt_of stmt) ≡ last_by s row → (stmt.no ≡ s → ⊥) → None ≡ suite_by s (form_of stmt.form) → None ≡ wanted
+pub no_suite : (s : ℕ) (around : Around) (row : SuiteTree) (wanted : Option Standing) (stmt : Stmt) → Looks s around row wanted → Some (stmt_of stmt) ≡ last_by s row → (stmt.no ≡ s → ⊥) → None ≡ suite_by s (form_of stmt.form.value) → None ≡ wanted
 no_suite s around row wanted stmt looks is other none = ap (in_body s (within (stmt_of stmt) around)) none ∙ below s around row wanted stmt looks is other
 
 -- so do the numbers of the first statements of its suites
-pub suites_rise : (s : ℕ) (around : Around) (row : SuiteTree) (wanted : Option Standing) (stmt : Stmt) → Looks s around row wanted → Some (stmt_of stmt) ≡ last_by s row → RiseFrom 0 (first_numbers (form_suites (form_of stmt.form)))
+pub suites_rise : (s : ℕ) (around : Around) (row : SuiteTree) (wanted : Option Standing) (stmt : Stmt) → Looks s around row wanted → Some (stmt_of stmt) ≡ last_by s row → RiseFrom 0 (first_numbers (form_suites (form_of stmt.form.value)))
 suites_rise s around row wanted stmt looks is =
     subst (λ form. RiseFrom 0 (first_numbers (form_suites form))) (ap form_in (stmt_tree stmt))
     (form_rises 0 (within (stmt_of stmt) around) (form_in (stmt_of stmt)) (stmt_rise 0 around (stmt_of stmt) (rise_within 0 (listed_stmt around (stmt_of stmt)) (listed_suite around row) (row_within s around row (stmt_of stmt) (sym is)) looks.rise)))
 
 -- the suite that the way goes through stands within the statement
-suite_within : (s : ℕ) (around : Around) (stmt : Stmt) (body : SuiteTree) → Some body ≡ suite_by s (form_of stmt.form) → IsWithin (listed_suite (within (stmt_of stmt) around) body) (listed_form (within (stmt_of stmt) around) (form_in (stmt_of stmt)))
+suite_within : (s : ℕ) (around : Around) (stmt : Stmt) (body : SuiteTree) → Some body ≡ suite_by s (form_of stmt.form.value) → IsWithin (listed_suite (within (stmt_of stmt) around) body) (listed_form (within (stmt_of stmt) around) (form_in (stmt_of stmt)))
 suite_within s around stmt body is = form_within s (within (stmt_of stmt) around) (form_in (stmt_of stmt)) body (ap (suite_by s) (ap form_in (stmt_tree stmt)) ∙ sym is)
 
 -- one step down: as before, and fewer statements are left
@@ -69,7 +69,7 @@ pub record GoesDown (s : ℕ) (around inside : Around) (row body : SuiteTree) (w
   pub looks : Looks s inside body wanted
   pub shorter : length (listed_suite inside body) < length (listed_suite around row)
 
-pub step_down : (s : ℕ) (around inside : Around) (row : SuiteTree) (wanted : Option Standing) (stmt : Stmt) (body : SuiteTree) → Looks s around row wanted → Some (stmt_of stmt) ≡ last_by s row → (stmt.no ≡ s → ⊥) → inside ≡ within (stmt_of stmt) around → Some body ≡ suite_by s (form_of stmt.form) → GoesDown s around inside row body wanted
+pub step_down : (s : ℕ) (around inside : Around) (row : SuiteTree) (wanted : Option Standing) (stmt : Stmt) (body : SuiteTree) → Looks s around row wanted → Some (stmt_of stmt) ≡ last_by s row → (stmt.no ≡ s → ⊥) → inside ≡ within (stmt_of stmt) around → Some body ≡ suite_by s (form_of stmt.form.value) → GoesDown s around inside row body wanted
 step_down s around inside row wanted stmt body looks is other is_inside found =
     let at : Around = within (stmt_of stmt) around in
     let in_row : IsWithin (listed_stmt around (stmt_of stmt)) (listed_suite around row) = row_within s around row (stmt_of stmt) (sym is) in

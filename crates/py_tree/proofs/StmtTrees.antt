@@ -91,7 +91,7 @@ unfolding form_of branches_of suite_of
 if_tree branches None = ap form_of (sym (rolls-If branches None)) ∙ fold-roll-Form FormTree BranchesTree HandlersTree StmtTree SuiteTree form_step branches_step handlers_step stmt_step suite_step (If-F branches None)
 if_tree branches (Some body) = ap form_of (sym (rolls-If branches (Some body))) ∙ fold-roll-Form FormTree BranchesTree HandlersTree StmtTree SuiteTree form_step branches_step handlers_step stmt_step suite_step (If-F branches (Some body))
 
-pub stmt_tree : (s : Stmt) → stmt_of s ≡ one_stmt s.no s.pos s.span (form_of s.form)
+pub stmt_tree : (s : Stmt) → stmt_of s ≡ one_stmt s.no s.pos s.span (form_of s.form.value)
 unfolding form_of stmt_of
 stmt_tree s = fold_out-Stmt FormTree BranchesTree HandlersTree StmtTree SuiteTree form_step branches_step handlers_step stmt_step suite_step s
 

@@ -127,7 +127,7 @@ abbrev pub handlers_step : Handlers-F FormTree BranchesTree HandlersTree StmtTre
 handlers_step hs = handlers_list hs.list.items
 
 abbrev pub stmt_step : Stmt-F FormTree BranchesTree HandlersTree StmtTree SuiteTree → StmtTree
-stmt_step s = one_stmt s.no s.pos s.span s.form
+stmt_step s = one_stmt s.no s.pos s.span s.form.value
 
 abbrev pub suite_step : Suite-F FormTree BranchesTree HandlersTree StmtTree SuiteTree → SuiteTree
 suite_step s = suite_list s.list.items

@@ -38,8 +38,8 @@ fn keep_suite(suite: &Suite, alloc: Global, keep: &StmtSet, next: &mut u32) -> R
             continue;
         }
         let no = take_number(next)?;
-        let form = keep_form(&stmt.form, alloc, keep, next)?;
-        add_stmt(&mut list, stmt, no, form)?;
+        let form = keep_form(&*stmt.form, alloc, keep, next)?;
+        add_stmt(&mut list, alloc, stmt, no, form)?;
     }
     Ok(Suite { list })
 }
@@ -51,9 +51,16 @@ fn is_kept(keep: &StmtSet, no: u32) -> bool
 }
 
 // Puts a statement with this number and form behind the list, at the place and with the span of the other.
-fn add_stmt(list: &mut Vec<Stmt>, stmt: &Stmt, no: u32, form: Form) -> Result<(), Memory>
+fn add_stmt(
+    list: &mut Vec<Stmt>,
+    alloc: Global,
+    stmt: &Stmt,
+    no: u32,
+    form: Form,
+) -> Result<(), Memory>
     ensures { IfOk result (λ _. IsAdded list.old.items list.new.items (one_stmt no stmt.now.pos stmt.now.span (form_of form))) }
 {
+    let form = Box::new(alloc, form)?;
     list.push(Stmt {
         no,
         pos: stmt.pos,
@@ -103,7 +110,7 @@ fn pass_alone(suite: &Suite, alloc: Global, next: &mut u32) -> Result<Suite, Mem
         return Ok(Suite { list });
     };
     let no = take_number(next)?;
-    add_stmt(&mut list, first, no, Form::Pass)?;
+    add_stmt(&mut list, alloc, first, no, Form::Pass)?;
     Ok(Suite { list })
 }
 

@@ -52,7 +52,7 @@ pub struct Stmt {
     pub no: u32,
     pub pos: Pos,
     pub span: Span,
-    pub form: Form,
+    pub form: Box<Form>,
 }
 
 /// What a statement is: `stmt = simple NEWLINE | if | while | for | try | with | def | class`.

@@ -4,6 +4,7 @@ use Rattle.std.proofs.lemmas.Bool.{false≢true}
 use Rattle.std.proofs.lemmas.List.{drop_all, append-nil, append_assoc}
 use Rattle.py_tree.specs.declared.expr.Expr.{Expr}
 use Rattle.py_tree.specs.declared.stmt.Bound.{Bound}
+use Rattle.py_tree.specs.declared.stmt.Form.{Form}
 use Rattle.py_tree.specs.declared.stmt.Stmt.{Stmt}
 use Rattle.py_tree.specs.declared.stmt.Suite.{Suite}
 use Rattle.py_tree.specs.Tree.{number_of}
@@ -68,11 +69,11 @@ handler_passed keep left rest h done more whole at put is =
 
 -- ---- a statement
 
-pub stays_gaps : (keep : ℕ → Bool) (filled : Bool) (s : Stmt) (done more : List Gap) → true ≡ keep s.no → more ≡ done ++ form_gaps keep (form_of s.form) → more ≡ done ++ stmt_gaps keep filled (stmt_of s)
-stays_gaps keep filled s done more stays is =
-    is ∙ ap (λ (gaps : List Gap). done ++ gaps) (sym (ap (stmt_gaps keep filled) (stmt_tree s) ∙ chosen (keep s.no) (sym stays)))
+pub stays_gaps : (keep : ℕ → Bool) (filled : Bool) (s : Stmt) (f : Form) (done more : List Gap) → true ≡ keep s.no → f ≡ s.form.value → more ≡ done ++ form_gaps keep (form_of f) → more ≡ done ++ stmt_gaps keep filled (stmt_of s)
+stays_gaps keep filled s f done more stays same is =
+    is ∙ ap (λ (f : Form). done ++ form_gaps keep (form_of f)) same ∙ ap (λ (gaps : List Gap). done ++ gaps) (sym (ap (stmt_gaps keep filled) (stmt_tree s) ∙ chosen (keep s.no) (sym stays)))
   where
-    chosen : (b : Bool) → b ≡ true → (if b then form_gaps keep (form_of s.form) else record { span = s.span; filled = filled } ∷ []) ≡ form_gaps keep (form_of s.form)
+    chosen : (b : Bool) → b ≡ true → (if b then form_gaps keep (form_of s.form.value) else record { span = s.span; filled = filled } ∷ []) ≡ form_gaps keep (form_of s.form.value)
     chosen true is = refl
     chosen false is = absurd (false≢true is)
 
@@ -80,6 +81,6 @@ pub goes_gaps : (keep : ℕ → Bool) (filled : Bool) (s : Stmt) (done more : Li
 goes_gaps keep filled s done more goes is =
     is ∙ ap (λ (gaps : List Gap). done ++ gaps) (sym (ap (stmt_gaps keep filled) (stmt_tree s) ∙ chosen (keep s.no) (sym goes)))
   where
-    chosen : (b : Bool) → b ≡ false → (if b then form_gaps keep (form_of s.form) else record { span = s.span; filled = filled } ∷ []) ≡ record { span = s.span; filled = filled } ∷ []
+    chosen : (b : Bool) → b ≡ false → (if b then form_gaps keep (form_of s.form.value) else record { span = s.span; filled = filled } ∷ []) ≡ record { span = s.span; filled = filled } ∷ []
     chosen false is = refl
     chosen true is = absurd (false≢true (sym is))

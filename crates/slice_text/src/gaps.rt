@@ -100,7 +100,7 @@ fn add_stmt(stmt: &Stmt, keep: &StmtSet, filled: bool, gaps: &mut Gaps) -> Resul
     ensures { OnOk result (gaps.new ≡ gaps.old ++ stmt_gaps (has keep.now) filled (stmt_of stmt.now)) }
 {
     if is_kept(keep, stmt.no) {
-        add_form(&stmt.form, keep, gaps)?;
+        add_form(&*stmt.form, keep, gaps)?;
         Ok(())
     } else {
         gaps.push(Gap {

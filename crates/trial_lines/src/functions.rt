@@ -78,7 +78,7 @@ pub fn push_functions(
 fn push_stmt(out: &mut Vec<u8>, alloc: Global, stmt: &Stmt, rows: &[Row]) -> Result<(), Memory>
     ensures { OnOk result (out.new.items ≡ out.old.items ++ lines_of rows.now (stmt_of stmt.now)) }
 {
-    push_form(out, alloc, stmt.pos, &stmt.form, rows)
+    push_form(out, alloc, stmt.pos, &*stmt.form, rows)
 }
 
 /// The same of the form of a statement at a place.

@@ -12,7 +12,7 @@ use Rattle.flow_changes.proofs.changing.loaded.Goals as goal
 
 pub returns-clause-means : goal.returns-clause-means
 returns-clause-means c = if_more c.start.result _ _ (λ now means. λ script next here table.
-    starts_as script next here (now_act script next here (now_seen table now)) (eval script next here (expr_of c.in-Some.change.right.now)) (loaded_act script next here (change_in (form_of c.args.part.form.now)) (contents table c.args.owner) (contents table c.args.index) (contents table c.args.standing)) (part_seen table c.to-sided.result) c.args.part.at (form_of c.args.part.form.now) (sided (contents table c.args.owner) (contents table c.args.index) (contents table c.args.standing))
+    starts_as script next here (now_act script next here (now_seen table now)) (eval script next here (expr_of c.in-Some.change.right.now)) (loaded_act script next here (change_in (form_of c.args.part.stmt.now.form.value)) (contents table c.args.owner) (contents table c.args.index) (contents table c.args.standing)) (part_seen table c.to-sided.result) c.args.part.stmt.now.pos (form_of c.args.part.stmt.now.form.value) (sided (contents table c.args.owner) (contents table c.args.index) (contents table c.args.standing))
     (ap (part_seen table) c.to-sided.ensures)
-    (rights_so script next here c.args.part.at (form_of c.args.part.form.now) c.in-Some.change.sign c.in-Some.change.place (expr_of c.in-Some.change.right.now) (target_of c.in-Some.change.target.now) (contents table c.args.owner) (contents table c.args.index) (contents table c.args.standing) (sym c.change_in.ensures ∙ ap (option_map change_seen) c.in-Some.is))
+    (rights_so script next here c.args.part.stmt.now.pos (form_of c.args.part.stmt.now.form.value) c.in-Some.change.sign c.in-Some.change.place (expr_of c.in-Some.change.right.now) (target_of c.in-Some.change.target.now) (contents table c.args.owner) (contents table c.args.index) (contents table c.args.standing) (sym c.change_in.ensures ∙ ap (option_map change_seen) c.in-Some.is))
     (means script next here table)) c.start.ensures.means

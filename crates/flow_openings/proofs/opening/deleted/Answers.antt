@@ -10,7 +10,7 @@ use Rattle.flow_openings.proofs.opening.deleted.Goals as goal
 
 pub returns-in-Part-clause-means : goal.returns-in-Part-clause-means
 returns-in-Part-clause-means c = if_more c.start.result _ _ (λ now means. λ script next here table.
-    starts_as script next here (now_act script next here (now_seen table now)) (eval script next here (expr_of c.in-Part.e)) (deleting script next here c.args.part.at (form_of c.args.part.form.now) (target_of c.args.target.now))
-    (part_seen table c.to-in-Part.result) c.args.part.at (form_of c.args.part.form.now) owner (ap (part_seen table) c.to-in-Part.ensures)
-    (sym (ap (deleting script next here c.args.part.at (form_of c.args.part.form.now)) (ap target_of c.in-Part.is ∙ part_target_tree c.in-Part.field-0 c.in-Part.e c.in-Part.field-2)))
+    starts_as script next here (now_act script next here (now_seen table now)) (eval script next here (expr_of c.in-Part.e)) (deleting script next here c.args.part.stmt.now.pos (form_of c.args.part.stmt.now.form.value) (target_of c.args.target.now))
+    (part_seen table c.to-in-Part.result) c.args.part.stmt.now.pos (form_of c.args.part.stmt.now.form.value) owner (ap (part_seen table) c.to-in-Part.ensures)
+    (sym (ap (deleting script next here c.args.part.stmt.now.pos (form_of c.args.part.stmt.now.form.value)) (ap target_of c.in-Part.is ∙ part_target_tree c.in-Part.field-0 c.in-Part.e c.in-Part.field-2)))
     (means script next here table)) c.start.ensures.means

@@ -1,4 +1,5 @@
-use Rattle.std.proofs.Common.{[], None, refl, ap, ◌∙◌}
+use Rattle.std.proofs.Common.{[], None, refl, ap, ◌∙◌, sym}
+use Rattle.py_tree.specs.declared.stmt.Form.{Form}
 use Rattle.std.specs.Option.{option_map}
 use Rattle.py_tree.specs.Erasure.{expr_of, form_of, suite_of, target_of}
 use Rattle.py_tree.specs.Tree.{assert_form, class_form}
@@ -16,24 +17,24 @@ use Rattle.flow_openings.proofs.opening.plainly.Goals as goal
 pub returns-in-Del-clause-means : goal.returns-in-Del-clause-means
 returns-in-Del-clause-means c = if_more c.deleted.result _ _ (λ now means. λ script next here table stands.
     means script next here table
-    ∙ deletes_so script next here c.args.at (form_of c.args.form.now) (target_of c.in-Del.target) (ap form_of c.in-Del.is ∙ del_tree c.in-Del.target)) c.deleted.ensures.means
+    ∙ deletes_so script next here c.args.stmt.now.pos (form_of c.args.stmt.now.form.value) (target_of c.in-Del.target) (ap form_of (sym {A = Form} c.deref.ensures ∙ c.in-Del.is) ∙ del_tree c.in-Del.target)) c.deleted.ensures.means
 
 pub returns-in-Assert-clause-means : goal.returns-in-Assert-clause-means
 returns-in-Assert-clause-means c = if_more c.start.result _ _ (λ now means. λ script next here table stands.
-    follows_as script next here (now_act script next here (now_seen table now)) (eval script next here (expr_of c.in-Assert.test)) (plain_rule script next here c.args.at)
-    (part_seen table c.to.result) c.args.at (form_of c.args.form.now) (assert_form (expr_of c.in-Assert.test) (option_map expr_of c.in-Assert.field-1)) (tested 0)
-    (ap (part_seen table) c.to.ensures) (ap form_of c.in-Assert.is ∙ assert_tree c.in-Assert.test c.in-Assert.field-1) refl (means script next here table)) c.start.ensures.means
+    follows_as script next here (now_act script next here (now_seen table now)) (eval script next here (expr_of c.in-Assert.test)) (plain_rule script next here c.args.stmt.now.pos)
+    (part_seen table c.to.result) c.args.stmt.now.pos (form_of c.args.stmt.now.form.value) (assert_form (expr_of c.in-Assert.test) (option_map expr_of c.in-Assert.field-1)) (tested 0)
+    (ap (part_seen table) c.to.ensures) (ap form_of (sym {A = Form} c.deref.ensures ∙ c.in-Assert.is) ∙ assert_tree c.in-Assert.test c.in-Assert.field-1) refl (means script next here table)) c.start.ensures.means
 
 pub returns-in-None-base-clause-means : goal.returns-in-None-base-clause-means
 returns-in-None-base-clause-means c = if_more c.on_none-in-None-base.result _ _ (λ now means. λ script next here table stands.
-    follows_as script next here (now_act script next here (now_seen table now)) (doing here c.args.at (flow_op here 43 (a_name c.in-Class.name) (class c.args.at)) []) (plain_rule script next here c.args.at)
-    (part_seen table c.to-in-None-base.result) c.args.at (form_of c.args.form.now) (class_form c.in-Class.name None (suite_of c.in-Class.field-2)) entered
+    follows_as script next here (now_act script next here (now_seen table now)) (doing here c.args.stmt.now.pos (flow_op here 43 (a_name c.in-Class.name) (class c.args.stmt.now.pos)) []) (plain_rule script next here c.args.stmt.now.pos)
+    (part_seen table c.to-in-None-base.result) c.args.stmt.now.pos (form_of c.args.stmt.now.form.value) (class_form c.in-Class.name None (suite_of c.in-Class.field-2)) entered
     (ap (part_seen table) c.to-in-None-base.ensures)
-    (ap form_of c.in-Class.is ∙ class_tree c.in-Class.name c.in-Class.base c.in-Class.field-2 ∙ ap (λ b. class_form c.in-Class.name (option_map expr_of b) (suite_of c.in-Class.field-2)) c.in-None-base.is)
+    (ap form_of (sym {A = Form} c.deref.ensures ∙ c.in-Class.is) ∙ class_tree c.in-Class.name c.in-Class.base c.in-Class.field-2 ∙ ap (λ b. class_form c.in-Class.name (option_map expr_of b) (suite_of c.in-Class.field-2)) c.in-None-base.is)
     refl (means script next here table)) c.on_none-in-None-base.ensures.means
 
 pub returns-in-Aug-clause-means : goal.returns-in-Aug-clause-means
 returns-in-Aug-clause-means c = if_more c.augmented.result _ _ (λ now means. λ script next here table stands.
     means script next here table
-    ∙ changes_so script next here c.args.at (form_of c.args.form.now) (target_of c.in-Aug.field-0) c.in-Aug.field-1 c.in-Aug.field-2 (expr_of c.in-Aug.field-3)
-    (ap form_of c.in-Aug.is ∙ aug_tree c.in-Aug.field-0 c.in-Aug.field-1 c.in-Aug.field-2 c.in-Aug.field-3)) c.augmented.ensures.means
+    ∙ changes_so script next here c.args.stmt.now.pos (form_of c.args.stmt.now.form.value) (target_of c.in-Aug.field-0) c.in-Aug.field-1 c.in-Aug.field-2 (expr_of c.in-Aug.field-3)
+    (ap form_of (sym {A = Form} c.deref.ensures ∙ c.in-Aug.is) ∙ aug_tree c.in-Aug.field-0 c.in-Aug.field-1 c.in-Aug.field-2 c.in-Aug.field-3)) c.augmented.ensures.means

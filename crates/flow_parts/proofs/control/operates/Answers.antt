@@ -7,4 +7,4 @@ use Rattle.flow_parts.proofs.control.operates.Goals as goal
 
 pub returns-clause-means : goal.returns-clause-means
 returns-clause-means c = λ script next here table.
-    ap (λ (g : Giving). work_act script next here (work_seen table g.work) (then_act script next here g.part.at (form_of g.part.form.now) (stage_seen table g.part.stage))) c.in_ok-new.ensures.ok
+    ap (λ (g : Giving). work_act script next here (work_seen table g.work) (then_act script next here g.part.stmt.now.pos (form_of g.part.stmt.now.form.value) (stage_seen table g.part.stage))) c.in_ok-new.ensures.ok

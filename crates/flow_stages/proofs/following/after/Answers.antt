@@ -13,4 +13,4 @@ returns-in-Stored-clause-held c = λ table stage v. c.reached.ensures.held table
 pub returns-in-Item-clause-means : goal.returns-in-Item-clause-means
 returns-in-Item-clause-means c = if_more c.stored.result _ _ (λ now means. λ script next here table.
     means script next here table
-    ∙ sym (ap (λ stage. then_act script next here c.args.part.at (form_of c.args.part.form.now) (stage_seen table stage) (contents table c.args.value)) c.in-Item.is)) c.stored.ensures.means
+    ∙ sym (ap (λ stage. then_act script next here c.args.part.stmt.now.pos (form_of c.args.part.stmt.now.form.value) (stage_seen table stage) (contents table c.args.value)) c.in-Item.is)) c.stored.ensures.means

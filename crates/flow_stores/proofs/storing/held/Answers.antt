@@ -12,7 +12,7 @@ use Rattle.flow_stores.proofs.storing.held.Goals as goal
 
 pub returns-in-Part-clause-means : goal.returns-in-Part-clause-means
 returns-in-Part-clause-means c = if_more c.start.result _ _ (λ now means. λ script next here table.
-    starts_as script next here (now_act script next here (now_seen table now)) (eval script next here (expr_of c.in-Part.index)) (holder_act script next here c.args.part.at (form_of c.args.part.form.now) (goal_seen table c.args.goal) (goal_target (goal_seen table c.args.goal) (form_of c.args.part.form.now)) (contents table c.args.value) (contents table c.args.owner)) (part_seen table c.to-part.result) c.args.part.at (form_of c.args.part.form.now) (at_index (goal_seen table c.args.goal) (contents table c.args.value) (contents table c.args.owner))
+    starts_as script next here (now_act script next here (now_seen table now)) (eval script next here (expr_of c.in-Part.index)) (holder_act script next here c.args.part.stmt.now.pos (form_of c.args.part.stmt.now.form.value) (goal_seen table c.args.goal) (goal_target (goal_seen table c.args.goal) (form_of c.args.part.stmt.now.form.value)) (contents table c.args.value) (contents table c.args.owner)) (part_seen table c.to-part.result) c.args.part.stmt.now.pos (form_of c.args.part.stmt.now.form.value) (at_index (goal_seen table c.args.goal) (contents table c.args.value) (contents table c.args.owner))
     (ap (part_seen table) c.to-part.ensures)
-    (part_held script next here c.args.part.at (form_of c.args.part.form.now) (goal_seen table c.args.goal) c.in-Part.field-0 (expr_of c.in-Part.field-1) (expr_of c.in-Part.index) (contents table c.args.value) (contents table c.args.owner) (sym (c.goal_target.ensures table) ∙ ap (option_map (λ t. target_of t.now)) c.in-Some.is ∙ ap Some (ap target_of c.in-Part.is ∙ part_target_tree c.in-Part.field-0 c.in-Part.field-1 c.in-Part.index)))
+    (part_held script next here c.args.part.stmt.now.pos (form_of c.args.part.stmt.now.form.value) (goal_seen table c.args.goal) c.in-Part.field-0 (expr_of c.in-Part.field-1) (expr_of c.in-Part.index) (contents table c.args.value) (contents table c.args.owner) (sym (c.goal_target.ensures table) ∙ ap (option_map (λ t. target_of t.now)) c.in-Some.is ∙ ap Some (ap target_of c.in-Part.is ∙ part_target_tree c.in-Part.field-0 c.in-Part.field-1 c.in-Part.index)))
     (means script next here table)) c.start.ensures.means

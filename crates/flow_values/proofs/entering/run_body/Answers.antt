@@ -16,7 +16,7 @@ use Rattle.flow_values.proofs.entering.run_body.Goals as goal
 pub returns-clause-means : goal.returns-clause-means
 returns-clause-means c = on_more c.push.result _ _ (λ means. λ script next table numbered.
     ap (λ a. to (to a (left_with script next (gives_back script next (here_seen script table c.args.frames.now.spot) (machine_seen table c.args.caller.value.eval)
-    (then_act script next (here_seen script table c.args.frames.now.spot) c.args.part.at (form_of c.args.part.form.now) (stage_seen table c.args.part.stage)) (option_map (contents table) c.args.caller.value.made))))
+    (then_act script next (here_seen script table c.args.frames.now.spot) c.args.part.stmt.now.pos (form_of c.args.part.stmt.now.form.value) (stage_seen table c.args.part.stage)) (option_map (contents table) c.args.caller.value.made))))
     (resumes script next (map (frame_seen script table) c.args.frames.now.below.items) (λ how. ret how)))
     (body_so script next table c.args.frames.now.spot (found_function c.args.found) c.args.activation c.args.found.number (c.args.frames.now.spot.open_activations + 1) (stmts_seen c.as_slice.result.now) (omega arith) numbered
     (ap stmts_seen c.as_slice.ensures.value ∙ sym (suite_tree c.args.found.body.now)))

@@ -13,7 +13,7 @@ use Rattle.flow_values.proofs.value.take.Goals as goal
 
 pub returns-in-Ok-clause-means : goal.returns-in-Ok-clause-means
 returns-in-Ok-clause-means c = λ script next table.
-    ap (λ (x : Answer). to (by_answer (here_seen script table c.args.frames.now.spot) (ret normal) (then_act script next (here_seen script table c.args.frames.now.spot) c.args.part.at (form_of c.args.part.form.now) (stage_seen table c.args.part.stage)) (answer_seen table x))
+    ap (λ (x : Answer). to (by_answer (here_seen script table c.args.frames.now.spot) (ret normal) (then_act script next (here_seen script table c.args.frames.now.spot) c.args.part.stmt.now.pos (form_of c.args.part.stmt.now.form.value) (stage_seen table c.args.part.stage)) (answer_seen table x))
     (resumes script next (map (frame_seen script table) c.args.frames.now.below.items) (λ how. ret how))) c.in-Value.is
     ∙ goes_on script next table c.args.frames.now (record c.args.frames.now { now = c.in-Ok.now }) _ (c.in-Ok.ensures.means script next (here_seen script table c.args.frames.now.spot) table) refl
 
@@ -23,7 +23,7 @@ returns-in-Ok-clause-held c = λ table old stage named.
 
 pub returns-in-Raised-clause-means : goal.returns-in-Raised-clause-means
 returns-in-Raised-clause-means c = λ script next table.
-    ap (λ (x : Answer). to (by_answer (here_seen script table c.args.frames.now.spot) (ret normal) (then_act script next (here_seen script table c.args.frames.now.spot) c.args.part.at (form_of c.args.part.form.now) (stage_seen table c.args.part.stage)) (answer_seen table x))
+    ap (λ (x : Answer). to (by_answer (here_seen script table c.args.frames.now.spot) (ret normal) (then_act script next (here_seen script table c.args.frames.now.spot) c.args.part.stmt.now.pos (form_of c.args.part.stmt.now.form.value) (stage_seen table c.args.part.stage)) (answer_seen table x))
     (resumes script next (map (frame_seen script table) c.args.frames.now.below.items) (λ how. ret how))) c.in-Raised.is
     ∙ goes_on script next table c.args.frames.now (record c.args.frames.now { now = Ended (Threw c.in-Raised.o c.args.frames.now.spot.line) }) _ refl refl
 
@@ -32,7 +32,7 @@ returns-in-Raised-clause-held c = λ table old stage named. record { spot = old.
 
 pub returns-in-End-clause-means : goal.returns-in-End-clause-means
 returns-in-End-clause-means c = λ script next table.
-    ap (λ (x : Answer). to (by_answer (here_seen script table c.args.frames.now.spot) (ret normal) (then_act script next (here_seen script table c.args.frames.now.spot) c.args.part.at (form_of c.args.part.form.now) (stage_seen table c.args.part.stage)) (answer_seen table x))
+    ap (λ (x : Answer). to (by_answer (here_seen script table c.args.frames.now.spot) (ret normal) (then_act script next (here_seen script table c.args.frames.now.spot) c.args.part.stmt.now.pos (form_of c.args.part.stmt.now.form.value) (stage_seen table c.args.part.stage)) (answer_seen table x))
     (resumes script next (map (frame_seen script table) c.args.frames.now.below.items) (λ how. ret how))) c.in-End.is
     ∙ goes_on script next table c.args.frames.now (record c.args.frames.now { now = Ended Normal }) _ refl refl
 

@@ -11,7 +11,7 @@ use Rattle.interp_flow.proofs.moving.open_stmt.Goals as goal
 
 pub returns-clause-means : goal.returns-clause-means
 returns-clause-means c = on_more c.push.result _ _ (λ means. λ script next table.
-    stmt_opened script next (here_seen script table c.args.frames.now.spot) c.args.stmt.now.no c.args.stmt.now.pos c.args.stmt.now.span (form_of c.args.stmt.now.form) (stmts_seen c.args.rest.now)
+    stmt_opened script next (here_seen script table c.args.frames.now.spot) c.args.stmt.now.no c.args.stmt.now.pos c.args.stmt.now.span (form_of c.args.stmt.now.form.value) (stmts_seen c.args.rest.now)
     (map (frame_seen script table) c.args.frames.now.below.items) (stmt_of c.args.stmt.now)
     (now_act script next (on_line c.args.stmt.now.pos.line (here_seen script table c.args.frames.now.spot)) (now_seen table c.in_ok-now.now))
     (stmt_tree c.args.stmt.now)

@@ -66,7 +66,7 @@ pub keep_suite-returns : goal.keep_suite-returns
 keep_suite-returns t c = suite_ends _ _ (roll-Suite (record { list = c.loop-stmt.list })) _ _ c.loop-stmt.list.items _ _ c.loop-stmt-test.false (rolled_suite c.loop-stmt.list) c.loop-stmt.invariant
 
 pub keep_suite-loop-stmt-preserved : goal.keep_suite-loop-stmt-preserved
-keep_suite-loop-stmt-preserved t c = suite_keeps _ _ _ _ _ _ _ _ _ _ _ (left_is _ _ _ c.loop-stmt-test.true c.stmt-item.is) (sym c.if-not-is_kept.ensures) (stmt_added _ _ _ _ _ _ _ _ c.in_ok-no.ensures.0 c.in_ok-no.ensures.1 c.in_ok-add_stmt.ensures.tree_is c.in_ok-form.ensures) c.in_ok-add_stmt.ensures.new_is c.loop-stmt.invariant
+keep_suite-loop-stmt-preserved t c = suite_keeps _ _ _ _ _ _ _ _ _ _ _ (left_is _ _ _ c.loop-stmt-test.true c.stmt-item.is) (sym c.if-not-is_kept.ensures) (stmt_added _ _ _ _ _ _ _ _ _ c.in_ok-no.ensures.0 c.in_ok-no.ensures.1 c.deref.ensures c.in_ok-add_stmt.ensures.tree_is c.in_ok-form.ensures) c.in_ok-add_stmt.ensures.new_is c.loop-stmt.invariant
 
 pub keep_suite-loop-stmt-preserved-then-not-is_kept : goal.keep_suite-loop-stmt-preserved-then-not-is_kept
 keep_suite-loop-stmt-preserved-then-not-is_kept t c = suite_skips _ _ _ _ _ _ _ _ (left_is _ _ _ c.loop-stmt-test.true c.stmt-item.is) (sym c.if-not-is_kept.ensures) c.loop-stmt.invariant

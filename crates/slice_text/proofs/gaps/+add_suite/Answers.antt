@@ -17,7 +17,7 @@ pub add_handlers-loop-body-init : goal.add_handlers-loop-body-init
 add_handlers-loop-body-init t c = ap (λ hs. c.args.gaps.now ++ handlers_gaps (has c.args.keep.now) (handler_trees hs)) c.deref-body-items.ensures.value ∙ ap (λ hs. c.args.gaps.now ++ handlers_gaps (has c.args.keep.now) hs) (sym (handlers_tree c.args.handlers.now))
 
 pub add_stmt-returns-in_ok-add_form : goal.add_stmt-returns-in_ok-add_form
-add_stmt-returns-in_ok-add_form t c = stays_gaps (has c.args.keep.now) c.args.filled c.args.stmt.now _ _ (sym c.if-is_kept.true ∙ c.is_kept.ensures) c.in_ok-add_form.ensures
+add_stmt-returns-in_ok-add_form t c = stays_gaps (has c.args.keep.now) c.args.filled c.args.stmt.now _ _ _ (sym c.if-is_kept.true ∙ c.is_kept.ensures) c.deref.ensures c.in_ok-add_form.ensures
 
 pub add_stmt-returns-in_ok-push : goal.add_stmt-returns-in_ok-push
 add_stmt-returns-in_ok-push t c = goes_gaps (has c.args.keep.now) c.args.filled c.args.stmt.now _ _ (sym c.if-is_kept.false ∙ c.is_kept.ensures) c.in_ok-push.ensures
