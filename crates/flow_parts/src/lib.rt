@@ -1,5 +1,5 @@
-//! What the statements of a script are made of while it is run: what is done now, what follows a value, and what waits for an end. It stands on
-//! the meaning of `py_model` and on the evaluation of expressions of `interp_eval`.
+//! The frames of a running script: what is done now, what follows a value, and what waits for an end. Read as actions they always mean the rest of the
+//! script. It stands on the meaning of `py_model` and on the evaluation of expressions of `interp_eval`.
 //!
 //! A *part* of a statement is the statement with a stage. `specs/Machine.antt` says in the words of the meaning what parts and frames still mean
 //! (`remaining`), `specs/Seen.antt` which machine the frames are, and `specs/Held.antt` what is held of the values in them.

@@ -1,8 +1,8 @@
-//! What a statement does next at each of its stages, with the value that it waits for. It stands on the parts of statements of `flow_parts`, and on
-//! how they are opened (`flow_openings`), their tests (`flow_tests`) and their targets (`flow_stores`); what follows the end of a suite is in
+//! What a statement does next at each of its stages, with the value that it waits for. It stands on the frames of `flow_parts`, on how
+//! statements begin and are tested (`flow_openings`), and on their targets (`flow_stores`); what follows the end of a suite is in
 //! `flow_endings`.
 //!
-//! Each function says that what is done afterwards means what the stage means.
+//! Each function says that the frames mean what the stage means.
 #![tactic(auto)]
 
 mod following;

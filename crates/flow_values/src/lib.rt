@@ -1,7 +1,7 @@
-//! What gives a value in a statement goes on by one step: an expression, or an operation of the statement. A call that an expression comes to is
-//! handed over, waited for, or fails. It stands on the stages of statements of `flow_stages`; `interp_flow` steps through statements and calls.
+//! One step of the expression or operation that computes a statement's current value. If it reaches a call, the call is started here. It stands on the
+//! stages of statements of `flow_stages`; `interp_flow` steps through statements and calls.
 //!
-//! Each step says that what remains is what remained, and that the watch was told exactly the moments that were performed.
+//! Each step says that the frames still mean the rest of the script, and that the watch was told exactly the events that were performed.
 #![tactic(auto)]
 
 mod entering;
