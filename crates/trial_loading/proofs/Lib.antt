@@ -2,5 +2,4 @@ mod BehindScript
 mod FromText
 mod OneCheck
 mod OneTrial
-mod Stepping
 mod Whole

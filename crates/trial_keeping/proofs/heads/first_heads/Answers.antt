@@ -1,6 +1,6 @@
 use Rattle.std.proofs.Common.{rules, ◌+◌, Ok, Err}
 use Rattle.trial_keeping.specs.declared.fault.TrialFault.TheVariants.{Memory}
-use Rattle.trial_loading.proofs.Stepping.{reads_next, stops_next, leaves_next}
+use Rattle.trial_keeping.proofs.HeadsRead.{reads_next, stops_next, leaves_next}
 use Rattle.trial_keeping.proofs.heads.first_heads.Goals as goal
 
 pub loop-earlier-preserved : goal.loop-earlier-preserved

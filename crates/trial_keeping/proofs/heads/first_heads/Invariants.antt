@@ -1,4 +1,4 @@
-use Rattle.trial_loading.proofs.Stepping.{Reads}
+use Rattle.trial_keeping.proofs.HeadsRead.{Reads}
 use Rattle.trial_keeping.proofs.heads.first_heads.Given as goal
 
 abbrev pub invariant-loop-earlier : goal.invariant-loop-earlier

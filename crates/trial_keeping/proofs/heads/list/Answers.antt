@@ -1,4 +1,4 @@
-use Rattle.trial_loading.proofs.Stepping.{reads_all}
+use Rattle.trial_keeping.proofs.HeadsRead.{reads_all}
 use Rattle.trial_keeping.proofs.heads.list.Goals as goal
 
 pub returns-in-Ok-clause-finds : goal.returns-in-Ok-clause-finds
