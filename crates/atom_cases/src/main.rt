@@ -9,7 +9,7 @@
 
 mod operations;
 
-use atom_rows::answer_input;
+use case_operations::answer_input;
 use operations::Atoms;
 use prov_outside::Trouble;
 use prov_real::RealConsole;

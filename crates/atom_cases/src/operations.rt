@@ -1,5 +1,5 @@
 // Operations on atoms.
-use atom_rows::{Came, Performer};
+use case_operations::{Came, Performer};
 use op_atoms::{Atomic, atom};
 use op_work::Work;
 use prov_base::Memory;

@@ -26,6 +26,6 @@ mod ended;
 mod files;
 mod paths;
 
+pub use crate::capture::Capture;
 pub use answer::{Ask, Asked, Given, NoAnswer};
-pub use capture::Capture;
 pub use ended::{Ended, FileOut, RunEnd};

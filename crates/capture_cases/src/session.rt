@@ -9,7 +9,9 @@ use crate::rows::{
 use crate::texts::{files, halves, lines, number, numbers, place, times};
 use capture::{Ask, Capture, Given};
 use prov_base::{Bytes, Memory, Pos};
-use prov_outside::{Console, Found, MemoryConsole, MemoryFolder, MemoryClockAndRandom, ClockAndRandom};
+use prov_outside::{
+    ClockAndRandom, Console, Found, MemoryClockAndRandom, MemoryConsole, MemoryFolder,
+};
 use prov_real::RealClockAndRandom;
 use std::alloc::{AllocError, Global};
 

@@ -8,7 +8,7 @@ use Rattle.py_model.specs.Doing.{Standing, standing, Fits, Stands, ForEach}
 use Rattle.py_model.specs.Moment.{Moment, enters, leaves, parameters_set}
 use Rattle.py_model.specs.Running.{State, entering}
 use Rattle.py_model.specs.Told.{TellsOn}
-use Rattle.flow_parts.specs.Telling.{WasTold, WasNotTold}
+use Rattle.flow_frames.specs.Telling.{WasTold, WasNotTold}
 
 -- The next activation was entered: its cost is paid, the doer stands for the state afterwards, and the watch was told.
 pub record WasEntered (at def : Pos) (names : List (List ℕ)) (values : List Value) (activation rest : ℕ) (after : Standing → Type 0) (was is : Option (List Moment)) (table : ValuesView) (s : State) : Type 0 where

@@ -5,7 +5,7 @@ use Rattle.py_tree.specs.Tree.{ExprTree, FormTree, SuiteTree, ScriptTree, do_for
 use Rattle.py_model.specs.Act.{Act, to}
 use Rattle.py_model.specs.Expressions.{Here, Task, eval}
 use Rattle.py_model.specs.Statements.{rule, suite}
-use Rattle.flow_parts.specs.Machine.{Stage, valued_act, inner_here, stage_act, suite_ended, runs_act}
+use Rattle.flow_frames.specs.Machine.{Stage, valued_act, inner_here, stage_act, suite_ended, runs_act}
 use Rattle.flow_openings.specs.Opening.{first_in, plain_rule}
 
 module _ (script : ScriptTree) (next : Task → Act) (here : Here) (at : Pos) where

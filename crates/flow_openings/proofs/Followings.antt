@@ -7,8 +7,8 @@ use Rattle.py_value.specs.Contents.{Contents}
 use Rattle.py_model.specs.Act.{Act, How}
 use Rattle.py_model.specs.Expressions.{Here, Task}
 use Rattle.py_model.specs.Statements.{task, turned}
-use Rattle.flow_parts.specs.Machine.{Stage, Part, part, change_in, then_act, turn_act, turn_ended}
-use Rattle.flow_changes.specs.Changing.{augmenting}
+use Rattle.flow_frames.specs.Machine.{Stage, Part, part, change_in, then_act, turn_act, turn_ended}
+use Rattle.flow_targets.specs.Changing.{augmenting}
 use Rattle.flow_openings.specs.Opening.{deleting, plain_rule}
 
 -- an act that goes on with what follows a part

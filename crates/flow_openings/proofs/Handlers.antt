@@ -11,7 +11,7 @@ use Rattle.py_value.specs.Contents.{object}
 use Rattle.py_model.specs.Act.{Act, ret, to, threw}
 use Rattle.py_model.specs.Expressions.{Here, Task, doing, op, eval}
 use Rattle.py_model.specs.Statements.{suite, handle, clause, matching, binding, unbinding, handling}
-use Rattle.flow_parts.specs.Machine.{Handler, first_handler, handlers_from, handlers_in, handler_in, handles, runs_act, handled_act, handled_end, clause_act, missed_act, match_act}
+use Rattle.flow_frames.specs.Machine.{Handler, first_handler, handlers_from, handlers_in, handler_in, handles, runs_act, handled_act, handled_end, clause_act, missed_act, match_act}
 use Rattle.flow_openings.specs.Handlers.{handler_seen}
 
 abbrev pub handlers_seen : List (Option Expr × Option Bound × Suite) → HandlersTree

@@ -1,3 +1,4 @@
+pub mod Tests
 pub mod Handlers
 pub mod Beginnings
 pub mod Followings

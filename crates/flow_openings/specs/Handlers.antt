@@ -5,7 +5,7 @@ use Rattle.py_tree.specs.declared.expr.Expr.{Expr}
 use Rattle.py_tree.specs.declared.stmt.Bound.{Bound}
 use Rattle.py_tree.specs.declared.stmt.Suite.{Suite}
 use Rattle.py_tree.specs.Erasure.{expr_of, suite_of}
-use Rattle.flow_parts.specs.Machine.{Handler}
+use Rattle.flow_frames.specs.Machine.{Handler}
 
 abbrev pub handler_seen : Option Expr × Option Bound × Suite → Handler
 handler_seen h = record { kind = option_map expr_of h.0; bound = h.1; run = suite_of h.2 }

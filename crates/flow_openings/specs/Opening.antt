@@ -9,8 +9,8 @@ use Rattle.py_value.specs.Values.{ValuesView}
 use Rattle.py_model.specs.Act.{Act, ret, normal}
 use Rattle.py_model.specs.Expressions.{Here, Task, doing, op, eval}
 use Rattle.py_model.specs.Statements.{rule, unset}
-use Rattle.flow_parts.specs.Machine.{target_in, owner_act}
-use Rattle.flow_parts.specs.declared.frames.Spot.{Spot}
+use Rattle.flow_frames.specs.Machine.{target_in, owner_act}
+use Rattle.flow_frames.specs.declared.frames.Spot.{Spot}
 
 -- the expression whose value a statement awaits first
 abbrev pub first_in : FormTree → Option ExprTree

@@ -2,7 +2,7 @@
 ghost use Rattle.std.specs.Prelude.{◌≡◌, slice_get};
 ghost use Rattle.std.specs.Option.{option_map};
 ghost use Rattle.py_tree.specs.Erasure.{expr_of, form_of, suite_of};
-ghost use Rattle.flow_parts.specs.Machine.{bound_in, handler_in, suite_in};
+ghost use Rattle.flow_frames.specs.Machine.{bound_in, handler_in, suite_in};
 ghost use Rattle.flow_openings.specs.Opening.{first_in};
 ghost use Rattle.flow_openings.specs.Handlers.{handler_seen};
 

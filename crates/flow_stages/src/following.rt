@@ -7,15 +7,16 @@ ghost use Rattle.py_value.specs.Values.{ValuesView, IsNamed};
 ghost use Rattle.py_model.specs.Act.{Act};
 ghost use Rattle.py_model.specs.Expressions.{Here, Task};
 ghost use Rattle.interp_eval.specs.declared.frames.Scope.{Scope as OneScope};
-ghost use Rattle.flow_parts.specs.Held.{IsHeldNow, IsHeldStage};
-ghost use Rattle.flow_parts.specs.Machine.{now_act, then_act, valued_act};
-ghost use Rattle.flow_parts.specs.Seen.{now_seen, stage_seen};
+ghost use Rattle.flow_frames.specs.Held.{IsHeldNow, IsHeldStage};
+ghost use Rattle.flow_frames.specs.Machine.{now_act, then_act, valued_act};
+ghost use Rattle.flow_frames.specs.Seen.{now_seen, stage_seen};
 
 use crate::handling::{entered, matched};
-use flow_changes::{based, changed, loaded, sided, slotted};
-use flow_parts::{Code, End, Goal, Now, Part, Stage, on_one, on_two};
-use flow_stores::{held, indexed, keyed, owned, reached, stored};
-use flow_tests::{answered, tested};
+use flow_frames::{Code, End, Goal, Now, Part, Stage, on_one, on_two};
+use flow_openings::{answered, tested};
+use flow_targets::{
+    based, changed, held, indexed, keyed, loaded, owned, reached, sided, slotted, stored,
+};
 use interp_eval::Scope;
 use prov_base::Memory;
 use py_tree::Form;

@@ -9,12 +9,12 @@ ghost use Rattle.py_model.specs.Expressions.{Here, Task};
 ghost use Rattle.py_model.specs.Statements.{handle};
 ghost use Rattle.interp_eval.specs.Machine.{is_true};
 ghost use Rattle.interp_eval.specs.declared.frames.Scope.{Scope as OneScope};
-ghost use Rattle.flow_parts.specs.Held.{IsHeldNow};
-ghost use Rattle.flow_parts.specs.Machine.{clause_act, entered_act, handler_in, handlers_from, handlers_in, match_act, now_act};
-ghost use Rattle.flow_parts.specs.Seen.{now_seen};
+ghost use Rattle.flow_frames.specs.Held.{IsHeldNow};
+ghost use Rattle.flow_frames.specs.Machine.{clause_act, entered_act, handler_in, handlers_from, handlers_in, match_act, now_act};
+ghost use Rattle.flow_frames.specs.Seen.{now_seen};
 
+use flow_frames::{Code, End, Now, Part, Stage, is_true, on_one, on_two, start};
 use flow_openings::{bound_in, handler_in};
-use flow_parts::{Code, End, Now, Part, Stage, is_true, on_one, on_two, start};
 use interp_eval::Scope;
 use prov_base::Memory;
 use py_value::Value;

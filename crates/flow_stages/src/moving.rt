@@ -6,11 +6,11 @@ ghost use Rattle.py_model.specs.Act.{Act};
 ghost use Rattle.py_model.specs.Expressions.{Here, Task};
 ghost use Rattle.py_model.specs.Statements.{suite, then_so};
 ghost use Rattle.interp_eval.specs.declared.frames.Scope.{Scope as OneScope};
-ghost use Rattle.flow_parts.specs.Held.{IsHeldEnd, IsHeldNow};
-ghost use Rattle.flow_parts.specs.Machine.{now_act};
-ghost use Rattle.flow_parts.specs.Seen.{end_seen, now_seen, stmts_seen};
+ghost use Rattle.flow_frames.specs.Held.{IsHeldEnd, IsHeldNow};
+ghost use Rattle.flow_frames.specs.Machine.{now_act};
+ghost use Rattle.flow_frames.specs.Seen.{end_seen, now_seen, stmts_seen};
 
-use flow_parts::{End, Now};
+use flow_frames::{End, Now};
 use py_tree::Stmt;
 
 /// What is done after the end of a statement: the rest of its suite where it ended normally, and else its end is that of the suite.

@@ -12,9 +12,9 @@ use Rattle.py_value.proofs.SameContents.{keeps_length}
 use Rattle.py_model.specs.Act.{Act, ret, to, normal, broke}
 use Rattle.py_model.specs.Expressions.{Here, Task}
 use Rattle.py_model.specs.Statements.{first_of, parts_in, rest_of, store, store_all}
-use Rattle.flow_parts.specs.Machine.{Goal, finishes, turns, breaks, first_target, goal_act, goal_target, many_of, nth_target, parts_from, several_in, spread_act, spread_ended, stored_act, target_in, targets_from}
-use Rattle.flow_stores.proofs.Breaking.{stores_to}
-use Rattle.flow_stores.proofs.ItemsOf.{rest_parts, targets_end, targets_more, targets_seen}
+use Rattle.flow_frames.specs.Machine.{Goal, finishes, turns, breaks, first_target, goal_act, goal_target, many_of, nth_target, parts_from, several_in, spread_act, spread_ended, stored_act, target_in, targets_from}
+use Rattle.flow_targets.proofs.Breaking.{stores_to}
+use Rattle.flow_targets.proofs.ItemsOf.{rest_parts, targets_end, targets_more, targets_seen}
 
 many_so : (goal : Goal) (form : FormTree) (targets : TargetsTree) → several_in goal form ≡ Some targets → many_of (target_in form) ≡ Some targets
 many_so finishes form targets is = is

@@ -5,12 +5,12 @@ use Rattle.py_tree.specs.Tree.{ScriptTree}
 use Rattle.py_value.specs.Values.{ValuesView, Keeps}
 use Rattle.py_model.specs.Act.{Act, to}
 use Rattle.py_model.specs.Expressions.{Task}
-use Rattle.flow_parts.specs.Held.{IsHeldClass, IsHeldNow}
-use Rattle.flow_parts.specs.Machine.{now_act, open_act, suite_ended}
-use Rattle.flow_parts.specs.Seen.{here_seen, now_seen, stage_seen}
-use Rattle.flow_parts.specs.declared.control.Part.{Part}
-use Rattle.flow_parts.specs.declared.frames.Spot.{Spot}
-use Rattle.flow_parts.specs.declared.control.Now.{Now}
+use Rattle.flow_frames.specs.Held.{IsHeldClass, IsHeldNow}
+use Rattle.flow_frames.specs.Machine.{now_act, open_act, suite_ended}
+use Rattle.flow_frames.specs.Seen.{here_seen, now_seen, stage_seen}
+use Rattle.flow_frames.specs.declared.control.Part.{Part}
+use Rattle.flow_frames.specs.declared.frames.Spot.{Spot}
+use Rattle.flow_frames.specs.declared.control.Now.{Now}
 use Rattle.flow_suites.specs.declared.running.Way.{Way}
 use Rattle.flow_suites.specs.declared.running.Way.TheVariants.{Becomes, Runs}
 

@@ -21,19 +21,19 @@ use Rattle.py_model.specs.Moment.{Moment, enters, parameters_set}
 use Rattle.py_model.specs.Running.{State, entering, outcome, spent}
 use Rattle.py_model.specs.Told.{TellsOn}
 use Rattle.py_model.specs.Statements.{suite}
-use Rattle.local_names.specs.Scopes.{function_in}
-use Rattle.called_functions.specs.Finding.{found_function}
-use Rattle.called_functions.specs.declared.finding.Found.{Found}
+use Rattle.script_names.specs.Scopes.{function_in}
+use Rattle.script_names.specs.Finding.{found_function}
+use Rattle.script_names.specs.declared.finding.Found.{Found}
 use Rattle.interp_eval.specs.Seen.{machine_seen}
 use Rattle.flow_calls.specs.Calling.{HasEntered, WasEntered, WasCutOff, not_entered, not_told as untold_entry}
-use Rattle.flow_entries.specs.Choosing.{FailsFor, MayRun}
-use Rattle.flow_parts.specs.Machine.{gives_back, resumes, then_act}
-use Rattle.flow_parts.specs.Seen.{frame_seen, here_seen, stage_seen}
-use Rattle.flow_parts.specs.declared.control.Callee.TheVariants.{Function}
-use Rattle.flow_parts.specs.declared.control.Caller.{Caller}
-use Rattle.flow_parts.specs.declared.control.Part.{Part}
-use Rattle.flow_parts.specs.declared.frames.FlowFrames.{FlowFrames}
-use Rattle.flow_parts.specs.declared.frames.Spot.{Spot}
+use Rattle.flow_calls.specs.Choosing.{FailsFor, MayRun}
+use Rattle.flow_frames.specs.Machine.{gives_back, resumes, then_act}
+use Rattle.flow_frames.specs.Seen.{frame_seen, here_seen, stage_seen}
+use Rattle.flow_frames.specs.declared.control.Callee.TheVariants.{Function}
+use Rattle.flow_frames.specs.declared.control.Caller.{Caller}
+use Rattle.flow_frames.specs.declared.control.Part.{Part}
+use Rattle.flow_frames.specs.declared.frames.FlowFrames.{FlowFrames}
+use Rattle.flow_frames.specs.declared.frames.Spot.{Spot}
 use Rattle.flow_values.specs.Calls.{calling_so, failing_so}
 use Rattle.flow_values.specs.Step.{IsCut, StepsFrom, meant}
 use Rattle.flow_values.specs.Value.{GoesOnFrom}

@@ -19,17 +19,17 @@ use Rattle.py_model.specs.Running.{State, Happened, did, too_dear, lacked, opera
 use Rattle.py_model.specs.declared.moment.Answer.TheVariants.{Value as ValueAnswer, Raised as RaisedAnswer, End as EndAnswer}
 use Rattle.prov_base.specs.declared.place.Pos.{Pos}
 use Rattle.interp_eval.specs.declared.frames.Scope.{Scope}
-use Rattle.local_names.specs.Scopes.{function_in}
+use Rattle.script_names.specs.Scopes.{function_in}
 use Rattle.interp_eval.specs.Scopes.{IsAt}
 use Rattle.interp_eval.specs.Step.{Went, stayed, went_on, IsOn as IsEvalOn, IsCut as IsEvalCut, Steps as EvalSteps, IsStep as IsEvalStep, remaining as eval_remaining}
 use Rattle.interp_eval.specs.declared.frames.EvalFrames.{EvalFrames}
 use Rattle.interp_eval.specs.declared.frames.EvalNext.{EvalNext}
 use Rattle.interp_eval.specs.declared.frames.EvalNext.TheVariants.{More, Value as TheValue, Call, Raised, Ended, Spent, Unanswered}
-use Rattle.flow_parts.specs.Machine.{call_act, resumes, then_act}
-use Rattle.flow_parts.specs.Seen.{callee_seen, frame_seen, here_seen, stage_seen}
-use Rattle.flow_parts.specs.declared.control.Callee.{Callee}
-use Rattle.flow_parts.specs.declared.control.Part.{Part}
-use Rattle.flow_parts.specs.declared.frames.FlowFrames.{FlowFrames}
+use Rattle.flow_frames.specs.Machine.{call_act, resumes, then_act}
+use Rattle.flow_frames.specs.Seen.{callee_seen, frame_seen, here_seen, stage_seen}
+use Rattle.flow_frames.specs.declared.control.Callee.{Callee}
+use Rattle.flow_frames.specs.declared.control.Part.{Part}
+use Rattle.flow_frames.specs.declared.frames.FlowFrames.{FlowFrames}
 use Rattle.flow_values.specs.declared.next.FlowNext.{FlowNext}
 use Rattle.flow_values.specs.declared.next.FlowNext.TheVariants.{More as FlowMore, Finished, Raised as FlowRaised, Spent as FlowSpent, Unanswered as FlowUnanswered}
 use Rattle.flow_values.specs.Calls.{calling_so}

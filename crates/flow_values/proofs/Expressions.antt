@@ -15,14 +15,14 @@ use Rattle.interp_eval.specs.declared.frames.EvalFrames.{EvalFrames}
 use Rattle.interp_eval.specs.declared.frames.EvalNext.{EvalNext}
 use Rattle.interp_eval.specs.declared.frames.EvalNext.TheVariants.{More, Value as TheValue, Call}
 use Rattle.interp_eval.specs.declared.frames.Scope.{Scope}
-use Rattle.flow_parts.specs.Held.{IsHeldNow, IsHeldStage, IsHeldWork}
-use Rattle.flow_parts.specs.declared.control.Giving.{Giving}
-use Rattle.flow_parts.specs.declared.control.Now.{Now}
-use Rattle.flow_parts.specs.declared.control.Now.TheVariants.{Ended, Gives, InSuite, Opens}
-use Rattle.flow_parts.specs.declared.control.Part.{Part}
-use Rattle.flow_parts.specs.declared.control.Work.{Work}
-use Rattle.flow_parts.specs.declared.control.Work.TheVariants.{Calls, Evaluates, Operation}
-use Rattle.flow_parts.specs.declared.frames.FlowFrames.{FlowFrames}
+use Rattle.flow_frames.specs.Held.{IsHeldNow, IsHeldStage, IsHeldWork}
+use Rattle.flow_frames.specs.declared.control.Giving.{Giving}
+use Rattle.flow_frames.specs.declared.control.Now.{Now}
+use Rattle.flow_frames.specs.declared.control.Now.TheVariants.{Ended, Gives, InSuite, Opens}
+use Rattle.flow_frames.specs.declared.control.Part.{Part}
+use Rattle.flow_frames.specs.declared.control.Work.{Work}
+use Rattle.flow_frames.specs.declared.control.Work.TheVariants.{Calls, Evaluates, Operation}
+use Rattle.flow_frames.specs.declared.frames.FlowFrames.{FlowFrames}
 use Rattle.flow_values.specs.declared.next.FlowNext.{FlowNext}
 use Rattle.flow_values.specs.declared.next.FlowNext.TheVariants.{More as FlowMore, Finished, Raised as FlowRaised, Spent as FlowSpent, Unanswered as FlowUnanswered}
 use Rattle.flow_values.specs.Expression.{HasEvaluated, HasEvaluatedNow, IsAnswered, IsHeldEvaluation, IsHeldExpression, IsHeldPart, IsHeldTaken, IsHeldTakenWork, IsTakenNow, IsTakenWork, evaluates, is_expression, part_in}

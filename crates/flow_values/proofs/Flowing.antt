@@ -10,9 +10,9 @@ use Rattle.py_model.specs.Meaning.{level}
 use Rattle.py_model.specs.Moment.{Moment}
 use Rattle.interp_eval.specs.Performing.{HasState}
 use Rattle.interp_eval.proofs.Performed.{state_of}
-use Rattle.flow_parts.specs.declared.control.Giving.{Giving}
-use Rattle.flow_parts.specs.declared.control.Now.TheVariants.{Gives}
-use Rattle.flow_parts.specs.declared.frames.FlowFrames.{FlowFrames}
+use Rattle.flow_frames.specs.declared.control.Giving.{Giving}
+use Rattle.flow_frames.specs.declared.control.Now.TheVariants.{Gives}
+use Rattle.flow_frames.specs.declared.frames.FlowFrames.{FlowFrames}
 use Rattle.flow_values.specs.declared.next.FlowNext.{FlowNext}
 use Rattle.flow_values.specs.declared.next.FlowNext.TheVariants.{More, Finished, Raised, Spent, Unanswered}
 use Rattle.flow_values.specs.Step.{Before, IsStep, StepsFrom, doing_now}

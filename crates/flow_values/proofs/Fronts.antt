@@ -8,14 +8,14 @@ use Rattle.py_value.specs.Values.{ValuesView}
 use Rattle.py_model.specs.Act.{Act, begin, ret, to, normal}
 use Rattle.py_model.specs.Expressions.{Task}
 use Rattle.py_model.specs.Statements.{rule, on_line}
-use Rattle.flow_parts.specs.Machine.{flow, in_suite, ended, a_stmt, waits_act, resumes, remaining, now_act}
-use Rattle.flow_parts.specs.Seen.{end_seen, frame_seen, here_seen, now_seen, stmts_seen}
-use Rattle.flow_parts.specs.declared.control.End.{End}
-use Rattle.flow_parts.specs.declared.control.Now.{Now}
-use Rattle.flow_parts.specs.declared.control.Now.TheVariants.{Ended, InSuite}
+use Rattle.flow_frames.specs.Machine.{flow, in_suite, ended, a_stmt, waits_act, resumes, remaining, now_act}
+use Rattle.flow_frames.specs.Seen.{end_seen, frame_seen, here_seen, now_seen, stmts_seen}
+use Rattle.flow_frames.specs.declared.control.End.{End}
+use Rattle.flow_frames.specs.declared.control.Now.{Now}
+use Rattle.flow_frames.specs.declared.control.Now.TheVariants.{Ended, InSuite}
 use Rattle.flow_values.specs.Step.{doing_now, meant}
-use Rattle.flow_parts.specs.declared.frames.FlowFrames.{FlowFrames}
-use Rattle.flow_parts.proofs.Flows.{stmt_opened}
+use Rattle.flow_frames.specs.declared.frames.FlowFrames.{FlowFrames}
+use Rattle.flow_frames.proofs.Flows.{stmt_opened}
 
 module _ (script : ScriptTree) (next : Task → Act) (table : ValuesView) (frames : FlowFrames) (stmts : Bor (List Stmt)) where
   pub in_front : (stmt : Stmt) (rest : List Stmt) → stmts.now ≡ stmt ∷ rest

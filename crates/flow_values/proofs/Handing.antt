@@ -17,14 +17,14 @@ use Rattle.interp_eval.specs.Machine.{Machine, remains}
 use Rattle.interp_eval.specs.Seen.{machine_seen}
 use Rattle.interp_eval.specs.Step.{given, remaining}
 use Rattle.interp_eval.specs.declared.frames.EvalFrames.{EvalFrames}
-use Rattle.flow_parts.specs.Machine.{call_act, given_to, made_act, without_method}
-use Rattle.flow_parts.specs.Seen.{callee_seen}
-use Rattle.flow_parts.specs.declared.control.Callee.{Callee}
-use Rattle.flow_parts.specs.declared.control.Callee.TheVariants.{Function, Class}
-use Rattle.flow_parts.specs.Held.{IsHeldCallee}
-use Rattle.flow_parts.specs.declared.control.Caller.{Caller}
-use Rattle.flow_parts.specs.declared.control.Part.{Part}
-use Rattle.flow_parts.specs.declared.frames.FlowFrames.{FlowFrames}
+use Rattle.flow_frames.specs.Machine.{call_act, given_to, made_act, without_method}
+use Rattle.flow_frames.specs.Seen.{callee_seen}
+use Rattle.flow_frames.specs.declared.control.Callee.{Callee}
+use Rattle.flow_frames.specs.declared.control.Callee.TheVariants.{Function, Class}
+use Rattle.flow_frames.specs.Held.{IsHeldCallee}
+use Rattle.flow_frames.specs.declared.control.Caller.{Caller}
+use Rattle.flow_frames.specs.declared.control.Part.{Part}
+use Rattle.flow_frames.specs.declared.frames.FlowFrames.{FlowFrames}
 use Rattle.flow_values.specs.Calls.{IsHandedOver, callee_for, calling_so}
 use Rattle.flow_values.specs.Value.{GoesOnFrom}
 use Rattle.flow_values.specs.declared.next.FlowNext.{FlowNext}

@@ -9,7 +9,7 @@ use Rattle.py_model.specs.Expressions.{Here, Task, while_again, for_again}
 use Rattle.py_model.specs.Meaning.{level}
 use Rattle.py_model.specs.Running.{State, outcome}
 use Rattle.py_model.specs.Statements.{task, turned}
-use Rattle.flow_parts.specs.Machine.{Stage, body, repeats, body_ended, turn_ended, suite_ended}
+use Rattle.flow_frames.specs.Machine.{Stage, body, repeats, body_ended, turn_ended, suite_ended}
 
 -- the law of the levels
 abbrev pub Unfolds : Type 0

@@ -23,11 +23,11 @@ use Rattle.interp_eval.specs.declared.frames.Scope.{Scope}
 use Rattle.interp_eval.proofs.Steps.{interrupted}
 use Rattle.interp_eval.specs.Performing.{HasState, HasPerformed, WasCut, nothing_happened, not_told}
 use Rattle.interp_eval.specs.declared.performing.Came.TheVariants.{Did, TooDear, Unanswered as UnansweredCame}
-use Rattle.flow_parts.specs.Machine.{resumes, then_act}
-use Rattle.flow_parts.specs.Seen.{frame_seen, here_seen, stage_seen}
-use Rattle.flow_parts.specs.declared.codes.Code.{Code}
-use Rattle.flow_parts.specs.declared.control.Part.{Part}
-use Rattle.flow_parts.specs.declared.frames.FlowFrames.{FlowFrames}
+use Rattle.flow_frames.specs.Machine.{resumes, then_act}
+use Rattle.flow_frames.specs.Seen.{frame_seen, here_seen, stage_seen}
+use Rattle.flow_frames.specs.declared.codes.Code.{Code}
+use Rattle.flow_frames.specs.declared.control.Part.{Part}
+use Rattle.flow_frames.specs.declared.frames.FlowFrames.{FlowFrames}
 use Rattle.flow_values.specs.declared.next.FlowNext.TheVariants.{More, Spent, Unanswered}
 use Rattle.flow_values.specs.Step.{IsCut, StepsFrom, meant}
 use Rattle.flow_values.specs.Value.{IsCodeOp, operating}

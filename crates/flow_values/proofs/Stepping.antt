@@ -12,10 +12,10 @@ use Rattle.py_model.specs.Moment.{Moment, begins, Ending, ends}
 use Rattle.py_model.specs.Running.{State, spent, outcome, beginning, tell}
 use Rattle.py_model.specs.Told.{TellsOn}
 use Rattle.flow_values.specs.Step.{IsOn, IsSpent, IsCut, IsStep, Before, StepsFrom, IsHeldNext, meant, next_end}
-use Rattle.flow_parts.specs.Seen.{end_seen}
-use Rattle.flow_parts.specs.Telling.{WasTold, WasNotTold, HasBegun}
-use Rattle.flow_parts.specs.declared.control.End.{End}
-use Rattle.flow_parts.specs.declared.frames.FlowFrames.{FlowFrames}
+use Rattle.flow_frames.specs.Seen.{end_seen}
+use Rattle.flow_frames.specs.Telling.{WasTold, WasNotTold, HasBegun}
+use Rattle.flow_frames.specs.declared.control.End.{End}
+use Rattle.flow_frames.specs.declared.frames.FlowFrames.{FlowFrames}
 use Rattle.flow_values.specs.declared.next.FlowNext.{FlowNext}
 use Rattle.flow_values.specs.declared.next.FlowNext.TheVariants.{More, Finished, Raised, Spent, Unanswered}
 

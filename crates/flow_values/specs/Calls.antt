@@ -17,14 +17,14 @@ use Rattle.py_model.specs.declared.moment.Answer.{Answer}
 use Rattle.interp_eval.specs.Machine.{remains}
 use Rattle.interp_eval.specs.Seen.{machine_seen}
 use Rattle.interp_eval.specs.declared.frames.EvalFrames.{EvalFrames}
-use Rattle.flow_parts.specs.Held.{IsHeldCallee, IsHeldCaller}
-use Rattle.flow_parts.specs.Machine.{call_act, given_to, made_act, without_method, resumes, then_act}
-use Rattle.flow_parts.specs.Seen.{callee_seen, frame_seen, here_seen, stage_seen}
-use Rattle.flow_parts.specs.declared.control.Callee.{Callee}
-use Rattle.flow_parts.specs.declared.control.Callee.TheVariants.{Function, Class}
-use Rattle.flow_parts.specs.declared.control.Caller.{Caller}
-use Rattle.flow_parts.specs.declared.control.Part.{Part}
-use Rattle.flow_parts.specs.declared.frames.FlowFrames.{FlowFrames}
+use Rattle.flow_frames.specs.Held.{IsHeldCallee, IsHeldCaller}
+use Rattle.flow_frames.specs.Machine.{call_act, given_to, made_act, without_method, resumes, then_act}
+use Rattle.flow_frames.specs.Seen.{callee_seen, frame_seen, here_seen, stage_seen}
+use Rattle.flow_frames.specs.declared.control.Callee.{Callee}
+use Rattle.flow_frames.specs.declared.control.Callee.TheVariants.{Function, Class}
+use Rattle.flow_frames.specs.declared.control.Caller.{Caller}
+use Rattle.flow_frames.specs.declared.control.Part.{Part}
+use Rattle.flow_frames.specs.declared.frames.FlowFrames.{FlowFrames}
 use Rattle.flow_values.specs.Step.{Before, meant}
 use Rattle.flow_values.specs.declared.next.FlowNext.{FlowNext}
 use Rattle.flow_values.specs.declared.next.FlowNext.TheVariants.{More}

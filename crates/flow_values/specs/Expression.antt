@@ -11,13 +11,13 @@ use Rattle.interp_eval.specs.Held.{AreHeld}
 use Rattle.interp_eval.specs.Step.{HoldsNext as HoldsEvalNext, IsHeldNext as IsHeldEvalNext, Steps as EvalSteps}
 use Rattle.interp_eval.specs.declared.frames.EvalNext.{EvalNext}
 use Rattle.interp_eval.specs.declared.frames.Scope.{Scope}
-use Rattle.flow_parts.specs.Held.{AreHeldFrames, IsHeldClass, IsHeldStage}
-use Rattle.flow_parts.specs.declared.control.Now.{Now}
-use Rattle.flow_parts.specs.declared.control.Now.TheVariants.{Gives}
-use Rattle.flow_parts.specs.declared.control.Part.{Part}
-use Rattle.flow_parts.specs.declared.control.Work.{Work}
-use Rattle.flow_parts.specs.declared.control.Work.TheVariants.{Evaluates}
-use Rattle.flow_parts.specs.declared.frames.FlowFrames.{FlowFrames}
+use Rattle.flow_frames.specs.Held.{AreHeldFrames, IsHeldClass, IsHeldStage}
+use Rattle.flow_frames.specs.declared.control.Now.{Now}
+use Rattle.flow_frames.specs.declared.control.Now.TheVariants.{Gives}
+use Rattle.flow_frames.specs.declared.control.Part.{Part}
+use Rattle.flow_frames.specs.declared.control.Work.{Work}
+use Rattle.flow_frames.specs.declared.control.Work.TheVariants.{Evaluates}
+use Rattle.flow_frames.specs.declared.frames.FlowFrames.{FlowFrames}
 use Rattle.flow_values.specs.Value.{GoesOnFrom, IsTaken, answering}
 use Rattle.flow_values.specs.declared.next.FlowNext.{FlowNext}
 

@@ -10,13 +10,13 @@ use Rattle.py_model.specs.Meaning.{RunEnd, finished, uncaught, end_of, level}
 use Rattle.py_model.specs.Moment.{Moment}
 use Rattle.py_model.specs.Running.{State, outcome, over, spent, lacking}
 use Rattle.py_model.specs.Told.{TellsOn}
-use Rattle.flow_parts.specs.Held.{IsHeldEnd, IsHeldFlow, IsHeldNow}
-use Rattle.flow_parts.specs.Machine.{flow, remaining, resumes, waits_act}
-use Rattle.flow_parts.specs.Seen.{end_seen, flow_seen, frame_seen, here_seen, now_seen, waits_seen}
-use Rattle.flow_parts.specs.declared.control.End.{End}
-use Rattle.flow_parts.specs.declared.frames.Waits.{Waits}
-use Rattle.flow_parts.specs.declared.control.Now.{Now}
-use Rattle.flow_parts.specs.declared.frames.FlowFrames.{FlowFrames}
+use Rattle.flow_frames.specs.Held.{IsHeldEnd, IsHeldFlow, IsHeldNow}
+use Rattle.flow_frames.specs.Machine.{flow, remaining, resumes, waits_act}
+use Rattle.flow_frames.specs.Seen.{end_seen, flow_seen, frame_seen, here_seen, now_seen, waits_seen}
+use Rattle.flow_frames.specs.declared.control.End.{End}
+use Rattle.flow_frames.specs.declared.frames.Waits.{Waits}
+use Rattle.flow_frames.specs.declared.control.Now.{Now}
+use Rattle.flow_frames.specs.declared.frames.FlowFrames.{FlowFrames}
 use Rattle.flow_values.specs.declared.next.FlowNext.{FlowNext}
 use Rattle.flow_values.specs.declared.next.FlowNext.TheVariants.{More, Finished, Raised, Spent, Unanswered}
 

@@ -24,16 +24,16 @@ use Rattle.interp_eval.specs.declared.frames.EvalFrames.{EvalFrames}
 use Rattle.interp_eval.specs.declared.frames.EvalNext.{EvalNext}
 use Rattle.interp_eval.specs.declared.frames.EvalNext.TheVariants.{More, Value as TheValue, Call, Raised, Ended, Spent, Unanswered}
 use Rattle.interp_eval.specs.declared.frames.Scope.{Scope}
-use Rattle.flow_parts.specs.Codes.{code_number, code_value, code_want}
-use Rattle.flow_parts.specs.Held.{IsHeldMade, IsHeldStage, IsHeldWork}
-use Rattle.flow_parts.specs.Machine.{flow_op, gives_back, resumes, then_act, work_act}
-use Rattle.flow_parts.specs.Seen.{end_seen, frame_seen, here_seen, stage_seen, work_seen}
-use Rattle.flow_parts.specs.declared.codes.Code.{Code}
-use Rattle.flow_parts.specs.declared.control.End.{End}
-use Rattle.flow_parts.specs.declared.control.Part.{Part}
-use Rattle.flow_parts.specs.declared.control.Stage.{Stage}
-use Rattle.flow_parts.specs.declared.control.Work.{Work}
-use Rattle.flow_parts.specs.declared.frames.FlowFrames.{FlowFrames}
+use Rattle.flow_frames.specs.Codes.{code_number, code_value, code_want}
+use Rattle.flow_frames.specs.Held.{IsHeldMade, IsHeldStage, IsHeldWork}
+use Rattle.flow_frames.specs.Machine.{flow_op, gives_back, resumes, then_act, work_act}
+use Rattle.flow_frames.specs.Seen.{end_seen, frame_seen, here_seen, stage_seen, work_seen}
+use Rattle.flow_frames.specs.declared.codes.Code.{Code}
+use Rattle.flow_frames.specs.declared.control.End.{End}
+use Rattle.flow_frames.specs.declared.control.Part.{Part}
+use Rattle.flow_frames.specs.declared.control.Stage.{Stage}
+use Rattle.flow_frames.specs.declared.control.Work.{Work}
+use Rattle.flow_frames.specs.declared.frames.FlowFrames.{FlowFrames}
 use Rattle.flow_values.specs.Step.{Before, meant}
 use Rattle.flow_values.specs.Calls.{IsHandedOver}
 use Rattle.flow_values.specs.declared.next.FlowNext.{FlowNext}

@@ -8,26 +8,26 @@ ghost use Rattle.py_value.specs.Values.{ValuesView, IsNamed};
 ghost use Rattle.py_model.specs.Act.{Act, ret, to};
 ghost use Rattle.py_model.specs.Expressions.{Task, inside, left_with};
 ghost use Rattle.py_model.specs.Statements.{suite};
-ghost use Rattle.local_names.specs.Scopes.{function_in};
-ghost use Rattle.called_functions.specs.Finding.{found_function};
+ghost use Rattle.script_names.specs.Scopes.{function_in};
+ghost use Rattle.script_names.specs.Finding.{found_function};
 ghost use Rattle.interp_eval.specs.Held.{AreAllNamed, AreHeld};
 ghost use Rattle.interp_eval.specs.Seen.{machine_seen};
-ghost use Rattle.flow_parts.specs.Held.{IsHeldCallee, IsHeldCaller, IsHeldFlow, IsHeldStage};
-ghost use Rattle.flow_parts.specs.Machine.{gives_back, resumes, then_act};
-ghost use Rattle.flow_parts.specs.Seen.{frame_seen, here_seen, stage_seen};
+ghost use Rattle.flow_frames.specs.Held.{IsHeldCallee, IsHeldCaller, IsHeldFlow, IsHeldStage};
+ghost use Rattle.flow_frames.specs.Machine.{gives_back, resumes, then_act};
+ghost use Rattle.flow_frames.specs.Seen.{frame_seen, here_seen, stage_seen};
 ghost use Rattle.flow_values.specs.Calls.{IsHandedOver, callee_for, calling_so, failing_so};
 ghost use Rattle.flow_values.specs.Step.{IsHeldNext, meant};
 ghost use Rattle.flow_values.specs.Value.{GoesOnFrom};
 
 use crate::expression::{let_arguments_go, let_go};
 use crate::next::FlowNext;
-use called_functions::Found;
-use flow_entries::in_front;
-use flow_parts::{Callee, Caller, Code, FlowFrames, Giving, Now, Part, Spot, Stage, Waits, Work};
+use flow_calls::in_front;
+use flow_frames::{Callee, Caller, Code, FlowFrames, Giving, Now, Part, Spot, Stage, Waits, Work};
 use interp_eval::{EvalFrames, Scope};
 use prov_base::{Memory, Pos};
 use py_model::Args;
 use py_value::Value;
+use script_names::Found;
 use std::alloc::Global;
 
 /// What is called by a value; None where that is no function and no class.

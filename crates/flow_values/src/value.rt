@@ -9,14 +9,14 @@ ghost use Rattle.py_model.specs.Doing.{Knew};
 ghost use Rattle.py_model.specs.Expressions.{Task, by_answer};
 ghost use Rattle.py_model.specs.Told.{answer_seen, is_operation, IsNamedAnswer};
 ghost use Rattle.interp_eval.specs.Performing.{HasState};
-ghost use Rattle.flow_parts.specs.Held.{IsHeldBy, IsHeldFlow, IsHeldStage};
-ghost use Rattle.flow_parts.specs.Machine.{resumes, then_act};
-ghost use Rattle.flow_parts.specs.Seen.{frame_seen, here_seen, stage_seen};
+ghost use Rattle.flow_frames.specs.Held.{IsHeldBy, IsHeldFlow, IsHeldStage};
+ghost use Rattle.flow_frames.specs.Machine.{resumes, then_act};
+ghost use Rattle.flow_frames.specs.Seen.{frame_seen, here_seen, stage_seen};
 ghost use Rattle.flow_values.specs.Step.{HoldsNext, StepsFrom, meant};
 ghost use Rattle.flow_values.specs.Value.{AreHeldStages, AreHeldValues, MakesCode, operating};
 
 use crate::next::FlowNext;
-use flow_parts::{Code, End, FlowFrames, Now, Part};
+use flow_frames::{Code, End, FlowFrames, Now, Part};
 use flow_stages::after;
 use interp_eval::{Came, Scope, make_op, perform};
 use prov_base::{Memory, Pos};

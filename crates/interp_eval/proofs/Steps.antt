@@ -26,7 +26,7 @@ use Rattle.interp_eval.specs.Machine.{machine, node, node_for, waiting, remains,
 use Rattle.interp_eval.specs.Performing.{HasState, AreNamedBy, IsOp, HasHappened, WasTooDear, WasLacking, WasCut, nothing_happened, not_told, HasPerformed}
 use Rattle.interp_eval.specs.declared.performing.Came.{Came}
 use Rattle.py_model.specs.declared.moment.Answer.{Answer as OneAnswer}
-use Rattle.local_names.specs.Scopes.{function_in}
+use Rattle.script_names.specs.Scopes.{function_in}
 use Rattle.interp_eval.specs.declared.frames.Scope.{Scope}
 use Rattle.interp_eval.specs.Scopes.{IsAt}
 use Rattle.interp_eval.specs.Seen.{machine_seen, waiting_seen, finish_seen, operands_seen}

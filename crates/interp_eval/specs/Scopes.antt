@@ -2,7 +2,7 @@
 use Rattle.std.specs.Prelude.{◌≡◌}
 use Rattle.py_tree.specs.Tree.{ScriptTree}
 use Rattle.py_model.specs.Expressions.{Here}
-use Rattle.local_names.specs.Scopes.{function_in}
+use Rattle.script_names.specs.Scopes.{function_in}
 use Rattle.interp_eval.specs.declared.frames.Scope.{Scope}
 
 -- the scope says where an expression stands

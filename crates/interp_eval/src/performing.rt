@@ -11,11 +11,11 @@ ghost use Rattle.interp_eval.specs.Turns.{IsWanted};
 
 use crate::frames::Scope;
 use crate::turn::Want;
-use local_names::activation_of;
 use prov_base::{Memory, Pos};
 use py_model::{Answer, Args, Deed, Doer, Done, Moment, Op, Watch};
 use py_tree::Script;
 use py_value::{Value, contents_stay};
+use script_names::activation_of;
 use std::alloc::Global;
 
 /// What an operation came to: its answer, with the method that its walk found; or why it did not happen.

@@ -11,12 +11,12 @@ use Rattle.py_model.specs.Meaning.{level}
 use Rattle.py_model.specs.Moment.{Moment}
 use Rattle.py_model.specs.Running.{outcome}
 use Rattle.py_model.specs.Statements.{task}
-use Rattle.flow_parts.specs.Machine.{resumes, suite_ended}
-use Rattle.flow_parts.specs.Seen.{end_seen, frame_seen, here_seen, stage_seen}
-use Rattle.flow_parts.specs.declared.control.End.{End}
-use Rattle.flow_parts.specs.declared.control.Part.{Part}
-use Rattle.flow_parts.specs.declared.frames.FlowFrames.{FlowFrames}
-use Rattle.flow_parts.specs.declared.frames.Waits.TheVariants.{Part as PartWaits}
+use Rattle.flow_frames.specs.Machine.{resumes, suite_ended}
+use Rattle.flow_frames.specs.Seen.{end_seen, frame_seen, here_seen, stage_seen}
+use Rattle.flow_frames.specs.declared.control.End.{End}
+use Rattle.flow_frames.specs.declared.control.Part.{Part}
+use Rattle.flow_frames.specs.declared.frames.FlowFrames.{FlowFrames}
+use Rattle.flow_frames.specs.declared.frames.Waits.TheVariants.{Part as PartWaits}
 use Rattle.flow_values.specs.declared.next.FlowNext.TheVariants.{More}
 use Rattle.flow_values.specs.Step.{Before, StepsFrom, handed, meant}
 use Rattle.flow_values.proofs.Levels.{Unfolds, ended_so}

@@ -23,14 +23,14 @@ use Rattle.interp_eval.proofs.Steps.{interrupted}
 use Rattle.interp_eval.specs.Performing.{HasState, WasCut, nothing_happened, not_told}
 use Rattle.interp_eval.specs.Step.{given}
 use Rattle.interp_eval.specs.declared.frames.EvalFrames.{EvalFrames}
-use Rattle.flow_entries.specs.Walking.{HasWalked}
-use Rattle.flow_entries.specs.declared.walking.Walk.TheVariants.{Did, TooDear, Unanswered as UnansweredWalk}
-use Rattle.flow_parts.specs.Machine.{made_act, resumes}
-use Rattle.flow_parts.specs.Seen.{frame_seen, here_seen}
-use Rattle.flow_parts.specs.declared.control.Callee.TheVariants.{Function, Class}
-use Rattle.flow_parts.specs.declared.control.Caller.{Caller}
-use Rattle.flow_parts.specs.declared.control.Part.{Part}
-use Rattle.flow_parts.specs.declared.frames.FlowFrames.{FlowFrames}
+use Rattle.flow_calls.specs.Walking.{HasWalked}
+use Rattle.flow_calls.specs.declared.walking.Walk.TheVariants.{Did, TooDear, Unanswered as UnansweredWalk}
+use Rattle.flow_frames.specs.Machine.{made_act, resumes}
+use Rattle.flow_frames.specs.Seen.{frame_seen, here_seen}
+use Rattle.flow_frames.specs.declared.control.Callee.TheVariants.{Function, Class}
+use Rattle.flow_frames.specs.declared.control.Caller.{Caller}
+use Rattle.flow_frames.specs.declared.control.Part.{Part}
+use Rattle.flow_frames.specs.declared.frames.FlowFrames.{FlowFrames}
 use Rattle.flow_values.specs.Calls.{alone_so, calling_so, failing_so, gives_object, made_so, making_so, may_be_made}
 use Rattle.flow_values.specs.Step.{Before, IsCut, StepsFrom}
 use Rattle.flow_values.specs.Value.{GoesOnFrom, answering, evaluating}

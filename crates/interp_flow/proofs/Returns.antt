@@ -19,15 +19,15 @@ use Rattle.py_tree.specs.Erasure.{form_of}
 use Rattle.interp_eval.specs.Seen.{machine_seen}
 use Rattle.interp_eval.specs.Step.{given}
 use Rattle.interp_eval.specs.declared.frames.EvalFrames.{EvalFrames}
-use Rattle.flow_parts.specs.Held.{IsHeldMade}
-use Rattle.flow_parts.specs.Machine.{gives_back, resumes, then_act}
-use Rattle.flow_parts.specs.Seen.{end_seen, frame_seen, here_seen, stage_seen}
-use Rattle.flow_parts.specs.declared.control.End.{End}
-use Rattle.flow_parts.specs.Telling.{WasTold}
-use Rattle.flow_parts.specs.declared.control.End.TheVariants.{Normal, Broke, Continued, Returned, Threw}
-use Rattle.flow_parts.specs.declared.control.Now.TheVariants.{Ended}
-use Rattle.flow_parts.specs.declared.control.Part.{Part}
-use Rattle.flow_parts.specs.declared.frames.FlowFrames.{FlowFrames}
+use Rattle.flow_frames.specs.Held.{IsHeldMade}
+use Rattle.flow_frames.specs.Machine.{gives_back, resumes, then_act}
+use Rattle.flow_frames.specs.Seen.{end_seen, frame_seen, here_seen, stage_seen}
+use Rattle.flow_frames.specs.declared.control.End.{End}
+use Rattle.flow_frames.specs.Telling.{WasTold}
+use Rattle.flow_frames.specs.declared.control.End.TheVariants.{Normal, Broke, Continued, Returned, Threw}
+use Rattle.flow_frames.specs.declared.control.Now.TheVariants.{Ended}
+use Rattle.flow_frames.specs.declared.control.Part.{Part}
+use Rattle.flow_frames.specs.declared.frames.FlowFrames.{FlowFrames}
 use Rattle.flow_calls.specs.Calling.{HasLeft}
 use Rattle.flow_values.specs.declared.next.FlowNext.{FlowNext}
 use Rattle.flow_values.specs.declared.next.FlowNext.TheVariants.{More, Finished, Raised, Spent, Unanswered}

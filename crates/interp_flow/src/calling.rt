@@ -8,17 +8,15 @@ ghost use Rattle.py_model.specs.Doing.{Knew};
 ghost use Rattle.py_model.specs.Told.{IsNamedAnswer};
 ghost use Rattle.interp_eval.specs.Held.{AreAllNamed, AreHeld};
 ghost use Rattle.interp_eval.specs.Performing.{HasState};
-ghost use Rattle.flow_entries.specs.Choosing.{MayRun};
-ghost use Rattle.flow_parts.specs.Held.{IsHeldBy, IsHeldCaller, IsHeldFlow, IsHeldStage};
-ghost use Rattle.flow_parts.specs.declared.control.Callee.TheVariants.{Class, Function};
+ghost use Rattle.flow_calls.specs.Choosing.{MayRun};
+ghost use Rattle.flow_frames.specs.Held.{IsHeldBy, IsHeldCaller, IsHeldFlow, IsHeldStage};
+ghost use Rattle.flow_frames.specs.declared.control.Callee.TheVariants.{Class, Function};
 ghost use Rattle.flow_values.specs.Calls.{IsHeldCalleeBy, IsHeldCallerBy, alone_so, calling_so, failing_so, made_so, making_so, may_be_made};
 ghost use Rattle.flow_values.specs.Step.{HoldsNext, IsHeldNext, StepsFrom};
 ghost use Rattle.flow_values.specs.Value.{AreHeldStages, AreHeldValues, GoesOnFrom, IsNamedBy};
 
-use called_functions::Found;
-use flow_calls::enter;
-use flow_entries::{Called, Walk, called_by, in_front, perform_walk};
-use flow_parts::{Callee, Caller, FlowFrames, Part};
+use flow_calls::{Called, Walk, called_by, enter, in_front, perform_walk};
+use flow_frames::{Callee, Caller, FlowFrames, Part};
 use flow_values::{
     FlowNext, fail_call, finish, keep, let_arguments_go, let_go, run_body, wait_call,
 };
@@ -27,6 +25,7 @@ use prov_base::{Memory, Pos};
 use py_model::{Answer, Args, Doer, Op, Watch, meaning_unfolds};
 use py_tree::Script;
 use py_value::Value;
+use script_names::Found;
 use std::alloc::Global;
 
 /// An expression that waits is let go.

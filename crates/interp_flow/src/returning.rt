@@ -7,13 +7,13 @@ ghost use Rattle.py_model.specs.Doing.{Knew};
 ghost use Rattle.py_model.specs.Expressions.{value_of_how};
 ghost use Rattle.interp_eval.specs.Performing.{HasState};
 ghost use Rattle.interp_eval.specs.Step.{AreHeldBy};
-ghost use Rattle.flow_parts.specs.Held.{IsHeldBy, IsHeldEnd};
-ghost use Rattle.flow_parts.specs.Seen.{end_seen};
+ghost use Rattle.flow_frames.specs.Held.{IsHeldBy, IsHeldEnd};
+ghost use Rattle.flow_frames.specs.Seen.{end_seen};
 ghost use Rattle.flow_values.specs.Step.{HoldsNext, IsHeldEndBy, StepsFrom};
 ghost use Rattle.flow_values.specs.Value.{AreHeldStages, IsHeldMadeBy, IsInScope, IsNamedBy, resuming, returning, throwing};
 
 use flow_calls::leave;
-use flow_parts::{End, FlowFrames, Now, Part};
+use flow_frames::{End, FlowFrames, Now, Part};
 use flow_values::{FlowNext, keep, let_go};
 use interp_eval::EvalFrames;
 use prov_base::Memory;

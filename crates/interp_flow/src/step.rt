@@ -2,21 +2,21 @@
 ghost use Rattle.std.specs.Prelude.{◌≡◌, Some as JustOne};
 ghost use Rattle.py_value.specs.Values.{ValuesView};
 ghost use Rattle.py_model.specs.Meaning.{end_of};
-ghost use Rattle.flow_parts.specs.Seen.{end_seen};
+ghost use Rattle.flow_frames.specs.Seen.{end_seen};
 ghost use Rattle.py_tree.specs.Tree.{ScriptTree};
 ghost use Rattle.py_model.specs.Doing.{Knew};
 ghost use Rattle.interp_eval.specs.Performing.{HasState};
 ghost use Rattle.py_tree.specs.Erasure.{script_of};
-ghost use Rattle.flow_parts.specs.declared.control.Now.TheVariants.{Ended, Gives, InSuite};
-ghost use Rattle.flow_parts.specs.declared.frames.Waits.TheVariants.{Stmt as StmtWaits};
+ghost use Rattle.flow_frames.specs.declared.control.Now.TheVariants.{Ended, Gives, InSuite};
+ghost use Rattle.flow_frames.specs.declared.frames.Waits.TheVariants.{Stmt as StmtWaits};
 ghost use Rattle.flow_values.specs.Step.{HoldsNext, IsHeldEndBy, IsHeldNowBy, Steps, StepsFrom, doing_now, handed, next_end};
-ghost use Rattle.flow_parts.specs.Held.{IsHeldBy};
+ghost use Rattle.flow_frames.specs.Held.{IsHeldBy};
 ghost use Rattle.flow_values.specs.Value.{AreHeldStages, IsHeldWorkBy, working};
 
 use crate::calling::call_step;
 use crate::moving::{end_part, open_part, open_stmt};
 use crate::returning::return_step;
-use flow_parts::{End, FlowFrames, Giving, Now, Part, Waits, Work, begin, close};
+use flow_frames::{End, FlowFrames, Giving, Now, Part, Waits, Work, begin, close};
 use flow_stages::rest_after;
 use flow_values::{FlowNext, evaluates, expression_step, keep, operation_step};
 use prov_base::Memory;

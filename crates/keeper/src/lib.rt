@@ -15,8 +15,8 @@ mod fault;
 mod keeper;
 mod records;
 
+pub use crate::keeper::Keeper;
 pub use batch::Batch;
 pub use entries::{content_in, current_in, page_in};
 pub use fault::KeepFault;
-pub use keeper::Keeper;
 pub use records::{Head, Page, copied_bytes};

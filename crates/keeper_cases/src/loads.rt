@@ -10,10 +10,9 @@ use memory_keeper::MemoryKeeper;
 use prov_base::{Digest, Name};
 use prov_outside::Found;
 use std::alloc::{AllocError, Global};
-use trial_contents::{Rest, rest_of, script_of};
 use trial_keeping::TrialFault;
-use trial_pages::{PagedRows, rows_of};
-use trial_parts::{Damage, ReadFault};
+use trial_loading::{PagedRows, Rest, rest_of, rows_of, script_of};
+use trial_tables::{Damage, ReadFault};
 
 /// Reads a trial back, and writes it: the script's text, the rest, and how many rows each page has, or what is amiss of each of the three. The
 /// words are the trial's number and how many statements its script has.

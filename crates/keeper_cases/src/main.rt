@@ -1,4 +1,4 @@
-//! The cases of `keeper`, `content_store`, `trial_keeping`, `trial_contents`, `trial_pages` and `trial_loading`. Each line of the input is a row
+//! The cases of `keeper`, `content_store`, `trial_keeping`, `trial_loading`, `trial_loading` and `trial_loading`. Each line of the input is a row
 //! `TABLES|FAILING|CALL, CALL..`: the entries of the tables that a keeper in memory is made of, the numbers of its calls that fail, and calls.
 //! The answers are a line of the output, which the gate compares with the file `stdout`.
 //!

@@ -20,4 +20,4 @@ mod readers;
 mod tasks;
 mod writers;
 
-pub use keeper_sqlite::SqliteKeeper;
+pub use crate::keeper_sqlite::SqliteKeeper;

@@ -9,5 +9,5 @@ mod held;
 mod memory_keeper;
 mod tables;
 
-pub use memory_keeper::MemoryKeeper;
+pub use crate::memory_keeper::MemoryKeeper;
 pub use tables::Tables;

@@ -10,7 +10,7 @@ use keeper_sqlite::SqliteKeeper;
 use now_top::now;
 use prov_base::Name;
 use prov_outside::Console;
-use prov_real::{RealConsole, RealFolder, RealClockAndRandom};
+use prov_real::{RealClockAndRandom, RealConsole, RealFolder};
 use std::alloc::AllocError;
 use std::process::ExitCode;
 use std::{env, io};

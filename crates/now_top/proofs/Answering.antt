@@ -1,8 +1,8 @@
 -- What a question to the store is answered.
 use Rattle.std.proofs.Common.{◌≡◌, refl, sym, ap, subst, ◌∙◌, ℕ, Bool, false, List, Option, Some, None, Result, Ok, Err, IfErr}
 use Rattle.std.specs.Prelude.{IfSome}
-use Rattle.command_words.specs.declared.command.Query.{Query}
-use Rattle.command_words.specs.declared.command.Query.TheVariants.{List as list_query}
+use Rattle.now_words.specs.declared.command.Query.{Query}
+use Rattle.now_words.specs.declared.command.Query.TheVariants.{List as list_query}
 use Rattle.now_top.specs.World.{Plan}
 use Rattle.keeper.specs.Keeping.{KeeperView, AreKept, LeavesAmong}
 use Rattle.keeper.specs.Tables.{TablesView}
@@ -11,7 +11,7 @@ use Rattle.trial_keeping.specs.Fault.{has_failed}
 use Rattle.trial_keeping.specs.declared.fault.TrialFault.{TrialFault}
 use Rattle.trial_keeping.specs.declared.fault.TrialFault.TheVariants.{NoTrial, Damaged, Keeper, Collision, Full, Memory}
 use Rattle.trial_keeping.specs.Heads.{IsOfList}
-use Rattle.trial_parts.specs.Causes.{Causes}
+use Rattle.trial_tables.specs.Causes.{Causes}
 use Rattle.trial_list.specs.Lines.{list_bytes}
 use Rattle.trial_list.specs.Lists.{ListsTrials}
 use Rattle.now_top.specs.Asking.{IsAnswer, AnswersQuery, replied, untold, failed, lacking}

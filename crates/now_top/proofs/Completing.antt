@@ -7,9 +7,9 @@ use Rattle.std.specs.Option.{option_map}
 use Rattle.std.specs.Prelude.{IsSome, IsTrue}
 use Rattle.prov_base.specs.Path.{is_path}
 use Rattle.now_top.proofs.OneMeaning.{one_reply}
-use Rattle.command_words.specs.Command.{Command, cut, run_bare, run_kept, reads, command_of}
-use Rattle.command_words.specs.declared.command.Query.{Query}
-use Rattle.command_words.specs.declared.command.Query.TheVariants.{List as list_query}
+use Rattle.now_words.specs.Command.{Command, cut, run_bare, run_kept, reads, command_of}
+use Rattle.now_words.specs.declared.command.Query.{Query}
+use Rattle.now_words.specs.declared.command.Query.TheVariants.{List as list_query}
 use Rattle.delivery.specs.Ending.{Ending, done, uncaught, usage, refused, nothing_there, console_failed, folder_failed, store_failed, out_of_memory, out_of_steps, collision, store_full, damaged_trial, status_of, closing_line, tells_of_store}
 use Rattle.delivery.specs.Ends.{Ends, as_planned, by_console as by_planned_console, by_folder as by_planned_folder, no_memory as lacked_memory, GetsPrefixes}
 use Rattle.delivery.specs.PutsAll.{OutFile}
@@ -26,7 +26,7 @@ use Rattle.trial_keeping.specs.Keeping.{KeepsTrial, HasRoom, full_store}
 use Rattle.trial_keeping.specs.Trial.{Run, with_trial_of}
 use Rattle.trial_keeping.specs.declared.fault.TrialFault.{TrialFault}
 use Rattle.trial_keeping.specs.declared.fault.TrialFault.TheVariants.{NoTrial, Damaged, Keeper, Collision, Full, Memory}
-use Rattle.trial_parts.specs.Written.{put, clash}
+use Rattle.trial_tables.specs.Written.{put, clash}
 use Rattle.now_top.specs.Completes.{IsTold, Completes, as_meant, by_console, by_folder, by_store, by_collision, by_full, no_memory, DoesWhole, DoesAsMeant, WritesPrefixes, WritesSlice, KeepsOne, RepliesBy}
 use Rattle.now_top.specs.Kept.{keeps, reads_store, ends_a_run, Clock, Asks, HasNoReading, KeepsRun, Stored, IsUntouched, is_store_failed, KeepsIn, Keeps, no_run, a_run, a_reading, tables_told}
 use Rattle.now_top.specs.Unkept.{with_keeping}

@@ -14,7 +14,7 @@ use Rattle.capture.specs.declared.ended.RunEnd.TheVariants.{Finished, Raised, Sp
 use Rattle.delivery.specs.Ending.{Ending, uncaught, refused, out_of_memory, done, usage, nothing_there, console_failed, folder_failed, out_of_steps, store_failed, collision, store_full, damaged_trial}
 use Rattle.prov_base.specs.declared.refusal.Memory.{Memory}
 use Rattle.prov_outside.specs.declared.folder.Found.{Found as FoundThere}
-use Rattle.op_held.specs.Uncaught.{class_raised, text_raised}
+use Rattle.op_state.specs.Uncaught.{class_raised, text_raised}
 use Rattle.py_model.specs.Act.{How, normal, broke, continued, returned, threw}
 use Rattle.py_model.specs.Capture.{Telling, found_in}
 use Rattle.py_model.specs.Meaning.{RunEnd, finished, uncaught as uncaught_at, out_of_steps as out_of_steps_at, unanswered_run, meaning, starting}
@@ -22,7 +22,7 @@ use Rattle.py_model.specs.Running.{State, Ended, over, spent, lacking, outcome}
 use Rattle.py_model.specs.Store.{RunStore}
 use Rattle.py_tree.specs.Tree.{ScriptTree}
 use Rattle.run_engine.specs.Bare.{EndsAs, IsEnded, RunsBare, nothing_kept}
-use Rattle.script_reading.specs.Reading.{HasScript}
+use Rattle.py_parser.specs.Reading.{HasScript}
 use Rattle.now_top.specs.World.{Plan, closing}
 use Rattle.now_top.specs.Reading.{IsRefusedAs}
 use Rattle.now_top.specs.RunCommand.{ending_in, asking_of, IsRunOf, RunsText, no_script, runs}

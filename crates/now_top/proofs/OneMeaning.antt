@@ -1,9 +1,9 @@
 -- A command has at most one meaning over a world.
 use Rattle.std.proofs.Common.{◌≡◌, refl, sym, ap, subst, ◌∙◌, ℕ, true, false, List, [], inl, inr, Option, Some, None, arith}
 use Rattle.std.proofs.lemmas.Option.{same_Some}
-use Rattle.command_words.specs.Command.{Command, cut, run_bare, run_kept, reads}
-use Rattle.command_words.specs.declared.command.Query.{Query}
-use Rattle.command_words.specs.declared.command.Query.TheVariants.{List as list_query}
+use Rattle.now_words.specs.Command.{Command, cut, run_bare, run_kept, reads}
+use Rattle.now_words.specs.declared.command.Query.{Query}
+use Rattle.now_words.specs.declared.command.Query.TheVariants.{List as list_query}
 use Rattle.delivery.specs.Ending.{Ending, done, refused}
 use Rattle.keeper.specs.Tables.{TablesView}
 use Rattle.delivery.specs.PutsAll.{OutFile}
@@ -11,7 +11,7 @@ use Rattle.prov_base.specs.declared.place.Pos.{Pos}
 use Rattle.prov_outside.specs.Folder.{Files}
 use Rattle.py_model.specs.Capture.{Capture}
 use Rattle.py_tree.specs.Tree.{ScriptTree}
-use Rattle.script_reading.specs.Reading.{HasScript, IsRefusedAt}
+use Rattle.py_parser.specs.Reading.{HasScript, IsRefusedAt}
 use Rattle.straight_line.specs.Slice.{IsSliceOf, BindsNothingAt, IsRefusedAt as IsBadAt}
 use Rattle.now_top.specs.World.{World, Plan, closing, StandsAt, IsNowhere}
 use Rattle.now_top.specs.CutCommand as cutting

@@ -2,13 +2,13 @@
 use Rattle.std.proofs.Common.{false, ◌↔◌, ◌≡◌, refl, sym, ap, subst, ℕ, ◌<◌, List, length, ◌⊎◌, inl, inr, Option, Some, None, Ok, Err, arith}
 use Rattle.answer_source.proofs.Fitting.{own_fits}
 use Rattle.answer_source.specs.Live.{capture_of}
-use Rattle.command_words.specs.Command.{Command, cut, run_bare, run_kept, reads as reads_command}
-use Rattle.command_words.specs.declared.command.Query.{Query}
+use Rattle.now_words.specs.Command.{Command, cut, run_bare, run_kept, reads as reads_command}
+use Rattle.now_words.specs.declared.command.Query.{Query}
 use Rattle.delivery.specs.Ending.{Ending, done, uncaught, usage, refused, nothing_there, console_failed, folder_failed, store_failed, out_of_memory, out_of_steps, collision, store_full, damaged_trial}
 use Rattle.prov_outside.specs.Folder.{Files, largest_file}
 use Rattle.prov_outside.specs.Tells.{Tells}
 use Rattle.run_engine.specs.Bare.{nothing_kept}
-use Rattle.script_reading.specs.Reading.{too_large}
+use Rattle.py_parser.specs.Reading.{too_large}
 use Rattle.py_parser.specs.Faults.{origin}
 use Rattle.now_top.specs.World.{World, Plan, closing, StandsAt, IsNowhere, IsUnasked}
 use Rattle.now_top.specs.CutCommand as cutting

@@ -1,6 +1,6 @@
 -- What a user may rely on, by the laws of the top call.
 use Rattle.std.proofs.Common.{◌≡◌, ◌⊎◌, ℕ, List, Some, arith}
-use Rattle.command_words.specs.Command.{command_of, run_kept}
+use Rattle.now_words.specs.Command.{command_of, run_kept}
 use Rattle.now_top.specs.Completes.{IsTold, DoesAsMeant, WritesPrefixes, KeepsOne}
 use Rattle.now_top.specs.Kept.{Stored, tables_told}
 use Rattle.now_top.specs.Promises.{DidAll, KeptRun, WrotePrefix}

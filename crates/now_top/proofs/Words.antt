@@ -4,9 +4,9 @@ use Rattle.std.proofs.lemmas.Bool.{and_parts, leb-true}
 use Rattle.std.proofs.lemmas.Option.{same_Some}
 use Rattle.std.specs.Prelude.{option_map, option_and_then, unwrap_or}
 use Rattle.std.specs.Str.{bytes_eq}
-use Rattle.command_words.specs.Command.{Command, cut, run_bare, run_kept, reads, run_by, Reading, begins_with_zero, cut_command, run_of, with_words, nothing_read, run_command, query_of, query_command, positional_words, command_of}
-use Rattle.command_words.specs.declared.command.Query.{Query}
-use Rattle.command_words.specs.Numbers.{is_number, number_of, number_to}
+use Rattle.now_words.specs.Command.{Command, cut, run_bare, run_kept, reads, run_by, Reading, begins_with_zero, cut_command, run_of, with_words, nothing_read, run_command, query_of, query_command, positional_words, command_of}
+use Rattle.now_words.specs.declared.command.Query.{Query}
+use Rattle.now_words.specs.Numbers.{is_number, number_of, number_to}
 
 none_is : (command : Command) → None ≡ Some command → ⊥
 none_is command is = cc

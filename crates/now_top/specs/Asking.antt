@@ -1,6 +1,6 @@
 -- What a question to the store comes to over any keeper (this project's profile).
 use Rattle.std.specs.Prelude.{◌≡◌, ℕ, List, Option, Some, None}
-use Rattle.command_words.specs.declared.command.Query.{Query}
+use Rattle.now_words.specs.declared.command.Query.{Query}
 use Rattle.delivery.specs.Ending.{store_failed, out_of_memory}
 use Rattle.keeper.specs.Keeping.{KeeperView, LeavesAmong}
 use Rattle.keeper.specs.Tables.{TablesView}

@@ -1,7 +1,7 @@
 -- How a call of the program ends, and what stands then, by what its words mean (this project's profile).
 use Rattle.std.specs.Prelude.{◌≡◌, ℕ, ◌≤◌, true, List, ◌++◌, length, take, ◌⊎◌, Option, IsSome}
 use Rattle.answer_source.specs.Live.{Faults}
-use Rattle.command_words.specs.Command.{Command}
+use Rattle.now_words.specs.Command.{Command}
 use Rattle.delivery.specs.Ending.{Ending, status_of, closing_line}
 use Rattle.delivery.specs.Ends.{GetsPrefixes}
 use Rattle.delivery.specs.Stands.{HasAll}
@@ -14,8 +14,8 @@ use Rattle.py_model.specs.Capture.{Telling}
 use Rattle.straight_line.specs.Slice.{IsSliceOf, BindsTheSame}
 use Rattle.trial_keeping.specs.Keeping.{HasRoom, full_store}
 use Rattle.trial_keeping.specs.Trial.{Run, with_trial_of}
-use Rattle.trial_parts.specs.Written.{put, clash}
-use Rattle.command_words.specs.declared.command.Query.{Query}
+use Rattle.trial_tables.specs.Written.{put, clash}
+use Rattle.now_words.specs.declared.command.Query.{Query}
 use Rattle.keeper.specs.Tables.{TablesView}
 use Rattle.now_top.specs.Kept.{Clock, reads_store, KeepsRun, Stored}
 use Rattle.now_top.specs.Reply.{Reply}

@@ -1,7 +1,7 @@
 -- What a text at FILE comes to over devices where its run is kept (this project's profile).
 use Rattle.std.specs.Prelude.{◌≡◌, ℕ, List, ◌⊎◌, Some}
 use Rattle.answer_source.specs.Live.{IsCaptureOf}
-use Rattle.command_words.specs.Command.{run_kept}
+use Rattle.now_words.specs.Command.{run_kept}
 use Rattle.delivery.specs.Ending.{out_of_memory}
 use Rattle.keeper.specs.Tables.{TablesView}
 use Rattle.prov_outside.specs.Folder.{Files}

@@ -2,8 +2,8 @@
 use Rattle.std.specs.Prelude.{◌≡◌, ℕ, ℤ, Bool, true, false, List, ◌⊎◌, ◌↔◌, Option, Some, None, Result, IfErr}
 use Rattle.answer_source.specs.Live.{capture_of}
 use Rattle.capture.specs.Capture.{CaptureView}
-use Rattle.command_words.specs.Command.{Command, cut, run_bare, run_kept, reads}
-use Rattle.command_words.specs.declared.command.Query.{Query}
+use Rattle.now_words.specs.Command.{Command, cut, run_bare, run_kept, reads}
+use Rattle.now_words.specs.declared.command.Query.{Query}
 use Rattle.delivery.specs.Ending.{Ending, done, uncaught, out_of_steps, out_of_memory, store_failed}
 use Rattle.keeper.specs.Keeping.{KeeperView, LeavesAmong}
 use Rattle.keeper.specs.Tables.{TablesView}
@@ -13,12 +13,12 @@ use Rattle.py_tree.specs.Tree.{ScriptTree}
 use Rattle.recorded_runs.specs.KeptRun.{AsksClock}
 use Rattle.recorded_runs.specs.RecordedRun.{IsRecordedRun}
 use Rattle.recorded_runs.specs.declared.recording.Recorded.{Recorded}
-use Rattle.script_reading.specs.Reading.{HasScript}
+use Rattle.py_parser.specs.Reading.{HasScript}
 use Rattle.trial_keeping.specs.Fault.{has_failed}
 use Rattle.trial_keeping.specs.Keeping.{KeepsTrial, StopLeaves, IsOfKeeping}
 use Rattle.trial_keeping.specs.Trial.{Run}
 use Rattle.trial_keeping.specs.declared.fault.TrialFault.{TrialFault}
-use Rattle.trial_parts.specs.Causes.{Causes}
+use Rattle.trial_tables.specs.Causes.{Causes}
 use Rattle.now_top.specs.Planned.{plan_of_run}
 use Rattle.now_top.specs.Unkept.{with_keeping}
 use Rattle.now_top.specs.World.{World, Plan, closing, StandsAt}

@@ -1,6 +1,6 @@
 -- What words mean over a world and the tables of the store (this project's profile): what they come to where nothing fails and memory suffices.
 use Rattle.std.specs.Prelude.{◌≡◌, ℕ, List, [], Option, Some, None}
-use Rattle.command_words.specs.Command.{Command, cut, run_bare, run_kept, reads, command_of}
+use Rattle.now_words.specs.Command.{Command, cut, run_bare, run_kept, reads, command_of}
 use Rattle.delivery.specs.Ending.{usage}
 use Rattle.keeper.specs.Tables.{TablesView}
 use Rattle.now_top.specs.World.{World, Plan, closing, IsUnasked}

@@ -1,7 +1,7 @@
 -- What a user may rely on after a call of the program, by its words and its status (this project's profile). Each says it of what the devices and the store
 -- exposed before and after the call.
 use Rattle.std.specs.Prelude.{ℕ, List}
-use Rattle.command_words.specs.Command.{command_of}
+use Rattle.now_words.specs.Command.{command_of}
 use Rattle.now_top.specs.Completes.{DoesAsMeant, KeepsOne, WritesPrefixes}
 use Rattle.now_top.specs.Kept.{Stored, tables_told}
 use Rattle.now_top.specs.Replies.{Replies}

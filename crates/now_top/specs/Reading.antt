@@ -6,7 +6,7 @@ use Rattle.prov_base.specs.Path.{is_path}
 use Rattle.prov_base.specs.declared.place.Pos.{Pos}
 use Rattle.prov_outside.specs.Count.{one_more}
 use Rattle.prov_outside.specs.Folder.{Files, largest_file}
-use Rattle.script_reading.specs.Reading.{IsRefusedAt}
+use Rattle.py_parser.specs.Reading.{IsRefusedAt}
 use Rattle.now_top.specs.World.{StandsAt, IsNowhere}
 
 -- the files are those that the folder tells, where it tells them

@@ -1,8 +1,8 @@
 -- What the top call says (this project's profile): how its devices go from one stage of a command to the next, and why the plan that is delivered is that of the words.
 use Rattle.std.specs.Prelude.{◌≡◌, ℕ, List, [], Option, Some, None, IsTrue}
 use Rattle.answer_source.specs.Live.{IsCaptureOf}
-use Rattle.command_words.specs.Command.{Command, reads, command_of}
-use Rattle.command_words.specs.declared.command.Query.{Query}
+use Rattle.now_words.specs.Command.{Command, reads, command_of}
+use Rattle.now_words.specs.declared.command.Query.{Query}
 use Rattle.delivery.specs.Ending.{folder_failed, store_failed, out_of_memory}
 use Rattle.prov_base.specs.Path.{is_path}
 use Rattle.prov_outside.specs.Count.{one_more}

@@ -1,7 +1,7 @@
 -- What the commands that read the store of trials answer by its tables (this project's profile): each has its line of `Reply`.
 use Rattle.std.specs.Prelude.{◌≡◌, ℕ, List, []}
-use Rattle.command_words.specs.declared.command.Query.{Query}
-use Rattle.command_words.specs.declared.command.Query.TheVariants.{List as list_query}
+use Rattle.now_words.specs.declared.command.Query.{Query}
+use Rattle.now_words.specs.declared.command.Query.TheVariants.{List as list_query}
 use Rattle.delivery.specs.Ending.{done}
 use Rattle.keeper.specs.Tables.{TablesView}
 use Rattle.trial_list.specs.Lines.{list_bytes}

@@ -2,7 +2,7 @@
 use Rattle.std.specs.Prelude.{◌≡◌, ℕ, List, map, Option, Some, None, is_some}
 use Rattle.capture.specs.Capture.{is_among}
 use Rattle.delivery.specs.Ending.{Ending, done, uncaught, refused, nothing_there, out_of_steps}
-use Rattle.op_held.specs.Uncaught.{class_raised, text_raised}
+use Rattle.op_state.specs.Uncaught.{class_raised, text_raised}
 use Rattle.prov_base.specs.declared.place.Pos.{Pos}
 use Rattle.py_model.specs.Act.{How, threw}
 use Rattle.py_model.specs.Capture.{Capture, Kept, found_in}
@@ -10,7 +10,7 @@ use Rattle.py_model.specs.Meaning.{run, meaning, starting}
 use Rattle.py_model.specs.Running.{Asking, Ended, over, spent, lacking, state_in, outcome}
 use Rattle.py_model.specs.Store.{RunStore}
 use Rattle.py_tree.specs.Tree.{ScriptTree}
-use Rattle.script_reading.specs.Reading.{HasScript, IsRefusedAt}
+use Rattle.py_parser.specs.Reading.{HasScript, IsRefusedAt}
 use Rattle.now_top.specs.World.{World, Plan, closing, StandsAt, IsNowhere, IsUnasked}
 
 -- How the command ends after a run: of an exception that nothing caught it says the name of its class, the line in which it was raised

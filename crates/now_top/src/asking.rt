@@ -5,8 +5,8 @@ ghost use Rattle.now_top.specs.Kept.{stored};
 ghost use Rattle.now_top.specs.Planned.{plan_of, plan_of_text};
 
 use crate::planned::{Planned, ending_without};
-use command_words::Query;
 use keeper::Keeper;
+use now_words::Query;
 use prov_base::Bytes;
 use std::alloc::Global;
 use trial_keeping::TrialFault;

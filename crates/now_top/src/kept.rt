@@ -1,6 +1,6 @@
 // `run`: a script that is read, run and kept as a trial.
 ghost use Rattle.std.specs.Prelude.{◌≡◌, false, Some};
-ghost use Rattle.command_words.specs.Command.{run_kept as run_kept_command};
+ghost use Rattle.now_words.specs.Command.{run_kept as run_kept_command};
 ghost use Rattle.now_top.specs.KeepingRun.{KeepsText};
 ghost use Rattle.now_top.specs.Kept.{stored};
 ghost use Rattle.now_top.specs.Planned.{plan_of, plan_of_run};

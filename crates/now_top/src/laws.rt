@@ -1,10 +1,10 @@
 // The laws of the top call: public functions without a body, whose contracts are the laws.
 ghost use Rattle.std.specs.Prelude.{◌≡◌, ℕ, false, List, ◌⊎◌, Option, Some};
-ghost use Rattle.command_words.specs.declared.command.Query.{Query as Question};
+ghost use Rattle.now_words.specs.declared.command.Query.{Query as Question};
 ghost use Rattle.delivery.specs.Ending.{status_of};
 ghost use Rattle.keeper.specs.Keeping.{KeeperView};
 ghost use Rattle.keeper.specs.Tables.{TablesView};
-ghost use Rattle.command_words.specs.Command.{Command, cut, run_kept, reads, command_of};
+ghost use Rattle.now_words.specs.Command.{Command, cut, run_kept, reads, command_of};
 ghost use Rattle.prov_outside.specs.Count.{Rose};
 ghost use Rattle.prov_outside.specs.Tells.{Tells};
 ghost use Rattle.now_top.specs.Completes.{IsTold, Completes, DoesWhole, DoesAsMeant, WritesPrefixes, WritesSlice, KeepsOne, RepliesBy};
@@ -18,7 +18,7 @@ ghost use Rattle.now_top.specs.World.{World, Plan};
 use delivery::{
     done_is_whole, ends_in_one_way, no_count_rose, no_fault_answered, prefixes_are_written,
 };
-use script_reading::one_reading;
+use py_parser::one_reading;
 use straight_line::one_slice;
 
 /// The law that a command has at most one meaning over a world and the tables of the store: one ending with one text and the same files, among them the place at which a script is

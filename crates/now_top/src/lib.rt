@@ -2,7 +2,7 @@
 //!
 //! [`now`] makes a plan, keeps its run, and delivers the plan. What it says is `RepliesWith` in `specs/Replies.antt`: from what its devices and the keeper tell and
 //! count as it begins to what they tell and count as it ends, stage by stage.
-//! - The words are a command by `command_words`, or none. What they mean over a world, the files of the folder and what the devices give, is
+//! - The words are a command by `now_words`, or none. What they mean over a world, the files of the folder and what the devices give, is
 //!   `Means` in `specs/Means.antt`, with a file for each command: `specs/CutCommand.antt`, `specs/RunCommand.antt`. `run` means what `run --bare` means.
 //! - What reads the store means its reply by the tables (`Reply` in `specs/Reply.antt`, a line for each question). The keeper is asked, and its tables stay.
 //! - FILE is read only where it is a path. `run` then runs its script over the devices, which are asked what the run asks and no more; without `--bare` the clock is

@@ -1,7 +1,7 @@
 // What the words ask for, worked out before anything is delivered.
 ghost use Rattle.std.specs.Prelude.{◌≡◌, ◌≤◌, ◌⊎◌, false, Option, Some, map};
 ghost use Rattle.std.specs.String.{string_bytes};
-ghost use Rattle.command_words.specs.Command.{cut, command_of};
+ghost use Rattle.now_words.specs.Command.{cut, command_of};
 ghost use Rattle.delivery.specs.Ending.{out_of_memory};
 ghost use Rattle.keeper.specs.Tables.{TablesView};
 ghost use Rattle.now_top.specs.CutCommand.{CutsText};
@@ -16,9 +16,9 @@ use crate::planned::Planned;
 use crate::run::plan_run;
 use crate::source::read_source;
 use answer_source::{Devices, Exposes};
-use command_words::{Command, read};
 use delivery::Ending;
 use keeper::Keeper;
+use now_words::{Command, read};
 use prov_base::Memory;
 use prov_outside::{ClockAndRandom, Console, Folder};
 use std::alloc::Global;

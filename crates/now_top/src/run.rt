@@ -1,6 +1,6 @@
 // `run --bare`: a script that is read and run.
 ghost use Rattle.std.specs.Prelude.{◌≡◌, Option, Some, IfOk, IfErr};
-ghost use Rattle.command_words.specs.Command.{run_bare as run_bare_command};
+ghost use Rattle.now_words.specs.Command.{run_bare as run_bare_command};
 ghost use Rattle.delivery.specs.Ending.{ending_of};
 ghost use Rattle.keeper.specs.Tables.{TablesView};
 ghost use Rattle.now_top.specs.Planned.{plan_of};
@@ -8,7 +8,7 @@ ghost use Rattle.now_top.specs.Reading.{IsRefusedAs};
 ghost use Rattle.now_top.specs.Replies.{Prepares};
 ghost use Rattle.now_top.specs.Running.{RunsOver};
 ghost use Rattle.py_tree.specs.Erasure.{script_of};
-ghost use Rattle.script_reading.specs.Reading.{HasScript};
+ghost use Rattle.py_parser.specs.Reading.{HasScript};
 
 use crate::planned::Planned;
 use crate::source::read_source;
@@ -16,9 +16,9 @@ use answer_source::{Devices, Exposes};
 use delivery::Ending;
 use prov_base::{Memory, Name};
 use prov_outside::{ClockAndRandom, Console, Folder};
+use py_parser::{Refusal, read_script};
 use py_tree::{Script, drop_script};
 use run_engine::run_bare;
-use script_reading::{Refusal, read_script};
 use std::alloc::Global;
 
 /// The script of a text at FILE, or how the command ends where it has none.

@@ -4,8 +4,7 @@ ghost use Rattle.prov_outside.specs.Tells.{Tells};
 ghost use Rattle.now_top.specs.Reading.{ReadsFile, read_as};
 
 use delivery::Ending;
-use paths::is_path;
-use prov_base::Bytes;
+use prov_base::{Bytes, is_path};
 use prov_outside::{Folder, Found, Trouble};
 use std::alloc::Global;
 

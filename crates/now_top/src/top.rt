@@ -1,7 +1,7 @@
 // The top call.
 ghost use Rattle.std.specs.Prelude.{◌≡◌, ◌⊎◌, ℕ, false, List, map, Some};
 ghost use Rattle.std.specs.String.{string_bytes};
-ghost use Rattle.command_words.specs.Command.{command_of, run_kept};
+ghost use Rattle.now_words.specs.Command.{command_of, run_kept};
 ghost use Rattle.now_top.specs.Completes.{IsTold};
 ghost use Rattle.now_top.specs.Promises.{DidAll, KeptRun, WrotePrefix};
 ghost use Rattle.now_top.specs.Replies.{RepliesWith};

@@ -1,10 +1,9 @@
 // A doer that is made, answers rows, and comes to its end.
 use answer_source::Source;
 use capture::FileOut;
-use op_held::{Held, drop_held};
+use case_operations::{Left, Runner, answer_rows_with, closed};
 use op_parts::Parts;
-use op_rows::answer_rows_with;
-use op_starts::{Left, Runner, closed};
+use op_state::{Held, drop_held};
 use prov_base::{Bytes, Memory, Name};
 use prov_outside::{Console, Trouble};
 use std::alloc::Global;

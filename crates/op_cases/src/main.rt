@@ -16,8 +16,8 @@
 
 mod ending;
 
+use case_operations::answer_all;
 use ending::Sitting;
-use op_starts::answer_all;
 use prov_outside::Trouble;
 use prov_real::RealConsole;
 use std::process::ExitCode;

@@ -9,3 +9,9 @@ pub mod OtherWalks
 pub mod Variables
 pub mod Walking
 pub mod WithFiles
+pub mod Defining
+pub mod FirstKinds
+pub mod OfClasses
+pub mod OfKinds
+pub mod RaisedAgain
+pub mod TextNumbers

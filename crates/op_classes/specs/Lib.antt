@@ -2,3 +2,8 @@ pub mod Chains
 pub mod Names
 pub mod Kinds
 pub mod Matching
+pub mod Definitions
+pub mod Instances
+pub mod ObjectKinds
+pub mod Raises
+pub mod Texts

@@ -7,7 +7,7 @@ ghost use Rattle.py_model.specs.Faults.{base_class};
 ghost use Rattle.py_value.specs.Contents.{contents};
 ghost use Rattle.py_value.specs.Seen.{bytes_of};
 
-use crate::class_of;
+use crate::kinds::class_of;
 use op_work::{Stop, Work};
 use prov_base::Pos;
 use py_value::Value;

@@ -7,7 +7,7 @@ ghost use Rattle.py_value.specs.Contents.{contents};
 ghost use Rattle.py_value.specs.Seen.{bytes_of};
 ghost use Rattle.py_value.specs.Values.{IsNamed};
 
-use crate::known;
+use crate::language::known;
 use crate::words::named_fault;
 use op_work::{Exception, Stop, Work};
 use py_model::Answer;

@@ -9,7 +9,7 @@ use Rattle.py_value.specs.Contents.{Contents, contents}
 use Rattle.py_value.specs.Values.{ValuesView}
 use Rattle.py_value.specs.declared.value.Value.{Value}
 use Rattle.op_compare.specs.Pairs.{read_entries, both_of, both_seen}
-use Rattle.op_walks.proofs.NamedValues.{named_stays}
+use Rattle.op_lists.proofs.NamedValues.{named_stays}
 use Rattle.op_work.specs.Entries.{IsNamedEntry, seen_entry}
 use Rattle.op_compare.proofs.Decided.{alike_or_apart}
 

@@ -9,3 +9,10 @@ pub mod Shapes
 pub mod TextOrder
 pub mod TextPlans
 pub mod TupleWalks
+pub mod BestPlans
+pub mod InRanges
+pub mod IndexPlans
+pub mod OtherKinds
+pub mod PartSearch
+pub mod Seeking
+pub mod SoughtIn

@@ -10,8 +10,8 @@ use Rattle.py_model.proofs.Tuples.{some_tuple}
 use Rattle.op_work.specs.Work.{Extends}
 use Rattle.py_model.specs.Faults.{too_deep}
 use Rattle.op_compare.proofs.Lengths.{by_length_suc, none_longer, longer_none}
-use Rattle.op_walks.proofs.TupleParts.{items_are, drop_next}
-use Rattle.op_walks.specs.Parts.{items_at, part_in, parts_in}
+use Rattle.op_lists.proofs.TupleParts.{items_are, drop_next}
+use Rattle.op_lists.specs.Parts.{items_at, part_in, parts_in}
 
 -- what is left of the parts from a place on
 abbrev pub left : Pairs → Bool → ℕ → ℕ → ℕ → ValuesView → (Comparison → Plan) → Plan

@@ -1,2 +1,4 @@
 pub mod Comparisons
 pub mod Pairs
+pub mod Best
+pub mod Places

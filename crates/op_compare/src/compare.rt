@@ -2,15 +2,14 @@
 ghost use Rattle.std.specs.Prelude.{◌≡◌, ◌<◌, length, map, if◌then◌else◌, nat_lt};
 ghost use Rattle.object_store.specs.Store.{keys_at};
 ghost use Rattle.op_compare.specs.Comparisons.{how, how_seen};
-ghost use Rattle.op_walks.specs.Parts.{parts_in};
+ghost use Rattle.op_lists.specs.Parts.{parts_in};
 ghost use Rattle.op_work.specs.Work.{Comes, is_any, as_is};
 ghost use Rattle.py_model.specs.Walks.{compare_within as plan_within, compare_parts as plan_parts, compare_lists as plan_lists, compare_items as plan_items, compare_dicts as plan_dicts, compare_entries as plan_entries, compare_to as plan_to, equals as plan_equals};
 ghost use Rattle.py_value.specs.Contents.{contents, object};
 ghost use Rattle.py_value.specs.Values.{IsNamed, AreNamed};
 ghost use Rattle.py_value.specs.declared.value.Value.TheVariants.{Tuple};
 
-use crate::Comparison;
-use crate::comparison::{by_length, plain, shorter_length};
+use crate::comparison::{Comparison, by_length, plain, shorter_length};
 use crate::pairs::{Shape, entry_pair, item_pair, part_pair, shape_at};
 use crate::texts::compare_texts;
 use op_work::{Exception, Stop, Work};

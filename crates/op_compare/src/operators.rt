@@ -5,7 +5,8 @@ ghost use Rattle.py_model.specs.Arithmetic.{eq_plan, ne_plan, lt_plan, le_plan, 
 ghost use Rattle.py_value.specs.Contents.{contents};
 ghost use Rattle.py_value.specs.Values.{AreNamed};
 
-use crate::{equals, in_order};
+use crate::compare::equals;
+use crate::orders::in_order;
 use op_numbers::{truth_answer, two};
 use op_work::{Stop, Work};
 use py_model::Answer;

@@ -9,9 +9,10 @@ ghost use Rattle.py_model.specs.Walks.{Comparison as OneComparison, compare_to a
 ghost use Rattle.py_value.specs.Contents.{contents};
 ghost use Rattle.py_value.specs.Values.{IsNamed};
 
+use crate::compare::compare_to;
+use crate::comparison::Comparison;
 use crate::pairs::{Shape, shape_at};
 use crate::texts::ordered_texts;
-use crate::{Comparison, compare_to};
 use op_numbers::number;
 use op_work::{Exception, Stop, Work};
 use py_value::Value;

@@ -1,7 +1,7 @@
 // Two items that are compared: parts of tuples, items of lists, values of dictionaries, and what two objects are compared as.
 ghost use Rattle.std.specs.Prelude.{◌≡◌, ◌<◌, length};
 ghost use Rattle.op_compare.specs.Pairs.{read_both, both_of, read_entries, shape_of as shape_of_kinds, shape_seen};
-ghost use Rattle.op_walks.specs.Parts.{part_in};
+ghost use Rattle.op_lists.specs.Parts.{part_in};
 ghost use Rattle.op_numbers.specs.Numbers.{IsNamedPair, seen_pair};
 ghost use Rattle.op_work.specs.Entries.{IsNamedEntry, seen_entry};
 ghost use Rattle.op_work.specs.Work.{Comes, is_any, as_is};
@@ -9,7 +9,7 @@ ghost use Rattle.py_model.specs.Plan.{Plan, looks, kind_of};
 ghost use Rattle.py_value.specs.Contents.{Contents, contents};
 ghost use Rattle.py_value.specs.Values.{IsNamed};
 
-use op_walks::{entry_at, part_at, value_at};
+use op_lists::{entry_at, part_at, value_at};
 use op_work::{Stop, Work};
 use py_value::{Kind, Value};
 use std::alloc::Global;

@@ -4,7 +4,7 @@
 //! - [`time_ns`] (109), [`randint`] (110), [`randrange`] (111), [`input`] (55): each ends as its plan does whose asking is answered by what it is
 //!   given (`answered_by` of `specs/Asking.antt`).
 //! - [`open`] (62), and [`path_asked`]: the path of which it asks. Its clause (`EndsAt` of `specs/Opening.antt`) speaks of stores of a run that have
-//!   the file at that path exactly where it is held. Which texts are paths says `paths`.
+//!   the file at that path exactly where it is held. Which texts are paths says `prov_base`.
 #![tactic(auto)]
 
 mod asked;

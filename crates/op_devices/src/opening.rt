@@ -15,7 +15,7 @@ ghost use Rattle.py_value.specs.declared.access.Mode.TheVariants.{Read as ReadMo
 
 use crate::lines::text_in;
 use op_work::{Exception, Stop, Work};
-use paths::is_path;
+use prov_base::is_path;
 use prov_outside::Found;
 use py_model::Answer;
 use py_value::{Content, Kind, Location, Mode, Value};

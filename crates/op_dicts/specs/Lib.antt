@@ -1,2 +1,3 @@
 pub mod Founds
 pub mod Operands
+pub mod Receivers

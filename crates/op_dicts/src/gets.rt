@@ -6,7 +6,7 @@ ghost use Rattle.py_model.specs.Plan.{Plan, kind_of};
 ghost use Rattle.py_value.specs.Contents.{contents, object};
 ghost use Rattle.py_value.specs.Values.{IsNamed};
 
-use crate::entry_at;
+use crate::entries::entry_at;
 use op_work::{Exception, Stop, Work};
 use py_model::Answer;
 use py_value::{Kind, Value};

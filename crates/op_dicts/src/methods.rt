@@ -6,7 +6,7 @@ ghost use Rattle.py_model.specs.Dicts.{get_method as plan_get};
 ghost use Rattle.py_value.specs.Contents.{contents};
 ghost use Rattle.py_value.specs.Values.{AreNamed};
 
-use crate::{get, get_or};
+use crate::gets::{get, get_or};
 use op_work::{Exception, Stop, Work};
 use py_model::Answer;
 use py_value::Value;

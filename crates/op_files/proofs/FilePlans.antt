@@ -5,8 +5,8 @@ use Rattle.std.specs.Str.{is_utf8}
 use Rattle.op_files.specs.Operands.{file_in, of_object, of_object_text}
 use Rattle.op_files.specs.Pieces.{piece_behind, piece_unless, piece_by, piece_plan}
 use Rattle.op_files.specs.Written.{appended, written_unless, written_by, closed_by}
-use Rattle.op_slices.specs.Lines.{is_reading}
-use Rattle.op_slices.proofs.LineEnds.{counted}
+use Rattle.op_items.specs.Lines.{is_reading}
+use Rattle.op_items.proofs.LineEnds.{counted}
 use Rattle.op_work.specs.Work.{seen_kind}
 use Rattle.py_model.specs.Faults.{wrong_kind}
 use Rattle.py_model.specs.Files.{read_plan, readline_plan, write_plan, write_to, close_plan, taken, not_utf8, wrong_mode}

@@ -1,6 +1,6 @@
 -- What is read of an open file, as a plan that has read what stands in the file.
 use Rattle.std.specs.Prelude.{ℕ, List, drop, Bool, true, false, Option, Some}
-use Rattle.op_slices.specs.Lines.{bytes_in}
+use Rattle.op_items.specs.Lines.{bytes_in}
 use Rattle.py_model.specs.Faults.{wrong_kind}
 use Rattle.py_model.specs.Files.{is_closed_fault, wrong_mode, first_line, taken, to_be_read}
 use Rattle.py_model.specs.Plan.{Plan, read_closed, read_offset, read_file}

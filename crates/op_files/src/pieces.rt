@@ -3,10 +3,10 @@ ghost use Rattle.std.specs.Prelude.{◌≡◌, drop, string_bytes, IfOk, MatchOp
 ghost use Rattle.std.specs.Str.{is_utf8};
 ghost use Rattle.object_store.specs.Store.{file_at};
 ghost use Rattle.op_files.specs.Pieces.{piece as piece_of, piece_in};
-ghost use Rattle.op_slices.specs.Lines.{bytes_in};
+ghost use Rattle.op_items.specs.Lines.{bytes_in};
 ghost use Rattle.py_model.specs.Texts.{size as size_of};
 
-use op_slices::first_line;
+use op_items::first_line;
 use op_texts::size;
 use op_work::Work;
 use prov_base::Memory;

@@ -12,7 +12,7 @@ ghost use Rattle.py_value.specs.declared.access.Kind.TheVariants.{File};
 
 use crate::operands::{one_object, open_file};
 use crate::pieces::{piece_at, piece_size, piece_text};
-use op_slices::is_read;
+use op_items::is_read;
 use op_work::{Exception, Stop, Work};
 use py_model::Answer;
 use py_value::{Content, Location, Mode, Value};

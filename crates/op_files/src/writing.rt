@@ -10,7 +10,7 @@ ghost use Rattle.py_value.specs.Seen.{bytes_of, file_at, bytes_appended};
 ghost use Rattle.py_value.specs.Values.{AreNamed};
 
 use crate::operands::{object_and_text, open_file};
-use op_slices::is_read;
+use op_items::is_read;
 use op_texts::size;
 use op_work::{Exception, Stop, Work};
 use py_model::Answer;

@@ -12,8 +12,8 @@ use Rattle.py_value.specs.Contents.{Contents, contents, nothing, text, tuple, ra
 use Rattle.py_value.specs.Values.{ValuesView}
 use Rattle.py_value.specs.declared.value.Value.{Value}
 use Rattle.py_value.specs.declared.value.Value.TheVariants.{None as NoneValue, Bool, Int, Text, Tuple, Range, Fn, Class, Exc, Builtin, Object}
-use Rattle.op_walks.proofs.Tuples.{items_are}
-use Rattle.op_walks.proofs.TextParts.{characters_are}
+use Rattle.op_lists.proofs.Tuples.{items_are}
+use Rattle.op_lists.proofs.TextParts.{characters_are}
 
 abbrev pub two_items : Contents → Contents → Plan
 two_items v w = getitem (v ∷ w ∷ [])

@@ -5,3 +5,7 @@ pub mod StartPlans
 pub mod Threes
 pub mod TurnPlans
 pub mod UnpackPlans
+pub mod LineEnds
+pub mod LinePlans
+pub mod SlicePlans
+pub mod NextPlans

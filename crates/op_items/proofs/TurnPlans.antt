@@ -2,8 +2,8 @@
 use Rattle.std.proofs.Common.{◌≡◌, ◌∙◌, refl, ap, arith, ◌<◌, ◌≤◌, le-leb, nat_lt, ℕ, zero, suc, pos, Bool, true, false, List, [], ◌∷◌, map, slice_get, unwrap_or, Option, Some, chars, encode_utf8, IsUtf8, if◌then◌else◌}
 use Rattle.std.specs.Option.{option_map}
 use Rattle.std.proofs.lemmas.Bool.{lt-leb}
-use Rattle.op_walks.proofs.Tuples.{items_are}
-use Rattle.op_walks.proofs.TextParts.{characters_are}
+use Rattle.op_lists.proofs.Tuples.{items_are}
+use Rattle.op_lists.proofs.TextParts.{characters_are}
 use Rattle.py_model.specs.Lists.{next, item_or_end}
 use Rattle.py_model.specs.Operands.{gives}
 use Rattle.py_model.specs.Plan.{Plan, looks, counts, ends}

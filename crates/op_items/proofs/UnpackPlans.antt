@@ -2,7 +2,7 @@
 use Rattle.std.proofs.Common.{◌≡◌, ◌∙◌, refl, sym, ap, eqb-true, eq-eqb, ℕ, ◌==◌, Bool, true, false, List, [], ◌∷◌, map, length, if◌then◌else◌}
 use Rattle.std.proofs.lemmas.List.{length-map}
 use Rattle.py_model.proofs.Tuples.{parts_same}
-use Rattle.op_walks.proofs.Tuples.{items_are}
+use Rattle.op_lists.proofs.Tuples.{items_are}
 use Rattle.py_model.specs.Faults.{wrong_kind}
 use Rattle.py_model.specs.Lists.{unpack, wrong_count, tuple_display}
 use Rattle.py_model.specs.Operands.{of_one, gives}

@@ -6,10 +6,8 @@ ghost use Rattle.py_value.specs.Contents.{contents, object};
 ghost use Rattle.py_value.specs.Values.{IsNamed, AreNamed};
 ghost use Rattle.py_value.specs.declared.value.Value.TheVariants.{Tuple};
 
-use op_lists::list;
-use op_making::tuple_display;
+use op_lists::{items_from, list, tuple_display};
 use op_numbers::{one, value_answer};
-use op_walks::items_from;
 use op_work::{Exception, Stop, Work};
 use py_model::Answer;
 use py_value::{Value, tuples_are_their_parts};

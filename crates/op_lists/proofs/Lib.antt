@@ -1,2 +1,17 @@
+pub mod ManyItems
+pub mod ManyLetters
+pub mod NamedValues
+pub mod Objects
+pub mod OneItem
+pub mod OrderKeys
+pub mod OtherKinds
+pub mod RangeNumbers
+pub mod TextParts
+pub mod TupleParts
+pub mod Tuples
 pub mod Indexes
 pub mod ListKinds
+pub mod Building
+pub mod OneSequence
+pub mod Pairing
+pub mod Writing

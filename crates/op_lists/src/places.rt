@@ -7,7 +7,7 @@ ghost use Rattle.py_model.specs.Lists.{with_place};
 ghost use Rattle.py_value.specs.Contents.{contents};
 ghost use Rattle.py_value.specs.Values.{IsNamed};
 
-use op_walks::value_at;
+use crate::items::value_at;
 use op_work::{Exception, Stop, Work};
 use py_value::{Value, number_of};
 use std::alloc::Global;

@@ -3,8 +3,8 @@
 //! There are, with their numbers: const 0 ([`constant`]), give 2, truth 3 and bool 51 ([`truth`]), not 4, neg 5, pos 6, sub 8,
 //! floordiv 10 ([`floor_div`]), mod 11 ([`remainder`]), is 20, is-not 21, abs 50, chr 52, ord 63 and range 65.
 //!
-//! Of add 7 there is what it does with all but two texts or objects ([`add_numbers`], [`join_tuples`]). Add itself is in `op_sums`, mul 9 and
-//! int 56 are in `op_products`.
+//! Of add 7 there is what it does with all but two texts or objects ([`add_numbers`], [`join_tuples`]). Add itself is in `op_joins`, mul 9 and
+//! int 56 are in `op_joins`.
 #![tactic(auto)]
 
 mod answers;

@@ -6,11 +6,11 @@ use Rattle.std.proofs.lemmas.Option.{slice_get_within}
 use Rattle.answer_source.specs.Sources.{Fits as FitsSource, Stands as StandsSource}
 use Rattle.object_store.specs.Keyed.{SeenMap, IsKeyed, ArePlain}
 use Rattle.object_store.specs.Performing.{SuitInTurn}
-use Rattle.op_done.specs.Holding.{Holds}
-use Rattle.op_held.specs.Entering.{set_parameters, parameters_plan}
-use Rattle.op_held.specs.Held.{HeldView, StandsHeld, Finishes, begun}
+use Rattle.op_state.specs.Holding.{Holds}
+use Rattle.op_state.specs.Entering.{set_parameters, parameters_plan}
+use Rattle.op_state.specs.Held.{HeldView, StandsHeld, Finishes, begun}
 use Rattle.op_parts.specs.Parts.{found_by, IsFitting, IsStanding}
-use Rattle.op_asking.proofs.Performed.{began_stands, keyed_run}
+use Rattle.op_parts.proofs.Performed.{began_stands, keyed_run}
 use Rattle.prov_base.specs.declared.place.Pos.{Pos}
 use Rattle.prov_base.specs.declared.refusal.Memory.{Memory as Want}
 use Rattle.py_model.specs.Capture.{Capture}

@@ -1,1 +1,14 @@
+pub mod Suiting
+pub mod GivenEnds
+pub mod WithFile
+pub mod Opens
+pub mod Agreeing
+pub mod Likewise
+pub mod Outcomes
+pub mod Performed
+pub mod FirstAsks
+pub mod FirstFetches
+pub mod Ready
+pub mod Asked
+pub mod Fetched
 pub mod Entrances

@@ -6,13 +6,13 @@ ghost use Rattle.py_model.specs.Doing.{standing};
 ghost use Rattle.py_model.specs.Meaning.{starting};
 ghost use Rattle.py_value.specs.Values.{ValuesView};
 
+use crate::asking::perform_asking;
+use crate::laws::operations_suit;
 use crate::naming::{asks, has_names};
+use crate::opening::perform_open;
 use answer_source::Source;
-use keyed_plans::operations_suit;
 use object_store::{keys_have_entries, named_stays, plans_suit, store_over_contents};
-use op_asking::{perform_asking, perform_open};
-use op_done::holding_is_seen;
-use op_held::Held;
+use op_state::{Held, holding_is_seen};
 use prov_base::{Memory, Name, Pos};
 use py_model::{Doer, Done, Entered, Op, costs_grow, few_operations_ask};
 use py_value::{Value, Values, contents_stay, same_place_same_location};
@@ -100,7 +100,7 @@ impl<S: Source> Doer for Parts<S> {
                 left,
             );
         }
-        match op_deeds::perform(&mut self.held, alloc, op, values, left)? {
+        match crate::performing::perform(&mut self.held, alloc, op, values, left)? {
             Some(deed) => Ok(Done::Did(deed)),
             None => Ok(Done::TooDear),
         }

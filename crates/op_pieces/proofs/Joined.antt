@@ -10,7 +10,7 @@ use Rattle.py_value.specs.Contents.{Contents}
 use Rattle.py_value.specs.Values.{ValuesView, IsNamed, AreNamed}
 use Rattle.py_value.specs.declared.value.Value.{Value}
 use Rattle.op_pieces.specs.Joins.{before_text, behind, joined_on}
-use Rattle.op_rendering.proofs.Following.{not_first, place}
+use Rattle.op_pieces.proofs.Following.{not_first, place}
 
 first_joined : (separator text : List ℕ) (texts : List (List ℕ)) → joined_by separator (text ∷ texts) ≡ text ++ behind separator texts
 first_joined separator text [] = sym (append-nil text)

@@ -1,3 +1,7 @@
+pub mod Counting
+pub mod Following
+pub mod Joining
+pub mod KeyRows
 pub mod Cutting
 pub mod Joined
 pub mod Putting

@@ -2,8 +2,8 @@
 use Rattle.std.proofs.Common.{◌≡◌, refl, sym, ap, ◌∙◌, subst, arith, append-nil, ℕ, zero, suc, ◌+◌, ◌<◌, length, List, [], ◌∷◌, ◌++◌, map, Some, slice_get, unwrap_or, Result, Ok, Err}
 use Rattle.std.specs.Result.{OnOk}
 use Rattle.std.proofs.lemmas.List.{append_assoc}
-use Rattle.op_rendering.proofs.Counting.{counts_then, counts_same, counts_none}
-use Rattle.op_walks.proofs.NamedValues.{all_named_stay, named_behind}
+use Rattle.op_pieces.proofs.Counting.{counts_then, counts_same, counts_none}
+use Rattle.op_lists.proofs.NamedValues.{all_named_stay, named_behind}
 use Rattle.op_work.specs.declared.stop.Stop.{Stop}
 use Rattle.op_work.specs.Work.{WorkView, Comes, Extends, is_any, as_is}
 use Rattle.op_work.proofs.Going.{extends_then, gives_comes, comes_then}

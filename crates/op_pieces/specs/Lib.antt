@@ -1,2 +1,5 @@
+pub mod Counted
+pub mod Parts
+pub mod Pieces
 pub mod Joins
 pub mod Puts

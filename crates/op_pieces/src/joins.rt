@@ -1,7 +1,7 @@
 // Texts that are joined.
 ghost use Rattle.std.specs.Prelude.{◌≡◌, ◌<◌, ◌++◌, map, length, List, ℕ, None, OnOk};
 ghost use Rattle.op_pieces.specs.Joins.{before_text};
-ghost use Rattle.op_rendering.specs.Pieces.{ArePieces, pieces_bytes};
+ghost use Rattle.op_pieces.specs.Pieces.{ArePieces, pieces_bytes};
 ghost use Rattle.op_work.specs.Work.{Comes, Ends};
 ghost use Rattle.py_model.specs.Plan.{Plan};
 ghost use Rattle.py_model.specs.TextMethods.{texts_in, join_plan};
@@ -10,10 +10,11 @@ ghost use Rattle.py_value.specs.Contents.{contents};
 ghost use Rattle.py_value.specs.Seen.{bytes_of};
 ghost use Rattle.py_value.specs.Values.{ValuesView, AreNamed};
 
+use crate::pieces::{Piece, push};
+use crate::texts::put_pieces;
+use op_lists::walk_value;
 use op_numbers::two;
-use op_rendering::{Piece, push, put_pieces};
 use op_texts::text;
-use op_walks::walk_value;
 use op_work::{Stop, Work};
 use py_model::Answer;
 use py_value::Value;

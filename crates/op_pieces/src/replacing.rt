@@ -1,6 +1,6 @@
 // Texts in which others are replaced.
 ghost use Rattle.std.specs.Prelude.{◌≡◌, ◌<◌, map, length, string_bytes, None};
-ghost use Rattle.op_rendering.specs.Counted.{Counted};
+ghost use Rattle.op_pieces.specs.Counted.{Counted};
 ghost use Rattle.op_work.specs.Work.{Ends};
 ghost use Rattle.py_model.specs.TextMethods.{replaced as plan_replaced, replace_plan};
 ghost use Rattle.py_model.specs.Texts.{joined_by, pieces};
@@ -8,7 +8,7 @@ ghost use Rattle.py_value.specs.Contents.{contents};
 ghost use Rattle.py_value.specs.Seen.{bytes_of};
 ghost use Rattle.py_value.specs.Values.{AreNamed};
 
-use op_rendering::put_words;
+use crate::texts::put_words;
 use op_texts::{searched, text};
 use op_work::{Exception, Stop, Work};
 use py_model::Answer;

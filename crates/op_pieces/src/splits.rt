@@ -8,7 +8,7 @@ ghost use Rattle.py_value.specs.Contents.{contents};
 ghost use Rattle.py_value.specs.Seen.{bytes_of};
 ghost use Rattle.py_value.specs.Values.{AreNamed};
 
-use op_making::new_list;
+use op_lists::new_list;
 use op_texts::{searched, size, text, two_texts};
 use op_work::{Exception, Stop, Work};
 use py_model::Answer;

@@ -8,7 +8,7 @@ use Rattle.py_value.specs.Contents.{Contents}
 use Rattle.py_value.specs.Values.{ValuesView, IsNamed, AreNamed}
 use Rattle.py_value.specs.declared.value.Value.{Value}
 use Rattle.op_printing.specs.Inside.{blank_words}
-use Rattle.op_rendering.proofs.Following.{not_first, place}
+use Rattle.op_pieces.proofs.Following.{not_first, place}
 
 abbrev pub blank_follow : Bool → List (List ℕ) → List ℕ
 blank_follow true texts = between (codes " ") texts

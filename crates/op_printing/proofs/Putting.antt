@@ -10,9 +10,9 @@ use Rattle.op_work.specs.declared.stop.Stop.TheVariants.{Memory}
 use Rattle.op_work.specs.Work.{WorkView, Extends, IsKept, Plans, Comes, Faults}
 use Rattle.op_work.proofs.Going.{at_once, comes_then, comes_as, comes_stop, comes_same, fault_comes, extends_same}
 use Rattle.op_printing.specs.Puts.{Puts}
-use Rattle.op_rendering.proofs.Joining.{bytes_push, named_join}
-use Rattle.op_rendering.specs.Pieces.{piece_bytes, pieces_bytes, IsPiece, ArePieces, Adds}
-use Rattle.op_rendering.specs.declared.pieces.Piece.{Piece}
+use Rattle.op_pieces.proofs.Joining.{bytes_push, named_join}
+use Rattle.op_pieces.specs.Pieces.{piece_bytes, pieces_bytes, IsPiece, ArePieces, Adds}
+use Rattle.op_pieces.specs.declared.pieces.Piece.{Piece}
 
 behind_it : (xs ys : List ℕ) → drop (length xs) (xs ++ ys) ≡ ys
 behind_it [] ys = refl

@@ -8,11 +8,11 @@ use Rattle.py_model.specs.Printing.{print_parts, print_items, print_entries, com
 use Rattle.py_model.specs.Walks.{read_value}
 use Rattle.py_value.specs.Contents.{Contents, parts_by}
 use Rattle.py_value.specs.declared.value.Value.{Value}
-use Rattle.op_spelling.specs.Spelling.{follow, end_words}
-use Rattle.op_spelling.proofs.KeyParts.{tuple_words}
-use Rattle.op_rendering.specs.Parts.{separator}
-use Rattle.op_rendering.proofs.Following.{not_first, place, followed, follow_none}
-use Rattle.op_walks.proofs.TupleParts.{drop_next, item_at}
+use Rattle.spelling.specs.Spelling.{follow, end_words}
+use Rattle.spelling.proofs.KeyParts.{tuple_words}
+use Rattle.op_pieces.specs.Parts.{separator}
+use Rattle.op_pieces.proofs.Following.{not_first, place, followed, follow_none}
+use Rattle.op_lists.proofs.TupleParts.{drop_next, item_at}
 
 -- items that are left from a place on, what is left behind a text, and what is left once an item more stands there
 abbrev pub Items : Type 0

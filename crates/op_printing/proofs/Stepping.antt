@@ -12,11 +12,11 @@ use Rattle.op_work.specs.Work.{WorkView, Extends, Plans, Comes}
 use Rattle.op_work.specs.declared.stop.Stop.{Stop}
 use Rattle.op_work.proofs.Going.{comes_as, comes_stop}
 use Rattle.op_printing.specs.Forms.{whole, bare_parts, a_tuple, only_one, Next, comes_inside, comes_again, message_next, one_step, print_plain, Found, one_more, form_at, form_of, rest_by, inner_seen, next_seen, IsStep}
-use Rattle.op_walks.specs.Parts.{items_at}
-use Rattle.op_rendering.specs.Pieces.{pieces_bytes, ArePieces}
+use Rattle.op_lists.specs.Parts.{items_at}
+use Rattle.op_pieces.specs.Pieces.{pieces_bytes, ArePieces}
 use Rattle.op_printing.specs.Puts.{Puts}
 use Rattle.op_printing.specs.declared.forms.Step.{Step}
-use Rattle.op_rendering.specs.declared.pieces.Piece.{Piece}
+use Rattle.op_pieces.specs.declared.pieces.Piece.{Piece}
 
 -- bytes came, and what they belong to comes of them
 pub step_after : {p : Plans (List ℕ)} {before after : List Piece} {a b : WorkView} {done : Unit {0}} (inside : List ℕ) (step : Step) (make : ValuesView → List ℕ → Next) → Puts p before after a b (Ok done)

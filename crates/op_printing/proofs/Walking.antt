@@ -12,12 +12,12 @@ use Rattle.op_work.specs.declared.stop.Stop.{Stop}
 use Rattle.op_work.proofs.Going.{comes_same, comes_then, comes_stop}
 use Rattle.op_printing.specs.Forms.{Inner, form_of, found_seen, inner_seen, IsRest, closed}
 use Rattle.op_printing.specs.Inside.{deeper, inner_text, found_text}
-use Rattle.op_rendering.specs.Pieces.{pieces_bytes, ArePieces, Adds}
+use Rattle.op_pieces.specs.Pieces.{pieces_bytes, ArePieces, Adds}
 use Rattle.op_printing.specs.Puts.{Puts}
 use Rattle.op_printing.specs.declared.forms.Form.{Form}
 use Rattle.op_printing.specs.declared.forms.Rest.{Rest}
 use Rattle.op_printing.specs.declared.forms.Rest.TheVariants.{Whole, Items, Entries, Tuple, Bare, Only}
-use Rattle.op_rendering.specs.declared.pieces.Piece.{Piece}
+use Rattle.op_pieces.specs.declared.pieces.Piece.{Piece}
 use Rattle.op_printing.proofs.Levels.{level_is}
 use Rattle.op_printing.proofs.Putting.{then_word, puts_stop}
 use Rattle.op_printing.proofs.Rows.{entry_next}

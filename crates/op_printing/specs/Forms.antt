@@ -10,14 +10,14 @@ use Rattle.py_model.specs.Raising.{read_args}
 use Rattle.py_value.specs.Contents.{Contents, Parts, contents, nothing, truth, int, text, tuple, range, function, class, exception_class, builtin, object, no_parts, part}
 use Rattle.py_value.specs.Seen.{SeenKind, a_list, a_dict, an_instance, a_file}
 use Rattle.py_value.specs.Values.{ValuesView, IsNamed}
-use Rattle.op_walks.specs.Parts.{part_in, parts_in}
-use Rattle.op_rendering.specs.Pieces.{pieces_bytes}
+use Rattle.op_lists.specs.Parts.{part_in, parts_in}
+use Rattle.op_pieces.specs.Pieces.{pieces_bytes}
 use Rattle.op_printing.specs.declared.forms.Rest.{Rest}
 use Rattle.op_printing.specs.declared.forms.Rest.TheVariants.{Whole, Items, Entries, Tuple, Bare, Only}
 use Rattle.op_printing.specs.declared.forms.Step.{Step}
 use Rattle.op_printing.specs.declared.forms.Step.TheVariants.{Rests, Again}
 use Rattle.op_printing.specs.declared.forms.Form.{Form}
-use Rattle.op_rendering.specs.declared.pieces.Piece.{Piece}
+use Rattle.op_pieces.specs.declared.pieces.Piece.{Piece}
 
 -- What lies inside a value: nothing more; the items of a list, the entries of a dictionary, the parts of a tuple, with brackets or bare; or
 -- one argument.

@@ -3,8 +3,8 @@ use Rattle.std.specs.Prelude.{ℕ, List, ◌++◌, Result}
 use Rattle.py_model.specs.Plan.{Plan}
 use Rattle.op_work.specs.Work.{WorkView, Plans, Comes}
 use Rattle.op_work.specs.declared.stop.Stop.{Stop}
-use Rattle.op_rendering.specs.Pieces.{pieces_bytes, ArePieces}
-use Rattle.op_rendering.specs.declared.pieces.Piece.{Piece}
+use Rattle.op_pieces.specs.Pieces.{pieces_bytes, ArePieces}
+use Rattle.op_pieces.specs.declared.pieces.Piece.{Piece}
 
 -- a plan that goes on with bytes went on with them behind the pieces that were there
 pub record Puts (plan : Plans (List ℕ)) (before after : List Piece) (old new : WorkView) (result : Result (Unit {0}) Stop) : Type 0 where

@@ -1,14 +1,14 @@
 // The names of functions and classes.
-ghost use Rattle.op_rendering.specs.Pieces.{ArePieces};
+ghost use Rattle.op_pieces.specs.Pieces.{ArePieces};
 ghost use Rattle.op_printing.specs.Puts.{Puts};
 ghost use Rattle.py_model.specs.Printing.{noted_name as plan_noted, class_name as plan_class};
 ghost use Rattle.py_value.specs.Contents.{contents};
 
-use op_rendering::{Piece, push, push_word};
-use op_spelling::class_word;
+use op_pieces::{Piece, push, push_word};
 use op_work::{Stop, Work};
 use prov_base::Pos;
 use py_value::Value;
+use spelling::class_word;
 
 // The noted name of the function or class at a place.
 pub(crate) fn push_noted(work: &Work, out: &mut Vec<Piece>, place: Pos) -> Result<(), Stop>

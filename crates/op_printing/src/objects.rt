@@ -1,8 +1,8 @@
 // What objects come to at their level.
 ghost use Rattle.std.specs.Prelude.{◌≡◌, ◌∷◌, ◌<◌, ◌≤◌, ◌+◌, ◌^◌, length, codes, List, ℕ, Option, IfOk, OnOk};
 ghost use Rattle.op_printing.specs.Forms.{Next, call_next, message_next, args_step as plan_args, end_step as plan_end, instance_step as plan_instance, container_next, object_step as plan_object, one_step as plan_step, form_of as plan_form, next_seen, found_seen, inner_seen, IsStep, IsRest, rest_by, one_more};
-ghost use Rattle.op_rendering.specs.Pieces.{ArePieces, pieces_bytes};
-ghost use Rattle.op_rendering.specs.declared.pieces.Piece.{Piece as OnePiece};
+ghost use Rattle.op_pieces.specs.Pieces.{ArePieces, pieces_bytes};
+ghost use Rattle.op_pieces.specs.declared.pieces.Piece.{Piece as OnePiece};
 ghost use Rattle.op_work.specs.Work.{Comes, Extends};
 ghost use Rattle.py_model.specs.Plan.{Plan, kind_of};
 ghost use Rattle.py_model.specs.Printing.{is_inside as list_is_inside};
@@ -13,7 +13,7 @@ use crate::forms::{Form, Rest, Step, is_inside};
 use crate::plain::{push_class_between, push_file, push_plain};
 use crate::reads::read_args;
 use op_classes::end_of_chain;
-use op_rendering::{Piece, push_word};
+use op_pieces::{Piece, push_word};
 use op_work::{Exception, Stop, Work};
 use py_value::{Kind, Value, tuples_are_their_parts};
 use std::alloc::{AllocError, Global};

@@ -1,7 +1,7 @@
 // The operations that print.
 ghost use Rattle.std.specs.Prelude.{◌≡◌, ◌++◌, map, codes, List, ℕ, None};
 ghost use Rattle.op_printing.specs.Inside.{blank_words};
-ghost use Rattle.op_rendering.specs.Pieces.{ArePieces};
+ghost use Rattle.op_pieces.specs.Pieces.{ArePieces};
 ghost use Rattle.op_printing.specs.Puts.{Puts};
 ghost use Rattle.op_work.specs.Work.{Ends};
 ghost use Rattle.py_model.specs.Operands.{of_one};
@@ -12,7 +12,7 @@ ghost use Rattle.py_value.specs.Values.{IsNamed, AreNamed};
 
 use crate::walk::print_value;
 use op_numbers::one;
-use op_rendering::{Piece, push_word, put_pieces};
+use op_pieces::{Piece, push_word, put_pieces};
 use op_work::{Stop, Work};
 use py_model::Answer;
 use py_value::Value;

@@ -1,7 +1,7 @@
 // Values that are no tuples and no objects.
 ghost use Rattle.std.specs.Prelude.{◌≡◌, ◌<◌, ◌++◌, length, codes, List, ℕ};
 ghost use Rattle.op_printing.specs.Forms.{print_plain};
-ghost use Rattle.op_rendering.specs.Pieces.{ArePieces, IsPiece, piece_bytes, one_piece};
+ghost use Rattle.op_pieces.specs.Pieces.{ArePieces, IsPiece, piece_bytes, one_piece};
 ghost use Rattle.op_printing.specs.Puts.{Puts};
 ghost use Rattle.py_model.specs.Plan.{Plan};
 ghost use Rattle.py_model.specs.Printing.{noted_name as plan_noted, class_name as plan_class, angled as angled_text, literal as literal_text, quoted_or_not};
@@ -10,11 +10,11 @@ ghost use Rattle.py_value.specs.Seen.{bytes_of};
 ghost use Rattle.py_value.specs.Values.{ValuesView, IsNamed};
 
 use crate::names::{push_class, push_noted};
-use op_rendering::{Piece, push, push_word};
-use op_spelling::truth_text;
+use op_pieces::{Piece, push, push_word};
 use op_work::{Stop, Work};
 use prov_base::Pos;
 use py_value::Value;
+use spelling::truth_text;
 
 // The noted name of a place in angles.
 fn push_angled(

@@ -1,6 +1,6 @@
 // What the print walk reads: parts of tuples, entries of dictionaries, and the arguments of exceptions.
 ghost use Rattle.std.specs.Prelude.{◌<◌, length};
-ghost use Rattle.op_walks.specs.Parts.{part_in};
+ghost use Rattle.op_lists.specs.Parts.{part_in};
 ghost use Rattle.op_work.specs.Work.{Comes};
 ghost use Rattle.py_model.specs.Plan.{Plan, looks, read_entry as plan_entry};
 ghost use Rattle.py_model.specs.Raising.{read_args as plan_args};
@@ -8,7 +8,7 @@ ghost use Rattle.py_model.specs.Printing.{value_in};
 ghost use Rattle.py_value.specs.Contents.{Contents, contents};
 ghost use Rattle.py_value.specs.Values.{IsNamed};
 
-use op_walks::{entry_at, part_at};
+use op_lists::{entry_at, part_at};
 use op_work::{Stop, Work};
 use py_value::Value;
 use std::alloc::Global;

@@ -2,10 +2,10 @@
 ghost use Rattle.std.specs.Prelude.{◌≡◌, ◌≤◌, ◌<◌, ◌-◌, ◌++◌, length, map, codes, List, ℕ, OnOk};
 ghost use Rattle.object_store.specs.Store.{keys_at};
 ghost use Rattle.op_printing.specs.Forms.{closed, inner_seen, IsRest};
-ghost use Rattle.op_rendering.specs.Parts.{separator};
-ghost use Rattle.op_walks.specs.Parts.{parts_in};
+ghost use Rattle.op_pieces.specs.Parts.{separator};
+ghost use Rattle.op_lists.specs.Parts.{parts_in};
 ghost use Rattle.op_printing.specs.Inside.{deeper, inner_text, listed, print_row, keyed, print_keyed, tupled, print_joined};
-ghost use Rattle.op_rendering.specs.Pieces.{Adds, ArePieces, pieces_bytes};
+ghost use Rattle.op_pieces.specs.Pieces.{Adds, ArePieces, pieces_bytes};
 ghost use Rattle.op_printing.specs.Puts.{Puts};
 ghost use Rattle.py_model.specs.Plan.{Plan};
 ghost use Rattle.py_model.specs.Printing.{print_to as plan_to, key_text as key_words};
@@ -15,11 +15,11 @@ ghost use Rattle.py_value.specs.Values.{ValuesView, IsNamed, AreNamed};
 use crate::forms::Rest;
 use crate::objects::form_of;
 use crate::reads::{entry_value, look_part};
-use op_rendering::{Piece, push, push_word};
-use op_spelling::{is_low, tuple_end};
-use op_walks::value_at;
+use op_lists::value_at;
+use op_pieces::{Piece, push, push_word};
 use op_work::{Exception, Stop, Work};
 use py_value::{Value, contents_stay};
+use spelling::{is_low, tuple_end};
 use std::alloc::{AllocError, Global};
 
 // What stands before an item.

@@ -5,7 +5,7 @@ use Rattle.py_model.specs.Faults.{wrong_number}
 use Rattle.py_model.specs.Operations.{Op as SeenOp, language, functions, methods, or_none, or_no_operation, def_plan, class_plan, is_silent, targets_of}
 use Rattle.py_model.specs.Plan.{Plan}
 use Rattle.py_model.specs.Told.{is_operation}
-use Rattle.op_objects.specs.Definitions.{defining, beginning}
+use Rattle.op_classes.specs.Definitions.{defining, beginning}
 use Rattle.op_table.specs.Operands.{silent_value, targets_value}
 use Rattle.py_model.proofs.Tuples.{some_tuple}
 use Rattle.py_value.specs.Contents.{Contents, contents}

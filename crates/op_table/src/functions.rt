@@ -7,13 +7,13 @@ ghost use Rattle.py_model.specs.Told.{IsNamedOp};
 ghost use Rattle.py_value.specs.Values.{AreNamed};
 
 use crate::wrapped::{do_isinstance, missing};
-use op_making::{enumerate, list_builtin, tuple_builtin, zip};
+use op_compare::{max, min};
+use op_dicts::{dict_builtin, len};
+use op_joins::{int, sum};
+use op_lists::{enumerate, list_builtin, tuple_builtin, zip};
 use op_numbers::{abs, chr, ord, range, truth};
-use op_orders::sorted;
 use op_printing::{print, repr, str};
-use op_products::{int, sum};
-use op_search::{max, min};
-use op_views::{dict_builtin, len};
+use op_sorting::sorted;
 use op_work::{Stop, Work};
 use py_model::{Answer, Op};
 use py_value::Value;

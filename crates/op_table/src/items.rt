@@ -6,10 +6,9 @@ ghost use Rattle.py_model.specs.Told.{IsNamedOp};
 ghost use Rattle.py_value.specs.Values.{AreNamed};
 
 use crate::wrapped::missing;
-use op_changes::{delitem, dict_display};
-use op_items::{getitem, setitem};
-use op_making::{list_display, tuple_display};
-use op_slices::slice;
+use op_items::{getitem, setitem, slice};
+use op_lists::{list_display, tuple_display};
+use op_mutations::{delitem, dict_display};
 use op_work::{Stop, Work};
 use py_model::{Answer, Op};
 use py_value::Value;

@@ -6,17 +6,16 @@ ghost use Rattle.py_model.specs.Told.{IsNamedOp};
 ghost use Rattle.py_value.specs.Values.{AreNamed};
 
 use crate::wrapped::missing;
-use op_changes::{append, insert, items, pop, values};
-use op_dicts::get_method;
+use op_compare::index;
+use op_dicts::{get_method, keys};
 use op_files::{close, read, readline, write};
-use op_orders::sort;
+use op_joins::{extend, reverse};
+use op_mutations::{append, insert, items, pop, values};
 use op_pieces::{join, replace, split};
-use op_search::index;
-use op_sums::{extend, reverse};
+use op_sorting::sort;
 use op_texts::{
     endswith, find, isdigit, ljust, lower, lstrip, rjust, rstrip, startswith, strip, upper,
 };
-use op_views::keys;
 use op_work::{Stop, Work};
 use py_model::{Answer, Op};
 use py_value::Value;

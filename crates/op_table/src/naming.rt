@@ -10,10 +10,9 @@ use crate::wrapped::{
     do_getattr, do_import, do_load, do_matches, do_raise, do_setattr, do_unbind, do_unpack,
     missing,
 };
-use op_items::iter;
+use op_classes::{assertion_failed, make};
+use op_items::{iter, next};
 use op_numbers::give;
-use op_objects::{assertion_failed, make};
-use op_slices::next;
 use op_work::{Stop, Work};
 use py_model::{Answer, Op};
 use py_value::Value;

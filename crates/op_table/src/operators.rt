@@ -6,11 +6,9 @@ ghost use Rattle.py_model.specs.Told.{IsNamedOp};
 ghost use Rattle.py_value.specs.Values.{AreNamed};
 
 use crate::wrapped::missing;
-use op_compare::{eq, ge, gt, le, lt, ne};
+use op_compare::{eq, ge, gt, is_in, le, lt, ne, not_in};
+use op_joins::{add, iadd, mul};
 use op_numbers::{floor_div, is, is_not, neg, not, pos, remainder, sub, truth};
-use op_products::mul;
-use op_search::{is_in, not_in};
-use op_sums::{add, iadd};
 use op_work::{Stop, Work};
 use py_model::{Answer, Op};
 use py_value::Value;

@@ -11,10 +11,12 @@ ghost use Rattle.py_value.specs.Contents.{contents};
 ghost use Rattle.py_value.specs.Values.{AreNamed};
 
 use op_attributes::{find, getattr, setattr};
-use op_classes::{begin_with, bind, call_failed, end_with, import_module, load, matches, unbind};
+use op_classes::{
+    begin_with, bind, call_failed, class, def, end_with, import_module, isinstance, load, matches,
+    raise, unbind,
+};
 use op_items::unpack;
 use op_numbers::{constant, one, two};
-use op_objects::{class, def, isinstance, raise};
 use op_work::{Exception, Stop, Work};
 use py_model::{Answer, Op};
 use py_value::Value;

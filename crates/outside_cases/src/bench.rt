@@ -8,7 +8,7 @@ use keeper::{Head, Keeper};
 use memory_keeper::{MemoryKeeper, Tables};
 use now_top::now;
 use prov_base::{Bytes, Name};
-use prov_outside::{MemoryConsole, MemoryFolder, MemoryClockAndRandom};
+use prov_outside::{MemoryClockAndRandom, MemoryConsole, MemoryFolder};
 use std::alloc::{AllocError, Global};
 
 /// The one file of the folder, the numbers of the calls of the console, of the folder and of the store of trials that fail, where 0 is none, and what the clock answers
@@ -141,7 +141,11 @@ impl Bench {
         Ok(Devices {
             console: self.console(alloc)?,
             folder: self.folder(alloc)?,
-            moments: MemoryClockAndRandom::of(self.clock.clone()?, Vec::new(alloc), Vec::new(alloc)),
+            moments: MemoryClockAndRandom::of(
+                self.clock.clone()?,
+                Vec::new(alloc),
+                Vec::new(alloc),
+            ),
         })
     }
 

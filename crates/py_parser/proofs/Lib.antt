@@ -32,3 +32,5 @@ pub mod SameLine
 pub mod ScriptHeads
 pub mod Shallow
 pub mod UnderParts
+mod Answered
+mod OneReading

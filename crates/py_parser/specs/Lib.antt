@@ -5,3 +5,4 @@ pub mod ParsedBlocks
 pub mod RowForms
 pub mod Rows
 pub mod Script
+pub mod Reading

@@ -16,8 +16,8 @@ use Rattle.capture.specs.declared.ended.Ended.{Ended as EndedRun}
 use Rattle.capture.specs.declared.ended.FileOut.{FileOut}
 use Rattle.capture.specs.declared.ended.RunEnd.{RunEnd as EndTold}
 use Rattle.capture.specs.declared.ended.RunEnd.TheVariants.{Finished, Raised, Spent}
-use Rattle.op_held.specs.Finals.{file_out}
-use Rattle.op_held.specs.Uncaught.{class_raised, text_raised}
+use Rattle.op_state.specs.Finals.{file_out}
+use Rattle.op_state.specs.Uncaught.{class_raised, text_raised}
 use Rattle.prov_base.specs.declared.refusal.Memory.{Memory}
 use Rattle.prov_base.specs.declared.place.Pos.{Pos}
 use Rattle.py_model.specs.Act.{Act, Walked, ret, stop, perform, begin, close, enter, leave}

@@ -8,7 +8,7 @@ use Rattle.capture.specs.Answers.{answer_at, AreInOrder, AreOnce}
 use Rattle.capture.specs.Capture.{CaptureView, is_among}
 use Rattle.capture.specs.declared.ended.Ended.{Ended as EndedRun}
 use Rattle.answer_source.specs.Live.{asking_seen, capture_of, has_file}
-use Rattle.op_held.specs.Finals.{file_out}
+use Rattle.op_state.specs.Finals.{file_out}
 use Rattle.py_model.specs.Capture.{Capture, Telling}
 use Rattle.py_model.specs.Meaning.{run, meaning, starting}
 use Rattle.py_model.specs.Moment.{Moment}
@@ -16,8 +16,8 @@ use Rattle.py_model.specs.Running.{state_in, outcome}
 use Rattle.py_tree.specs.Tree.{ScriptTree}
 use Rattle.run_engine.specs.Bare.{EndsAs, RunsBare}
 use Rattle.trace_rows.specs.RowBytes.{AreRows}
-use Rattle.moment_rows.specs.MomentRows.{rows as rows_of}
-use Rattle.moment_rows.specs.PageCuts.{pages as pages_of_rows}
+use Rattle.recorder.specs.MomentRows.{rows as rows_of}
+use Rattle.recorder.specs.PageCuts.{pages as pages_of_rows}
 use Rattle.recorded_runs.specs.declared.recording.Recorded.{Recorded}
 
 -- a run that is over, with this capture in the place of its own

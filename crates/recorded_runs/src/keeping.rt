@@ -6,7 +6,7 @@ ghost use Rattle.prov_outside.specs.Tells.{Tells};
 ghost use Rattle.py_tree.specs.Erasure.{script_of};
 ghost use Rattle.trial_keeping.specs.Fault.{has_failed};
 ghost use Rattle.trial_keeping.specs.Keeping.{KeepsTrial, IsOfKeeping, StopLeaves};
-ghost use Rattle.trial_parts.specs.Causes.{Causes};
+ghost use Rattle.trial_tables.specs.Causes.{Causes};
 ghost use Rattle.recorded_runs.specs.KeptRun.{ClockGives, clock_faults, TimesRun, TimedRuns, run_in};
 
 use crate::recording::{Recorded, record_run};

@@ -6,10 +6,10 @@ use Rattle.py_value.specs.Seen.{value_at, values_at}
 use Rattle.py_value.specs.Values.{ValuesView}
 use Rattle.py_model.specs.Moment.{Moment, begins, does, enters, leaves, ends}
 use Rattle.trace_rows.specs.declared.row.Row.{Row}
-use Rattle.moment_rows.specs.MomentRows.{row_of, tell, all_told}
-use Rattle.moment_rows.specs.Naming.{Naming, named_in_moment, name_new, name, name_all}
-use Rattle.moment_rows.specs.Parts.{IsRowOf, ended_by}
-use Rattle.moment_rows.specs.Telling.{view_of, told_by}
+use Rattle.recorder.specs.MomentRows.{row_of, tell, all_told}
+use Rattle.recorder.specs.Naming.{Naming, named_in_moment, name_new, name, name_all}
+use Rattle.recorder.specs.Parts.{IsRowOf, ended_by}
+use Rattle.recorder.specs.Telling.{view_of, told_by}
 use Rattle.recorder.specs.Recorded.{IsRecorded}
 
 module _ (rows : List Row) (ended : List ℕ) where

@@ -3,9 +3,9 @@ use Rattle.std.specs.Prelude.{◌≡◌, ℕ, Bool, true, List, []}
 use Rattle.py_value.specs.Values.{AreInterned}
 use Rattle.py_model.specs.Moment.{Moment}
 use Rattle.trace_rows.specs.declared.row.Row.{Row}
-use Rattle.moment_rows.specs.MomentRows.{all_told}
-use Rattle.moment_rows.specs.Naming.{Naming}
-use Rattle.moment_rows.specs.Telling.{view_of, told_by}
+use Rattle.recorder.specs.MomentRows.{all_told}
+use Rattle.recorder.specs.Naming.{Naming}
+use Rattle.recorder.specs.Telling.{view_of, told_by}
 
 -- what a recorder keeps, the latest first: the rows, and the numbers of the statements that ended, which no row has
 pub record Records : Type 0 where

@@ -3,12 +3,14 @@ ghost use Rattle.std.specs.Prelude.{◌≡◌, ◌<◌, [], reverse, Some, IfOk,
 ghost use Rattle.py_value.specs.Values.{ValuesView};
 ghost use Rattle.py_model.specs.Told.{moment_seen};
 ghost use Rattle.trace_rows.specs.RowBytes.{AreRows};
-ghost use Rattle.moment_rows.specs.Parts.{ended_by};
-ghost use Rattle.moment_rows.specs.MomentRows.{rows as rows_of};
-ghost use Rattle.moment_rows.specs.PageCuts.{pages as pages_of_rows};
+ghost use Rattle.recorder.specs.Parts.{ended_by};
+ghost use Rattle.recorder.specs.MomentRows.{rows as rows_of};
+ghost use Rattle.recorder.specs.PageCuts.{pages as pages_of_rows};
 ghost use Rattle.recorder.specs.Recorded.{moments_of};
 
-use moment_rows::{Namer, name_moment, pages_of};
+use crate::namer::Namer;
+use crate::naming_moments::name_moment;
+use crate::pages::pages_of;
 use prov_base::Memory;
 use py_model::{Moment, Watch};
 use py_value::Values;

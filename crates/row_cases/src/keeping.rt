@@ -1,5 +1,5 @@
 // Whether the rows of a page are kept.
-use kept_rows::first_unkept;
+use row_checks::first_unkept;
 use std::alloc::{AllocError, Global};
 use trace_rows::{Rows, decode_page};
 

@@ -1,4 +1,4 @@
-//! The cases of `trace_rows` and `kept_rows`. A line of the input is a page as digits of base 16. Below it the output has the kinds of its rows and the
+//! The cases of `trace_rows` and `row_checks`. A line of the input is a page as digits of base 16. Below it the output has the kinds of its rows and the
 //! page that these rows make again, or the byte at which the bytes stop being rows. Where a number and a blank stand before the page, they are how many
 //! statements a script has: the output then says whether the page's rows are kept, or which row is the first that is not. The gate compares the output
 //! with the file `stdout`.

@@ -3,3 +3,5 @@ pub mod Loop
 pub mod Numbers
 pub mod Steps
 pub mod Words
+pub mod Accesses
+pub mod Chosen

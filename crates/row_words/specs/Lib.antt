@@ -1,3 +1,5 @@
 pub mod Bytes
 pub mod Fits
 pub mod Reading
+pub mod AccessBytes
+pub mod AccessReading

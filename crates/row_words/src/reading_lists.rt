@@ -2,7 +2,7 @@
 ghost use Rattle.std.specs.Prelude.{◌≡◌};
 ghost use Rattle.row_words.specs.Reading.{Gives, each_at, list_at, value_at};
 
-use crate::ReadFault;
+use crate::fault::ReadFault;
 use crate::reading_numbers::read_number;
 use crate::reading_values::read_value;
 use py_value::Value;

@@ -2,7 +2,7 @@
 ghost use Rattle.std.specs.Prelude.{◌≡◌};
 ghost use Rattle.row_words.specs.Reading.{Gives, number_in, number_at, short_at, signed_at, place_at, byte_at, unzigzag as unzigzag_of};
 
-use crate::ReadFault;
+use crate::fault::ReadFault;
 use prov_base::Pos;
 
 // A number of `more` bytes at most, and one more.

@@ -3,7 +3,7 @@ ghost use Rattle.std.specs.Prelude.{◌≡◌};
 ghost use Rattle.py_value.specs.declared.value.Value.TheVariants.{Int};
 ghost use Rattle.row_words.specs.Reading.{Gives, into, both, number_at, short_at, signed_at, place_at, named_value as named_value_of, placed_value as placed_value_of, numbered_value as numbered_value_of, made_range, value_behind as behind_value, value_at, mode_at, made_instance, made_file, made_behind as behind_made, made_at};
 
-use crate::ReadFault;
+use crate::fault::ReadFault;
 use crate::reading_numbers::{read_number, read_place, read_short, read_signed};
 use crate::tags::{
     MadeTag, NamedTag, NumberedTag, PlacedTag, ValueTag, made_tag, mode_tag, value_tag,

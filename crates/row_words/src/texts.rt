@@ -4,7 +4,9 @@ ghost use Rattle.std.specs.Str.{is_utf8};
 ghost use Rattle.row_words.specs.Bytes.{text_bytes};
 ghost use Rattle.row_words.specs.Reading.{Gives, front_at, text_at};
 
-use crate::{ReadFault, read_number, write_number};
+use crate::fault::ReadFault;
+use crate::reading_numbers::read_number;
+use crate::writing::write_number;
 use prov_base::{Memory, Name};
 use std::alloc::Global;
 use std::str;

@@ -4,10 +4,10 @@ use crate::words::{add_bytes, bytes_of, halves};
 use answer_source::Devices;
 use capture::Ended;
 use prov_base::{Bytes, Memory, Name};
-use prov_outside::{MemoryConsole, MemoryFolder, MemoryClockAndRandom};
+use prov_outside::{MemoryClockAndRandom, MemoryConsole, MemoryFolder};
+use py_parser::{Refusal, read_script};
 use py_tree::{Script, drop_script};
 use run_engine::run_bare;
-use script_reading::{Refusal, read_script};
 use std::alloc::{AllocError, Global};
 use std::mem;
 

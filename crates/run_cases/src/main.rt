@@ -1,4 +1,4 @@
-//! The cases of `script_reading` and `run_engine`: scripts that are read and run over devices in memory. Each line of the input is a command, and
+//! The cases of `py_parser` and `run_engine`: scripts that are read and run over devices in memory. Each line of the input is a command, and
 //! `run` answers, which the gate compares with the file `stdout`. Lines that begin with `#` answer nothing.
 //!
 //! `case NAME` makes an empty script at `s.py`, with 1,000,000 steps, no argument, and devices that hold nothing. `|TEXT` is a line of the script,

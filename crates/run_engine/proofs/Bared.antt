@@ -8,8 +8,8 @@ use Rattle.capture.specs.declared.ended.RunEnd.{RunEnd as EndTold}
 use Rattle.capture.specs.declared.ended.RunEnd.TheVariants.{Finished as FinishedTold, Raised as RaisedTold, Spent as SpentTold}
 use Rattle.flow_values.specs.declared.next.FlowNext.{FlowNext}
 use Rattle.flow_values.specs.declared.next.FlowNext.TheVariants.{More, Finished, Raised, Spent, Unanswered}
-use Rattle.op_done.specs.Holding.{Found}
-use Rattle.op_held.specs.Held.{HeldView, StandsHeld}
+use Rattle.op_state.specs.Holding.{Found}
+use Rattle.op_state.specs.Held.{HeldView, StandsHeld}
 use Rattle.op_parts.specs.Parts.{IsFitting, IsStanding, found_by}
 use Rattle.op_work.specs.Work.{Extends}
 use Rattle.prov_base.specs.declared.refusal.Memory.{Memory}

@@ -1,9 +1,9 @@
 -- What a run has come to so far, from its start to its last step.
 use Rattle.std.proofs.Common.{◌≡◌, ◌⊎◌, inl, refl, sym, ap, subst, ◌∙◌, arith, ℕ, suc, ◌≤◌, List, [], ◌++◌, Option, Some, None, Result, Ok, Err}
-use Rattle.flow_parts.specs.Held.{IsHeldFlow, IsHeldBy}
-use Rattle.flow_parts.specs.Machine.{remaining}
-use Rattle.flow_parts.specs.Seen.{flow_seen}
-use Rattle.flow_parts.specs.declared.frames.FlowFrames.{FlowFrames}
+use Rattle.flow_frames.specs.Held.{IsHeldFlow, IsHeldBy}
+use Rattle.flow_frames.specs.Machine.{remaining}
+use Rattle.flow_frames.specs.Seen.{flow_seen}
+use Rattle.flow_frames.specs.declared.frames.FlowFrames.{FlowFrames}
 use Rattle.interp_eval.specs.Performing.{HasState}
 use Rattle.flow_values.proofs.Outcomes.{and_then, outcome_to}
 use Rattle.flow_values.specs.Step.{Steps, HoldsNext, meant}

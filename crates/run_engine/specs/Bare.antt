@@ -6,8 +6,8 @@ use Rattle.prov_base.specs.declared.refusal.Memory.{Memory}
 use Rattle.capture.specs.declared.ended.Ended.{Ended as EndedRun}
 use Rattle.capture.specs.declared.ended.RunEnd.{RunEnd as EndTold}
 use Rattle.capture.specs.declared.ended.RunEnd.TheVariants.{Finished, Raised, Spent}
-use Rattle.op_held.specs.Finals.{file_out}
-use Rattle.op_held.specs.Uncaught.{class_raised, text_raised}
+use Rattle.op_state.specs.Finals.{file_out}
+use Rattle.op_state.specs.Uncaught.{class_raised, text_raised}
 use Rattle.py_model.specs.Capture.{Capture, Telling}
 use Rattle.py_model.specs.Meaning.{run, meaning, starting, end_in, finished, uncaught, out_of_steps}
 use Rattle.py_model.specs.Moment.{Moment}

@@ -5,10 +5,10 @@ use Rattle.capture.specs.declared.ended.RunEnd.{RunEnd as EndTold}
 use Rattle.capture.specs.declared.ended.RunEnd.TheVariants.{Finished as FinishedTold, Raised as RaisedTold, Spent as SpentTold}
 use Rattle.flow_values.specs.declared.next.FlowNext.{FlowNext}
 use Rattle.flow_values.specs.declared.next.FlowNext.TheVariants.{Finished, Raised, Spent}
-use Rattle.op_done.specs.Holding.{Found}
-use Rattle.op_held.specs.Finals.{file_out}
-use Rattle.op_held.specs.Held.{HeldView, StandsHeld}
-use Rattle.op_held.specs.Uncaught.{class_raised, text_raised}
+use Rattle.op_state.specs.Holding.{Found}
+use Rattle.op_state.specs.Finals.{file_out}
+use Rattle.op_state.specs.Held.{HeldView, StandsHeld}
+use Rattle.op_state.specs.Uncaught.{class_raised, text_raised}
 use Rattle.op_work.specs.Work.{Extends}
 use Rattle.prov_base.specs.declared.refusal.Memory.{Memory}
 use Rattle.py_model.specs.Meaning.{final_files}

@@ -1,12 +1,12 @@
 // A run that is over.
 ghost use Rattle.std.specs.Prelude.{◌≡◌, IfOk, OnOk};
-ghost use Rattle.op_held.specs.Held.{GoesOn};
+ghost use Rattle.op_state.specs.Held.{GoesOn};
 ghost use Rattle.op_work.specs.Work.{Extends};
 ghost use Rattle.run_engine.specs.Over.{CanEnd, IsOverOf, IsToldBy};
 
 use capture::{Capture, Ended, RunEnd};
 use interp_flow::FlowNext;
-use op_held::Held;
+use op_state::Held;
 use prov_base::{Bytes, Memory};
 use py_value::Value;
 use std::alloc::Global;

@@ -17,7 +17,7 @@ use Rattle.py_model.specs.History.{accesses_by}
 use Rattle.py_model.specs.Moment.{Moment}
 use Rattle.py_model.specs.Occurrences.{reach, sets_at, updates_at, owner_stmt}
 use Rattle.row_words.specs.Fits.{Each}
-use Rattle.kept_rows.specs.NamedRows.{NamesAccess}
+use Rattle.row_checks.specs.NamedRows.{NamesAccess}
 use Rattle.slice_law.specs.Closed.{has}
 use Rattle.slice_law.specs.Edges.{from_option, stmt_at, stmts_at, reach_stmts}
 use Rattle.slice_edges.specs.Writers.{sets_in, updates_in}

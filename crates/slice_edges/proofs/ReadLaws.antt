@@ -10,7 +10,7 @@ use Rattle.py_value.specs.Seen.{location_seen, access_seen, IsNamedLocation}
 use Rattle.py_value.specs.Values.{ValuesView}
 use Rattle.py_model.specs.Moment.{Moment}
 use Rattle.row_words.specs.Fits.{Each}
-use Rattle.kept_rows.specs.NamedRows.{NamesAccess}
+use Rattle.row_checks.specs.NamedRows.{NamesAccess}
 use Rattle.slice_law.specs.Closed.{has}
 use Rattle.slice_law.specs.Edges.{Edge, Reason, by_data, by_name, to_each, reach_stmts, unset_local, read_asks, reads_ask}
 use Rattle.slice_edges.specs.Asks.{some_asks}

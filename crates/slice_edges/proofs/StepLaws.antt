@@ -16,7 +16,7 @@ use Rattle.py_model.specs.Plan.{Answer}
 use Rattle.py_model.specs.Told.{how_seen}
 use Rattle.py_model.specs.declared.moment.How.{How}
 use Rattle.row_words.specs.Fits.{Each}
-use Rattle.kept_rows.specs.NamedRows.{NamesAccess}
+use Rattle.row_checks.specs.NamedRows.{NamesAccess}
 use Rattle.slice_law.specs.Closed.{has}
 use Rattle.slice_law.specs.Edges.{edge, by_control, by_jump, from_option, reach_stmts, reads_ask, caller, is_abrupt, asks_for_jump, asks, run_asks}
 use Rattle.slice_edges.specs.declared.asking.Asking.{Asking}

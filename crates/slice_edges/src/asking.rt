@@ -14,12 +14,12 @@ ghost use Rattle.py_model.specs.Plan.{Answer as OneAnswer};
 ghost use Rattle.py_model.specs.Told.{how_seen};
 ghost use Rattle.std.specs.Prelude.{Option};
 ghost use Rattle.row_words.specs.Fits.{Each};
-ghost use Rattle.kept_rows.specs.NamedRows.{NamesAccess, NamesRow};
+ghost use Rattle.row_checks.specs.NamedRows.{NamesAccess, NamesRow};
 ghost use Rattle.slice_law.specs.Closed.{has, IsIn};
 ghost use Rattle.slice_law.specs.Edges.{reach_stmts, run_asks};
 ghost use Rattle.slice_edges.specs.Asks.{among, some_asks};
 ghost use Rattle.slice_edges.specs.HasAsked.{HasAsked};
-ghost use Rattle.trace_moments.specs.Moments.{told_with};
+ghost use Rattle.row_moments.specs.Moments.{told_with};
 
 use crate::Ask;
 use crate::ask::{ask_for, ask_jump};

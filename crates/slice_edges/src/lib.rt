@@ -6,7 +6,7 @@
 //! are the same for each trial of a script.
 //!
 //! - [`Asking::pass`]: what is known before a row becomes what is known after it, wherever the row's texts and tuples are found in a table
-//!   in which each stands once (`rows_in_order_are_interned` of `trace_moments`).
+//!   in which each stands once (`rows_in_order_are_interned` of `row_moments`).
 //! - [`Asking::owner`], [`Asking::is_open`], [`Asking::locations`], [`Asking::writers`], [`Asking::edges`]: what is known.
 //! - [`known_pairs_are_edges`]: what the tests in these clauses mean.
 //!

@@ -1,5 +1,5 @@
 -- What a slice promises: the run of the script that is left in the same capture gives the same value at the same occurrence, in no more
--- steps. This is the law to be shown of every script. `slice_runs` shows it of those without
+-- steps. This is the law to be shown of every script. `slice_simulation` shows it of those without
 -- functions and classes.
 use Rattle.std.specs.Prelude.{◌≡◌, ℕ, ◌≤◌, List, ◌∷◌, Option, Some, None}
 use Rattle.prov_base.specs.declared.place.Pos.{Pos}

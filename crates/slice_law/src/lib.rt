@@ -3,7 +3,7 @@
 //!
 //! `specs/Edges.antt` says which statement asks for which, each at one moment, and which are asked for by the value itself.
 //! `specs/Closed.antt` says what a closed set is, and the least one. Sets are tests into `Bool`. `specs/Reached.antt` says as a relation what is
-//! reached from a value. `specs/Slices.antt` states what a slice promises, which `slice_runs` proves for scripts without `def` and `class`.
+//! reached from a value. `specs/Slices.antt` states what a slice promises, which `slice_simulation` proves for scripts without `def` and `class`.
 #![tactic(auto)]
 
 mod laws;

@@ -25,7 +25,7 @@ use Rattle.py_value.proofs.SameTests.{location_same as seen_same, location_own a
 use Rattle.py_value.proofs.SeenLocations.{location_back}
 use Rattle.py_model.specs.Store.{RunStore, empty, order_of, opening, unset, with_files, with_items}
 use Rattle.row_words.specs.Fits.{Each}
-use Rattle.kept_rows.specs.NamedRows.{NamesAccess}
+use Rattle.row_checks.specs.NamedRows.{NamesAccess}
 use Rattle.slice_things.specs.declared.forms.Forms.{Forms}
 use Rattle.slice_things.specs.declared.held.Held.{Held}
 use Rattle.slice_things.specs.declared.held.Held.TheVariants.{Nothing, Length}

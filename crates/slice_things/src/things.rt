@@ -7,8 +7,8 @@ ghost use Rattle.py_model.specs.History.{with_kind};
 ghost use Rattle.py_model.specs.Moment.{Moment};
 ghost use Rattle.py_model.specs.Store.{RunStore, opening as opening_of};
 ghost use Rattle.row_words.specs.Fits.{Each};
-ghost use Rattle.kept_rows.specs.NamedRows.{NamesAccess, NamesRow};
-ghost use Rattle.trace_moments.specs.Moments.{told_with};
+ghost use Rattle.row_checks.specs.NamedRows.{NamesAccess, NamesRow};
+ghost use Rattle.row_moments.specs.Moments.{told_with};
 ghost use Rattle.slice_things.specs.Forms.{AreForms};
 ghost use Rattle.slice_things.specs.Things.{HoldsStore, HoldsThings, after_one, after_all, shape_seen, IsNormalAccess, IsNormalRow};
 

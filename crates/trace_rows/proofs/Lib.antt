@@ -1,3 +1,4 @@
+pub mod PartsExact
 pub mod PageLaws
 pub mod RowsExact
 pub mod WorkedRows

@@ -11,11 +11,11 @@ use Rattle.row_words.proofs.Steps.{same_some, pick}
 use Rattle.row_words.proofs.Exact.{both_reads, took_into, took_tagged}
 use Rattle.row_words.proofs.Numbers.{short_reads}
 use Rattle.row_words.proofs.Words.{place_reads, text_reads, value_reads, values_reads, made_reads}
-use Rattle.row_accesses.specs.AccessBytes.{accesses_bytes}
-use Rattle.row_accesses.proofs.Accesses.{accesses_reads}
-use Rattle.row_parts.specs.PartBytes.{deed_bytes, outcome_bytes, touches_bytes}
-use Rattle.row_parts.specs.PartReading.{values_at, accesses_at, deed_at, outcome_at, touches_at}
-use Rattle.row_parts.proofs.PartsExact.{answer_reads, how_reads, op_reads}
+use Rattle.row_words.specs.AccessBytes.{accesses_bytes}
+use Rattle.row_words.proofs.Accesses.{accesses_reads}
+use Rattle.trace_rows.specs.PartBytes.{deed_bytes, outcome_bytes, touches_bytes}
+use Rattle.trace_rows.specs.PartReading.{values_at, accesses_at, deed_at, outcome_at, touches_at}
+use Rattle.trace_rows.proofs.PartsExact.{answer_reads, how_reads, op_reads}
 use Rattle.trace_rows.specs.declared.row.Row.{Row}
 use Rattle.trace_rows.specs.declared.row.Row.TheVariants.{Text, Tuple, Begin, Do, Enter, Leave, End}
 use Rattle.trace_rows.specs.declared.tags.RowTag.{RowTag}

@@ -10,7 +10,7 @@ use Rattle.py_value.specs.declared.access.Location.TheVariants.{Var, Entry, Orde
 use Rattle.py_value.specs.declared.access.Mode.TheVariants.{Append}
 use Rattle.py_value.specs.declared.value.Value.TheVariants.{None as NoneValue, Bool, Int, Text as TextValue, Object, Range}
 use Rattle.row_words.specs.Bytes.{number_bytes, number_by, signed_bytes, value_bytes, made_bytes}
-use Rattle.row_accesses.specs.AccessBytes.{access_bytes}
+use Rattle.row_words.specs.AccessBytes.{access_bytes}
 use Rattle.trace_rows.specs.declared.row.Row.{Row}
 use Rattle.trace_rows.specs.declared.row.Row.TheVariants.{Text, Tuple, Begin, Do, Enter, End}
 use Rattle.trace_rows.specs.RowBytes.{row_bytes, rows_bytes}

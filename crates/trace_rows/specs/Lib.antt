@@ -1,3 +1,5 @@
+pub mod PartBytes
+pub mod PartReading
 pub mod Page
 pub mod RowBytes
 pub mod RowReading

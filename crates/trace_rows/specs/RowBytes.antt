@@ -3,8 +3,8 @@ use Rattle.std.specs.Prelude.{◌≡◌, ℕ, true, List, [], ◌∷◌, ◌++�
 use Rattle.py_model.specs.Told.{is_operation}
 use Rattle.row_words.specs.Bytes.{number_bytes, place_bytes, text_bytes, value_bytes, values_bytes, each_bytes}
 use Rattle.row_words.specs.Fits.{IsShort, IsPlace, IsText, IsValue, AreValues, IsMade, Each}
-use Rattle.row_accesses.specs.AccessBytes.{accesses_bytes, AreAccesses}
-use Rattle.row_parts.specs.PartBytes.{how_byte, deed_bytes, outcome_bytes, touches_bytes, IsAnswer}
+use Rattle.row_words.specs.AccessBytes.{accesses_bytes, AreAccesses}
+use Rattle.trace_rows.specs.PartBytes.{how_byte, deed_bytes, outcome_bytes, touches_bytes, IsAnswer}
 use Rattle.trace_rows.specs.declared.row.Row.{Row}
 use Rattle.trace_rows.specs.declared.row.Row.TheVariants.{Text, Tuple, Begin, Do, Enter, Leave, End}
 

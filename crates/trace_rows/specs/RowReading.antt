@@ -6,7 +6,7 @@ use Rattle.py_value.specs.declared.access.Kind.{Kind}
 use Rattle.py_value.specs.declared.value.Value.{Value}
 use Rattle.py_model.specs.declared.moment.Answer.{Answer}
 use Rattle.row_words.specs.Reading.{both, into, tagged, short_at, place_at, text_at, value_at}
-use Rattle.row_parts.specs.PartReading.{how_at, values_at, accesses_at, deed_at, outcome_at, touches_at}
+use Rattle.trace_rows.specs.PartReading.{how_at, values_at, accesses_at, deed_at, outcome_at, touches_at}
 use Rattle.trace_rows.specs.declared.row.Row.{Row}
 use Rattle.trace_rows.specs.declared.row.Row.TheVariants.{Text, Tuple, Begin, Do, Enter, Leave, End}
 use Rattle.trace_rows.specs.declared.fault.PageFault.{PageFault}

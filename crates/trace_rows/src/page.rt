@@ -5,9 +5,10 @@ ghost use Rattle.trace_rows.specs.Page.{IsPage, IsFirstBad, Decodes, IsDecodedAs
 ghost use Rattle.trace_rows.specs.RowBytes.{rows_bytes};
 ghost use Rattle.trace_rows.specs.RowReading.{GivesRow, row_at};
 
+use crate::fault::PageFault;
 use crate::reading_rows::read_row;
+use crate::row::{Row, Rows};
 use crate::writing::write_row;
-use crate::{PageFault, Row, Rows};
 use prov_base::{Bytes, Memory};
 use row_words::ReadFault;
 use std::alloc::Global;

@@ -4,13 +4,14 @@ ghost use Rattle.row_words.specs.Reading.{Gives};
 ghost use Rattle.trace_rows.specs.declared.tags.RowTag.TheVariants.{Text as TextRow, Tuple as TupleRow, Begin as BeginRow, Do as DoRow, Enter as EnterRow, Leave as LeaveRow, End as EndRow};
 ghost use Rattle.trace_rows.specs.RowReading.{row_behind as behind_row, row_at};
 
-use crate::Row;
+use crate::reading::{read_deed, read_how, read_outcome, read_touches};
+use crate::row::Row;
 use crate::tags::{RowTag, row_tag};
 use py_model::Args;
 use py_value::Accesses;
-use row_accesses::read_accesses;
-use row_parts::{read_deed, read_how, read_outcome, read_touches};
-use row_words::{ReadFault, read_place, read_short, read_text, read_value, read_values};
+use row_words::{
+    ReadFault, read_accesses, read_place, read_short, read_text, read_value, read_values,
+};
 use std::alloc::Global;
 
 #[tactic(auto, unfolding(crate::specs::RowReading::row_behind))]

@@ -1,16 +1,16 @@
 // Rows, written at the end of a buffer.
 ghost use Rattle.std.specs.Prelude.{◌≡◌, ◌++◌, ◌∷◌, [], OnOk};
 ghost use Rattle.row_words.specs.Bytes.{place_bytes, values_bytes};
-ghost use Rattle.row_accesses.specs.AccessBytes.{accesses_bytes};
+ghost use Rattle.row_words.specs.AccessBytes.{accesses_bytes};
 ghost use Rattle.trace_rows.specs.RowBytes.{row_bytes};
 
-use crate::Row;
+use crate::row::Row;
+use crate::writing_outcomes::{how_byte, write_deed, write_outcome, write_touches};
 use prov_base::{Memory, Pos};
 use py_value::{Access, Value};
-use row_accesses::write_accesses;
-use row_parts::{how_byte, write_deed, write_outcome, write_touches};
 use row_words::{
-    write_byte, write_numbered, write_place, write_placed, write_tagged, write_text, write_values,
+    write_accesses, write_byte, write_numbered, write_place, write_placed, write_tagged,
+    write_text, write_values,
 };
 
 #[tactic(auto, using(std::proofs::Common::append_assoc))]

@@ -4,10 +4,10 @@ use Rattle.prov_outside.specs.Tells.{Tells}
 use Rattle.keeper.specs.declared.records.Head.{Head}
 use Rattle.keeper.specs.Keeping.{KeeperView, AreKept, LeavesAmong}
 use Rattle.keeper.specs.Tables.{TablesView}
-use Rattle.trial_parts.specs.Kept.{Keeps, StopLeaves as WriteLeaves}
-use Rattle.trial_parts.specs.Written.{next_trial, write_in}
-use Rattle.trial_parts.specs.declared.write_fault.WriteFault.{WriteFault}
-use Rattle.trial_parts.specs.declared.write_fault.WriteFault.TheVariants.{Collision, Keeper, Memory}
+use Rattle.trial_tables.specs.Kept.{Keeps, StopLeaves as WriteLeaves}
+use Rattle.trial_tables.specs.Written.{next_trial, write_in}
+use Rattle.trial_tables.specs.declared.write_fault.WriteFault.{WriteFault}
+use Rattle.trial_tables.specs.declared.write_fault.WriteFault.TheVariants.{Collision, Keeper, Memory}
 use Rattle.trial_keeping.specs.Fault.{of_writing}
 use Rattle.trial_keeping.specs.Keeping.{HasRoom, KeepsTrial, ParentAnswers, StopLeaves}
 use Rattle.trial_keeping.specs.Trial.{Run, contents_of, head_of, parent_in, with_trial_of}

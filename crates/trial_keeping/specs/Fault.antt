@@ -2,8 +2,8 @@
 use Rattle.std.specs.Prelude.{Bool, true, false, Result, Ok, Err}
 use Rattle.keeper.specs.declared.fault.KeepFault.{KeepFault}
 use Rattle.keeper.specs.declared.fault.KeepFault.TheVariants.{Failed, Memory}
-use Rattle.trial_parts.specs.declared.write_fault.WriteFault.{WriteFault}
-use Rattle.trial_parts.specs.declared.write_fault.WriteFault.TheVariants.{Collision as WriteCollision, Keeper as WriteKeeper, Memory as WriteMemory}
+use Rattle.trial_tables.specs.declared.write_fault.WriteFault.{WriteFault}
+use Rattle.trial_tables.specs.declared.write_fault.WriteFault.TheVariants.{Collision as WriteCollision, Keeper as WriteKeeper, Memory as WriteMemory}
 use Rattle.trial_keeping.specs.declared.fault.TrialFault.{TrialFault}
 use Rattle.trial_keeping.specs.declared.fault.TrialFault.TheVariants.{NoTrial, Damaged, Keeper, Collision, Full, Memory as TrialMemory}
 

@@ -2,7 +2,7 @@
 use Rattle.std.specs.Prelude.{◌≡◌, ℕ, ◌<◌, ◌≤◌, ◌⊎◌, ◌↔◌, List, length, Result, Ok, Err}
 use Rattle.keeper.specs.Keeping.{KeeperView}
 use Rattle.keeper.specs.Tables.{TablesView}
-use Rattle.trial_parts.specs.Written.{put, clash, next_trial}
+use Rattle.trial_tables.specs.Written.{put, clash, next_trial}
 use Rattle.trial_keeping.specs.Trial.{Run, parent_in, with_trial_of}
 use Rattle.trial_keeping.specs.declared.fault.TrialFault.{TrialFault}
 use Rattle.trial_keeping.specs.declared.fault.TrialFault.TheVariants.{NoTrial, Damaged, Keeper, Collision, Full, Memory}

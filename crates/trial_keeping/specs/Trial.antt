@@ -9,12 +9,12 @@ use Rattle.capture.specs.declared.ended.RunEnd.TheVariants.{Finished, Raised, Sp
 use Rattle.keeper.specs.declared.records.Head.{Head}
 use Rattle.keeper.specs.Tables.{TablesView}
 use Rattle.content_store.specs.Contents.{digest_of}
-use Rattle.trial_records.specs.declared.record.FoundRecord.{FoundRecord}
-use Rattle.trial_records.specs.declared.record.FoundRecord.TheVariants.{Content, Absent as NoFile, TooLarge as LargeFile, Failed as Refused}
-use Rattle.trial_records.specs.declared.record.FileRecord.{FileRecord}
-use Rattle.trial_records.specs.declared.record.FinalRecord.{FinalRecord}
-use Rattle.trial_records.specs.RecordBytes.{arguments_bytes, capture_bytes, finals_bytes}
-use Rattle.trial_parts.specs.Written.{Written, write_in}
+use Rattle.trial_keeping.specs.declared.record.FoundRecord.{FoundRecord}
+use Rattle.trial_keeping.specs.declared.record.FoundRecord.TheVariants.{Content, Absent as NoFile, TooLarge as LargeFile, Failed as Refused}
+use Rattle.trial_keeping.specs.declared.record.FileRecord.{FileRecord}
+use Rattle.trial_keeping.specs.declared.record.FinalRecord.{FinalRecord}
+use Rattle.trial_keeping.specs.RecordBytes.{arguments_bytes, capture_bytes, finals_bytes}
+use Rattle.trial_tables.specs.Written.{Written, write_in}
 
 -- A run that is over: its script's text and path, its arguments, the steps that it might take, how it ended, the pages of its rows, and when it
 -- began and ended, where the clock told that.

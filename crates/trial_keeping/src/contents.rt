@@ -1,13 +1,13 @@
 // The contents of a run, in the order in which they are put.
 ghost use Rattle.std.specs.Prelude.{◌≡◌, IfOk, map};
-ghost use Rattle.trial_records.specs.RecordBytes.{arguments_bytes};
+ghost use Rattle.trial_keeping.specs.RecordBytes.{arguments_bytes};
 ghost use Rattle.trial_keeping.specs.Trial.{capture_record, finals_record, contents_from};
 
+use crate::encoding::{encode_arguments, encode_capture, encode_finals};
 use crate::records::{file_records, final_records, push_finals, push_found};
 use capture::Ended;
 use prov_base::{Bytes, Memory, Name};
 use std::alloc::Global;
-use trial_records::{encode_arguments, encode_capture, encode_finals};
 
 /// The three records of a run.
 #[derive(Drop)]

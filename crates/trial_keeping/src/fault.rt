@@ -4,7 +4,7 @@ ghost use Rattle.trial_keeping.specs.Fault.{of_keeper, of_writing};
 
 use keeper::KeepFault;
 use prov_base::Digest;
-use trial_parts::{Damage, WriteFault};
+use trial_tables::{Damage, WriteFault};
 
 /// Why a trial is not kept, or not loaded.
 #[derive(Clone, Copy, Debug)]

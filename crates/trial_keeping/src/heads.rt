@@ -2,13 +2,13 @@
 ghost use Rattle.std.specs.Prelude.{◌≡◌, IfErr, IfSome};
 ghost use Rattle.prov_outside.specs.Tells.{Tells};
 ghost use Rattle.keeper.specs.Keeping.{AreKept, LeavesAmong};
-ghost use Rattle.trial_parts.specs.Causes.{Causes};
+ghost use Rattle.trial_tables.specs.Causes.{Causes};
 ghost use Rattle.trial_keeping.specs.Fault.{has_failed};
 ghost use Rattle.trial_keeping.specs.Heads.{FindsCounted, FindsFirst, FindsHead, FindsHeads, IsOfHead, IsOfList};
 
+use crate::fault::TrialFault;
 use keeper::{Head, Keeper};
 use std::alloc::Global;
-use crate::fault::TrialFault;
 
 /// The head of the trial with this number, which counts from 1: `NoTrial` where there is none, `Keeper` where the keeper failed, `Memory` where memory ran out.
 pub fn head<K: Keeper>(alloc: Global, keeper: &mut K, number: u32) -> Result<Head, TrialFault>

@@ -2,18 +2,18 @@
 ghost use Rattle.std.specs.Prelude.{◌≡◌, false, IfErr, IfSome};
 ghost use Rattle.prov_outside.specs.Tells.{Tells};
 ghost use Rattle.keeper.specs.Keeping.{AreKept, LeavesAmong};
-ghost use Rattle.trial_parts.specs.Causes.{Causes};
+ghost use Rattle.trial_tables.specs.Causes.{Causes};
 ghost use Rattle.trial_keeping.specs.Fault.{has_failed};
 ghost use Rattle.trial_keeping.specs.Keeping.{KeepsTrial, IsOfKeeping, ParentAnswers, StopLeaves};
 
-use crate::TrialFault;
 use crate::contents::{contents_of, records_of};
+use crate::fault::TrialFault;
 use crate::run_head::{Given, head_of};
 use capture::Ended;
 use keeper::Keeper;
 use prov_base::{Bytes, Name};
 use std::alloc::Global;
-use trial_parts::keep;
+use trial_tables::keep;
 
 /// How many trials a store holds at most.
 const FULL_STORE: u32 = 1_000_000;

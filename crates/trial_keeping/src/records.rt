@@ -3,12 +3,12 @@ ghost use Rattle.std.specs.Prelude.{◌≡◌, IfOk, ◌++◌, map};
 ghost use Rattle.content_store.specs.Contents.{digest_of as sha1_digest_of};
 ghost use Rattle.trial_keeping.specs.Trial.{found_record, file_record, final_record, found_contents, bytes_of};
 
+use crate::record::{FileRecord, FinalRecord, FoundRecord};
 use capture::FileOut;
 use prov_base::{Bytes, Digest, Memory, Name};
 use prov_outside::Found;
 use sha1::Sha1;
 use std::alloc::Global;
-use trial_records::{FileRecord, FinalRecord, FoundRecord};
 
 /// The SHA-1 digest of bytes.
 pub(crate) fn digest_of(bytes: &[u8]) -> Digest

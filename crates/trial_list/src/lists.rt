@@ -2,7 +2,7 @@
 ghost use Rattle.std.specs.Prelude.{◌≡◌, IfErr, IfSome};
 ghost use Rattle.prov_outside.specs.Tells.{Tells};
 ghost use Rattle.keeper.specs.Keeping.{AreKept, LeavesAmong};
-ghost use Rattle.trial_parts.specs.Causes.{Causes};
+ghost use Rattle.trial_tables.specs.Causes.{Causes};
 ghost use Rattle.trial_keeping.specs.Fault.{has_failed};
 ghost use Rattle.trial_keeping.specs.Heads.{IsOfList};
 ghost use Rattle.trial_list.specs.Lists.{ListsTrials};

@@ -3,13 +3,13 @@ use Rattle.std.proofs.Common.{ℕ, Option, Some, None, Result, Err, Ok, ◌∙�
 use Rattle.prov_outside.specs.Tells.{Tells}
 use Rattle.keeper.specs.declared.records.Head.{Head}
 use Rattle.keeper.specs.Keeping.{KeeperView}
-use Rattle.trial_parts.specs.declared.read_fault.ReadFault.{ReadFault}
-use Rattle.trial_parts.specs.declared.read_fault.ReadFault.TheVariants.{Damaged, Keeper, Memory}
-use Rattle.trial_contents.specs.Checks.{Answers as RestAnswers}
-use Rattle.trial_contents.specs.Rest.{RestView, IsRest}
-use Rattle.trial_pages.specs.Answers.{Answers}
-use Rattle.trial_pages.specs.declared.paged_rows.PagedRows.{PagedRows}
-use Rattle.trial_pages.specs.TrialPages.{AreRowsOf, IsRowDamage}
+use Rattle.trial_tables.specs.declared.read_fault.ReadFault.{ReadFault}
+use Rattle.trial_tables.specs.declared.read_fault.ReadFault.TheVariants.{Damaged, Keeper, Memory}
+use Rattle.trial_loading.specs.Checks.{Answers as RestAnswers}
+use Rattle.trial_loading.specs.Rest.{RestView, IsRest}
+use Rattle.trial_loading.specs.Answers.{Answers}
+use Rattle.trial_loading.specs.declared.paged_rows.PagedRows.{PagedRows}
+use Rattle.trial_loading.specs.TrialPages.{AreRowsOf, IsRowDamage}
 use Rattle.trial_loading.specs.declared.behind.Behind.{Behind}
 use Rattle.trial_loading.specs.Loading.{IsDamagedBehind, bad_rest, bad_rows}
 use Rattle.trial_loading.specs.Stages.{IsBehind, with_rows}

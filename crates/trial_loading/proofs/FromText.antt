@@ -4,19 +4,19 @@ use Rattle.prov_base.specs.declared.place.Pos.{Pos}
 use Rattle.prov_outside.specs.Tells.{Tells}
 use Rattle.py_tree.specs.Erasure.{script_of}
 use Rattle.py_tree.specs.declared.stmt.Script.{Script}
-use Rattle.script_reading.specs.Reading.{HasScript, IsRefusedAt}
-use Rattle.script_reading.specs.declared.refusal.Refusal.{Refusal}
-use Rattle.script_reading.specs.declared.refusal.Refusal.TheVariants.{At, Memory as NoMemory}
+use Rattle.py_parser.specs.Reading.{HasScript, IsRefusedAt}
+use Rattle.py_parser.specs.declared.refusal.Refusal.{Refusal}
+use Rattle.py_parser.specs.declared.refusal.Refusal.TheVariants.{At, Memory as NoMemory}
 use Rattle.keeper.specs.declared.records.Head.{Head}
 use Rattle.keeper.specs.Keeping.{KeeperView}
 use Rattle.keeper.specs.Tables.{TablesView}
-use Rattle.trial_parts.specs.Whole.{fine}
-use Rattle.trial_parts.specs.declared.read_fault.ReadFault.{ReadFault}
-use Rattle.trial_parts.specs.declared.read_fault.ReadFault.TheVariants.{Damaged, Keeper, Memory}
-use Rattle.trial_contents.specs.Rest.{RestView, IsRest}
-use Rattle.trial_pages.specs.Answers.{Answers}
-use Rattle.trial_pages.specs.declared.paged_rows.PagedRows.{PagedRows}
-use Rattle.trial_pages.specs.TrialPages.{AreRowsOf}
+use Rattle.trial_tables.specs.Whole.{fine}
+use Rattle.trial_tables.specs.declared.read_fault.ReadFault.{ReadFault}
+use Rattle.trial_tables.specs.declared.read_fault.ReadFault.TheVariants.{Damaged, Keeper, Memory}
+use Rattle.trial_loading.specs.Rest.{RestView, IsRest}
+use Rattle.trial_loading.specs.Answers.{Answers}
+use Rattle.trial_loading.specs.declared.paged_rows.PagedRows.{PagedRows}
+use Rattle.trial_loading.specs.TrialPages.{AreRowsOf}
 use Rattle.trial_loading.specs.declared.behind.Behind.{Behind}
 use Rattle.trial_loading.specs.declared.trial.Trial.{Trial}
 use Rattle.trial_loading.specs.Loading.{IsDamagedBehind, bad_script, bad_behind, rest_of, pages_of}

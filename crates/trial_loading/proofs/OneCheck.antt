@@ -4,16 +4,16 @@ use Rattle.prov_base.specs.declared.place.Digest.{Digest}
 use Rattle.keeper.specs.declared.records.Head.{Head}
 use Rattle.keeper.specs.Tables.{TablesView}
 use Rattle.capture.specs.declared.answer.Asked.{Asked}
-use Rattle.trial_parts.specs.Whole.{Check, fine, damaged, content_in}
-use Rattle.trial_parts.specs.declared.damage.Damage.{Damage}
-use Rattle.trial_parts.specs.declared.damage.Damage.TheVariants.{RecordAt}
-use Rattle.trial_records.specs.declared.record.FileRecord.{FileRecord}
-use Rattle.trial_records.specs.declared.record.FinalRecord.{FinalRecord}
-use Rattle.trial_records.specs.RecordBytes.{arguments_bytes, finals_bytes}
-use Rattle.trial_records.specs.RecordFits.{ArgumentsFit, CaptureFits, FinalsFit}
-use Rattle.trial_records.specs.RecordFaults.{kept_bytes, IsBadArguments, IsBadCapture, AreBadFinals, IsReadOneWay}
-use Rattle.trial_contents.specs.Checks.{IsBehind, Then, IsRecordWith, IsRecordIn}
-use Rattle.trial_contents.specs.Rest.{RecordsView, RestView, AreRecords, rest_in, IsRest}
+use Rattle.trial_tables.specs.Whole.{Check, fine, damaged, content_in}
+use Rattle.trial_tables.specs.declared.damage.Damage.{Damage}
+use Rattle.trial_tables.specs.declared.damage.Damage.TheVariants.{RecordAt}
+use Rattle.trial_keeping.specs.declared.record.FileRecord.{FileRecord}
+use Rattle.trial_keeping.specs.declared.record.FinalRecord.{FinalRecord}
+use Rattle.trial_keeping.specs.RecordBytes.{arguments_bytes, finals_bytes}
+use Rattle.trial_keeping.specs.RecordFits.{ArgumentsFit, CaptureFits, FinalsFit}
+use Rattle.trial_keeping.specs.RecordFaults.{kept_bytes, IsBadArguments, IsBadCapture, AreBadFinals, IsReadOneWay}
+use Rattle.trial_loading.specs.Checks.{IsBehind, Then, IsRecordWith, IsRecordIn}
+use Rattle.trial_loading.specs.Rest.{RecordsView, RestView, AreRecords, rest_in, IsRest}
 
 -- ---- what a check came to
 

@@ -4,15 +4,15 @@ use Rattle.std.proofs.lemmas.Option.{same_Some}
 use Rattle.prov_base.specs.declared.place.Pos.{Pos}
 use Rattle.py_tree.specs.Erasure.{script_of}
 use Rattle.py_tree.specs.Tree.{ScriptTree}
-use Rattle.script_reading.specs.Reading.{HasScript, IsRefusedAt}
+use Rattle.py_parser.specs.Reading.{HasScript, IsRefusedAt}
 use Rattle.keeper.specs.declared.records.Head.{Head}
 use Rattle.keeper.specs.Tables.{TablesView}
-use Rattle.trial_parts.specs.Whole.{fine, damaged}
-use Rattle.trial_parts.specs.declared.damage.Damage.{Damage}
-use Rattle.trial_parts.specs.declared.damage.Damage.TheVariants.{ScriptAt}
-use Rattle.trial_contents.specs.Rest.{script_in, IsRest}
-use Rattle.trial_pages.specs.declared.paged_rows.PagedRows.{PagedRows}
-use Rattle.trial_pages.specs.TrialPages.{AreRowsOf, IsRowDamage}
+use Rattle.trial_tables.specs.Whole.{fine, damaged}
+use Rattle.trial_tables.specs.declared.damage.Damage.{Damage}
+use Rattle.trial_tables.specs.declared.damage.Damage.TheVariants.{ScriptAt}
+use Rattle.trial_loading.specs.Rest.{script_in, IsRest}
+use Rattle.trial_loading.specs.declared.paged_rows.PagedRows.{PagedRows}
+use Rattle.trial_loading.specs.TrialPages.{AreRowsOf, IsRowDamage}
 use Rattle.trial_loading.specs.declared.trial.Trial.{Trial}
 use Rattle.trial_loading.specs.Loading.{IsLoaded, IsDamagedBehind, bad_rest, bad_rows, IsDamagedFrom, bad_script, bad_behind, IsDamagedUnder, bad_text, bad_from, IsDamaged, rest_of, pages_of}
 use Rattle.trial_loading.specs.OneTrial.{AreSame}

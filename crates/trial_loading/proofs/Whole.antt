@@ -4,9 +4,9 @@ use Rattle.prov_outside.specs.Tells.{Tells}
 use Rattle.keeper.specs.declared.records.Head.{Head}
 use Rattle.keeper.specs.Keeping.{KeeperView}
 use Rattle.keeper.specs.Tables.{TablesView, head_at}
-use Rattle.trial_parts.specs.Found.{Finds}
-use Rattle.trial_parts.specs.Whole.{fine}
-use Rattle.trial_contents.specs.Rest.{script_in}
+use Rattle.trial_tables.specs.Found.{Finds}
+use Rattle.trial_tables.specs.Whole.{fine}
+use Rattle.trial_loading.specs.Rest.{script_in}
 use Rattle.trial_keeping.specs.declared.fault.TrialFault.{TrialFault}
 use Rattle.trial_keeping.specs.declared.fault.TrialFault.TheVariants.{NoTrial, Damaged, Keeper, Collision, Full, Memory}
 use Rattle.trial_loading.specs.declared.trial.Trial.{Trial}

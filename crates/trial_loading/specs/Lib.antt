@@ -1,3 +1,11 @@
+pub mod Checks
+pub mod Faults
+pub mod ReadBack
+pub mod Rest
+pub mod Answers
+pub mod Gathering
+pub mod Placing
+pub mod TrialPages
 pub mod Loading
 pub mod OneTrial
 pub mod Stages

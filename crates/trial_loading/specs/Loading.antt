@@ -6,16 +6,16 @@ use Rattle.py_tree.specs.Numbering.{IsNumbered}
 use Rattle.py_tree.specs.Tree.{ScriptTree}
 use Rattle.py_tree.specs.WellFormed.{IsWellFormed}
 use Rattle.py_grammar.specs.FlatTargets.{is_flat}
-use Rattle.script_reading.specs.Reading.{HasScript, IsRefusedAt}
+use Rattle.py_parser.specs.Reading.{HasScript, IsRefusedAt}
 use Rattle.keeper.specs.declared.records.Head.{Head}
 use Rattle.keeper.specs.Keeping.{KeeperView}
 use Rattle.keeper.specs.Tables.{TablesView, head_at}
-use Rattle.trial_parts.specs.Whole.{fine, damaged}
-use Rattle.trial_parts.specs.declared.damage.Damage.{Damage}
-use Rattle.trial_parts.specs.declared.damage.Damage.TheVariants.{ScriptAt}
-use Rattle.trial_contents.specs.Rest.{RestView, script_in, IsRest}
-use Rattle.trial_pages.specs.declared.paged_rows.PagedRows.{PagedRows}
-use Rattle.trial_pages.specs.TrialPages.{AreRowsOf, IsRowDamage}
+use Rattle.trial_tables.specs.Whole.{fine, damaged}
+use Rattle.trial_tables.specs.declared.damage.Damage.{Damage}
+use Rattle.trial_tables.specs.declared.damage.Damage.TheVariants.{ScriptAt}
+use Rattle.trial_loading.specs.Rest.{RestView, script_in, IsRest}
+use Rattle.trial_loading.specs.declared.paged_rows.PagedRows.{PagedRows}
+use Rattle.trial_loading.specs.TrialPages.{AreRowsOf, IsRowDamage}
 use Rattle.trial_keeping.specs.declared.fault.TrialFault.{TrialFault}
 use Rattle.trial_keeping.specs.declared.fault.TrialFault.TheVariants.{NoTrial, Damaged, Keeper, Collision, Full, Memory}
 use Rattle.trial_loading.specs.declared.trial.Trial.{Trial}

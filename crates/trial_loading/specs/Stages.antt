@@ -2,19 +2,19 @@
 use Rattle.std.specs.Prelude.{◌≡◌, ℕ, List, Result, Ok, Err}
 use Rattle.py_tree.specs.Erasure.{script_of}
 use Rattle.py_tree.specs.declared.stmt.Script.{Script}
-use Rattle.script_reading.specs.Reading.{HasScript}
-use Rattle.script_reading.specs.declared.refusal.Refusal.{Refusal}
-use Rattle.script_reading.specs.declared.refusal.Refusal.TheVariants.{At, Memory as NoMemory}
+use Rattle.py_parser.specs.Reading.{HasScript}
+use Rattle.py_parser.specs.declared.refusal.Refusal.{Refusal}
+use Rattle.py_parser.specs.declared.refusal.Refusal.TheVariants.{At, Memory as NoMemory}
 use Rattle.keeper.specs.declared.records.Head.{Head}
 use Rattle.keeper.specs.Keeping.{KeeperView}
 use Rattle.keeper.specs.Tables.{TablesView}
-use Rattle.trial_parts.specs.Whole.{fine}
-use Rattle.trial_parts.specs.declared.damage.Damage.TheVariants.{ScriptAt}
-use Rattle.trial_parts.specs.declared.read_fault.ReadFault.{ReadFault}
-use Rattle.trial_parts.specs.declared.read_fault.ReadFault.TheVariants.{Damaged as PartDamaged, Keeper as PartKeeper, Memory as PartMemory}
-use Rattle.trial_contents.specs.Rest.{RestView, IsRest}
-use Rattle.trial_pages.specs.declared.paged_rows.PagedRows.{PagedRows}
-use Rattle.trial_pages.specs.TrialPages.{AreRowsOf}
+use Rattle.trial_tables.specs.Whole.{fine}
+use Rattle.trial_tables.specs.declared.damage.Damage.TheVariants.{ScriptAt}
+use Rattle.trial_tables.specs.declared.read_fault.ReadFault.{ReadFault}
+use Rattle.trial_tables.specs.declared.read_fault.ReadFault.TheVariants.{Damaged as PartDamaged, Keeper as PartKeeper, Memory as PartMemory}
+use Rattle.trial_loading.specs.Rest.{RestView, IsRest}
+use Rattle.trial_loading.specs.declared.paged_rows.PagedRows.{PagedRows}
+use Rattle.trial_loading.specs.TrialPages.{AreRowsOf}
 use Rattle.trial_keeping.specs.declared.fault.TrialFault.{TrialFault}
 use Rattle.trial_keeping.specs.declared.fault.TrialFault.TheVariants.{NoTrial, Damaged, Keeper, Collision, Full, Memory}
 use Rattle.trial_loading.specs.declared.behind.Behind.{Behind}

@@ -2,17 +2,18 @@
 ghost use Rattle.std.specs.Prelude.{◌≡◌, IfSome};
 ghost use Rattle.prov_outside.specs.Tells.{Tells};
 ghost use Rattle.keeper.specs.Keeping.{AreKept, LeavesAmong};
-ghost use Rattle.trial_parts.specs.Causes.{Causes};
-ghost use Rattle.trial_parts.specs.ReadFault.{has_failed};
-ghost use Rattle.trial_pages.specs.Answers.{Answers};
+ghost use Rattle.trial_tables.specs.Causes.{Causes};
+ghost use Rattle.trial_tables.specs.ReadFault.{has_failed};
+ghost use Rattle.trial_loading.specs.Answers.{Answers};
 ghost use Rattle.trial_loading.specs.Loading.{IsDamagedBehind};
 ghost use Rattle.trial_loading.specs.Stages.{IsBehind, with_rows};
 
+use crate::paged_rows::PagedRows;
+use crate::reading::rows_of;
+use crate::rest::{Rest, rest_of};
 use keeper::{Head, Keeper};
 use std::alloc::Global;
-use trial_contents::{Rest, rest_of};
-use trial_pages::{PagedRows, rows_of};
-use trial_parts::ReadFault;
+use trial_tables::ReadFault;
 
 /// What stands behind the script of a trial.
 #[derive(Drop)]

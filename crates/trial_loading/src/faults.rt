@@ -2,9 +2,9 @@
 ghost use Rattle.std.specs.Prelude.{◌≡◌};
 ghost use Rattle.trial_loading.specs.Stages.{of_reading, of_refusal};
 
-use script_reading::Refusal;
+use py_parser::Refusal;
 use trial_keeping::TrialFault;
-use trial_parts::{Damage, ReadFault};
+use trial_tables::{Damage, ReadFault};
 
 /// What is amiss of a part of the trial with this number.
 pub(crate) fn fault_of(number: u32, fault: ReadFault) -> TrialFault

@@ -1,14 +1,14 @@
 // That a number has one loaded trial, or one first damage.
 ghost use Rattle.std.specs.Prelude.{◌≡◌, ℕ};
 ghost use Rattle.keeper.specs.Tables.{TablesView};
-ghost use Rattle.trial_parts.specs.declared.damage.Damage.{Damage as OneDamage};
+ghost use Rattle.trial_tables.specs.declared.damage.Damage.{Damage as OneDamage};
 ghost use Rattle.trial_loading.specs.declared.trial.Trial.{Trial as OneTrial};
 ghost use Rattle.trial_loading.specs.Loading.{IsDamaged, IsLoaded};
 ghost use Rattle.trial_loading.specs.OneTrial.{AreSame};
 
-use script_reading::one_reading;
-use trial_pages::rows_are_read_one_way;
-use trial_records::records_are_read_one_way;
+use crate::page_laws::rows_are_read_one_way;
+use py_parser::one_reading;
+use trial_keeping::records_are_read_one_way;
 
 /// The law of loading: the trial with a number is loaded in one way, or has one first damage, and never both.
 pub fn trials_are_loaded_one_way()

@@ -3,21 +3,20 @@ ghost use Rattle.std.specs.Prelude.{◌≡◌, IfErr, IfOk, IfSome};
 ghost use Rattle.prov_outside.specs.Tells.{Tells};
 ghost use Rattle.py_tree.specs.Erasure.{script_of as tree_of};
 ghost use Rattle.keeper.specs.Keeping.{AreKept, LeavesAmong};
-ghost use Rattle.trial_parts.specs.Causes.{Causes};
+ghost use Rattle.trial_tables.specs.Causes.{Causes};
 ghost use Rattle.trial_keeping.specs.Fault.{has_failed};
 ghost use Rattle.trial_loading.specs.Loading.{IsInForm, IsOfLoading, Loads};
 ghost use Rattle.trial_loading.specs.Stages.{IsOfStage, LoadsFrom};
 
-use crate::Trial;
 use crate::behind::read_behind;
 use crate::faults::{fault_of, refusal_of};
-use crate::trial::trial_of;
+use crate::script::script_of;
+use crate::trial::{Trial, trial_of};
 use keeper::{Head, Keeper};
 use prov_base::Bytes;
+use py_parser::read_script;
 use py_tree::drop_script;
-use script_reading::read_script;
 use std::alloc::Global;
-use trial_contents::script_of;
 use trial_keeping::{TrialFault, head};
 
 /// The trial with this head and this text: first its script, and then what stands behind it.

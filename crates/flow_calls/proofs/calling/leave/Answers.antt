@@ -1,5 +1,5 @@
 use Rattle.std.proofs.Common.{[]}
-use Rattle.flow_parts.proofs.Tellings.{word_named}
+use Rattle.flow_frames.proofs.Tellings.{word_named}
 use Rattle.flow_calls.proofs.calling.leave.Goals as goal
 
 pub tell-requires-clause-number : goal.tell-requires-clause-number

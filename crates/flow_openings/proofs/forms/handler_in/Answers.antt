@@ -3,7 +3,7 @@ use Rattle.py_tree.specs.declared.stmt.Form.{Form}
 use Rattle.std.specs.Option.{option_map}
 use Rattle.py_tree.specs.Erasure.{form_of}
 use Rattle.py_tree.proofs.StmtTrees.{handlers_tree, try_tree}
-use Rattle.flow_parts.specs.Machine.{first_handler, handler_in, handlers_from}
+use Rattle.flow_frames.specs.Machine.{first_handler, handler_in, handlers_from}
 use Rattle.flow_openings.specs.Handlers.{handler_seen}
 use Rattle.flow_openings.proofs.Handlers.{handler_is, handlers_seen, seen_so}
 use Rattle.flow_openings.proofs.forms.handler_in.Goals as goal

@@ -2,9 +2,9 @@ use Rattle.std.proofs.Common.{sym, ap, ◌∙◌}
 use Rattle.py_tree.specs.Erasure.{expr_of, form_of, target_of}
 use Rattle.py_tree.proofs.TargetTrees.{part_target_tree}
 use Rattle.py_model.specs.Expressions.{eval}
-use Rattle.flow_parts.specs.Machine.{now_act, owner}
-use Rattle.flow_parts.specs.Seen.{now_seen, part_seen}
-use Rattle.flow_parts.proofs.Starting.{if_more, starts_as}
+use Rattle.flow_frames.specs.Machine.{now_act, owner}
+use Rattle.flow_frames.specs.Seen.{now_seen, part_seen}
+use Rattle.flow_frames.proofs.Starting.{if_more, starts_as}
 use Rattle.flow_openings.specs.Opening.{deleting}
 use Rattle.flow_openings.proofs.opening.deleted.Goals as goal
 

@@ -1,9 +1,9 @@
 use Rattle.std.proofs.Common.{sym, ap, ◌∙◌}
 use Rattle.std.specs.Option.{option_map}
 use Rattle.py_tree.specs.Erasure.{expr_of, form_of}
-use Rattle.flow_parts.specs.Machine.{now_act}
-use Rattle.flow_parts.specs.Seen.{now_seen}
-use Rattle.flow_parts.proofs.Starting.{if_more}
+use Rattle.flow_frames.specs.Machine.{now_act}
+use Rattle.flow_frames.specs.Seen.{now_seen}
+use Rattle.flow_frames.proofs.Starting.{if_more}
 use Rattle.flow_openings.proofs.Beginnings.{begins, begins_plainly}
 use Rattle.flow_openings.proofs.opening.opened.Goals as goal
 

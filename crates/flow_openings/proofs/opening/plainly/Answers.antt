@@ -7,9 +7,9 @@ use Rattle.py_tree.proofs.StmtTrees.{aug_tree, del_tree, assert_tree, class_tree
 use Rattle.py_value.specs.Contents.{class}
 use Rattle.py_model.specs.Expressions.{doing, eval}
 use Rattle.interp_eval.specs.Machine.{a_name}
-use Rattle.flow_parts.specs.Machine.{entered, flow_op, now_act, tested}
-use Rattle.flow_parts.specs.Seen.{now_seen, part_seen}
-use Rattle.flow_parts.proofs.Starting.{if_more}
+use Rattle.flow_frames.specs.Machine.{entered, flow_op, now_act, tested}
+use Rattle.flow_frames.specs.Seen.{now_seen, part_seen}
+use Rattle.flow_frames.proofs.Starting.{if_more}
 use Rattle.flow_openings.specs.Opening.{plain_rule}
 use Rattle.flow_openings.proofs.Followings.{changes_so, follows_as, deletes_so}
 use Rattle.flow_openings.proofs.opening.plainly.Goals as goal

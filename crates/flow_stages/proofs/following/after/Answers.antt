@@ -1,10 +1,10 @@
 use Rattle.std.proofs.Common.{ap, sym, subst, ◌∙◌}
 use Rattle.py_tree.specs.Erasure.{form_of}
 use Rattle.py_value.specs.Contents.{contents}
-use Rattle.flow_parts.specs.Held.{IsHeldStage}
-use Rattle.flow_parts.specs.Machine.{then_act}
-use Rattle.flow_parts.specs.Seen.{stage_seen}
-use Rattle.flow_parts.proofs.Starting.{if_more}
+use Rattle.flow_frames.specs.Held.{IsHeldStage}
+use Rattle.flow_frames.specs.Machine.{then_act}
+use Rattle.flow_frames.specs.Seen.{stage_seen}
+use Rattle.flow_frames.proofs.Starting.{if_more}
 use Rattle.flow_stages.proofs.following.after.Goals as goal
 
 pub returns-in-Stored-clause-held : goal.returns-in-Stored-clause-held

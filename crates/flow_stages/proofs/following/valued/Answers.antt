@@ -7,9 +7,9 @@ use Rattle.py_tree.proofs.StmtTrees.{class_tree}
 use Rattle.py_value.specs.Contents.{class, contents}
 use Rattle.py_model.specs.Expressions.{doing}
 use Rattle.interp_eval.specs.Machine.{a_name}
-use Rattle.flow_parts.specs.Machine.{entered, flow_op, now_act, valued_act}
-use Rattle.flow_parts.specs.Seen.{now_seen, part_seen}
-use Rattle.flow_parts.proofs.Starting.{if_more}
+use Rattle.flow_frames.specs.Machine.{entered, flow_op, now_act, valued_act}
+use Rattle.flow_frames.specs.Seen.{now_seen, part_seen}
+use Rattle.flow_frames.proofs.Starting.{if_more}
 use Rattle.flow_openings.proofs.Followings.{follows_as}
 use Rattle.flow_stages.proofs.following.valued.Goals as goal
 

@@ -2,9 +2,9 @@ use Rattle.std.proofs.Common.{refl, ap, sym, ◌∙◌}
 use Rattle.std.specs.Option.{option_map}
 use Rattle.py_tree.specs.Erasure.{expr_of, form_of}
 use Rattle.py_model.specs.Expressions.{eval}
-use Rattle.flow_parts.specs.Machine.{now_act, sought}
-use Rattle.flow_parts.specs.Seen.{now_seen, part_seen}
-use Rattle.flow_parts.proofs.Starting.{if_more, starts_as}
+use Rattle.flow_frames.specs.Machine.{now_act, sought}
+use Rattle.flow_frames.specs.Seen.{now_seen, part_seen}
+use Rattle.flow_frames.proofs.Starting.{if_more, starts_as}
 use Rattle.flow_openings.specs.Handlers.{handler_seen}
 use Rattle.flow_openings.proofs.Handlers.{by_kind, handled_some}
 use Rattle.flow_stages.proofs.handling.handled.Goals as goal

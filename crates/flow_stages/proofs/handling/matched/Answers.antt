@@ -1,9 +1,9 @@
 use Rattle.std.proofs.Common.{ap, sym, ◌∙◌}
 use Rattle.py_tree.specs.Erasure.{form_of}
 use Rattle.py_value.specs.Contents.{contents}
-use Rattle.flow_parts.specs.Machine.{Part, clause_act, handler_in, missed_act, open_act}
-use Rattle.flow_parts.specs.Seen.{part_seen}
-use Rattle.flow_tests.proofs.Tests.{by_not}
+use Rattle.flow_frames.specs.Machine.{Part, clause_act, handler_in, missed_act, open_act}
+use Rattle.flow_frames.specs.Seen.{part_seen}
+use Rattle.flow_openings.proofs.Tests.{by_not}
 use Rattle.flow_openings.proofs.Handlers.{missed_so}
 use Rattle.flow_stages.proofs.handling.matched.Goals as goal
 

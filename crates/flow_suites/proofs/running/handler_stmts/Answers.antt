@@ -2,8 +2,8 @@ use Rattle.std.proofs.Common.{ap, sym, ◌∙◌}
 use Rattle.std.specs.Option.{option_map}
 use Rattle.py_tree.proofs.StmtTrees.{suite_tree}
 use Rattle.py_model.specs.Statements.{suite}
-use Rattle.flow_parts.specs.Machine.{handled_act}
-use Rattle.flow_parts.specs.Seen.{stmts_seen}
+use Rattle.flow_frames.specs.Machine.{handled_act}
+use Rattle.flow_frames.specs.Seen.{stmts_seen}
 use Rattle.flow_openings.specs.Handlers.{handler_seen}
 use Rattle.flow_suites.proofs.running.handler_stmts.Goals as goal
 

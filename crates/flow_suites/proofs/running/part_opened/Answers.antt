@@ -1,5 +1,5 @@
 use Rattle.std.proofs.Common.{sym, subst}
-use Rattle.flow_parts.specs.Held.{IsHeldStage}
+use Rattle.flow_frames.specs.Held.{IsHeldStage}
 use Rattle.flow_suites.specs.Running.{HoldsOpened}
 use Rattle.flow_suites.specs.declared.running.Opened.{Opened}
 use Rattle.flow_suites.proofs.running.part_opened.Goals as goal

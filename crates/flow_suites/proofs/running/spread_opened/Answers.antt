@@ -4,14 +4,14 @@ use Rattle.py_tree.specs.Erasure.{form_of, targets_of}
 use Rattle.py_tree.proofs.TargetTrees.{targets_tree}
 use Rattle.py_value.specs.Contents.{contents}
 use Rattle.py_model.specs.Act.{to}
-use Rattle.flow_parts.specs.Held.{IsHeldStage}
-use Rattle.flow_parts.specs.Machine.{Part as Part-seen, breaks, open_act, stores, suite_ended}
-use Rattle.flow_parts.specs.Seen.{goal_seen, here_seen, part_seen, stage_seen}
-use Rattle.flow_parts.specs.declared.control.Part.{Part}
-use Rattle.flow_parts.specs.declared.control.Stage.{Stage}
+use Rattle.flow_frames.specs.Held.{IsHeldStage}
+use Rattle.flow_frames.specs.Machine.{Part as Part-seen, breaks, open_act, stores, suite_ended}
+use Rattle.flow_frames.specs.Seen.{goal_seen, here_seen, part_seen, stage_seen}
+use Rattle.flow_frames.specs.declared.control.Part.{Part}
+use Rattle.flow_frames.specs.declared.control.Stage.{Stage}
 use Rattle.flow_suites.specs.Running.{HoldsOpened, OpensBy}
 use Rattle.flow_suites.specs.declared.running.Opened.{Opened}
-use Rattle.flow_stores.proofs.ItemsOf.{targets_seen}
+use Rattle.flow_targets.proofs.ItemsOf.{targets_seen}
 use Rattle.flow_suites.proofs.Spreads.{named_on, spread_end, spread_more, spread_none}
 use Rattle.flow_suites.proofs.running.spread_opened.Goals as goal
 

@@ -3,8 +3,8 @@ use Rattle.std.specs.Option.{option_map}
 use Rattle.py_tree.specs.Erasure.{suite_of}
 use Rattle.py_tree.proofs.StmtTrees.{suite_tree}
 use Rattle.py_model.specs.Statements.{suite}
-use Rattle.flow_parts.specs.Machine.{suite_act}
-use Rattle.flow_parts.specs.Seen.{stmts_seen}
+use Rattle.flow_frames.specs.Machine.{suite_act}
+use Rattle.flow_frames.specs.Seen.{stmts_seen}
 use Rattle.flow_suites.proofs.running.stmts_in.Goals as goal
 
 pub returns-in-Some : goal.returns-in-Some

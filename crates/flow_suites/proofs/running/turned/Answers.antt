@@ -6,11 +6,11 @@ use Rattle.py_tree.proofs.StmtTrees.{for_tree}
 use Rattle.py_value.specs.Contents.{contents, nothing}
 use Rattle.py_model.specs.Expressions.{doing}
 use Rattle.interp_eval.specs.Machine.{plain}
-use Rattle.flow_parts.specs.Held.{IsHeldStage}
-use Rattle.flow_parts.specs.declared.control.Part.{Part}
-use Rattle.flow_parts.specs.Machine.{flow_op, item, now_act, then_act, turn_act}
-use Rattle.flow_parts.specs.Seen.{now_seen, part_seen}
-use Rattle.flow_parts.proofs.Starting.{if_more}
+use Rattle.flow_frames.specs.Held.{IsHeldStage}
+use Rattle.flow_frames.specs.declared.control.Part.{Part}
+use Rattle.flow_frames.specs.Machine.{flow_op, item, now_act, then_act, turn_act}
+use Rattle.flow_frames.specs.Seen.{now_seen, part_seen}
+use Rattle.flow_frames.proofs.Starting.{if_more}
 use Rattle.flow_openings.proofs.Followings.{follows_as}
 use Rattle.flow_suites.proofs.running.turned.Goals as goal
 

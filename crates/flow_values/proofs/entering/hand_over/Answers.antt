@@ -1,5 +1,5 @@
 use Rattle.std.proofs.Common.{sym, subst, ◌∙◌}
-use Rattle.flow_parts.specs.Held.{IsHeldCaller}
+use Rattle.flow_frames.specs.Held.{IsHeldCaller}
 use Rattle.flow_values.proofs.Handing.{callee_named, handed_over}
 use Rattle.flow_values.proofs.entering.hand_over.Goals as goal
 

@@ -5,11 +5,11 @@ use Rattle.py_tree.specs.Erasure.{form_of}
 use Rattle.py_value.specs.Contents.{contents}
 use Rattle.py_model.specs.Act.{ret, to}
 use Rattle.py_model.specs.Expressions.{left_with}
-use Rattle.called_functions.specs.Finding.{found_function}
+use Rattle.script_names.specs.Finding.{found_function}
 use Rattle.interp_eval.specs.Seen.{machine_seen}
-use Rattle.flow_parts.specs.Machine.{gives_back, resumes, then_act}
-use Rattle.flow_parts.specs.Seen.{frame_seen, here_seen, stage_seen, stmts_seen}
-use Rattle.flow_tests.proofs.Tests.{on_more}
+use Rattle.flow_frames.specs.Machine.{gives_back, resumes, then_act}
+use Rattle.flow_frames.specs.Seen.{frame_seen, here_seen, stage_seen, stmts_seen}
+use Rattle.flow_openings.proofs.Tests.{on_more}
 use Rattle.flow_values.proofs.Bodies.{body_so}
 use Rattle.flow_values.proofs.entering.run_body.Goals as goal
 

@@ -1,6 +1,6 @@
 use Rattle.std.proofs.Common.{sym, subst}
-use Rattle.flow_parts.specs.Held.{IsHeldStage}
-use Rattle.flow_parts.specs.declared.control.Giving.{Giving}
+use Rattle.flow_frames.specs.Held.{IsHeldStage}
+use Rattle.flow_frames.specs.declared.control.Giving.{Giving}
 use Rattle.interp_eval.specs.declared.frames.EvalNext.TheVariants.{Call}
 use Rattle.flow_values.specs.Expression.{IsHeldTakenWork}
 use Rattle.flow_values.proofs.expression.call_from.Goals as goal

@@ -1,5 +1,5 @@
 use Rattle.std.proofs.Common.{sym, subst, ◌∙◌}
-use Rattle.flow_parts.specs.Held.{IsHeldNow}
+use Rattle.flow_frames.specs.Held.{IsHeldNow}
 use Rattle.interp_eval.specs.declared.frames.EvalNext.TheVariants.{Call}
 use Rattle.flow_values.specs.Expression.{IsHeldTaken}
 use Rattle.flow_values.proofs.expression.call_now.Goals as goal

@@ -1,8 +1,8 @@
 use Rattle.std.proofs.Common.{refl, ap}
-use Rattle.flow_parts.specs.Machine.{gives, now_act}
-use Rattle.flow_parts.specs.Seen.{here_seen, part_seen, work_seen}
-use Rattle.flow_parts.specs.declared.control.Giving.{Giving}
-use Rattle.flow_parts.specs.declared.control.Now.TheVariants.{Gives}
+use Rattle.flow_frames.specs.Machine.{gives, now_act}
+use Rattle.flow_frames.specs.Seen.{here_seen, part_seen, work_seen}
+use Rattle.flow_frames.specs.declared.control.Giving.{Giving}
+use Rattle.flow_frames.specs.declared.control.Now.TheVariants.{Gives}
 use Rattle.flow_values.proofs.Fronts.{goes_on}
 use Rattle.flow_values.proofs.expression.keep.Goals as goal
 

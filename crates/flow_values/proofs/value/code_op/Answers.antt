@@ -3,7 +3,7 @@ use Rattle.py_model.specs.Operations.{Op}
 use Rattle.py_model.specs.Told.{is_operation, op_seen}
 use Rattle.interp_eval.specs.Machine.{wanted_op}
 use Rattle.interp_eval.specs.Turns.{IsWanted, want_seen}
-use Rattle.flow_parts.specs.Codes.{code_number, code_value}
+use Rattle.flow_frames.specs.Codes.{code_number, code_value}
 use Rattle.flow_values.proofs.value.code_op.Goals as goal
 
 pub make_op-requires : goal.make_op-requires

@@ -3,10 +3,10 @@ use Rattle.py_tree.specs.Erasure.{form_of}
 use Rattle.py_model.specs.Act.{ret, to, normal}
 use Rattle.py_model.specs.Expressions.{by_answer}
 use Rattle.py_model.specs.Told.{answer_seen, IsNamedAnswer}
-use Rattle.flow_parts.specs.Machine.{resumes, then_act}
-use Rattle.flow_parts.specs.Seen.{frame_seen, here_seen, stage_seen}
-use Rattle.flow_parts.specs.declared.control.End.TheVariants.{Normal, Threw}
-use Rattle.flow_parts.specs.declared.control.Now.TheVariants.{Ended}
+use Rattle.flow_frames.specs.Machine.{resumes, then_act}
+use Rattle.flow_frames.specs.Seen.{frame_seen, here_seen, stage_seen}
+use Rattle.flow_frames.specs.declared.control.End.TheVariants.{Normal, Threw}
+use Rattle.flow_frames.specs.declared.control.Now.TheVariants.{Ended}
 use Rattle.py_model.specs.declared.moment.Answer.{Answer}
 use Rattle.flow_values.proofs.Fronts.{goes_on}
 use Rattle.flow_values.proofs.value.take.Goals as goal

@@ -1,7 +1,7 @@
 use Rattle.std.proofs.Common.{ap, sym, subst}
 use Rattle.py_model.specs.Told.{IsNamedAnswer}
-use Rattle.flow_parts.specs.Held.{IsHeldCaller}
-use Rattle.flow_parts.specs.declared.control.Caller.{Caller}
+use Rattle.flow_frames.specs.Held.{IsHeldCaller}
+use Rattle.flow_frames.specs.declared.control.Caller.{Caller}
 use Rattle.interp_flow.proofs.Making.{end_made, raised_made, value_made}
 use Rattle.interp_flow.proofs.calling.answer_step.Goals as goal
 

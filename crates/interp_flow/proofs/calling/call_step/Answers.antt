@@ -1,7 +1,7 @@
 use Rattle.std.proofs.Common.{ap, subst}
 use Rattle.py_tree.specs.Erasure.{script_of}
-use Rattle.flow_parts.specs.Held.{IsHeldCallee}
-use Rattle.flow_parts.specs.declared.control.Callee.TheVariants.{Class, Function}
+use Rattle.flow_frames.specs.Held.{IsHeldCallee}
+use Rattle.flow_frames.specs.declared.control.Callee.TheVariants.{Class, Function}
 use Rattle.flow_values.specs.Calls.{calling_so}
 use Rattle.flow_values.proofs.Stepping.{steps_same}
 use Rattle.interp_flow.proofs.calling.call_step.Goals as goal

@@ -1,6 +1,6 @@
 use Rattle.std.proofs.Common.{subst}
 use Rattle.prov_base.specs.declared.refusal.Memory.{Memory}
-use Rattle.flow_parts.specs.declared.control.Callee.TheVariants.{Class}
+use Rattle.flow_frames.specs.declared.control.Callee.TheVariants.{Class}
 use Rattle.flow_values.specs.Calls.{calling_so}
 use Rattle.flow_values.specs.Step.{StepsFrom}
 use Rattle.interp_flow.proofs.calling.class_call.Goals as goal

@@ -1,7 +1,7 @@
 use Rattle.std.proofs.Common.{refl, sym, subst}
-use Rattle.flow_parts.specs.declared.control.Callee.TheVariants.{Class}
-use Rattle.flow_entries.proofs.Walks.{known_walk}
-use Rattle.flow_entries.specs.declared.walking.Walk.TheVariants.{Did, TooDear, Unanswered}
+use Rattle.flow_frames.specs.declared.control.Callee.TheVariants.{Class}
+use Rattle.flow_calls.proofs.Walks.{known_walk}
+use Rattle.flow_calls.specs.declared.walking.Walk.TheVariants.{Did, TooDear, Unanswered}
 use Rattle.interp_eval.specs.Held.{AreAllNamed}
 use Rattle.interp_eval.proofs.Steps.{all_named}
 use Rattle.flow_values.specs.Calls.{calling_so}

@@ -1,7 +1,7 @@
 use Rattle.std.proofs.Common.{length, ap, sym, subst, ◌∙◌}
 use Rattle.py_tree.specs.Erasure.{script_of}
-use Rattle.flow_entries.specs.Choosing.{IsCalledBy, MayRun}
-use Rattle.flow_parts.specs.declared.control.Callee.TheVariants.{Function}
+use Rattle.flow_calls.specs.Choosing.{IsCalledBy, MayRun}
+use Rattle.flow_frames.specs.declared.control.Callee.TheVariants.{Function}
 use Rattle.flow_values.specs.Calls.{calling_so}
 use Rattle.flow_values.proofs.Bodies.{fails_on}
 use Rattle.flow_values.proofs.Stepping.{cut_from}

@@ -1,9 +1,9 @@
 use Rattle.std.proofs.Common.{◌∷◌, List, Some, ap, sym, subst, ◌∙◌}
 use Rattle.py_value.specs.declared.value.Value.{Value}
 use Rattle.interp_eval.specs.Held.{AreAllNamed}
-use Rattle.flow_parts.specs.Held.{IsHeldCaller}
-use Rattle.flow_parts.specs.declared.control.Callee.TheVariants.{Function}
-use Rattle.flow_parts.specs.declared.control.Caller.{Caller}
+use Rattle.flow_frames.specs.Held.{IsHeldCaller}
+use Rattle.flow_frames.specs.declared.control.Callee.TheVariants.{Function}
+use Rattle.flow_frames.specs.declared.control.Caller.{Caller}
 use Rattle.flow_values.specs.Calls.{calling_so}
 use Rattle.interp_flow.proofs.Making.{goes_same}
 use Rattle.interp_flow.proofs.calling.init_next.Goals as goal

@@ -1,5 +1,5 @@
 use Rattle.std.proofs.Common.{refl}
-use Rattle.flow_parts.specs.Seen.{here_seen}
+use Rattle.flow_frames.specs.Seen.{here_seen}
 use Rattle.flow_values.proofs.Fronts.{goes_on}
 use Rattle.interp_flow.proofs.moving.end_part.Goals as goal
 

@@ -1,10 +1,10 @@
 use Rattle.std.proofs.Common.{map, refl, ap, sym, subst, ◌∙◌}
 use Rattle.py_model.specs.Act.{ret, to}
-use Rattle.flow_parts.specs.Machine.{resumes}
-use Rattle.flow_parts.specs.Seen.{frame_seen}
-use Rattle.flow_parts.specs.declared.control.Now.TheVariants.{Opens}
+use Rattle.flow_frames.specs.Machine.{resumes}
+use Rattle.flow_frames.specs.Seen.{frame_seen}
+use Rattle.flow_frames.specs.declared.control.Now.TheVariants.{Opens}
 use Rattle.flow_suites.specs.Running.{HoldsOpened, OpensBy}
-use Rattle.flow_tests.proofs.Tests.{on_more}
+use Rattle.flow_openings.proofs.Tests.{on_more}
 use Rattle.flow_values.proofs.Fronts.{goes_on, now_does}
 use Rattle.interp_flow.proofs.moving.open_part.Goals as goal
 

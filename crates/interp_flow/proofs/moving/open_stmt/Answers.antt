@@ -3,10 +3,10 @@ use Rattle.py_tree.specs.Erasure.{form_of, stmt_of}
 use Rattle.py_tree.proofs.StmtTrees.{stmt_tree}
 use Rattle.py_model.specs.Act.{begin}
 use Rattle.py_model.specs.Statements.{on_line}
-use Rattle.flow_parts.specs.Machine.{now_act}
-use Rattle.flow_parts.specs.Seen.{frame_seen, here_seen, now_seen, stmts_seen}
-use Rattle.flow_parts.proofs.Flows.{stmt_opened}
-use Rattle.flow_tests.proofs.Tests.{on_more}
+use Rattle.flow_frames.specs.Machine.{now_act}
+use Rattle.flow_frames.specs.Seen.{frame_seen, here_seen, now_seen, stmts_seen}
+use Rattle.flow_frames.proofs.Flows.{stmt_opened}
+use Rattle.flow_openings.proofs.Tests.{on_more}
 use Rattle.interp_flow.proofs.moving.open_stmt.Goals as goal
 
 pub returns-clause-means : goal.returns-clause-means

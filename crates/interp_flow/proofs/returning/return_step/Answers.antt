@@ -1,6 +1,6 @@
 use Rattle.std.proofs.Common.{ap}
-use Rattle.flow_parts.specs.declared.control.End.TheVariants.{Normal, Broke, Continued, Returned}
-use Rattle.flow_parts.specs.declared.control.End.{End}
+use Rattle.flow_frames.specs.declared.control.End.TheVariants.{Normal, Broke, Continued, Returned}
+use Rattle.flow_frames.specs.declared.control.End.{End}
 use Rattle.flow_values.specs.Value.{resuming, returning, throwing}
 use Rattle.interp_flow.proofs.Returns.{resumes_so}
 use Rattle.flow_values.proofs.Stepping.{steps_same}

@@ -1,7 +1,7 @@
 use Rattle.py_value.specs.declared.value.Value.TheVariants.{None as NoneValue}
 use Rattle.flow_values.specs.Value.{throwing}
-use Rattle.flow_parts.specs.declared.control.End.TheVariants.{Threw}
-use Rattle.flow_parts.specs.declared.control.Now.TheVariants.{Ended}
+use Rattle.flow_frames.specs.declared.control.End.TheVariants.{Threw}
+use Rattle.flow_frames.specs.declared.control.Now.TheVariants.{Ended}
 use Rattle.interp_flow.proofs.Returns.{thrown_from, throws_on, untold_from}
 use Rattle.interp_flow.proofs.returning.throw_step.Goals as goal
 

@@ -1,8 +1,8 @@
 use Rattle.std.proofs.Common.{ap, refl}
 use Rattle.py_model.specs.Act.{close, ending}
 use Rattle.py_model.specs.Meaning.{level}
-use Rattle.flow_parts.specs.Seen.{end_seen, here_seen}
-use Rattle.flow_parts.specs.declared.frames.Waits.TheVariants.{Stmt as StmtWaits}
+use Rattle.flow_frames.specs.Seen.{end_seen, here_seen}
+use Rattle.flow_frames.specs.declared.frames.Waits.TheVariants.{Stmt as StmtWaits}
 use Rattle.flow_values.specs.Step.{handed}
 use Rattle.flow_values.proofs.Fronts.{goes_on}
 use Rattle.flow_values.proofs.Stepping.{closed_on, not_told}

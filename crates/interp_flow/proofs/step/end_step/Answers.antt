@@ -1,11 +1,11 @@
 use Rattle.std.proofs.Common.{ap, sym, subst, ◌∙◌}
-use Rattle.flow_parts.specs.Held.{IsHeldCaller, IsHeldWaits}
-use Rattle.flow_parts.specs.Popping.{HoldsPopped, IsPopped}
-use Rattle.flow_parts.specs.Seen.{end_seen}
-use Rattle.flow_parts.specs.declared.control.Now.TheVariants.{Ended}
-use Rattle.flow_parts.specs.declared.frames.Waits.TheVariants.{Stmt as StmtWaits, Part as PartWaits}
+use Rattle.flow_frames.specs.Held.{IsHeldCaller, IsHeldWaits}
+use Rattle.flow_frames.specs.Popping.{HoldsPopped, IsPopped}
+use Rattle.flow_frames.specs.Seen.{end_seen}
+use Rattle.flow_frames.specs.declared.control.Now.TheVariants.{Ended}
+use Rattle.flow_frames.specs.declared.frames.Waits.TheVariants.{Stmt as StmtWaits, Part as PartWaits}
 use Rattle.py_model.specs.Meaning.{end_of}
-use Rattle.flow_parts.specs.declared.control.Caller.{Caller}
+use Rattle.flow_frames.specs.declared.control.Caller.{Caller}
 use Rattle.flow_values.specs.Step.{doing_now, handed}
 use Rattle.flow_values.specs.Value.{returning}
 use Rattle.flow_values.proofs.Fronts.{at_last}

@@ -1,6 +1,6 @@
 use Rattle.std.proofs.Common.{ap, sym, subst}
 use Rattle.py_tree.specs.Erasure.{script_of}
-use Rattle.flow_parts.specs.Held.{IsHeldNow}
+use Rattle.flow_frames.specs.Held.{IsHeldNow}
 use Rattle.flow_values.specs.Step.{doing_now, meant}
 use Rattle.flow_values.proofs.Stepping.{steps_same}
 use Rattle.flow_values.proofs.Flowing.{flow_state}

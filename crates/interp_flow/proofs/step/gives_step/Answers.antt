@@ -1,8 +1,8 @@
 use Rattle.std.proofs.Common.{sym, subst}
 use Rattle.py_tree.specs.Erasure.{script_of}
-use Rattle.flow_parts.specs.Held.{IsHeldStage, IsHeldWork}
-use Rattle.flow_parts.specs.declared.control.Giving.{Giving}
-use Rattle.flow_parts.specs.declared.control.Now.TheVariants.{Gives}
+use Rattle.flow_frames.specs.Held.{IsHeldStage, IsHeldWork}
+use Rattle.flow_frames.specs.declared.control.Giving.{Giving}
+use Rattle.flow_frames.specs.declared.control.Now.TheVariants.{Gives}
 use Rattle.flow_values.specs.Step.{doing_now}
 use Rattle.flow_values.specs.Value.{working}
 use Rattle.flow_values.proofs.Stepping.{steps_same}

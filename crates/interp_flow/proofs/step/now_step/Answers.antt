@@ -1,7 +1,7 @@
 use Rattle.std.proofs.Common.{ap, subst, ◌∙◌}
 use Rattle.py_tree.specs.Erasure.{script_of}
-use Rattle.flow_parts.specs.Held.{IsHeldNow}
-use Rattle.flow_parts.specs.declared.control.Now.TheVariants.{Ended, Gives, InSuite}
+use Rattle.flow_frames.specs.Held.{IsHeldNow}
+use Rattle.flow_frames.specs.declared.control.Now.TheVariants.{Ended, Gives, InSuite}
 use Rattle.flow_values.specs.Step.{doing_now}
 use Rattle.flow_values.proofs.Stepping.{cut_from, steps_fitting, steps_same}
 use Rattle.interp_flow.proofs.step.now_step.Goals as goal

@@ -1,9 +1,9 @@
 use Rattle.std.proofs.Common.{true, false, ◌∙◌}
 use Rattle.std.proofs.lemmas.List.{nil_from_length}
 use Rattle.py_model.specs.Meaning.{level}
-use Rattle.flow_parts.specs.Machine.{remaining}
-use Rattle.flow_parts.specs.Seen.{flow_seen}
-use Rattle.flow_parts.specs.declared.control.Now.TheVariants.{InSuite}
+use Rattle.flow_frames.specs.Machine.{remaining}
+use Rattle.flow_frames.specs.Seen.{flow_seen}
+use Rattle.flow_frames.specs.declared.control.Now.TheVariants.{InSuite}
 use Rattle.flow_values.specs.Step.{doing_now}
 use Rattle.flow_values.proofs.Fronts.{at_end, in_front, begins_first, behind_begin}
 use Rattle.flow_values.proofs.Stepping.{begun_so, stood_on, not_told, begun_on, begun_cut, none_left}

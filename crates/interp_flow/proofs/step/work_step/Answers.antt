@@ -1,6 +1,6 @@
 use Rattle.std.proofs.Common.{ap, subst}
 use Rattle.py_tree.specs.Erasure.{script_of}
-use Rattle.flow_parts.specs.Held.{IsHeldWork}
+use Rattle.flow_frames.specs.Held.{IsHeldWork}
 use Rattle.flow_values.specs.Calls.{calling_so}
 use Rattle.flow_values.specs.Value.{evaluating, operating, working}
 use Rattle.flow_values.proofs.Expressions.{goes_from}

@@ -1,4 +1,4 @@
-use Rattle.command_words.specs.Command.{command_of}
+use Rattle.now_words.specs.Command.{command_of}
 use Rattle.now_top.specs.Kept.{tables_told}
 use Rattle.now_top.proofs.Completing.{completes_so}
 use Rattle.now_top.proofs.laws.completes.Goals as goal

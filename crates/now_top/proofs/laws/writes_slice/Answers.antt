@@ -1,6 +1,6 @@
 use Rattle.std.proofs.Common.{ap, sym, ◌∙◌, Option, arith}
 use Rattle.std.proofs.lemmas.Bool.{false≢true}
-use Rattle.command_words.specs.Command.{Command}
+use Rattle.now_words.specs.Command.{Command}
 use Rattle.now_top.specs.Kept.{reads_store}
 use Rattle.delivery.specs.Ending.{Ending, tells_of_store}
 use Rattle.now_top.proofs.Completing.{as_meant_so, slices_so}

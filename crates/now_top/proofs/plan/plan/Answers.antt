@@ -1,6 +1,6 @@
 use Rattle.std.proofs.Common.{refl, sym, ap, ◌∙◌, ℕ, List, map, inl, inr, Some, None}
 use Rattle.std.specs.String.{string_bytes}
-use Rattle.command_words.specs.Command.{cut, run_bare, reads}
+use Rattle.now_words.specs.Command.{cut, run_bare, reads}
 use Rattle.now_top.proofs.Preparing.{plans_for, keeps_nothing, no_command, lacks_memory, answers_so}
 use Rattle.now_top.proofs.Words.{from_one}
 use Rattle.now_top.proofs.plan.plan.Goals as goal

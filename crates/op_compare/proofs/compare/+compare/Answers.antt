@@ -5,14 +5,14 @@ use Rattle.py_model.specs.Walks.{compare_within, compare_parts, compare_lists, c
 use Rattle.py_value.specs.Contents.{contents}
 use Rattle.py_value.specs.Values.{AreNamed}
 use Rattle.py_value.specs.declared.value.Value.TheVariants.{Text, Tuple, Object}
-use Rattle.op_walks.proofs.NamedValues.{all_named_stay}
+use Rattle.op_lists.proofs.NamedValues.{all_named_stay}
 use Rattle.op_work.specs.Entries.{seen_entry}
 use Rattle.std.proofs.lemmas.Bool.{ne_eqb}
 use Rattle.op_work.specs.Work.{Comes, is_any}
 use Rattle.op_work.proofs.Going.{comes_same, comes_stop, comes_then, comes_as, at_once, fault_comes, passes_err, extends_then}
 use Rattle.op_work.proofs.Turning.{turns_then, turns_more, turns_same}
 use Rattle.op_compare.specs.Comparisons.{how, how_seen}
-use Rattle.op_walks.specs.Parts.{parts_in}
+use Rattle.op_lists.specs.Parts.{parts_in}
 use Rattle.op_compare.proofs.Decided.{decided_on, decided_at, alike_or_apart, alike_on, apart_at}
 use Rattle.op_compare.proofs.EntryWalks.{with_found, sizes, sizes_same, sizes_differ, left as entries_left, left_is as entries_left_is, left_none as entries_left_none, left_more as entries_left_more}
 use Rattle.op_compare.proofs.ItemWalks.{lengths, lengths_differ, lengths_pass, next as items_next, left_is as items_left_is, left_more as items_left_more}
@@ -21,7 +21,7 @@ use Rattle.op_compare.proofs.Shapes.{by_shape, objects_at, ShapeComes, others_ap
 use Rattle.op_compare.proofs.TextOrder.{end_on}
 use Rattle.op_compare.specs.declared.pairs.Shape.TheVariants.{Lists, Dicts, Others}
 use Rattle.op_compare.proofs.TupleWalks.{left as parts_left, next as parts_next, left_is as parts_left_is, left_more as parts_left_more, tuples_step, tuples_deep, within_both, left_end_at as parts_left_end_at}
-use Rattle.op_walks.proofs.TupleParts.{tuple_is, more_tuples}
+use Rattle.op_lists.proofs.TupleParts.{tuple_is, more_tuples}
 use Rattle.op_compare.proofs.compare.+compare.Goals as goal
 
 -- lists

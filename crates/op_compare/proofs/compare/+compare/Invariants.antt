@@ -1,7 +1,7 @@
 use Rattle.std.proofs.Common.{◌+◌, ◌*◌, drop, map}
 use Rattle.object_store.specs.Store.{keys_at}
 use Rattle.op_compare.specs.Comparisons.{how}
-use Rattle.op_walks.specs.Parts.{parts_in}
+use Rattle.op_lists.specs.Parts.{parts_in}
 use Rattle.op_compare.proofs.ItemWalks.{left as items_left}
 use Rattle.op_compare.proofs.TupleWalks.{left as parts_left}
 use Rattle.op_work.specs.Turns.{Turns}

@@ -2,7 +2,7 @@ use Rattle.std.proofs.Common.{refl}
 use Rattle.py_model.specs.Walks.{read_value}
 use Rattle.py_value.specs.Contents.{contents}
 use Rattle.op_numbers.specs.Numbers.{IsNamedPair, seen_pair}
-use Rattle.op_walks.proofs.NamedValues.{named_stays}
+use Rattle.op_lists.proofs.NamedValues.{named_stays}
 use Rattle.op_work.specs.Work.{Comes}
 use Rattle.op_work.proofs.Going.{comes_then, comes_stop, comes_as, passes_err}
 use Rattle.op_compare.specs.Pairs.{read_both}

@@ -4,8 +4,8 @@ use Rattle.py_value.specs.Contents.{Contents, contents}
 use Rattle.op_numbers.specs.Numbers.{IsNamedPair, seen_pair}
 use Rattle.op_work.specs.Work.{Comes}
 use Rattle.op_work.proofs.Going.{comes_stop, comes_as, passes_err}
-use Rattle.op_walks.specs.Parts.{part_in}
-use Rattle.op_walks.proofs.TupleParts.{part_stays, more_tuples}
+use Rattle.op_lists.specs.Parts.{part_in}
+use Rattle.op_lists.proofs.TupleParts.{part_stays, more_tuples}
 use Rattle.op_compare.proofs.pairs.part_pair.Goals as goal
 
 pub returns-in_err-look : goal.returns-in_err-look

@@ -3,7 +3,7 @@ use Rattle.op_work.specs.Work.{WroteAll}
 use Rattle.py_model.specs.Plan.{write, done}
 use Rattle.py_value.specs.Contents.{contents}
 use Rattle.py_value.specs.Seen.{offset_at, offset_is}
-use Rattle.op_walks.proofs.NamedValues.{named_stays}
+use Rattle.op_lists.proofs.NamedValues.{named_stays}
 use Rattle.op_work.proofs.Ending.{writes_then, writes_stop, writes_done}
 use Rattle.op_work.proofs.Going.{passes_err}
 use Rattle.op_files.proofs.reading.behind.Goals as goal

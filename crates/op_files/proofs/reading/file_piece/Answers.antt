@@ -7,7 +7,7 @@ use Rattle.py_value.specs.Values.{ValuesView}
 use Rattle.py_value.specs.declared.access.Mode.{Mode}
 use Rattle.op_work.proofs.Ending.{ends_then, ends_stop, ends_fault}
 use Rattle.op_work.proofs.Going.{passes_err}
-use Rattle.op_slices.specs.Lines.{is_reading}
+use Rattle.op_items.specs.Lines.{is_reading}
 use Rattle.op_files.specs.Pieces.{piece_behind, piece_unless}
 use Rattle.op_files.proofs.FilePlans.{piece_read, piece_wrong}
 use Rattle.op_files.proofs.reading.file_piece.Goals as goal

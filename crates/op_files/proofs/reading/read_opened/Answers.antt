@@ -1,4 +1,4 @@
-use Rattle.op_slices.proofs.LineEnds.{opened_reads}
+use Rattle.op_items.proofs.LineEnds.{opened_reads}
 use Rattle.op_files.proofs.reading.read_opened.Goals as goal
 
 pub returns : goal.returns

@@ -6,7 +6,7 @@ use Rattle.py_value.specs.Values.{ValuesView}
 use Rattle.py_value.specs.declared.access.Mode.{Mode}
 use Rattle.op_work.proofs.Ending.{ends_then, ends_stop, ends_fault}
 use Rattle.op_work.proofs.Going.{passes_err}
-use Rattle.op_slices.specs.Lines.{is_reading}
+use Rattle.op_items.specs.Lines.{is_reading}
 use Rattle.op_files.specs.Written.{written_unless}
 use Rattle.op_files.proofs.FilePlans.{written_wrong, written_behind}
 use Rattle.op_files.proofs.writing.file_write.Goals as goal

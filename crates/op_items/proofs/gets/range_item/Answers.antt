@@ -8,7 +8,7 @@ use Rattle.op_work.specs.Work.{Ends}
 use Rattle.op_work.proofs.Ending.{ends_then, ends_stop}
 use Rattle.op_work.proofs.Going.{passes_err}
 use Rattle.op_dicts.proofs.EndsEqual.{ends_equal}
-use Rattle.op_walks.proofs.RangeNumbers.{of_three}
+use Rattle.op_lists.proofs.RangeNumbers.{of_three}
 use Rattle.op_items.proofs.GetPlans.{placed}
 use Rattle.op_items.proofs.gets.range_item.Goals as goal
 

@@ -9,7 +9,7 @@ use Rattle.op_work.specs.Work.{Ends}
 use Rattle.op_work.proofs.Ending.{ends_then, ends_stop}
 use Rattle.op_work.proofs.Going.{passes_err}
 use Rattle.op_dicts.proofs.EndsEqual.{ends_equal}
-use Rattle.op_walks.proofs.TextParts.{same_bytes}
+use Rattle.op_lists.proofs.TextParts.{same_bytes}
 use Rattle.op_items.proofs.GetPlans.{text_is, text_part, letter_is}
 use Rattle.op_items.proofs.gets.text_item.Goals as goal
 

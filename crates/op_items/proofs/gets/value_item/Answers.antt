@@ -3,7 +3,7 @@ use Rattle.py_model.specs.Lists.{getitem}
 use Rattle.py_value.specs.Contents.{contents, range}
 use Rattle.op_work.proofs.Ending.{ends_fault}
 use Rattle.op_dicts.proofs.EndsEqual.{ends_equal}
-use Rattle.op_walks.proofs.RangeNumbers.{of_three}
+use Rattle.op_lists.proofs.RangeNumbers.{of_three}
 use Rattle.op_items.proofs.GetPlans.{no_item}
 use Rattle.op_items.proofs.gets.value_item.Goals as goal
 

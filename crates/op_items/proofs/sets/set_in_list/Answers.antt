@@ -6,7 +6,7 @@ use Rattle.py_model.specs.Plan.{write, done}
 use Rattle.py_value.specs.Contents.{contents, nothing}
 use Rattle.py_value.specs.Seen.{item_at, item_is}
 use Rattle.py_value.specs.Values.{ValuesView}
-use Rattle.op_walks.proofs.NamedValues.{named_stays}
+use Rattle.op_lists.proofs.NamedValues.{named_stays}
 use Rattle.op_work.specs.Work.{Comes, Ends, is_any, as_is}
 use Rattle.op_work.proofs.Ending.{ends_then, ends_stop, ends_writes}
 use Rattle.op_work.proofs.Going.{extends_then, passes_err}

@@ -6,7 +6,7 @@ use Rattle.py_model.specs.Plan.{Plan, looks}
 use Rattle.py_value.specs.Contents.{int, range}
 use Rattle.op_work.proofs.Ending.{ends_at_end}
 use Rattle.op_dicts.proofs.EndsEqual.{ends_equal}
-use Rattle.op_walks.proofs.RangeNumbers.{of_three}
+use Rattle.op_lists.proofs.RangeNumbers.{of_three}
 use Rattle.op_items.proofs.TurnPlans.{before, is_before, not_before}
 use Rattle.op_items.proofs.turns.next_in_range.Goals as goal
 

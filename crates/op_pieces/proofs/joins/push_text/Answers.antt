@@ -1,9 +1,9 @@
 use Rattle.std.proofs.Common.{sym, ap, ◌∙◌, subst, append-nil, [], ◌∷◌, ◌++◌}
 use Rattle.py_value.specs.Seen.{bytes_of}
 use Rattle.op_pieces.specs.Joins.{before_text}
-use Rattle.op_rendering.proofs.Joining.{bytes_push, named_join}
-use Rattle.op_rendering.specs.Pieces.{pieces_bytes, ArePieces}
-use Rattle.op_rendering.specs.declared.pieces.Piece.TheVariants.{Plain}
+use Rattle.op_pieces.proofs.Joining.{bytes_push, named_join}
+use Rattle.op_pieces.specs.Pieces.{pieces_bytes, ArePieces}
+use Rattle.op_pieces.specs.declared.pieces.Piece.TheVariants.{Plain}
 use Rattle.op_pieces.proofs.joins.push_text.Goals as goal
 
 pub returns-then-first-clause-bytes : goal.returns-then-first-clause-bytes

@@ -9,8 +9,8 @@ use Rattle.op_texts.proofs.Taken.{named_stays}
 use Rattle.op_work.specs.Work.{Comes}
 use Rattle.op_work.proofs.Going.{comes_stop, at_once, passes_err, text_stays}
 use Rattle.op_work.proofs.Turning.{turns_then, turns_more, turns_same}
-use Rattle.op_rendering.proofs.Joining.{pieces_stay}
-use Rattle.op_rendering.specs.Pieces.{pieces_bytes, ArePieces}
+use Rattle.op_pieces.proofs.Joining.{pieces_stay}
+use Rattle.op_pieces.specs.Pieces.{pieces_bytes, ArePieces}
 use Rattle.op_pieces.specs.Joins.{before_text}
 use Rattle.op_pieces.proofs.Joined.{value_named, next, left_on, next_is, left_none}
 use Rattle.op_pieces.proofs.joins.text_items.Goals as goal

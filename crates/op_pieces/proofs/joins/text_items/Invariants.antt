@@ -5,7 +5,7 @@ use Rattle.py_model.specs.TextMethods.{texts_in}
 use Rattle.py_model.specs.Texts.{joined_by}
 use Rattle.py_value.specs.Contents.{contents}
 use Rattle.py_value.specs.Seen.{bytes_of}
-use Rattle.op_rendering.specs.Pieces.{pieces_bytes, ArePieces}
+use Rattle.op_pieces.specs.Pieces.{pieces_bytes, ArePieces}
 use Rattle.op_pieces.proofs.Joined.{left}
 use Rattle.op_pieces.proofs.joins.text_items.Given as goal
 

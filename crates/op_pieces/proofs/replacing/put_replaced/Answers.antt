@@ -4,8 +4,8 @@ use Rattle.std.proofs.lemmas.Str.{IsUtf8-drop}
 use Rattle.std.specs.Str.{IsUtf8, IsCharBoundary}
 use Rattle.py_model.specs.Texts.{joined_by, pieces}
 use Rattle.op_work.proofs.Going.{passes_err}
-use Rattle.op_rendering.proofs.Counting.{counted_same, counted_then, counted_stop, counted_none}
-use Rattle.op_rendering.specs.Counted.{Counted}
+use Rattle.op_pieces.proofs.Counting.{counted_same, counted_then, counted_stop, counted_none}
+use Rattle.op_pieces.specs.Counted.{Counted}
 use Rattle.op_pieces.proofs.Cutting.{joined_at, joined_nowhere, cut_more}
 use Rattle.op_pieces.proofs.replacing.put_replaced.Goals as goal
 

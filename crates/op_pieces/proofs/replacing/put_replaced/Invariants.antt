@@ -1,6 +1,6 @@
 use Rattle.std.proofs.Common.{◌≡◌, ◌++◌, ℕ, List, length, string_bytes, Ok}
 use Rattle.std.specs.Str.{IsUtf8}
-use Rattle.op_rendering.specs.Counted.{Counted}
+use Rattle.op_pieces.specs.Counted.{Counted}
 use Rattle.py_model.specs.Texts.{joined_by, pieces}
 use Rattle.op_pieces.proofs.replacing.put_replaced.Given as goal
 

@@ -10,7 +10,7 @@ use Rattle.op_texts.proofs.Taken.{bytes_stay}
 use Rattle.op_work.specs.Work.{Ends}
 use Rattle.op_work.proofs.Ending.{ends_then, ends_stop, ends_gives, ends_fault}
 use Rattle.op_work.proofs.Going.{passes_err, extends_then}
-use Rattle.op_rendering.proofs.Counting.{counted_size}
+use Rattle.op_pieces.proofs.Counting.{counted_size}
 use Rattle.op_pieces.proofs.Replaced.{replaced_some, replaced_none}
 use Rattle.op_pieces.proofs.replacing.replaced.Goals as goal
 

@@ -2,7 +2,7 @@ use Rattle.std.proofs.Common.{refl, subst, ℕ, List, Option, Some, None, unwrap
 use Rattle.py_model.specs.Plan.{Plan, name_of}
 use Rattle.py_value.specs.Values.{ValuesView}
 use Rattle.op_work.specs.Work.{Comes, IsNamedName, seen_name}
-use Rattle.op_rendering.specs.declared.pieces.Piece.TheVariants.{Plain}
+use Rattle.op_pieces.specs.declared.pieces.Piece.TheVariants.{Plain}
 use Rattle.op_printing.proofs.Putting.{after_puts, puts_piece, puts_words}
 use Rattle.op_printing.proofs.names.push_noted.Goals as goal
 

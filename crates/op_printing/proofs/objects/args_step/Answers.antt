@@ -4,7 +4,7 @@ use Rattle.op_texts.proofs.Taken.{named_stays}
 use Rattle.op_work.specs.Work.{Comes}
 use Rattle.op_work.proofs.Going.{comes_same, passes_err}
 use Rattle.op_printing.specs.Forms.{args_step, call_next, next_seen, IsStep}
-use Rattle.op_rendering.specs.Pieces.{pieces_bytes, ArePieces}
+use Rattle.op_pieces.specs.Pieces.{pieces_bytes, ArePieces}
 use Rattle.op_printing.proofs.Stepping.{step_after, step_stop}
 use Rattle.op_printing.proofs.objects.args_step.Goals as goal
 

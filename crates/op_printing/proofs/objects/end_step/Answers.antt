@@ -3,11 +3,11 @@ use Rattle.py_value.specs.Contents.{contents}
 use Rattle.op_work.specs.Work.{Comes}
 use Rattle.op_work.proofs.Going.{comes_same, comes_then, comes_stop, passes_err}
 use Rattle.op_printing.specs.Forms.{end_step, args_step, comes_inside, whole, next_seen, IsStep}
-use Rattle.op_rendering.specs.Pieces.{pieces_bytes, ArePieces}
+use Rattle.op_pieces.specs.Pieces.{pieces_bytes, ArePieces}
 use Rattle.op_printing.specs.declared.forms.Rest.TheVariants.{Whole}
 use Rattle.op_printing.specs.declared.forms.Step.TheVariants.{Rests}
 use Rattle.op_printing.proofs.Stepping.{step_after, step_stop}
-use Rattle.op_rendering.proofs.Joining.{pieces_stay}
+use Rattle.op_pieces.proofs.Joining.{pieces_stay}
 use Rattle.op_printing.proofs.objects.end_step.Goals as goal
 
 pub args_step-requires-clause-pieces : goal.args_step-requires-clause-pieces

@@ -6,7 +6,7 @@ use Rattle.op_work.specs.Work.{Comes}
 use Rattle.op_work.proofs.Going.{comes_as, comes_stop, passes_err}
 use Rattle.op_work.proofs.Turning.{turns_none, turns_same, turns_then, turns_more, turns_away}
 use Rattle.op_printing.specs.Forms.{one_step, form_of, form_at, found_seen, inner_seen, next_seen, IsStep, IsRest}
-use Rattle.op_rendering.specs.Pieces.{pieces_bytes, ArePieces}
+use Rattle.op_pieces.specs.Pieces.{pieces_bytes, ArePieces}
 use Rattle.op_printing.proofs.Stepping.{onwards, form_starts, form_left}
 use Rattle.op_printing.proofs.objects.form_of.Goals as goal
 

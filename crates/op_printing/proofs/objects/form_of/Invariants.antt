@@ -1,6 +1,6 @@
 use Rattle.std.proofs.Common.{◌-◌, ◌≤◌}
 use Rattle.op_printing.specs.Forms.{form_of, form_at}
-use Rattle.op_rendering.specs.Pieces.{pieces_bytes, ArePieces}
+use Rattle.op_pieces.specs.Pieces.{pieces_bytes, ArePieces}
 use Rattle.op_work.specs.Turns.{Turns}
 use Rattle.py_model.specs.Classes.{longest_chain}
 use Rattle.py_value.specs.Contents.{contents}

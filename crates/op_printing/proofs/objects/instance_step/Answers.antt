@@ -4,11 +4,11 @@ use Rattle.py_value.specs.Contents.{contents}
 use Rattle.op_work.specs.Work.{Comes}
 use Rattle.op_work.proofs.Going.{comes_same, comes_then, comes_stop, passes_err}
 use Rattle.op_printing.specs.Forms.{instance_step, end_step, comes_inside, whole, next_seen, IsStep}
-use Rattle.op_rendering.specs.Pieces.{pieces_bytes, ArePieces}
+use Rattle.op_pieces.specs.Pieces.{pieces_bytes, ArePieces}
 use Rattle.op_printing.specs.declared.forms.Rest.TheVariants.{Whole}
 use Rattle.op_printing.specs.declared.forms.Step.TheVariants.{Rests}
 use Rattle.op_printing.proofs.Stepping.{step_after, step_stop}
-use Rattle.op_rendering.proofs.Joining.{pieces_stay}
+use Rattle.op_pieces.proofs.Joining.{pieces_stay}
 use Rattle.op_printing.proofs.objects.instance_step.Goals as goal
 
 pub returns-in_err-push_class_between : goal.returns-in_err-push_class_between

@@ -2,9 +2,9 @@ use Rattle.std.proofs.Common.{sym, ap, ◌∙◌, subst, false}
 use Rattle.py_value.specs.Contents.{contents}
 use Rattle.py_value.specs.Values.{IsNamed}
 use Rattle.op_printing.specs.Forms.{comes_inside, inner_seen, message_next}
-use Rattle.op_rendering.specs.Pieces.{pieces_bytes}
+use Rattle.op_pieces.specs.Pieces.{pieces_bytes}
 use Rattle.op_printing.proofs.Stepping.{message_is}
-use Rattle.op_walks.proofs.TupleParts.{items_are, tuple_is, more_tuples}
+use Rattle.op_lists.proofs.TupleParts.{items_are, tuple_is, more_tuples}
 use Rattle.op_printing.proofs.objects.message_step.Goals as goal
 
 pub returns-in-Tuple-clause-step : goal.returns-in-Tuple-clause-step

@@ -6,10 +6,10 @@ use Rattle.py_value.specs.Values.{ValuesView}
 use Rattle.op_work.specs.Work.{Comes, seen_kind}
 use Rattle.op_work.proofs.Going.{comes_then, comes_as, fault_comes, passes_err}
 use Rattle.op_printing.specs.Forms.{Next, object_step, comes_inside, whole, next_seen, IsStep}
-use Rattle.op_rendering.specs.Pieces.{pieces_bytes, ArePieces}
+use Rattle.op_pieces.specs.Pieces.{pieces_bytes, ArePieces}
 use Rattle.op_printing.specs.declared.forms.Rest.TheVariants.{Whole}
 use Rattle.op_printing.specs.declared.forms.Step.TheVariants.{Rests}
-use Rattle.op_rendering.specs.declared.pieces.Piece.{Piece}
+use Rattle.op_pieces.specs.declared.pieces.Piece.{Piece}
 use Rattle.op_printing.proofs.Stepping.{step_after, step_stop}
 use Rattle.op_printing.proofs.objects.object_step.Goals as goal
 

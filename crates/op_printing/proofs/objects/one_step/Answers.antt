@@ -3,7 +3,7 @@ use Rattle.py_value.specs.Contents.{contents}
 use Rattle.op_work.specs.Work.{Comes}
 use Rattle.op_work.proofs.Going.{comes_same, passes_err}
 use Rattle.op_printing.specs.Forms.{one_step, comes_inside, whole, next_seen, IsStep}
-use Rattle.op_rendering.specs.Pieces.{pieces_bytes, ArePieces}
+use Rattle.op_pieces.specs.Pieces.{pieces_bytes, ArePieces}
 use Rattle.op_printing.specs.declared.forms.Rest.TheVariants.{Whole}
 use Rattle.op_printing.specs.declared.forms.Step.TheVariants.{Rests}
 use Rattle.op_printing.proofs.Stepping.{step_after, step_stop, plain_step}

@@ -6,8 +6,8 @@ use Rattle.py_value.specs.Contents.{contents, text}
 use Rattle.op_work.specs.Work.{Ends}
 use Rattle.op_work.proofs.Ending.{ends_then, ends_stop, ends_gives}
 use Rattle.op_work.proofs.Going.{passes_err}
-use Rattle.op_rendering.specs.Pieces.{pieces_bytes}
-use Rattle.op_rendering.proofs.Counting.{counted_size}
+use Rattle.op_pieces.specs.Pieces.{pieces_bytes}
+use Rattle.op_pieces.proofs.Counting.{counted_size}
 use Rattle.op_printing.proofs.Putting.{puts_start}
 use Rattle.op_printing.proofs.operations.answer.Goals as goal
 

@@ -6,7 +6,7 @@ use Rattle.py_value.specs.declared.value.Value.TheVariants.{None as NoneValue}
 use Rattle.op_texts.proofs.Taken.{named_stays}
 use Rattle.op_work.proofs.Going.{comes_stop, at_once, passes_err}
 use Rattle.op_work.proofs.Turning.{turns_none, turns_then, turns_more, turns_same}
-use Rattle.op_rendering.specs.Pieces.{pieces_bytes}
+use Rattle.op_pieces.specs.Pieces.{pieces_bytes}
 use Rattle.op_printing.specs.Puts.{Puts}
 use Rattle.op_printing.proofs.Lines.{each_is, value_named, line_next, line_on, line_ends, line_more}
 use Rattle.op_printing.proofs.operations.print_all.Goals as goal

@@ -3,7 +3,7 @@ use Rattle.op_work.specs.Turns.{Turns}
 use Rattle.py_model.specs.Plan.{Plan}
 use Rattle.py_model.specs.Printing.{printed, printed_all, between}
 use Rattle.py_value.specs.Contents.{contents}
-use Rattle.op_rendering.specs.Pieces.{pieces_bytes, ArePieces}
+use Rattle.op_pieces.specs.Pieces.{pieces_bytes, ArePieces}
 use Rattle.op_printing.proofs.Lines.{line_left}
 use Rattle.op_printing.proofs.operations.print_all.Given as goal
 

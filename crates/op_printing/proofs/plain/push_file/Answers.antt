@@ -2,7 +2,7 @@ use Rattle.std.proofs.Common.{refl, ℕ, List}
 use Rattle.py_model.specs.Plan.{Plan}
 use Rattle.py_model.specs.Printing.{literal}
 use Rattle.py_value.specs.Seen.{bytes_of}
-use Rattle.op_rendering.specs.declared.pieces.Piece.TheVariants.{Quoted}
+use Rattle.op_pieces.specs.declared.pieces.Piece.TheVariants.{Quoted}
 use Rattle.op_printing.proofs.Putting.{word_then, then_word, puts_piece}
 use Rattle.op_printing.proofs.plain.push_file.Goals as goal
 

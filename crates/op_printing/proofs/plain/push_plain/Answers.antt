@@ -7,7 +7,7 @@ use Rattle.py_value.specs.declared.value.Value.{Value}
 use Rattle.py_value.specs.declared.value.Value.TheVariants.{None as NoneValue, Bool, Int, Text, Tuple, Range, Fn, Class, Exc, Builtin, Object}
 use Rattle.py_model.proofs.Tuples.{some_tuple}
 use Rattle.op_printing.specs.Forms.{print_plain}
-use Rattle.op_rendering.specs.Pieces.{one_piece}
+use Rattle.op_pieces.specs.Pieces.{one_piece}
 use Rattle.op_printing.proofs.Putting.{puts_same, puts_piece}
 use Rattle.op_printing.proofs.plain.push_plain.Goals as goal
 

@@ -5,20 +5,20 @@ use Rattle.py_model.specs.Printing.{print_to, print_parts, commas, height, key_t
 use Rattle.py_value.specs.Contents.{contents}
 use Rattle.py_value.specs.Values.{IsNamed, AreNamed}
 use Rattle.op_texts.proofs.Taken.{named_stays}
-use Rattle.op_walks.proofs.NamedValues.{all_named_stay}
+use Rattle.op_lists.proofs.NamedValues.{all_named_stay}
 use Rattle.op_work.proofs.Going.{comes_stop, fault_comes, at_once, passes_err, extends_then}
 use Rattle.op_work.proofs.Turning.{turns_then, turns_more, turns_same}
-use Rattle.op_spelling.specs.Spelling.{end_words}
+use Rattle.spelling.specs.Spelling.{end_words}
 use Rattle.op_printing.specs.Forms.{inner_seen}
-use Rattle.op_rendering.specs.Parts.{separator}
-use Rattle.op_walks.specs.Parts.{items_at, parts_in}
+use Rattle.op_pieces.specs.Parts.{separator}
+use Rattle.op_lists.specs.Parts.{items_at, parts_in}
 use Rattle.op_printing.specs.Inside.{deeper, inner_text, listed, print_row, keyed, print_keyed, tupled, print_joined}
-use Rattle.op_rendering.specs.Pieces.{pieces_bytes}
+use Rattle.op_pieces.specs.Pieces.{pieces_bytes}
 use Rattle.op_printing.specs.Puts.{Puts}
 use Rattle.op_printing.proofs.Putting.{puts_same, puts_stop, puts_fault, after_puts, after_stop, word_then, then_word}
 use Rattle.op_printing.proofs.Rows.{next_of, next_is, row, row_on, row_ends, parts, parts_on, parts_end, entries, entry_next, entries_on, entries_end, tuple_by_end}
-use Rattle.op_rendering.proofs.Joining.{pieces_stay}
-use Rattle.op_walks.proofs.TupleParts.{items_are}
+use Rattle.op_pieces.proofs.Joining.{pieces_stay}
+use Rattle.op_lists.proofs.TupleParts.{items_are}
 use Rattle.op_printing.proofs.Walking.{value_stops, value_puts, inner_stops, inner_on, inner_deep, low_on, deep_on, not_true, not_false, height_stays}
 use Rattle.op_printing.proofs.walk.+print.Goals as goal
 

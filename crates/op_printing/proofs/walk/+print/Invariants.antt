@@ -4,9 +4,9 @@ use Rattle.op_work.specs.Turns.{Turns}
 use Rattle.py_model.specs.Plan.{Plan}
 use Rattle.py_model.specs.Printing.{print_to}
 use Rattle.py_value.specs.Contents.{contents}
-use Rattle.op_walks.specs.Parts.{parts_in, items_at}
+use Rattle.op_lists.specs.Parts.{parts_in, items_at}
 use Rattle.op_printing.specs.Inside.{print_row, print_keyed, print_joined}
-use Rattle.op_rendering.specs.Pieces.{pieces_bytes, ArePieces}
+use Rattle.op_pieces.specs.Pieces.{pieces_bytes, ArePieces}
 use Rattle.op_printing.proofs.Rows.{left_of, row, parts, entries}
 use Rattle.op_printing.proofs.walk.+print.Given as goal
 

@@ -1,5 +1,5 @@
 use Rattle.op_printing.specs.Forms.{closed}
-use Rattle.op_rendering.specs.Pieces.{Adds}
+use Rattle.op_pieces.specs.Pieces.{Adds}
 use Rattle.op_printing.proofs.walk.push_closers.Given as goal
 
 abbrev pub invariant-loop : goal.invariant-loop

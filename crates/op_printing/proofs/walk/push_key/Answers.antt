@@ -2,10 +2,10 @@ use Rattle.std.proofs.Common.{◌∙◌, subst, sym, ap, ◌++◌, codes, ◌∷
 use Rattle.std.proofs.lemmas.List.{append_assoc}
 use Rattle.py_model.specs.Printing.{key_text}
 use Rattle.py_value.specs.Contents.{contents}
-use Rattle.op_rendering.specs.Parts.{separator}
-use Rattle.op_rendering.specs.Pieces.{pieces_bytes, ArePieces}
-use Rattle.op_rendering.specs.declared.pieces.Piece.TheVariants.{Key}
-use Rattle.op_rendering.proofs.Joining.{bytes_push, named_join}
+use Rattle.op_pieces.specs.Parts.{separator}
+use Rattle.op_pieces.specs.Pieces.{pieces_bytes, ArePieces}
+use Rattle.op_pieces.specs.declared.pieces.Piece.TheVariants.{Key}
+use Rattle.op_pieces.proofs.Joining.{bytes_push, named_join}
 use Rattle.op_printing.proofs.walk.push_key.Goals as goal
 
 pub returns-clause-bytes : goal.returns-clause-bytes

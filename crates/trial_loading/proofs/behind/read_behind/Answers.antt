@@ -1,7 +1,7 @@
 use Rattle.std.proofs.Common.{Result, sym, subst}
 use Rattle.prov_outside.specs.Tells.{Tells}
-use Rattle.trial_parts.specs.declared.read_fault.ReadFault.{ReadFault}
-use Rattle.trial_pages.specs.Answers.{Answers}
+use Rattle.trial_tables.specs.declared.read_fault.ReadFault.{ReadFault}
+use Rattle.trial_loading.specs.Answers.{Answers}
 use Rattle.trial_loading.specs.declared.behind.Behind.{Behind}
 use Rattle.trial_loading.specs.Loading.{IsDamagedBehind}
 use Rattle.trial_loading.specs.Stages.{IsBehind}

@@ -1,6 +1,6 @@
 use Rattle.std.proofs.Common.{List, ℕ, Err, sym, subst}
 use Rattle.py_tree.specs.Erasure.{script_of}
-use Rattle.script_reading.specs.Reading.{HasScript, IsRefusedAt}
+use Rattle.py_parser.specs.Reading.{HasScript, IsRefusedAt}
 use Rattle.prov_outside.specs.Tells.{Tells}
 use Rattle.trial_keeping.specs.declared.fault.TrialFault.{TrialFault}
 use Rattle.trial_loading.specs.Stages.{LoadsFrom}

@@ -1,9 +1,9 @@
 use Rattle.std.proofs.Common.{◌≡◌, ◌+◌, ◌<◌, length, subst, Ok, rules}
-use Rattle.op_held.specs.Entering.{parameters_plan}
-use Rattle.op_held.specs.Held.{Finishes, begun}
+use Rattle.op_state.specs.Entering.{parameters_plan}
+use Rattle.op_state.specs.Held.{Finishes, begun}
 use Rattle.op_parts.specs.Parts.{IsFitting, IsStanding}
 use Rattle.op_parts.proofs.Entrances.{is_entered, enters_err}
-use Rattle.op_asking.proofs.Performed.{goes_on_from}
+use Rattle.op_parts.proofs.Performed.{goes_on_from}
 use Rattle.op_work.proofs.Going.{extends_same}
 use Rattle.op_parts.proofs.parts.PartsDoer.enter.Goals as goal
 

@@ -1,8 +1,8 @@
 use Rattle.std.proofs.Common.{rules, ◌≡◌, ◌<◌, false, sym, subst, ◌∙◌, Ok}
-use Rattle.op_held.specs.Held.{Finishes, begun}
+use Rattle.op_state.specs.Held.{Finishes, begun}
 use Rattle.op_table.specs.Table.{planned}
 use Rattle.op_parts.specs.Parts.{IsFitting, IsStanding}
-use Rattle.op_asking.proofs.Performed.{quiet_done, quiet_dear, goes_on_from, performs_err}
+use Rattle.op_parts.proofs.Performed.{quiet_done, quiet_dear, goes_on_from, performs_err}
 use Rattle.op_parts.proofs.parts.PartsDoer.perform.Goals as goal
 
 pub returns-in_err-deed-clause-performed : goal.returns-in_err-deed-clause-performed

@@ -1,6 +1,6 @@
 use Rattle.std.proofs.Common.{subst, sym}
 use Rattle.op_parts.specs.Parts.{IsFitting, IsStanding}
-use Rattle.op_asking.proofs.Agreeing.{its_values}
+use Rattle.op_parts.proofs.Agreeing.{its_values}
 use Rattle.py_model.specs.Doing.{AreItsValues}
 use Rattle.py_value.specs.Values.{ValuesView}
 use Rattle.op_parts.proofs.parts.PartsDoer.values.Goals as goal

@@ -2,8 +2,8 @@ use Rattle.std.proofs.Common.{◌≡◌, List, IfOk, reverse, sym, ap, subst, �
 use Rattle.std.proofs.lemmas.List.{reverse-reverse}
 use Rattle.trace_rows.specs.declared.row.Row.{Row}
 use Rattle.trace_rows.specs.RowBytes.{AreRows}
-use Rattle.moment_rows.specs.MomentRows.{all_told, rows as rows_of}
-use Rattle.moment_rows.specs.PageCuts.{pages}
+use Rattle.recorder.specs.MomentRows.{all_told, rows as rows_of}
+use Rattle.recorder.specs.PageCuts.{pages}
 use Rattle.recorder.specs.Recorded.{Records, moments_of}
 use Rattle.recorder.proofs.recorder.Recorder.pages.Goals as goal
 

@@ -1,6 +1,6 @@
 use Rattle.std.proofs.Common.{◌∷◌, reverse, ap, subst, ◌∙◌}
 use Rattle.py_model.specs.Told.{moment_seen}
-use Rattle.moment_rows.specs.Parts.{IsRowOf, ended_by}
+use Rattle.recorder.specs.Parts.{IsRowOf, ended_by}
 use Rattle.recorder.specs.Recorded.{moments_of}
 use Rattle.recorder.proofs.Recording.{stands}
 use Rattle.recorder.proofs.recorder.RecorderWatch.told.Goals as goal

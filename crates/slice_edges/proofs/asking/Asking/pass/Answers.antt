@@ -7,8 +7,8 @@ use Rattle.py_value.specs.Seen.{access_seen, kind_seen}
 use Rattle.py_model.specs.Moment.{does, enters}
 use Rattle.py_model.specs.Told.{answer_seen}
 use Rattle.row_words.specs.Fits.{Each}
-use Rattle.kept_rows.specs.NamedRows.{NamesAccess, NamesRow}
-use Rattle.trace_moments.specs.Moments.{told_with}
+use Rattle.row_checks.specs.NamedRows.{NamesAccess, NamesRow}
+use Rattle.row_moments.specs.Moments.{told_with}
 use Rattle.slice_edges.specs.HasAsked.{HasAsked}
 use Rattle.slice_edges.proofs.WritersLaws.{on_ok}
 use Rattle.slice_edges.proofs.asking.Asking.pass.Goals as goal

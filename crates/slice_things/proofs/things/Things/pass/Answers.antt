@@ -6,9 +6,9 @@ use Rattle.py_value.specs.Seen.{access_seen, kind_seen}
 use Rattle.py_model.specs.Moment.{does, enters}
 use Rattle.py_model.specs.Told.{answer_seen}
 use Rattle.row_words.specs.Fits.{Each}
-use Rattle.kept_rows.specs.NamedRows.{NamesAccess, NamesRow}
+use Rattle.row_checks.specs.NamedRows.{NamesAccess, NamesRow}
 use Rattle.slice_law.specs.Closed.{store_after}
-use Rattle.trace_moments.specs.Moments.{told_with}
+use Rattle.row_moments.specs.Moments.{told_with}
 use Rattle.slice_things.specs.Things.{HoldsThings, after_all, IsNormalAccess, IsNormalRow}
 use Rattle.slice_things.proofs.CountLaws.{on_ok}
 use Rattle.slice_things.proofs.things.Things.pass.Goals as goal

@@ -1,6 +1,6 @@
 use Rattle.std.proofs.Common.{subst, take, map}
 use Rattle.py_value.specs.Seen.{access_seen}
-use Rattle.kept_rows.specs.NamedRows.{NamesAccess}
+use Rattle.row_checks.specs.NamedRows.{NamesAccess}
 use Rattle.slice_things.specs.Things.{HoldsStore, after_all, IsNormalAccess}
 use Rattle.slice_things.proofs.ThingLaws.{after_next, each_at}
 use Rattle.slice_things.proofs.things.Things.see.Goals as goal

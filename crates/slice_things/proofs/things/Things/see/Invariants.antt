@@ -3,7 +3,7 @@ use Rattle.py_model.specs.Store.{RunStore}
 use Rattle.py_value.specs.Seen.{access_seen}
 use Rattle.py_value.specs.Values.{ValuesView, AreInterned}
 use Rattle.row_words.specs.Fits.{Each}
-use Rattle.kept_rows.specs.NamedRows.{NamesAccess}
+use Rattle.row_checks.specs.NamedRows.{NamesAccess}
 use Rattle.slice_things.specs.Forms.{AreForms}
 use Rattle.slice_things.specs.Things.{HoldsStore, after_all, IsNormalAccess}
 use Rattle.slice_things.proofs.things.Things.see.Given as goal

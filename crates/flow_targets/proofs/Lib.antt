@@ -1,0 +1,4 @@
+pub mod Changes
+pub mod Starting
+pub mod Breaking
+pub mod ItemsOf

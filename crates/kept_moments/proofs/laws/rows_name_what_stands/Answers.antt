@@ -1,5 +1,0 @@
-use Rattle.kept_moments.proofs.OrderedRows.{rows_ordered}
-use Rattle.kept_moments.proofs.laws.rows_name_what_stands.Goals as goal
-
-pub returns : goal.returns
-returns c = λ moments. rows_ordered moments

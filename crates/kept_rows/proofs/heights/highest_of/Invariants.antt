@@ -1,6 +1,0 @@
-use Rattle.std.proofs.Common.{◌≡◌, drop}
-use Rattle.kept_rows.specs.Heights.{highest as highest_in_table}
-use Rattle.kept_rows.proofs.heights.highest_of.Given as goal
-
-abbrev pub invariant-loop-v : goal.invariant-loop-v
-invariant-loop-v l = highest_in_table l.heights l.highest (drop l.v-index l.values) ≡ highest_in_table l.heights (record { plain = 0; normal = 0 }) l.values

@@ -1,0 +1,16 @@
+pub mod Comparing
+pub mod Equality
+pub mod InOrder
+pub mod Reading
+pub mod Results
+pub mod TableComparisons
+pub mod TableDicts
+pub mod TableFiles
+pub mod TableLists
+pub mod TableNumbers
+pub mod TablePrinting
+pub mod TableSequences
+pub mod TableTexts
+pub mod Flow
+pub mod Defined
+pub mod Knows

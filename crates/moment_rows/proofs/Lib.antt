@@ -1,7 +1,0 @@
-pub mod Cuts
-pub mod InRange
-pub mod Joining
-pub mod Naming
-pub mod Numbering
-pub mod Walking
-pub mod WorkedMoments

@@ -1,6 +1,0 @@
-use Rattle.std.proofs.Common.{refl}
-use Rattle.moment_rows.proofs.Cuts.{all_bytes, all_cut, all_decoded, all_have_bytes, cut_once}
-use Rattle.moment_rows.proofs.pages.pages_are_the_rows.Goals as goal
-
-pub returns : goal.returns
-returns c = record { bytes = all_bytes; cut = all_cut; once = cut_once; decoded = all_decoded; some = all_have_bytes; none = refl }

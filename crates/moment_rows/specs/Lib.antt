@@ -1,7 +1,0 @@
-pub mod Naming
-pub mod MomentRows
-pub mod Numbers
-pub mod Parts
-pub mod Telling
-pub mod PageCuts
-pub mod Walking

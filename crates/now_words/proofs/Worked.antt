@@ -1,0 +1,146 @@
+-- Worked rows of the definitions, each found by computation.
+use Rattle.std.proofs.Common.{◌≡◌, ℕ, List, [], ◌∷◌, codes, Option, Some, None, refl}
+use Rattle.now_words.specs.Command.{Command, cut, run_bare, run_kept, reads, command_of}
+use Rattle.now_words.specs.declared.command.Query.TheVariants.{List as list_query}
+
+abbrev file : List ℕ
+file = codes "s.py"
+
+-- the words of a run, behind `run`
+abbrev run : List (List ℕ) → Option Command
+run words = command_of (codes "run" ∷ words)
+
+no_words : command_of [] ≡ None
+no_words = refl
+
+no_verb : command_of (codes "Run" ∷ codes "--bare" ∷ file ∷ []) ≡ None
+no_verb = refl
+
+help_is_none : command_of (codes "--help" ∷ []) ≡ None
+help_is_none = refl
+
+cut_line : command_of (codes "cut" ∷ file ∷ codes "3" ∷ []) ≡ Some (cut file 3)
+cut_line = refl
+
+cut_line_zero : command_of (codes "cut" ∷ file ∷ codes "0" ∷ []) ≡ None
+cut_line_zero = refl
+
+cut_leading_zero : command_of (codes "cut" ∷ file ∷ codes "03" ∷ []) ≡ None
+cut_leading_zero = refl
+
+cut_signed : command_of (codes "cut" ∷ file ∷ codes "+1" ∷ []) ≡ None
+cut_signed = refl
+
+cut_greatest : command_of (codes "cut" ∷ file ∷ codes "4294967295" ∷ []) ≡ Some (cut file 4294967295)
+cut_greatest = refl
+
+cut_past_greatest : command_of (codes "cut" ∷ file ∷ codes "4294967296" ∷ []) ≡ None
+cut_past_greatest = refl
+
+cut_no_line : command_of (codes "cut" ∷ file ∷ []) ≡ None
+cut_no_line = refl
+
+cut_empty_line : command_of (codes "cut" ∷ file ∷ [] ∷ []) ≡ None
+cut_empty_line = refl
+
+cut_any_file : command_of (codes "cut" ∷ codes "--x" ∷ codes "3" ∷ []) ≡ Some (cut (codes "--x") 3)
+cut_any_file = refl
+
+cut_keeps_dashes : command_of (codes "cut" ∷ codes "--" ∷ file ∷ codes "3" ∷ []) ≡ None
+cut_keeps_dashes = refl
+
+bare : run (codes "--bare" ∷ file ∷ []) ≡ Some (run_bare 1000000 file [])
+bare = refl
+
+bare_behind : run (file ∷ codes "a" ∷ codes "--bare" ∷ codes "b" ∷ []) ≡ Some (run_bare 1000000 file (codes "a" ∷ codes "b" ∷ []))
+bare_behind = refl
+
+not_bare : run (file ∷ []) ≡ Some (run_kept 1000000 file [])
+not_bare = refl
+
+bare_twice : run (codes "--bare" ∷ codes "--bare" ∷ file ∷ []) ≡ None
+bare_twice = refl
+
+no_file : run (codes "--bare" ∷ []) ≡ None
+no_file = refl
+
+steps_apart : run (codes "--steps" ∷ codes "20" ∷ codes "--bare" ∷ file ∷ []) ≡ Some (run_bare 20 file [])
+steps_apart = refl
+
+steps_joined : run (codes "--bare" ∷ file ∷ codes "--steps=20" ∷ codes "a" ∷ []) ≡ Some (run_bare 20 file (codes "a" ∷ []))
+steps_joined = refl
+
+steps_twice : run (codes "--bare" ∷ codes "--steps=20" ∷ codes "--steps" ∷ codes "20" ∷ file ∷ []) ≡ None
+steps_twice = refl
+
+steps_twice_joined : run (codes "--bare" ∷ codes "--steps" ∷ codes "20" ∷ codes "--steps=20" ∷ file ∷ []) ≡ None
+steps_twice_joined = refl
+
+steps_no_value : run (codes "--bare" ∷ file ∷ codes "--steps" ∷ []) ≡ None
+steps_no_value = refl
+
+steps_value_behind_dashes : run (codes "--bare" ∷ file ∷ codes "--steps" ∷ codes "--" ∷ codes "20" ∷ []) ≡ None
+steps_value_behind_dashes = refl
+
+steps_value_is_next : run (codes "--steps" ∷ codes "--bare" ∷ codes "20" ∷ file ∷ []) ≡ None
+steps_value_is_next = refl
+
+steps_empty : run (codes "--bare" ∷ codes "--steps=" ∷ file ∷ []) ≡ None
+steps_empty = refl
+
+steps_zero : run (codes "--bare" ∷ codes "--steps" ∷ codes "0" ∷ file ∷ []) ≡ None
+steps_zero = refl
+
+steps_leading_zeros : run (codes "--bare" ∷ codes "--steps=0000000000000000000001000000" ∷ file ∷ []) ≡ Some (run_bare 1000000 file [])
+steps_leading_zeros = refl
+
+steps_past_greatest : run (codes "--bare" ∷ codes "--steps=1000001" ∷ file ∷ []) ≡ None
+steps_past_greatest = refl
+
+steps_signed : run (codes "--bare" ∷ codes "--steps" ∷ codes "-1" ∷ file ∷ []) ≡ None
+steps_signed = refl
+
+other_option : run (codes "--bare" ∷ codes "-x" ∷ file ∷ []) ≡ None
+other_option = refl
+
+option_with_value : run (codes "--bare=1" ∷ file ∷ []) ≡ None
+option_with_value = refl
+
+dash_alone : run (codes "--bare" ∷ codes "-" ∷ codes "-" ∷ []) ≡ Some (run_bare 1000000 (codes "-") (codes "-" ∷ []))
+dash_alone = refl
+
+empty_words : run (codes "--bare" ∷ [] ∷ [] ∷ []) ≡ Some (run_bare 1000000 [] ([] ∷ []))
+empty_words = refl
+
+dashes_dropped : run (codes "--bare" ∷ codes "--" ∷ file ∷ []) ≡ Some (run_bare 1000000 file [])
+dashes_dropped = refl
+
+all_behind_dashes : run (codes "--bare" ∷ file ∷ codes "--" ∷ codes "-x" ∷ codes "--" ∷ codes "--steps" ∷ [])
+    ≡ Some (run_bare 1000000 file (codes "-x" ∷ codes "--" ∷ codes "--steps" ∷ []))
+all_behind_dashes = refl
+
+bare_behind_dashes : run (codes "--" ∷ codes "--bare" ∷ file ∷ []) ≡ Some (run_kept 1000000 (codes "--bare") (file ∷ []))
+bare_behind_dashes = refl
+
+-- ---- commands that read the store
+
+list_alone : command_of (codes "list" ∷ []) ≡ Some (reads list_query)
+list_alone = refl
+
+list_with_dashes : command_of (codes "list" ∷ codes "--" ∷ []) ≡ Some (reads list_query)
+list_with_dashes = refl
+
+list_of_one : command_of (codes "list" ∷ codes "1" ∷ []) ≡ None
+list_of_one = refl
+
+list_of_one_behind_dashes : command_of (codes "list" ∷ codes "--" ∷ codes "x" ∷ []) ≡ None
+list_of_one_behind_dashes = refl
+
+list_of_nothing : command_of (codes "list" ∷ [] ∷ []) ≡ None
+list_of_nothing = refl
+
+list_with_option : command_of (codes "list" ∷ codes "--steps=1" ∷ []) ≡ None
+list_with_option = refl
+
+list_with_dashes_twice : command_of (codes "list" ∷ codes "--" ∷ codes "--" ∷ []) ≡ None
+list_with_dashes_twice = refl

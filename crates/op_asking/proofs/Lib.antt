@@ -1,9 +1,0 @@
-pub mod Agreeing
-pub mod Likewise
-pub mod Outcomes
-pub mod Performed
-pub mod FirstAsks
-pub mod FirstFetches
-pub mod Ready
-pub mod Asked
-pub mod Fetched

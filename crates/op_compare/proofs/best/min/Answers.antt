@@ -1,0 +1,4 @@
+use Rattle.op_compare.proofs.best.min.Goals as goal
+
+pub returns : goal.returns
+returns c = c.best.ensures

@@ -1,3 +1,0 @@
-pub mod GivenEnds
-pub mod WithFile
-pub mod Opens

@@ -1,5 +1,0 @@
-pub mod Completing
-pub mod Finding
-pub mod Sayings
-pub mod Seeing
-pub mod Tellings

@@ -1,9 +1,0 @@
-pub mod KeptHolds
-pub mod PathNumbers
-pub mod RaisedEnds
-pub mod ParameterWrites
-pub mod OpeningHolds
-pub mod MixedFiles
-pub mod Placing
-pub mod FinalsHeld
-pub mod UncaughtHeld

@@ -1,5 +1,0 @@
-use Rattle.op_held.proofs.KeptHolds.{begins}
-use Rattle.op_held.proofs.beginning.begin.Goals as goal
-
-pub returns : goal.returns
-returns c = begins _ c.args.left c.begin.result c.requires c.begin.ensures.begun c.begin.ensures.dear

@@ -1,4 +1,0 @@
-pub mod Building
-pub mod OneSequence
-pub mod Pairing
-pub mod Writing

@@ -1,0 +1,20 @@
+use Rattle.std.proofs.Common.{refl, map}
+use Rattle.py_model.specs.Lists.{delitem}
+use Rattle.py_model.specs.Operands.{of_two}
+use Rattle.py_value.specs.Contents.{contents}
+use Rattle.op_work.specs.Work.{Ends}
+use Rattle.op_work.proofs.Ending.{ends_then, ends_stop}
+use Rattle.op_work.proofs.Going.{passes_err}
+use Rattle.op_numbers.proofs.EndsAlike.{ends_as}
+use Rattle.op_mutations.proofs.Operands.{deletes, delitem_is}
+use Rattle.op_mutations.proofs.taking.delitem.Goals as goal
+
+pub returns-in_err-v : goal.returns-in_err-v
+returns-in_err-v c = passes_err (λ result. Ends (λ table. delitem (map (contents table) c.args.operands.now)) c.args.work.now c.two.new.work result)
+    c.from_residual.result c.from_residual.ensures.1
+    (ends_as (λ table. delitem (map (contents table) c.args.operands.now)) (λ table. of_two deletes (map (contents table) c.args.operands.now)) (λ table interned extends. delitem_is (map (contents table) c.args.operands.now))
+    (ends_stop (λ table x. deletes x.0 x.1) _ c.in_err-v.ensures))
+
+pub returns : goal.returns
+returns c = ends_as (λ table. delitem (map (contents table) c.args.operands.now)) (λ table. of_two deletes (map (contents table) c.args.operands.now)) (λ table interned extends. delitem_is (map (contents table) c.args.operands.now))
+    (ends_then (λ table x. deletes x.0 x.1) c.in_ok-v.ensures (λ table interned extends. refl) c.del_in_value.ensures)

@@ -1,4 +1,0 @@
-pub mod ManyTimes
-pub mod ProductPlans
-pub mod SumPlans
-pub mod WrittenPlans

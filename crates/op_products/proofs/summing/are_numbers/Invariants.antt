@@ -1,6 +1,0 @@
-use Rattle.std.proofs.Common.{◌≡◌, drop}
-use Rattle.op_products.specs.Summed.{all_numbers}
-use Rattle.op_products.proofs.summing.are_numbers.Given as goal
-
-abbrev pub invariant-loop-item : goal.invariant-loop-item
-invariant-loop-item l = all_numbers (drop l.item-index l.items) ≡ all_numbers l.fn.items

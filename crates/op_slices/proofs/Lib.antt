@@ -1,4 +1,0 @@
-pub mod LineEnds
-pub mod LinePlans
-pub mod SlicePlans
-pub mod TurnPlans

@@ -1,0 +1,14 @@
+pub mod Completing
+pub mod Finding
+pub mod Sayings
+pub mod Seeing
+pub mod Tellings
+pub mod KeptHolds
+pub mod PathNumbers
+pub mod RaisedEnds
+pub mod ParameterWrites
+pub mod OpeningHolds
+pub mod MixedFiles
+pub mod Placing
+pub mod FinalsHeld
+pub mod UncaughtHeld

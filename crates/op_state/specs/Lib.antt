@@ -1,0 +1,10 @@
+pub mod Holding
+pub mod Happening
+pub mod Telling
+pub mod Entering
+pub mod Opening
+pub mod Settling
+pub mod Paths
+pub mod Held
+pub mod Finals
+pub mod Uncaught

@@ -1,4 +1,0 @@
-pub mod AddingPlans
-pub mod InPlacePlans
-pub mod ReceiverPlans
-pub mod TurningPlans

@@ -1,3 +1,0 @@
-pub mod OtherLengths
-pub mod ReceiverPlans
-pub mod ViewPlans

@@ -1,2 +1,0 @@
-pub mod AccessBytes
-pub mod AccessReading

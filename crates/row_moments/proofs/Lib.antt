@@ -1,0 +1,9 @@
+pub mod Interned
+pub mod Finding
+pub mod InOrder
+pub mod RowsNamed
+pub mod OrderedRows
+pub mod NestingRows
+pub mod OpenFrames
+pub mod ReadBack
+pub mod RowsBack

@@ -1,0 +1,2 @@
+pub mod LocalWalks
+pub mod Defs

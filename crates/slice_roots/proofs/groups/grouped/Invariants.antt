@@ -1,6 +1,0 @@
-use Rattle.std.proofs.Common.{◌≡◌, ◌++◌, ℕ, drop}
-use Rattle.slice_roots.specs.Groups.{group_in, values_of}
-use Rattle.slice_roots.proofs.groups.grouped.Given as goal
-
-abbrev pub invariant-loop-pair : goal.invariant-loop-pair
-invariant-loop-pair l = (o : ℕ) → group_in l.groups.entries o ++ values_of (drop l.pair-index l.pairs) o ≡ values_of l.pairs o

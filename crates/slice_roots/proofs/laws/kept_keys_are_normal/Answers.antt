@@ -1,5 +1,0 @@
-use Rattle.slice_roots.proofs.PlainKeys.{normal_row}
-use Rattle.slice_roots.proofs.laws.kept_keys_are_normal.Goals as goal
-
-pub returns : goal.returns
-returns c = λ view row interned named is. normal_row view interned row named is

@@ -1,7 +1,0 @@
-use Rattle.std.proofs.Common.{[], ◌∷◌, sym, subst}
-use Rattle.slice_roots.specs.Walk.{Grows}
-use Rattle.slice_roots.proofs.WalkLaws.{put_grows}
-use Rattle.slice_roots.proofs.walk.find.Goals as goal
-
-pub returns-in_ok-insert : goal.returns-in_ok-insert
-returns-in_ok-insert c = subst (Grows c.args.found.now.keys (c.args.v ∷ [])) (sym c.in_ok-insert.ensures.keys) (put_grows c.args.found.now.keys c.args.v)

@@ -1,6 +1,0 @@
-use Rattle.std.proofs.Common.{take}
-use Rattle.slice_roots.specs.Walk.{Grows}
-use Rattle.slice_roots.proofs.walk.find_all.Given as goal
-
-abbrev pub invariant-loop-v : goal.invariant-loop-v
-invariant-loop-v l = Grows l.fn.found.keys (take l.v-index l.values) l.found.keys

@@ -1,5 +1,0 @@
-use Rattle.slice_runs.proofs.Renamings.{accesses_match}
-use Rattle.slice_runs.proofs.laws.accesses_keep_correspondence.Goals as goal
-
-pub returns : goal.returns
-returns c = λ r l accesses here there known. accesses_match r c.tests_are_equality.ensures.locations l accesses here there known

@@ -1,4 +1,0 @@
-mod Along
-mod Lacking
-mod ParentPairs
-mod StandingBelow

@@ -1,4 +1,0 @@
-pub mod Along
-pub mod Lacking
-pub mod Pairs
-pub mod ParentPairs

@@ -1,0 +1,227 @@
+-- A value whose objects are there in both runs has the same graph in both stores, where all that is reachable from it corresponds.
+use Rattle.std.proofs.Common.{◌≡◌, ℕ, Bool, true, ◌&&◌, List, [], ◌∷◌, slice_get, Option, Some, None, option_map, refl, sym, ap, subst, ◌∙◌}
+use Rattle.std.specs.Prelude.{◌↔◌}
+use Rattle.std.proofs.lemmas.Bool.{and_parts, and_from}
+use Rattle.prov_base.specs.declared.place.Pos.{Pos}
+use Rattle.py_value.specs.Contents.{Contents, Parts, nothing, truth, int, text, tuple, range, function, class, exception_class, builtin, object, no_parts, part}
+use Rattle.py_value.specs.KeyOf.{normal}
+use Rattle.py_value.specs.Same.{same_value}
+use Rattle.py_value.specs.Seen.{SeenLocation, SeenKind, a_list, a_dict, an_instance, a_file, len_at, item_at, entry_at, order_at, offset_at, closed_at}
+use Rattle.py_model.specs.Graph.{function_name, class_name, class_text}
+use Rattle.py_model.specs.Renaming.{Renaming, renamed, renamed_parts, renamed_option, renamed_list, renamed_entry, renamed_kind}
+use Rattle.py_model.specs.SameGraph.{Setting, Match, PartsMatch, OptionsMatch, EntriesMatch, KeysMatch, ContentMatches, HaveSameGraph}
+use Rattle.py_model.specs.Store.{item_of, entry_of, order_of}
+use Rattle.slice_law.specs.Closed.{IsIn}
+use Rattle.slice_law.specs.Edges.{Reachable}
+use Rattle.slice_simulation.proofs.Ranks.{agreed_is_marked}
+use Rattle.slice_law.proofs.Reachables.{within, parts_within, item_within, entry_within, within_both, item_both, entry_both, met, KeysCovered, Covered}
+use Rattle.slice_simulation.proofs.Readings.{len_read, item_read, entry_read, order_read, offset_read, closed_read}
+use Rattle.slice_simulation.proofs.Renamings.{value_test}
+use Rattle.slice_simulation.specs.Renaming.{is_marked, Fits, IsShifted, Matches, Marks}
+
+object_same : (m n : ℕ) → object m ≡ object n → m ≡ n
+object_same m n is = cc
+
+text_same : (one other : List ℕ) → text one ≡ text other → one ≡ other
+text_same one other is = cc
+
+tuple_same : (ps qs : Parts) → tuple ps ≡ tuple qs → ps ≡ qs
+tuple_same ps qs is = cc
+
+first_same : (v w : Contents) (ps qs : Parts) → part v ps ≡ part w qs → v ≡ w
+first_same v w ps qs is = cc
+
+rest_same : (v w : Contents) (ps qs : Parts) → part v ps ≡ part w qs → ps ≡ qs
+rest_same v w ps qs is = cc
+
+some_same : (v w : Contents) → Some v ≡ Some w → v ≡ w
+some_same v w is = cc
+
+head_same : (v w : Contents) (vs ws : List Contents) → v ∷ vs ≡ w ∷ ws → v ≡ w
+head_same v w vs ws is = cc
+
+tail_same : (v w : Contents) (vs ws : List Contents) → v ∷ vs ≡ w ∷ ws → vs ≡ ws
+tail_same v w vs ws is = cc
+
+-- what an entry has under its key
+abbrev item_in : Option (Contents × Contents) → Option Contents
+item_in None = None
+item_in (Some entry) = Some entry.1
+
+module _ (is_same : (v w : Contents) → (same_value v w ≡ true) ↔ (v ≡ w)) (marks : Marks) (near : IsShifted marks 0) (far : IsShifted marks 1) where
+  -- what two renamings that fit make the same of has objects of both runs alone
+  mutual
+    shared : (v : Contents) → renamed near.by v ≡ renamed far.by v → within (is_marked marks.objects) v ≡ true
+    shared (tuple parts) is = parts_shared parts (tuple_same (renamed_parts near.by parts) (renamed_parts far.by parts) is)
+    shared (object o) is = agreed_is_marked marks near far o (object_same (near.by.objects o) (far.by.objects o) is)
+    shared nothing is = refl
+    shared (truth b) is = refl
+    shared (int i) is = refl
+    shared (text bytes) is = refl
+    shared (range a b c) is = refl
+    shared (function place) is = refl
+    shared (class place) is = refl
+    shared (exception_class number) is = refl
+    shared (builtin number) is = refl
+
+    parts_shared : (ps : Parts) → renamed_parts near.by ps ≡ renamed_parts far.by ps → parts_within (is_marked marks.objects) ps ≡ true
+    parts_shared no_parts is = refl
+    parts_shared (part first rest) is = and_from (within (is_marked marks.objects) first) (parts_within (is_marked marks.objects) rest)
+        (shared first (first_same (renamed near.by first) (renamed far.by first) (renamed_parts near.by rest) (renamed_parts far.by rest) is))
+        (parts_shared rest (rest_same (renamed near.by first) (renamed far.by first) (renamed_parts near.by rest) (renamed_parts far.by rest) is))
+
+  item_shared : (v : Option Contents) → renamed_option near.by v ≡ renamed_option far.by v → item_within (is_marked marks.objects) v ≡ true
+  item_shared None is = refl
+  item_shared (Some v) is = shared v (some_same (renamed near.by v) (renamed far.by v) is)
+
+  entry_shared : (entry : Option (Contents × Contents)) → renamed_entry near.by entry ≡ renamed_entry far.by entry → entry_within (is_marked marks.objects) entry ≡ true
+  entry_shared None is = refl
+  entry_shared (Some entry) is = shared entry.1 (some_same (renamed near.by entry.1) (renamed far.by entry.1) (ap item_in is))
+
+  same_number : (o : ℕ) → is_marked marks.objects o ≡ true → far.by.objects o ≡ near.by.objects o
+  same_number o marked = far.fits.objects_are o marked ∙ sym (near.fits.objects_are o marked)
+
+  module _ (here there : Setting) (s : Reachable)
+      (covers : (o : ℕ) → met s o ≡ true → Covered here.store s o (slice_get here.store.kinds o))
+      (matches : (l : SeenLocation) → IsIn s.places l → (r : Renaming) → Fits marks r → Matches r here.store.at there.store.at l)
+      (kinds : (o : ℕ) → is_marked marks.objects o ≡ true → slice_get there.store.kinds (near.by.objects o) ≡ option_map (renamed_kind near.by) (slice_get here.store.kinds o))
+      (functions : (at : Pos) → function_name here.script here.store at ≡ function_name there.script there.store at)
+      (classes : (at : Pos) → class_name here.script here.store at ≡ class_name there.script there.store at) where
+    -- objects that were met and are there in both runs
+    abbrev reached : ℕ → Bool
+    reached o = met s o && is_marked marks.objects o
+
+    abbrev pairs : Contents → Contents → Bool
+    pairs v w = within reached v && same_value (renamed near.by v) w
+
+    own_pair : (v : Contents) → within reached v ≡ true → pairs v (renamed near.by v) ≡ true
+    own_pair v is = and_from (within reached v) (same_value (renamed near.by v) (renamed near.by v)) is ((is_same (renamed near.by v) (renamed near.by v)).1 refl)
+
+    paired_within : (v w : Contents) → pairs v w ≡ true → within reached v ≡ true
+    paired_within v w is = (and_parts (within reached v) (same_value (renamed near.by v) w) is).0
+
+    paired_same : (v w : Contents) → pairs v w ≡ true → renamed near.by v ≡ w
+    paired_same v w is = (is_same (renamed near.by v) w).0 (and_parts (within reached v) (same_value (renamed near.by v) w) is).1
+
+    renamed_one : (v w : Contents) → renamed near.by v ≡ renamed near.by w → v ≡ w
+    renamed_one v w is = (is_same v w).0 (sym (value_test near.by v w) ∙ (is_same (renamed near.by v) (renamed near.by w)).1 is)
+
+    class_same : (of : Contents) → class_text here.script here.store of ≡ class_text there.script there.store (renamed near.by of)
+    class_same (class at) = classes at
+    class_same (exception_class number) = refl
+    class_same nothing = refl
+    class_same (truth b) = refl
+    class_same (int i) = refl
+    class_same (text bytes) = refl
+    class_same (tuple parts) = refl
+    class_same (range a b c) = refl
+    class_same (function place) = refl
+    class_same (builtin number) = refl
+    class_same (object o) = refl
+
+    match_own : (v : Contents) → within reached v ≡ true → Match here there pairs v (renamed near.by v)
+    match_own nothing is = tt
+    match_own (truth b) is = refl
+    match_own (int i) is = refl
+    match_own (text bytes) is = own_pair (text bytes) is
+    match_own (tuple parts) is = own_pair (tuple parts) is
+    match_own (range a b c) is = (refl, refl, refl)
+    match_own (function at) is = functions at
+    match_own (class at) is = classes at
+    match_own (exception_class number) is = refl
+    match_own (builtin number) is = refl
+    match_own (object o) is = own_pair (object o) is
+
+    parts_own : (ps : Parts) → parts_within reached ps ≡ true → PartsMatch here there pairs ps (renamed_parts near.by ps)
+    parts_own no_parts is = tt
+    parts_own (part first rest) is =
+        let both : (within reached first ≡ true) × (parts_within reached rest ≡ true) = and_parts (within reached first) (parts_within reached rest) is in
+        (match_own first both.0, parts_own rest both.1)
+
+    item_own : (v : Option Contents) → item_within reached v ≡ true → OptionsMatch here there pairs v (renamed_option near.by v)
+    item_own None is = tt
+    item_own (Some v) is = match_own v is
+
+    entry_own : (entry : Option (Contents × Contents)) → entry_within reached entry ≡ true → EntriesMatch here there pairs entry (renamed_entry near.by entry)
+    entry_own None is = tt
+    entry_own (Some entry) is = match_own entry.1 is
+
+    -- of an object of both runs what stands at its locations
+    module _ (o : ℕ) (marked : is_marked marks.objects o ≡ true) where
+      item_match : (i : ℕ) → IsIn s.places (item_at o i) → item_within (met s) (item_of here.store o i) ≡ true
+          → OptionsMatch here there pairs (item_of here.store o i) (item_of there.store (near.by.objects o) i)
+      item_match i place inside = subst (OptionsMatch here there pairs (item_of here.store o i)) (sym in_near)
+          (item_own (item_of here.store o i) (item_both (met s) (is_marked marks.objects) (item_of here.store o i) inside (item_shared (item_of here.store o i) (sym in_near ∙ (ap (λ p. item_of there.store p i) (sym (same_number o marked)) ∙ in_far)))))
+        where
+          in_near : item_of there.store (near.by.objects o) i ≡ renamed_option near.by (item_of here.store o i)
+          in_near = item_read near.by here.store there.store o i (matches (item_at o i) place near.by near.fits)
+
+          in_far : item_of there.store (far.by.objects o) i ≡ renamed_option far.by (item_of here.store o i)
+          in_far = item_read far.by here.store there.store o i (matches (item_at o i) place far.by far.fits)
+
+      entry_match : (key : Contents) → renamed near.by key ≡ renamed far.by key → IsIn s.places (entry_at o (normal key)) → entry_within (met s) (entry_of here.store o key) ≡ true
+          → EntriesMatch here there pairs (entry_of here.store o key) (entry_of there.store (near.by.objects o) (renamed near.by key))
+      entry_match key same place inside = subst (EntriesMatch here there pairs (entry_of here.store o key)) (sym in_near)
+          (entry_own (entry_of here.store o key) (entry_both (met s) (is_marked marks.objects) (entry_of here.store o key) inside (entry_shared (entry_of here.store o key)
+          (sym in_near ∙ (ap (λ p. entry_of there.store p (renamed near.by key)) (sym (same_number o marked)) ∙ (ap (entry_of there.store (far.by.objects o)) same ∙ in_far))))))
+        where
+          in_near : entry_of there.store (near.by.objects o) (renamed near.by key) ≡ renamed_entry near.by (entry_of here.store o key)
+          in_near = entry_read near.by here.store there.store o key (matches (entry_at o (normal key)) place near.by near.fits)
+
+          in_far : entry_of there.store (far.by.objects o) (renamed far.by key) ≡ renamed_entry far.by (entry_of here.store o key)
+          in_far = entry_read far.by here.store there.store o key (matches (entry_at o (normal key)) place far.by far.fits)
+
+      keys_match : (keys : List Contents) → renamed_list near.by keys ≡ renamed_list far.by keys → KeysCovered here.store s o keys
+          → KeysMatch here there pairs o (near.by.objects o) keys (renamed_list near.by keys)
+      keys_match [] same all = tt
+      keys_match (key ∷ keys) same all =
+          let first : renamed near.by key ≡ renamed far.by key = head_same (renamed near.by key) (renamed far.by key) (renamed_list near.by keys) (renamed_list far.by keys) same in (
+            match_own key (within_both (met s) (is_marked marks.objects) key all.1 (shared key first)),
+            entry_match key first all.0 all.2,
+            keys_match keys (tail_same (renamed near.by key) (renamed far.by key) (renamed_list near.by keys) (renamed_list far.by keys) same) all.3,
+          )
+
+      order_match : IsIn s.places (order_at o) → KeysCovered here.store s o (order_of here.store o)
+          → KeysMatch here there pairs o (near.by.objects o) (order_of here.store o) (order_of there.store (near.by.objects o))
+      order_match place all = subst (KeysMatch here there pairs o (near.by.objects o) (order_of here.store o)) (sym in_near)
+          (keys_match (order_of here.store o) (sym in_near ∙ (ap (order_of there.store) (sym (same_number o marked)) ∙ in_far)) all)
+        where
+          in_near : order_of there.store (near.by.objects o) ≡ renamed_list near.by (order_of here.store o)
+          in_near = order_read near.by here.store there.store o (matches (order_at o) place near.by near.fits)
+
+          in_far : order_of there.store (far.by.objects o) ≡ renamed_list far.by (order_of here.store o)
+          in_far = order_read far.by here.store there.store o (matches (order_at o) place far.by far.fits)
+
+      content_match : (kind : Option SeenKind) → Covered here.store s o kind → ContentMatches here there pairs o (near.by.objects o) kind (option_map (renamed_kind near.by) kind)
+      content_match None covered = tt
+      content_match (Some a_list) covered = (
+        sym (len_read near.by here.store there.store o (matches (len_at o) covered.0 near.by near.fits)),
+        λ i less. item_match i (covered.1 i less).place (covered.1 i less).item,
+      )
+      content_match (Some a_dict) covered = order_match covered.0 covered.1
+      content_match (Some (an_instance of)) covered = (class_same of, order_match covered.0 covered.1)
+      content_match (Some (a_file path mode)) covered = (
+        refl,
+        refl,
+        sym (offset_read near.by here.store there.store o (matches (offset_at o) covered.0 near.by near.fits)),
+        sym (closed_read near.by here.store there.store o (matches (closed_at o) covered.1 near.by near.fits)),
+      )
+
+    objects_match : (o p : ℕ) → pairs (object o) (object p) ≡ true → ContentMatches here there pairs o p (slice_get here.store.kinds o) (slice_get there.store.kinds p)
+    objects_match o p is =
+        let both : (met s o ≡ true) × (is_marked marks.objects o ≡ true) = and_parts (met s o) (is_marked marks.objects o) (paired_within (object o) (object p) is) in
+        subst (λ q. ContentMatches here there pairs o q (slice_get here.store.kinds o) (slice_get there.store.kinds q)) (object_same (near.by.objects o) p (paired_same (object o) (object p) is))
+        (subst (ContentMatches here there pairs o (near.by.objects o) (slice_get here.store.kinds o)) (sym (kinds o both.1)) (content_match o both.1 (slice_get here.store.kinds o) (covers o both.0)))
+
+    pub graphs_match : (v : Contents) → within (met s) v ≡ true → renamed near.by v ≡ renamed far.by v → HaveSameGraph here there v (renamed near.by v)
+    graphs_match v inside same = record {
+      pairs = pairs;
+      is_pairing = record {
+        one_right = λ v w x one other. sym (paired_same v w one) ∙ paired_same v x other;
+        one_left = λ v w x one other. renamed_one v w (paired_same v x one ∙ sym (paired_same w x other));
+        texts = λ one other is. text_same one other (paired_same (text one) (text other) is);
+        tuples = λ ps qs is. subst (PartsMatch here there pairs ps) (tuple_same (renamed_parts near.by ps) qs (paired_same (tuple ps) (tuple qs) is)) (parts_own ps (paired_within (tuple ps) (tuple qs) is));
+        objects = objects_match;
+      };
+      match_is = match_own v (within_both (met s) (is_marked marks.objects) v inside (shared v same));
+    }

@@ -1,0 +1,18 @@
+use Rattle.slice_simulation.proofs.Happenings.{Laws}
+use Rattle.slice_simulation.proofs.Evaluations.{reaches}
+use Rattle.slice_simulation.proofs.laws.slices_reach_the_evaluation.Goals as goal
+
+pub returns : goal.returns
+returns c =
+    let laws : Laws = record {
+      locations = c.tests_are_equality.ensures.locations;
+      alike = c.corresponding_operands_have_alike_plans.ensures;
+      agree = c.operations_agree.ensures;
+      quiet = c.few_operations_ask.ensures.quiet;
+      same = c.few_operations_ask.ensures.same;
+      unnoted = c.few_operations_ask.ensures.unnoted;
+      tidy = c.operations_open_tidily.ensures;
+      changes = c.map_changes_by_accesses.ensures;
+    } in
+    λ script capture path arguments steps budget at k keep upto well is closed plain enough.
+    reaches laws script capture path arguments steps keep at upto budget k well closed plain is enough

@@ -1,0 +1,203 @@
+// Laws of two runs, each a function without a body that says it.
+ghost use Rattle.std.specs.Prelude.{◌≡◌, ◌⊎◌, ℕ, Bool, true, false, List, ◌∷◌, ◌++◌, map, Option, Some};
+ghost use Rattle.std.specs.Option.{option_map};
+ghost use Rattle.py_value.specs.Changes.{has_key, with_key, without_key, changed, after_accesses};
+ghost use Rattle.py_value.specs.Contents.{Contents, object};
+ghost use Rattle.py_value.specs.KeyOf.{normal};
+ghost use Rattle.py_value.specs.Same.{same_value, same_location};
+ghost use Rattle.py_value.specs.Seen.{SeenLocation, SeenContent, SeenChange, SeenAccess};
+ghost use Rattle.py_model.specs.Occurrences.{sets_at, owner_stmt, up_to_evaluation};
+ghost use Rattle.py_model.specs.Renaming.{Renaming, renamed, renamed_list, renamed_location, renamed_content, renamed_change, renamed_access};
+ghost use Rattle.slice_simulation.specs.Renaming.{all_marks, is_marked, rank, IsShifted, Matches, SameValue, SameValues, SameOp, SameScope};
+ghost use Rattle.prov_base.specs.declared.place.Pos.{Pos};
+ghost use Rattle.py_model.specs.Act.{Walked};
+ghost use Rattle.py_model.specs.Capture.{Capture};
+ghost use Rattle.py_model.specs.Effect.{accesses_in};
+ghost use Rattle.py_model.specs.Moment.{Moment};
+ghost use Rattle.py_model.specs.Operations.{Op};
+ghost use Rattle.py_model.specs.Plan.{Answer, value};
+ghost use Rattle.py_model.specs.Quiet.{may_ask};
+ghost use Rattle.py_model.specs.Running.{State, did, askings_at, effect_of, operation};
+ghost use Rattle.slice_law.specs.Closed.{StmtSet};
+ghost use Rattle.slice_simulation.specs.Related.{Related, AllInReach, DoneAgain, IsUnnoted};
+ghost use Rattle.std.specs.Prelude.{◌≤◌};
+ghost use Rattle.py_tree.specs.Tree.{ScriptTree};
+ghost use Rattle.py_model.specs.Capture.{opening_in};
+ghost use Rattle.py_model.specs.History.{spent_on};
+ghost use Rattle.slice_law.specs.Closed.{IsClosed, IsLeast};
+ghost use Rattle.slice_law.specs.Slices.{told_by};
+ghost use Rattle.slice_law.specs.Slices.{Reproduces};
+ghost use Rattle.slice_simulation.specs.Atomic.{is_atomic};
+ghost use Rattle.slice_simulation.specs.Owned.{SamePlace};
+ghost use Rattle.slice_simulation.specs.Simulation.{IsPlainRun, Simulates, answer_of, ReachesEvaluation};
+ghost use Rattle.py_tree.specs.WellFormed.{IsWellFormed};
+ghost use Rattle.std.specs.Prelude.{[]};
+ghost use Rattle.py_model.specs.Graph.{names_in};
+ghost use Rattle.slice_simulation.specs.Bare.{BareSuite};
+ghost use Rattle.py_tree.specs.Deletion.{deleted};
+ghost use Rattle.py_tree.specs.Functions.{functions_in, function_at};
+ghost use Rattle.slice_simulation.specs.Cut.{CutFunctions, FoundCut};
+
+use py_model::{
+    corresponding_operands_have_alike_plans, few_operations_ask, few_operations_note,
+    graph_texts_tell_graphs, map_changes_by_accesses, operations_agree, operations_open_tidily,
+};
+use py_value::tests_are_equality;
+
+/// The law that a renaming keeps equality: of values, of locations, of keys in a row; and that a change of a renamed content is the renamed
+/// change.
+pub fn renaming_keeps_equality()
+    ensures values { (r : Renaming) (v w : Contents) → same_value (renamed r v) (renamed r w) ≡ same_value v w }
+    ensures locations { (r : Renaming) (l m : SeenLocation) → same_location (renamed_location r l) (renamed_location r m) ≡ same_location l m }
+    ensures keys { (r : Renaming) (key : Contents) (keys : List Contents) → has_key (renamed r key) (renamed_list r keys) ≡ has_key key keys }
+    ensures changes { (r : Renaming) (how : SeenChange) (content : Option SeenContent)
+        → changed (renamed_change r how) (option_map (renamed_content r) content) ≡ renamed_content r (changed how content) }
+{
+    tests_are_equality();
+}
+
+/// The law that corresponding accesses leave what corresponds, and make what they set correspond.
+pub fn accesses_keep_correspondence()
+    ensures { (r : Renaming) (l : SeenLocation) (accesses : List SeenAccess) (here there : SeenLocation → Option SeenContent)
+        → (sets_at l accesses ≡ true) ⊎ Matches r here there l
+        → Matches r (after_accesses accesses here) (after_accesses (map (renamed_access r) accesses) there) l }
+{
+    tests_are_equality();
+}
+
+/// The law of numbers: renamings fit that give the objects of the script's run alone other numbers. So an object of a value that stands for
+/// another, whatever these numbers are, is there in both runs, with its number in the slice's. So is it with activations.
+pub fn objects_of_both_runs_correspond()
+    ensures fits { (objects activations : List Bool) (more : ℕ) → IsShifted (record { objects = true ∷ objects; activations = true ∷ activations }) more }
+    ensures one { (marks : List Bool) (m n : ℕ) → is_marked marks m ≡ true → is_marked marks n ≡ true → rank marks m ≡ rank marks n → m ≡ n }
+    ensures named { (objects activations : List Bool) (o : ℕ) (w : Contents) → SameValue (record { objects = true ∷ objects; activations = true ∷ activations }) (object o) w
+        → (is_marked (true ∷ objects) o ≡ true) × (w ≡ object (rank (true ∷ objects) o)) }
+    ensures entered { (objects activations : List Bool) (a b : ℕ) → SameScope (record { objects = true ∷ objects; activations = true ∷ activations }) a b
+        → (is_marked (true ∷ activations) a ≡ true) × (b ≡ rank (true ∷ activations) a) }
+{}
+
+/// The law of kept moments: what a kept statement's operation does in a script's run it does in its slice's run. The two states stand for one
+/// another, all that it reads was written last by kept statements, and it asks nothing or asks with the same number at its place. Its answer
+/// corresponds, and the states afterwards stand for one another. No operation is taken apart: it follows from the law of agreement.
+pub fn kept_moments_are_done_again()
+    ensures { (capture : Capture) (script other : ScriptTree) (keep : StmtSet) (upto : List Moment) (at : Pos) (p q : Op) (vs ws : List Contents) (n : ℕ) (s t next : State) (answer : Answer) (came : Walked)
+        → Related capture (SamePlace script other) keep upto s t → keep n ≡ true → owner_stmt s.told ≡ Some n → SameOp (all_marks keep upto) p q → SameValues (all_marks keep upto) vs ws
+        → (may_ask p.no ≡ false) ⊎ (askings_at at t.askings ≡ askings_at at s.askings) → operation capture at p vs s ≡ did answer came next → (news : List Moment) → upto ≡ news ++ next.told
+        → AllInReach keep s.told (accesses_in (effect_of capture at p vs s).touches) → DoneAgain capture (SamePlace script other) keep upto at q ws s t answer came next }
+{
+    tests_are_equality();
+    corresponding_operands_have_alike_plans();
+    operations_agree();
+    few_operations_ask();
+    operations_open_tidily();
+    map_changes_by_accesses();
+}
+
+/// The law of other moments: what a statement outside the set does leaves the states standing for one another, where it notes no name.
+pub fn deleted_moments_keep_the_relation()
+    ensures { (capture : Capture) (script other : ScriptTree) (keep : StmtSet) (upto : List Moment) (at : Pos) (p : Op) (vs : List Contents) (n : ℕ) (s t next : State) (answer : Answer) (came : Walked)
+        → Related capture (SamePlace script other) keep upto s t → keep n ≡ false → owner_stmt s.told ≡ Some n → operation capture at p vs s ≡ did answer came next
+        → IsUnnoted next.store → Related capture (SamePlace script other) keep upto next t }
+{
+    tests_are_equality();
+    corresponding_operands_have_alike_plans();
+    operations_agree();
+    few_operations_ask();
+    operations_open_tidily();
+    map_changes_by_accesses();
+}
+
+/// The law of the simulation, for scripts without functions and runs that define no class. A set is given that is closed for the moments up to some
+/// one. Up to there the run of the deletion performs exactly the script's moments without those of deleted statements, and the `pass` of each
+/// execution of an emptied suite. Statements are named by place, and objects of kept statements are renamed one-to-one. Where the reach of a
+/// location is kept, what stands there corresponds. No more steps are needed than the script's run took up to there.
+///
+/// The class is said by `IsPlainRun` of `specs/Simulation.antt`. All expressions and statements are in it but `def` and `class`, with jumps,
+/// exceptions, handlers, askings of devices, files that are read or written and reads of unset names. Not shown here: runs that call functions or
+/// classes of the script or define them.
+pub fn slices_simulate()
+    ensures { (script : ScriptTree) (capture : Capture) (path : List ℕ) (arguments : List (List ℕ)) (steps budget : ℕ) (keep : StmtSet) (upto after : List Moment)
+        → IsWellFormed script → told_by script capture path arguments steps ≡ after ++ upto → IsClosed script (opening_in capture path arguments) upto keep
+        → IsPlainRun script capture path arguments steps → spent_on upto ≤ budget → Simulates script capture path arguments budget keep upto }
+{
+    tests_are_equality();
+    corresponding_operands_have_alike_plans();
+    operations_agree();
+    few_operations_ask();
+    operations_open_tidily();
+    map_changes_by_accesses();
+}
+
+/// The law of the occurrence: in these runs the k-th evaluation at a place is reached by the slice as the k-th at that place, with a corresponding
+/// value, and no more steps are spent up to there. A place is of one statement, so no evaluation of a deleted statement stands at it.
+///
+/// That corresponding values have the same graph text is [`values_are_reproduced`].
+pub fn slices_reach_the_evaluation()
+    ensures { (script : ScriptTree) (capture : Capture) (path : List ℕ) (arguments : List (List ℕ)) (steps budget : ℕ) (at : Pos) (k : ℕ) (keep : StmtSet) (upto : List Moment)
+        → IsWellFormed script → up_to_evaluation at k (told_by script capture path arguments steps) ≡ Some upto → IsClosed script (opening_in capture path arguments) upto keep
+        → IsPlainRun script capture path arguments steps → spent_on upto ≤ budget → ReachesEvaluation script capture path arguments budget keep at k upto }
+{
+    tests_are_equality();
+    corresponding_operands_have_alike_plans();
+    operations_agree();
+    few_operations_ask();
+    operations_open_tidily();
+    map_changes_by_accesses();
+}
+
+/// The law of values without objects: in these runs the slice reproduces each evaluation whose value is a number, a text, a truth value, None, a
+/// range, a built-in or a tuple of such: the value has the same graph text at the same occurrence, and no more steps are spent.
+/// So it is for every closed set, and for the least one with as many steps as the whole run took.
+pub fn atomic_values_are_reproduced()
+    ensures closed { (script : ScriptTree) (capture : Capture) (path : List ℕ) (arguments : List (List ℕ)) (steps budget : ℕ) (at : Pos) (k : ℕ) (keep : StmtSet) (upto : List Moment) (v : Contents)
+        → IsWellFormed script → up_to_evaluation at k (told_by script capture path arguments steps) ≡ Some upto → IsClosed script (opening_in capture path arguments) upto keep
+        → IsPlainRun script capture path arguments steps → spent_on upto ≤ budget → answer_of upto ≡ Some (value v) → is_atomic v ≡ true
+        → Reproduces script capture path arguments budget at k upto keep }
+    ensures least { (script : ScriptTree) (capture : Capture) (path : List ℕ) (arguments : List (List ℕ)) (steps : ℕ) (at : Pos) (k : ℕ) (keep : StmtSet) (upto : List Moment) (v : Contents)
+        → IsWellFormed script → up_to_evaluation at k (told_by script capture path arguments steps) ≡ Some upto → IsLeast script (opening_in capture path arguments) upto keep
+        → IsPlainRun script capture path arguments steps → answer_of upto ≡ Some (value v) → is_atomic v ≡ true
+        → Reproduces script capture path arguments (spent_on (told_by script capture path arguments steps)) at k upto keep }
+{
+    tests_are_equality();
+    graph_texts_tell_graphs();
+    slices_reach_the_evaluation();
+}
+
+/// The law of values: in these runs of scripts without functions and classes the slice reproduces each evaluation, whatever its value is. The value
+/// has the same graph text at the same occurrence, with all objects that are reachable from it, and no more steps are spent. So it is for every
+/// closed set, and for the least one with as many steps as the whole run took.
+///
+/// The criterion of a closed set reaches each location that a graph text shows, and what stands at these corresponds. Not shown here: scripts that
+/// define functions or classes.
+pub fn values_are_reproduced()
+    ensures closed { (script : ScriptTree) (capture : Capture) (path : List ℕ) (arguments : List (List ℕ)) (steps budget : ℕ) (at : Pos) (k : ℕ) (keep : StmtSet) (upto : List Moment)
+        → IsWellFormed script → up_to_evaluation at k (told_by script capture path arguments steps) ≡ Some upto → IsClosed script (opening_in capture path arguments) upto keep
+        → IsPlainRun script capture path arguments steps → names_in script.body ≡ [] → spent_on upto ≤ budget → Reproduces script capture path arguments budget at k upto keep }
+    ensures least { (script : ScriptTree) (capture : Capture) (path : List ℕ) (arguments : List (List ℕ)) (steps : ℕ) (at : Pos) (k : ℕ) (keep : StmtSet) (upto : List Moment)
+        → IsWellFormed script → up_to_evaluation at k (told_by script capture path arguments steps) ≡ Some upto → IsLeast script (opening_in capture path arguments) upto keep
+        → IsPlainRun script capture path arguments steps → names_in script.body ≡ [] → Reproduces script capture path arguments (spent_on (told_by script capture path arguments steps)) at k upto keep }
+{
+    tests_are_equality();
+    graph_texts_tell_graphs();
+    slices_reach_the_evaluation();
+}
+
+/// The law of scripts that define no function and no class, in any of their suites: each of their runs is of the class that is spoken of above. So
+/// the slice by the least closed set reproduces every evaluation of every run, with as many steps as the whole run took, and spends no more up to
+/// there.
+pub fn slices_of_bare_scripts_reproduce()
+    ensures plain { (script : ScriptTree) (capture : Capture) (path : List ℕ) (arguments : List (List ℕ)) (steps : ℕ) → BareSuite script.body → IsPlainRun script capture path arguments steps }
+    ensures reproduce { (script : ScriptTree) → IsWellFormed script → BareSuite script.body → (capture : Capture) (path : List ℕ) (arguments : List (List ℕ)) (steps : ℕ) (at : Pos) (k : ℕ) (upto : List Moment) (keep : StmtSet)
+        → up_to_evaluation at k (told_by script capture path arguments steps) ≡ Some upto → IsLeast script (opening_in capture path arguments) upto keep
+        → Reproduces script capture path arguments (spent_on (told_by script capture path arguments steps)) at k upto keep }
+{
+    few_operations_note();
+    values_are_reproduced();
+}
+
+/// The law of the functions of a slice: they are functions of the script, in their order, each with its parameters, its globals and what is kept
+/// of its suite. So the function at a place of the slice is the one at that place of the script, or there is none.
+pub fn slices_have_functions_of_the_script()
+    ensures functions { (script : ScriptTree) (keep : StmtSet) → CutFunctions keep (functions_in script.body) (functions_in (deleted keep script).body) }
+    ensures found { (script : ScriptTree) (keep : StmtSet) (place : Pos) → IsWellFormed script → FoundCut keep (function_at script place) (function_at (deleted keep script) place) }
+{}

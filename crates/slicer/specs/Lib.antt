@@ -1,0 +1,10 @@
+pub mod Along
+pub mod Lacking
+pub mod Pairs
+pub mod ParentPairs
+pub mod Groups
+pub mod Jumps
+pub mod Own
+pub mod Places
+pub mod Roots
+pub mod Walk

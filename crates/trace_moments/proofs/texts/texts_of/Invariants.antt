@@ -1,6 +1,0 @@
-use Rattle.std.proofs.Common.{◌≡◌, ◌++◌, drop, map}
-use Rattle.kept_rows.specs.KeptRows.{texts_in}
-use Rattle.trace_moments.proofs.texts.texts_of.Given as goal
-
-abbrev pub invariant-loop-row : goal.invariant-loop-row
-invariant-loop-row l = map (λ k. k.now) l.texts.items ++ texts_in (drop l.row-index l.rows) ≡ texts_in l.rows

@@ -1,3 +1,0 @@
-pub mod OpenFrames
-pub mod ReadBack
-pub mod RowsBack

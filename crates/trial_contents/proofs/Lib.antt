@@ -1,5 +1,0 @@
-pub mod AnswerOrder
-pub mod FileOrder
-pub mod Gathering
-pub mod Joining
-pub mod ReadingBack

@@ -1,4 +1,0 @@
-pub mod Checks
-pub mod Faults
-pub mod ReadBack
-pub mod Rest

@@ -1,0 +1,9 @@
+use Rattle.row_words.proofs.Numbers.{number_reads}
+use Rattle.trial_keeping.proofs.Going.{item_read, no_item}
+use Rattle.trial_keeping.proofs.reading_lists.read_count.Goals as goal
+
+pub returns-in-Ok : goal.returns-in-Ok
+returns-in-Ok c = item_read number_reads c.args.bytes.now c.in-Ok.count c.in-Ok.rest.now c.in-Ok.ensures
+
+pub returns-in-Err-Bad : goal.returns-in-Err-Bad
+returns-in-Err-Bad c = no_item number_reads c.args.bytes.now c.in-Err-Bad.field-0 c.in-Err-Bad.field-0-is c.in-Err-Bad.ensures

@@ -1,7 +1,0 @@
-use Rattle.std.proofs.Common.{◌≡◌, ◌++◌, drop}
-use Rattle.trial_lines.specs.Shown.{input_lines}
-use Rattle.trial_lines.proofs.contents.push_inputs.Given as goal
-
--- what is written, and what is left to write
-abbrev pub invariant-loop-file : goal.invariant-loop-file
-invariant-loop-file l = l.out.items ++ input_lines (drop l.file-index l.files) ≡ l.fn.out.items ++ input_lines l.files

@@ -1,3 +1,0 @@
-pub mod Shown
-pub mod Functions
-pub mod Details

@@ -1,4 +1,0 @@
-pub mod Fronts
-pub mod OneAnswer
-pub mod Places
-pub mod Readings

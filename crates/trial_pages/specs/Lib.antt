@@ -1,4 +1,0 @@
-pub mod Answers
-pub mod Gathering
-pub mod Placing
-pub mod TrialPages

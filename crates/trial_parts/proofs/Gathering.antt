@@ -1,8 +1,0 @@
--- Contents that were read so far.
-use Rattle.std.proofs.Common.{ℕ, List, ◌++◌}
-use Rattle.trial_parts.specs.Whole.{Check, fine, damaged}
-
--- what was read before what is still read
-abbrev pub behind : List (List ℕ) → Check (List (List ℕ)) → Check (List (List ℕ))
-behind front (fine more) = fine (front ++ more)
-behind front (damaged damage) = damaged damage

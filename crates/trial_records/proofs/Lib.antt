@@ -1,6 +1,0 @@
-pub mod Going
-pub mod ItemsExact
-pub mod OneWay
-pub mod Orders
-pub mod RecordsExact
-pub mod WorkedRecords

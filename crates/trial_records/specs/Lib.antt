@@ -1,4 +1,0 @@
-pub mod RecordBytes
-pub mod RecordFaults
-pub mod RecordFits
-pub mod RecordReading

@@ -1,0 +1,3 @@
+pub mod Suites
+pub mod Parts
+mod Shown

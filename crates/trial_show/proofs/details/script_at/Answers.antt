@@ -1,0 +1,5 @@
+use Rattle.std.proofs.Common.{rules, append_assoc}
+use Rattle.trial_show.proofs.details.script_at.Goals as goal
+
+pub returns : goal.returns
+returns c = search (rules, append_assoc)

@@ -1,0 +1,4 @@
+pub mod Shown
+pub mod Functions
+pub mod Details
+pub mod Shows

@@ -1,0 +1,4 @@
+pub mod Gathering
+pub mod Heads
+pub mod Stepping
+pub mod Staying

@@ -1,9 +1,0 @@
-mod Walking
-mod Sequences
-mod Counting
-mod Objects
-mod Outsides
-mod Every
-mod Stores
-mod Rules
-mod Runs
