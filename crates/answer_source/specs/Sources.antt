@@ -57,7 +57,7 @@ Asks what at fits before after (Ok None) = (capture : Capture) (askings : List A
 Asks what at fits before after (Err want) = (askings : List Asking) (fetches : List (List ℕ)) → before askings fetches
     → after askings fetches ⊎ after (next_asking at (ask_seen what) askings) fetches
 
--- the path counts as fetched; after want of memory it does not
+-- the path counts as fetched; after a lack of memory it does not
 abbrev pub Fetches : {T E : Type 0} → List ℕ → Stands → Stands → Result T E → Type 0
 Fetches path before after (Ok done) = (askings : List Asking) (fetches : List (List ℕ)) → before askings fetches → after askings (path ∷ fetches)
 Fetches path before after (Err want) = Stays before after

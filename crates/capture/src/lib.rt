@@ -10,7 +10,7 @@
 //!   They and the readers of whole lists take no memory. [`Capture::copy_kept`] answers a copy.
 //! - [`Capture::put_in_order`] puts the answers in ascending order of place and number; what is kept stays. No two answers have
 //!   one place and number, and files ascend by path at any time.
-//! - After want of memory the capture and what the devices tell are as before, and no device has failed. The room for an answer
+//! - After a lack of memory the capture and what the devices tell are as before, and no device has failed. The room for an answer
 //!   is made before a device is asked, and what it gives is kept without a copy, so that no line is lost.
 //!
 //! Contracts see three lists (`specs/Capture.antt`): the answers in the order in which they were kept, the files by path, and

@@ -66,7 +66,7 @@ impl<P: Performer + Drop> Operator for Holding<P> {
         self.work.number(alloc, words)
     }
 
-    // Values that have no numbers are answered as want of memory.
+    // Values that have no numbers are answered as out of memory.
     fn tuple(&mut self, alloc: Global, items: &[Value]) -> Result<Value, Memory> {
         if !are_named(self.work.values(), items) {
             return Err(Memory);

@@ -393,7 +393,7 @@ module _ (planned : Ending) (text : List ℕ) (files : List OutFile) (put_before
         status_is = d.status_is ∙ ap (λ (e : Ending). status_of e) (line_well d.closing by_text line_good ∙ is);
       }
 
-  -- want of memory at the puts or at the text
+  -- out of memory at the puts or at the text
   is_eight : by_text ≡ out_of_memory → status ≡ 8
   is_eight is = d.status_is ∙ ap (λ (e : Ending). status_of (after_line d.closing e)) is ∙ ap (λ (e : Ending). status_of e) (line_memory d.closing)
 
@@ -472,7 +472,7 @@ module _ (planned : Ending) (text : List ℕ) (files : List OutFile) (put_before
       more)
       (ways planned files d.puts d.each)
 
-  -- the status is none of those that tell of a fault of a device or of want of memory
+  -- the status is none of those that tell of a fault of a device or of a lack of memory
   pub planned_is : tells_of_store planned ≡ false → (status ≡ 5 → ⊥) → (status ≡ 6 → ⊥) → (status ≡ 8 → ⊥)
       → DidAsPlanned planned text files put_before put_after told_before told_after console_before console_after status
   planned_is store five six eight =

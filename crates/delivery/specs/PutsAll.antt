@@ -50,6 +50,6 @@ abbrev pub or_failed : Ending → Option (List ℕ) → Ending
 or_failed planned None = planned
 or_failed planned (Some path) = if tells_of_store planned then planned else folder_failed path
 
--- How a command ends by its puts: want of memory stands over a fault, and the first fault over what was planned, where that is no fault itself.
+-- How a command ends by its puts: out of memory stands over a fault, and the first fault over what was planned, where that is no fault itself.
 abbrev pub ending_after_puts : Ending → List OutFile → List Outcome → Ending
 ending_after_puts planned files outcomes = if lacks_memory outcomes then out_of_memory else or_failed planned (first_failed files outcomes)

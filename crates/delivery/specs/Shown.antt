@@ -5,7 +5,7 @@ use Rattle.prov_outside.specs.declared.trouble.Trouble.TheVariants.{Failed, Memo
 use Rattle.delivery.specs.Ending.{Ending, done, uncaught, refused, console_failed, folder_failed, out_of_memory, collision, damaged_trial, closing_line, tells_of_store}
 use Rattle.delivery.specs.PutsAll.{Outcome}
 
--- a fault at the text does not change the ending: one of the store or of the folder, or want of memory
+-- a fault at the text does not change the ending: one of the store or of the folder, or out of memory
 abbrev pub outlasts_console : Ending → Bool
 outlasts_console (folder_failed path) = true
 outlasts_console out_of_memory = true

@@ -72,7 +72,7 @@ fn close_made<C: Console>(
     }
 }
 
-/// Writes a closing line, and answers the status: a console that fails at it changes none, and want of memory makes it 8.
+/// Writes a closing line, and answers the status: a console that fails at it changes none, and out of memory makes it 8.
 fn write_line<C: Console>(alloc: Global, console: &mut C, line: &[u8], status: u8) -> u8
     ensures tries { TriesLine line.now status (C.out_faults console.old) (C.out_faults console.new)
         (C.told console.old) (C.told console.new) result }

@@ -51,7 +51,7 @@ pub fn no_count_rose()
         → WentWell planned text files put_before put_after told_before told_after out_before out_after console_before console_after status }
 {}
 
-/// The law of a delivery whose status tells of no fault and of no want of memory: all stands but perhaps the end of the closing line.
+/// The law of a delivery whose status tells of no fault and of no lack of memory: all stands but perhaps the end of the closing line.
 pub fn no_fault_answered()
     ensures { (planned : Ending) (text : List ℕ) (files : List OutFile) (put_before put_after : ℕ) (told_before told_after : Option Files)
         (out_before out_after : ℕ) (console_before console_after : Option ConsoleView) (status : ℕ)

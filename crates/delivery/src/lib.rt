@@ -3,9 +3,9 @@
 //!
 //! - Its clause `delivered` (`specs/Delivered.antt`) names what each call of a device answered. All else is a function of that and of the
 //!   plan: what stands in the folder and on the console, the counts of faults, the ending, and so the closing line and the status.
-//! - Want of memory at a put or at the text stands over all else. A fault of the store of trials that was planned stands over what comes
+//! - Out of memory at a put or at the text stands over all else. A fault of the store of trials that was planned stands over what comes
 //!   behind it, for it came first. A put that failed stands over any other plan, by the path of the first. A fault at the text makes status 5,
-//!   but a fault of the store or of the folder and want of memory stay, also where they were planned. A fault at the closing line changes
+//!   but a fault of the store or of the folder and out of memory stay, also where they were planned. A fault at the closing line changes
 //!   nothing.
 //! - Where memory runs out for the text of a closing line, that of status 8 is tried in its place. Where it runs out at the write of a
 //!   closing line, no further line is tried.
@@ -14,7 +14,7 @@
 //!   come to, [`ends_in_one_way`] which statuses there are, and [`prefixes_are_written`] what is on the console in any case. [`done_is_whole`], [`no_count_rose`] and
 //!   [`no_fault_answered`] say the clauses of `deliver` as laws.
 //!
-//! Any call may be answered as want of memory, so no clause rules out a body that ends with status 8 wherever something is to be put or
+//! Any call may be answered as out of memory, so no clause rules out a body that ends with status 8 wherever something is to be put or
 //! written. Which of the two devices is called first is not said either: neither tells of the other.
 #![tactic(auto)]
 

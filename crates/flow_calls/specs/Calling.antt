@@ -18,7 +18,7 @@ pub record WasEntered (at def : Pos) (names : List (List ℕ)) (values : List Va
   pub left_is : (entering at def names (map (contents table) values) s).left ≡ rest
   pub tells : TellsOn was is (λ told more. more ≡ enters at def (map (contents table) values) (parameters_set (suc s.entered) names (map (contents table) values)) ∷ told)
 
--- Want of memory: nothing was done, or the activation was entered and the watch was not told.
+-- Out of memory: nothing was done, or the activation was entered and the watch was not told.
 pub data WasCutOff (at def : Pos) (names : List (List ℕ)) (values : List Value) (after : Standing → Type 0) (was is : Option (List Moment)) (table : ValuesView) (s : State) : Type 0 where
   not_entered : after (standing s) → is ≡ was → WasCutOff at def names values after was is table s
   not_told : suc (length values) ≤ s.left → after (standing (entering at def names (map (contents table) values) s)) → TellsOn was is (λ told more. more ≡ told) → WasCutOff at def names values after was is table s

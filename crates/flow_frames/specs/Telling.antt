@@ -10,7 +10,7 @@ pub record WasTold (moment : Moment) (after : Standing → Type 0) (was is : Opt
   pub stands : after (standing s)
   pub tells : TellsOn was is (λ told more. more ≡ moment ∷ told)
 
--- want of memory: the watch was told nothing, and the doer stands for the state as before
+-- out of memory: the watch was told nothing, and the doer stands for the state as before
 pub record WasNotTold (after : Standing → Type 0) (was is : Option (List Moment)) (s : State) : Type 0 where
   pub stands : after (standing s)
   pub tells : TellsOn was is (λ told more. more ≡ told)

@@ -96,7 +96,7 @@ pub(crate) fn matched<'a>(
     Ok(Now::Opens(part.to(Stage::Handler(after, o, line))))
 }
 
-/// The number of the handler behind one. The handlers of a script have numbers; past these memory is wanted.
+/// The number of the handler behind one. The handlers of a script have numbers; past these it is out of memory.
 fn next_handler(number: usize) -> Result<usize, Memory>
     ensures { IfOk result (λ after. after ≡ number + 1) }
 {

@@ -70,7 +70,7 @@ fn body_ended<'a>(part: Part<'a>, end: End) -> Now<'a>
     }
 }
 
-/// How many turns there were with one more. A budget has fewer steps than can be counted; past that memory is wanted.
+/// How many turns there were with one more. A budget has fewer steps than can be counted; past that it is out of memory.
 fn next_turn(number: u32) -> Result<u32, Memory>
     ensures { IfOk result (λ after. after ≡ number + 1) }
 {
@@ -208,7 +208,7 @@ fn handled_ended<'a>(
     }
 }
 
-/// The number of the target behind one. The targets of a statement have numbers; past these memory is wanted.
+/// The number of the target behind one. The targets of a statement have numbers; past these it is out of memory.
 fn next_target(number: usize) -> Result<usize, Memory>
     ensures { IfOk result (λ after. after ≡ number + 1) }
 {

@@ -82,7 +82,7 @@ fn is_whole(goal: Goal) -> bool
     }
 }
 
-/// How many targets there are. A script has fewer than can be counted; past that memory is wanted.
+/// How many targets there are. A script has fewer than can be counted; past that it is out of memory.
 fn counted(targets: &Targets) -> Result<u32, Memory>
     ensures { IfOk result (λ count. count ≡ count_targets (targets_of targets.now)) }
 {

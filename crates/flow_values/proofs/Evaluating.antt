@@ -157,7 +157,7 @@ module _ (script : ScriptTree) (frames : FlowFrames) (eval gone : EvalFrames) (p
   step_taken (Call f args at) (Ok FlowSpent) known taken = absurd taken
   step_taken (Call f args at) (Ok FlowUnanswered) known taken = absurd taken
 
-  -- want of memory in the step
+  -- out of memory in the step
   pub step_cut : (want : Memory) → IsEvalCut capture first s stands was is → IsStep script (level script n) (to first beyond) after rest stands was is table capture s (Err want)
   step_cut want known = record {
     rest = to known.rest beyond;

@@ -68,7 +68,7 @@ pub fn wait_call<'a>(
     Ok(FlowNext::More)
 }
 
-/// The call that a step of an expression came to is next. A step comes to calls of functions and classes alone; for another value memory is wanted.
+/// The call that a step of an expression came to is next. A step comes to calls of functions and classes alone; for another value it is out of memory.
 pub(crate) fn hand_over<'a>(
     alloc: Global,
     frames: &mut FlowFrames<'a>,

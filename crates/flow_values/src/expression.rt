@@ -97,7 +97,7 @@ fn part_in<'a>(now: &Now<'a>) -> Option<Part<'a>>
     }
 }
 
-/// An expression goes on by one step where it stands. For other work memory is wanted.
+/// An expression goes on by one step where it stands. For other work it is out of memory.
 fn work_on<'a, D: Doer, W: Watch>(
     alloc: Global,
     work: &mut Work<'a>,

@@ -78,7 +78,7 @@ pub stood_on : (capture : Capture) (before after : Act) (s : State) (left : ℕ)
     → IsOn capture before s after left stands was was
 stood_on capture before after s left stands was same holds steps = record { next = s; news = []; went = stayed same refl refl; comes_out = ap (λ a. outcome capture a s) (sym same); stands_so = holds; left_is = steps; tells = told_same was }
 
--- want of memory before anything was performed
+-- out of memory before anything was performed
 pub cut_off : (capture : Capture) (before : Act) (s : State) (stands : Standing → Type 0) (was : Option (List Moment)) → IsInterrupted capture stands s → IsCut capture before s stands was was
 cut_off capture before s stands was refused = record { rest = before; next = s; news = []; went = stayed refl refl refl; refused = refused; tells = told_either was [] }
 

@@ -67,7 +67,7 @@ pub record WasLacking (at : Pos) (op : Op) (values : List Value) (left : ℕ) (a
   pub told_is : next.told ≡ s.told
   pub tells : is ≡ was
 
--- Want of memory: nothing happened but what was asked, or the operation happened and the watch was not told.
+-- Out of memory: nothing happened but what was asked, or the operation happened and the watch was not told.
 pub data WasCut (at : Pos) (op : Op) (values : List Value) (after : Standing → Type 0) (was is : Option (List Moment)) (table : ValuesView) (capture : Capture) (s : State) : Type 0 where
   nothing_happened : IsRefused capture at (op_seen table op) (map (contents table) values) after s → is ≡ was → WasCut at op values after was is table capture s
   not_told : (answer : Answer) (came : Walked) (next : State) (moment : Moment) → next.told ≡ moment ∷ s.told → operation capture at (op_seen table op) (map (contents table) values) s ≡ did (answer_seen table answer) came next

@@ -73,7 +73,7 @@ pub record IsUnanswered (capture : Capture) (before : Act) (s : State) (left : �
   pub told_is : next.told ≡ s.told
   pub tells : is ≡ was
 
--- Want of memory: the doer stands for the state before or after the operation, but for what was asked, and the watch was told of it or not.
+-- Out of memory: the doer stands for the state before or after the operation, but for what was asked, and the watch was told of it or not.
 pub record IsCut (capture : Capture) (before : Act) (s : State) (stands : Standing → Type 0) (was is : Option (List Moment)) : Type 0 where
   pub rest : Act
   pub next : State

@@ -6,7 +6,7 @@ ghost use Rattle.keeper.specs.Fault.{has_failed};
 use keeper::KeepFault;
 use sqlite::{Error, ErrorCode};
 
-// Want of memory where the database names it, and a failure in all other cases.
+// Out of memory where the database names it, and a failure in all other cases.
 pub(crate) fn fault_of(error: Error) -> KeepFault {
     match error {
         Error::SqliteFailure(ErrorCode::OutOfMemory) => KeepFault::Memory,

@@ -222,7 +222,7 @@ fn add_trial(alloc: Global, batch: &mut Batch, head: &Head) -> Result<u32, KeepF
     }
 }
 
-// The answer of a batch, whose only refusal is want of memory.
+// The answer of a batch, whose only refusal is out of memory.
 fn kept(answer: Result<(), Memory>) -> Result<(), KeepFault> {
     Ok(answer?)
 }

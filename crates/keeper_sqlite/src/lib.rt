@@ -1,7 +1,7 @@
 //! The store of trials in a database file, by the crate `sqlite`: `SqliteKeeper`, over the tables `trial`, `page`, `content` and `current`.
 //!
 //! What a disk gives and keeps is beyond these proofs, so the keeper tells nothing of its tables: its clauses carry safety and causes alone. A call
-//! answers `KeepFault::Failed` only where the count of faults rose in that call or stands at its end. Want of memory is never counted. A batch is open
+//! answers `KeepFault::Failed` only where the count of faults rose in that call or stands at its end. Out of memory is never counted. A batch is open
 //! exactly as `Keeper` says. What the open batch has comes before what the file has, by a clause of the function that each reader calls.
 //!
 //! What no clause can refuse, and what has to be read off the few lines of the adapters instead, is

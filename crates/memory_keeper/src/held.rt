@@ -245,7 +245,7 @@ fn push_all(heads: &mut Vec<Head>, entries: Vec<(u32, Head)>)
     }
 }
 
-// Puts what a batch wrote behind the entries of the tables: all of it or, for want of memory, nothing.
+// Puts what a batch wrote behind the entries of the tables: all of it or, for lack of memory, nothing.
 fn join(alloc: Global, tables: &mut Tables, batch: &mut Batch) -> Result<(), Memory>
     ensures joined { OnOk result (listed tables.new ≡ joined batch.old (listed tables.old)) }
     ensures err { OnErr result ((listed tables.new ≡ listed tables.old) × (batch.new ≡ batch.old)) }

@@ -28,7 +28,7 @@ fn store<'a>(rt: &'a HostRuntime) -> Result<SqliteKeeper<'a>, AllocError>
     Ok(SqliteKeeper::at(rt, Name::of(path)))
 }
 
-/// The end of the program for want of memory. The status stands, whether its line comes through or not.
+/// The end of the program for lack of memory. The status stands, whether its line comes through or not.
 fn out_of_memory(rt: &HostRuntime, console: &mut RealConsole<'_>) -> ExitCode {
     let _ = console.write(rt.alloc(), b"now: out of memory\n");
     ExitCode::from(8)

@@ -148,7 +148,7 @@ told_alike (Some one) (Some other) same = same_Some _ _ same
 no_run_read : (query : Query) (steps : ℕ) (file : List ℕ) (arguments : List (List ℕ)) → ◌≡◌ {A = Option Command} (Some (reads query)) (Some (run_kept steps file arguments)) → ⊥
 no_run_read query steps file arguments is = cc
 
--- a plan that tells of a fault of the store tells of no want of memory
+-- a plan that tells of a fault of the store tells of no lack of memory
 not_both : ◌≡◌ {A = ℕ} 7 8 → ⊥
 not_both is = omega (arith, is)
 
@@ -362,7 +362,7 @@ module _ (words : List (List ℕ)) (before after : Seen) (was is : Stored) (stat
   meant_at made (untold query one word none same un) told seven six room = absurd (not_told_in command query tables word none told)
   meant_at made (lacks_memory same) told seven six room = absurd (room refl)
 
-  -- a status that tells of no fault and of no want of memory is the planned one
+  -- a status that tells of no fault and of no lack of memory is the planned one
   pub planned_status : Ends so.plan.ending so.ran.faults.put after.faults.put so.ran.faults.write after.faults.write status → (status ≡ 5 → ⊥) → (status ≡ 6 → ⊥) → (status ≡ 8 → ⊥) → status ≡ status_of so.plan.ending
   planned_status (as_planned at) five six eight = at
   planned_status (by_planned_console store at rose) five six eight = absurd (five at)

@@ -20,7 +20,7 @@ use recorded_runs::{KeptRun, Recorded, keep_run};
 use std::alloc::Global;
 use trial_keeping::TrialFault;
 
-/// What a run comes to by what came of its keeping. A fault there loses nothing of it; want of memory loses all.
+/// What a run comes to by what came of its keeping. A fault there loses nothing of it; out of memory loses all.
 fn planned_kept<'w>(kept: KeptRun) -> Planned<'w>
     ensures { plan_of result ≡ with_keeping kept.number (plan_of_run kept.recorded.ended) }
 {

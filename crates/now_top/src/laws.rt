@@ -31,7 +31,7 @@ pub fn one_meaning()
 }
 
 /// Completeness: where the words mean a plan, the status is that of its ending, or it tells of a fault. 5, 6 and 7 come where the count of the console, of the
-/// folder or of the keeper rose. 10 comes where other bytes stand under the digest of a content of the trial, 13 where the store is full, and 8 for want of memory.
+/// folder or of the keeper rose. 10 comes where other bytes stand under the digest of a content of the trial, 13 where the store is full, and 8 for lack of memory.
 /// The world is that of the call: the folder's files, and what the devices gave.
 pub fn completes()
     ensures { (words : List (List ℕ)) (before after : Seen) (was is : Stored) (status : ℕ) (so : Replies words before after was is status) (plan : Plan)
@@ -52,7 +52,7 @@ pub fn does_whole()
     no_count_rose();
 }
 
-/// The law of the statuses that tell of no fault of a device or of the store and of no want of memory: the words mean a plan, and all of it stands but perhaps the end of its
+/// The law of the statuses that tell of no fault of a device or of the store and of no lack of memory: the words mean a plan, and all of it stands but perhaps the end of its
 /// closing line.
 pub fn does_as_meant()
     ensures { (words : List (List ℕ)) (before after : Seen) (was is : Stored) (status : ℕ) (so : Replies words before after was is status)
@@ -98,7 +98,7 @@ pub fn keeps_nothing_else()
     ensures unasked { (words : List (List ℕ)) (before after : Seen) (was is : Stored) (status : ℕ) → Replies words before after was is status → keeps (command_of words) ≡ false → reads_store (command_of words) ≡ false → IsUntouched was is }
 {}
 
-/// The law of what is read of the store: with a status that tells of no fault and of no want of memory, status and bytes are those of the one reply to the words by the
+/// The law of what is read of the store: with a status that tells of no fault and of no lack of memory, status and bytes are those of the one reply to the words by the
 /// tables that the keeper told from the call's begin to its end.
 pub fn replies_by_tables()
     ensures one { (query : Question) (tables : TablesView) (one other : Plan) → Reply query tables one → Reply query tables other → one ≡ other }
@@ -111,7 +111,7 @@ pub fn replies_by_tables()
     no_count_rose();
 }
 
-/// Completeness of what is read of the store: where no put, no write and no call of the keeper failed, the status is that of the reply, or 8 for want of memory.
+/// Completeness of what is read of the store: where no put, no write and no call of the keeper failed, the status is that of the reply, or 8 for lack of memory.
 pub fn reading_completes()
     ensures { (words : List (List ℕ)) (before after : Seen) (was is : Stored) (status : ℕ) → Replies words before after was is status → (query : Question) (tables : TablesView) (plan : Plan)
         → command_of words ≡ Some (reads query) → tables_told was is ≡ Some tables → Reply query tables plan

@@ -12,10 +12,10 @@
 //! - The plan is delivered by `delivery`: files in order, text, closing line, status.
 //!
 //! The laws: a command has at most one meaning over a world ([`one_meaning`]). Where the words mean a plan, the status is that of its ending, or a fault that was
-//! counted, or one of a store that does not take the trial, or want of memory ([`completes`]). Without such a fault all of the plan stands ([`does_whole`],
+//! counted, or one of a store that does not take the trial, or out of memory ([`completes`]). Without such a fault all of the plan stands ([`does_whole`],
 //! [`does_as_meant`]). The console has a prefix of the text and of a closing line in any case ([`writes_prefixes`]). [`writes_slice`] says what `cut` has written with
 //! status 0. A run with a status of its own is kept as the next trial ([`keeps_trial`]), and no other command changes the store ([`keeps_nothing_else`]). Over a keeper that
-//! tells its tables, status and bytes of what reads them are those of the one reply ([`replies_by_tables`]), or tell of a fault or of want of memory ([`reading_completes`]).
+//! tells its tables, status and bytes of what reads them are those of the one reply ([`replies_by_tables`]), or tell of a fault or of a lack of memory ([`reading_completes`]).
 #![tactic(auto)]
 
 mod asking;

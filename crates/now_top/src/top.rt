@@ -23,7 +23,7 @@ use std::alloc::Global;
 /// bytes, and a script has at most 262,144 bytes.
 ///
 /// The statuses are 0 done, 1 an exception that nothing caught, 2 the words are no command, 3 the script is refused, 4 nothing there. 5 is a console
-/// that failed, 6 a folder that failed, 7 a keeper that failed, 8 want of memory, 9 want of steps, 10 other bytes under the digest of a content, 13 a store that is
+/// that failed, 6 a folder that failed, 7 a keeper that failed, 8 out of memory, 9 out of steps, 10 other bytes under the digest of a content, 13 a store that is
 /// full.
 pub fn now<C: Console + Drop, F: Folder + Drop, M: ClockAndRandom + Drop, K: Keeper>(
     alloc: Global,
@@ -33,7 +33,7 @@ pub fn now<C: Console + Drop, F: Folder + Drop, M: ClockAndRandom + Drop, K: Kee
 ) -> (u8, Devices<C, F, M>)
     requires batch { K.is_open keeper.old ≡ false }
     // FILE is read, its script is run over the devices and kept, and what the words mean over the folder's files and what the devices gave is
-    // delivered; or a fault that was counted, or want of memory, stands in its place.
+    // delivered; or a fault that was counted, or out of memory, stands in its place.
     ensures reply { RepliesWith (map string_bytes words.now) (⟦<Devices<C, F, M> as Exposes>⟧.seen devices) (⟦<Devices<C, F, M> as Exposes>⟧.seen result.1) (stored K.told K.faults keeper.old) (stored K.told K.faults keeper.new) (K.may_leave keeper.old) (K.may_leave keeper.new) result.0 }
     // With status 0 all that the words mean stands.
     ensures status_0_did_all { result.0 ≡ 0 → IsTold (command_of (map string_bytes words.now)) (tables_told (stored K.told K.faults keeper.old) (stored K.told K.faults keeper.new))

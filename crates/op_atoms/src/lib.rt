@@ -4,7 +4,7 @@
 //! no class of a script (`specs/Atoms.antt`). It makes nothing and changes nothing but the texts and tuples that have numbers. It is the operation of
 //! `op_table` and nothing is done twice.
 //!
-//! An operation that costs more than 4,294,967,295 steps is answered as want of memory. So would be one that made an object, came to an end of a
+//! An operation that costs more than 4,294,967,295 steps is answered as out of memory. So would be one that made an object, came to an end of a
 //! sequence, or raised an exception with anything but one text. No plan of these operations does that of atoms.
 #![tactic(auto)]
 

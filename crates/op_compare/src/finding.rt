@@ -12,7 +12,7 @@ use py_model::Answer;
 use py_value::Value;
 use std::alloc::Global;
 
-// The place of a value, or a fault where it has none. A place past 63 bits is refused as want of memory.
+// The place of a value, or a fault where it has none. A place past 63 bits is refused as out of memory.
 fn place_answer(work: &mut Work, alloc: Global, place: Option<u64>) -> Result<Answer, Stop>
     requires fresh { work.old.made ≡ None }
     ensures { Ends (λ table. answer_place place) work.old work.new result }

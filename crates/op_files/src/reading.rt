@@ -37,7 +37,7 @@ fn behind(work: &mut Work, o: u32, end: u64, piece: Value) -> Result<Answer, Sto
     Ok(Answer::Value(piece))
 }
 
-// The piece behind an offset, which is counted. An offset that passes 64 bits is refused as want of memory.
+// The piece behind an offset, which is counted. An offset that passes 64 bits is refused as out of memory.
 fn take_piece(
     work: &mut Work,
     alloc: Global,

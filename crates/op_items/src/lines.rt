@@ -99,7 +99,7 @@ fn behind(work: &mut Work, o: u32, end: u64, line: Value) -> Result<Answer, Stop
     Ok(Answer::Value(line))
 }
 
-// The next line behind an offset, which is counted. An offset that passes 64 bits is refused as want of memory.
+// The next line behind an offset, which is counted. An offset that passes 64 bits is refused as out of memory.
 fn take_line(work: &mut Work, alloc: Global, o: u32, path: u32, offset: u64) -> Result<Answer, Stop>
     requires fresh { work.old.made ≡ None }
     ensures { Ends (λ table. line_or_end o offset (first_line_of (drop offset (bytes_in (file_at work.old.store path))))) work.old work.new result }

@@ -38,7 +38,7 @@ pub fn extend_list(
     set_behind(work, o, n, items.as_slice(), answer)
 }
 
-// Items are set behind so many others, and then the length. A length that passes 64 bits is refused as want of memory.
+// Items are set behind so many others, and then the length. A length that passes 64 bits is refused as out of memory.
 fn set_behind(
     work: &mut Work,
     o: u32,

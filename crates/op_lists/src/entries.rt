@@ -9,7 +9,7 @@ use op_work::{Stop, Work};
 use py_value::{Key, Value};
 use std::alloc::Global;
 
-/// The key that a value of an order is; one that is no key is answered as want of memory.
+/// The key that a value of an order is; one that is no key is answered as out of memory.
 pub fn order_key(work: &mut Work, alloc: Global, v: Value) -> Result<Key, Stop>
     requires { IsNamed work.old.values v }
     ensures { Comes (IsKeyOf v) (value_seen v) (λ table (go : Contents → Plan). go (contents table v)) work.old work.new result }

@@ -1,7 +1,7 @@
 //! Operations that change lists and dictionaries, and those that make a dictionary or lists of one, each as its plan (`specs/Lists.antt` and
 //! `Dicts.antt` of `py_model`).
 //!
-//! - [`append`] (80), [`insert`] (82): an item is put into a list. A length that passes 64 bits is refused as want of memory.
+//! - [`append`] (80), [`insert`] (82): an item is put into a list. A length that passes 64 bits is refused as out of memory.
 //! - [`pop`] (83), [`delitem`] (29): an item is taken out of a list, or of a dictionary.
 //! - [`values`] (90), [`items`] (88): the order of a dictionary is read, and each entry. A value of an order that is no key is answered as want of
 //!   memory. That none stands in one is not said by a clause of the store.

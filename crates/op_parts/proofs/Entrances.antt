@@ -123,7 +123,7 @@ pub word_is : (fits : FitsSource) (source : StandsSource) (old new : HeldView) (
 word_is fits source old new entered text (Ok number) there store_is opened_is output_is = λ table capture fit s stands. is_word fits source old new entered number text there store_is opened_is output_is table capture fit s stands
 word_is fits source old new entered text (Err want) there store_is opened_is output_is = λ table capture fit s stands. stays_so source old new entered store_is opened_is output_is table capture s stands
 
--- after want of memory
+-- after a lack of memory
 pub enters_err : (def : Pos) (names : List (List ℕ)) (values : List Value) (left : ℕ) (fits : Fits) (before after : Stands) (result : Result Entered Want) → IsErr result
     → ForEach fits before (λ table capture s. after table capture (standing s)) → Enters def names values left fits before after result
 enters_err def names values left fits before after (Ok entered) is on = absurd (false≢true is)

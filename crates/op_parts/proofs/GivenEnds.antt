@@ -25,7 +25,7 @@ pub at_number : (n : ℕ) (op : Op) (operands : List Value) (given : Option Give
 at_number n op operands given is {plan} same ends = λ k known. ends_as (λ table. answered_by k (planned op operands table)) (λ table. answered_by k (plan table))
     (λ table interned extends. ap (answered_by k) (ap (λ m. planned_at m op operands table) is ∙ same table)) (ends k (subst (λ m. IsGiven k (asks m operands) given) is known))
 
--- want of memory says nothing of a plan
+-- out of memory says nothing of a plan
 pub given_missing : (n : ℕ) (plan : ValuesView → Plan) (operands : List Value) (given : Option GivenThere) (w : WorkView) → EndsGiven n plan operands given w w (Err NoMemory)
 given_missing n plan operands given w = λ k known. record {
   store_is = refl;

@@ -123,7 +123,7 @@ module _ (fits : FitsSource) (source : StandsSource) (old new : HeldView) (enter
         stands = goes_on_from fits source old new entered left table capture fit s stands finishes.1;
       }
 
--- after want of memory
+-- after a lack of memory
 pub performs_err : (at : Pos) (op : Op) (values : List Value) (left : ℕ) (fits : Fits) (before after : Stands) (result : Result Done Want) → IsErr result
     → ForEach fits before (λ table capture s. after table capture (standing s)) → Performs at op values left fits before after result
 performs_err at op values left fits before after (Ok done) is on = absurd (false≢true is)

@@ -58,7 +58,7 @@ pub record Ready (source : StandsSource) (at : Pos) (op : Op) (values : List Val
   pub stands : source askings fetches
   pub complete : (own_effect at op values table capture s).outcome ≡ unanswered → ⊥
 
--- it came to its end in this run, or is too dear there, or memory ran out
+-- it came to its end in this run, or is out of budget there, or memory ran out
 abbrev pub Came : HeldView → Pos → Op → List Value → ValuesView → Capture → State → ℕ → WorkView → Result (Option Deed) Want → Type 0
 Came new at op values table capture s left began (Ok (Some deed)) = SuitInTurn s.store.at (accesses_in (answered_effect at op values table capture s).touches)
     → IsKeyed (after (answered_effect at op values table capture s) s.store).at → IsFinished (found_by capture) table s.store (answered_effect at op values table capture s) deed left new

@@ -18,7 +18,7 @@ use py_value::Value;
 use std::alloc::Global;
 
 /// Performs an operation that asks a device, with what it is given, where it asks, and so many steps left. It is none where it costs more.
-/// Another number, and an asking that is not answered, are answered as want of memory.
+/// Another number, and an asking that is not answered, are answered as out of memory.
 pub fn perform_given(
     held: &mut Held,
     alloc: Global,

@@ -26,7 +26,7 @@ pub fn path_asked(held: &Held, operands: &[Value]) -> Option<u32>
 }
 
 /// `open`, with so many steps left: by whether the run opened the path for writing, and by what was found there if not. It is none where it
-/// costs more. A path of which nothing is known is answered as want of memory.
+/// costs more. A path of which nothing is known is answered as out of memory.
 pub fn open_found(
     held: &mut Held,
     alloc: Global,

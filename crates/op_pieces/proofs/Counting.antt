@@ -144,7 +144,7 @@ counts_then m n whole {a} {b} {c} {done} {result} one other is = record {
         is_dear store (whole table) go (omega (arith, is, less, touched, one.kept.left_is, facts.looks, facts.characters))
     by_result table store (Err Memory) is facts came = tt
 
--- as many, or too dear for fewer
+-- as many, or out of budget for fewer
 pub counts_same : (m n : ValuesView → ℕ) {a b : WorkView} (result : Result (Unit {0}) Stop) → Comes is_any as_is (λ table (go : Unit {0} → Plan). counts (m table) (go tt)) a b result
     → ((table : ValuesView) → AreInterned table → Extends b.values table → m table ≤ n table) → OnOk result ((table : ValuesView) → AreInterned table → Extends b.values table → m table ≡ n table)
     → Comes is_any as_is (λ table (go : Unit {0} → Plan). counts (n table) (go tt)) a b result

@@ -72,7 +72,7 @@ fn leaf(v: Value) -> Piece
     }
 }
 
-// A key. Tuples lie at most so many levels deep in one another; of a deeper one this would be want of memory.
+// A key. Tuples lie at most so many levels deep in one another; of a deeper one this would be out of memory.
 #[cycle(key)]
 fn put_key(
     work: &mut Work,

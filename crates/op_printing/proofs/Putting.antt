@@ -26,7 +26,7 @@ puts_at_once plan w before after {done} named same = record {
   comes = at_once (λ table (go : List ℕ → Plan). plan table (λ bytes. go (pieces_bytes table before ++ bytes))) w done named same;
 }
 
--- want of memory
+-- out of memory
 pub puts_memory : {plan : Plans (List ℕ)} {before after : List Piece} {old new : WorkView} → IsKept old new → Puts plan before after old new (Err Memory)
 puts_memory kept = record { comes = record { kept = kept; is_named = tt; came = λ table store extends seen. tt } }
 

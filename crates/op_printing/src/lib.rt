@@ -5,7 +5,7 @@
 //! - What a value comes to at its own level stands apart (`form_of`): a loop, since exceptions whose arguments are no tuple may lie in one another
 //!   as often as the steps pay for. What lies inside it is walked within 100 levels (`print_value`).
 //!
-//! A value of an order that is no key is answered as want of memory. None stands in one: what is set was a key.
+//! A value of an order that is no key is answered as out of memory. None stands in one: what is set was a key.
 #![tactic(auto)]
 
 mod forms;

@@ -30,7 +30,7 @@ ends_raised plan {a} {b} {c} class argument result one other = record {
     by_result table store (Err TooDear) first then = dear_then one.left_is first then
     by_result table store (Err Memory) first then = tt
 
--- what stopped is too dear, or refused
+-- what stopped is out of budget, or refused
 pub settled_refusal : (plan : ValuesView → Plan) (a b : WorkView) (stop : Stop) (result : Result (Option OneAnswer) Want) → IsRefusal stop result → Ends plan a b (Err stop) → Settled plan a b result
 settled_refusal plan a b TooDear (Ok None) is ends = λ table store extends seen. ends.came table store extends seen
 settled_refusal plan a b TooDear (Ok (Some answer)) is ends = absurd is

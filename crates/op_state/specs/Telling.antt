@@ -1,4 +1,4 @@
--- An operation that asks nothing happened in a run as it is told, or was too dear there.
+-- An operation that asks nothing happened in a run as it is told, or was out of budget there.
 use Rattle.std.specs.Prelude.{◌≡◌, List, ◌∷◌, map}
 use Rattle.std.specs.Option.{option_map}
 use Rattle.prov_base.specs.declared.place.Pos.{Pos}

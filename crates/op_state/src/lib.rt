@@ -22,7 +22,7 @@
 //! - [`Held::finals`]: the files that the run opened for writing. [`Held::uncaught`]: what is said of an exception that nothing caught.
 //! - [`drop_held`]: what is held is let go.
 //!
-//! An operation that made a file object whose file is not there would be refused as want of memory. No plan makes one.
+//! An operation that made a file object whose file is not there would be refused as out of memory. No plan makes one.
 #![tactic(auto)]
 
 mod beginning;

@@ -25,7 +25,7 @@ pub at_number : (n : ℕ) (op : Op) (operands : List Value) → op.no ≡ n → 
     → {a b : WorkView} {result : Result OneAnswer Stop} → Ends plan a b result → Ends (planned op operands) a b result
 at_number n op operands is {plan} same ends = ends_as (planned op operands) plan (λ table interned extends. ap (λ k. planned_at k op operands table) is ∙ same table) ends
 
--- want of memory says nothing of a plan
+-- out of memory says nothing of a plan
 pub ends_missing : (plan : ValuesView → Plan) (w : WorkView) (result : Result OneAnswer Stop) → result ≡ Err Memory → Ends plan w w result
 ends_missing plan w result is = subst (Ends plan w w) (sym is) (record {
   store_is = refl;

@@ -32,7 +32,7 @@ key_not_there c go is = rw is refl
 pub key_too_deep : (c : Contents) (go : Contents → Plan) → key_fault deepest c ≡ Some TooDeep → with_key_of c go ≡ too_deep
 key_too_deep c go is = rw is refl
 
--- what is refused is no want of memory
+-- what is refused is no lack of memory
 pub refused : (values : ValuesView) (v : Value) (f g : KeyFault) → f ≡ g → (g ≡ OutOfMemory → ⊥) → ((f ≡ OutOfMemory) ⊎ (fault_within 100 values v ≡ Some f)) → fault_within 100 values v ≡ Some g
 refused values v f g same other (inl is) = absurd (other (sym same ∙ is))
 refused values v f g same other (inr is) = is ∙ ap Some same

@@ -19,7 +19,7 @@ use std::alloc::Global;
 use std::mem;
 
 impl Work {
-    /// A new operation begins, with so many steps left. It is too dear where there is none.
+    /// A new operation begins, with so many steps left. It is out of budget where there is none.
     pub fn begin(&mut self, left: u32) -> Result<(), Stop>
         ensures begun { OnOk result (self.new ≡ record self.old { touched = []; made = None; looks = 0; characters = 0; left = left; printed = []; note = None; opens = [] }) }
         ensures left { OnOk result (0 < left) }

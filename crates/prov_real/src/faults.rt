@@ -7,7 +7,7 @@ use prov_base::Failed;
 use prov_outside::Trouble;
 
 /// The answer of a device's call as it is. Where it is a fault, the count of faults rises by one, and stays at
-/// 2^64 - 1 once it is there. Want of memory is no fault.
+/// 2^64 - 1 once it is there. Out of memory is no fault.
 pub(crate) fn counted<T>(faults: &mut u64, answer: Result<T, Trouble>) -> Result<T, Trouble>
     ensures same { result ≡ answer }
     ensures cause { Counts faults.old faults.new answer }

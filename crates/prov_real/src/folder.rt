@@ -65,7 +65,7 @@ impl Folder for RealFolder<'_> {
 
 /// What stands at the path. A file that is not there is absent, also below a folder that is not there. Every other
 /// error of the system is a fault. That memory ran out is one too where the system says so: only an own `Vec` that
-/// was refused is want of memory, and opening takes none.
+/// was refused is out of memory, and opening takes none.
 fn find(rt: &HostRuntime, alloc: Global, path: &str) -> Result<Found, Trouble>
     ensures { IfOk result IsAnswer }
 {

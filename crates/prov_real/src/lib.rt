@@ -3,7 +3,7 @@
 //!
 //! What a terminal, a disk or a clock gives and keeps is beyond any proof, so these devices tell nothing of content: their
 //! clauses carry safety and causes alone. A call answers `Trouble::Failed` only where its own count of faults rose in
-//! that call or stands at its end, and leaves the other counts as they were. Want of memory is never counted.
+//! that call or stands at its end, and leaves the other counts as they were. Out of memory is never counted.
 //!
 //! The work is done by loops over any source and any sink. Their clauses do speak of content wherever the source or
 //! the sink tells its bytes: a line, a file and a written text come whole and in order, and a refusal loses nothing

@@ -15,7 +15,7 @@ pub enum Fault {
     TooDeep(Pos),
     /// The statement that begins at this place is one too many.
     TooMany(Pos),
-    /// Want of memory.
+    /// Out of memory.
     Memory,
 }
 

@@ -29,7 +29,7 @@ pub enum Spelled {
     Wrong(Pos),
 }
 
-/// What the tokens spell as one expression. It fails only for want of memory.
+/// What the tokens spell as one expression. It fails only for lack of memory.
 pub fn spelled_expr(alloc: Global, tokens: &[Token]) -> Result<Spelled, Fault>
     ensures spelled { IfOk result (IsExpr tokens.now) }
     ensures memory { IfErr result (λ fault. fault ≡ Memory) }
@@ -50,7 +50,7 @@ pub fn spelled_expr(alloc: Global, tokens: &[Token]) -> Result<Spelled, Fault>
     }
 }
 
-/// What the tokens spell as a sum, as which the target of a `for` is read. It fails only for want of memory.
+/// What the tokens spell as a sum, as which the target of a `for` is read. It fails only for lack of memory.
 pub fn spelled_sum(alloc: Global, tokens: &[Token]) -> Result<Spelled, Fault>
     ensures spelled { IfOk result (IsSum tokens.now) }
     ensures memory { IfErr result (λ fault. fault ≡ Memory) }
@@ -71,7 +71,7 @@ pub fn spelled_sum(alloc: Global, tokens: &[Token]) -> Result<Spelled, Fault>
     }
 }
 
-/// What the tokens spell as expressions in a row. It fails only for want of memory.
+/// What the tokens spell as expressions in a row. It fails only for lack of memory.
 pub fn spelled_row(alloc: Global, tokens: &[Token]) -> Result<Spelled, Fault>
     ensures spelled { IfOk result (IsRow tokens.now) }
     ensures memory { IfErr result (λ fault. fault ≡ Memory) }
@@ -146,7 +146,7 @@ fn form_of(part: &Part, tokens: &[Token]) -> Spelled
     }
 }
 
-/// Reading stopped because of the tokens, and not for want of memory.
+/// Reading stopped because of the tokens, and not for lack of memory.
 fn unless_memory(stop: Stop) -> Result<(), Fault>
     ensures tokens { IfOk result (λ _. spec.is_memory stop ≡ false) }
     ensures memory { IfErr result (λ fault. fault ≡ Memory) }
@@ -158,7 +158,7 @@ fn unless_memory(stop: Stop) -> Result<(), Fault>
     }
 }
 
-/// Reading stopped for want of memory.
+/// Reading stopped for lack of memory.
 fn is_memory(stop: Stop) -> bool
     ensures { result ≡ spec.is_memory stop }
 {

@@ -552,7 +552,7 @@ different_repeated before after middle list place name left g f there counted = 
   };
 }
 
--- a name that stands there is refused for want of memory alone
+-- a name that stands there is refused for lack of memory alone
 none_reads : (ts : List Token) → begins_name ts ≡ true → Finds (λ (b : Spot × List ℕ). ⊥) one_name.read ts → ⊥
 none_reads [] starts finds = cc
 none_reads (t ∷ ts) starts finds = by t.at t.span t.kind ts starts (finds.only 0)

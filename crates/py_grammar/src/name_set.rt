@@ -69,7 +69,7 @@ impl<'a> Model for Given<'a> {
 }
 
 impl<'a> Given<'a> {
-    /// The parameters with these names. It fails only for want of memory.
+    /// The parameters with these names. It fails only for lack of memory.
     pub fn of(alloc: Global, names: &'a [Name]) -> Result<Given<'a>, AllocError>
         ensures { IfOk result (λ given. given ≡ names.now) }
     {

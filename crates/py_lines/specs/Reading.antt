@@ -124,7 +124,7 @@ ending_at text reader E.Open = open_text (tab_before reader.grouping) (unwrap_or
 abbrev pub ending : List ℕ → Reader → Ending
 ending text reader = ending_at text reader (end reader.mode (begun_of text reader))
 
--- a fault that the end of the text may show, or want of memory
+-- a fault that the end of the text may show, or out of memory
 abbrev pub IsEndingFault : Ending → LineFault → Type 0
 IsEndingFault (whole lines) fault = fault ≡ Memory
 IsEndingFault (bad_token at) fault = (fault ≡ Memory) ⊎ (fault ≡ BadToken at)

@@ -16,7 +16,7 @@ pub enum LineFault {
     OpenBracket(Pos),
     /// The text has more than 262,144 bytes.
     TooLarge,
-    /// Want of memory.
+    /// Out of memory.
     Memory,
 }
 

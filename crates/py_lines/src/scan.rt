@@ -161,7 +161,7 @@ pub fn lines(alloc: Global, text: &[u8]) -> Result<Lines, LineFault>
     ensures too_large { (result ≡ Err TooLarge) ↔ (262144 < length text.now) }
     ensures not_utf8 { (at : Pos) → (result ≡ Err (NotUtf8 at)) ↔ IsNotUtf8 text.now at }
     ensures lines { IfOk result (HasLines text.now) }
-    // Where the text has lines, no other answer is given but want of memory.
+    // Where the text has lines, no other answer is given but out of memory.
     ensures complete { (found : List Line) → HasLines text.now found → length text.now ≤ 262144
         → (result ≡ Ok found) ⊎ (result ≡ Err Memory) }
     ensures bad_token { (at : Pos) → result ≡ Err (BadToken at) → IsBadTokenPlace text.now at }

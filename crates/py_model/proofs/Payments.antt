@@ -1,4 +1,4 @@
--- An operation happens only where its cost is left, and one that no budget pays for is too dear.
+-- An operation happens only where its cost is left, and one that no budget pays for is out of budget.
 use Rattle.std.proofs.Common.{◌≡◌, ℕ, suc, ◌+◌, ◌<◌, Bool, true, false, if◌then◌else◌, List, length, refl, ap, subst, arith, leb-true, nat_le}
 use Rattle.prov_base.specs.declared.place.Pos.{Pos}
 use Rattle.py_value.specs.Contents.{Contents}

@@ -58,7 +58,7 @@ pub record IsDone (at : Pos) (op : Op) (values : List Value) (deed : Deed) (afte
   pub named : IsNamedAnswer table deed.answer × (IsNamedKind table deed.made × AreNamedAccesses table deed.accesses)
   pub stands : after (standing next)
 
--- it does not happen, since it is too dear or an answer is lacking
+-- it does not happen, since it is out of budget or an answer is lacking
 pub record IsTooDear (at : Pos) (op : Op) (values : List Value) (after : Standing → Type 0) (table : ValuesView) (capture : Capture) (s : State) : Type 0 where
   pub next : State
   pub happened : operation capture at (op_seen table op) (map (contents table) values) s ≡ too_dear next
@@ -74,7 +74,7 @@ pub record IsLacking (at : Pos) (op : Op) (values : List Value) (after : Standin
 abbrev pub asked_by : Capture → Pos → SeenOp → List Contents → State → State
 asked_by capture at what values s = note at (suc (askings_at at s.askings)) (effect_of capture at what values s).touches s
 
--- After want of memory the store is as before. What this operation asks and fetches was asked and fetched, or nothing was.
+-- After a lack of memory the store is as before. What this operation asks and fetches was asked and fetched, or nothing was.
 pub record IsRefused (capture : Capture) (at : Pos) (what : SeenOp) (values : List Contents) (after : Standing → Type 0) (s : State) : Type 0 where
   pub next : State
   pub asked : (next ≡ s) ⊎ (next ≡ asked_by capture at what values s)
@@ -100,7 +100,7 @@ Performs at op values left fits before after (Ok Unanswered) = ForEach fits befo
 Performs at op values left fits before after (Err want) =
     ForEach fits before (λ table capture s. IsRefused capture at (op_seen table op) (map (contents table) values) (after table capture) s)
 
--- The next activation was entered: each parameter is set, in order. It is too dear exactly where its cost, 1 and 1 for each parameter, is
+-- The next activation was entered: each parameter is set, in order. It is out of budget exactly where its cost, 1 and 1 for each parameter, is
 -- more than is left, and then nothing has changed.
 pub record IsEntered (def : Pos) (names : List (List ℕ)) (values : List Value) (activation : ℕ) (accesses : List Access) (after : Standing → Type 0) (table : ValuesView) (s : State) : Type 0 where
   pub next_is : activation ≡ suc s.entered

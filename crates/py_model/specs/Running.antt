@@ -90,7 +90,7 @@ beginning number s = record s { left = s.left - 1; told = begins number ∷ s.to
 abbrev pub tell : Moment → State → State
 tell moment s = record s { told = moment ∷ s.told }
 
--- what becomes of an operation: it happened, it was too dear, or an answer was lacking
+-- what becomes of an operation: it happened, it was out of budget, or an answer was lacking
 pub data Happened : Type 0 where
   did : Answer → Walked → State → Happened
   too_dear : State → Happened

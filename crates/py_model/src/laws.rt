@@ -106,7 +106,7 @@ pub fn touches_join()
     ensures entries { (xs ys : List SeenAccess) → sets_an_entry (xs ++ ys) ≡ (sets_an_entry xs || sets_an_entry ys) }
 {}
 
-/// The law of growing costs: an effect costs no less than what it touches first. So once that is more than what is left, it is too dear.
+/// The law of growing costs: an effect costs no less than what it touches first. So once that is more than what is left, it is out of budget.
 pub fn costs_grow()
     ensures { (touches : List Touch) (e : Effect) → cost_so_far touches ≤ cost (prefixed touches e) }
 {}

@@ -78,7 +78,7 @@ refused_text text fault refusal told refusal_is at same = no_lines_at text fault
 fault_same : (fault seen : LineFault) → ◌≡◌ {A = Answer} (Err fault) (Err seen) → fault ≡ seen
 fault_same fault seen same = cc
 
--- a text with a script is refused for want of memory alone
+-- a text with a script is refused for lack of memory alone
 pub only_memory : (text : List ℕ) (fault : LineFault) (refusal : Refusal) → Told text (Err fault) → refusal ≡ refusal_at (line_place fault) → (tree : ScriptTree) → HasScript text tree → refusal ≡ Memory
 only_memory text fault refusal told refusal_is tree script =
     ⊎_elim (λ found. absurd (no_fault script.lines found)) (λ memory. refusal_is ∙ ap (λ (f : LineFault). refusal_at (line_place f)) (fault_is memory))

@@ -19,7 +19,7 @@ pub enum ParseFault {
     TooDeep(Pos),
     /// The first token of the statement that is one too many.
     TooMany(Pos),
-    /// Want of memory.
+    /// Out of memory.
     Memory,
 }
 

@@ -25,7 +25,7 @@ pub fn read_script(alloc: Global, text: &[u8]) -> Result<Script, Refusal>
     ensures numbered { IfOk result (λ script. IsNumbered (script_of script)) }
     ensures well_formed { IfOk result (λ script. IsWellFormed (script_of script)) }
     ensures flat { IfOk result (λ script. IsTrue (is_flat (script_of script))) }
-    // Where the text has a script, no other answer is given but want of memory.
+    // Where the text has a script, no other answer is given but out of memory.
     ensures complete { (tree : ScriptTree) → HasScript text.now tree → IfErr result (λ refusal. refusal ≡ Memory) }
     // The two causes that are seen before any line is read do not hang on memory.
     ensures too_large { 262144 < length text.now → result ≡ Err (At origin) }

@@ -11,7 +11,7 @@ use py_lines::LineFault;
 pub enum Refusal {
     /// The place of the first fault, from line 1 and column 1.
     At(Pos),
-    /// Want of memory.
+    /// Out of memory.
     Memory,
 }
 

@@ -27,7 +27,7 @@ pub fn parse(alloc: Global, lines: &Lines) -> Result<Script, ParseFault>
     ensures found { IfOk result (λ script. IsScript lines.now (script_of script)) }
     ensures numbered { IfOk result (λ script. IsNumbered (script_of script)) }
     ensures well_formed { (text : List ℕ) → HasLines text lines.now → IfOk result (λ script. IsWellFormed (script_of script)) }
-    // Where the lines are a script, no other answer is given but want of memory.
+    // Where the lines are a script, no other answer is given but out of memory.
     ensures complete { (tree : ScriptTree) → IsScript lines.now tree → IfErr result (λ fault. fault ≡ Memory) }
     ensures refused { IfErr result (IsFault lines.now) }
 {

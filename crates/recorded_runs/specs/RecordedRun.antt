@@ -45,7 +45,7 @@ pub record IsRecordedRun (script : ScriptTree) (path : List ℕ) (arguments : Li
   pub in_order : PutsInOrder asked it.ended.capture
   pub pages : ArePagesOf (run script path arguments (capture_of asked after) steps).moments it.pages
 
--- A run over devices that told this before it and tell that after it, recorded. After want of memory all is as after a bare run that lacked it.
+-- A run over devices that told this before it and tell that after it, recorded. After a lack of memory all is as after a bare run that lacked it.
 abbrev pub RecordsRun : ScriptTree → List ℕ → List (List ℕ) → ℕ → Telling → Telling → Result Recorded Memory → Type 0
 RecordsRun script path arguments steps before after (Ok it) = (asked : CaptureView) × IsRecordedRun script path arguments steps before after asked it
 RecordsRun script path arguments steps before after (Err want) = RunsBare script path arguments steps before after (Err want)

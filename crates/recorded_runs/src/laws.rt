@@ -17,7 +17,7 @@ pub fn recorded_runs_are_bare()
         → RecordsRun script path arguments steps before after result → IsBareOf script path arguments steps before after result }
 {}
 
-/// The law that recording changes nothing but by want of memory: a recorded run and a bare run that were given the same answers and files come out alike.
+/// The law that recording changes nothing but by a lack of memory: a recorded run and a bare run that were given the same answers and files come out alike.
 pub fn recording_changes_nothing()
     ensures { (script : ScriptTree) (path : List ℕ) (arguments : List (List ℕ)) (steps : ℕ) (before after earlier later : Telling) (asked : CaptureView) (it : Recorded) (over : EndedRun)
         → IsRecordedRun script path arguments steps before after asked it → RunsBare script path arguments steps earlier later (Ok over)

@@ -9,7 +9,7 @@
 //! ([`recording_changes_nothing`]). In the capture that is kept the script comes out as it did, and asks what is kept and nothing else
 //! ([`kept_captures_have_the_run`]).
 //!
-//! Want of memory before the keeping is the one free answer; the keeper is as before then. What devices gave is said in the order of asking: `asked` is the capture
+//! Out of memory before the keeping is the one free answer; the keeper is as before then. What devices gave is said in the order of asking: `asked` is the capture
 //! before its answers were put in order.
 #![tactic(auto)]
 

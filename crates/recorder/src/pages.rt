@@ -12,7 +12,7 @@ use trace_rows::{Pages, Row, encode_page};
 /// A page ends with the row that brings it to this many bytes or more.
 const FULL: usize = 65_536;
 
-/// The pages of rows. Want of memory is the one other answer.
+/// The pages of rows. Out of memory is the one other answer.
 pub fn pages_of(alloc: Global, rows: &[Row]) -> Result<Pages, Memory>
     ensures { IfOk result (λ p. p ≡ pages rows.now) }
 {

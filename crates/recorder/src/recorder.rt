@@ -52,7 +52,7 @@ impl Recorder {
         })
     }
 
-    /// The pages of the rows of the moments that it was told. Want of memory is the one other answer.
+    /// The pages of the rows of the moments that it was told. Out of memory is the one other answer.
     pub fn pages(self, alloc: Global) -> Result<Pages, Memory>
         ensures pages { IfOk result (λ pages. pages ≡ pages_of_rows (rows_of (reverse (moments_of self)))) }
         // Their numbers fit, so `decode_page` gives these rows again.

@@ -8,7 +8,7 @@ use crate::places::room;
 use std::alloc::Global;
 
 // Adds empty chunks until there are so many. A chunk is made with its whole capacity, so that no push into it takes
-// memory. After an `Err`, for want of memory, the chunks are those from before.
+// memory. After an `Err`, for lack of memory, the chunks are those from before.
 pub(crate) fn add_chunks<T: Drop>(
     chunks: &mut Vec<Vec<T>>,
     alloc: Global,

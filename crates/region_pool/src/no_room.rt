@@ -5,7 +5,7 @@ use std::alloc::AllocError;
 use std::error::Error;
 use std::fmt;
 
-/// Want of room, which is want of memory unless a clause names another cause. After it all is as before.
+/// Lack of room, which is out of memory unless a clause names another cause. After it all is as before.
 #[derive(Clone, Copy, Debug, PartialEq, Eq)]
 pub struct NoRoom;
 

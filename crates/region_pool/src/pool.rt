@@ -110,7 +110,7 @@ impl<T: Drop> Pool<T> {
         ensures frugal { self.old.spare < n
             → length self.new.items + self.new.spare < 2 * (length self.old.items + n) }
 
-        // Beside want of memory it is want of names that refuses.
+        // Beside out of memory it is want of names that refuses.
         ensures names { 2 ^ 32 ≤ length self.old.items + n → IsErr result }
         ensures err { OnErr result (self.new ≡ self.old) }
     {

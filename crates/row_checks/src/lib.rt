@@ -12,7 +12,7 @@
 //! - [`kept_rows_name_in_order`]: no text and no tuple of kept rows stands twice, and what a row names stands before it.
 //!
 //! Equal texts and tuples are found by their numbers in a `Values`, and how deep a tuple is as a key is noted once for each. A call that
-//! always answers want of memory meets these clauses: that it succeeds is tested by `row_cases`.
+//! always answers out of memory meets these clauses: that it succeeds is tested by `row_cases`.
 #![tactic(auto)]
 
 mod counts;

@@ -27,7 +27,7 @@ fn first_refused(alloc: Global, seen: &mut Seen, rows: &[Row]) -> Result<Option<
 }
 
 /// The number of the first row with which the rows are no longer those of a well kept trial, where the script has so many statements. None
-/// is the answer exactly where they are. Want of memory is the one other answer.
+/// is the answer exactly where they are. Out of memory is the one other answer.
 pub fn first_unkept(alloc: Global, rows: &[Row], statements: u32) -> Result<Option<u32>, Memory>
     ensures { IfOk result (TellsUnkept statements rows.now) }
 {

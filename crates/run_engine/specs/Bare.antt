@@ -37,7 +37,7 @@ pub record IsEnded (script : ScriptTree) (path : List ℕ) (arguments : List (Li
   pub fetched_are : (one : List ℕ) → is_among one (state_in (outcome capture (meaning script steps) (starting capture path arguments steps))).fetches ≡ has_file over.capture one
 
 -- A run over devices that told this before it and tell that after it. It is the run of the script in the capture that it answers, and that capture is what
--- the devices gave in the meantime, one answer after the other. After want of memory some capture is.
+-- the devices gave in the meantime, one answer after the other. After a lack of memory some capture is.
 abbrev pub RunsBare : ScriptTree → List ℕ → List (List ℕ) → ℕ → Telling → Telling → Result EndedRun Memory → Type 0
 RunsBare script path arguments steps before after (Ok over) =
     IsCaptureOf nothing_kept before (capture_of over.capture after) × IsEnded script path arguments steps (capture_of over.capture after) over

@@ -11,7 +11,7 @@ use prov_base::{Bytes, Memory};
 use py_value::Value;
 use std::alloc::Global;
 
-/// What a run came to that is over, with what is held at its end. A run that did not come to an end is want of memory.
+/// What a run came to that is over, with what is held at its end. A run that did not come to an end is out of memory.
 pub(crate) fn over(
     alloc: Global,
     held: &mut Held,

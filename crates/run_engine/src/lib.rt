@@ -9,7 +9,7 @@
 //! moments of that run (`RunsRecorded`).
 //!
 //! Several targets that one of several is, as in `a, (b, c) = e`, are in no script of the grammar (`targets_are_flat` of `py_grammar`). A run that came
-//! to store in some would answer want of memory.
+//! to store in some would answer out of memory.
 #![tactic(auto)]
 
 mod bare;

@@ -92,7 +92,7 @@ fn found_at<'a>(number: u32, at: Pos, form: &'a Form, key: Key) -> Option<Found<
 }
 
 /// The function at a place; `None` where there is none. It is that with its number too. The numbers of a script are apart; where they are not,
-/// memory is wanted.
+/// it is out of memory.
 pub fn function_at<'a>(script: &'a Script, place: Pos) -> Result<Option<Found<'a>>, Memory>
     ensures { IfOk result (λ found. IsFunctionAt (script_of script.entry.now) place found) }
 {

@@ -11,7 +11,7 @@
 //! - [`known_pairs_are_edges`]: what the tests in these clauses mean.
 //!
 //! A read and an Update cost as many steps as the location has statements in its reach, and a read of an unset local name two searches by halves
-//! for each statement of the script. A call that always answers want of memory meets these clauses: that it succeeds is not tested yet.
+//! for each statement of the script. A call that always answers out of memory meets these clauses: that it succeeds is not tested yet.
 #![tactic(auto)]
 
 mod ask;

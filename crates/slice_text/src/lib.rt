@@ -10,7 +10,7 @@
 //! - `script`: where the lines of a text are a script of the grammar, the lines of the cut are the script of `delete`, up to byte
 //!   spans: each node stands at its line and column.
 //! - `placed`, `within`: where they are a script of a language, with its statements where they may stand, so are the lines of the cut;
-//!   and where they are one within limits, so are these. So the parser refuses a cut text only for its length, or for want of memory.
+//!   and where they are one within limits, so are these. So the parser refuses a cut text only for its length, or for lack of memory.
 //! - `growth`: a line grows only where `pass` does not fit.
 //!
 //! [`cut_script_is_deleted`] says the same of a script as it is written.

@@ -10,7 +10,7 @@
 //! - [`Things::shape`], [`Things::has_item`], [`Things::has_entry`]: what an object is, and whether a place is its own.
 //! - [`Things::children`]: the values that objects hold, and the law [`children_are_held`]: they are those of the store.
 //!
-//! A call that always answers want of memory meets these clauses: that it succeeds is not tested yet.
+//! A call that always answers out of memory meets these clauses: that it succeeds is not tested yet.
 #![tactic(auto)]
 
 mod children;

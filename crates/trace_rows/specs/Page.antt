@@ -24,7 +24,7 @@ pub record IsFirstBad (bytes : List ℕ) (place : ℕ) : Type 0 where
   pub longest : (others : List Row) → BeginsWith bytes others → length (rows_bytes others) ≤ place
   pub goes_on : place < length bytes
 
--- What a page was decoded as. Want of memory says nothing.
+-- What a page was decoded as. Out of memory says nothing.
 abbrev pub Decodes : List ℕ → Result (List Row) PageFault → Type 0
 Decodes bytes (Ok rows) = IsPage bytes rows
 Decodes bytes (Err (BadRow place)) = IsFirstBad bytes place

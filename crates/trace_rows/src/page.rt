@@ -13,7 +13,7 @@ use prov_base::{Bytes, Memory};
 use row_words::ReadFault;
 use std::alloc::Global;
 
-/// The bytes of rows, one behind the other. Want of memory is the one other answer.
+/// The bytes of rows, one behind the other. Out of memory is the one other answer.
 pub fn encode_page(alloc: Global, rows: &[Row]) -> Result<Bytes, Memory>
     ensures { IfOk result (λ bytes. bytes ≡ rows_bytes rows.now) }
 {

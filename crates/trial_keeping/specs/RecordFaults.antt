@@ -78,7 +78,7 @@ pub record IsBadAt (bad : List ℕ → ℕ → Type 0) (bytes : List ℕ) (place
   pub sum : place + left ≡ length bytes
   pub is_bad : bad bytes left
 
--- What a record was decoded as. Want of memory says nothing.
+-- What a record was decoded as. Out of memory says nothing.
 abbrev pub Decodes : {A : Type 0} → (A → List ℕ) → (A → Type 0) → (List ℕ → ℕ → Type 0) → List ℕ → Result A RecordFault → Type 0
 Decodes spell fits bad bytes (Ok a) = IsRecord spell fits bytes a
 Decodes spell fits bad bytes (Err (BadRecord place)) = IsBadAt bad bytes place

@@ -8,7 +8,7 @@ use capture::Asked;
 use prov_base::{Bytes, Memory, Name};
 use std::alloc::Global;
 
-/// The record of a script's arguments. Want of memory is the one other answer.
+/// The record of a script's arguments. Out of memory is the one other answer.
 pub fn encode_arguments(alloc: Global, arguments: &[Name]) -> Result<Bytes, Memory>
     ensures { IfOk result (λ bytes. bytes ≡ arguments_bytes arguments.now) }
 {
@@ -17,7 +17,7 @@ pub fn encode_arguments(alloc: Global, arguments: &[Name]) -> Result<Bytes, Memo
     Ok(Bytes::of(out))
 }
 
-/// The record of a capture: its answers, and what was found at each path. Want of memory is the one other answer.
+/// The record of a capture: its answers, and what was found at each path. Out of memory is the one other answer.
 pub fn encode_capture(
     alloc: Global,
     answers: &[Asked],
@@ -31,7 +31,7 @@ pub fn encode_capture(
     Ok(Bytes::of(out))
 }
 
-/// The record of final files. Want of memory is the one other answer.
+/// The record of final files. Out of memory is the one other answer.
 pub fn encode_finals(alloc: Global, finals: &[FinalRecord]) -> Result<Bytes, Memory>
     ensures { IfOk result (λ bytes. bytes ≡ finals_bytes finals.now) }
 {

@@ -11,7 +11,7 @@
 //! - [`records_are_read_one_way`]: two values with the same bytes are the same, and bytes that are no record have one such place.
 //! - [`lists_are_in_order`]: which answers and files ascend, as `capture` says it.
 //!
-//! A call that always answers want of memory meets these clauses: that they succeed is not said here.
+//! A call that always answers out of memory meets these clauses: that they succeed is not said here.
 //!
 //! The trial of a run, kept over any keeper.
 //!
@@ -24,7 +24,7 @@
 //! - The contents are put in the order script, arguments, capture, files that were found by path, files as the run left them, output, record of these
 //!   files. Equal contents are kept once. The head has their digests.
 //! - `stops` says what a stop of the program leaves: the whole trial, or none of it.
-//! - The count of faults of the keeper never falls, and it rose where `Keeper` is answered. Want of memory may be answered at any time.
+//! - The count of faults of the keeper never falls, and it rose where `Keeper` is answered. Out of memory may be answered at any time.
 //!
 //! [`head`] answers one head, and [`list`] all of them in their order. Neither looks at what the heads name.
 //!

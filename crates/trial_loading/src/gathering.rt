@@ -71,7 +71,7 @@ fn next_page<K: Keeper>(
 }
 
 impl Gathered {
-    /// Puts a page behind the others. Want of memory may leave a part of it.
+    /// Puts a page behind the others. Out of memory may leave a part of it.
     fn add(&mut self, page: &OnePage) -> Result<(), ReadFault>
         ensures bytes { IfOk result (λ _. self.new.bytes.items ≡ self.old.bytes.items ++ page.now.bytes) }
         ensures cuts { IfOk result (λ _. self.new.cuts.items ≡ self.old.cuts.items ++ page.now.count ∷ []) }

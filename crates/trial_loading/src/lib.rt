@@ -12,7 +12,7 @@
 //! What a record comes to is said by relations, as a record is read one way: `Then` of `specs/Checks.antt` is one part and then the next. The capture is
 //! rebuilt by `keep` and `keep_file`, whose conditions follow from the order of the record. No path is noted as written in it.
 //!
-//! Whatever is answered, the keeper's tables stay. `Keeper` is answered only where its count of faults rose. Want of memory may be answered at any
+//! Whatever is answered, the keeper's tables stay. `Keeper` is answered only where its count of faults rose. Out of memory may be answered at any
 //! time, and a call that always answers it meets these clauses: that calls succeed is not said here.
 //!
 //! All rows of a kept trial, read back from a keeper page by page, over any keeper.
@@ -27,7 +27,7 @@
 //! - Nothing is changed, whatever is answered. `Keeper` is answered only where the keeper's count of faults rose.
 //!
 //! Each page is decoded twice: alone, for its own fault and the number of its rows, and then behind the others, for one list of all rows.
-//! A call that always answers want of memory meets these clauses: that it succeeds has to be tested.
+//! A call that always answers out of memory meets these clauses: that it succeeds has to be tested.
 //!
 //! A kept trial, loaded over any keeper.
 //!
@@ -41,7 +41,7 @@
 //! - [`trials_are_loaded_one_way`]: a number has one trial, or one first damage, and never both.
 //!
 //! Whatever is answered, the keeper's tables stay, and so does its batch. `Keeper` is answered only where its count of faults rose. `Collision`
-//! and `Full` are never answered. Want of memory may be answered at any time, and a call that always answers it meets these clauses: that
+//! and `Full` are never answered. Out of memory may be answered at any time, and a call that always answers it meets these clauses: that
 //! calls succeed is not said here.
 #![tactic(auto)]
 

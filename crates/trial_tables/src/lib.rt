@@ -10,7 +10,7 @@
 //! - `stops` says what a stop of the program leaves: after `Ok` the new tables alone, after a refusal one of those that it might have left
 //!   before, or the tables with the whole trial.
 //! - [`content`], [`contents`] and [`page`] answer what stands there with its digest, or what is amiss ([`Damage`]), and change nothing.
-//! - `Keeper` is answered only where the keeper's count of faults rose. Want of memory may be answered at any time.
+//! - `Keeper` is answered only where the keeper's count of faults rose. Out of memory may be answered at any time.
 //!
 //! Laws of the tables when a trial is kept.
 //!
