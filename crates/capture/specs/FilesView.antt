@@ -1,3 +1,4 @@
+-- No public clause cites this file.
 -- What is seen of a capture's files by the capture: with the room for more.
 use Rattle.std.specs.Prelude.{◌≡◌, ℕ, ◌<◌, ◌≤◌, List, length, slice_get, Some}
 use Rattle.std.specs.Ordering.{nat_cmp}

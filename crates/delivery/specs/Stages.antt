@@ -1,3 +1,4 @@
+-- No public clause cites this file.
 -- What each part of a delivery leaves (this project's profile): the puts, the text, and the closing line.
 use Rattle.std.specs.Prelude.{◌≡◌, ℕ, List, length, Bool, true, Option, Some, Ok, Err}
 use Rattle.std.specs.Option.{option_or}

@@ -1,3 +1,4 @@
+-- No public clause cites this file.
 -- What follows the suite of a class.
 use Rattle.std.specs.Prelude.{ℕ, List, [], ◌∷◌}
 use Rattle.prov_base.specs.declared.place.Pos.{Pos}

@@ -1,3 +1,4 @@
+-- No public clause cites this file.
 -- The items of tuples.
 use Rattle.std.specs.Prelude.{◌≡◌, ℕ, Option, Some, None}
 use Rattle.py_value.specs.Contents.{contents, no_parts}

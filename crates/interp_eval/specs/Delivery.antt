@@ -1,3 +1,4 @@
+-- No public clause cites this file.
 -- How an evaluation goes on with the value of an operation, and how a value is given to the node around the
 -- innermost one.
 use Rattle.std.specs.Prelude.{◌≡◌, List, [], ◌∷◌, ◌++◌, map, Option, Result, Ok, Err, ⊤}

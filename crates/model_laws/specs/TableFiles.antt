@@ -1,3 +1,4 @@
+-- No public clause cites this file.
 -- The table of operations on files (The Python Standard Library, "io", in this project's profile): each over the bytes at the path and the
 -- offset. Files are read in mode `'r'` and written in the others.
 use Rattle.std.specs.Prelude.{ℕ, ◌+◌, pos, Bool, true, false, List, [], ◌∷◌, ◌++◌, length, drop, codes, if◌then◌else◌, ◌≡◌, ◌⊎◌, ◌||◌, Option, Some, unwrap_or}

@@ -1,3 +1,4 @@
+-- No public clause cites this file.
 -- The table of operations on numbers (The Python Language Reference 3, sections 6.5 to 6.7, in this project's profile): each over the integers
 -- that the operands are, where a truth value is 0 or 1. An answer that has no 64 bits raises OverflowError.
 use Rattle.std.specs.Prelude.{ℤ, pos, ◌+ℤ◌, ◌-ℤ◌, ◌*ℤ◌, neg_ℤ, List, [], ◌∷◌, if◌then◌else◌, codes}

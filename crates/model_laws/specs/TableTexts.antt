@@ -1,3 +1,4 @@
+-- No public clause cites this file.
 -- The table of operations on texts (The Python Standard Library, "Text Sequence Type", in this project's profile): each over the characters
 -- of the text, or its bytes where these say the same. White space, letters and digits are those of ASCII.
 use Rattle.std.specs.Prelude.{ℕ, ◌-◌, ℤ, pos, negsuc, List, [], ◌∷◌, ◌++◌, map, slice_get, take, drop, Option, Some, None, is_some, codes, not, encode_utf8, unwrap_or}

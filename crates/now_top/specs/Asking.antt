@@ -1,3 +1,4 @@
+-- No public clause cites this file.
 -- What a question to the store comes to over any keeper (this project's profile).
 use Rattle.std.specs.Prelude.{◌≡◌, ℕ, List, Option, Some, None}
 use Rattle.now_words.specs.declared.command.Query.{Query}

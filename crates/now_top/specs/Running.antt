@@ -1,3 +1,4 @@
+-- No public clause cites this file.
 -- What a text at FILE comes to over devices (this project's profile).
 use Rattle.std.specs.Prelude.{◌≡◌, ℕ, List, ◌⊎◌}
 use Rattle.answer_source.specs.Live.{IsCaptureOf}

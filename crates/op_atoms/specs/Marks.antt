@@ -1,3 +1,4 @@
+-- No public clause cites this file.
 -- What is known of the first tuples of a run: whether each is an atom.
 use Rattle.std.specs.Prelude.{◌≡◌, ◌<◌, ℕ, Bool, true, false, List, length, get_or, slice_get, unwrap_or}
 use Rattle.py_value.specs.Contents.{contents}

@@ -1,3 +1,4 @@
+-- No public clause cites this file.
 -- What is told of an operation that came to its end or stopped.
 use Rattle.std.specs.Prelude.{◌≡◌, ⊤, Result, Ok, Err}
 use Rattle.op_atoms.specs.declared.atomic.Atomic.{Atomic}

@@ -1,3 +1,4 @@
+-- No public clause cites this file.
 -- What values are to operations on attributes.
 use Rattle.py_value.specs.declared.value.Value.{Value}
 use Rattle.py_value.specs.declared.value.Value.TheVariants.{Text, Tuple, Class, Exc, Builtin, Object}

@@ -1,3 +1,4 @@
+-- No public clause cites this file.
 -- The methods of the language, by number.
 use Rattle.std.specs.Prelude.{ℕ, ◌+◌, List, Option, Some, None}
 use Rattle.std.specs.Option.{option_map}

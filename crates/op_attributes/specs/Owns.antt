@@ -1,3 +1,4 @@
+-- No public clause cites this file.
 -- What is set of an instance.
 use Rattle.std.specs.Prelude.{ℕ, List, Some, if◌then◌else◌}
 use Rattle.py_model.specs.Classes.{is_module}

@@ -1,3 +1,4 @@
+-- No public clause cites this file.
 -- What is set of an instance that is made.
 use Rattle.std.specs.Prelude.{ℕ, List, [], ◌∷◌, Some}
 use Rattle.py_model.specs.Classes.{args_key}

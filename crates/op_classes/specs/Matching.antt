@@ -1,3 +1,4 @@
+-- No public clause cites this file.
 -- Classes that an exception is matched with.
 use Rattle.std.specs.Prelude.{Bool, true, false, ◌&&◌, List, [], ◌∷◌}
 use Rattle.py_value.specs.declared.value.Value.{Value}

@@ -1,3 +1,4 @@
+-- No public clause cites this file.
 -- What values are to definitions and to `isinstance`.
 use Rattle.std.specs.Prelude.{ℕ, Bool, true, false, ◌==◌, ◌||◌, ◌&&◌, List, [], ◌∷◌, Option, Some, None}
 use Rattle.prov_base.specs.declared.place.Pos.{Pos}

@@ -1,3 +1,4 @@
+-- No public clause cites this file.
 -- What is raised, in parts.
 use Rattle.std.specs.Prelude.{ℕ, [], Option, Some, None, codes}
 use Rattle.prov_base.specs.declared.place.Pos.{Pos}

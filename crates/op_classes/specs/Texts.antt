@@ -1,3 +1,4 @@
+-- No public clause cites this file.
 -- Numbers of texts.
 use Rattle.std.specs.Prelude.{ℕ, ◌<◌, List, length, Option, Some, None}
 use Rattle.py_value.specs.Seen.{bytes_of}

@@ -1,3 +1,4 @@
+-- No public clause cites this file.
 -- The best of values, as a plan that goes on with it (this project's profile).
 use Rattle.std.specs.Prelude.{Bool, true, false, List, [], ◌∷◌}
 use Rattle.py_model.specs.Arithmetic.{in_order, is_less, is_more, empty_or_zero}

@@ -1,3 +1,4 @@
+-- No public clause cites this file.
 -- Pairs of items that are compared, and what objects are compared as.
 use Rattle.std.specs.Prelude.{ℕ, Option, Some, None}
 use Rattle.op_compare.specs.declared.pairs.Shape.{Shape}

@@ -1,3 +1,4 @@
+-- No public clause cites this file.
 -- Where a number stands in a range (this project's profile).
 use Rattle.std.specs.Prelude.{ℕ, suc, ◌/◌, ◌%◌, ◌==◌, ℤ, ◌-ℤ◌, nat_lt, if◌then◌else◌, Option, Some, None}
 use Rattle.std.specs.Option.{option_map}

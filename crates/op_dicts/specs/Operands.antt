@@ -1,3 +1,4 @@
+-- No public clause cites this file.
 -- What the first operand of a method is.
 use Rattle.std.specs.Prelude.{ℕ, List, Option, Some, None, slice_get}
 use Rattle.py_value.specs.declared.value.Value.{Value}

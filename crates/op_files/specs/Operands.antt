@@ -1,3 +1,4 @@
+-- No public clause cites this file.
 -- The operands of methods of files.
 use Rattle.std.specs.Prelude.{ℕ, List, [], ◌∷◌, Option, Some, None}
 use Rattle.py_model.specs.Faults.{wrong_kind, wrong_number}

@@ -1,3 +1,4 @@
+-- No public clause cites this file.
 -- What is read of an open file, as a plan that has read what stands in the file.
 use Rattle.std.specs.Prelude.{ℕ, List, drop, Bool, true, false, Option, Some}
 use Rattle.op_items.specs.Lines.{bytes_in}

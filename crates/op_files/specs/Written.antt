@@ -1,3 +1,4 @@
+-- No public clause cites this file.
 -- What is written into an open file, as a plan by what the file is.
 use Rattle.std.specs.Prelude.{ℕ, pos, List, Bool, true, false, Option, Some}
 use Rattle.py_model.specs.Faults.{wrong_kind}

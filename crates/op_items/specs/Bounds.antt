@@ -1,3 +1,4 @@
+-- No public clause cites this file.
 -- The bounds of a slice.
 use Rattle.std.specs.Prelude.{ℕ, ℤ, ◌-◌, pos, true, false, Option}
 use Rattle.std.specs.Prelude.{Some, None as Nothing}

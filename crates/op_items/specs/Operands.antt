@@ -1,3 +1,4 @@
+-- No public clause cites this file.
 -- Three operands.
 use Rattle.std.specs.Prelude.{List, [], ◌∷◌}
 use Rattle.py_model.specs.Faults.{wrong_number}

@@ -1,3 +1,4 @@
+-- No public clause cites this file.
 -- The length of a list and a place in it, as a plan that goes on with both.
 use Rattle.std.specs.Prelude.{ℕ, ℤ}
 use Rattle.py_model.specs.Lists.{with_place}

@@ -1,3 +1,4 @@
+-- No public clause cites this file.
 -- Turns of a `for`, and the size that a dictionary had at its start.
 use Rattle.std.specs.Prelude.{ℕ, ◌==◌, pos, negsuc, Bool, false, Option, Some, None}
 use Rattle.py_value.specs.declared.value.Value.{Value}

@@ -1,3 +1,4 @@
+-- No public clause cites this file.
 -- Which two values are put one behind the other, and which are added as numbers.
 use Rattle.std.specs.Prelude.{◌++◌, ◌+ℤ◌, Bool, true, false, Option, Some}
 use Rattle.op_joins.specs.declared.adding.Pair.{Pair}

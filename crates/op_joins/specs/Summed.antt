@@ -1,3 +1,4 @@
+-- No public clause cites this file.
 -- Sums of values that are numbers.
 use Rattle.std.specs.Prelude.{ℤ, pos, ◌+ℤ◌, ◌&&◌, Bool, true, false, List, [], ◌∷◌, Option, Some, None, if◌then◌else◌}
 use Rattle.py_model.specs.Numbers.{is_int}

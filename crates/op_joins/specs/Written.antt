@@ -1,3 +1,4 @@
+-- No public clause cites this file.
 -- Integers that texts write.
 use Rattle.std.specs.Prelude.{ℕ, ℤ, pos, neg_ℤ, ◌==◌, Bool, true, false, List, [], ◌∷◌, Option, Some, None, if◌then◌else◌, codes}
 use Rattle.py_model.specs.Faults.{fault, value_error}

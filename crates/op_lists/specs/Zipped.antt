@@ -1,3 +1,4 @@
+-- No public clause cites this file.
 -- The pairs of the items of two sequences, as a plan that goes on with them.
 use Rattle.std.specs.Prelude.{List}
 use Rattle.py_model.specs.Dicts.{paired}

@@ -1,3 +1,4 @@
+-- No public clause cites this file.
 -- What stands at a key, as a plan that goes on with its value.
 use Rattle.std.specs.Prelude.{ℕ, Option, unwrap_or}
 use Rattle.std.specs.Option.{option_map}

@@ -1,3 +1,4 @@
+-- No public clause cites this file.
 -- The distinct keys of a dictionary's display, each with its first form and its last value.
 use Rattle.std.specs.Prelude.{⊤, List, [], ◌∷◌, map, Bool, if◌then◌else◌}
 use Rattle.op_mutations.specs.declared.pairs.Pair.{Pair}

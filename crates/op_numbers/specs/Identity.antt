@@ -1,3 +1,4 @@
+-- No public clause cites this file.
 -- Whether two values are one, where it is said.
 use Rattle.std.specs.Prelude.{Bool, true, false, ◌==◌, Option, Some, None}
 use Rattle.prov_base.specs.contracts.place.PosPartialEq.TheImpl.{ghosts as places}

@@ -1,3 +1,4 @@
+-- No public clause cites this file.
 -- The start, the end and the step that a range is made of.
 use Rattle.std.specs.Prelude.{ℤ, pos, List, [], ◌∷◌, Option, Some, None}
 use Rattle.py_model.specs.Faults.{wrong_number}

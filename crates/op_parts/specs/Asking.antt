@@ -1,3 +1,4 @@
+-- No public clause cites this file.
 -- Effects that differ in what was asked and fetched alone (this project's profile), and plans whose askings are answered.
 use Rattle.std.specs.Prelude.{◌≡◌}
 pub use Rattle.op_devices.specs.Asking.{Known, answered_by}

@@ -1,3 +1,4 @@
+-- No public clause cites this file.
 -- Files that are opened over what is held of a run (this project's profile).
 use Rattle.std.specs.Prelude.{ℕ, Bool, true, false, Option, Some, None, Result, Ok, Err}
 use Rattle.std.specs.Option.{is_some}

@@ -1,3 +1,4 @@
+-- No public clause cites this file.
 -- Operations that ask, with their askings answered (this project's profile).
 use Rattle.std.specs.Prelude.{ℕ, Bool, true, false, List, Option, Some, None, Result}
 use Rattle.capture.specs.declared.answer.Ask.{Ask as Question}

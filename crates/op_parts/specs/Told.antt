@@ -1,3 +1,4 @@
+-- No public clause cites this file.
 -- What is told of an operation, and what was found at a path (this project's profile).
 use Rattle.std.specs.Prelude.{◌≡◌, ◌⊎◌, ℕ, List, Option, Some, None, IsSome}
 use Rattle.object_store.specs.Store.{StoreView, file_at as held_file}

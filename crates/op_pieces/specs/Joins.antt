@@ -1,3 +1,4 @@
+-- No public clause cites this file.
 -- Texts with another between them.
 use Rattle.std.specs.Prelude.{ℕ, Bool, true, false, List, [], ◌∷◌, ◌++◌}
 use Rattle.py_model.specs.Texts.{joined_by}

@@ -1,3 +1,4 @@
+-- No public clause cites this file.
 -- What stands between items.
 use Rattle.std.specs.Prelude.{ℕ, Bool, true, false, List, [], codes}
 

@@ -1,3 +1,4 @@
+-- No public clause cites this file.
 -- Texts that are made and put behind values, and the words of a text.
 use Rattle.std.specs.Prelude.{◌≡◌, ℕ, suc, List, [], ◌∷◌, ◌++◌, map, Result, OnOk, if◌then◌else◌}
 use Rattle.op_work.specs.Work.{WorkView, Comes, Extends, is_any, as_is}

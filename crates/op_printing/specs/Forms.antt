@@ -1,3 +1,4 @@
+-- No public clause cites this file.
 -- What is printed of a value at its own level, and what lies inside it.
 use Rattle.std.specs.Prelude.{◌<◌, ◌==◌, ⊤, ℕ, zero, suc, Bool, true, false, List, [], ◌∷◌, ◌++◌, Option, Some, None, length, codes}
 use Rattle.py_model.specs.Classes.{longest_chain, end_of_chain}

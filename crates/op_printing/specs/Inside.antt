@@ -1,3 +1,4 @@
+-- No public clause cites this file.
 -- What lies inside a value, one level deeper.
 use Rattle.std.specs.Prelude.{ℕ, zero, suc, Bool, true, false, List, [], ◌++◌, Option, Some, None, codes}
 use Rattle.py_model.specs.Faults.{too_deep}

@@ -1,3 +1,4 @@
+-- No public clause cites this file.
 -- What is put behind pieces while a plan is followed.
 use Rattle.std.specs.Prelude.{ℕ, List, ◌++◌, Result}
 use Rattle.py_model.specs.Plan.{Plan}

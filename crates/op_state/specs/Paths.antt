@@ -1,3 +1,4 @@
+-- No public clause cites this file.
 -- Numbers of paths, each once.
 use Rattle.std.specs.Prelude.{ℕ, nat_eq, List, [], ◌∷◌, ◌++◌, if◌then◌else◌}
 use Rattle.std.specs.List.{list_any}

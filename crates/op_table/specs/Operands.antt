@@ -1,3 +1,4 @@
+-- No public clause cites this file.
 -- What the value of an operation says.
 use Rattle.std.specs.Prelude.{ℕ, ℤ, pos, negsuc, Bool, false}
 use Rattle.py_value.specs.declared.value.Value.{Value}

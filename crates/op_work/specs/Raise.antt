@@ -1,3 +1,4 @@
+-- No public clause cites this file.
 -- What a raised exception sets (this project's profile).
 use Rattle.std.specs.Prelude.{ℕ, [], ◌∷◌, Some}
 use Rattle.py_model.specs.Plan.{Writes, write, done}

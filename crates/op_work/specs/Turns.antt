@@ -1,3 +1,4 @@
+-- No public clause cites this file.
 -- How a plan turns into another while it is followed, as in a loop (this project's profile).
 use Rattle.py_model.specs.Plan.{Plan}
 use Rattle.py_model.specs.Store.{RunStore}

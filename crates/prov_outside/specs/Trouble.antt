@@ -1,3 +1,4 @@
+-- No public clause cites this file.
 -- The text of a refusal (this project's profile).
 use Rattle.std.specs.Prelude.{ℕ, List, codes}
 use Rattle.prov_outside.specs.declared.trouble.Trouble.{Trouble}

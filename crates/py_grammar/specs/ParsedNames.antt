@@ -1,3 +1,4 @@
+-- No public clause cites this file.
 -- What the parser answers of names in a row, parameters and targets on a line. No public clause speaks of it.
 use Rattle.std.specs.Prelude.{◌≡◌, ⊤, ◌⊎◌, ℕ, ◌<◌, ◌≤◌, max, true, false, List, [], ◌∷◌, ◌++◌, map, Some}
 use Rattle.py_lines.specs.declared.parts.Token.{Token}

@@ -1,3 +1,4 @@
+-- No public clause cites this file.
 -- What stands around a statement, and tasks, with other byte spans and nothing else changed.
 use Rattle.std.specs.Option.{option_map}
 use Rattle.prov_base.specs.declared.place.Span.{Span}

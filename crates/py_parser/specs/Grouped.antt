@@ -1,3 +1,4 @@
+-- No public clause cites this file.
 -- The statements that rows spell: the lines of one statement put together. No public clause speaks of it.
 use Rattle.std.specs.Prelude.{[], Option, Some, None}
 use Rattle.py_lines.specs.declared.parts.Line.{Line}

@@ -1,3 +1,4 @@
+-- No public clause cites this file.
 -- The syntax tree of rows, as it grows line by line. No public clause speaks of it.
 use Rattle.std.specs.Prelude.{ℕ, ◌+◌, List, [], ◌∷◌, ◌++◌, Option, Some, None, if◌then◌else◌}
 use Rattle.py_lines.specs.declared.parts.Token.{Token}

@@ -1,3 +1,4 @@
+-- No public clause cites this file.
 -- What a list of statements is after one was put behind it.
 use Rattle.std.specs.Prelude.{◌≡◌, List, [], ◌∷◌, ◌++◌}
 use Rattle.py_tree.specs.declared.stmt.Stmt.{Stmt}

@@ -1,3 +1,4 @@
+-- No public clause cites this file.
 -- What the program's search for a statement gives, read on the pure tree.
 use Rattle.std.specs.Prelude.{option_map}
 use Rattle.py_tree.specs.declared.owners.Around.{Around as AroundRefs}

@@ -1,3 +1,4 @@
+-- No public clause cites this file.
 -- What a walk that numbers statements has done at its end.
 use Rattle.std.specs.Prelude.{◌≡◌, ℕ, ◌+◌}
 

@@ -1,3 +1,4 @@
+-- No public clause cites this file.
 -- The texts of the faults of keys (this project's profile).
 use Rattle.std.specs.Prelude.{ℕ, List, codes}
 use Rattle.py_value.specs.declared.key.KeyFault.{KeyFault}

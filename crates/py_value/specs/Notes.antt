@@ -1,3 +1,4 @@
+-- No public clause cites this file.
 -- What a run keeps of its tuples as keys (this project's profile).
 use Rattle.std.specs.Prelude.{◌≡◌, ℕ, ◌≤◌, ⊤, List, [], ◌∷◌, length, slice_get, Some}
 use Rattle.py_value.specs.declared.value.Value.{Value}

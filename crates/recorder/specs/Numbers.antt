@@ -1,3 +1,4 @@
+-- No public clause cites this file.
 -- What it is that something was named, and is written with numbers. It is the proof's means; no clause of the recorder speaks of it.
 use Rattle.std.specs.Prelude.{◌≡◌, ℕ, List, [], ◌∷◌, ◌++◌, map, slice_get, Option, Some}
 use Rattle.std.specs.Option.{option_map, option_and_then}

@@ -1,3 +1,4 @@
+-- No public clause cites this file.
 -- What it is that the parts of a moment were named, and are written with numbers. It is the proof's means.
 use Rattle.std.specs.Prelude.{◌≡◌, ℕ, List, ◌∷◌, Option, Some, None, ⊤}
 use Rattle.std.specs.Option.{option_map}

@@ -1,3 +1,4 @@
+-- No public clause cites this file.
 -- What one moment knows of the tuples that it has walked. It is the proof's means; no clause of the recorder speaks of it.
 use Rattle.std.specs.Prelude.{◌≡◌, ℕ, nat_eq, List, Option, Some}
 use Rattle.std.specs.Map.{lookup}

@@ -1,3 +1,4 @@
+-- No public clause cites this file.
 -- How a pool lays out its items. No public clause cites this module.
 use Rattle.std.specs.Prelude.{◌≡◌, ℕ, ◌-◌, ◌<◌, ◌≤◌, min, max, List, [], ◌∷◌, ◌++◌, take, length, map, replicate, slice_index_or, sum, Vec, vec_items, vec_len, vec_capacity}
 use Rattle.std.specs.List.{flat_map}

@@ -1,3 +1,4 @@
+-- No public clause cites this file.
 -- What a pool ends as, where a `&mut` to one of its items is returned.
 use Rattle.std.specs.Prelude.{ℕ}
 use Rattle.std.specs.Borrow.{Lends, Fml, RattleType, MutBor}

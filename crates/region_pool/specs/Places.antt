@@ -1,3 +1,4 @@
+-- No public clause cites this file.
 -- Where an item lies. Chunk k, counted from 0, has room for 2 ^ k items: one item more than all chunks before it.
 use Rattle.std.specs.Prelude.{◌≡◌, ℕ, zero, suc, ◌+◌, ◌^◌, ◌<◌, List, [], ◌∷◌, ◌++◌, sum}
 

@@ -1,3 +1,4 @@
+-- No public clause cites this file.
 -- What a contract sees of a pool.
 use Rattle.std.specs.Prelude.{ℕ, List, slice_set, refl}
 use Rattle.std.specs.Coded.{Coded, code_by, coded×, coded_ℕ, coded_list}

@@ -1,3 +1,4 @@
+-- No public clause cites this file.
 -- What it is that something new is put behind others.
 use Rattle.std.specs.Prelude.{◌≡◌, Bool, true, false, List, [], ◌∷◌, ◌++◌, Contains}
 

@@ -1,3 +1,4 @@
+-- No public clause cites this file.
 -- How a row changes what rows leave. It is the proof's means; no public clause speaks of it.
 use Rattle.std.specs.Prelude.{◌≡◌, ◌+◌, Bool, true, false, [], ◌∷◌, ◌++◌, length}
 use Rattle.trace_rows.specs.declared.row.Row.{Row}

@@ -1,3 +1,4 @@
+-- No public clause cites this file.
 -- How deep tuples stand inside one another in a key. It is the proof's means; no public clause speaks of it.
 use Rattle.std.specs.Prelude.{◌≡◌, ⊤, ℕ, ◌+◌, ◌≤◌, max, nat_le, nat_lt, Bool, true, false, List, [], ◌∷◌, length, slice_get, unwrap_or, Some, if◌then◌else◌}
 use Rattle.py_value.specs.declared.value.Value.{Value}

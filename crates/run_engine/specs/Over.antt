@@ -1,3 +1,4 @@
+-- No public clause cites this file.
 -- A run that is over, by what is held at its end (this project's profile).
 use Rattle.std.specs.Prelude.{◌≡◌, ℕ, ⊤, map, Result, Ok, Err}
 use Rattle.capture.specs.declared.ended.Ended.{Ended as EndedRun}

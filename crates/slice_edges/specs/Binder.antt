@@ -1,3 +1,4 @@
+-- No public clause cites this file.
 -- Whether a statement stands in a function.
 use Rattle.std.specs.Prelude.{ℕ, ◌==◌, Bool, false, Option, Some, None}
 

@@ -1,3 +1,4 @@
+-- No public clause cites this file.
 -- What is open, innermost first and without times, and which statements it tells.
 use Rattle.std.specs.Prelude.{◌≡◌, ℕ, List, [], ◌∷◌, Option, Some, None, ⊤}
 use Rattle.py_model.specs.Going.{Open, a_statement, an_activation}

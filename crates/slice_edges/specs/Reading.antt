@@ -1,3 +1,4 @@
+-- No public clause cites this file.
 -- Which statements the reads of a row ask for, where texts and locations have numbers.
 use Rattle.std.specs.Prelude.{ℕ, zero, suc, ◌==◌, ◌&&◌, Bool, false, List, [], ◌∷◌, slice_get, unwrap_or, Option, Some, None}
 use Rattle.std.specs.List.{list_any}

@@ -1,3 +1,4 @@
+-- No public clause cites this file.
 -- Which statements of a script a set may have: those whose owner it has.
 use Rattle.std.specs.Prelude.{◌≡◌, Bool, true, ⊤}
 use Rattle.py_tree.specs.Tree.{StmtTree, FormTree, SuiteTree, BranchesTree, ElseTree, HandlersTree, one_stmt, if_form, while_form, for_form, try_form, with_form, def_form, class_form, end_suite, more_suite, end_branches, more_branches, no_else, else_suite, end_handlers, more_handlers}

@@ -1,3 +1,4 @@
+-- No public clause cites this file.
 -- Rows that end a statement by a jump.
 use Rattle.std.specs.Prelude.{Bool, true, false}
 use Rattle.py_model.specs.declared.moment.How.TheVariants.{Normal, Break, Continue, Return, Raise}

@@ -1,3 +1,4 @@
+-- No public clause cites this file.
 -- How many numbers a set lacks. It is the proof's means; no public clause speaks of it.
 use Rattle.std.specs.Prelude.{ℕ, zero, suc, ◌+◌, Bool, true, false}
 

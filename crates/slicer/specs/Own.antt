@@ -1,3 +1,4 @@
+-- No public clause cites this file.
 -- Whose own place a location is.
 use Rattle.std.specs.Prelude.{ℕ, Bool, true, false, List, slice_get, Option, Some, None, if◌then◌else◌}
 use Rattle.py_value.specs.declared.access.Location.{Location}

@@ -1,3 +1,4 @@
+-- No public clause cites this file.
 -- Lines tied to earlier lines that they need, and the least set of lines closed along these ties.
 use Rattle.std.specs.Prelude.{◌≡◌, ℕ, ◌<◌, Bool, false, List, Option, Some, slice_get, unwrap_or, IsTrue, ◌⊎◌}
 use Rattle.straight_line.specs.Least.{LineSet}

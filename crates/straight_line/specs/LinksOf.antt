@@ -1,3 +1,4 @@
+-- No public clause cites this file.
 -- The links of a script's lines: for each line those to the last earlier binders of the names that it reads.
 use Rattle.std.specs.Prelude.{◌≡◌, ℕ, List, length, Option, Some, None, slice_get, Contains}
 use Rattle.straight_line.specs.Line.{Line}

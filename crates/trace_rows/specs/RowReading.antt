@@ -1,3 +1,4 @@
+-- No public clause cites this file.
 -- Rows, read from the front. It is the proof's means; no public clause speaks of it.
 use Rattle.std.specs.Prelude.{◌≡◌, ℕ, ◌==◌, List, Option, Some, None, Result, Ok, Err, if◌then◌else◌, ⊤}
 use Rattle.prov_base.specs.declared.place.Pos.{Pos}

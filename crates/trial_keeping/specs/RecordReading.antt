@@ -1,3 +1,4 @@
+-- No public clause cites this file.
 -- The items of records, read from the front. It is the proof's means; no public clause speaks of it.
 use Rattle.std.specs.Prelude.{◌≡◌, ℕ, ◌==◌, nat_lt, not, List, [], ◌++◌, length, take, drop, ℤ, Option, Some, None, Result, Ok, Err, if◌then◌else◌, ⊤}
 use Rattle.prov_base.specs.Path.{is_path}

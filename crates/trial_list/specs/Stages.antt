@@ -1,3 +1,4 @@
+-- No public clause cites this file.
 -- Stages of the text. It is the proof's means; no public clause speaks of it.
 use Rattle.std.specs.Prelude.{◌≡◌, ◌*ℤ◌, ℕ, ℤ, pos, List, [], ◌∷◌, ◌++◌, codes}
 use Rattle.std.specs.Fmt.{decimal}

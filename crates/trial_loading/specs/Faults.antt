@@ -1,3 +1,4 @@
+-- No public clause cites this file.
 -- What is amiss of a record, as a fault of its trial (this project's profile).
 use Rattle.prov_base.specs.declared.place.Digest.{Digest}
 use Rattle.trial_tables.specs.declared.damage.Damage.TheVariants.{RecordAt}

@@ -1,3 +1,4 @@
+-- No public clause cites this file.
 -- Pages that were gathered, and what ended that. It is the proof's means; no public clause speaks of it.
 use Rattle.std.specs.Prelude.{◌≡◌, ℕ, ◌<◌, List, length, map, Option, Some, None, Result, Ok, Err, ⊤}
 use Rattle.keeper.specs.Tables.{TablesView}

@@ -1,3 +1,4 @@
+-- No public clause cites this file.
 -- Where rows stand on pages, and which of them may not stand there. It is the proof's means; no public clause speaks of it.
 use Rattle.std.specs.Prelude.{◌≡◌, ℕ, ◌+◌, ◌-◌, ◌≤◌, ltb, List, [], ◌∷◌, ◌++◌, length, map, take, drop, Option, Some, None, Result, Ok, Err, if◌then◌else◌, ⊤}
 use Rattle.trace_rows.specs.declared.row.Row.{Row}

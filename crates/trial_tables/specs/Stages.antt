@@ -1,3 +1,4 @@
+-- No public clause cites this file.
 -- What a step of writing a trial does to what a keeper tells (this project's profile).
 use Rattle.std.specs.Prelude.{◌≡◌, ℕ, ◌≤◌, Result, Ok, Err, None}
 use Rattle.keeper.specs.Keeping.{KeeperView}
