@@ -1,7 +1,7 @@
 #!/usr/bin/env python3
-"""Writes runs of scripts as theorems that hold by computation: crates/py_vectors/proofs.
+"""Writes runs of scripts as theorems that hold by computation: crates/model_runs/proofs.
 
-    python3 tools/run_vectors.py VECTORS tools/own_runs.json crates/py_vectors/proofs
+    python3 tools/run_vectors.py VECTORS tools/own_runs.json crates/model_runs/proofs
 
 VECTORS is a file of scripts with what is expected of them, worked out apart from this program: a list `scripts`, each with `name`,
 `script`, `path`, `arguments`, `budget`, `files`, `clock`, `words`, `lines`, and `closing`, `output`, `steps`, `finals` and `pages1`,
@@ -418,7 +418,7 @@ use Rattle.py_model.specs.Capture.{Capture, opening_in}
 use Rattle.py_model.specs.Meaning.{Run, run, level, finished, uncaught, out_of_steps}
 use Rattle.py_model.specs.Moment.{Moment, begins, does, enters, leaves, ends, normal_end, break_end, continue_end, return_end, raise_end}
 use Rattle.py_model.specs.Plan.{value, raised, at_end, time, word, line, number, random_word, a_line, no_line, failed, found_bytes, absent, too_large, found_failed}
-use Rattle.py_vectors.specs.Words.{place, no_span, silent, summary, endings, evaluated, kept, depends, replayed}
+use Rattle.model_runs.specs.Words.{place, no_span, silent, summary, endings, evaluated, kept, depends, replayed}
 use Rattle.slice_law.specs.Edges.{edge, by_data, by_name, by_control, by_jump}
 '''
 
