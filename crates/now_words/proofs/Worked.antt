@@ -1,7 +1,7 @@
 -- Worked rows of the definitions, each found by computation.
 use Rattle.std.proofs.Common.{◌≡◌, ℕ, List, [], ◌∷◌, codes, Option, Some, None, refl}
 use Rattle.now_words.specs.Command.{Command, cut, run_bare, run_kept, reads, command_of}
-use Rattle.now_words.specs.declared.command.Query.TheVariants.{List as list_query}
+use Rattle.now_words.specs.declared.command.Query.TheVariants.{List as list_query, Show}
 
 abbrev file : List ℕ
 file = codes "s.py"
@@ -144,3 +144,33 @@ list_with_option = refl
 
 list_with_dashes_twice : command_of (codes "list" ∷ codes "--" ∷ codes "--" ∷ []) ≡ None
 list_with_dashes_twice = refl
+
+show_one : command_of (codes "show" ∷ codes "1" ∷ []) ≡ Some (reads (Show 1))
+show_one = refl
+
+show_leading_zeros : command_of (codes "show" ∷ codes "0042" ∷ []) ≡ Some (reads (Show 42))
+show_leading_zeros = refl
+
+show_behind_dashes : command_of (codes "show" ∷ codes "--" ∷ codes "4294967295" ∷ []) ≡ Some (reads (Show 4294967295))
+show_behind_dashes = refl
+
+show_before_dashes : command_of (codes "show" ∷ codes "7" ∷ codes "--" ∷ []) ≡ Some (reads (Show 7))
+show_before_dashes = refl
+
+show_zero : command_of (codes "show" ∷ codes "0" ∷ []) ≡ None
+show_zero = refl
+
+show_past_greatest : command_of (codes "show" ∷ codes "4294967296" ∷ []) ≡ None
+show_past_greatest = refl
+
+show_nothing : command_of (codes "show" ∷ []) ≡ None
+show_nothing = refl
+
+show_two : command_of (codes "show" ∷ codes "1" ∷ codes "2" ∷ []) ≡ None
+show_two = refl
+
+show_signed : command_of (codes "show" ∷ codes "-1" ∷ []) ≡ None
+show_signed = refl
+
+show_empty : command_of (codes "show" ∷ [] ∷ []) ≡ None
+show_empty = refl

@@ -4,7 +4,7 @@ use Rattle.std.specs.Option.{is_some}
 use Rattle.std.specs.Str.{bytes_eq}
 use Rattle.now_words.specs.Numbers.{number_to}
 use Rattle.now_words.specs.declared.command.Query.{Query}
-use Rattle.now_words.specs.declared.command.Query.TheVariants.{List as list_query}
+use Rattle.now_words.specs.declared.command.Query.TheVariants.{List as list_query, Show}
 
 pub data Command : Type 0 where
   -- the cut of a file at a line
@@ -106,10 +106,26 @@ has_none (Some []) = true
 has_none (Some (word ∷ words)) = false
 has_none None = false
 
--- what a command that reads the store asks for, by its positionals
+-- the one positional, where these words are positionals and there is one
+abbrev pub only_one : Option (List (List ℕ)) → Option (List ℕ)
+only_one (Some (word ∷ [])) = Some word
+only_one (Some []) = None
+only_one (Some (word ∷ other ∷ words)) = None
+only_one None = None
+
+-- `list` has no positional, `show` has one, which is a number from 1
+abbrev pub list_of : List (List ℕ) → Option Query
+list_of [] = Some list_query
+list_of (word ∷ words) = None
+
+abbrev pub show_of : List (List ℕ) → Option Query
+show_of [] = None
+show_of (word ∷ []) = option_map Show (number_to 4294967295 word)
+show_of (word ∷ other ∷ words) = None
+
+-- what a command that reads the store asks for, by its command word and its positionals
 abbrev pub query_of : List ℕ → List (List ℕ) → Option Query
-query_of verb [] = if bytes_eq verb (codes "list") then Some list_query else None
-query_of verb (word ∷ words) = None
+query_of verb given = if bytes_eq verb (codes "list") then list_of given else if bytes_eq verb (codes "show") then show_of given else None
 
 -- a command that reads the store, by its command word and the words behind it
 abbrev pub query_command : List ℕ → List (List ℕ) → Option Command

@@ -6,6 +6,8 @@ use prov_base::Name;
 pub enum Query {
     /// `list`: all trials, by number.
     List,
+    /// `show T`: the trial with this number, from 1.
+    Show(u32),
 }
 
 /// A command. Its file is one of the words as it stands there, which need not be a path.

@@ -21,8 +21,8 @@ pub(crate) struct Reading<'w> {
     arguments: Vec<Name>,
 }
 
-// Whether the word begins with `-` and is not `-` alone.
-fn is_option(word: &[u8]) -> bool
+/// Whether the word begins with `-` and is not `-` alone.
+pub(crate) fn is_option(word: &[u8]) -> bool
     ensures { result ≡ is_option_word word.now }
 {
     match word {
