@@ -6,10 +6,9 @@ use Rattle.std.proofs.lemmas.Option.{same_Some}
 use Rattle.std.specs.Option.{option_map}
 use Rattle.std.specs.Prelude.{IsSome, IsTrue}
 use Rattle.prov_base.specs.Path.{is_path}
-use Rattle.now_top.proofs.OneMeaning.{one_reply}
 use Rattle.now_words.specs.Command.{Command, cut, run_bare, run_kept, reads, command_of}
 use Rattle.now_words.specs.declared.command.Query.{Query}
-use Rattle.now_words.specs.declared.command.Query.TheVariants.{List as list_query}
+use Rattle.now_words.specs.declared.command.Query.TheVariants.{List as list_query, Show}
 use Rattle.delivery.specs.Ending.{Ending, done, uncaught, usage, refused, nothing_there, console_failed, folder_failed, store_failed, out_of_memory, out_of_steps, collision, store_full, damaged_trial, status_of, closing_line, tells_of_store}
 use Rattle.delivery.specs.Ends.{Ends, as_planned, by_console as by_planned_console, by_folder as by_planned_folder, no_memory as lacked_memory, GetsPrefixes}
 use Rattle.delivery.specs.PutsAll.{OutFile}
@@ -34,7 +33,7 @@ use Rattle.now_top.specs.CutCommand as cutting
 use Rattle.now_top.specs.Means.{MeansCommand, file_of}
 use Rattle.now_top.specs.Replies.{Comes, meant, unread, store_unread, untold, no_memory as lacks_memory, Prepares, Replies}
 use Rattle.now_top.specs.Seen.{Seen, told_by}
-use Rattle.now_top.specs.Reply.{Reply}
+use Rattle.now_top.specs.Reply.{Reply, well_kept, not_there, amiss}
 use Rattle.now_top.specs.World.{World, Plan, closing, StandsAt}
 
 -- what is told goes through what is told between
@@ -164,6 +163,9 @@ not_told_in command query tables word none told = false≢true (subst (λ (t : O
 -- no reply tells of a fault of the store
 reply_is_fine : (query : Query) (tables : TablesView) (plan : Plan) → Reply query tables plan → tells_of_store plan.ending ≡ false
 reply_is_fine list_query tables plan is = ap (λ (p : Plan). tells_of_store p.ending) is
+reply_is_fine (Show number) tables plan (well_kept trial loaded) = refl
+reply_is_fine (Show number) tables plan (not_there none) = refl
+reply_is_fine (Show number) tables plan (amiss damage is) = refl
 
 module _ (words : List (List ℕ)) (before after : Seen) (was is : Stored) (status : ℕ) (so : Replies words before after was is status) where
   abbrev command : Option Command
@@ -265,7 +267,7 @@ module _ (words : List (List ℕ)) (before after : Seen) (was is : Stored) (stat
     completes_by made plan (meant one same is) fails means ends = by_way plan.ending (subst (λ (p : Plan). Ends p.ending so.ran.faults.put after.faults.put so.ran.faults.write after.faults.write status) (one_plan made plan is means) ends)
     completes_by made plan (unread one word path rose un) fails means ends = by_unread (file_of one) plan.ending (source_rose rose) ends
     completes_by made plan (store_unread query word same un) fails means ends = by_fault plan.ending (fails query word refl) ends
-    completes_by made plan (untold query one word none same un) fails means ends = absurd (no_meaning query word none plan means)
+    completes_by made plan (untold query one word none may same un) fails means ends = absurd (no_meaning query word none plan means)
     completes_by made plan (lacks_memory same) fails means ends = by_lack plan.ending ends
 
     -- by what came of the keeping
@@ -335,7 +337,7 @@ module _ (words : List (List ℕ)) (before after : Seen) (was is : Stored) (stat
   meant_by made (meant one same is) told seven quiet room = is
   meant_by made (unread one word path rose un) told seven quiet room = absurd (quiet (source_rose rose))
   meant_by made (store_unread query word same un) told seven quiet room = absurd (seven query word refl)
-  meant_by made (untold query one word none same un) told seven quiet room = absurd (not_told_in command query tables word none told)
+  meant_by made (untold query one word none may same un) told seven quiet room = absurd (not_told_in command query tables word none told)
   meant_by made (lacks_memory same) told seven quiet room = absurd (room refl)
 
   pub whole_so : IsTold command tables → (Rose before.faults.source after.faults.source → ⊥) → (Rose was.faults is.faults → ⊥) → (status ≡ 8 → ⊥) → (status ≡ 10 → ⊥) → (status ≡ 13 → ⊥)
@@ -359,7 +361,7 @@ module _ (words : List (List ℕ)) (before after : Seen) (was is : Stored) (stat
   meant_at made (meant one same is) told seven six room = is
   meant_at made (unread one word path rose un) told seven six room = absurd (six refl)
   meant_at made (store_unread query word same un) told seven six room = absurd (seven refl)
-  meant_at made (untold query one word none same un) told seven six room = absurd (not_told_in command query tables word none told)
+  meant_at made (untold query one word none may same un) told seven six room = absurd (not_told_in command query tables word none told)
   meant_at made (lacks_memory same) told seven six room = absurd (room refl)
 
   -- a status that tells of no fault and of no lack of memory is the planned one
@@ -503,7 +505,7 @@ module _ (words : List (List ℕ)) (before after : Seen) (was is : Stored) (stat
       inl means.1
   planned_by query told made word is_told (unread one other path rose un) = absurd (no_file query one (sym other ∙ word) path)
   planned_by query told made word is_told (store_unread one other same un) = inr (inl refl)
-  planned_by query told made word is_told (untold one text other none same un) = absurd (none_told told (sym none ∙ is_told))
+  planned_by query told made word is_told (untold one plan other none may same un) = absurd (none_told told (sym none ∙ is_told))
   planned_by query told made word is_told (lacks_memory same) = inr (inr refl)
 
   -- a question's plan stays as it was made
@@ -553,20 +555,20 @@ module _ (words : List (List ℕ)) (before after : Seen) (was is : Stored) (stat
   }
 
   -- without a fault of the console, a put or the store the status is that of the reply, or 8
-  ends_by : (query : Query) (told : TablesView) (plan : Plan) → Reply query told plan → IsPlanned query told so.plan → (so.plan ≡ closing store_failed → Rose was.faults is.faults)
+  ends_by : (query : Query) (told : TablesView) (plan : Plan) → ((one other : Plan) → Reply query told one → Reply query told other → one ≡ other) → Reply query told plan → IsPlanned query told so.plan → (so.plan ≡ closing store_failed → Rose was.faults is.faults)
       → Ends so.plan.ending so.ran.faults.put after.faults.put so.ran.faults.write after.faults.write status
       → (Rose before.faults.put after.faults.put → ⊥) → (Rose before.faults.write after.faults.write → ⊥) → (Rose was.faults is.faults → ⊥) → (status ≡ status_of plan.ending) ⊎ (status ≡ 8)
-  ends_by query told plan reply planned fails (by_planned_console store at rose) no_put no_write still = absurd (no_write (write_rose rose))
-  ends_by query told plan reply planned fails (by_planned_folder store at rose) no_put no_write still = absurd (no_put (put_rose rose))
-  ends_by query told plan reply planned fails (lacked_memory at) no_put no_write still = inr at
-  ends_by query told plan reply (inl is_reply) fails (as_planned at) no_put no_write still = inl (at ∙ ap (λ (p : Plan). status_of p.ending) (one_reply query told so.plan plan is_reply reply))
-  ends_by query told plan reply (inr (inl failed)) fails (as_planned at) no_put no_write still = absurd (still (fails failed))
-  ends_by query told plan reply (inr (inr lacks)) fails (as_planned at) no_put no_write still = inr (at ∙ ap (λ (p : Plan). status_of p.ending) lacks)
+  ends_by query told plan one_reply reply planned fails (by_planned_console store at rose) no_put no_write still = absurd (no_write (write_rose rose))
+  ends_by query told plan one_reply reply planned fails (by_planned_folder store at rose) no_put no_write still = absurd (no_put (put_rose rose))
+  ends_by query told plan one_reply reply planned fails (lacked_memory at) no_put no_write still = inr at
+  ends_by query told plan one_reply reply (inl is_reply) fails (as_planned at) no_put no_write still = inl (at ∙ ap (λ (p : Plan). status_of p.ending) (one_reply so.plan plan is_reply reply))
+  ends_by query told plan one_reply reply (inr (inl failed)) fails (as_planned at) no_put no_write still = absurd (still (fails failed))
+  ends_by query told plan one_reply reply (inr (inr lacks)) fails (as_planned at) no_put no_write still = inr (at ∙ ap (λ (p : Plan). status_of p.ending) lacks)
 
-  pub ends_so : (query : Query) (told : TablesView) (plan : Plan) → command ≡ Some (reads query) → tables ≡ Some told → Reply query told plan
+  pub ends_so : (query : Query) (told : TablesView) (plan : Plan) → ((one other : Plan) → Reply query told one → Reply query told other → one ≡ other) → command ≡ Some (reads query) → tables ≡ Some told → Reply query told plan
       → Ends so.plan.ending so.ran.faults.put after.faults.put so.ran.faults.write after.faults.write status
       → (Rose before.faults.put after.faults.put → ⊥) → (Rose before.faults.write after.faults.write → ⊥) → (Rose was.faults is.faults → ⊥) → (status ≡ status_of plan.ending) ⊎ (status ≡ 8)
-  ends_so query told plan word is_told reply ends no_put no_write still = ends_by query told plan reply (planned_so query told word is_told)
+  ends_so query told plan one_reply word is_told reply ends no_put no_write still = ends_by query told plan one_reply reply (planned_so query told word is_told)
       (λ failed. store_rose so.plans.made so.plan prepares.began prepares.clock so.plans.keeps query word (same_plan query so.plans.made so.plan prepares.began prepares.clock word so.plans.keeps ∙ failed)) ends no_put no_write still
 
   -- a status of a run is the planned one

@@ -1,23 +1,36 @@
 -- A command has at most one meaning over a world.
-use Rattle.std.proofs.Common.{◌≡◌, refl, sym, ap, subst, ◌∙◌, ℕ, true, false, List, [], inl, inr, Option, Some, None, arith}
+use Rattle.std.proofs.Common.{◌≡◌, refl, sym, ap, subst, ◌∙◌, ℕ, true, false, List, [], ◌++◌, inl, inr, Option, Some, None, arith}
 use Rattle.std.proofs.lemmas.Option.{same_Some}
 use Rattle.now_words.specs.Command.{Command, cut, run_bare, run_kept, reads}
 use Rattle.now_words.specs.declared.command.Query.{Query}
-use Rattle.now_words.specs.declared.command.Query.TheVariants.{List as list_query}
-use Rattle.delivery.specs.Ending.{Ending, done, refused}
+use Rattle.now_words.specs.declared.command.Query.TheVariants.{List as list_query, Show}
+use Rattle.delivery.specs.Ending.{Ending, done, refused, damaged_trial}
 use Rattle.keeper.specs.Tables.{TablesView}
+use Rattle.keeper.specs.declared.records.Head.{Head}
 use Rattle.delivery.specs.PutsAll.{OutFile}
 use Rattle.prov_base.specs.declared.place.Pos.{Pos}
 use Rattle.prov_outside.specs.Folder.{Files}
 use Rattle.py_model.specs.Capture.{Capture}
+use Rattle.py_tree.specs.Erasure.{script_of}
 use Rattle.py_tree.specs.Tree.{ScriptTree}
 use Rattle.py_parser.specs.Reading.{HasScript, IsRefusedAt}
 use Rattle.straight_line.specs.Slice.{IsSliceOf, BindsNothingAt, IsRefusedAt as IsBadAt}
+use Rattle.trace_rows.specs.declared.row.Row.{Row}
+use Rattle.trial_list.specs.Lines.{start_text}
+use Rattle.trial_loading.specs.Loading.{IsLoaded, IsDamaged, rest_of}
+use Rattle.trial_loading.specs.OneTrial.{AreSame}
+use Rattle.trial_loading.specs.Rest.{RestView}
+use Rattle.trial_loading.specs.declared.trial.Trial.{Trial}
+use Rattle.trial_show.specs.Details.{detail}
+use Rattle.trial_show.specs.Functions.{lines_in}
+use Rattle.trial_show.specs.Shown.{opening_lines, argument_lines, middle_lines, input_lines, output_line, final_lines}
+use Rattle.trial_show.specs.Shows.{show_bytes}
+use Rattle.trial_tables.specs.declared.damage.Damage.{Damage}
 use Rattle.now_top.specs.World.{World, Plan, closing, StandsAt, IsNowhere}
 use Rattle.now_top.specs.CutCommand as cutting
 use Rattle.now_top.specs.RunCommand as running
 use Rattle.now_top.specs.Means.{MeansCommand}
-use Rattle.now_top.specs.Reply.{Reply}
+use Rattle.now_top.specs.Reply.{telling, RepliesTrial, well_kept, not_there, amiss, Reply}
 
 false_is : false ≡ true → ⊥
 false_is is = cc
@@ -93,16 +106,49 @@ module _ (one_script : (text : List ℕ) (a b : ScriptTree) → HasScript text a
   one_run_plan file steps arguments world one other (running.stands text st plan is) (running.stands to also other_plan so) =
       one_runs file text steps arguments world.capture plan other_plan is (subst (λ (t : List ℕ). running.RunsText file t steps arguments world.capture other_plan) (one_text file world.files to text also st) so)
 
--- a question has one reply by the tables
-pub one_reply : (query : Query) (tables : TablesView) (one other : Plan) → Reply query tables one → Reply query tables other → one ≡ other
-one_reply list_query tables one other a b = a ∙ sym b
+-- the lines of a trial by what is read of it
+abbrev bytes_by : ℕ → Head → RestView → List Row → ScriptTree → List ℕ
+bytes_by number head rest rows script =
+    opening_lines number head ++ argument_lines rest.arguments ++ middle_lines head (start_text head.started) (start_text head.ended)
+    ++ input_lines rest.capture.files ++ output_line head rest.output ++ final_lines rest.finals ++ lines_in rows script.body
+
+-- trials that are the same have the same lines
+same_lines : (trial other : Trial) → AreSame trial other → show_bytes trial ≡ show_bytes other
+same_lines trial other same = ap (λ (n : ℕ). bytes_by n trial.head (rest_of trial) trial.rows (script_of trial.script)) same.number
+    ∙ (ap (λ (h : Head). bytes_by other.number h (rest_of trial) trial.rows (script_of trial.script)) same.head
+    ∙ (ap (λ (r : RestView). bytes_by other.number other.head r trial.rows (script_of trial.script)) same.rest
+    ∙ (ap (λ (r : List Row). bytes_by other.number other.head (rest_of other) r (script_of trial.script)) same.rows
+    ∙ ap (λ (s : ScriptTree). bytes_by other.number other.head (rest_of other) other.rows s) same.script)))
+
+no_head : (found : Option Head) (head : Head) → found ≡ None → found ≡ Some head → ⊥
+no_head found head none some = cc
+
+module _ (one_trial : (tables : TablesView) (number : ℕ) (trial other : Trial) → IsLoaded tables number trial → IsLoaded tables number other → AreSame trial other)
+    (one_damage : (tables : TablesView) (number : ℕ) (damage other : Damage) → IsDamaged tables number damage → IsDamaged tables number other → damage ≡ other)
+    (never_both : (tables : TablesView) (number : ℕ) (trial : Trial) (damage : Damage) → IsLoaded tables number trial → IsDamaged tables number damage → ⊥) where
+  one_shown : (tables : TablesView) (number : ℕ) (one other : Plan) → RepliesTrial tables number one → RepliesTrial tables number other → one ≡ other
+  one_shown tables number one other (well_kept trial loaded) (well_kept to also) = ap telling (same_lines trial to (one_trial tables number trial to loaded also))
+  one_shown tables number one other (well_kept trial loaded) (not_there none) = absurd (no_head _ trial.head none loaded.head_is)
+  one_shown tables number one other (well_kept trial loaded) (amiss damage is) = absurd (never_both tables number trial damage loaded is)
+  one_shown tables number one other (not_there none) (well_kept trial loaded) = absurd (no_head _ trial.head none loaded.head_is)
+  one_shown tables number one other (not_there none) (not_there also) = refl
+  one_shown tables number one other (not_there none) (amiss damage is) = absurd (no_head _ is.head none is.head_is)
+  one_shown tables number one other (amiss damage is) (well_kept trial loaded) = absurd (never_both tables number trial damage loaded is)
+  one_shown tables number one other (amiss damage is) (not_there none) = absurd (no_head _ is.head none is.head_is)
+  one_shown tables number one other (amiss damage is) (amiss to so) = ap (λ (d : Damage). closing (damaged_trial number (detail d))) (one_damage tables number damage to is so)
+
+  -- a question has one reply by the tables
+  pub one_reply : (query : Query) (tables : TablesView) (one other : Plan) → Reply query tables one → Reply query tables other → one ≡ other
+  one_reply list_query tables one other a b = a ∙ sym b
+  one_reply (Show number) tables one other a b = one_shown tables number one other a b
 
 pub one_of : ((file : List ℕ) (line : ℕ) (files : Files) (one other : Plan) → cutting.MeansCut file line files one → cutting.MeansCut file line files other → one ≡ other)
     → ((file : List ℕ) (steps : ℕ) (arguments : List (List ℕ)) (world : World) (one other : Plan) → running.MeansRun file steps arguments world one → running.MeansRun file steps arguments world other → one ≡ other)
+    → ((query : Query) (tables : TablesView) (one other : Plan) → Reply query tables one → Reply query tables other → one ≡ other)
     → (command : Option Command) (world : World) (tables : Option TablesView) (one other : Plan) → MeansCommand command world tables one → MeansCommand command world tables other → one ≡ other
-one_of cuts runs None world tables one other a b = a.1 ∙ sym b.1
-one_of cuts runs (Some (cut file line)) world tables one other a b = cuts file line world.files one other a.1 b.1
-one_of cuts runs (Some (run_bare steps file arguments)) world tables one other a b = runs file steps arguments world one other a b
-one_of cuts runs (Some (run_kept steps file arguments)) world tables one other a b = runs file steps arguments world one other a b
-one_of cuts runs (Some (reads query)) world (Some tables) one other a b = one_reply query tables one other a.1 b.1
-one_of cuts runs (Some (reads query)) world None one other a b = absurd a
+one_of cuts runs replies None world tables one other a b = a.1 ∙ sym b.1
+one_of cuts runs replies (Some (cut file line)) world tables one other a b = cuts file line world.files one other a.1 b.1
+one_of cuts runs replies (Some (run_bare steps file arguments)) world tables one other a b = runs file steps arguments world one other a b
+one_of cuts runs replies (Some (run_kept steps file arguments)) world tables one other a b = runs file steps arguments world one other a b
+one_of cuts runs replies (Some (reads query)) world (Some tables) one other a b = replies query tables one other a.1 b.1
+one_of cuts runs replies (Some (reads query)) world None one other a b = absurd a

@@ -231,7 +231,7 @@ same_stops {T = T} may old new same tables = subst (λ (k : T). may k tables ↔
 
 answer_comes : (query : Query) (before : Seen) (files : Files) (tables : Option TablesView) (plan : Plan) → IsAnswer query tables plan → Comes (Some (reads_command query)) before before (still files before) tables plan
 answer_comes query before files tables plan (replied told _ reply) = meant plan refl (unasked before, reply)
-answer_comes query before files tables plan (untold_answer text) = untold query text refl refl refl (unasked before)
+answer_comes query before files tables plan (untold_answer _ may) = untold query plan refl refl may refl (unasked before)
 answer_comes query before files tables plan (failed _) = store_unread query refl refl (unasked before)
 answer_comes query before files tables plan (lacking _) = no_memory refl
 

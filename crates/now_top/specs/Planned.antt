@@ -1,16 +1,17 @@
 -- The plan that the program's own value stands for (this project's profile).
 use Rattle.std.specs.Prelude.{ℕ, List, [], map, Result, Ok, Err}
+use Rattle.std.specs.String.{string_bytes}
 use Rattle.capture.specs.declared.ended.Ended.{Ended}
 use Rattle.capture.specs.declared.ended.RunEnd.{RunEnd}
 use Rattle.capture.specs.declared.ended.RunEnd.TheVariants.{Finished, Raised, Spent}
-use Rattle.delivery.specs.Ending.{Ending, done, uncaught, out_of_steps, ending_of}
+use Rattle.delivery.specs.Ending.{Ending, done, uncaught, out_of_steps, damaged_trial, ending_of}
 use Rattle.delivery.specs.PutsAll.{file_out}
 use Rattle.now_top.specs.Reply.{telling}
 use Rattle.now_top.specs.World.{Plan, closing}
 use Rattle.now_top.specs.Unkept.{ending_without, unkept}
 use Rattle.trial_keeping.specs.declared.fault.TrialFault.{TrialFault}
 use Rattle.now_top.specs.declared.planned.Planned.{Planned}
-use Rattle.now_top.specs.declared.planned.Planned.TheVariants.{Closes, Slice, Text, Ran, Unkept}
+use Rattle.now_top.specs.declared.planned.Planned.TheVariants.{Closes, Slice, Text, DamagedTrial, Ran, Unkept}
 
 -- how the command ends after a run
 abbrev pub ending_told : RunEnd → Ending
@@ -30,5 +31,6 @@ abbrev pub plan_of : Planned → Plan
 plan_of (Closes ending) = closing (ending_of ending)
 plan_of (Slice text) = record { ending = done; text = text.items; files = [] }
 plan_of (Text text) = telling text
+plan_of (DamagedTrial trial words) = closing (damaged_trial trial (string_bytes words))
 plan_of (Ran over) = plan_of_run over
 plan_of (Unkept over fault) = unkept fault (plan_of_run over)

@@ -1,5 +1,5 @@
 -- What the top call says (this project's profile): how its devices go from one stage of a command to the next, and why the plan that is delivered is that of the words.
-use Rattle.std.specs.Prelude.{◌≡◌, ℕ, List, [], Option, Some, None, IsTrue}
+use Rattle.std.specs.Prelude.{◌≡◌, ℕ, List, Option, Some, None, IsTrue}
 use Rattle.answer_source.specs.Live.{IsCaptureOf}
 use Rattle.now_words.specs.Command.{Command, reads, command_of}
 use Rattle.now_words.specs.declared.command.Query.{Query}
@@ -13,18 +13,18 @@ use Rattle.keeper.specs.Tables.{TablesView}
 use Rattle.now_top.specs.Kept.{Clock, tables_told, Asks, IsClockOf, Stored, Keeps, StopsBy}
 use Rattle.now_top.specs.Means.{MeansCommand, file_of}
 use Rattle.now_top.specs.Reading.{Agrees}
-use Rattle.now_top.specs.Reply.{telling}
+use Rattle.now_top.specs.Reply.{MayReply}
 use Rattle.now_top.specs.Seen.{Seen, told_by, OnlyReads, Delivers}
 
 -- Why a plan is made, from what was seen before and after the reading of FILE: the command means it; or FILE, which is a path, could not be read, and the
 -- folder counted that; or the store could not be read; or memory ran out, and nothing but a closing line is planned. Over a store that does not tell its tables
--- what is read of it is some text, with no closing line and status 0.
+-- it is a reply that may be given to the question.
 pub data Comes (command : Option Command) (before read : Seen) (world : World) (tables : Option TablesView) : Plan → Type 0 where
   meant : (plan : Plan) → read.faults.source ≡ before.faults.source → MeansCommand command world tables plan → Comes command before read world tables plan
   unread : (one : Command) → command ≡ Some one → IsTrue (is_path (file_of one)) → read.faults.source ≡ one_more before.faults.source → IsUnasked world.capture
       → Comes command before read world tables (closing (folder_failed (file_of one)))
   store_unread : (query : Query) → command ≡ Some (reads query) → read.faults.source ≡ before.faults.source → IsUnasked world.capture → Comes command before read world tables (closing store_failed)
-  untold : (query : Query) (text : List ℕ) → command ≡ Some (reads query) → tables ≡ None → read.faults.source ≡ before.faults.source → IsUnasked world.capture → Comes command before read world tables (telling text)
+  untold : (query : Query) (plan : Plan) → command ≡ Some (reads query) → tables ≡ None → MayReply query plan → read.faults.source ≡ before.faults.source → IsUnasked world.capture → Comes command before read world tables plan
   no_memory : read.faults.source ≡ before.faults.source → Comes command before read world tables (closing out_of_memory)
 
 -- A plan is made: FILE is read, and then its script is run, or nothing else is done. The world has the files of the folder, where it tells

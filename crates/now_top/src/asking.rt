@@ -1,16 +1,20 @@
 // What is read of the store of trials.
 ghost use Rattle.std.specs.Prelude.{◌≡◌, false};
-ghost use Rattle.now_top.specs.Asking.{AnswersQuery};
+ghost use Rattle.now_words.specs.declared.command.Query.TheVariants.{List as list_query, Show};
+ghost use Rattle.now_top.specs.Asking.{AnswersQuery, IsPlanOfDamage, IsPlanOfTrial};
 ghost use Rattle.now_top.specs.Kept.{stored};
 ghost use Rattle.now_top.specs.Planned.{plan_of, plan_of_text};
 
 use crate::planned::{Planned, ending_without};
+use delivery::Ending;
 use keeper::Keeper;
 use now_words::Query;
 use prov_base::Bytes;
 use std::alloc::Global;
 use trial_keeping::TrialFault;
 use trial_list::list_text;
+use trial_show::{detail_text, show_text};
+use trial_tables::Damage;
 
 /// What a text that was read of the store comes to.
 fn planned_text<'w>(text: Result<Bytes, TrialFault>) -> Planned<'w>
@@ -22,6 +26,51 @@ fn planned_text<'w>(text: Result<Bytes, TrialFault>) -> Planned<'w>
     }
 }
 
+/// What a trial comes to of which this is amiss first.
+fn planned_damage<'w>(alloc: Global, number: u32, damage: Damage) -> Planned<'w>
+    ensures { IsPlanOfDamage number damage (plan_of result) }
+{
+    match detail_text(alloc, damage) {
+        Ok(words) => Planned::DamagedTrial(number, words),
+        Err(_) => Planned::Closes(Ending::OutOfMemory),
+    }
+}
+
+/// What the text of a trial comes to, or why there is none.
+fn planned_trial<'w>(alloc: Global, text: Result<Bytes, TrialFault>) -> Planned<'w>
+    ensures { IsPlanOfTrial text (plan_of result) }
+{
+    match text {
+        Ok(text) => Planned::Text(text),
+        Err(TrialFault::NoTrial(_)) => Planned::Closes(Ending::NothingThere),
+        Err(TrialFault::Damaged(number, damage)) => planned_damage(alloc, number, damage),
+        Err(TrialFault::Memory) => Planned::Closes(Ending::OutOfMemory),
+        Err(TrialFault::Keeper) => Planned::Closes(Ending::StoreFailed),
+        Err(TrialFault::Collision { .. }) => Planned::Closes(Ending::StoreFailed),
+        Err(TrialFault::Full) => Planned::Closes(Ending::StoreFailed),
+    }
+}
+
+/// What `list` comes to.
+fn answer_list<'w, K: Keeper>(alloc: Global, keeper: &mut K) -> Planned<'w>
+    requires batch { K.is_open keeper.old ≡ false }
+    ensures answers { AnswersQuery list_query (stored K.told K.faults keeper.old) (stored K.told K.faults keeper.new)
+        (K.may_leave keeper.old) (K.may_leave keeper.new) (plan_of result) }
+    ensures batch { K.is_open keeper.new ≡ false }
+{
+    planned_text(list_text(alloc, keeper))
+}
+
+/// What `show` comes to, of the trial with a number.
+fn answer_show<'w, K: Keeper>(alloc: Global, keeper: &mut K, number: u32) -> Planned<'w>
+    requires batch { K.is_open keeper.old ≡ false }
+    ensures answers { AnswersQuery (Show number) (stored K.told K.faults keeper.old) (stored K.told K.faults keeper.new)
+        (K.may_leave keeper.old) (K.may_leave keeper.new) (plan_of result) }
+    ensures batch { K.is_open keeper.new ≡ false }
+{
+    planned_trial(alloc, show_text(alloc, keeper, number))
+}
+
 /// What a question to the store comes to. Nothing is changed there.
 pub fn answer_query<'w, K: Keeper>(alloc: Global, keeper: &mut K, query: Query) -> Planned<'w>
     requires batch { K.is_open keeper.old ≡ false }
@@ -30,6 +79,7 @@ pub fn answer_query<'w, K: Keeper>(alloc: Global, keeper: &mut K, query: Query) 
     ensures batch { K.is_open keeper.new ≡ false }
 {
     match query {
-        Query::List => planned_text(list_text(alloc, keeper)),
+        Query::List => answer_list(alloc, keeper),
+        Query::Show(number) => answer_show(alloc, keeper, number),
     }
 }

@@ -30,6 +30,17 @@ pub fn deliver_plan<C: Console, F: Folder>(
         Planned::Text(text) => {
             deliver(alloc, console, folder, Ending::Done, text.as_slice(), &[])
         }
+        Planned::DamagedTrial(trial, words) => deliver(
+            alloc,
+            console,
+            folder,
+            Ending::DamagedTrial {
+                trial: *trial,
+                detail: words.as_str(),
+            },
+            &[],
+            &[],
+        ),
         Planned::Ran(over) => deliver(
             alloc,
             console,

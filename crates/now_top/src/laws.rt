@@ -20,6 +20,7 @@ use delivery::{
 };
 use py_parser::one_reading;
 use straight_line::one_slice;
+use trial_loading::trials_are_loaded_one_way;
 
 /// The law that a command has at most one meaning over a world and the tables of the store: one ending with one text and the same files, among them the place at which a script is
 /// refused, the slice, what a run comes to, and what is answered out of the store.
@@ -28,6 +29,7 @@ pub fn one_meaning()
 {
     one_slice();
     one_reading();
+    trials_are_loaded_one_way();
 }
 
 /// Completeness: where the words mean a plan, the status is that of its ending, or it tells of a fault. 5, 6 and 7 come where the count of the console, of the
@@ -106,6 +108,7 @@ pub fn replies_by_tables()
         → command_of words ≡ Some (reads query) → tables_told was is ≡ Some tables → (status ≡ 5 → ⊥) → (status ≡ 6 → ⊥) → (status ≡ 7 → ⊥) → (status ≡ 8 → ⊥)
         → RepliesBy query tables before after was is status }
 {
+    trials_are_loaded_one_way();
     no_fault_answered();
     ends_in_one_way();
     no_count_rose();
@@ -117,5 +120,6 @@ pub fn reading_completes()
         → command_of words ≡ Some (reads query) → tables_told was is ≡ Some tables → Reply query tables plan
         → (Rose before.faults.put after.faults.put → ⊥) → (Rose before.faults.write after.faults.write → ⊥) → (Rose was.faults is.faults → ⊥) → (status ≡ status_of plan.ending) ⊎ (status ≡ 8) }
 {
+    trials_are_loaded_one_way();
     ends_in_one_way();
 }

@@ -4,7 +4,8 @@
 //! count as it begins to what they tell and count as it ends, stage by stage.
 //! - The words are a command by `now_words`, or none. What they mean over a world, the files of the folder and what the devices give, is
 //!   `Means` in `specs/Means.antt`, with a file for each command: `specs/CutCommand.antt`, `specs/RunCommand.antt`. `run` means what `run --bare` means.
-//! - What reads the store means its reply by the tables (`Reply` in `specs/Reply.antt`, a line for each question). The keeper is asked, and its tables stay.
+//! - What reads the store means its reply by the tables (`Reply` in `specs/Reply.antt`, a line for each question): the lines of `list`; the lines of `show`, or that
+//!   there is no such trial, or what is amiss of it first. The keeper is asked, and its tables stay.
 //! - FILE is read only where it is a path. `run` then runs its script over the devices, which are asked what the run asks and no more; without `--bare` the clock is
 //!   asked before it and after it.
 //! - Without `--bare` the run is kept as a trial: that of the script at FILE in what the devices gave (`specs/Kept.antt`). A fault there takes the place of how the

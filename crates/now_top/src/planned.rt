@@ -18,6 +18,8 @@ pub enum Planned<'w> {
     Slice(Vec<u8>),
     /// A text that was read of the store.
     Text(Bytes),
+    /// A trial that is not well kept: its number, and what is amiss of it, in words.
+    DamagedTrial(u32, String),
     /// A run that is over, and kept where it is to be.
     Ran(Ended),
     /// A run that is over and could not be kept.

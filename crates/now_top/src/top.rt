@@ -19,12 +19,12 @@ use std::alloc::Global;
 ///
 /// `cut FILE LINE` reads the straight-line script at FILE and writes it with every line blanked but LINE, counted from 1, and the lines that it needs.
 /// `run [--steps N] FILE [ARG]..` runs the script at FILE within N steps, from 1 to 1,000,000, with these arguments, and keeps the run as a trial; the files that it
-/// opened for writing are put once it is over, and then its output is written. With `--bare` nothing is kept. `list` writes a line for each trial, by number. FILE is a path below the folder, of at most 255
-/// bytes, and a script has at most 262,144 bytes.
+/// opened for writing are put once it is over, and then its output is written. With `--bare` nothing is kept. `list` writes a line for each trial, by number. `show T` writes the
+/// lines of the trial T, and leaves the store as it was. FILE is a path below the folder, of at most 255 bytes, and a script has at most 262,144 bytes.
 ///
 /// The statuses are 0 done, 1 an exception that nothing caught, 2 the words are no command, 3 the script is refused, 4 nothing there. 5 is a console
-/// that failed, 6 a folder that failed, 7 a keeper that failed, 8 out of memory, 9 out of steps, 10 other bytes under the digest of a content, 13 a store that is
-/// full.
+/// that failed, 6 a folder that failed, 7 a keeper that failed, 8 out of memory, 9 out of steps, 10 other bytes under the digest of a content, 11 a trial that is not
+/// well kept, 13 a store that is full.
 pub fn now<C: Console + Drop, F: Folder + Drop, M: ClockAndRandom + Drop, K: Keeper>(
     alloc: Global,
     words: &[String],
