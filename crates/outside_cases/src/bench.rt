@@ -2,7 +2,7 @@
 ghost use Rattle.std.specs.Prelude.{◌≡◌, false, IfOk};
 
 use crate::texts::{bytes_of, halves, number, write_rows};
-use crate::{base, devices, streams};
+use crate::{base, damage, devices, streams};
 use answer_source::Devices;
 use keeper::{Head, Keeper};
 use memory_keeper::{MemoryKeeper, Tables};
@@ -11,17 +11,21 @@ use prov_base::{Bytes, Name};
 use prov_outside::{MemoryClockAndRandom, MemoryConsole, MemoryFolder};
 use std::alloc::{AllocError, Global};
 
-/// The one file of the folder, the numbers of the calls of the console, of the folder and of the store of trials that fail, where 0 is none, and what the clock answers
-/// in each call of the program. Then the words of the calls that are made over the same store before, and whether a call of the program is made twice.
+/// The file of the folder that calls are about, another one beside it if its path is not empty, the numbers of the calls of the console, of the folder and of the store of trials that fail, where 0 is none, and what the clock answers
+/// in each call of the program. Then the words of the calls that are made over the same store before, what is damaged behind them, and whether a call of the program
+/// is made twice.
 #[derive(Drop)]
 pub struct Bench {
     path: String,
     text: Vec<u8>,
+    other_path: String,
+    other_text: Vec<u8>,
     console_fails: u64,
     folder_fails: u64,
     store_fails: u64,
     clock: Vec<i64>,
     before: Vec<String>,
+    damage: String,
     is_twice: bool,
 }
 
@@ -30,11 +34,14 @@ impl Bench {
         Ok(Bench {
             path: String::new(alloc),
             text: Vec::new(alloc),
+            other_path: String::new(alloc),
+            other_text: Vec::new(alloc),
             console_fails: 0,
             folder_fails: 0,
             store_fails: 0,
             clock: vec![in alloc; 5, 8]?,
             before: Vec::new(alloc),
+            damage: String::new(alloc),
             is_twice: false,
         })
     }
@@ -71,6 +78,7 @@ impl Bench {
             "" | "#" => {}
             "path" => self.path = word_of(alloc, words)?,
             "text" => self.text = bytes_of(alloc, words)?,
+            "beside" => self.put_beside(alloc, words)?,
             "repeat" => {
                 let (times, text) = halves(words, ' ');
                 self.repeat(&bytes_of(alloc, text)?, number(times))?;
@@ -84,6 +92,7 @@ impl Bench {
             "store" => self.store_fails = number(words),
             "clock" => self.clock = times_of(alloc, words)?,
             "before" => self.put_before(alloc, words)?,
+            "damage" => self.damage = String::from_str(alloc, words)?,
             "twice" => self.is_twice = number(words) == 1,
             _ => return Ok(false),
         }
@@ -97,6 +106,14 @@ impl Bench {
             return Ok(());
         }
         self.before.push(String::from_str(alloc, words)?)?;
+        Ok(())
+    }
+
+    /// Puts a file beside the other one, its path before a blank; or takes it away where there is no path.
+    fn put_beside(&mut self, alloc: Global, words: &str) -> Result<(), AllocError> {
+        let (path, text) = halves(words, ' ');
+        self.other_path = word_of(alloc, path)?;
+        self.other_text = bytes_of(alloc, text)?;
         Ok(())
     }
 
@@ -125,7 +142,11 @@ impl Bench {
 
     fn folder(&self, alloc: Global) -> Result<MemoryFolder, AllocError> {
         let failing = vec![in alloc; self.folder_fails]?;
-        let files = vec![in alloc; self.file()?]?;
+        let mut files = vec![in alloc; self.file()?]?;
+        if !self.other_path.is_empty() {
+            let name = Name::of(self.other_path.clone()?);
+            files.push((name, Bytes::of(self.other_text.clone()?)))?;
+        }
         Ok(MemoryFolder::of(files, failing))
     }
 
@@ -181,6 +202,7 @@ impl Bench {
         let list = words_of(alloc, words)?;
         let mut keeper = self.keeper(alloc)?;
         self.call_before(alloc, &mut keeper)?;
+        damage::spoil(alloc, &mut keeper, self.damage.as_str())?;
         if self.is_twice {
             let _ = now(alloc, &list, self.devices(alloc)?, &mut keeper);
         }

@@ -6,6 +6,7 @@
 
 mod base;
 mod bench;
+mod damage;
 mod devices;
 mod streams;
 mod texts;
