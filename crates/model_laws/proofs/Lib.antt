@@ -40,3 +40,5 @@ mod Every
 mod Stores
 mod Rules
 mod Runs
+mod Suiting
+mod KeyedRuns

@@ -14,3 +14,4 @@ pub mod TableTexts
 pub mod Flow
 pub mod Defined
 pub mod Knows
+pub mod KeyedRuns

@@ -25,12 +25,18 @@
 //! `specs/Flow.antt` says when values, contents and kinds know only functions and classes at places of a set, and when a plan keeps them so.
 //! [`operations_pass_functions_on`] says it of every operation, [`effects_keep_stores_known`] what it means for stores,
 //! and [`runs_know_definitions_alone`] for whole runs: a function or class in a run is one that the script defines (`specs/Defined.antt`).
+//!
+//! [`operations_suit`]: in a map whose orders have their entries (`IsKeyed` of `object_store`), the accesses of every operation suit it one after the
+//! other, and the map afterwards is again such a map. [`plans_suit_stores`] says so of any plan that is orderly (`specs/Orderly.antt` of `py_model`),
+//! and [`runs_keep_keys_with_entries`] of whole runs.
 #![tactic(auto)]
 
+mod key_laws;
 mod laws;
 mod orders;
 mod origin_laws;
 
+pub use key_laws::{operations_suit, plans_suit_stores, runs_keep_keys_with_entries};
 pub use laws::{
     attributes_do_as_the_table, dicts_are_made, dicts_do_as_the_table, files_do_as_the_table,
     lists_are_read_as_the_table, lists_do_as_the_table, members_are_found, numbers_do_as_the_table,

@@ -1,4 +1,3 @@
-pub mod Suiting
 pub mod GivenEnds
 pub mod WithFile
 pub mod Opens

@@ -12,9 +12,9 @@ ghost use Rattle.py_model.specs.Quiet.{may_ask};
 ghost use Rattle.py_value.specs.Values.{AreNamed};
 
 use crate::devices::perform_given;
-use crate::laws::operations_suit;
 use answer_source::Source;
 use capture::Given;
+use model_laws::operations_suit;
 use op_devices::asking;
 use op_state::{Held, holding_is_seen};
 use prov_base::{Memory, Pos};

@@ -9,21 +9,18 @@
 //! - `perform_open`: a path that the run did not open for writing is fetched, and what has bytes there is put into the state.
 //! - `specs/Asking.antt` has a plan with its questions answered, and effects that differ in questions alone (`IsLikewise`).
 //!
-//! [`operations_suit`]: in a map whose orders have their entries (`IsKeyed`), the accesses of every operation suit it one after the other, and the map
-//! afterwards is again such a map. [`plans_suit_stores`] says so of any plan that is orderly (`specs/Orderly.antt` of `py_model`). So the doer needs no
+//! `operations_suit` of `model_laws` says that what any operation writes suits a map whose orders have their entries (`IsKeyed`). So the doer needs no
 //! proof for each operation that its writes suit the store, which `Store::perform` of `object_store` requires (`SuitInTurn`). Nothing is required of the
 //! object that an operation makes: what its number held before is written over.
 #![tactic(auto)]
 
 mod asking;
 mod devices;
-mod laws;
 mod naming;
 mod opening;
 mod opening_found;
 mod parts;
 mod performing;
 
-pub use laws::plans_suit_stores;
 pub use parts::Parts;
 pub use performing::perform;

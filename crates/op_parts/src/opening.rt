@@ -13,9 +13,9 @@ ghost use Rattle.py_value.specs.Seen.{bytes_of};
 ghost use Rattle.py_value.specs.Values.{ValuesView, AreNamed};
 
 use crate::asking::done_of;
-use crate::laws::operations_suit;
 use crate::opening_found::{open_found, path_asked};
 use answer_source::Source;
+use model_laws::operations_suit;
 use object_store::store_over_contents;
 use op_state::{Held, holding_is_seen};
 use prov_base::{Memory, Pos};

@@ -7,10 +7,10 @@ ghost use Rattle.py_model.specs.Meaning.{starting};
 ghost use Rattle.py_value.specs.Values.{ValuesView};
 
 use crate::asking::perform_asking;
-use crate::laws::operations_suit;
 use crate::naming::{asks, has_names};
 use crate::opening::perform_open;
 use answer_source::Source;
+use model_laws::operations_suit;
 use object_store::{keys_have_entries, named_stays, plans_suit, store_over_contents};
 use op_state::{Held, holding_is_seen};
 use prov_base::{Memory, Name, Pos};

@@ -25,6 +25,7 @@ use Rattle.trace_rows.specs.declared.row.Row.{Row}
 use Rattle.trace_rows.specs.declared.row.Row.TheVariants.{Text, Tuple, Begin, Do, Enter, Leave, End}
 use Rattle.row_checks.specs.KeptRows.{all_in, text_of, tuple_of, texts_in, tuples_in, view_in}
 use Rattle.row_checks.specs.NamedRows.{NamesAccess, NamesRow, NamesInOrder}
+use Rattle.row_moments.specs.InOrder.{StandInOrder}
 
 pub turned : {A : Type 0} (xs : List A) (x : A) → reverse (xs ++ x ∷ []) ≡ x ∷ reverse xs
 turned xs x = reverse-append xs (x ∷ [])
@@ -91,19 +92,27 @@ tuple_row (Enter call def values accesses ∷ rows) t items at = further (Enter 
 tuple_row (Leave v ∷ rows) t items at = further (Leave v) rows t items refl (tuple_row rows t items at)
 tuple_row (End how ∷ rows) t items at = further (End how) rows t items refl (tuple_row rows t items at)
 
+pub order_in : (rows : List Row) → NamesInOrder rows → StandInOrder (view_in rows)
+order_in rows ordered = record {
+  texts_once = ordered.texts_once;
+  tuples_once = ordered.tuples_once;
+  parts = λ t items at.
+      let found = tuple_row rows t items at in
+      λ i item there. below_more (length (texts_in (take found.at rows))) (length (tuples_in (take found.at rows))) (length (texts_in rows)) t item
+      (front_fewer text_of found.at rows) (omega (arith, found.number)) (ordered.named found.at (Tuple items) found.is i item there);
+}
+
 pub interned_in : (rows : List Row) → NamesInOrder rows → length rows ≤ 4294967296 → AreInterned (view_in rows)
 interned_in rows ordered few =
     let texts = few_in text_of text_of_few rows in
     let tuples = few_in tuple_of tuple_of_few rows in
+    let order = order_in rows ordered in
     record {
-      texts_once = ordered.texts_once;
-      tuples_once = ordered.tuples_once;
+      texts_once = order.texts_once;
+      tuples_once = order.tuples_once;
       texts_few = omega (arith, texts, few);
       tuples_few = omega (arith, tuples, few);
-      parts = λ t items at.
-          let found = tuple_row rows t items at in
-          λ i item there. below_more (length (texts_in (take found.at rows))) (length (tuples_in (take found.at rows))) (length (texts_in rows)) t item
-          (front_fewer text_of found.at rows) (omega (arith, found.number)) (ordered.named found.at (Tuple items) found.is i item there);
+      parts = order.parts;
     }
 
 -- ---- what is named in a table is named in one that has more

@@ -5,7 +5,7 @@
 //!
 //! - [`one_row_tells_one_moment`]: what one row more tells.
 //! - [`rows_in_order_are_interned`]: the texts and tuples of a kept trial are such a table, and each row names what is in it.
-//! - [`texts_of`]: the texts of rows, each at its number, not copied.
+//! - [`texts_of`], [`tuples_of`]: the texts and the tuples of rows, each at its number, not copied.
 //! - [`rows_name_what_stands`]: in the rows of a run no two Text rows and no two Tuple rows are equal, and what a row names stands before it.
 //! - [`rows_nest_as_moments`]: where events nest, as those of a run do (`moments_nest` of `py_model`), their rows nest.
 //! - [`rows_tell_their_moments`]: writing such events as rows and reading them back gives the same events. The rows are at most 2^32, so that numbers
@@ -18,8 +18,10 @@ mod laws;
 mod nesting_laws;
 mod telling_laws;
 mod texts;
+mod tuples;
 
 pub use laws::{one_row_tells_one_moment, rows_in_order_are_interned};
 pub use nesting_laws::{rows_name_what_stands, rows_nest_as_moments};
 pub use telling_laws::rows_tell_their_moments;
 pub use texts::texts_of;
+pub use tuples::tuples_of;

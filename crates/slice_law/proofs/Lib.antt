@@ -1,3 +1,4 @@
 pub mod ClosedSets
 pub mod Reachables
 mod Reaching
+mod MissingItems

@@ -1,5 +1,5 @@
 -- The traversal from a value is complete: it meets each object of the value, and of what stands at the locations of an object that it met.
-use Rattle.std.proofs.Common.{◌≡◌, ℕ, zero, suc, ◌+◌, ◌≤◌, ◌<◌, if◌then◌else◌, Bool, true, false, ◌&&◌, ◌||◌, ◌==◌, List, [], ◌∷◌, ◌++◌, length, slice_get, Option, Some, None, inl, inr, refl, sym, ap, subst, ◌∙◌, arith, eqb-true, eq-eqb}
+use Rattle.std.proofs.Common.{◌≡◌, ℕ, zero, suc, ◌+◌, ◌≤◌, ◌<◌, if◌then◌else◌, Bool, true, false, ◌&&◌, ◌||◌, ◌==◌, List, [], ◌∷◌, ◌++◌, length, slice_get, Option, Some, None, is_some, inl, inr, refl, sym, ap, subst, ◌∙◌, arith, eqb-true, eq-eqb}
 use Rattle.std.specs.Prelude.{⊤, ◌⊎◌}
 use Rattle.std.proofs.lemmas.Bool.{false≢true, and_parts, and_from, eqb-false}
 use Rattle.std.proofs.lemmas.Option.{slice_get_within}
@@ -8,7 +8,8 @@ use Rattle.py_value.specs.KeyOf.{normal}
 use Rattle.py_value.specs.Seen.{SeenLocation, SeenKind, a_list, a_dict, an_instance, a_file, len_at, item_at, entry_at, order_at, offset_at, closed_at}
 use Rattle.py_model.specs.Store.{RunStore, len_of, item_of, entry_of, order_of}
 use Rattle.slice_law.specs.Closed.{IsIn}
-use Rattle.slice_law.specs.Edges.{has_object, Reachable, with_places, from_value, from_parts, from_item, from_entry, from_items, from_entries, from_content, from_object_to}
+use Rattle.slice_law.specs.Edges.{has_object, Reachable, with_places, from_value, from_parts, from_items, from_entries, from_content, from_object_to}
+use Rattle.slice_law.specs.Reached.{AllBefore}
 
 pub in_front : {A : Type 0} (xs ys : List A) (x : A) → IsIn xs x → IsIn (xs ++ ys) x
 in_front [] ys x there = absurd there
@@ -63,10 +64,6 @@ module _ (p q : ℕ → Bool) where
     pub item_more : (v : Option Contents) → item_within p v ≡ true → item_within q v ≡ true
     item_more None is = refl
     item_more (Some v) is = within_more v is
-
-    pub entry_more : (entry : Option (Contents × Contents)) → entry_within p entry ≡ true → entry_within q entry ≡ true
-    entry_more None is = refl
-    entry_more (Some entry) is = within_more entry.1 is
 
   mutual
     pub within_both : (v : Contents) → within p v ≡ true → within q v ≡ true → within (λ o. p o && q o) v ≡ true
@@ -140,10 +137,13 @@ met r o = has_object o r.objects
 
 module _ (store : RunStore) where
   -- of an object all locations that are its own, and all that stands there
+  abbrev pub KeyCovered : Reachable → ℕ → Contents → Option (Contents × Contents) → Type 0
+  KeyCovered r o key None = ⊤
+  KeyCovered r o key (Some entry) = IsIn r.places (entry_at o (normal key)) × (within (met r) key ≡ true) × (within (met r) entry.1 ≡ true)
+
   abbrev pub KeysCovered : Reachable → ℕ → List Contents → Type 0
   KeysCovered r o [] = ⊤
-  KeysCovered r o (key ∷ keys) =
-      IsIn r.places (entry_at o (normal key)) × (within (met r) key ≡ true) × (entry_within (met r) (entry_of store o key) ≡ true) × KeysCovered r o keys
+  KeysCovered r o (key ∷ keys) = KeyCovered r o key (entry_of store o key) × KeysCovered r o keys
 
   pub record ItemCovered (r : Reachable) (o i : ℕ) : Type 0 where
     pub place : IsIn r.places (item_at o i)
@@ -151,7 +151,7 @@ module _ (store : RunStore) where
 
   abbrev pub Covered : Reachable → ℕ → Option SeenKind → Type 0
   Covered r o None = ⊤
-  Covered r o (Some a_list) = IsIn r.places (len_at o) × ((i : ℕ) → i < len_of store o → ItemCovered r o i)
+  Covered r o (Some a_list) = IsIn r.places (len_at o) × ((i : ℕ) → i < len_of store o → AllBefore store o i → ItemCovered r o i)
   Covered r o (Some a_dict) = IsIn r.places (order_at o) × KeysCovered r o (order_of store o)
   Covered r o (Some (an_instance of)) = IsIn r.places (order_at o) × KeysCovered r o (order_of store o)
   Covered r o (Some (a_file path mode)) = IsIn r.places (offset_at o) × IsIn r.places (closed_at o)
@@ -161,21 +161,21 @@ module _ (store : RunStore) where
     pub places : (l : SeenLocation) → IsIn r.places l → IsIn s.places l
     pub objects : (o : ℕ) → met r o ≡ true → met s o ≡ true
 
+  key_grows : (r s : Reachable) → Grows r s → (o : ℕ) (key : Contents) (entry : Option (Contents × Contents)) → KeyCovered r o key entry → KeyCovered s o key entry
+  key_grows r s grows o key None is = tt
+  key_grows r s grows o key (Some entry) is =
+      (grows.places (entry_at o (normal key)) is.0, within_more (met r) (met s) grows.objects key is.1, within_more (met r) (met s) grows.objects entry.1 is.2)
+
   keys_grow : (r s : Reachable) → Grows r s → (o : ℕ) (keys : List Contents) → KeysCovered r o keys → KeysCovered s o keys
   keys_grow r s grows o [] all = tt
-  keys_grow r s grows o (key ∷ keys) all = (
-    grows.places (entry_at o (normal key)) all.0,
-    within_more (met r) (met s) grows.objects key all.1,
-    entry_more (met r) (met s) grows.objects (entry_of store o key) all.2,
-    keys_grow r s grows o keys all.3,
-  )
+  keys_grow r s grows o (key ∷ keys) all = (key_grows r s grows o key (entry_of store o key) all.0, keys_grow r s grows o keys all.1)
 
   item_grows : (r s : Reachable) → Grows r s → (o i : ℕ) → ItemCovered r o i → ItemCovered s o i
   item_grows r s grows o i is = record { place = grows.places (item_at o i) is.place; item = item_more (met r) (met s) grows.objects (item_of store o i) is.item }
 
   covered_grows : (r s : Reachable) → Grows r s → (o : ℕ) (kind : Option SeenKind) → Covered r o kind → Covered s o kind
   covered_grows r s grows o None is = tt
-  covered_grows r s grows o (Some a_list) is = (grows.places (len_at o) is.0, λ i less. item_grows r s grows o i (is.1 i less))
+  covered_grows r s grows o (Some a_list) is = (grows.places (len_at o) is.0, λ i less earlier. item_grows r s grows o i (is.1 i less earlier))
   covered_grows r s grows o (Some a_dict) is = (grows.places (order_at o) is.0, keys_grow r s grows o (order_of store o) is.1)
   covered_grows r s grows o (Some (an_instance of)) is = (grows.places (order_at o) is.0, keys_grow r s grows o (order_of store o) is.1)
   covered_grows r s grows o (Some (a_file path mode)) is = (grows.places (offset_at o) is.0, grows.places (closed_at o) is.1)
@@ -205,12 +205,26 @@ module _ (store : RunStore) where
   placed : (more : List SeenLocation) (r : Reachable) → Step r (with_places more r)
   placed more r = record { grows = record { places = λ l there. in_front r.places more l there; objects = λ o is. is }; covers = λ o is. inl is }
 
-  one_more : (u : Reachable) (o i m : ℕ) → ItemCovered u o i → ((j : ℕ) → suc i ≤ j → j < suc i + m → ItemCovered u o j) → (j : ℕ) → i ≤ j → j < i + suc m → ItemCovered u o j
-  one_more u o i m here later j from_here less = by_test (i == j) refl
+  -- so many items from a place on are covered, up to the first that is missing and with it
+  abbrev AllFrom : ℕ → ℕ → ℕ → Type 0
+  AllFrom o i j = (k : ℕ) → i ≤ k → k < j → is_some (item_of store o k) ≡ true
+
+  abbrev ItemsFrom : Reachable → ℕ → ℕ → ℕ → Type 0
+  ItemsFrom u o i m = (j : ℕ) → i ≤ j → j < i + m → AllFrom o i j → ItemCovered u o j
+
+  one_more : (u : Reachable) (o i m : ℕ) → ItemCovered u o i → ItemsFrom u o (suc i) m → ItemsFrom u o i (suc m)
+  one_more u o i m here later j from_here less earlier = by_test (i == j) refl
     where
       by_test : (b : Bool) → (i == j) ≡ b → ItemCovered u o j
       by_test true is = subst (ItemCovered u o) (eqb-true i j is) here
-      by_test false is = later j (omega (arith, from_here, eqb-false i j is)) (omega (arith, less))
+      by_test false is = later j (omega (arith, from_here, eqb-false i j is)) (omega (arith, less)) (λ k after below. earlier k (omega (arith, after)) below)
+
+  only_here : (u : Reachable) (o i m : ℕ) → item_of store o i ≡ None → ItemCovered u o i → ItemsFrom u o i (suc m)
+  only_here u o i m none here j from_here less earlier = by_test (i == j) refl
+    where
+      by_test : (b : Bool) → (i == j) ≡ b → ItemCovered u o j
+      by_test true is = subst (ItemCovered u o) (eqb-true i j is) here
+      by_test false is = absurd (false≢true (sym (ap (λ (v : Option Contents). is_some v) none) ∙ earlier i (omega arith) (omega (arith, from_here, eqb-false i j is))))
 
   -- so many of the store's objects may be met still
   abbrev HasRoom : ℕ → Reachable → Type 0
@@ -243,45 +257,67 @@ module _ (store : RunStore) where
           let other = parts_met rest s (room_stays n r s one.0 room) in
           (step_then r s t one.0 other.0, and_from (within (met t) first) (parts_within (met t) rest) (within_more (met s) (met t) other.0.grows.objects first one.1) other.1)
 
-    item_met : (v : Option Contents) (r : Reachable) → HasRoom n r → Step r (from_item store from v r) × (item_within (met (from_item store from v r)) v ≡ true)
-    item_met None r room = (still r, refl)
-    item_met (Some v) r room = value_met v r room
+    abbrev after_item : ℕ → ℕ → ℕ → Option Contents → Reachable → Reachable
+    after_item m o i v r = elim v [ None ↦ with_places (item_at o i ∷ []) r | Some x ↦ from_items store from m o (suc i) (from_value store from x (with_places (item_at o i ∷ []) r)) ]
 
-    entry_met : (entry : Option (Contents × Contents)) (r : Reachable) → HasRoom n r → Step r (from_entry store from entry r) × (entry_within (met (from_entry store from entry r)) entry ≡ true)
-    entry_met None r room = (still r, refl)
-    entry_met (Some entry) r room = value_met entry.1 r room
-
-    items_met : (m o i : ℕ) (r : Reachable) → HasRoom n r → Step r (from_items store from m o i r) × ((j : ℕ) → i ≤ j → j < i + m → ItemCovered (from_items store from m o i r) o j)
-    items_met zero o i r room = (still r, λ j from_here less. absurd (omega (arith, from_here, less)))
-    items_met (suc m) o i r room =
+    item_here : (m o i : ℕ) (v : Option Contents) (r : Reachable) → item_of store o i ≡ v → HasRoom n r
+        → ((s : Reachable) → HasRoom n s → Step s (from_items store from m o (suc i) s) × ItemsFrom (from_items store from m o (suc i) s) o (suc i) m)
+        → Step r (after_item m o i v r) × ItemsFrom (after_item m o i v r) o i (suc m)
+    item_here m o i None r is room rest =
+        let a = with_places (item_at o i ∷ []) r in (
+          placed (item_at o i ∷ []) r,
+          only_here a o i m is (record { place = in_behind r.places (item_at o i ∷ []) (item_at o i) (inl refl); item = ap (item_within (met a)) is }),
+        )
+    item_here m o i (Some v) r is room rest =
         let a = with_places (item_at o i ∷ []) r in
-        let s = from_item store from (item_of store o i) a in
+        let s = from_value store from v a in
         let u = from_items store from m o (suc i) s in
-        let there = item_met (item_of store o i) a room in
-        let rest = items_met m o (suc i) s (room_stays n a s there.0 room) in (
-          step_then r s u (step_then r a s (placed (item_at o i ∷ []) r) there.0) rest.0,
-          one_more u o i m (item_grows s u rest.0.grows o i (record { place = there.0.grows.places (item_at o i) (in_behind r.places (item_at o i ∷ []) (item_at o i) (inl refl)); item = there.1 })) rest.1,
+        let there = value_met v a room in
+        let later = rest s (room_stays n a s there.0 room) in (
+          step_then r s u (step_then r a s (placed (item_at o i ∷ []) r) there.0) later.0,
+          one_more u o i m (item_grows s u later.0.grows o i (record {
+            place = there.0.grows.places (item_at o i) (in_behind r.places (item_at o i ∷ []) (item_at o i) (inl refl));
+            item = ap (item_within (met s)) is ∙ there.1;
+          })) later.1,
+        )
+
+    items_met : (m o i : ℕ) (r : Reachable) → HasRoom n r → Step r (from_items store from m o i r) × ItemsFrom (from_items store from m o i r) o i m
+    items_met zero o i r room = (still r, λ j from_here less earlier. absurd (omega (arith, from_here, less)))
+    items_met (suc m) o i r room = item_here m o i (item_of store o i) r refl room (λ s space. items_met m o (suc i) s space)
+
+    abbrev after_key : ℕ → Contents → List Contents → Option (Contents × Contents) → Reachable → Reachable
+    after_key o key keys found r = elim found [
+      | None ↦ from_entries store from o keys r
+      | Some entry ↦ from_entries store from o keys (from_value store from entry.1 (from_value store from key (with_places (entry_at o (normal key) ∷ []) r)))
+    ]
+
+    key_here : (o : ℕ) (key : Contents) (keys : List Contents) (found : Option (Contents × Contents)) (r : Reachable) → HasRoom n r
+        → ((s : Reachable) → HasRoom n s → Step s (from_entries store from o keys s) × KeysCovered (from_entries store from o keys s) o keys)
+        → Step r (after_key o key keys found r) × (KeyCovered (after_key o key keys found r) o key found × KeysCovered (after_key o key keys found r) o keys)
+    key_here o key keys None r room rest = let later = rest r room in (later.0, (tt, later.1))
+    key_here o key keys (Some entry) r room rest =
+        let a = with_places (entry_at o (normal key) ∷ []) r in
+        let k = from_value store from key a in
+        let s = from_value store from entry.1 k in
+        let u = from_entries store from o keys s in
+        let by_key = value_met key a room in
+        let there = value_met entry.1 k (room_stays n a k by_key.0 room) in
+        let from_a = step_then a k s by_key.0 there.0 in
+        let later = rest s (room_stays n a s from_a room) in (
+          step_then r a u (placed (entry_at o (normal key) ∷ []) r) (step_then a s u from_a later.0),
+          (
+            (
+              later.0.grows.places (entry_at o (normal key)) (from_a.grows.places (entry_at o (normal key)) (in_behind r.places (entry_at o (normal key) ∷ []) (entry_at o (normal key)) (inl refl))),
+              within_more (met k) (met u) (grows_then k s u there.0.grows later.0.grows).objects key by_key.1,
+              within_more (met s) (met u) later.0.grows.objects entry.1 there.1,
+            ),
+            later.1,
+          ),
         )
 
     keys_met : (o : ℕ) (keys : List Contents) (r : Reachable) → HasRoom n r → Step r (from_entries store from o keys r) × KeysCovered (from_entries store from o keys r) o keys
     keys_met o [] r room = (still r, tt)
-    keys_met o (key ∷ keys) r room =
-        let a = with_places (entry_at o (normal key) ∷ []) r in
-        let k = from_value store from key a in
-        let s = from_entry store from (entry_of store o key) k in
-        let u = from_entries store from o keys s in
-        let by_key = value_met key a room in
-        let there = entry_met (entry_of store o key) k (room_stays n a k by_key.0 room) in
-        let from_a = step_then a k s by_key.0 there.0 in
-        let rest = keys_met o keys s (room_stays n a s from_a room) in (
-          step_then r a u (placed (entry_at o (normal key) ∷ []) r) (step_then a s u from_a rest.0),
-          (
-            rest.0.grows.places (entry_at o (normal key)) (from_a.grows.places (entry_at o (normal key)) (in_behind r.places (entry_at o (normal key) ∷ []) (entry_at o (normal key)) (inl refl))),
-            within_more (met k) (met u) (grows_then k s u there.0.grows rest.0.grows).objects key by_key.1,
-            entry_more (met s) (met u) rest.0.grows.objects (entry_of store o key) there.1,
-            rest.1,
-          ),
-        )
+    keys_met o (key ∷ keys) r room = key_here o key keys (entry_of store o key) r room (λ s space. keys_met o keys s space)
 
     ordered_met : (o : ℕ) (r : Reachable) → HasRoom n r
         → Step r (from_entries store from o (order_of store o) (with_places (order_at o ∷ []) r))
@@ -299,7 +335,7 @@ module _ (store : RunStore) where
         let a = with_places (len_at o ∷ []) r in
         let rest = items_met (len_of store o) o 0 a room in (
           step_then r a (from_items store from (len_of store o) o 0 a) (placed (len_at o ∷ []) r) rest.0,
-          (rest.0.grows.places (len_at o) (in_behind r.places (len_at o ∷ []) (len_at o) (inl refl)), λ i less. rest.1 i (omega arith) (from_start i (len_of store o) less)),
+          (rest.0.grows.places (len_at o) (in_behind r.places (len_at o ∷ []) (len_at o) (inl refl)), λ i less earlier. rest.1 i (omega arith) (from_start i (len_of store o) less) (λ k after below. earlier k below)),
         )
     content_met o (Some a_dict) r room = ordered_met o r room
     content_met o (Some (an_instance of)) r room = ordered_met o r room

@@ -1,15 +1,15 @@
 -- The locations that the traversal from a value meets are those that are reached from it.
-use Rattle.std.proofs.Common.{◌≡◌, ℕ, zero, suc, ◌+◌, ◌≤◌, ◌<◌, if◌then◌else◌, Bool, true, false, List, [], ◌∷◌, ◌++◌, length, slice_get, Option, Some, None, inl, inr, refl, sym, subst, arith}
+use Rattle.std.proofs.Common.{◌≡◌, ℕ, zero, suc, ◌+◌, ◌≤◌, ◌<◌, if◌then◌else◌, Bool, true, false, ◌==◌, List, [], ◌∷◌, ◌++◌, length, slice_get, Option, Some, None, is_some, inl, inr, refl, sym, subst, ap, ◌∙◌, arith, eqb-true}
 use Rattle.std.specs.Prelude.{◌⊎◌, ◌↔◌}
-use Rattle.std.proofs.lemmas.Bool.{and_parts}
+use Rattle.std.proofs.lemmas.Bool.{and_parts, false≢true, eqb-false}
 use Rattle.py_value.specs.Contents.{Contents, Parts, nothing, truth, int, text, tuple, range, function, class, exception_class, builtin, object, no_parts, part}
 use Rattle.py_value.specs.KeyOf.{normal}
 use Rattle.py_value.specs.Seen.{SeenLocation, SeenKind, a_list, a_dict, an_instance, a_file, len_at, item_at, entry_at, order_at, offset_at, closed_at}
 use Rattle.py_model.specs.Store.{RunStore, len_of, item_of, entry_of, order_of}
 use Rattle.slice_law.specs.Closed.{IsIn}
-use Rattle.slice_law.specs.Edges.{has_object, Reachable, with_places, from_value, from_parts, from_item, from_entry, from_items, from_entries, from_content, from_object_to, reachable}
-use Rattle.slice_law.specs.Reached.{StandsIn, StandsInParts, StandsInItem, StandsInEntry, IsEntry, IsOwn, InEntry, Holds, IsReached, in_value, in_object, ReachesPlace}
-use Rattle.slice_law.proofs.Reachables.{within, parts_within, item_within, entry_within, met, KeysCovered, Covered, traversed, all_met, all_covered}
+use Rattle.slice_law.specs.Edges.{has_object, Reachable, with_places, from_value, from_parts, from_items, from_entries, from_content, from_object_to, reachable}
+use Rattle.slice_law.specs.Reached.{StandsIn, StandsInParts, StandsInItem, StandsInEntry, AllBefore, IsEntry, IsOwn, InEntry, Holds, IsReached, in_value, in_object, ReachesPlace}
+use Rattle.slice_law.proofs.Reachables.{within, parts_within, item_within, met, KeyCovered, KeysCovered, Covered, traversed, all_met, all_covered}
 
 -- what is in one list behind another is in one of them
 in_either : {A : Type 0} (xs ys : List A) (x : A) → IsIn (xs ++ ys) x → IsIn xs x ⊎ IsIn ys x
@@ -47,42 +47,47 @@ module _ (p : ℕ → Bool) (o : ℕ) where
   item_passes None is stands = absurd stands
   item_passes (Some v) is stands = stands_passes v is stands
 
-  entry_passes : (entry : Option (Contents × Contents)) → entry_within p entry ≡ true → StandsInEntry o entry → p o ≡ true
-  entry_passes None is stands = absurd stands
-  entry_passes (Some entry) is stands = stands_passes entry.1 is stands
-
 module _ (store : RunStore) where
   -- ---- What is reached was met.
 
-  key_place : (r : Reachable) (o : ℕ) (keys : List Contents) (key : Contents) → KeysCovered store r o keys → IsIn keys key → IsIn r.places (entry_at o (normal key))
-  key_place r o [] key all there = absurd there
-  key_place r o (first ∷ keys) key all (inl same) = subst (λ k. IsIn r.places (entry_at o (normal k))) same all.0
-  key_place r o (first ∷ keys) key all (inr there) = key_place r o keys key all.3 there
+  place_covered : (r : Reachable) (o : ℕ) (key : Contents) (found : Option (Contents × Contents)) → KeyCovered store r o key found → is_some found ≡ true → IsIn r.places (entry_at o (normal key))
+  place_covered r o key None is present = absurd (false≢true present)
+  place_covered r o key (Some entry) is present = is.0
 
-  key_met : (r : Reachable) (o p : ℕ) (keys : List Contents) (key : Contents) → KeysCovered store r o keys → IsIn keys key
-      → StandsIn p key ⊎ StandsInEntry p (entry_of store o key) → met r p ≡ true
-  key_met r o p [] key all there stands = absurd there
-  key_met r o p (first ∷ keys) key all (inl same) (inl stands) = stands_passes (met r) p key (subst (λ k. within (met r) k ≡ true) same all.1) stands
-  key_met r o p (first ∷ keys) key all (inl same) (inr stands) =
-      entry_passes (met r) p (entry_of store o key) (subst (λ k. entry_within (met r) (entry_of store o k) ≡ true) same all.2) stands
-  key_met r o p (first ∷ keys) key all (inr there) stands = key_met r o p keys key all.3 there stands
+  stands_covered : (r : Reachable) (o p : ℕ) (key : Contents) (found : Option (Contents × Contents)) → KeyCovered store r o key found → is_some found ≡ true
+      → StandsIn p key ⊎ StandsInEntry p found → met r p ≡ true
+  stands_covered r o p key None is present stands = absurd (false≢true present)
+  stands_covered r o p key (Some entry) is present (inl stands) = stands_passes (met r) p key is.1 stands
+  stands_covered r o p key (Some entry) is present (inr stands) = stands_passes (met r) p entry.1 is.2 stands
+
+  key_covered : (r : Reachable) (o : ℕ) (keys : List Contents) (key : Contents) → KeysCovered store r o keys → IsIn keys key → KeyCovered store r o key (entry_of store o key)
+  key_covered r o [] key all there = absurd there
+  key_covered r o (first ∷ keys) key all (inl same) = subst (λ k. KeyCovered store r o k (entry_of store o k)) same all.0
+  key_covered r o (first ∷ keys) key all (inr there) = key_covered r o keys key all.1 there
+
+  key_place : (r : Reachable) (o : ℕ) (l : SeenLocation) → KeysCovered store r o (order_of store o) → IsEntry store o l → IsIn r.places l
+  key_place r o l all entry = subst (IsIn r.places) (sym entry.place)
+      (place_covered r o entry.key (entry_of store o entry.key) (key_covered r o (order_of store o) entry.key all entry.ordered) entry.present)
+
+  key_met : (r : Reachable) (o p : ℕ) → KeysCovered store r o (order_of store o) → InEntry store o p → met r p ≡ true
+  key_met r o p all held = stands_covered r o p held.key (entry_of store o held.key) (key_covered r o (order_of store o) held.key all held.ordered) held.present held.stands
 
   own_there : (r : Reachable) (o : ℕ) (kind : Option SeenKind) (l : SeenLocation) → Covered store r o kind → IsOwn store o kind l → IsIn r.places l
   own_there r o None l covered own = absurd own
   own_there r o (Some a_list) l covered (inl is) = subst (IsIn r.places) (sym is) covered.0
-  own_there r o (Some a_list) l covered (inr item) = subst (IsIn r.places) (sym item.place) (covered.1 item.i item.below).place
+  own_there r o (Some a_list) l covered (inr item) = subst (IsIn r.places) (sym item.place) (covered.1 item.i item.below item.earlier).place
   own_there r o (Some a_dict) l covered (inl is) = subst (IsIn r.places) (sym is) covered.0
-  own_there r o (Some a_dict) l covered (inr entry) = subst (IsIn r.places) (sym entry.place) (key_place r o (order_of store o) entry.key covered.1 entry.ordered)
+  own_there r o (Some a_dict) l covered (inr entry) = key_place r o l covered.1 entry
   own_there r o (Some (an_instance of)) l covered (inl is) = subst (IsIn r.places) (sym is) covered.0
-  own_there r o (Some (an_instance of)) l covered (inr entry) = subst (IsIn r.places) (sym entry.place) (key_place r o (order_of store o) entry.key covered.1 entry.ordered)
+  own_there r o (Some (an_instance of)) l covered (inr entry) = key_place r o l covered.1 entry
   own_there r o (Some (a_file path mode)) l covered (inl is) = subst (IsIn r.places) (sym is) covered.0
   own_there r o (Some (a_file path mode)) l covered (inr is) = subst (IsIn r.places) (sym is) covered.1
 
   held_met : (r : Reachable) (o p : ℕ) (kind : Option SeenKind) → Covered store r o kind → Holds store o kind p → met r p ≡ true
   held_met r o p None covered holds = absurd holds
-  held_met r o p (Some a_list) covered holds = item_passes (met r) p (item_of store o holds.i) (covered.1 holds.i holds.below).item holds.stands
-  held_met r o p (Some a_dict) covered holds = key_met r o p (order_of store o) holds.key covered.1 holds.ordered holds.stands
-  held_met r o p (Some (an_instance of)) covered holds = key_met r o p (order_of store o) holds.key covered.1 holds.ordered holds.stands
+  held_met r o p (Some a_list) covered holds = item_passes (met r) p (item_of store o holds.i) (covered.1 holds.i holds.below holds.earlier).item holds.stands
+  held_met r o p (Some a_dict) covered holds = key_met r o p covered.1 holds
+  held_met r o p (Some (an_instance of)) covered holds = key_met r o p covered.1 holds
   held_met r o p (Some (a_file path mode)) covered holds = absurd holds
 
   module _ (v : Contents) where
@@ -131,49 +136,70 @@ module _ (store : RunStore) where
         parts_reached (part first rest) r stands all =
             parts_reached rest (from_value store from first r) (λ p is. stands p (inr is)) (value_reached first r (λ p is. stands p (inl is)) all)
 
-      item_reached : (w : Option Contents) (r : Reachable) → ((p : ℕ) → StandsInItem p w → IsReached store v p) → AllReached r → AllReached (from_item store from w r)
-      item_reached None r stands all = all
-      item_reached (Some w) r stands all = value_reached w r stands all
-
-      entry_reached : (entry : Option (Contents × Contents)) (r : Reachable) → ((p : ℕ) → StandsInEntry p entry → IsReached store v p) → AllReached r → AllReached (from_entry store from entry r)
-      entry_reached None r stands all = all
-      entry_reached (Some entry) r stands all = value_reached entry.1 r stands all
-
       module _ (o : ℕ) (reached : IsReached store v o) where
-        items_reached : (m i : ℕ) (r : Reachable) → slice_get store.kinds o ≡ Some a_list → i + m ≤ len_of store o → AllReached r → AllReached (from_items store from m o i r)
-        items_reached zero i r is below all = all
-        items_reached (suc m) i r is below all =
-            items_reached m (suc i) (from_item store from (item_of store o i) (with_places (item_at o i ∷ []) r)) is (omega (arith, below))
-            (item_reached (item_of store o i) (with_places (item_at o i ∷ []) r) (λ p stands. in_object o reached (held p stands)) (one_placed r (item_at o i) all own))
+        abbrev after_item : ℕ → ℕ → Option Contents → Reachable → Reachable
+        after_item m i found r = elim found [ None ↦ with_places (item_at o i ∷ []) r | Some w ↦ from_items store from m o (suc i) (from_value store from w (with_places (item_at o i ∷ []) r)) ]
+
+        one_later : (i : ℕ) (found : Contents) → item_of store o i ≡ Some found → AllBefore store o i → AllBefore store o (suc i)
+        one_later i found at earlier j less = by_test (j == i) refl
+          where
+            by_test : (b : Bool) → (j == i) ≡ b → is_some (item_of store o j) ≡ true
+            by_test true is = ap (λ k. is_some (item_of store o k)) (eqb-true j i is) ∙ ap (λ (w : Option Contents). is_some w) at
+            by_test false is = earlier j (omega (arith, less, eqb-false j i is))
+
+        items_reached : (m i : ℕ) (r : Reachable) → slice_get store.kinds o ≡ Some a_list → i + m ≤ len_of store o → AllBefore store o i → AllReached r → AllReached (from_items store from m o i r)
+        items_reached zero i r is below earlier all = all
+        items_reached (suc m) i r is below earlier all =
+            by_item (item_of store o i) refl (λ s later more. items_reached m (suc i) s is (omega (arith, below)) later more)
           where
             less : i < len_of store o
             less = omega (arith, below)
 
-            own : ReachesPlace store v (item_at o i)
-            own = own_reached o (item_at o i) (Some a_list) is reached (inr (record { i = i; below = less; place = refl }))
+            here : AllReached (with_places (item_at o i ∷ []) r)
+            here = one_placed r (item_at o i) all (own_reached o (item_at o i) (Some a_list) is reached (inr (record { i = i; below = less; earlier = earlier; place = refl })))
 
-            held : (p : ℕ) → StandsInItem p (item_of store o i) → Holds store o (slice_get store.kinds o) p
-            held p stands = subst (λ k. Holds store o k p) (sym is) (record { i = i; below = less; stands = stands })
+            held : (found : Option Contents) → item_of store o i ≡ found → (p : ℕ) → StandsInItem p found → Holds store o (slice_get store.kinds o) p
+            held found at p stands = subst (λ k. Holds store o k p) (sym is) (record { i = i; below = less; earlier = earlier; stands = subst (StandsInItem p) (sym at) stands })
+
+            by_item : (found : Option Contents) → item_of store o i ≡ found → ((s : Reachable) → AllBefore store o (suc i) → AllReached s → AllReached (from_items store from m o (suc i) s))
+                → AllReached (after_item m i found r)
+            by_item None at rest = here
+            by_item (Some w) at rest = rest (from_value store from w (with_places (item_at o i ∷ []) r)) (one_later i w at earlier)
+                (value_reached w (with_places (item_at o i ∷ []) r) (λ p stands. in_object o reached (held (Some w) at p stands)) here)
 
         module _ (kind : SeenKind) (is : slice_get store.kinds o ≡ Some kind)
             (owns : (l : SeenLocation) → IsEntry store o l → IsOwn store o (Some kind) l) (holds : (p : ℕ) → InEntry store o p → Holds store o (Some kind) p) where
+          abbrev after_key : Contents → List Contents → Option (Contents × Contents) → Reachable → Reachable
+          after_key key keys found r = elim found [
+            | None ↦ from_entries store from o keys r
+            | Some entry ↦ from_entries store from o keys (from_value store from entry.1 (from_value store from key (with_places (entry_at o (normal key) ∷ []) r)))
+          ]
+
           keys_reached : (keys : List Contents) (r : Reachable) → ((key : Contents) → IsIn keys key → IsIn (order_of store o) key) → AllReached r → AllReached (from_entries store from o keys r)
           keys_reached [] r ordered all = all
-          keys_reached (key ∷ keys) r ordered all =
-              keys_reached keys (from_entry store from (entry_of store o key) (from_value store from key (with_places (entry_at o (normal key) ∷ []) r))) (λ other there. ordered other (inr there))
-              (entry_reached (entry_of store o key) (from_value store from key (with_places (entry_at o (normal key) ∷ []) r)) (λ p stands. in_object o reached (held p (inr stands)))
-              (value_reached key (with_places (entry_at o (normal key) ∷ []) r) (λ p stands. in_object o reached (held p (inl stands))) (one_placed r (entry_at o (normal key)) all own)))
+          keys_reached (key ∷ keys) r ordered all = by_entry (entry_of store o key) refl (λ s more. keys_reached keys s (λ other there. ordered other (inr there)) more)
             where
-              own : ReachesPlace store v (entry_at o (normal key))
-              own = own_reached o (entry_at o (normal key)) (Some kind) is reached (owns (entry_at o (normal key)) (record { key = key; ordered = ordered key (inl refl); place = refl }))
+              own : is_some (entry_of store o key) ≡ true → ReachesPlace store v (entry_at o (normal key))
+              own present = own_reached o (entry_at o (normal key)) (Some kind) is reached
+                  (owns (entry_at o (normal key)) (record { key = key; ordered = ordered key (inl refl); present = present; place = refl }))
 
-              held : (p : ℕ) → StandsIn p key ⊎ StandsInEntry p (entry_of store o key) → Holds store o (slice_get store.kinds o) p
-              held p stands = subst (λ k. Holds store o k p) (sym is) (holds p (record { key = key; ordered = ordered key (inl refl); stands = stands }))
+              held : (p : ℕ) → is_some (entry_of store o key) ≡ true → StandsIn p key ⊎ StandsInEntry p (entry_of store o key) → Holds store o (slice_get store.kinds o) p
+              held p present stands = subst (λ k. Holds store o k p) (sym is) (holds p (record { key = key; ordered = ordered key (inl refl); present = present; stands = stands }))
+
+              by_entry : (found : Option (Contents × Contents)) → entry_of store o key ≡ found → ((s : Reachable) → AllReached s → AllReached (from_entries store from o keys s))
+                  → AllReached (after_key key keys found r)
+              by_entry None at rest = rest r all
+              by_entry (Some entry) at rest =
+                  let present : is_some (entry_of store o key) ≡ true = ap (λ (found : Option (Contents × Contents)). is_some found) at in
+                  let a = with_places (entry_at o (normal key) ∷ []) r in
+                  rest (from_value store from entry.1 (from_value store from key a))
+                  (value_reached entry.1 (from_value store from key a) (λ p stands. in_object o reached (held p present (inr (subst (StandsInEntry p) (sym at) stands))))
+                  (value_reached key a (λ p stands. in_object o reached (held p present (inl stands))) (one_placed r (entry_at o (normal key)) all (own present))))
 
         content_reached : (kind : Option SeenKind) (r : Reachable) → slice_get store.kinds o ≡ kind → AllReached r → AllReached (from_content store from o kind r)
         content_reached None r is all = all
         content_reached (Some a_list) r is all =
-            items_reached (len_of store o) 0 (with_places (len_at o ∷ []) r) is (omega arith) (one_placed r (len_at o) all (own_reached o (len_at o) (Some a_list) is reached (inl refl)))
+            items_reached (len_of store o) 0 (with_places (len_at o ∷ []) r) is (omega arith) (λ j less. absurd (omega (arith, less))) (one_placed r (len_at o) all (own_reached o (len_at o) (Some a_list) is reached (inl refl)))
         content_reached (Some a_dict) r is all =
             keys_reached a_dict is (λ l own. inr own) (λ p held. held) (order_of store o) (with_places (order_at o ∷ []) r) (λ key there. there)
             (one_placed r (order_at o) all (own_reached o (order_at o) (Some a_dict) is reached (inl refl)))

@@ -64,13 +64,18 @@ module _ (script : ScriptTree) where
   abbrev pub function_of_stmt : ℕ → Option ℕ
   function_of_stmt s = option_and_then (λ (x : Standing). x.around.function) (standing_at script s)
 
-  -- A read of a location asks for its reach; a read of a local name that nothing set asks for the first statement that binds it.
-  abbrev pub unset_local : ℕ → SeenLocation → List ℕ → List Edge
-  unset_local s (var_at (suc scope) name) [] = to_each by_name s (from_option (first_binder (function_of_stmt s) name (statements script)))
-  unset_local s l stmts = to_each by_data s stmts
+  -- A read of a local name that nothing set asks for the first statement that binds it.
+  abbrev pub unset_local : ℕ → SeenLocation → List Edge
+  unset_local s (var_at (suc scope) name) = to_each by_name s (from_option (first_binder (function_of_stmt s) name (statements script)))
+  unset_local s l = []
+
+  -- A read asks for the statements of a reach that is not empty, also where none of its moments has a statement.
+  abbrev pub reach_asks : ℕ → SeenLocation → List ℕ → List Moment → List Edge
+  reach_asks s l [] before = unset_local s l
+  reach_asks s l (time ∷ times) before = to_each by_data s (stmts_at (time ∷ times) before)
 
   abbrev pub read_asks : ℕ → SeenLocation → List Moment → List Edge
-  read_asks s l before = unset_local s l (reach_stmts l before)
+  read_asks s l before = reach_asks s l (reach l before) before
 
   abbrev pub reads_ask : ℕ → List SeenAccess → List Moment → List Edge
   reads_ask s [] before = []
@@ -120,7 +125,8 @@ module_jumps (ends number ended ∷ before) = elim (without_top (frames_after be
 module_jumps (moment ∷ before) = module_jumps before
 
 -- The locations that are reachable from a value: the lengths and items of lists, the orders and entries of dictionaries and instances, the
--- offset and closing of files, and so on through items, keys, entries and tuples. So a location where nothing stands is among them too.
+-- offset and closing of files, and so on through items, keys, entries and tuples. Where nothing was set a location is among them too, as that of
+-- the first missing item: it has no reach, so nothing is asked for by it.
 abbrev pub has_object : ℕ → List ℕ → Bool
 has_object o seen = list_any (λ p. p == o) seen
 
@@ -143,22 +149,21 @@ module _ (store : RunStore) where
       from_parts no_parts r = r
       from_parts (part first rest) r = from_parts rest (from_value first r)
 
-    -- what may be absent: nothing stands at a place, or no entry
-    abbrev pub from_item : Option Contents → Reachable → Reachable
-    from_item None r = r
-    from_item (Some v) r = from_value v r
-
-    abbrev pub from_entry : Option (Contents × Contents) → Reachable → Reachable
-    from_entry None r = r
-    from_entry (Some entry) r = from_value entry.1 r
-
+    -- a list ends at its first missing item: the walk reaches that place too, and goes no further
     abbrev pub from_items : ℕ → ℕ → ℕ → Reachable → Reachable
     from_items zero o i r = r
-    from_items (suc n) o i r = from_items n o (suc i) (from_item (item_of store o i) (with_places (item_at o i ∷ []) r))
+    from_items (suc n) o i r = elim (item_of store o i) [
+      | None ↦ with_places (item_at o i ∷ []) r
+      | Some v ↦ from_items n o (suc i) (from_value v (with_places (item_at o i ∷ []) r))
+    ]
 
+    -- a key without an entry is passed over
     abbrev pub from_entries : ℕ → List Contents → Reachable → Reachable
     from_entries o [] r = r
-    from_entries o (key ∷ keys) r = from_entries o keys (from_entry (entry_of store o key) (from_value key (with_places (entry_at o (normal key) ∷ []) r)))
+    from_entries o (key ∷ keys) r = elim (entry_of store o key) [
+      | None ↦ from_entries o keys r
+      | Some entry ↦ from_entries o keys (from_value entry.1 (from_value key (with_places (entry_at o (normal key) ∷ []) r)))
+    ]
 
     abbrev pub from_content : ℕ → Option SeenKind → Reachable → Reachable
     from_content o None r = r

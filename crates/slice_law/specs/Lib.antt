@@ -2,3 +2,4 @@ pub mod Closed
 pub mod Edges
 pub mod Reached
 pub mod Slices
+pub mod SetItems

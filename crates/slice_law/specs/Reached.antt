@@ -1,5 +1,5 @@
 -- What is reached from a value in a store, as a relation: objects, and the locations that are their own.
-use Rattle.std.specs.Prelude.{◌≡◌, ℕ, ◌<◌, slice_get, Option, Some, None, ◌⊎◌}
+use Rattle.std.specs.Prelude.{◌≡◌, ℕ, ◌<◌, true, slice_get, Option, Some, None, is_some, ◌⊎◌}
 use Rattle.py_value.specs.Contents.{Contents, Parts, tuple, object, no_parts, part}
 use Rattle.py_value.specs.KeyOf.{normal}
 use Rattle.py_value.specs.Seen.{SeenLocation, SeenKind, a_list, a_dict, an_instance, a_file, len_at, item_at, entry_at, order_at, offset_at, closed_at}
@@ -26,15 +26,22 @@ StandsInEntry o None = ⊥
 StandsInEntry o (Some entry) = StandsIn o entry.1
 
 module _ (store : RunStore) where
-  -- one of the items of a list, and the entry of one of the keys of a dictionary or an instance
+  -- all items of a list are there that stand before a place
+  abbrev pub AllBefore : ℕ → ℕ → Type 0
+  AllBefore o i = (j : ℕ) → j < i → is_some (item_of store o j) ≡ true
+
+  -- One of the items of a list, up to the first that is missing and with its place; and the entry of one of the keys of a dictionary or an
+  -- instance, where there is one.
   pub record IsItem (o : ℕ) (l : SeenLocation) : Type 0 where
     pub i : ℕ
     pub below : i < len_of store o
+    pub earlier : AllBefore o i
     pub place : l ≡ item_at o i
 
   pub record IsEntry (o : ℕ) (l : SeenLocation) : Type 0 where
     pub key : Contents
     pub ordered : IsIn (order_of store o) key
+    pub present : is_some (entry_of store o key) ≡ true
     pub place : l ≡ entry_at o (normal key)
 
   -- a location is the object's own
@@ -49,11 +56,13 @@ module _ (store : RunStore) where
   pub record InItem (o p : ℕ) : Type 0 where
     pub i : ℕ
     pub below : i < len_of store o
+    pub earlier : AllBefore o i
     pub stands : StandsInItem p (item_of store o i)
 
   pub record InEntry (o p : ℕ) : Type 0 where
     pub key : Contents
     pub ordered : IsIn (order_of store o) key
+    pub present : is_some (entry_of store o key) ≡ true
     pub stands : StandsIn p key ⊎ StandsInEntry p (entry_of store o key)
 
   -- an object holds another

@@ -1,14 +1,16 @@
 // Laws of closed sets, each a function without a body that says it.
-ghost use Rattle.std.specs.Prelude.{◌≡◌, ◌↔◌, ◌&&◌, ℕ, true, List, IsTrue, Some};
+ghost use Rattle.std.specs.Prelude.{◌≡◌, ◌↔◌, ◌&&◌, ℕ, true, List, [], IsTrue, Some, None};
 ghost use Rattle.py_tree.specs.Owners.{parent_of};
 ghost use Rattle.py_tree.specs.Tree.{ScriptTree};
 ghost use Rattle.py_model.specs.Moment.{Moment};
-ghost use Rattle.py_model.specs.Store.{RunStore};
+ghost use Rattle.py_model.specs.Occurrences.{reach};
+ghost use Rattle.py_model.specs.Store.{RunStore, item_of};
 ghost use Rattle.py_value.specs.Contents.{Contents};
-ghost use Rattle.py_value.specs.Seen.{SeenLocation};
+ghost use Rattle.py_value.specs.Seen.{SeenLocation, item_at};
 ghost use Rattle.slice_law.specs.Edges.{edges, reachable};
-ghost use Rattle.slice_law.specs.Closed.{StmtSet, IsIn, IsClosed, IsLeast, IsAsked, has, needed, is_settled};
+ghost use Rattle.slice_law.specs.Closed.{StmtSet, IsIn, IsClosed, IsLeast, IsAsked, has, needed, is_settled, store_after};
 ghost use Rattle.slice_law.specs.Reached.{ReachesPlace};
+ghost use Rattle.slice_law.specs.SetItems.{MomentsSetItems};
 
 /// The law that what two closed sets have in common is closed.
 pub fn closed_sets_meet()
@@ -41,4 +43,11 @@ pub fn needed_is_least()
 /// The law that the locations which a traversal of a store meets are those that are reached from the value, object by object.
 pub fn reachable_is_reached()
     ensures { (store : RunStore) (v : Contents) (l : SeenLocation) → IsIn (reachable store v) l ↔ ReachesPlace store v l }
+{}
+
+/// The law of the end of a list: where moments set items to values alone and change none, the place of an item that is missing has no reach. So it is
+/// with rows, since a content is of its location's own kind. The traversal meets the place of the first missing item, and nothing is asked for by it.
+pub fn missing_items_have_no_reach()
+    ensures { (opening : RunStore) (told : List Moment) (o i : ℕ) → MomentsSetItems told → item_of (store_after opening told) o i ≡ None
+        → reach (item_at o i) told ≡ [] }
 {}

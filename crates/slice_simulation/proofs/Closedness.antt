@@ -2,18 +2,18 @@
 use Rattle.py_model.specs.Plan.{Answer}
 use Rattle.py_value.specs.Contents.{Contents}
 use Rattle.prov_base.specs.declared.place.Pos.{Pos}
-use Rattle.std.proofs.Common.{◌≡◌, ◌<◌, ℕ, zero, suc, ◌==◌, Bool, true, false, if◌then◌else◌, List, [], ◌∷◌, ◌++◌, map, length, Option, Some, None, inl, inr, refl, sym, ap, subst, ◌∙◌, arith, eqb-true, eq-eqb}
+use Rattle.std.proofs.Common.{◌≡◌, ◌<◌, ℕ, suc, ◌==◌, Bool, true, false, if◌then◌else◌, List, [], ◌∷◌, ◌++◌, map, length, Option, Some, None, inl, inr, refl, sym, ap, subst, ◌∙◌, arith, eqb-true, eq-eqb}
 use Rattle.std.specs.Prelude.{⊤}
 use Rattle.py_tree.specs.Owners.{Around, Standing, statements, number_at, at_module_level, within, listed_stmt, listed_form, listed_suite, listed_branches, listed_else, listed_handlers}
 use Rattle.py_tree.specs.Tree.{number_of, StmtTree, FormTree, SuiteTree, BranchesTree, ElseTree, HandlersTree, ScriptTree, one_stmt, if_form, while_form, for_form, try_form, with_form, def_form, class_form, end_suite, more_suite, end_branches, more_branches, no_else, else_suite, end_handlers, more_handlers}
-use Rattle.py_value.specs.Seen.{SeenLocation, SeenAccess, var_at, len_at, item_at, entry_at, order_at, file_at, offset_at, closed_at, method_at, base_at, reads, sets, updates, SeenKind}
+use Rattle.py_value.specs.Seen.{SeenLocation, SeenAccess, reads, sets, updates, SeenKind}
 use Rattle.py_model.specs.Going.{Open, a_statement, an_activation}
 use Rattle.py_model.specs.History.{accesses_by}
 use Rattle.py_model.specs.Moment.{Moment, begins, does, enters, leaves, ends, Ending, normal_end, break_end, continue_end, return_end, raise_end}
 use Rattle.py_model.specs.Occurrences.{Occurrence, Frame, in_occurrence, in_activation, frames_after, without_top, innermost, open_of, reach, sets_at, updates_at, owner_stmt}
 use Rattle.py_model.specs.Store.{RunStore}
 use Rattle.slice_law.specs.Closed.{StmtSet, IsIn, store_after, IsClosed}
-use Rattle.slice_law.specs.Edges.{Edge, edge, by_data, by_control, by_jump, to_each, from_option, stmt_at, stmts_at, reach_stmts, unset_local, read_asks, reads_ask, is_abrupt, caller, asks_for_jump, asks, run_asks, parents_asked, module_jumps, asked_by_value}
+use Rattle.slice_law.specs.Edges.{Edge, edge, by_data, by_control, by_jump, to_each, from_option, stmt_at, stmts_at, reach_stmts, reach_asks, read_asks, reads_ask, is_abrupt, caller, asks_for_jump, asks, run_asks, parents_asked, module_jumps, asked_by_value}
 use Rattle.slice_simulation.proofs.Beside.{InnermostIs, TopIsKept, CallerIsOut}
 use Rattle.std.proofs.lemmas.Bool.{false≢true}
 use Rattle.slice_simulation.specs.Related.{ByAccess, OwnerIsKept, IsInReach, AllInReach}
@@ -98,19 +98,9 @@ module _ (keep : StmtSet) where
     each_asked n (x ∷ xs) s (inl is) = inl (ap (edge by_data n) is)
     each_asked n (x ∷ xs) s (inr there) = inr (each_asked n xs s there)
 
-    reach_asked : (n : ℕ) (l : SeenLocation) (stmts : List ℕ) (s : ℕ) → IsIn stmts s → IsIn (unset_local script n l stmts) (edge by_data n s)
-    reach_asked n (var_at (suc scope) name) [] s there = absurd there
-    reach_asked n (var_at (suc scope) name) (x ∷ xs) s there = each_asked n (x ∷ xs) s there
-    reach_asked n (var_at zero name) stmts s there = each_asked n stmts s there
-    reach_asked n (len_at o) stmts s there = each_asked n stmts s there
-    reach_asked n (item_at o i) stmts s there = each_asked n stmts s there
-    reach_asked n (entry_at o key) stmts s there = each_asked n stmts s there
-    reach_asked n (order_at o) stmts s there = each_asked n stmts s there
-    reach_asked n (file_at path) stmts s there = each_asked n stmts s there
-    reach_asked n (offset_at o) stmts s there = each_asked n stmts s there
-    reach_asked n (closed_at o) stmts s there = each_asked n stmts s there
-    reach_asked n (method_at place name) stmts s there = each_asked n stmts s there
-    reach_asked n (base_at place) stmts s there = each_asked n stmts s there
+    reach_asked : (n : ℕ) (l : SeenLocation) (times : List ℕ) (before : List Moment) (s : ℕ) → IsIn (stmts_at times before) s → IsIn (reach_asks script n l times before) (edge by_data n s)
+    reach_asked n l [] before s there = absurd there
+    reach_asked n l (time ∷ times) before s there = each_asked n (stmts_at (time ∷ times) before) s there
 
     -- what one moment asks for is asked for in the run
     moment_asks : (news before : List Moment) (moment : Moment) (e : Edge) → IsIn (asks script moment before) e → IsIn (run_asks script (news ++ moment ∷ before)) e
@@ -127,7 +117,7 @@ module _ (keep : StmtSet) where
     reads_in n before [] all kept = tt
     reads_in n before (reads l ∷ accesses) all kept = (
       reach_in l before (λ s there. all (edge by_data n s)
-          (in_front (read_asks script n l before) (reads_ask script n accesses before) (edge by_data n s) (reach_asked n l (reach_stmts l before) s there)) kept),
+          (in_front (read_asks script n l before) (reads_ask script n accesses before) (edge by_data n s) (reach_asked n l (reach l before) before s there)) kept),
       reads_in n before accesses (λ e there. all e (in_behind (read_asks script n l before) (reads_ask script n accesses before) e there)) kept,
     )
     reads_in n before (sets l content ∷ accesses) all kept = reads_in n before accesses all kept

@@ -23,6 +23,7 @@ mod Functionless
 mod AtomicValues
 mod Opened
 mod Late
+mod EndedLists
 mod SharedGraphs
 mod Nameless
 mod Values

@@ -1,5 +1,5 @@
 -- The value of an evaluation has the same graph text in the run of the slice.
-use Rattle.std.proofs.Common.{◌≡◌, ℕ, Bool, true, false, ◌&&◌, List, [], ◌∷◌, map, length, slice_get, Some, option_map, inl, inr, refl, sym, ap, subst, ◌∙◌, append-nil}
+use Rattle.std.proofs.Common.{◌≡◌, ℕ, Bool, true, false, ◌&&◌, List, [], ◌∷◌, ◌++◌, map, length, slice_get, Some, option_map, inl, inr, refl, sym, ap, subst, ◌∙◌, append-nil}
 use Rattle.std.specs.Prelude.{◌↔◌}
 use Rattle.std.proofs.lemmas.Bool.{false≢true, and_parts}
 use Rattle.std.proofs.lemmas.Option.{slice_get-map}
@@ -18,7 +18,8 @@ use Rattle.py_model.specs.Occurrences.{evaluates, is_evaluation_at, up_to_evalua
 use Rattle.py_model.specs.Plan.{value, raised, at_end}
 use Rattle.py_model.specs.Renaming.{Renaming, renamed, renamed_answer, renamed_kind}
 use Rattle.py_model.specs.SameGraph.{Setting, HaveSameGraph}
-use Rattle.py_model.specs.Store.{RunStore}
+use Rattle.py_model.specs.Store.{RunStore, order_of}
+use Rattle.model_laws.specs.KeyedRuns.{HaveEntries}
 use Rattle.slice_law.specs.Closed.{StmtSet, IsIn, IsClosed, store_after}
 use Rattle.slice_law.specs.Edges.{from_option, reach_stmts, reaches_stmts, reachable, asked_by_value, module_jumps}
 use Rattle.slice_law.specs.Slices.{told_by, Reproduces}
@@ -27,6 +28,7 @@ use Rattle.slice_simulation.proofs.Evaluations.{IsFound, found_is}
 use Rattle.slice_simulation.proofs.Marks.{kind_at, counted_made, shifts}
 use Rattle.slice_simulation.proofs.Nameless.{still_nameless}
 use Rattle.slice_law.proofs.Reachables.{traversed, all_met, all_covered}
+use Rattle.slice_simulation.proofs.EndedLists.{ended_in, text_ends}
 use Rattle.slice_simulation.proofs.SharedGraphs.{graphs_match}
 use Rattle.slice_simulation.proofs.Standing.{in_front, in_behind}
 use Rattle.slice_simulation.specs.Related.{kept_of}
@@ -82,13 +84,16 @@ kind_there marks r fits kinds others same are o marked =
 module _ (is_same : (v w : Contents) → (same_value v w ≡ true) ↔ (v ≡ w))
     (graphs : (here there : Setting) (v w : Contents) → HaveSameGraph here there v w → graph_text here.script here.store v ≡ graph_text there.script there.store w)
     (script : ScriptTree) (capture : Capture) (path : List ℕ) (arguments : List (List ℕ)) (steps budget : ℕ) (keep : StmtSet) (at : Pos) (k : ℕ) (upto : List Moment) where
-  pub value_reproduced : IsClosed script (opening_in capture path arguments) upto keep → ReachesEvaluation script capture path arguments budget keep at k upto
+  abbrev AllKeyed : Type 0
+  AllKeyed = (o : ℕ) → HaveEntries (store_after (opening_in capture path arguments) upto) o (order_of (store_after (opening_in capture path arguments) upto) o)
+
+  pub value_reproduced : AllKeyed → IsClosed script (opening_in capture path arguments) upto keep → ReachesEvaluation script capture path arguments budget keep at k upto
       → names_in script.body ≡ [] → (v : Contents) → answer_of upto ≡ Some (value v) → Reproduces script capture path arguments budget at k upto keep
-  value_reproduced closed reaches nameless v answers = record {
+  value_reproduced keyed closed reaches nameless v answers = record {
     again = reaches.simulates.again;
     reached = reaches.found;
     same_value = value_text (deleted keep script) opening reaches.simulates.again (renamed near.by v) (answers_by near.by near.fits)
-        ∙ (ap (λ (t : List ℕ). Some t) (sym (graphs here there v (renamed near.by v) same_graph)) ∙ sym (value_text script opening upto v answers));
+        ∙ (ap (λ (t : List ℕ). Some t) (sym same_text) ∙ sym (value_text script opening upto v answers));
     no_more = reaches.simulates.no_more;
   }
     where
@@ -120,17 +125,20 @@ module _ (is_same : (v w : Contents) → (same_value v w ≡ true) ↔ (v ≡ w)
       same_names : (is_class : Bool) (at : Pos) → first_name is_class at (names_in script.body) ≡ first_name is_class at (names_in (deleted keep script).body)
       same_names is_class at = ap (first_name is_class at) (nameless ∙ sym (still_nameless keep script nameless))
 
-      same_graph : HaveSameGraph here there v (renamed near.by v)
+      same_graph : HaveSameGraph (ended_in here) (ended_in there) v (renamed near.by v)
       same_graph = graphs_match is_same (all_marks keep upto) near far here there (traversed (store_after opening upto) v)
           (all_covered (store_after opening upto) v)
           (λ l place r fits. reaches.simulates.contents l (kept_place l place) r fits)
           (λ o marked. kind_there (all_marks keep upto) near.by near.fits (kinds_after (a_list ∷ []) upto) (kinds_after (a_list ∷ []) reaches.simulates.again) (counted keep upto) (reaches.simulates.kinds near.by near.fits) o marked)
-          (same_names false) (same_names true) v (all_met (store_after opening upto) v)
+          keyed (same_names false) (same_names true) v (all_met (store_after opening upto) v)
           (value_one (renamed near.by v) (renamed far.by v) (sym (answers_by near.by near.fits) ∙ answers_by far.by far.fits))
 
-  pub reproduced_at : IsClosed script (opening_in capture path arguments) upto keep → ReachesEvaluation script capture path arguments budget keep at k upto
+      same_text : graph_text here.script here.store v ≡ graph_text there.script there.store (renamed near.by v)
+      same_text = sym (text_ends here.script here.store v) ∙ (graphs (ended_in here) (ended_in there) v (renamed near.by v) same_graph ∙ text_ends there.script there.store (renamed near.by v))
+
+  pub reproduced_at : ((after : List Moment) → told_by script capture path arguments steps ≡ after ++ upto → AllKeyed) → IsClosed script (opening_in capture path arguments) upto keep → ReachesEvaluation script capture path arguments budget keep at k upto
       → names_in script.body ≡ [] → up_to_evaluation at k (told_by script capture path arguments steps) ≡ Some upto → Reproduces script capture path arguments budget at k upto keep
-  reproduced_at closed reaches nameless is =
+  reproduced_at keyed closed reaches nameless is =
       let found : IsFound at k (told_by script capture path arguments steps) upto = found_is at k (told_by script capture path arguments steps) upto is in
       let last = evaluated at found.moment found.before found.evaluates_here in
-      value_reproduced closed reaches nameless last.0 (ap answer_of found.upto_is ∙ last.1)
+      value_reproduced (keyed found.after found.whole_is) closed reaches nameless last.0 (ap answer_of found.upto_is ∙ last.1)

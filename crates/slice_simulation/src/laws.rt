@@ -38,6 +38,7 @@ ghost use Rattle.py_tree.specs.Deletion.{deleted};
 ghost use Rattle.py_tree.specs.Functions.{functions_in, function_at};
 ghost use Rattle.slice_simulation.specs.Cut.{CutFunctions, FoundCut};
 
+use model_laws::runs_keep_keys_with_entries;
 use py_model::{
     corresponding_operands_have_alike_plans, few_operations_ask, few_operations_note,
     graph_texts_tell_graphs, map_changes_by_accesses, operations_agree, operations_open_tidily,
@@ -167,8 +168,8 @@ pub fn atomic_values_are_reproduced()
 /// has the same graph text at the same occurrence, with all objects that are reachable from it, and no more steps are spent. So it is for every
 /// closed set, and for the least one with as many steps as the whole run took.
 ///
-/// The criterion of a closed set reaches each location that a graph text shows, and what stands at these corresponds. Not shown here: scripts that
-/// define functions or classes.
+/// The criterion of a closed set reaches each location that a graph text shows, of a list as far as it goes and with the place where it ends, and what
+/// stands at these corresponds. In a run no key stands without its entry. Not shown here: scripts that define functions or classes.
 pub fn values_are_reproduced()
     ensures closed { (script : ScriptTree) (capture : Capture) (path : List ℕ) (arguments : List (List ℕ)) (steps budget : ℕ) (at : Pos) (k : ℕ) (keep : StmtSet) (upto : List Moment)
         → IsWellFormed script → up_to_evaluation at k (told_by script capture path arguments steps) ≡ Some upto → IsClosed script (opening_in capture path arguments) upto keep
@@ -179,6 +180,7 @@ pub fn values_are_reproduced()
 {
     tests_are_equality();
     graph_texts_tell_graphs();
+    runs_keep_keys_with_entries();
     slices_reach_the_evaluation();
 }
 

@@ -1,4 +1,4 @@
-use Rattle.op_parts.proofs.laws.operations_suit.Goals as goal
+use Rattle.model_laws.proofs.key_laws.operations_suit.Goals as goal
 use Rattle.py_model.specs.Operations.{plan}
 
 pub returns-clause-suit : goal.returns-clause-suit

@@ -1,6 +1,6 @@
 use Rattle.std.proofs.Common.{sym, subst}
-use Rattle.op_parts.proofs.Suiting.{AreGood, KeyLaws, plan_good}
-use Rattle.op_parts.proofs.laws.plans_suit_stores.Goals as goal
+use Rattle.model_laws.proofs.Suiting.{AreGood, KeyLaws, plan_good}
+use Rattle.model_laws.proofs.key_laws.plans_suit_stores.Goals as goal
 use Rattle.object_store.specs.Keyed.{IsKeyed}
 use Rattle.py_model.specs.Effect.{effect, accesses_in}
 use Rattle.py_model.specs.Orderly.{other_read}
