@@ -55,6 +55,16 @@ each_turn asker first r s e rest all old now next same is turn = ap (λ b. ((ask
     both true false r n = refl
     both false e r n = refl
 
+-- one of several reads asks
+pub read_turn : (a e rest all old now next : Bool) → ((a && (e || rest)) || now) ≡ ((a && all) || old) → next ≡ ((a && e) || now) → ((a && rest) || next) ≡ ((a && all) || old)
+read_turn a e rest all old now next is turn = ap (λ b. (a && rest) || b) turn ∙ both a e rest now ∙ is
+  where
+    both : (a e r n : Bool) → ((a && r) || ((a && e) || n)) ≡ ((a && (e || r)) || n)
+    both true true true n = refl
+    both true true false n = refl
+    both true false r n = refl
+    both false e r n = refl
+
 -- ---- each pair once
 
 own_ask : (a : Ask) → asks_eq.eq a a ≡ true

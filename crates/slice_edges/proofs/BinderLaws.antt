@@ -1,7 +1,9 @@
 -- The first statement of a function that binds a name is the one with the least number that does.
-use Rattle.std.proofs.Common.{◌≡◌, ℕ, ◌+◌, ◌<◌, ◌≤◌, inl, inr, Bool, true, false, ◌&&◌, not, List, [], ◌∷◌, map, Option, Some, None, refl, sym, ap, ◌∙◌, subst, arith, if◌then◌else◌}
+use Rattle.std.proofs.Common.{◌≡◌, ℕ, ◌+◌, ◌<◌, ◌≤◌, inl, inr, Bool, true, false, ◌&&◌, not, List, [], ◌∷◌, map, Option, Some, None, slice_get, unwrap_or, refl, sym, ap, ◌∙◌, subst, arith, if◌then◌else◌, rules}
 use Rattle.std.specs.Prelude.{⊤}
 use Rattle.std.proofs.lemmas.Bool.{false≢true}
+use Rattle.std.proofs.lemmas.Option.{same_Some}
+use Rattle.std.specs.Map.{lookup}
 use Rattle.std.specs.Option.{option_and_then, option_map_or}
 use Rattle.py_tree.specs.Binds.{form_binds, is_method, binds}
 use Rattle.py_tree.specs.Descent.{RiseFrom}
@@ -12,7 +14,9 @@ use Rattle.py_tree.proofs.Finding.{IsIn}
 use Rattle.py_tree.proofs.OwnersNumbered.{numbers_rise}
 use Rattle.py_tree.proofs.PlacedLaws.{by_number, number_finds}
 use Rattle.slice_law.specs.Edges.{in_function, first_binder, function_of_stmt}
-use Rattle.slice_edges.specs.Binder.{is_inside}
+use Rattle.slice_edges.specs.declared.binder.Local.{Local}
+use Rattle.slice_edges.specs.contracts.binder.LocalPartialEq.TheImpl.{ghosts as locals}
+use Rattle.slice_edges.specs.Binder.{is_inside, AreBinders}
 use Rattle.slice_edges.proofs.BelowCount.{AreBelow, below_count}
 
 pub none_binds : (name : List ℕ) (xs : List Standing) → first_binder None name xs ≡ None
@@ -78,3 +82,18 @@ module _ (script : ScriptTree) (f : ℕ) (name : List ℕ) where
 
     pub none_found : ((s : ℕ) → s < script.count → test s ≡ false) → first_binder (Some f) name (statements script) ≡ None
     none_found none = nothing script.count (statements script) (below_count script numbered) standing none
+
+-- ---- what is remembered
+
+same_local : (a b : Local) → locals.eq a b ≡ true → a ≡ b
+same_local a b is = search rules
+
+pub remembered : (script : ScriptTree) (texts : List (List ℕ)) (old new : List (Local × Option ℕ)) (local : Local) (binder : Option ℕ)
+    → ((l : Local) → lookup (locals.eq l) new ≡ (if locals.eq local l then Some binder else lookup (locals.eq l) old))
+    → binder ≡ first_binder (Some local.function) (unwrap_or (slice_get texts local.name) []) (statements script) → AreBinders script texts old → AreBinders script texts new
+remembered script texts old new local binder noted right known l found is = by (locals.eq local l) refl (sym (noted l) ∙ is)
+  where
+    by : (b : Bool) → locals.eq local l ≡ b → (if b then Some binder else lookup (locals.eq l) old) ≡ Some found → found ≡ first_binder (Some l.function) (unwrap_or (slice_get texts l.name) []) (statements script)
+    by true same there =
+        sym (same_Some binder found there) ∙ right ∙ ap (λ (k : Local). first_binder (Some k.function) (unwrap_or (slice_get texts k.name) []) (statements script)) (same_local local l same)
+    by false other there = known l found there

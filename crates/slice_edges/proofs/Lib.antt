@@ -2,6 +2,7 @@ pub mod AskLaws
 pub mod BelowCount
 pub mod BinderLaws
 pub mod FrameLaws
+pub mod KnownLaws
 pub mod Noted
 pub mod ReachLaws
 pub mod ReadLaws

@@ -1,5 +1,5 @@
 -- How much is open, and where statements are noted.
-use Rattle.std.proofs.Common.{◌≡◌, ℕ, suc, ◌||◌, Bool, true, false, List, [], ◌∷◌, ◌⊎◌, inl, inr, map, length, reverse, unwrap_or, Some, refl, sym, ap, ◌∙◌, if◌then◌else◌, true≢false}
+use Rattle.std.proofs.Common.{◌≡◌, ℕ, suc, Bool, true, false, List, [], ◌∷◌, ◌⊎◌, inl, inr, map, length, unwrap_or, Some, refl, sym, ap, if◌then◌else◌, true≢false}
 use Rattle.std.specs.Map.{lookup}
 use Rattle.py_value.specs.declared.access.Location.{Location}
 use Rattle.py_value.specs.contracts.access.LocationPartialEq.TheImpl.{ghosts as locations}

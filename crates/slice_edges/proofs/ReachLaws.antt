@@ -20,6 +20,7 @@ use Rattle.row_words.specs.Fits.{Each}
 use Rattle.row_checks.specs.NamedRows.{NamesAccess}
 use Rattle.slice_law.specs.Closed.{has}
 use Rattle.slice_law.specs.Edges.{from_option, stmt_at, stmts_at, reach_stmts}
+use Rattle.slice_edges.specs.HasAsked.{is_filled}
 use Rattle.slice_edges.specs.Writers.{sets_in, updates_in}
 
 -- ---- times of a reach are times before
@@ -87,6 +88,16 @@ reach_next l moment before s = by (sets_at l (accesses_by moment)) (updates_at l
     by false true = ap (has s) (own_stmts moment before (reach l before)) ∙ has_both s (from_option (owner_stmt before)) (stmts_at (reach l before) (moment ∷ before))
         ∙ ap (λ stmts. has s (from_option (owner_stmt before)) || has s stmts) old
     by false false = ap (has s) old
+
+-- a moment that sets a location or changes it fills its reach
+pub filled_next : (l : SeenLocation) (moment : Moment) (before : List Moment)
+    → is_filled (reach l (moment ∷ before)) ≡ ((sets_at l (accesses_by moment) || updates_at l (accesses_by moment)) || is_filled (reach l before))
+filled_next l moment before = by (sets_at l (accesses_by moment)) (updates_at l (accesses_by moment))
+  where
+    by : (set update : Bool) → is_filled (if set then length before ∷ [] else if update then length before ∷ reach l before else reach l before) ≡ ((set || update) || is_filled (reach l before))
+    by true update = refl
+    by false true = refl
+    by false false = refl
 
 -- ---- locations with and without numbers
 

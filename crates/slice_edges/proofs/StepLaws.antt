@@ -1,17 +1,17 @@
 -- What is known once one more moment was told.
-use Rattle.std.proofs.Common.{◌≡◌, ℕ, ◌==◌, ◌&&◌, ◌||◌, Bool, true, false, List, [], ◌∷◌, map, Option, Some, None, refl, sym, ap, subst, ◌∙◌, unwrap_or, if◌then◌else◌}
+use Rattle.std.proofs.Common.{◌≡◌, ℕ, ◌==◌, ◌&&◌, ◌||◌, Bool, true, false, List, [], ◌∷◌, map, Option, Some, None, is_some, refl, sym, ap, subst, ◌∙◌, unwrap_or, if◌then◌else◌}
 use Rattle.std.specs.Option.{option_map}
 use Rattle.prov_base.specs.declared.place.Pos.{Pos}
 use Rattle.py_tree.specs.Tree.{ScriptTree}
 use Rattle.py_value.specs.declared.access.Access.{Access}
 use Rattle.py_value.specs.declared.access.Location.{Location}
 use Rattle.py_value.specs.Contents.{Contents}
-use Rattle.py_value.specs.Seen.{SeenKind, SeenAccess, location_seen, access_seen, IsNamedLocation}
+use Rattle.py_value.specs.Seen.{SeenKind, SeenLocation, SeenAccess, location_seen, access_seen, IsNamedLocation}
 use Rattle.py_value.specs.Values.{ValuesView, AreInterned}
 use Rattle.py_model.specs.Going.{Open, a_statement, an_activation}
 use Rattle.py_model.specs.History.{accesses_by}
 use Rattle.py_model.specs.Moment.{Moment, begins, does, enters, leaves, ends}
-use Rattle.py_model.specs.Occurrences.{Occurrence, frames_after, without_top, sets_at, updates_at, open_of, owner_stmt}
+use Rattle.py_model.specs.Occurrences.{Occurrence, frames_after, without_top, sets_at, updates_at, open_of, owner_stmt, reach}
 use Rattle.py_model.specs.Plan.{Answer}
 use Rattle.py_model.specs.Told.{how_seen}
 use Rattle.py_model.specs.declared.moment.How.{How}
@@ -21,13 +21,15 @@ use Rattle.slice_law.specs.Closed.{has}
 use Rattle.slice_law.specs.Edges.{edge, by_control, by_jump, from_option, reach_stmts, reads_ask, caller, is_abrupt, asks_for_jump, asks, run_asks}
 use Rattle.slice_edges.specs.declared.asking.Asking.{Asking}
 use Rattle.slice_edges.specs.Asks.{among, some_asks, is_jump}
+use Rattle.slice_edges.specs.Binder.{AreBinders}
 use Rattle.slice_edges.specs.Frames.{owner_in, caller_in, without_first}
-use Rattle.slice_edges.specs.HasAsked.{HasAsked}
+use Rattle.slice_edges.specs.HasAsked.{is_filled, HasAsked}
 use Rattle.slice_edges.specs.Reading.{owner_reads}
-use Rattle.slice_edges.specs.Writers.{noted_at, sets_in, updates_in}
+use Rattle.slice_edges.specs.Writers.{found_at, is_noted, noted_at, after_set, after_change, sets_in, updates_in}
 use Rattle.slice_edges.proofs.FrameLaws.{owner_is, caller_is, jump_is, closed_is, abrupt_is}
-use Rattle.slice_edges.proofs.ReachLaws.{now_reached, reach_next, sets_seen, updates_seen}
+use Rattle.slice_edges.proofs.ReachLaws.{now_reached, reach_next, filled_next, sets_seen, updates_seen}
 use Rattle.slice_edges.proofs.ReadLaws.{asks_both, reads_asked}
+use Rattle.slice_edges.proofs.WritersLaws.{written_has, written_some}
 
 module _ (view : ValuesView) (script : ScriptTree) (old new : Asking) (told : List Moment) (before : HasAsked view script old told) where
   owner_known : (frames : List Open) → frames ≡ old.frames → owner_in frames ≡ owner_stmt told
@@ -47,6 +49,16 @@ module _ (view : ValuesView) (script : ScriptTree) (old new : Asking) (told : Li
       ∙ sym (reach_next (location_seen view l) moment told s
       ∙ ap (λ accesses. now_reached (sets_at (location_seen view l) accesses) (updates_at (location_seen view l) accesses) (has s (from_option (owner_stmt told))) (has s (reach_stmts (location_seen view l) told))) none)
 
+  quiet_reached : (moment : Moment) → accesses_by moment ≡ [] → new.writers ≡ old.writers → (l : Location) → IsNamedLocation view l
+      → is_noted new.writers.entries l ≡ is_filled (reach (location_seen view l) (moment ∷ told))
+  quiet_reached moment none same l named =
+      ap (λ writers. is_noted writers.entries l) same ∙ before.reached l named
+      ∙ sym (filled_next (location_seen view l) moment told
+      ∙ ap (λ accesses. (sets_at (location_seen view l) accesses || updates_at (location_seen view l) accesses) || is_filled (reach (location_seen view l) told)) none)
+
+  same_binders : new.binders ≡ old.binders → AreBinders script view.texts new.binders.entries
+  same_binders same = subst (λ entries. AreBinders script view.texts entries) (sym (ap (λ known. known.entries) same)) before.binders
+
   -- ---- a Begin
 
   begin_asks : (number : ℕ) (found : Option Occurrence) (s r : ℕ)
@@ -62,10 +74,12 @@ module _ (view : ValuesView) (script : ScriptTree) (old new : Asking) (told : Li
       one true b = refl
       one false b = refl
 
-  pub begin_step : (number : ℕ) → new.frames ≡ a_statement number ∷ old.frames → new.writers ≡ old.writers
+  pub begin_step : (number : ℕ) → new.frames ≡ a_statement number ∷ old.frames → new.writers ≡ old.writers → new.binders ≡ old.binders
       → ((s r : ℕ) → among new.asks.keys s r ≡ (((number == s) && has r (from_option (caller_in old.frames))) || among old.asks.keys s r)) → HasAsked view script new (begins number ∷ told)
-  begin_step number frames writers noted = record {
+  begin_step number frames writers binders noted = record {
+    binders = same_binders binders;
     frames = frames ∙ ap (λ open_ones. a_statement number ∷ open_ones) before.frames;
+    reached = quiet_reached (begins number) refl writers;
     writers = quiet (begins number) refl writers;
     asks = asks_next (begins number) (λ s r. (number == s) && has r (from_option (caller_in old.frames)))
         (λ s r. begin_asks number (caller script (frames_after told)) s r
@@ -74,9 +88,11 @@ module _ (view : ValuesView) (script : ScriptTree) (old new : Asking) (told : Li
 
   -- ---- a Leave
 
-  pub leave_step : (v : Contents) → new.frames ≡ without_first old.frames → new.writers ≡ old.writers → new.asks ≡ old.asks → HasAsked view script new (leaves v ∷ told)
-  leave_step v frames writers same = record {
+  pub leave_step : (v : Contents) → new.frames ≡ without_first old.frames → new.writers ≡ old.writers → new.binders ≡ old.binders → new.asks ≡ old.asks → HasAsked view script new (leaves v ∷ told)
+  leave_step v frames writers binders same = record {
+    binders = same_binders binders;
     frames = frames ∙ ap without_first before.frames ∙ sym (closed_is (frames_after told));
+    reached = quiet_reached (leaves v) refl writers;
     writers = quiet (leaves v) refl writers;
     asks = λ s r. ap (λ known. among known.keys s r) same ∙ before.asks s r;
   }
@@ -95,11 +111,13 @@ module _ (view : ValuesView) (script : ScriptTree) (old new : Asking) (told : Li
       one true false = refl
       one false b = refl
 
-  pub end_step : (number : ℕ) (how : How) → number ≡ unwrap_or (owner_in old.frames) 0 → new.frames ≡ without_first old.frames → new.writers ≡ old.writers
+  pub end_step : (number : ℕ) (how : How) → number ≡ unwrap_or (owner_in old.frames) 0 → new.frames ≡ without_first old.frames → new.writers ≡ old.writers → new.binders ≡ old.binders
       → ((s r : ℕ) → among new.asks.keys s r ≡ ((is_jump how && (has s (from_option (owner_in new.frames)) && (number == r))) || among old.asks.keys s r))
       → HasAsked view script new (ends (unwrap_or (owner_stmt told) 0) (how_seen how) ∷ told)
-  end_step number how is frames writers noted = subst (λ n. HasAsked view script new (ends n (how_seen how) ∷ told)) (is ∙ ap (λ found. unwrap_or found 0) (owner_known old.frames refl)) (record {
+  end_step number how is frames writers binders noted = subst (λ n. HasAsked view script new (ends n (how_seen how) ∷ told)) (is ∙ ap (λ found. unwrap_or found 0) (owner_known old.frames refl)) (record {
+    binders = same_binders binders;
     frames = closing;
+    reached = quiet_reached (ends number (how_seen how)) refl writers;
     writers = quiet (ends number (how_seen how)) refl writers;
     asks = asks_next (ends number (how_seen how)) (λ s r. is_jump how && (has s (from_option (owner_in new.frames)) && (number == r)))
         (λ s r. jump_asks number (is_abrupt script (how_seen how)) (asks_for_jump script (without_top (frames_after told))) s r
@@ -117,37 +135,49 @@ module _ (view : ValuesView) (script : ScriptTree) (old new : Asking) (told : Li
     owner_asked : (owner : Option ℕ) (s r : ℕ)
         → some_asks (elim owner [ None ↦ [] | Some asker ↦ reads_ask script asker (map (access_seen view) accesses) told ]) s r ≡ owner_reads script view.texts old.writers.entries owner accesses s r
     owner_asked None s r = refl
-    owner_asked (Some asker) s r = reads_asked view script asker old.writers.entries told before.writers accesses each s r
+    owner_asked (Some asker) s r = reads_asked view script asker old.writers.entries told before.reached before.writers accesses each s r
 
-    written : (set update : Bool) (own only : List ℕ) (earlier : List ℕ) (s : ℕ) → ((update && has s own) || has s (if set then own else earlier)) ≡ now_reached set update (has s own) (has s earlier)
-    written true true own only earlier s = twice (has s own)
-      where
-        twice : (b : Bool) → (b || b) ≡ b
-        twice true = refl
-        twice false = refl
-    written true false own only earlier s = refl
-    written false true own only earlier s = refl
-    written false false own only earlier s = refl
+    abbrev IsWritten : Type 0
+    IsWritten = (l : Location) → found_at new.writers.entries l ≡ after_change (updates_in l accesses) (owner_in old.frames) (after_set (sets_in l accesses) (owner_in old.frames) (found_at old.writers.entries l))
 
-    writes_next : (moment : Moment) → accesses_by moment ≡ map (access_seen view) accesses
-        → ((l : Location) (s : ℕ) → has s (noted_at new.writers.entries l) ≡ ((updates_in l accesses && has s (from_option (owner_in old.frames))) || has s (if sets_in l accesses then from_option (owner_in old.frames) else noted_at old.writers.entries l)))
-        → (l : Location) → IsNamedLocation view l → (s : ℕ) → has s (noted_at new.writers.entries l) ≡ has s (reach_stmts (location_seen view l) (moment ∷ told))
-    writes_next moment same noted l named s =
-        let own = from_option (owner_in old.frames) in
-        noted l s ∙ written (sets_in l accesses) (updates_in l accesses) own own (noted_at old.writers.entries l) s
-        ∙ ap (λ b. now_reached b (updates_in l accesses) (has s own) (has s (noted_at old.writers.entries l))) (sets_seen view interned l named accesses each)
-        ∙ ap (λ b. now_reached (sets_at (location_seen view l) (map (access_seen view) accesses)) b (has s own) (has s (noted_at old.writers.entries l))) (updates_seen view interned l named accesses each)
-        ∙ ap (λ b. now_reached (sets_at (location_seen view l) (map (access_seen view) accesses)) (updates_at (location_seen view l) (map (access_seen view) accesses)) (has s own) b) (before.writers l named s)
-        ∙ ap (λ found. now_reached (sets_at (location_seen view l) (map (access_seen view) accesses)) (updates_at (location_seen view l) (map (access_seen view) accesses)) (has s (from_option found)) (has s (reach_stmts (location_seen view l) told))) (owner_known old.frames refl)
-        ∙ ap (λ these. now_reached (sets_at (location_seen view l) these) (updates_at (location_seen view l) these) (has s (from_option (owner_stmt told))) (has s (reach_stmts (location_seen view l) told))) (sym same)
-        ∙ sym (reach_next (location_seen view l) moment told s)
+    module _ (moment : Moment) (same : accesses_by moment ≡ map (access_seen view) accesses) (noted : IsWritten) (l : Location) (named : IsNamedLocation view l) where
+      abbrev own : Option ℕ
+      own = owner_in old.frames
 
-    pub do_step : (at : Pos) (op : ℕ) (values : List Contents) (answer : Answer) (made : Option SeenKind) (weight : ℕ) → new.frames ≡ old.frames
-        → ((l : Location) (s : ℕ) → has s (noted_at new.writers.entries l) ≡ ((updates_in l accesses && has s (from_option (owner_in old.frames))) || has s (if sets_in l accesses then from_option (owner_in old.frames) else noted_at old.writers.entries l)))
+      abbrev seen : SeenLocation
+      seen = location_seen view l
+
+      set_is : sets_in l accesses ≡ sets_at seen (accesses_by moment)
+      set_is = sets_seen view interned l named accesses each ∙ ap (sets_at seen) (sym same)
+
+      changed_is : updates_in l accesses ≡ updates_at seen (accesses_by moment)
+      changed_is = updates_seen view interned l named accesses each ∙ ap (updates_at seen) (sym same)
+
+      reached_next : is_noted new.writers.entries l ≡ is_filled (reach seen (moment ∷ told))
+      reached_next =
+          ap is_some (noted l) ∙ written_some (sets_in l accesses) (updates_in l accesses) own (found_at old.writers.entries l)
+          ∙ ap (λ b. (b || updates_in l accesses) || is_noted old.writers.entries l) set_is
+          ∙ ap (λ b. (sets_at seen (accesses_by moment) || b) || is_noted old.writers.entries l) changed_is
+          ∙ ap (λ b. (sets_at seen (accesses_by moment) || updates_at seen (accesses_by moment)) || b) (before.reached l named)
+          ∙ sym (filled_next seen moment told)
+
+      writes_next : (s : ℕ) → has s (noted_at new.writers.entries l) ≡ has s (reach_stmts seen (moment ∷ told))
+      writes_next s =
+          ap (λ found. has s (unwrap_or found [])) (noted l) ∙ written_has s (sets_in l accesses) (updates_in l accesses) own (found_at old.writers.entries l)
+          ∙ ap (λ b. now_reached b (updates_in l accesses) (has s (from_option own)) (has s (noted_at old.writers.entries l))) set_is
+          ∙ ap (λ b. now_reached (sets_at seen (accesses_by moment)) b (has s (from_option own)) (has s (noted_at old.writers.entries l))) changed_is
+          ∙ ap (now_reached (sets_at seen (accesses_by moment)) (updates_at seen (accesses_by moment)) (has s (from_option own))) (before.writers l named s)
+          ∙ ap (λ found. now_reached (sets_at seen (accesses_by moment)) (updates_at seen (accesses_by moment)) (has s (from_option found)) (has s (reach_stmts seen told))) (owner_known old.frames refl)
+          ∙ sym (reach_next seen moment told s)
+
+    pub do_step : (at : Pos) (op : ℕ) (values : List Contents) (answer : Answer) (made : Option SeenKind) (weight : ℕ) → new.frames ≡ old.frames → AreBinders script view.texts new.binders.entries
+        → IsWritten
         → ((s r : ℕ) → among new.asks.keys s r ≡ (owner_reads script view.texts old.writers.entries (owner_in old.frames) accesses s r || among old.asks.keys s r))
         → HasAsked view script new (does at op values answer made (map (access_seen view) accesses) weight ∷ told)
-    do_step at op values answer made weight frames noted asked = record {
+    do_step at op values answer made weight frames binders noted asked = record {
+      binders = binders;
       frames = frames ∙ before.frames;
+      reached = reached_next (does at op values answer made (map (access_seen view) accesses) weight) refl noted;
       writers = writes_next (does at op values answer made (map (access_seen view) accesses) weight) refl noted;
       asks = asks_next (does at op values answer made (map (access_seen view) accesses) weight) (λ s r. owner_reads script view.texts old.writers.entries (owner_in old.frames) accesses s r)
           (λ s r. owner_asked (owner_stmt told) s r ∙ ap (λ owner. owner_reads script view.texts old.writers.entries owner accesses s r) (sym (owner_known old.frames refl))) asked;
@@ -157,9 +187,13 @@ module _ (view : ValuesView) (script : ScriptTree) (old new : Asking) (told : Li
 
 module _ (view : ValuesView) (script : ScriptTree) (mid new : Asking) (told : List Moment) (at call def : Pos) (op : ℕ) (values others : List Contents) (answer : Answer) (made : Option SeenKind) (accesses : List SeenAccess) (weight : ℕ)
     (done : HasAsked view script mid (does at op others answer made accesses weight ∷ told)) where
-  pub enter_step : new.frames ≡ an_activation ∷ mid.frames → new.writers ≡ mid.writers → new.asks ≡ mid.asks → HasAsked view script new (enters call def values accesses ∷ told)
-  enter_step frames writers same = record {
+  pub enter_step : new.frames ≡ an_activation ∷ mid.frames → new.writers ≡ mid.writers → new.binders ≡ mid.binders → new.asks ≡ mid.asks → HasAsked view script new (enters call def values accesses ∷ told)
+  enter_step frames writers binders same = record {
+    binders = subst (λ entries. AreBinders script view.texts entries) (sym (ap (λ known. known.entries) binders)) done.binders;
     frames = frames ∙ ap (λ open_ones. an_activation ∷ open_ones) done.frames;
+    reached = λ l named. ap (λ known. is_noted known.entries l) writers ∙ done.reached l named
+        ∙ filled_next (location_seen view l) (does at op others answer made accesses weight) told
+        ∙ sym (filled_next (location_seen view l) (enters call def values accesses) told);
     writers = λ l named s. ap (λ known. has s (noted_at known.entries l)) writers ∙ done.writers l named s
         ∙ reach_next (location_seen view l) (does at op others answer made accesses weight) told s
         ∙ sym (reach_next (location_seen view l) (enters call def values accesses) told s);

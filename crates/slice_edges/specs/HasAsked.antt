@@ -1,20 +1,28 @@
--- What the pass knows after rows: what is open, the statements of the reach of each location, and which statement asks for which.
-use Rattle.std.specs.Prelude.{◌≡◌, ℕ, List, map}
+-- What the pass knows after rows: what is open, where a reach is empty and which statements it has, and which statement asks for which.
+use Rattle.std.specs.Prelude.{◌≡◌, ℕ, Bool, true, false, List, [], ◌∷◌, map}
 use Rattle.py_tree.specs.Tree.{ScriptTree}
 use Rattle.py_value.specs.declared.access.Location.{Location}
 use Rattle.py_value.specs.Seen.{location_seen, IsNamedLocation}
 use Rattle.py_value.specs.Values.{ValuesView}
 use Rattle.py_model.specs.Moment.{Moment}
-use Rattle.py_model.specs.Occurrences.{frames_after, open_of}
+use Rattle.py_model.specs.Occurrences.{frames_after, open_of, reach}
 use Rattle.slice_law.specs.Closed.{has}
 use Rattle.slice_law.specs.Edges.{reach_stmts, run_asks}
 use Rattle.slice_edges.specs.declared.asking.Asking.{Asking}
 use Rattle.slice_edges.specs.Asks.{among, some_asks}
-use Rattle.slice_edges.specs.Writers.{noted_at}
+use Rattle.slice_edges.specs.Binder.{AreBinders}
+use Rattle.slice_edges.specs.Writers.{is_noted, noted_at}
 
--- After the moments that were told, the latest first: the same is open, at each location that is named the statements of its reach are
--- noted, and a pair is noted exactly where one of the edges of these moments has it.
+abbrev pub is_filled : List ℕ → Bool
+is_filled [] = false
+is_filled (time ∷ times) = true
+
+-- After the moments that were told, the latest first: the same is open, at a location that is named something is noted exactly where its
+-- reach is not empty, and then the statements of its reach, and a pair is noted exactly where one of the edges of these moments has it. Binders
+-- that are remembered are right.
 pub record HasAsked (view : ValuesView) (script : ScriptTree) (asking : Asking) (told : List Moment) : Type 0 where
   pub frames : asking.frames ≡ map open_of (frames_after told)
+  pub reached : (l : Location) → IsNamedLocation view l → is_noted asking.writers.entries l ≡ is_filled (reach (location_seen view l) told)
   pub writers : (l : Location) → IsNamedLocation view l → (s : ℕ) → has s (noted_at asking.writers.entries l) ≡ has s (reach_stmts (location_seen view l) told)
+  pub binders : AreBinders script view.texts asking.binders.entries
   pub asks : (s r : ℕ) → among asking.asks.keys s r ≡ some_asks (run_asks script told) s r

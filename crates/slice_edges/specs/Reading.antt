@@ -1,6 +1,6 @@
 -- No public clause cites this file.
 -- Which statements the reads of a row ask for, where texts and locations have numbers.
-use Rattle.std.specs.Prelude.{ℕ, zero, suc, ◌==◌, ◌&&◌, Bool, false, List, [], ◌∷◌, slice_get, unwrap_or, Option, Some, None}
+use Rattle.std.specs.Prelude.{ℕ, zero, suc, ◌==◌, ◌&&◌, Bool, false, List, [], slice_get, unwrap_or, Option, Some, None}
 use Rattle.std.specs.List.{list_any}
 use Rattle.py_tree.specs.Owners.{statements}
 use Rattle.py_tree.specs.Tree.{ScriptTree}
@@ -10,7 +10,7 @@ use Rattle.py_value.specs.declared.access.Location.{Location}
 use Rattle.py_value.specs.declared.access.Location.TheVariants.{Var, Len, Item, Entry, Order, File, Offset, Closed, Method, Base}
 use Rattle.slice_law.specs.Closed.{has}
 use Rattle.slice_law.specs.Edges.{from_option, first_binder, function_of_stmt}
-use Rattle.slice_edges.specs.Writers.{noted_at}
+use Rattle.slice_edges.specs.Writers.{found_at}
 
 -- the number of a local name; a name of the script's own activation is none
 abbrev pub local_name : Location → Option ℕ
@@ -35,14 +35,14 @@ module _ (script : ScriptTree) (texts : List (List ℕ)) (asker : ℕ) where
   binder_for None = []
   binder_for (Some name) = binder_of name
 
-  -- the statements that are noted at a location, or the one that binds its name
-  abbrev pub stmts_or : Location → List ℕ → List ℕ
-  stmts_or l [] = binder_for (local_name l)
-  stmts_or l (r ∷ rs) = r ∷ rs
+  -- the statements that are noted at a location; where nothing is, the one that binds its name
+  abbrev pub stmts_or : Location → Option (List ℕ) → List ℕ
+  stmts_or l None = binder_for (local_name l)
+  stmts_or l (Some numbers) = numbers
 
   module _ (entries : List (Location × List ℕ)) where
     abbrev pub read_stmts : Access → List ℕ
-    read_stmts (Read l) = stmts_or l (noted_at entries l)
+    read_stmts (Read l) = stmts_or l (found_at entries l)
     read_stmts (Set l content) = []
     read_stmts (Update l change) = []
 

@@ -23,6 +23,7 @@ ghost use Rattle.row_moments.specs.Moments.{told_with};
 
 use crate::Ask;
 use crate::ask::{ask_for, ask_jump};
+use crate::binder::Local;
 use crate::frames::Frames;
 use crate::reads::ask_owner;
 use crate::stmts::Stmts;
@@ -35,12 +36,14 @@ use py_value::{Access, Location};
 use std::alloc::Global;
 use trace_rows::Row;
 
-/// What is known after rows: what is open, the statements of the reach of each location, and which statement asks for which.
+/// What is known after rows: what is open, the statements of the reach of each location, which statement asks for which,
+/// and the binders of names that were found.
 #[derive(Drop)]
 pub struct Asking {
     frames: Frames,
     writers: IndexMap<Location, Stmts>,
     asks: IndexSet<Ask>,
+    binders: IndexMap<Local, Option<u32>>,
 }
 
 impl Asking {
@@ -52,6 +55,7 @@ impl Asking {
             frames: Frames::new(alloc),
             writers: IndexMap::new(alloc),
             asks: IndexSet::new(alloc),
+            binders: IndexMap::new(alloc),
         }
     }
 
@@ -72,6 +76,7 @@ impl Asking {
         let owner = self.frames.owner();
         ask_owner(
             &mut self.asks,
+            &mut self.binders,
             script,
             names,
             &self.writers,

@@ -1,10 +1,8 @@
 // Which statements wrote what stands at each location.
-ghost use Rattle.std.specs.Prelude.{◌≡◌, ◌==◌, ◌&&◌, ◌||◌, ℕ, [], OnOk, if◌then◌else◌};
+ghost use Rattle.std.specs.Prelude.{◌≡◌, OnOk};
 ghost use Rattle.py_value.specs.declared.access.Location.{Location as OneLocation};
 ghost use Rattle.py_value.specs.contracts.access.LocationPartialEq.TheImpl.{ghosts as locations};
-ghost use Rattle.slice_law.specs.Closed.{has};
-ghost use Rattle.slice_law.specs.Edges.{from_option};
-ghost use Rattle.slice_edges.specs.Writers.{noted_at, with_stmt, sets_one, updates_one, sets_in, updates_in};
+ghost use Rattle.slice_edges.specs.Writers.{found_at, noted_at, after_set, after_change, sets_one, updates_one, sets_in, updates_in};
 
 use crate::stmts::Stmts;
 use indexmap::IndexMap;
@@ -29,20 +27,20 @@ fn put_one(
     at: Location,
     stmt: Option<u32>,
 ) -> Result<(), Memory>
-    ensures { OnOk result ((l : OneLocation) → noted_at writers.new.entries l ≡ (if locations.eq at l then from_option stmt else noted_at writers.old.entries l)) }
+    ensures { OnOk result ((l : OneLocation) → found_at writers.new.entries l ≡ after_set (locations.eq at l) stmt (found_at writers.old.entries l)) }
 {
     writers.insert(at, Stmts::only(alloc, stmt)?)?;
     Ok(())
 }
 
-// What stands at a location is set: the statement that does it alone is noted there.
+// What stands at a location is set: the statement that does it alone is noted there, or none.
 fn set_one(
     alloc: Global,
     writers: &mut IndexMap<Location, Stmts>,
     at: Location,
     stmt: Option<u32>,
 ) -> Result<(), Memory>
-    ensures { OnOk result ((l : OneLocation) → noted_at writers.new.entries l ≡ (if locations.eq at l then from_option stmt else noted_at writers.old.entries l)) }
+    ensures { OnOk result ((l : OneLocation) → found_at writers.new.entries l ≡ after_set (locations.eq at l) stmt (found_at writers.old.entries l)) }
 {
     match writers.get_mut(&at) {
         Some(stmts) => stmts.set_only(stmt),
@@ -50,18 +48,18 @@ fn set_one(
     }
 }
 
-// What stands at a location is changed: the statement that does it is noted there with the others.
+// What stands at a location is changed: the statement that does it, if there is one, is noted there with the others.
 fn update_one(
     alloc: Global,
     writers: &mut IndexMap<Location, Stmts>,
     at: Location,
-    stmt: u32,
+    stmt: Option<u32>,
 ) -> Result<(), Memory>
-    ensures { OnOk result ((l : OneLocation) → noted_at writers.new.entries l ≡ (if locations.eq at l then with_stmt stmt (noted_at writers.old.entries l) else noted_at writers.old.entries l)) }
+    ensures { OnOk result ((l : OneLocation) → found_at writers.new.entries l ≡ after_change (locations.eq at l) stmt (found_at writers.old.entries l)) }
 {
     match writers.get_mut(&at) {
-        Some(stmts) => stmts.add(stmt),
-        None => put_one(alloc, writers, at, Some(stmt)),
+        Some(stmts) => stmts.add(alloc, stmt),
+        None => put_one(alloc, writers, at, stmt),
     }
 }
 
@@ -72,7 +70,7 @@ fn set_access(
     access: &Access,
     stmt: Option<u32>,
 ) -> Result<(), Memory>
-    ensures { OnOk result ((l : OneLocation) → noted_at writers.new.entries l ≡ (if sets_one l access.now then from_option stmt else noted_at writers.old.entries l)) }
+    ensures { OnOk result ((l : OneLocation) → found_at writers.new.entries l ≡ after_set (sets_one l access.now) stmt (found_at writers.old.entries l)) }
 {
     match access {
         Access::Set(at, _) => set_one(alloc, writers, *at, stmt),
@@ -85,9 +83,9 @@ fn update_access(
     alloc: Global,
     writers: &mut IndexMap<Location, Stmts>,
     access: &Access,
-    stmt: u32,
+    stmt: Option<u32>,
 ) -> Result<(), Memory>
-    ensures { OnOk result ((l : OneLocation) → noted_at writers.new.entries l ≡ (if updates_one l access.now then with_stmt stmt (noted_at writers.old.entries l) else noted_at writers.old.entries l)) }
+    ensures { OnOk result ((l : OneLocation) → found_at writers.new.entries l ≡ after_change (updates_one l access.now) stmt (found_at writers.old.entries l)) }
 {
     match access {
         Access::Update(at, _) => update_one(alloc, writers, *at, stmt),
@@ -102,7 +100,7 @@ fn set_each(
     accesses: &[Access],
     stmt: Option<u32>,
 ) -> Result<(), Memory>
-    ensures { OnOk result ((l : OneLocation) → noted_at writers.new.entries l ≡ (if sets_in l accesses.now then from_option stmt else noted_at writers.old.entries l)) }
+    ensures { OnOk result ((l : OneLocation) → found_at writers.new.entries l ≡ after_set (sets_in l accesses.now) stmt (found_at writers.old.entries l)) }
 {
     for access in accesses {
         set_access(alloc, writers, access, stmt)?;
@@ -115,9 +113,9 @@ fn update_each(
     alloc: Global,
     writers: &mut IndexMap<Location, Stmts>,
     accesses: &[Access],
-    stmt: u32,
+    stmt: Option<u32>,
 ) -> Result<(), Memory>
-    ensures { OnOk result ((l : OneLocation) (s : ℕ) → has s (noted_at writers.new.entries l) ≡ ((updates_in l accesses.now && (stmt == s)) || has s (noted_at writers.old.entries l))) }
+    ensures { OnOk result ((l : OneLocation) → found_at writers.new.entries l ≡ after_change (updates_in l accesses.now) stmt (found_at writers.old.entries l)) }
 {
     for access in accesses {
         update_access(alloc, writers, access, stmt)?;
@@ -125,19 +123,17 @@ fn update_each(
     Ok(())
 }
 
-/// What accesses write is noted: what they set has the statement alone, and what they change has it with the others.
+/// What accesses write is noted: what they set has the statement alone, and what they change has it with the others. Where there is no
+/// statement, it is noted that something was written.
 pub(crate) fn note(
     alloc: Global,
     writers: &mut IndexMap<Location, Stmts>,
     accesses: &[Access],
     stmt: Option<u32>,
 ) -> Result<(), Memory>
-    ensures { OnOk result ((l : OneLocation) (s : ℕ) → has s (noted_at writers.new.entries l)
-        ≡ ((updates_in l accesses.now && has s (from_option stmt)) || has s (if sets_in l accesses.now then from_option stmt else noted_at writers.old.entries l))) }
+    ensures { OnOk result ((l : OneLocation) → found_at writers.new.entries l
+        ≡ after_change (updates_in l accesses.now) stmt (after_set (sets_in l accesses.now) stmt (found_at writers.old.entries l))) }
 {
     set_each(alloc, writers, accesses, stmt)?;
-    match stmt {
-        Some(stmt) => update_each(alloc, writers, accesses, stmt),
-        None => Ok(()),
-    }
+    update_each(alloc, writers, accesses, stmt)
 }

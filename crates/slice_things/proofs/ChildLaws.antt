@@ -1,5 +1,5 @@
 -- The values that objects are known to hold are those of the store.
-use Rattle.std.proofs.Common.{◌≡◌, ℕ, zero, suc, ◌<◌, ◌⊎◌, inl, inr, ◌&&◌, Bool, true, false, nat_lt, List, [], ◌∷◌, map, slice_get, unwrap_or, Option, Some, None, refl, sym, ap, subst, ◌∙◌, arith, if◌then◌else◌, true≢false}
+use Rattle.std.proofs.Common.{◌≡◌, ℕ, suc, ◌<◌, ◌⊎◌, inl, inr, ◌&&◌, Bool, true, false, nat_lt, List, [], ◌∷◌, map, slice_get, unwrap_or, Option, Some, None, is_some, refl, sym, ap, subst, ◌∙◌, arith, if◌then◌else◌, true≢false}
 use Rattle.std.specs.Map.{lookup}
 use Rattle.std.specs.Option.{option_map}
 use Rattle.std.proofs.lemmas.Bool.{lt-ltb, ltb-true}
@@ -12,25 +12,24 @@ use Rattle.py_value.specs.contracts.access.LocationPartialEq.TheImpl.{ghosts as 
 use Rattle.py_value.specs.Contents.{Contents, nothing, truth, int, text, tuple, range, function, class, exception_class, builtin, object, contents}
 use Rattle.py_value.specs.KeyOf.{normal}
 use Rattle.py_value.specs.Same.{same_value}
-use Rattle.py_value.specs.Seen.{SeenContent, SeenKind, a_list, a_dict, an_instance, a_file, item_at, entry_at, len_at, var_is, len_is, item_is, entry_is, order_is, file_is, offset_is, closed_is, method_is, base_is, location_seen, IsNamedLocation}
+use Rattle.py_value.specs.Seen.{SeenContent, SeenKind, a_list, a_dict, an_instance, a_file, item_at, entry_at, len_at, var_is, len_is, item_is, entry_is, order_is, file_is, offset_is, closed_is, method_is, base_is, IsNamedLocation}
 use Rattle.py_value.specs.Values.{ValuesView, IsNamed}
 use Rattle.py_value.proofs.Equality.{location_same}
 use Rattle.py_value.proofs.SameTests.{value_same as contents_same, value_own as contents_own}
 use Rattle.py_model.specs.Store.{RunStore, empty, len_of, item_of, entry_of, order_of}
 use Rattle.slice_law.specs.Closed.{IsIn}
-use Rattle.slice_law.specs.Reached.{StandsIn, StandsInItem, StandsInEntry, InItem, InEntry, Holds}
+use Rattle.slice_law.specs.Reached.{StandsIn, StandsInItem, StandsInEntry, AllBefore, InItem, InEntry, Holds}
 use Rattle.slice_things.specs.declared.forms.Forms.{Forms}
 use Rattle.slice_things.specs.declared.held.Held.{Held}
 use Rattle.slice_things.specs.declared.held.Held.TheVariants.{Nothing, Length, Item as HeldItem, Entry as HeldEntry}
-use Rattle.slice_things.specs.declared.things.Shape.{Shape}
-use Rattle.slice_things.specs.declared.things.Shape.TheVariants.{List as ListShape, Keyed, File as FileShape}
 use Rattle.slice_things.specs.declared.things.Things.{Things}
-use Rattle.slice_things.specs.Children.{length_in, is_list, is_keyed, child_if, item_child, entry_child, length_of, has_item, has_entry, child_at, children_at, children_of, HoldsChild}
+use Rattle.slice_things.specs.Children.{length_in, is_item, is_entry, is_list, is_keyed, child_if, item_child, entry_child, length_of, item_there, entry_there, all_before, has_item, has_entry, child_at, children_at, children_of, HoldsChild}
 use Rattle.slice_things.specs.Counts.{often}
 use Rattle.slice_things.specs.Forms.{AreForms}
 use Rattle.slice_things.specs.Held.{noted_at, SeenHeld, holds_nothing, holds_length, holds_item, holds_entry, held_seen, what_stands, IsTextItem, Agrees}
 use Rattle.slice_things.specs.Orders.{order_in, how_often}
 use Rattle.slice_things.specs.Things.{HoldsStore, shape_seen}
+use Rattle.slice_things.proofs.EndLaws.{before_less, less_before}
 
 -- ---- children among places
 
@@ -139,7 +138,10 @@ module _ (view : ValuesView) (p : ℕ) where
   entry_noted (Some (base_is v)) held stands agrees = absurd stands
 
   item_stands : (content : Option SeenContent) (v : Value) → StandsIn p (contents view v) → Agrees (holds_item (contents view v)) (what_stands content) → StandsInItem p (item_of (holding content) 0 0)
-  item_stands content v stands (inr is) = absurd cc
+  item_stands content v stands (inr is) = absurd (subst (StandsIn p) (same is.0) stands)
+    where
+      same : holds_item (contents view v) ≡ holds_item nothing → contents view v ≡ nothing
+      same is = cc
   item_stands (Some (item_is c)) v stands (inl is) = subst (StandsIn p) (same is) stands
     where
       same : holds_item (contents view v) ≡ holds_item c → contents view v ≡ c
@@ -214,6 +216,74 @@ len_noted view content held agrees = by content held agrees
     by content held (inl is) = noted held ∙ ap as_seen is ∙ sym (stands content)
     by content held (inr is) = noted held ∙ ap as_seen is.0 ∙ sym (stands content ∙ plain (what_stands content) is.1)
 
+-- whether an item stands there, and whether an entry does
+module _ (view : ValuesView) where
+  abbrev item_seen : SeenHeld → Bool
+  item_seen (holds_item c) = true
+  item_seen holds_nothing = false
+  item_seen (holds_length n) = false
+  item_seen (holds_entry c) = false
+
+  abbrev entry_seen : SeenHeld → Bool
+  entry_seen (holds_entry c) = true
+  entry_seen holds_nothing = false
+  entry_seen (holds_length n) = false
+  entry_seen (holds_item c) = false
+
+  item_held_seen : (held : Held) → is_item held ≡ item_seen (held_seen view held)
+  item_held_seen Nothing = refl
+  item_held_seen (Length n) = refl
+  item_held_seen (HeldItem v) = refl
+  item_held_seen (HeldEntry v) = refl
+
+  entry_held_seen : (held : Held) → is_entry held ≡ entry_seen (held_seen view held)
+  entry_held_seen Nothing = refl
+  entry_held_seen (Length n) = refl
+  entry_held_seen (HeldItem v) = refl
+  entry_held_seen (HeldEntry v) = refl
+
+  item_there_seen : (content : Option SeenContent) → is_some (item_of (holding content) 0 0) ≡ item_seen (what_stands content)
+  item_there_seen None = refl
+  item_there_seen (Some (item_is c)) = refl
+  item_there_seen (Some (var_is w)) = refl
+  item_there_seen (Some (len_is n)) = refl
+  item_there_seen (Some (entry_is None)) = refl
+  item_there_seen (Some (entry_is (Some e))) = refl
+  item_there_seen (Some (order_is keys)) = refl
+  item_there_seen (Some (file_is bytes)) = refl
+  item_there_seen (Some (offset_is n)) = refl
+  item_there_seen (Some (closed_is b)) = refl
+  item_there_seen (Some (method_is at)) = refl
+  item_there_seen (Some (base_is w)) = refl
+
+  entry_there_seen : (content : Option SeenContent) → is_some (entry_of (holding content) 0 nothing) ≡ entry_seen (what_stands content)
+  entry_there_seen None = refl
+  entry_there_seen (Some (item_is c)) = refl
+  entry_there_seen (Some (var_is w)) = refl
+  entry_there_seen (Some (len_is n)) = refl
+  entry_there_seen (Some (entry_is None)) = refl
+  entry_there_seen (Some (entry_is (Some e))) = refl
+  entry_there_seen (Some (order_is keys)) = refl
+  entry_there_seen (Some (file_is bytes)) = refl
+  entry_there_seen (Some (offset_is n)) = refl
+  entry_there_seen (Some (closed_is b)) = refl
+  entry_there_seen (Some (method_is at)) = refl
+  entry_there_seen (Some (base_is w)) = refl
+
+  text_is_item : (what : SeenHeld) → IsTextItem what → (item_seen what ≡ true) × (entry_seen what ≡ false)
+  text_is_item (holds_item c) is = (refl, refl)
+  text_is_item holds_nothing is = absurd is
+  text_is_item (holds_length n) is = absurd is
+  text_is_item (holds_entry c) is = absurd is
+
+  item_known : (content : Option SeenContent) (held : Held) → Agrees (held_seen view held) (what_stands content) → is_item held ≡ is_some (item_of (holding content) 0 0)
+  item_known content held (inl is) = item_held_seen held ∙ (ap item_seen is ∙ sym (item_there_seen content))
+  item_known content held (inr is) = item_held_seen held ∙ (ap item_seen is.0 ∙ (sym (text_is_item (what_stands content) is.1).0 ∙ sym (item_there_seen content)))
+
+  entry_known : (content : Option SeenContent) (held : Held) → Agrees (held_seen view held) (what_stands content) → is_entry held ≡ is_some (entry_of (holding content) 0 nothing)
+  entry_known content held (inl is) = entry_held_seen held ∙ (ap entry_seen is ∙ sym (entry_there_seen content))
+  entry_known content held (inr is) = entry_held_seen held ∙ (ap entry_seen is.0 ∙ (sym (text_is_item (what_stands content) is.1).1 ∙ sym (entry_there_seen content)))
+
 -- ---- how often a key stands in an order
 
 pub often_there : (c key : Contents) (keys : List Contents) → IsIn keys key → c ≡ normal key → nat_lt 0 (how_often c keys) ≡ true
@@ -260,11 +330,29 @@ module _ (view : ValuesView) (forms : Forms) (things : Things) (store : RunStore
   pub length_is : (o : ℕ) → length_of things o ≡ len_of store o
   length_is o = len_noted view (store.at (len_at o)) (noted_at things.places.entries (Len o)) (known.places (Len o) tt)
 
+  item_is_there : (o i : ℕ) → item_there things o i ≡ is_some (item_of store o i)
+  item_is_there o i = item_known view (store.at (item_at o i)) (noted_at things.places.entries (Item o i)) (known.places (Item o i) tt)
+
+  pub entry_is_there : (o : ℕ) (form : Value) (key : Contents) → IsNamed forms.values form → contents forms.values form ≡ normal key → entry_there things o form ≡ is_some (entry_of store o key)
+  entry_is_there o form key named is = entry_known view (store.at (entry_at o (normal key))) (noted_at things.places.entries (Entry o (record { value = form })))
+      (subst (λ c. Agrees (held_seen view (noted_at things.places.entries (Entry o (record { value = form })))) (what_stands (store.at (entry_at o c)))) is
+      (known.places (Entry o (record { value = form })) named))
+
+  pub there_before : (o i : ℕ) → AllBefore store o i → all_before things o i ≡ true
+  there_before o i all = less_before things o i (λ j less. item_is_there o j ∙ all j less)
+
+  pub before_there : (o i : ℕ) → all_before things o i ≡ true → AllBefore store o i
+  before_there o i all j less = sym (item_is_there o j) ∙ before_less things o i j less all
+
   item_held : (o p : ℕ) → is_list (slice_get things.kinds.items o) ≡ true → InItem store o p → HoldsChild view (children_of things) o p
   item_held o p list held = by (item_noted view p (store.at (item_at o held.i)) (noted_at things.places.entries (Item o held.i)) held.stands (known.places (Item o held.i) tt))
     where
       own : has_item things o held.i ≡ true
-      own = let length = length_is o in both_true (is_list (slice_get things.kinds.items o)) (nat_lt held.i (length_of things o)) list (lt-ltb held.i (length_of things o) (omega (arith, held.below, length)))
+      own =
+          let length = length_is o in
+          both_true (is_list (slice_get things.kinds.items o) && nat_lt held.i (length_of things o)) (all_before things o held.i)
+          (both_true (is_list (slice_get things.kinds.items o)) (nat_lt held.i (length_of things o)) list (lt-ltb held.i (length_of things o) (omega (arith, held.below, length))))
+          (there_before o held.i held.earlier)
 
       by : IsValue view p HeldItem (noted_at things.places.entries (Item o held.i)) → HoldsChild view (children_of things) o p
       by found = record {
@@ -291,8 +379,11 @@ module _ (view : ValuesView) (forms : Forms) (things : Things) (store : RunStore
       form_is = ((known.orders o).formed held.key held.ordered).form_is
 
       own : has_entry things o form ≡ true
-      own = both_true (is_keyed (slice_get things.kinds.items o)) (nat_lt 0 (often form (order_in things.orders.entries o))) keyed
-          (ap (nat_lt 0) ((known.orders o).counted form named) ∙ often_there (contents forms.values form) held.key (order_of store o) held.ordered form_is)
+      own =
+          both_true (is_keyed (slice_get things.kinds.items o) && nat_lt 0 (often form (order_in things.orders.entries o))) (entry_there things o form)
+          (both_true (is_keyed (slice_get things.kinds.items o)) (nat_lt 0 (often form (order_in things.orders.entries o))) keyed
+          (ap (nat_lt 0) ((known.orders o).counted form named) ∙ often_there (contents forms.values form) held.key (order_of store o) held.ordered form_is))
+          (entry_is_there o form held.key named form_is ∙ held.present)
 
       gone : (v : Value) → HeldEntry v ≡ Nothing → ⊥
       gone v is = cc
@@ -351,7 +442,8 @@ module _ (view : ValuesView) (forms : Forms) (things : Things) (store : RunStore
       by : (b : Bool) → has_item things q i ≡ b → child_if b q w ≡ Some (o, v) → Holds store o (slice_get store.kinds o) p
       by false own is = absurd cc
       by true own is =
-          let both = first_true (is_list (slice_get things.kinds.items q)) (nat_lt i (length_of things q)) own in
+          let all = first_true (is_list (slice_get things.kinds.items q) && nat_lt i (length_of things q)) (all_before things q i) own in
+          let both = first_true (is_list (slice_get things.kinds.items q)) (nat_lt i (length_of things q)) all.0 in
           let length = length_is q in
           let below : i < len_of store q = omega (arith, length, ltb-true i (length_of things q) both.1) in
           let same : (q, w) ≡ (o, v) = same_Some (q, w) (o, v) is in
@@ -359,6 +451,7 @@ module _ (view : ValuesView) (forms : Forms) (things : Things) (store : RunStore
           (list_holds q p both.0 (record {
             i = i;
             below = below;
+            earlier = before_there q i all.1;
             stands = item_stands view p (store.at (item_at q i)) w (subst (λ x. StandsIn p (contents view x)) (sym (ap (λ (pair : ℕ × Value). pair.1) same)) stands)
                 (subst (λ held. Agrees (held_seen view held) (what_stands (store.at (item_at q i)))) noted (known.places (Item q i) tt));
           }))
@@ -373,10 +466,11 @@ module _ (view : ValuesView) (forms : Forms) (things : Things) (store : RunStore
       gone : HeldEntry w ≡ Nothing → ⊥
       gone is = cc
 
-      held : IsNamed forms.values key.value → is_keyed (slice_get things.kinds.items q) ≡ true → KeyThere (contents forms.values key.value) (order_of store q) → StandsIn p (contents view w) → Holds store q (slice_get store.kinds q) p
-      held named keyed there stands = keyed_holds q p keyed (record {
+      held : IsNamed forms.values key.value → is_keyed (slice_get things.kinds.items q) ≡ true → entry_there things q key.value ≡ true → KeyThere (contents forms.values key.value) (order_of store q) → StandsIn p (contents view w) → Holds store q (slice_get store.kinds q) p
+      held named keyed present there stands = keyed_holds q p keyed (record {
         key = there.key;
         ordered = there.ordered;
+        present = sym (entry_is_there q key.value there.key named there.is) ∙ present;
         stands = inr (entry_stands view p (store.at (entry_at q (normal there.key))) w stands
             (subst (λ c. Agrees (holds_entry (contents view w)) (what_stands (store.at (entry_at q c)))) there.is
             (subst (λ held. Agrees (held_seen view held) (what_stands (store.at (entry_at q (contents forms.values key.value))))) noted (known.places (Entry q key) named))));
@@ -386,10 +480,11 @@ module _ (view : ValuesView) (forms : Forms) (things : Things) (store : RunStore
       by false own is named = absurd cc
       by true own is (inr none) = absurd (gone (sym noted ∙ none))
       by true own is (inl named) =
-          let both = first_true (is_keyed (slice_get things.kinds.items q)) (nat_lt 0 (often key.value (order_in things.orders.entries q))) own in
+          let all = first_true (is_keyed (slice_get things.kinds.items q) && nat_lt 0 (often key.value (order_in things.orders.entries q))) (entry_there things q key.value) own in
+          let both = first_true (is_keyed (slice_get things.kinds.items q)) (nat_lt 0 (often key.value (order_in things.orders.entries q))) all.0 in
           let same : (q, w) ≡ (o, v) = same_Some (q, w) (o, v) is in
           subst (λ r. Holds store r (slice_get store.kinds r) p) (ap (λ (pair : ℕ × Value). pair.0) same)
-          (held named both.0 (key_there (contents forms.values key.value) (order_of store q) (sym (ap (nat_lt 0) ((known.orders q).counted key.value named)) ∙ both.1))
+          (held named both.0 all.1 (key_there (contents forms.values key.value) (order_of store q) (sym (ap (nat_lt 0) ((known.orders q).counted key.value named)) ∙ both.1))
           (subst (λ x. StandsIn p (contents view x)) (sym (ap (λ (pair : ℕ × Value). pair.1) same)) stands))
   entry_found o p key q v Nothing noted is stands = absurd cc
   entry_found o p key q v (Length n) noted is stands = absurd cc

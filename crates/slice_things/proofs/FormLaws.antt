@@ -1,5 +1,5 @@
 -- One text more, and the form of one tuple more.
-use Rattle.std.proofs.Common.{◌≡◌, ℕ, suc, ◌+◌, ◌<◌, ◌≤◌, true, false, List, [], ◌∷◌, ◌++◌, take, length, map, slice_get, get_or, slice_index_or, unwrap_or, ◌⊎◌, inl, inr, ⊎_elim, Option, Some, refl, sym, ap, subst, ◌∙◌, arith}
+use Rattle.std.proofs.Common.{◌≡◌, ℕ, suc, ◌+◌, ◌<◌, ◌≤◌, true, false, List, [], ◌∷◌, ◌++◌, take, length, map, slice_get, get_or, slice_index_or, unwrap_or, ◌⊎◌, inl, inr, ⊎_elim, Some, refl, sym, ap, subst, ◌∙◌, arith}
 use Rattle.std.specs.Option.{option_map}
 use Rattle.std.proofs.lemmas.Option.{slice_get_within, slice_get-get_or, slice_get-map, get_or_from_slice_get}
 use Rattle.std.proofs.lemmas.List.{take_more, length-take-le, take_all, length-map}
@@ -12,6 +12,7 @@ use Rattle.py_value.specs.Values.{ValuesView, AreInterned, IsBelow, AreBelow, Ar
 use Rattle.py_value.proofs.Interning.{place_of, below_more, length-behind, which}
 use Rattle.py_value.proofs.KeyNotes.{normal_stays}
 use Rattle.py_value.proofs.NormalForms.{in_front, tuple_normal, forms_named, forms_stay}
+use Rattle.row_moments.specs.InOrder.{StandInOrder}
 use Rattle.slice_things.specs.declared.forms.Forms.{Forms}
 use Rattle.slice_things.specs.Forms.{form_in, AreFormsOf, IsFormed}
 
@@ -38,6 +39,13 @@ module _ {A : Type 0} where
           let front = sym (ap (λ front. slice_get front j) is) ∙ found.1 in
           let few = length-take-le i xs (omega (arith, slice_get_within xs i x at)) in
           omega (arith, slice_get_within (take i xs) j x front, few, once j i x (in_front i xs j x front) at)
+
+-- the parts of the next tuple are among what stands before it
+pub parts_named : (tuples : List (List Value)) (texts : List (List ℕ)) (now : ValuesView) (i : ℕ) (items : List Value) → StandInOrder (record { texts = texts; tuples = tuples })
+    → now.texts ≡ texts → now.tuples ≡ take i tuples → slice_get tuples i ≡ Some items → AreNamed now items
+parts_named tuples texts now i items order same front at j item there =
+    let few = length-take-le i tuples (omega (arith, slice_get_within tuples i items at)) in
+    below_more (length texts) i (length now.texts) (length now.tuples) item (omega (arith, ap length same)) (omega (arith, few, ap length front)) (order.parts i items at j item there)
 
 -- ---- the form of one tuple more
 

@@ -4,3 +4,4 @@ pub mod FormLaws
 pub mod OrderLaws
 pub mod OrderMaps
 pub mod ThingLaws
+pub mod EndLaws

@@ -1,12 +1,12 @@
 -- The counts of an order, as keys come and go.
-use Rattle.std.proofs.Common.{◌≡◌, ℕ, zero, suc, ◌+◌, ◌-◌, ◌⊎◌, inl, inr, Bool, true, false, List, [], ◌∷◌, ◌++◌, map, refl, sym, ap, subst, ◌∙◌, arith, if◌then◌else◌, slice_get, Some, true≢false}
+use Rattle.std.proofs.Common.{◌≡◌, ℕ, suc, ◌+◌, ◌-◌, ◌⊎◌, inl, inr, Bool, true, false, List, [], ◌∷◌, ◌++◌, map, refl, sym, ap, subst, ◌∙◌, arith, if◌then◌else◌, slice_get, Some, true≢false}
 use Rattle.py_value.specs.declared.value.Value.{Value}
 use Rattle.py_value.specs.contracts.value.ValuePartialEq.TheImpl.{ghosts as values}
 use Rattle.py_value.specs.Changes.{has_key, with_key, without_key}
 use Rattle.py_value.specs.Contents.{Contents, contents}
 use Rattle.py_value.specs.KeyOf.{normal}
 use Rattle.py_value.specs.Same.{same_value}
-use Rattle.py_value.specs.Values.{ValuesView, AreInterned, IsNamed}
+use Rattle.py_value.specs.Values.{ValuesView, IsNamed}
 use Rattle.py_value.proofs.Equality.{value_same, value_own}
 use Rattle.py_value.proofs.SameContents.{same_contents}
 use Rattle.py_value.proofs.SameTests.{value_same as contents_same, value_own as contents_own}

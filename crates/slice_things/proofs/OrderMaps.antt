@@ -1,5 +1,5 @@
 -- One object's order in the map of orders.
-use Rattle.std.proofs.Common.{◌≡◌, ℕ, ◌==◌, Bool, true, false, List, [], ◌∷◌, unwrap_or, Option, Some, None, refl, sym, ap, ◌∙◌, if◌then◌else◌, HashMap, IsSome, arith, eqb-true}
+use Rattle.std.proofs.Common.{◌≡◌, ℕ, ◌==◌, Bool, true, false, List, [], unwrap_or, Option, Some, None, refl, sym, ap, ◌∙◌, if◌then◌else◌, HashMap, IsSome, arith, eqb-true}
 use Rattle.std.specs.Map.{lookup}
 use Rattle.std.specs.HashMap.{WritesThrough, get_by}
 use Rattle.py_value.specs.declared.value.Value.{Value}

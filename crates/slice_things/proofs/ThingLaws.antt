@@ -1,7 +1,6 @@
 -- What is known of a store once an access is passed.
-use Rattle.std.proofs.Common.{◌≡◌, ℕ, zero, suc, ◌+◌, ◌-◌, ◌<◌, ◌==◌, ◌⊎◌, inl, inr, Bool, true, false, List, [], ◌∷◌, ◌++◌, map, take, length, slice_get, get_or, unwrap_or, codes, eqb-true, true≢false, Option, Some, None, refl, sym, ap, subst, ◌∙◌, arith, if◌then◌else◌}
-use Rattle.std.specs.Option.{option_map}
-use Rattle.std.proofs.lemmas.Bool.{eq-eqb}
+use Rattle.std.proofs.Common.{◌≡◌, ℕ, zero, suc, ◌+◌, ◌<◌, ◌≤◌, ◌≢◌, ◌==◌, ◌&&◌, nat_lt, ◌⊎◌, inl, inr, Bool, true, false, List, [], ◌∷◌, ◌++◌, map, take, length, slice_get, get_or, unwrap_or, codes, eqb-true, ltb-true, true≢false, Option, Some, None, refl, sym, ap, subst, ◌∙◌, arith, if◌then◌else◌}
+use Rattle.std.proofs.lemmas.Bool.{eq-eqb, lt-ltb, and_parts, and_from}
 use Rattle.std.proofs.lemmas.Option.{same_Some}
 use Rattle.std.proofs.lemmas.List.{map-append, take_more}
 use Rattle.py_value.specs.declared.access.Access.{Access}
@@ -13,13 +12,14 @@ use Rattle.py_value.specs.declared.access.Content.TheVariants.{Var as VarContent
 use Rattle.py_value.specs.declared.access.Location.{Location}
 use Rattle.py_value.specs.declared.access.Location.TheVariants.{Var, Len, Item, Entry, Order, File, Offset, Closed, Method, Base}
 use Rattle.py_value.specs.declared.value.Value.{Value}
+use Rattle.py_value.specs.declared.value.Value.TheVariants.{None as NoneValue}
 use Rattle.py_value.specs.contracts.access.LocationPartialEq.TheImpl.{ghosts as locations}
 use Rattle.py_value.specs.Changes.{with_key, without_key, changed, after_access, after_accesses}
 use Rattle.py_value.specs.Contents.{Contents, text, contents}
 use Rattle.py_value.specs.Named.{IsNamedContent, IsNamedChange}
-use Rattle.py_value.specs.Same.{same_location, put}
-use Rattle.py_value.specs.Seen.{SeenLocation, SeenContent, SeenChange, SeenAccess, SeenKind, var_at, len_at, item_at, entry_at, order_at, file_at, offset_at, closed_at, method_at, base_at, var_is, len_is, item_is, entry_is, order_is, file_is, offset_is, closed_is, method_is, base_is, key_inserted, key_deleted, bytes_appended, location_seen, location_at, content_seen, change_seen, access_seen, IsNamedLocation}
-use Rattle.py_value.specs.Values.{ValuesView, AreInterned, IsNamed}
+use Rattle.py_value.specs.Same.{same_location}
+use Rattle.py_value.specs.Seen.{SeenLocation, SeenContent, SeenChange, SeenAccess, SeenKind, var_at, len_at, item_at, entry_at, order_at, file_at, offset_at, closed_at, method_at, base_at, var_is, len_is, item_is, order_is, file_is, key_inserted, key_deleted, bytes_appended, location_seen, location_at, content_seen, change_seen, access_seen, IsNamedLocation}
+use Rattle.py_value.specs.Values.{ValuesView, AreInterned}
 use Rattle.py_value.proofs.Equality.{location_same as number_same, location_own as number_own}
 use Rattle.py_value.proofs.SameTests.{location_same as seen_same, location_own as seen_own}
 use Rattle.py_value.proofs.SeenLocations.{location_back}
@@ -28,13 +28,13 @@ use Rattle.row_words.specs.Fits.{Each}
 use Rattle.row_checks.specs.NamedRows.{NamesAccess}
 use Rattle.slice_things.specs.declared.forms.Forms.{Forms}
 use Rattle.slice_things.specs.declared.held.Held.{Held}
-use Rattle.slice_things.specs.declared.held.Held.TheVariants.{Nothing, Length}
+use Rattle.slice_things.specs.declared.held.Held.TheVariants.{Nothing, Length, Item as HeldItem}
 use Rattle.slice_things.specs.declared.things.Shape.{Shape}
 use Rattle.slice_things.specs.declared.things.Shape.TheVariants.{List as ListShape}
 use Rattle.slice_things.specs.declared.things.Things.{Things}
 use Rattle.slice_things.specs.Counts.{often, count_of, inserted, deleted}
 use Rattle.slice_things.specs.Forms.{form_in, AreForms}
-use Rattle.slice_things.specs.Held.{held_in, placed, noted_at, noted_after, held_seen, holds_nothing, holds_length, what_stands, Agrees}
+use Rattle.slice_things.specs.Held.{held_in, placed, noted_at, noted_after, held_seen, holds_nothing, holds_length, what_stands, IsTextItem, Agrees, with_words}
 use Rattle.slice_things.specs.Orders.{order_in, order_object, keys_in, at_object, changed_often, often_after, AreCounts, IsPlain, IsPlainChange}
 use Rattle.slice_things.specs.Things.{HoldsStore, shape_seen, after_one, after_all, IsNormalLocation, IsNormalAccess}
 use Rattle.slice_things.proofs.OrderLaws.{same_tests, none_counted, key_inserted as key_in, key_deleted as key_out, keys_counted}
@@ -339,14 +339,46 @@ module _ (forms : Forms) (view : ValuesView) (files : List (List ℕ × List ℕ
       by true more = refl
       by false more = more
 
-  items_plain : (i : ℕ) (words : List (List ℕ)) (l : SeenLocation) → Agrees holds_nothing (what_stands (with_items 0 i words (with_files files unset) l))
-  items_plain i [] l = inl (sym (files_plain files l))
-  items_plain i (word ∷ words) l = by (same_location (item_at 0 i) l) (items_plain (i + 1) words l)
+  abbrev worded : ℕ → List (List ℕ) → SeenLocation → Option SeenContent
+  worded i words = with_items 0 i words (with_files files unset)
+
+  items_plain : (i : ℕ) (words : List (List ℕ)) (l : SeenLocation) → ((j : ℕ) → same_location (item_at 0 j) l ≡ false) → what_stands (worded i words l) ≡ holds_nothing
+  items_plain i [] l apart = files_plain files l
+  items_plain i (word ∷ words) l apart =
+      ap (λ b. what_stands (if b then Some (item_is (text word)) else worded (i + 1) words l)) (apart i) ∙ items_plain (i + 1) words l apart
+
+  words_stand : (i : ℕ) (words : List (List ℕ)) (j : ℕ) → i ≤ j → j < i + length words → IsTextItem (what_stands (worded i words (item_at 0 j)))
+  words_stand i [] j from_here less = absurd (omega (arith, from_here, less))
+  words_stand i (word ∷ words) j from_here less = by (same_location (item_at 0 i) (item_at 0 j)) refl (λ later. words_stand (i + 1) words j later (omega (arith, less)))
     where
-      by : (b : Bool) → Agrees holds_nothing (what_stands (with_items 0 (i + 1) words (with_files files unset) l))
-          → Agrees holds_nothing (what_stands (if b then Some (item_is (text word)) else with_items 0 (i + 1) words (with_files files unset) l))
-      by true more = inr (refl, tt)
-      by false more = more
+      by : (b : Bool) → same_location (item_at 0 i) (item_at 0 j) ≡ b → (i + 1 ≤ j → IsTextItem (what_stands (worded (i + 1) words (item_at 0 j))))
+          → IsTextItem (what_stands (if b then Some (item_is (text word)) else worded (i + 1) words (item_at 0 j)))
+      by true is more = tt
+      by false is more = more (omega (arith, from_here, apart))
+        where
+          apart : i ≢ j
+          apart same = true≢false (sym (seen_own (item_at 0 j)) ∙ (ap (λ k. same_location (item_at 0 k) (item_at 0 j)) (sym same) ∙ is))
+
+  words_end : (i : ℕ) (words : List (List ℕ)) (o j : ℕ) → (o ≡ 0 → i ≤ j → j < i + length words → ⊥) → what_stands (worded i words (item_at o j)) ≡ holds_nothing
+  words_end i [] o j none = files_plain files (item_at o j)
+  words_end i (word ∷ words) o j none = by (same_location (item_at 0 i) (item_at o j)) refl (words_end (i + 1) words o j (λ is from_here less. none is (omega (arith, from_here)) (omega (arith, less))))
+    where
+      number : SeenLocation → ℕ
+      number (item_at p k) = p
+      number other = 0
+
+      place : SeenLocation → ℕ
+      place (item_at p k) = k
+      place other = 0
+
+      by : (b : Bool) → same_location (item_at 0 i) (item_at o j) ≡ b → what_stands (worded (i + 1) words (item_at o j)) ≡ holds_nothing
+          → what_stands (if b then Some (item_is (text word)) else worded (i + 1) words (item_at o j)) ≡ holds_nothing
+      by true is more =
+          let same : item_at 0 i ≡ item_at o j = seen_same (item_at 0 i) (item_at o j) is in
+          let first : 0 ≡ o = ap number same in
+          let second : i ≡ j = ap place same in
+          absurd (none (sym first) (omega (arith, second)) (omega (arith, second)))
+      by false is more = more
 
   files_order : (files : List (List ℕ × List ℕ)) (o : ℕ) → with_files files unset (order_at o) ≡ Some (order_is [])
   files_order [] o = refl
@@ -360,30 +392,42 @@ module _ (forms : Forms) (view : ValuesView) (files : List (List ℕ × List ℕ
     abbrev first_places : List (Location × Held)
     first_places = (Len 0, Length n) ∷ []
 
-    opening_place : (l : Location) → Agrees (held_seen view (noted_at first_places l)) (what_stands ((opening path arguments files).at (location_seen forms.values l)))
+    opening_item : (o i : ℕ) → Agrees (held_seen view (with_words n (Item o i) Nothing)) (what_stands (worded 0 (path ∷ arguments) (item_at o i)))
+    opening_item o i = by ((o == 0) && nat_lt i n) refl
+      where
+        by : (b : Bool) → ((o == 0) && nat_lt i n) ≡ b → Agrees (held_seen view (if b then HeldItem NoneValue else Nothing)) (what_stands (worded 0 (path ∷ arguments) (item_at o i)))
+        by true is =
+            let both = and_parts (o == 0) (nat_lt i n) is in
+            let first : 0 ≡ o = omega (arith, eqb-true o 0 both.0) in
+            let less : i < 0 + length (path ∷ arguments) = omega (arith, ltb-true i n both.1, many) in
+            inr (refl, subst (λ p. IsTextItem (what_stands (worded 0 (path ∷ arguments) (item_at p i)))) first (words_stand 0 (path ∷ arguments) i (omega arith) less))
+        by false is = inl (sym (words_end 0 (path ∷ arguments) o i (λ first from_here less.
+            true≢false (sym (and_from (o == 0) (nat_lt i n) (eq-eqb o 0 first) (lt-ltb i n (omega (arith, less, many)))) ∙ is))))
+
+    opening_place : (l : Location) → Agrees (held_seen view (with_words n l (noted_at first_places l))) (what_stands ((opening path arguments files).at (location_seen forms.values l)))
     opening_place (Var scope name) = by (same_location (var_at 0 (codes "__name__")) (location_seen forms.values (Var scope name)))
       where
-        by : (b : Bool) → Agrees holds_nothing (what_stands (if b then Some (var_is (Some (text (codes "__main__")))) else with_items 0 0 (path ∷ arguments) (with_files files unset) (location_seen forms.values (Var scope name))))
+        by : (b : Bool) → Agrees holds_nothing (what_stands (if b then Some (var_is (Some (text (codes "__main__")))) else worded 0 (path ∷ arguments) (location_seen forms.values (Var scope name))))
         by true = inl refl
-        by false = items_plain 0 (path ∷ arguments) (location_seen forms.values (Var scope name))
+        by false = inl (sym (items_plain 0 (path ∷ arguments) (location_seen forms.values (Var scope name)) (λ j. refl)))
     opening_place (Len o) = by (o == 0) (0 == o) refl refl
       where
         by : (a b : Bool) → (o == 0) ≡ a → (0 == o) ≡ b → Agrees (held_seen view (unwrap_or (if a then Some (Length n) else None) Nothing))
-            (what_stands (if b then Some (len_is (length arguments + 1)) else with_items 0 0 (path ∷ arguments) (with_files files unset) (len_at o)))
+            (what_stands (if b then Some (len_is (length arguments + 1)) else worded 0 (path ∷ arguments) (len_at o)))
         by true true here there = inl (ap holds_length many)
-        by false false here there = items_plain 0 (path ∷ arguments) (len_at o)
+        by false false here there = inl (sym (items_plain 0 (path ∷ arguments) (len_at o) (λ j. refl)))
         by true false here there = absurd (true≢false (sym (eq-eqb 0 o (omega (arith, eqb-true o 0 here))) ∙ there))
         by false true here there = absurd (true≢false (sym (eq-eqb o 0 (omega (arith, eqb-true 0 o there))) ∙ here))
-    opening_place (Item o i) = items_plain 0 (path ∷ arguments) (item_at o i)
-    opening_place (Entry o key) = items_plain 0 (path ∷ arguments) (location_seen forms.values (Entry o key))
-    opening_place (Order o) = items_plain 0 (path ∷ arguments) (order_at o)
-    opening_place (File name) = items_plain 0 (path ∷ arguments) (location_seen forms.values (File name))
-    opening_place (Offset o) = items_plain 0 (path ∷ arguments) (offset_at o)
-    opening_place (Closed o) = items_plain 0 (path ∷ arguments) (closed_at o)
-    opening_place (Method class name) = items_plain 0 (path ∷ arguments) (location_seen forms.values (Method class name))
-    opening_place (Base class) = items_plain 0 (path ∷ arguments) (base_at class)
+    opening_place (Item o i) = opening_item o i
+    opening_place (Entry o key) = inl (sym (items_plain 0 (path ∷ arguments) (location_seen forms.values (Entry o key)) (λ j. refl)))
+    opening_place (Order o) = inl (sym (items_plain 0 (path ∷ arguments) (order_at o) (λ j. refl)))
+    opening_place (File name) = inl (sym (items_plain 0 (path ∷ arguments) (location_seen forms.values (File name)) (λ j. refl)))
+    opening_place (Offset o) = inl (sym (items_plain 0 (path ∷ arguments) (offset_at o) (λ j. refl)))
+    opening_place (Closed o) = inl (sym (items_plain 0 (path ∷ arguments) (closed_at o) (λ j. refl)))
+    opening_place (Method class name) = inl (sym (items_plain 0 (path ∷ arguments) (location_seen forms.values (Method class name)) (λ j. refl)))
+    opening_place (Base class) = inl (sym (items_plain 0 (path ∷ arguments) (base_at class) (λ j. refl)))
 
-    opening_known : (l : Location) → IsNamedLocation forms.values l ⊎ (noted_at first_places l ≡ Nothing)
+    opening_known : (l : Location) → IsNamedLocation forms.values l ⊎ (with_words n l (noted_at first_places l) ≡ Nothing)
     opening_known (Var scope name) = inr refl
     opening_known (Len o) = inl tt
     opening_known (Item o i) = inl tt
@@ -395,11 +439,73 @@ module _ (forms : Forms) (view : ValuesView) (files : List (List ℕ × List ℕ
     opening_known (Method class name) = inr refl
     opening_known (Base class) = inl tt
 
-    pub opening_holds : (things : Things) → things.kinds.items ≡ ListShape ∷ [] → things.places.entries ≡ first_places → things.orders.entries ≡ [] → HoldsStore view forms things (opening path arguments files)
-    opening_holds things kinds places orders = record {
+    pub opening_holds : (things : Things) → things.kinds.items ≡ ListShape ∷ [] → ((l : Location) → noted_at things.places.entries l ≡ with_words n l (noted_at first_places l)) → things.orders.entries ≡ []
+        → HoldsStore view forms things (opening path arguments files)
+    opening_holds things kinds noted orders = record {
       kinds = kinds;
-      places = λ l named. subst (λ entries. Agrees (held_seen view (noted_at entries l)) (what_stands ((opening path arguments files).at (location_seen forms.values l)))) (sym places) (opening_place l);
-      known = λ l. subst (λ entries. IsNamedLocation forms.values l ⊎ (noted_at entries l ≡ Nothing)) (sym places) (opening_known l);
+      places = λ l named. subst (λ held. Agrees (held_seen view held) (what_stands ((opening path arguments files).at (location_seen forms.values l)))) (sym (noted l)) (opening_place l);
+      known = λ l. subst (λ held. IsNamedLocation forms.values l ⊎ (held ≡ Nothing)) (sym (noted l)) (opening_known l);
       orders = λ o. subst (λ entries. AreCounts forms (λ f. often f (order_in entries o)) (order_of (opening path arguments files) o)) (sym orders)
           (subst (λ content. AreCounts forms (λ f. 0) (standing content)) (sym (items_order 0 (path ∷ arguments) o)) (record { counted = λ f named. refl; formed = λ key is. absurd is }));
     }
+
+-- ---- one text more
+
+pub no_words : (l : Location) (held : Held) → with_words 0 l held ≡ held
+no_words (Item o i) held = by ((o == 0) && nat_lt i 0) refl
+  where
+    by : (b : Bool) → ((o == 0) && nat_lt i 0) ≡ b → (if b then HeldItem NoneValue else held) ≡ held
+    by true is = absurd (omega (arith, ltb-true i 0 (and_parts (o == 0) (nat_lt i 0) is).1))
+    by false is = refl
+no_words (Var scope name) held = refl
+no_words (Len o) held = refl
+no_words (Entry o key) held = refl
+no_words (Order o) held = refl
+no_words (File path) held = refl
+no_words (Offset o) held = refl
+no_words (Closed o) held = refl
+no_words (Method class name) held = refl
+no_words (Base class) held = refl
+
+next_item : (n o i : ℕ) (held : Held) → (if locations.eq (Item 0 n) (Item o i) then HeldItem NoneValue else with_words n (Item o i) held) ≡ with_words (n + 1) (Item o i) held
+next_item n o i held = by (locations.eq (Item 0 n) (Item o i)) refl
+  where
+    number : Location → ℕ
+    number (Item p k) = p
+    number other = 0
+
+    place : Location → ℕ
+    place (Item p k) = k
+    place other = 0
+
+    by : (b : Bool) → locations.eq (Item 0 n) (Item o i) ≡ b → (if b then HeldItem NoneValue else with_words n (Item o i) held) ≡ with_words (n + 1) (Item o i) held
+    by true is =
+        let same : Item 0 n ≡ Item o i = number_same (Item 0 n) (Item o i) is in
+        let first : 0 ≡ o = ap number same in
+        let second : n ≡ i = ap place same in
+        sym (ap (λ b. if b then HeldItem NoneValue else held) (and_from (o == 0) (nat_lt i (n + 1)) (eq-eqb o 0 (sym first)) (lt-ltb i (n + 1) (omega (arith, second)))))
+    by false is = ap (λ b. if b then HeldItem NoneValue else held) (same_tests ((o == 0) && nat_lt i n) ((o == 0) && nat_lt i (n + 1)) forth back)
+      where
+        forth : ((o == 0) && nat_lt i n) ≡ true → ((o == 0) && nat_lt i (n + 1)) ≡ true
+        forth both = let parts = and_parts (o == 0) (nat_lt i n) both in and_from (o == 0) (nat_lt i (n + 1)) parts.0 (lt-ltb i (n + 1) (omega (arith, ltb-true i n parts.1)))
+
+        apart : o ≡ 0 → i ≢ n
+        apart first second = true≢false (sym (number_own (Item 0 n)) ∙ (ap (λ p. locations.eq (Item 0 n) (Item p n)) (sym first) ∙ (ap (λ k. locations.eq (Item 0 n) (Item o k)) (sym second) ∙ is)))
+
+        back : ((o == 0) && nat_lt i (n + 1)) ≡ true → ((o == 0) && nat_lt i n) ≡ true
+        back both =
+            let parts = and_parts (o == 0) (nat_lt i (n + 1)) both in
+            let other : i ≢ n = apart (omega (arith, eqb-true o 0 parts.0)) in
+            and_from (o == 0) (nat_lt i n) parts.0 (lt-ltb i n (omega (arith, ltb-true i (n + 1) parts.1, other)))
+
+pub next_word : (n : ℕ) (l : Location) (now before : Held) → now ≡ with_words n l before → (if locations.eq (Item 0 n) l then HeldItem NoneValue else now) ≡ with_words (n + 1) l before
+next_word n (Item o i) now before is = ap (λ held. if locations.eq (Item 0 n) (Item o i) then HeldItem NoneValue else held) is ∙ next_item n o i before
+next_word n (Var scope name) now before is = is
+next_word n (Len o) now before is = is
+next_word n (Entry o key) now before is = is
+next_word n (Order o) now before is = is
+next_word n (File path) now before is = is
+next_word n (Offset o) now before is = is
+next_word n (Closed o) now before is = is
+next_word n (Method class name) now before is = is
+next_word n (Base class) now before is = is

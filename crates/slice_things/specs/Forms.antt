@@ -1,5 +1,5 @@
 -- The forms of keys: one for all that are equal.
-use Rattle.std.specs.Prelude.{◌≡◌, ◌++◌, ℕ, ◌<◌, true, false, List, ◌∷◌, [], length, map, slice_get, unwrap_or, Some, pos}
+use Rattle.std.specs.Prelude.{◌≡◌, ◌++◌, ℕ, true, false, List, ◌∷◌, [], length, map, slice_get, unwrap_or, Some, pos}
 use Rattle.py_value.specs.declared.value.Value.{Value}
 use Rattle.py_value.specs.declared.value.Value.TheVariants.{None as Nothing, Bool as Truth, Int, Text, Tuple, Range, Fn, Class, Exc, Builtin, Object}
 use Rattle.py_value.specs.KeyOf.{IsNormalOf}

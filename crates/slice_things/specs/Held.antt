@@ -1,5 +1,5 @@
 -- What stands at a place, as far as it matters for what is reachable: a length, and the value of an item or an entry.
-use Rattle.std.specs.Prelude.{◌≡◌, ℕ, Bool, true, false, ◌⊎◌, ⊤, List, [], ◌∷◌, unwrap_or, Option, Some, None, if◌then◌else◌}
+use Rattle.std.specs.Prelude.{◌≡◌, ℕ, ◌==◌, ◌&&◌, nat_lt, ◌⊎◌, ⊤, List, unwrap_or, Option, Some, None, if◌then◌else◌}
 use Rattle.std.specs.Map.{lookup}
 use Rattle.py_value.specs.declared.access.Access.{Access}
 use Rattle.py_value.specs.declared.access.Access.TheVariants.{Read, Set, Update}
@@ -8,7 +8,8 @@ use Rattle.py_value.specs.declared.access.Content.TheVariants.{Var as VarContent
 use Rattle.py_value.specs.declared.access.Location.{Location}
 use Rattle.py_value.specs.declared.access.Location.TheVariants.{Var, Len, Item, Entry, Order, File, Offset, Closed, Method, Base}
 use Rattle.py_value.specs.contracts.access.LocationPartialEq.TheImpl.{ghosts as locations}
-use Rattle.py_value.specs.Contents.{Contents, text, contents}
+use Rattle.py_value.specs.declared.value.Value.TheVariants.{None as NoneValue}
+use Rattle.py_value.specs.Contents.{Contents, nothing, text, contents}
 use Rattle.py_value.specs.Seen.{SeenContent, len_is, item_is, entry_is}
 use Rattle.py_value.specs.Values.{ValuesView}
 use Rattle.slice_things.specs.declared.held.Held.{Held}
@@ -51,6 +52,19 @@ noted_after numbers (Read m) l held = held
 noted_after numbers (Set m content) l held = if locations.eq (placed numbers m) l then held_in content else held
 noted_after numbers (Update m change) l held = if locations.eq (placed numbers m) l then Nothing else held
 
+-- what is noted once so many items of the list with number 0 are, from the first on: None in place of each
+abbrev pub with_words : ℕ → Location → Held → Held
+with_words n (Item o i) held = if (o == 0) && nat_lt i n then HeldItem NoneValue else held
+with_words n (Var scope name) held = held
+with_words n (Len o) held = held
+with_words n (Entry o key) held = held
+with_words n (Order o) held = held
+with_words n (File path) held = held
+with_words n (Offset o) held = held
+with_words n (Closed o) held = held
+with_words n (Method class name) held = held
+with_words n (Base class) held = held
+
 -- the same without numbers for texts and tuples
 pub data SeenHeld : Type 0 where
   holds_nothing : SeenHeld
@@ -71,10 +85,10 @@ what_stands (Some (item_is v)) = holds_item v
 what_stands (Some (entry_is (Some entry))) = holds_entry entry.1
 what_stands other = holds_nothing
 
--- What is noted is what stands there. Nothing need be noted of an item that is a text: no object stands in it.
+-- What is noted is what stands there. For an item that is a text None may be noted: no object stands in either.
 abbrev pub IsTextItem : SeenHeld → Type 0
 IsTextItem (holds_item (text bytes)) = ⊤
 IsTextItem other = ⊥
 
 abbrev pub Agrees : SeenHeld → SeenHeld → Type 0
-Agrees noted stands = (noted ≡ stands) ⊎ ((noted ≡ holds_nothing) × IsTextItem stands)
+Agrees noted stands = (noted ≡ stands) ⊎ ((noted ≡ holds_item nothing) × IsTextItem stands)

@@ -17,7 +17,7 @@ use Rattle.py_value.specs.Values.{ValuesView, IsNamed}
 use Rattle.slice_law.specs.Closed.{IsIn}
 use Rattle.slice_law.specs.Reached.{StandsIn}
 use Rattle.slice_things.specs.declared.forms.Forms.{Forms}
-use Rattle.slice_things.specs.Counts.{often, count_of, inserted, deleted}
+use Rattle.slice_things.specs.Counts.{count_of, inserted, deleted}
 use Rattle.slice_things.specs.Forms.{form_in}
 
 -- the counts of an object's order

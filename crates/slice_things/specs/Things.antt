@@ -1,10 +1,9 @@
 -- What is known of the objects of a store.
-use Rattle.std.specs.Prelude.{◌≡◌, ℕ, ⊤, ◌⊎◌, List, map, Option, Some, None}
+use Rattle.std.specs.Prelude.{◌≡◌, ℕ, ⊤, ◌⊎◌, List, map}
 use Rattle.py_value.specs.declared.access.Access.{Access}
 use Rattle.py_value.specs.declared.access.Access.TheVariants.{Read, Set, Update}
 use Rattle.py_value.specs.declared.access.Location.{Location}
 use Rattle.py_value.specs.declared.access.Location.TheVariants.{Entry}
-use Rattle.py_value.specs.declared.value.Value.{Value}
 use Rattle.py_value.specs.Changes.{after_access, after_accesses}
 use Rattle.py_value.specs.Contents.{contents}
 use Rattle.py_value.specs.KeyOf.{normal}

@@ -1,6 +1,7 @@
 // One form for all keys that are equal.
 ghost use Rattle.std.specs.Prelude.{◌≡◌, [], map, IfOk, OnOk};
 ghost use Rattle.py_value.specs.Values.{StandOnce, AreInterned, AreNamed};
+ghost use Rattle.row_moments.specs.InOrder.{StandInOrder};
 ghost use Rattle.slice_things.specs.Forms.{form_in, AreForms, IsFormed};
 
 use prov_base::Memory;
@@ -25,6 +26,31 @@ fn put_texts(alloc: Global, values: &mut Values, names: &[&str]) -> Result<(), M
         values.text(alloc, name)?;
     }
     Ok(())
+}
+
+// Puts tuples behind the texts of a table that has no tuple yet, each at its number.
+fn put_tuples(alloc: Global, values: &mut Values, tuples: &[&[Value]]) -> Result<(), Memory>
+    requires order { StandInOrder (record { texts = values.old.texts; tuples = map (λ k. k.now) tuples.now }) }
+    requires none { values.old.tuples ≡ [] }
+    ensures texts { values.new.texts ≡ values.old.texts }
+    ensures tuples { OnOk result (values.new.tuples ≡ map (λ k. k.now) tuples.now) }
+{
+    for tuple in tuples {
+        values.tuple(alloc, tuple)?;
+    }
+    Ok(())
+}
+
+// The table of texts and tuples, each at its number. It has numbers of 32 bits for all of them.
+fn table_of(alloc: Global, names: &[&str], tuples: &[&[Value]]) -> Result<Values, Memory>
+    requires { StandInOrder (record { texts = map (λ k. k.now) names.now; tuples = map (λ k. k.now) tuples.now }) }
+    ensures table { IfOk result (λ values. values ≡ record { texts = map (λ k. k.now) names.now; tuples = map (λ k. k.now) tuples.now }) }
+    ensures interned { IfOk result (λ values. AreInterned values) }
+{
+    let mut values = Values::new(alloc)?;
+    put_texts(alloc, &mut values, names)?;
+    put_tuples(alloc, &mut values, tuples)?;
+    Ok(values)
 }
 
 impl Forms {
@@ -70,13 +96,14 @@ impl Forms {
         Ok(())
     }
 
-    /// The forms of the values of a table of texts and tuples.
+    /// The forms of texts and tuples that stand in order. The table of forms has these first and the forms that are missing behind them, so
+    /// there are numbers of 32 bits for all.
     pub fn of(alloc: Global, names: &[&str], tuples: &[&[Value]]) -> Result<Forms, Memory>
-        requires { AreInterned (record { texts = map (λ k. k.now) names.now; tuples = map (λ k. k.now) tuples.now }) }
-        ensures { IfOk result (AreForms (record { texts = map (λ k. k.now) names.now; tuples = map (λ k. k.now) tuples.now })) }
+        requires { StandInOrder (record { texts = map (λ k. k.now) names.now; tuples = map (λ k. k.now) tuples.now }) }
+        ensures interned { IfOk result (λ forms. AreInterned (record { texts = map (λ k. k.now) names.now; tuples = map (λ k. k.now) tuples.now })) }
+        ensures forms { IfOk result (AreForms (record { texts = map (λ k. k.now) names.now; tuples = map (λ k. k.now) tuples.now })) }
     {
-        let mut values = Values::new(alloc)?;
-        put_texts(alloc, &mut values, names)?;
+        let values = table_of(alloc, names, tuples)?;
         let mut forms = Forms {
             values,
             numbers: Vec::new(alloc),

@@ -2,7 +2,7 @@
 ghost use Rattle.std.specs.Prelude.{◌≡◌, OnOk, if◌then◌else◌};
 ghost use Rattle.py_value.specs.declared.access.Location.{Location as OneLocation};
 ghost use Rattle.py_value.specs.contracts.access.LocationPartialEq.TheImpl.{ghosts as locations};
-ghost use Rattle.slice_things.specs.Held.{held_in, placed as placed_in, noted_at, noted_after};
+ghost use Rattle.slice_things.specs.Held.{held_in, placed as placed_in, noted_at, noted_after, with_words};
 
 use crate::Forms;
 use indexmap::IndexMap;
@@ -76,6 +76,16 @@ fn put(places: &mut IndexMap<Location, Held>, at: Location, held: Held) -> Resul
     ensures { OnOk result ((l : OneLocation) → noted_at places.new.entries l ≡ (if locations.eq at l then held else noted_at places.old.entries l)) }
 {
     places.insert(at, held)?;
+    Ok(())
+}
+
+/// So many items of the list with number 0 are noted, from the first on: they are texts, for which None stands.
+pub(crate) fn put_words(places: &mut IndexMap<Location, Held>, words: u64) -> Result<(), Memory>
+    ensures { OnOk result ((l : OneLocation) → noted_at places.new.entries l ≡ with_words words l (noted_at places.old.entries l)) }
+{
+    for i in 0..words {
+        put(places, Location::Item(0, i), Held::Item(Value::None))?;
+    }
     Ok(())
 }
 

@@ -12,7 +12,7 @@ ghost use Rattle.row_moments.specs.Moments.{told_with};
 ghost use Rattle.slice_things.specs.Forms.{AreForms};
 ghost use Rattle.slice_things.specs.Things.{HoldsStore, HoldsThings, after_one, after_all, shape_seen, IsNormalAccess, IsNormalRow};
 
-use crate::held::pass_place;
+use crate::held::{pass_place, put_words};
 use crate::orders::pass_order;
 use crate::{Counts, Forms, Held};
 use indexmap::IndexMap;
@@ -62,6 +62,7 @@ impl Things {
         kinds.push(Shape::List)?;
         let mut places = IndexMap::new(alloc);
         places.insert(Location::Len(0), Held::Length(words))?;
+        put_words(&mut places, words)?;
         Ok(Things {
             kinds,
             places,

@@ -1,4 +1,5 @@
 mod Along
+mod Following
 mod Lacking
 mod ParentPairs
 mod StandingBelow
@@ -10,3 +11,12 @@ pub mod PlainKeys
 pub mod ReachedLaws
 pub mod RootLaws
 pub mod WalkLaws
+pub mod FrontRows
+pub mod FindingLaws
+pub mod KeyMore
+pub mod ToldBelow
+pub mod EdgesBelow
+pub mod WrittenNumbers
+pub mod KeptRowFacts
+mod AskedPairs
+mod LeastLaws

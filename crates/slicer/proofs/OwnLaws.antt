@@ -1,5 +1,5 @@
 -- Whose own place a location is.
-use Rattle.std.proofs.Common.{◌≡◌, ℕ, ◌⊎◌, inl, inr, Bool, true, false, nat_lt, slice_get, Option, Some, None, refl, sym, ap, subst, ◌∙◌, arith, true≢false}
+use Rattle.std.proofs.Common.{◌≡◌, ℕ, ◌⊎◌, inl, inr, Bool, true, false, nat_lt, slice_get, Option, Some, None, is_some, ◌&&◌, refl, sym, ap, subst, ◌∙◌, arith, true≢false}
 use Rattle.std.specs.Option.{option_map}
 use Rattle.std.proofs.lemmas.Bool.{lt-ltb, ltb-true}
 use Rattle.std.proofs.lemmas.Option.{same_Some}
@@ -11,18 +11,18 @@ use Rattle.py_value.specs.KeyOf.{normal}
 use Rattle.py_value.specs.Seen.{SeenLocation, SeenKind, a_list, a_dict, an_instance, a_file, len_at, item_at, entry_at, order_at, offset_at, closed_at, location_seen, location_at, IsNamedLocation}
 use Rattle.py_value.specs.Values.{ValuesView, AreInterned, IsNamed}
 use Rattle.py_value.proofs.SeenLocations.{location_back}
-use Rattle.py_model.specs.Store.{RunStore, order_of}
+use Rattle.py_model.specs.Store.{RunStore, entry_of, order_of}
 use Rattle.slice_law.specs.Closed.{IsIn}
 use Rattle.slice_law.specs.Reached.{IsItem, IsEntry, IsOwn}
 use Rattle.slice_things.specs.declared.forms.Forms.{Forms}
 use Rattle.slice_things.specs.declared.things.Things.{Things}
-use Rattle.slice_things.specs.Children.{is_list, is_keyed, length_of, has_item, has_entry}
+use Rattle.slice_things.specs.Children.{is_list, is_keyed, length_of, entry_there, all_before, has_item, has_entry}
 use Rattle.slicer.specs.Own.{is_file, own_if, owner_in}
 use Rattle.slice_things.specs.Counts.{often}
 use Rattle.slice_things.specs.Forms.{form_in, AreForms}
 use Rattle.slice_things.specs.Orders.{order_in}
 use Rattle.slice_things.specs.Things.{HoldsStore, shape_seen, IsNormalLocation}
-use Rattle.slice_things.proofs.ChildLaws.{both_true, first_true, shape_is, length_is, often_there, key_there}
+use Rattle.slice_things.proofs.ChildLaws.{both_true, first_true, shape_is, length_is, entry_is_there, there_before, before_there, often_there, key_there}
 
 module _ (b : Bool) (q o : ℕ) where
   own_true : own_if b q ≡ Some o → b ≡ true
@@ -78,20 +78,23 @@ module _ (view : ValuesView) (forms : Forms) (things : Things) (store : RunStore
       → IsOwn store q (slice_get store.kinds q) (entry_at q (contents view key.value))
   entry_own q key named plain own =
       let form = form_in forms.numbers.items key.value in
-      let both = first_true (is_keyed (slice_get things.kinds.items q)) (nat_lt 0 (often form (order_in things.orders.entries q))) own in
+      let all = first_true (is_keyed (slice_get things.kinds.items q) && nat_lt 0 (often form (order_in things.orders.entries q))) (entry_there things q form) own in
+      let both = first_true (is_keyed (slice_get things.kinds.items q)) (nat_lt 0 (often form (order_in things.orders.entries q))) all.0 in
       let formed = are.each key.value named in
       let there = key_there (contents forms.values form) (order_of store q) (sym (ap (nat_lt 0) ((known.orders q).counted form formed.named)) ∙ both.1) in
       keyed_own q (entry_at q (contents view key.value)) both.0 (inr (record {
         key = there.key;
         ordered = there.ordered;
+        present = sym (entry_is_there view forms things store are known q form there.key formed.named there.is) ∙ all.1;
         place = ap (entry_at q) (sym plain ∙ sym formed.form_is ∙ there.is);
       }))
 
   item_own : (q i : ℕ) → has_item things q i ≡ true → IsOwn store q (slice_get store.kinds q) (item_at q i)
   item_own q i own =
-      let both = first_true (is_list (slice_get things.kinds.items q)) (nat_lt i (length_of things q)) own in
+      let all = first_true (is_list (slice_get things.kinds.items q) && nat_lt i (length_of things q)) (all_before things q i) own in
+      let both = first_true (is_list (slice_get things.kinds.items q)) (nat_lt i (length_of things q)) all.0 in
       let length = length_is view forms things store are known q in
-      list_own q (item_at q i) both.0 (inr (record { i = i; below = omega (arith, length, ltb-true i (length_of things q) both.1); place = refl }))
+      list_own q (item_at q i) both.0 (inr (record { i = i; below = omega (arith, length, ltb-true i (length_of things q) both.1); earlier = before_there view forms things store are known q i all.1; place = refl }))
 
   pub owner_own : (at : Location) (o : ℕ) → IsNamedLocation view at → IsNormalLocation view at → owner_in things forms.numbers.items at ≡ Some o → IsOwn store o (slice_get store.kinds o) (location_seen view at)
   owner_own (Len q) o named plain is =
@@ -125,17 +128,22 @@ module _ (view : ValuesView) (forms : Forms) (things : Things) (store : RunStore
   list_owner at o named list (inr item) =
       let length = length_is view forms things store are known o in
       subst (λ l. owner l ≡ Some o) (from_seen at (item_at o item.i) (Item o item.i) named item.place refl)
-      (own_is (has_item things o item.i) o o (both_true (is_list (slice_get things.kinds.items o)) (nat_lt item.i (length_of things o)) list (lt-ltb item.i (length_of things o) (omega (arith, item.below, length)))) refl)
+      (own_is (has_item things o item.i) o o (both_true (is_list (slice_get things.kinds.items o) && nat_lt item.i (length_of things o)) (all_before things o item.i)
+      (both_true (is_list (slice_get things.kinds.items o)) (nat_lt item.i (length_of things o)) list (lt-ltb item.i (length_of things o) (omega (arith, item.below, length))))
+      (there_before view forms things store are known o item.i item.earlier)) refl)
 
   entry_owner : (q o : ℕ) (key : Key) (c : Contents) → IsNamed view key.value → normal (contents view key.value) ≡ contents view key.value → is_keyed (slice_get things.kinds.items o) ≡ true
-      → IsIn (order_of store o) c → entry_at q (contents view key.value) ≡ entry_at o (normal c) → owner (Entry q key) ≡ Some o
-  entry_owner q o key c named plain keyed ordered place =
+      → IsIn (order_of store o) c → is_some (entry_of store o c) ≡ true → entry_at q (contents view key.value) ≡ entry_at o (normal c) → owner (Entry q key) ≡ Some o
+  entry_owner q o key c named plain keyed ordered present place =
       let form = form_in forms.numbers.items key.value in
       let formed = are.each key.value named in
       let same : q ≡ o = ap number place in
+      let form_is : contents forms.values form ≡ normal c = formed.form_is ∙ plain ∙ ap under place in
       own_is (has_entry things q form) q o (subst (λ r. has_entry things r form ≡ true) (sym same)
+      (both_true (is_keyed (slice_get things.kinds.items o) && nat_lt 0 (often form (order_in things.orders.entries o))) (entry_there things o form)
       (both_true (is_keyed (slice_get things.kinds.items o)) (nat_lt 0 (often form (order_in things.orders.entries o))) keyed
-      (ap (nat_lt 0) ((known.orders o).counted form formed.named) ∙ often_there (contents forms.values form) c (order_of store o) ordered (formed.form_is ∙ plain ∙ ap under place)))) same
+      (ap (nat_lt 0) ((known.orders o).counted form formed.named) ∙ often_there (contents forms.values form) c (order_of store o) ordered form_is))
+      (entry_is_there view forms things store are known o form c formed.named form_is ∙ present))) same
     where
       number : SeenLocation → ℕ
       number (entry_at r k) = r
@@ -148,7 +156,7 @@ module _ (view : ValuesView) (forms : Forms) (things : Things) (store : RunStore
   keyed_owner : (at : Location) (o : ℕ) → IsNamedLocation view at → IsNormalLocation view at → is_keyed (slice_get things.kinds.items o) ≡ true
       → (location_seen view at ≡ order_at o) ⊎ IsEntry store o (location_seen view at) → owner at ≡ Some o
   keyed_owner at o named plain keyed (inl is) = subst (λ l. owner l ≡ Some o) (from_seen at (order_at o) (Order o) named is refl) (own_is (is_keyed (slice_get things.kinds.items o)) o o keyed refl)
-  keyed_owner (Entry q key) o named plain keyed (inr entry) = entry_owner q o key entry.key named plain keyed entry.ordered entry.place
+  keyed_owner (Entry q key) o named plain keyed (inr entry) = entry_owner q o key entry.key named plain keyed entry.ordered entry.present entry.place
   keyed_owner (Var scope name) o named plain keyed (inr entry) = absurd (no_entry entry.place)
     where
       no_entry : location_seen view (Var scope name) ≡ entry_at o (normal entry.key) → ⊥

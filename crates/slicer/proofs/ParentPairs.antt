@@ -47,7 +47,7 @@ closed_on keep [] pair closed there = absurd there
 closed_on keep (first ∷ pairs) pair closed (inl same) = subst (λ p. keep p.0 ≡ true → keep p.1 ≡ true) same closed.0
 closed_on keep (first ∷ pairs) pair closed (inr there) = closed_on keep pairs pair closed.1 there
 
-below_join : (b : ℕ) (xs ys : List (ℕ × ℕ)) → ArePairsBelow b xs → ArePairsBelow b ys → ArePairsBelow b (xs ++ ys)
+pub below_join : (b : ℕ) (xs ys : List (ℕ × ℕ)) → ArePairsBelow b xs → ArePairsBelow b ys → ArePairsBelow b (xs ++ ys)
 below_join b [] ys all more = more
 below_join b (x ∷ xs) ys all more = (all.0, below_join b xs ys all.1 more)
 
@@ -120,7 +120,7 @@ module _ (script : ScriptTree) where
     parent_edge opening told pair there = listed_asks script opening told (statements script) pair.0 pair.1 (pair_is script.count pair there)
 
     -- the statement and its parent are among those of the script
-    pairs_below : (n : ℕ) → ArePairsBelow script.count (parents_below script n)
+    pub pairs_below : (n : ℕ) → ArePairsBelow script.count (parents_below script n)
     pairs_below zero = tt
     pairs_below (suc n) = below_join script.count (parents_below script n) (pair_with n (parent_of script n)) (pairs_below n) (by_standing (standing_at script n) refl)
       where

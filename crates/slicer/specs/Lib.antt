@@ -1,4 +1,5 @@
 pub mod Along
+pub mod Following
 pub mod Lacking
 pub mod Pairs
 pub mod ParentPairs
@@ -8,3 +9,7 @@ pub mod Own
 pub mod Places
 pub mod Roots
 pub mod Walk
+pub mod Finding
+pub mod Passing
+pub mod AskedPairs
+pub mod Slices

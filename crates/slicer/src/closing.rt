@@ -1,67 +1,128 @@
 // The least set of statements that is closed along pairs.
-ghost use Rattle.std.specs.Prelude.{◌≡◌, ◌<◌, ℕ, Bool, true, false, length, IfOk};
+ghost use Rattle.std.specs.Prelude.{◌≡◌, ◌<◌, ◌==◌, ◌∷◌, ◌++◌, ℕ, Bool, true, [], length, IfOk, OnOk, if◌then◌else◌};
 ghost use Rattle.py_tree.specs.StmtSet.{has};
 ghost use Rattle.slicer.specs.Along.{AllIn, IsClosedAlong, IsLeastAlong, AreBelow, ArePairsBelow};
-ghost use Rattle.slicer.specs.Lacking.{lacking};
+ghost use Rattle.slicer.specs.Following.{asked_by, group_at, HasGrown};
 
 use prov_base::Memory;
 use py_tree::StmtSet;
 use std::alloc::Global;
+use std::marker::Model;
 
-/// Puts the roots into the set.
-fn keep_all(keep: &mut StmtSet, roots: &[u32])
-    requires { AreBelow (length keep.old) roots.now }
-    ensures bound { length keep.new ≡ length keep.old }
-    ensures roots { AllIn (has keep.new) roots.now }
-    ensures inside { (other : ℕ → Bool) → ((s : ℕ) → has keep.old s ≡ true → other s ≡ true) → AllIn other roots.now
-        → (s : ℕ) → has keep.new s ≡ true → other s ≡ true }
-{
-    for s in roots {
-        keep.add(*s);
-    }
+/// What one statement asks for.
+#[derive(Drop)]
+struct Asked {
+    numbers: Vec<u32>,
 }
 
-/// Puts what an asker asks for into the set, if the asker is there. Answers whether it is new.
-fn follow(keep: &mut StmtSet, asker: u32, asked: u32) -> bool
-    requires { (asker < length keep.old) × (asked < length keep.old) }
-    ensures bound { length keep.new ≡ length keep.old }
-    ensures stays { (s : ℕ) → has keep.old s ≡ true → has keep.new s ≡ true }
-    ensures inside { (other : ℕ → Bool) → ((s : ℕ) → has keep.old s ≡ true → other s ≡ true) → (other asker ≡ true → other asked ≡ true)
-        → (s : ℕ) → has keep.new s ≡ true → other s ≡ true }
-    ensures followed { has keep.new asker ≡ true → has keep.new asked ≡ true }
-    ensures still { result ≡ false → (s : ℕ) → has keep.old s ≡ has keep.new s }
-    ensures grows { result ≡ true → (has keep.old asked ≡ false) × (has keep.new asked ≡ true) }
-{
-    if keep.has(asker) {
-        keep.add(asked)
-    } else {
-        false
-    }
+impl Model for Asked {
+    ghost use Rattle.std.specs.Prelude.{List, ℕ};
+
+    ghost Value = { List ℕ };
+
+    ghost view = { λ a. a.numbers.items };
 }
 
-/// Goes along the pairs once, the last one first, and puts what a statement of the set asks for into it. Answers whether any is new there.
-fn pass(pairs: &[(u32, u32)], keep: &mut StmtSet) -> bool
-    requires { ArePairsBelow (length keep.old) pairs.now }
-    ensures bound { length keep.new ≡ length keep.old }
-    ensures stays { (s : ℕ) → has keep.old s ≡ true → has keep.new s ≡ true }
-    ensures inside { (other : ℕ → Bool) → ((s : ℕ) → has keep.old s ≡ true → other s ≡ true) → IsClosedAlong other pairs.now
-        → (s : ℕ) → has keep.new s ≡ true → other s ≡ true }
-    ensures settled { result ≡ false → IsClosedAlong (has keep.new) pairs.now }
-    ensures grows { result ≡ true → lacking (has keep.new) (length keep.old) < lacking (has keep.old) (length keep.old) }
-{
-    let mut grew = false;
-    let mut left = pairs.len();
-    while left > 0 {
-        left -= 1;
-        let (asker, asked) = pairs[left];
-        if follow(keep, asker, asked) {
-            grew = true;
+impl Asked {
+    // Nothing.
+    fn nothing(alloc: Global) -> Asked
+        ensures { result ≡ [] }
+    {
+        Asked {
+            numbers: Vec::new(alloc),
         }
     }
-    grew
+
+    // One statement more.
+    fn add(&mut self, s: u32) -> Result<(), Memory>
+        ensures { OnOk result (self.new ≡ self.old ++ s ∷ []) }
+    {
+        self.numbers.push(s)?;
+        Ok(())
+    }
+
+    // The statements.
+    fn as_slice(&self) -> &[u32]
+        ensures { result.now ≡ self.now }
+    {
+        self.numbers.as_slice()
+    }
+}
+
+// Nothing for each of so many statements.
+fn no_groups(alloc: Global, count: u32) -> Result<Vec<Asked>, Memory>
+    ensures many { IfOk result (λ groups. length groups.items ≡ count) }
+    ensures each { IfOk result (λ groups. (s : ℕ) → group_at groups.items s ≡ []) }
+{
+    let mut groups = Vec::new(alloc);
+    'fill: for _ in 0..count {
+        groups.push(Asked::nothing(alloc))?;
+    }
+    Ok(groups)
+}
+
+// A statement asks for one more.
+fn put(groups: &mut Vec<Asked>, asker: u32, asked: u32) -> Result<(), Memory>
+    requires { asker < length groups.old.items }
+    ensures many { OnOk result (length groups.new.items ≡ length groups.old.items) }
+    ensures each { OnOk result ((s : ℕ) → group_at groups.new.items s ≡ (if asker == s then group_at groups.old.items s ++ asked ∷ [] else group_at groups.old.items s)) }
+{
+    let group = &mut groups[asker as usize];
+    group.add(asked)
+}
+
+// What each statement asks for, together.
+fn grouped(alloc: Global, count: u32, pairs: &[(u32, u32)]) -> Result<Vec<Asked>, Memory>
+    requires { ArePairsBelow count pairs.now }
+    ensures { IfOk result (λ groups. (s : ℕ) → group_at groups.items s ≡ asked_by pairs.now s) }
+{
+    let mut groups = no_groups(alloc, count)?;
+    for pair in pairs {
+        put(&mut groups, pair.0, pair.1)?;
+    }
+    Ok(groups)
+}
+
+// What a statement asks for.
+fn asked_of(groups: &[Asked], s: u32) -> &[u32]
+    ensures { result.now ≡ group_at groups.now s }
+{
+    match groups.get(s as usize) {
+        Some(group) => group.as_slice(),
+        None => &[],
+    }
+}
+
+// Puts a statement into the set. Where it is new there, it is found.
+fn reach(keep: &mut StmtSet, found: &mut Vec<u32>, s: u32) -> Result<(), Memory>
+    requires { s < length keep.old }
+    ensures grown { OnOk result (HasGrown keep.old found.old.items keep.new found.new.items) }
+    ensures there { OnOk result (has keep.new s ≡ true) }
+    ensures inside { OnOk result ((other : ℕ → Bool) → ((i : ℕ) → has keep.old i ≡ true → other i ≡ true) → other s ≡ true
+        → (i : ℕ) → has keep.new i ≡ true → other i ≡ true) }
+{
+    if keep.add(s) {
+        found.push(s)?;
+    }
+    Ok(())
+}
+
+// Puts statements into the set. Those that are new there are found, in order.
+fn reach_all(keep: &mut StmtSet, found: &mut Vec<u32>, numbers: &[u32]) -> Result<(), Memory>
+    requires { AreBelow (length keep.old) numbers.now }
+    ensures grown { OnOk result (HasGrown keep.old found.old.items keep.new found.new.items) }
+    ensures there { OnOk result (AllIn (has keep.new) numbers.now) }
+    ensures inside { OnOk result ((other : ℕ → Bool) → ((i : ℕ) → has keep.old i ≡ true → other i ≡ true) → AllIn other numbers.now
+        → (i : ℕ) → has keep.new i ≡ true → other i ≡ true) }
+{
+    for s in numbers {
+        reach(keep, found, *s)?;
+    }
+    Ok(())
 }
 
 /// The least set of statements that has the roots and, with each asker of a pair, what it asks for. The script has `count` statements.
+/// Each statement of the set is followed once.
 pub fn close(
     alloc: Global,
     count: u32,
@@ -73,8 +134,15 @@ pub fn close(
     ensures bound { IfOk result (λ keep. length keep ≡ count) }
     ensures least { IfOk result (λ keep. IsLeastAlong pairs.now roots.now (has keep)) }
 {
+    let groups = grouped(alloc, count, pairs)?;
     let mut keep = StmtSet::new(alloc, count)?;
-    keep_all(&mut keep, roots);
-    while pass(pairs, &mut keep) {}
+    let mut found = Vec::new(alloc);
+    reach_all(&mut keep, &mut found, roots)?;
+    let mut next = 0;
+    while next < found.len() {
+        let s = found[next];
+        next += 1;
+        reach_all(&mut keep, &mut found, asked_of(groups.as_slice(), s))?;
+    }
     Ok(keep)
 }

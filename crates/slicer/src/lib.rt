@@ -1,6 +1,8 @@
 //! The statements that a value depends on, and the least set of statements that is closed along dependence (dynamic slices, Korel and Laski 1988, in
 //! this project's profile).
 //!
+//! - [`least_set`]: from the rows of a kept trial, the least closed set of statements of an evaluation, or that there is no such evaluation. It stands on
+//!   all that follows. Each row is looked at four times at most: for the evaluation, for texts, for tuples, and in the pass up to the evaluation.
 //! - [`value_roots`]: the statement of an evaluation, and those of the reach of all that is reachable from its value in the store just after it, by what
 //!   one pass over rows left in `slice_edges` and in `slice_things`.
 //! - [`note_jump`]: what ends by a jump directly in the module, row by row. Both together are the roots of a slice.
@@ -17,11 +19,14 @@
 #![tactic(auto)]
 
 mod closing;
+mod finding;
 mod groups;
 mod jumps;
 mod laws;
+mod least;
 mod own;
 mod parents;
+mod passing;
 mod places;
 mod roots;
 mod set_laws;
@@ -30,6 +35,7 @@ mod walk;
 pub use closing::close;
 pub use jumps::note_jump;
 pub use laws::{kept_keys_are_normal, known_values_reach_the_same};
+pub use least::{SliceFault, least_set};
 pub use own::owner_of;
 pub use parents::add_parents;
 pub use places::is_reached_place;

@@ -4,7 +4,7 @@ ghost use Rattle.py_model.specs.Store.{RunStore};
 ghost use Rattle.py_value.specs.Seen.{location_seen, IsNamedLocation};
 ghost use Rattle.py_value.specs.Values.{ValuesView, AreInterned};
 ghost use Rattle.slice_law.specs.Reached.{IsOwn};
-ghost use Rattle.slice_things.specs.Children.{is_list as is_list_shape, is_keyed as is_keyed_shape};
+ghost use Rattle.slice_things.specs.Children.{is_list as is_list_shape, is_keyed as is_keyed_shape, AreListEnds};
 ghost use Rattle.slice_things.specs.Forms.{AreForms};
 ghost use Rattle.slice_things.specs.Things.{HoldsStore, IsNormalLocation};
 ghost use Rattle.slicer.specs.Own.{is_file as is_file_shape, own_if as own_if_it, owner_in};
@@ -46,12 +46,13 @@ fn own_if(own: bool, o: u32) -> Option<u32>
 }
 
 // The object whose own place a location is.
-fn find_owner(things: &Things, forms: &Forms, at: Location) -> Option<u32>
+fn find_owner(things: &Things, ends: &[u64], forms: &Forms, at: Location) -> Option<u32>
+    requires { AreListEnds things.now ends.now }
     ensures { result ≡ owner_in things.now forms.now.numbers.items at }
 {
     match at {
         Location::Len(o) => own_if(is_list(things.shape(o)), o),
-        Location::Item(o, i) => own_if(things.has_item(o, i), o),
+        Location::Item(o, i) => own_if(things.has_item(ends, o, i), o),
         Location::Entry(o, key) => own_if(things.has_entry(o, forms.form_of(key.value)), o),
         Location::Order(o) => own_if(is_keyed(things.shape(o)), o),
         Location::Offset(o) | Location::Closed(o) => own_if(is_file(things.shape(o)), o),
@@ -59,11 +60,13 @@ fn find_owner(things: &Things, forms: &Forms, at: Location) -> Option<u32>
     }
 }
 
-/// The object whose own place a location is: the length and the items of a list, the order of a dictionary or an instance and the entries under
-/// keys that stand in it, and the offset and the closing of a file.
-pub fn owner_of(things: &Things, forms: &Forms, at: Location) -> Option<u32>
+/// The object whose own place a location is: the length and the items of a list, up to the first that is missing and with its place; the order of a
+/// dictionary or an instance and the entries under keys that stand in it, where there are such; and the offset and the closing of a file. The ends are
+/// those of the lists.
+pub fn owner_of(things: &Things, ends: &[u64], forms: &Forms, at: Location) -> Option<u32>
+    requires { AreListEnds things.now ends.now }
     ensures { (view : ValuesView) (store : RunStore) (o : ℕ) → AreInterned view → AreForms view forms.now → HoldsStore view forms.now things.now store
         → IsNamedLocation view at → IsNormalLocation view at → (result ≡ Some o) ↔ IsOwn store o (slice_get store.kinds o) (location_seen view at) }
 {
-    find_owner(things, forms, at)
+    find_owner(things, ends, forms, at)
 }

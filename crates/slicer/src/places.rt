@@ -4,7 +4,7 @@ ghost use Rattle.py_model.specs.Store.{RunStore};
 ghost use Rattle.py_value.specs.Seen.{IsNamedLocation};
 ghost use Rattle.py_value.specs.Values.{ValuesView, AreInterned};
 ghost use Rattle.py_value.specs.declared.value.Value.{Value as OneValue};
-ghost use Rattle.slice_things.specs.Children.{children_of};
+ghost use Rattle.slice_things.specs.Children.{children_of, AreListEnds};
 ghost use Rattle.slice_things.specs.Forms.{AreForms};
 ghost use Rattle.slice_things.specs.Things.{HoldsStore, IsNormalLocation};
 ghost use Rattle.slicer.specs.Places.{IsReachedPlace, is_named_value as is_value_named, is_named_place as is_place_named};
@@ -51,15 +51,18 @@ fn is_named_place(texts: usize, tuples: usize, at: Location) -> bool
     }
 }
 
-/// Whether a location is reached: whether it is an own place of an object that was found. There are so many texts and tuples.
+/// Whether a location is reached: whether it is an own place of an object that was found. The ends are those of the lists, and there are so many texts
+/// and tuples.
 pub fn is_reached_place(
     things: &Things,
+    ends: &[u64],
     forms: &Forms,
     found: &IndexSet<Value>,
     texts: usize,
     tuples: usize,
     at: Location,
 ) -> bool
+    requires { AreListEnds things.now ends.now }
     ensures named { (view : ValuesView) → texts ≡ length view.texts → tuples ≡ length view.tuples → result ≡ true → IsNamedLocation view at }
     ensures reached { (view : ValuesView) (store : RunStore) (v : OneValue) → AreInterned view → AreForms view forms.now → HoldsStore view forms.now things.now store
         → AreReached view (children_of things.now) v found.now.keys → texts ≡ length view.texts → tuples ≡ length view.tuples → IsNormalLocation view at
@@ -68,7 +71,7 @@ pub fn is_reached_place(
     if !is_named_place(texts, tuples, at) {
         return false;
     }
-    match owner_of(things, forms, at) {
+    match owner_of(things, ends, forms, at) {
         Some(o) => found.contains(&Value::Object(o)),
         None => false,
     }

@@ -9,7 +9,7 @@ ghost use Rattle.slice_edges.specs.HasAsked.{HasAsked};
 ghost use Rattle.slice_law.specs.Closed.{has, IsIn, store_after};
 ghost use Rattle.slice_law.specs.Edges.{from_option, asked_by_value};
 ghost use Rattle.py_value.specs.Contents.{contents};
-ghost use Rattle.slice_things.specs.Children.{children_of};
+ghost use Rattle.slice_things.specs.Children.{children_of, AreListEnds};
 ghost use Rattle.slice_things.specs.Forms.{AreForms};
 ghost use Rattle.slice_things.specs.Things.{HoldsStore, HoldsThings};
 ghost use Rattle.slicer.specs.Roots.{HasNumbers, AsksAt, AsksAmong, IsEvaluation};
@@ -30,18 +30,20 @@ fn add_place(
     roots: &mut Vec<u32>,
     asking: &Asking,
     things: &Things,
+    ends: &[u64],
     forms: &Forms,
     found: &IndexSet<Value>,
     texts: usize,
     tuples: usize,
     at: &Location,
 ) -> Result<(), Memory>
+    requires { AreListEnds things.now ends.now }
     ensures { (view : ValuesView) (script : ScriptTree) (store : RunStore) (told : List Moment) (v : OneValue) → AreInterned view → AreForms view forms.now
         → HoldsStore view forms.now things.now store → AreReached view (children_of things.now) v found.now.keys → texts ≡ length view.texts → tuples ≡ length view.tuples
         → HasAsked view script asking.now told → HasNumbers view told
         → OnOk result ((s : ℕ) → (has s roots.new.items ≡ true) ↔ (AsksAt view store told v s at.now ⊎ (has s roots.old.items ≡ true))) }
 {
-    if is_reached_place(things, forms, found, texts, tuples, *at) {
+    if is_reached_place(things, ends, forms, found, texts, tuples, *at) {
         roots.extend_from_slice(asking.writers(at))?;
     }
     Ok(())
@@ -52,19 +54,21 @@ fn add_places(
     roots: &mut Vec<u32>,
     asking: &Asking,
     things: &Things,
+    ends: &[u64],
     forms: &Forms,
     found: &IndexSet<Value>,
     texts: usize,
     tuples: usize,
     places: &[Location],
 ) -> Result<(), Memory>
+    requires { AreListEnds things.now ends.now }
     ensures { (view : ValuesView) (script : ScriptTree) (store : RunStore) (told : List Moment) (v : OneValue) → AreInterned view → AreForms view forms.now
         → HoldsStore view forms.now things.now store → AreReached view (children_of things.now) v found.now.keys → texts ≡ length view.texts → tuples ≡ length view.tuples
         → HasAsked view script asking.now told → HasNumbers view told
         → OnOk result ((s : ℕ) → (has s roots.new.items ≡ true) ↔ (AsksAmong view store told v places.now s ⊎ (has s roots.old.items ≡ true))) }
 {
     for at in places {
-        add_place(roots, asking, things, forms, found, texts, tuples, at)?;
+        add_place(roots, asking, things, ends, forms, found, texts, tuples, at)?;
     }
     Ok(())
 }
@@ -97,13 +101,15 @@ pub fn value_roots(
         → IfOk result (λ roots. (s : ℕ) → IsIn roots.items s ↔ IsIn (asked_by_value (store_after opening told) told) s) }
 {
     reachable_is_reached();
-    let children = things.children(alloc)?;
+    let ends = things.list_ends(alloc)?;
+    let children = things.children(alloc, ends.as_slice())?;
     let found = reached(alloc, tuples, children.as_slice(), value)?;
     let mut roots = start(alloc, asking.owner())?;
     add_places(
         &mut roots,
         asking,
         things,
+        ends.as_slice(),
         forms,
         &found,
         texts,

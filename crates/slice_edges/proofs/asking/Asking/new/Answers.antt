@@ -1,12 +1,15 @@
-use Rattle.std.proofs.Common.{ap}
+use Rattle.std.proofs.Common.{ap, sym, subst}
 use Rattle.slice_law.specs.Closed.{has}
 use Rattle.slice_edges.specs.Asks.{among}
-use Rattle.slice_edges.specs.Writers.{noted_at}
+use Rattle.slice_edges.specs.Binder.{AreBinders}
+use Rattle.slice_edges.specs.Writers.{is_noted, noted_at}
 use Rattle.slice_edges.proofs.asking.Asking.new.Goals as goal
 
 pub returns : goal.returns
 returns c = λ view script. record {
   frames = c.new.ensures;
+  reached = λ l named. ap (λ entries. is_noted entries l) c.new-2.ensures.empty;
   writers = λ l named s. ap (λ entries. has s (noted_at entries l)) c.new-2.ensures.empty;
+  binders = subst (AreBinders script view.texts) (sym c.new-4.ensures.empty) (λ local binder is. absurd cc);
   asks = λ s r. ap (λ keys. among keys s r) c.new-3.ensures.empty;
 }

@@ -1,5 +1,4 @@
 use Rattle.std.proofs.Common.{◌∷◌, sym, subst, map}
-use Rattle.std.specs.Prelude.{OnOk}
 use Rattle.std.specs.Option.{option_map}
 use Rattle.py_value.specs.Contents.{contents}
 use Rattle.py_value.specs.Seen.{access_seen, kind_seen}
