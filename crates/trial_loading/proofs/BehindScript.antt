@@ -1,5 +1,6 @@
 -- What stands behind a script: the records and contents and then the rows, as one.
-use Rattle.std.proofs.Common.{ℕ, Option, Some, None, Result, Err, Ok, ◌∙◌, subst}
+use Rattle.std.proofs.Common.{◌≡◌, ℕ, Option, Some, None, Result, Err, Ok, IfOk, ◌∙◌, sym, subst}
+use Rattle.row_checks.specs.KeptRows.{AreKeptRows}
 use Rattle.prov_outside.specs.Tells.{Tells}
 use Rattle.keeper.specs.declared.records.Head.{Head}
 use Rattle.keeper.specs.Keeping.{KeeperView}
@@ -44,3 +45,9 @@ module _ (number : ℕ) (head : Head) (statements : ℕ) where
   rows_join rest rows old None (Some c) was is = absurd is
   rows_join rest rows None (Some b) (Some c) was is = absurd was
   rows_join rest rows (Some a) (Some b) (Some c) was is = rows_plain rest rows a b c was is
+
+-- what is read with rows that are kept has these
+pub rows_stand : (statements : ℕ) (rest : RestView) (paged : Result PagedRows ReadFault) (result : Result Behind ReadFault) → result ≡ with_rows rest paged → IfOk paged (λ read. AreKeptRows statements read.rows)
+    → IfOk result (λ behind. AreKeptRows statements behind.paged.rows)
+rows_stand statements rest (Ok read) result same stand = subst (λ (r : Result Behind ReadFault). IfOk r (λ behind. AreKeptRows statements behind.paged.rows)) (sym same) stand
+rows_stand statements rest (Err fault) result same stand = subst (λ (r : Result Behind ReadFault). IfOk r (λ behind. AreKeptRows statements behind.paged.rows)) (sym same) tt

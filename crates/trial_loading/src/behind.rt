@@ -1,7 +1,8 @@
 // What stands behind the script of a kept trial: its records and contents, and its rows.
-ghost use Rattle.std.specs.Prelude.{◌≡◌, IfSome};
+ghost use Rattle.std.specs.Prelude.{◌≡◌, IfOk, IfSome};
 ghost use Rattle.prov_outside.specs.Tells.{Tells};
 ghost use Rattle.keeper.specs.Keeping.{AreKept, LeavesAmong};
+ghost use Rattle.row_checks.specs.KeptRows.{AreKeptRows};
 ghost use Rattle.trial_tables.specs.Causes.{Causes};
 ghost use Rattle.trial_tables.specs.ReadFault.{has_failed};
 ghost use Rattle.trial_loading.specs.Answers.{Answers};
@@ -43,6 +44,7 @@ pub(crate) fn read_behind<K: Keeper>(
     statements: u32,
 ) -> Result<Behind, ReadFault>
     ensures finds { Tells (K.told keeper.old) (K.told keeper.new) (Answers (λ tables. IsBehind tables number head.now statements) (λ tables. IsDamagedBehind tables number head.now statements) result) }
+    ensures stand { IfOk result (λ behind. AreKeptRows statements behind.paged.rows) }
     ensures kept { IfSome (K.told keeper.new) (AreKept (K.is_open keeper.new)) }
     ensures stops { Tells (K.told keeper.old) (K.told keeper.new) (λ _ _. LeavesAmong (K.may_leave keeper.old) (K.may_leave keeper.new)) }
     ensures batch { K.is_open keeper.new ≡ K.is_open keeper.old }

@@ -1,7 +1,8 @@
 // Whether rows of pages may stand there.
-ghost use Rattle.std.specs.Prelude.{◌≡◌, List, map, length, false};
+ghost use Rattle.std.specs.Prelude.{◌≡◌, List, map, length, false, IfOk};
 ghost use Rattle.trace_rows.specs.declared.row.Row.{Row as OneRow};
 ghost use Rattle.trace_rows.specs.Page.{IsPage};
+ghost use Rattle.row_checks.specs.KeptRows.{AreKeptRows};
 ghost use Rattle.trial_tables.specs.ReadFault.{has_failed};
 ghost use Rattle.trial_loading.specs.Placing.{Judges};
 ghost use Rattle.trial_loading.specs.TrialPages.{rows_on};
@@ -21,6 +22,7 @@ pub(crate) fn judge(
     statements: u32,
 ) -> Result<PagedRows, ReadFault>
     ensures judges { (each : List (List OneRow)) → IsPage bytes.now (rows_on each) → cuts.items ≡ map length each → Judges statements each result }
+    ensures stand { IfOk result (λ read. AreKeptRows statements read.rows) }
     ensures counted { has_failed result ≡ false }
 {
     let Ok(rows) = decode_page(alloc, bytes) else {

@@ -3,6 +3,7 @@ ghost use Rattle.std.specs.Prelude.{◌≡◌, IfErr, IfOk, IfSome};
 ghost use Rattle.prov_outside.specs.Tells.{Tells};
 ghost use Rattle.py_tree.specs.Erasure.{script_of as tree_of};
 ghost use Rattle.keeper.specs.Keeping.{AreKept, LeavesAmong};
+ghost use Rattle.row_checks.specs.KeptRows.{AreKeptRows};
 ghost use Rattle.trial_tables.specs.Causes.{Causes};
 ghost use Rattle.trial_keeping.specs.Fault.{has_failed};
 ghost use Rattle.trial_loading.specs.Loading.{IsInForm, IsOfLoading, Loads};
@@ -30,6 +31,7 @@ fn load_from<K: Keeper>(
     requires kept { IfSome (K.told keeper.old) (AreKept (K.is_open keeper.old)) }
     ensures loads { Tells (K.told keeper.old) (K.told keeper.new) (LoadsFrom number head text result) }
     ensures in_form { IfOk result (λ trial. IsInForm (tree_of trial.script)) }
+    ensures stand { IfOk result (λ trial. AreKeptRows trial.script.count trial.rows) }
     ensures of_stage { IfErr result (IsOfStage number) }
     ensures kept { IfSome (K.told keeper.new) (AreKept (K.is_open keeper.new)) }
     ensures stops { Tells (K.told keeper.old) (K.told keeper.new) (λ _ _. LeavesAmong (K.may_leave keeper.old) (K.may_leave keeper.new)) }
@@ -59,6 +61,7 @@ pub fn load_trial<K: Keeper>(
 ) -> Result<Trial, TrialFault>
     ensures loads { Tells (K.told keeper.old) (K.told keeper.new) (Loads number result) }
     ensures in_form { IfOk result (λ trial. IsInForm (tree_of trial.script)) }
+    ensures stand { IfOk result (λ trial. AreKeptRows trial.script.count trial.rows) }
     ensures of_loading { IfErr result (IsOfLoading number) }
     ensures kept { IfSome (K.told keeper.new) (AreKept (K.is_open keeper.new)) }
     ensures stops { Tells (K.told keeper.old) (K.told keeper.new) (λ _ _. LeavesAmong (K.may_leave keeper.old) (K.may_leave keeper.new)) }

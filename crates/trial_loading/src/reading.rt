@@ -1,7 +1,8 @@
 // All rows of a trial.
-ghost use Rattle.std.specs.Prelude.{◌≡◌, IfSome};
+ghost use Rattle.std.specs.Prelude.{◌≡◌, IfOk, IfSome};
 ghost use Rattle.prov_outside.specs.Tells.{Tells};
 ghost use Rattle.keeper.specs.Keeping.{AreKept, LeavesAmong};
+ghost use Rattle.row_checks.specs.KeptRows.{AreKeptRows};
 ghost use Rattle.trial_tables.specs.Causes.{Causes};
 ghost use Rattle.trial_tables.specs.ReadFault.{has_failed};
 ghost use Rattle.trial_loading.specs.Answers.{Answers};
@@ -25,6 +26,7 @@ pub fn rows_of<K: Keeper>(
 ) -> Result<PagedRows, ReadFault>
     requires kept { IfSome (K.told keeper.old) (AreKept (K.is_open keeper.old)) }
     ensures finds { Tells (K.told keeper.old) (K.told keeper.new) (Answers (λ tables. AreRowsOf tables trial pages statements) (λ tables. IsRowDamage tables trial pages statements) result) }
+    ensures stand { IfOk result (λ read. AreKeptRows statements read.rows) }
     ensures kept { IfSome (K.told keeper.new) (AreKept (K.is_open keeper.new)) }
     ensures stops { Tells (K.told keeper.old) (K.told keeper.new) (λ _ _. LeavesAmong (K.may_leave keeper.old) (K.may_leave keeper.new)) }
     ensures batch { K.is_open keeper.new ≡ K.is_open keeper.old }
