@@ -4,9 +4,16 @@ use crate::fault::fault_of;
 use crate::tasks::{Task, perform};
 use keeper::KeepFault;
 use prov_base::Name;
-use sqlite::{Connection, File, FileStore, Row};
+use sqlite::{Connection, Error, ErrorCode, File, FileStore, Row};
 use std::fs;
 use std::io::ErrorKind;
+use std::thread::sleep;
+use std::time::Duration;
+
+// While another program has the file open, it is tried again after each pause, up to 60 seconds in all.
+const PAUSES: u32 = 3000;
+
+const PAUSE_MILLISECONDS: u64 = 20;
 
 /// The database file of a store, its path, and whether it is known to have the tables.
 #[derive(Drop)]
@@ -61,14 +68,24 @@ impl<'a> StoreFile<'a> {
             return Ok(());
         }
         make_folder(self.rt, self.path.as_str())?;
-        match Connection::open(self.rt, self.path.as_str()) {
-            Ok(connection) => {
-                self.database = Database::Opened(connection);
-                Ok(())
+        let connection = opened(self.rt, self.path.as_str())?;
+        self.database = Database::Opened(connection);
+        Ok(())
+    }
+}
+
+// Opens the file. Another program may have it open: then it waits.
+fn opened(rt: &HostRuntime, path: &str) -> Result<Connection<FileStore<File>>, KeepFault> {
+    for _ in 0..PAUSES {
+        match Connection::open(rt, path) {
+            Ok(connection) => return Ok(connection),
+            Err(Error::SqliteFailure(ErrorCode::DatabaseBusy)) => {
+                sleep(rt, Duration::from_millis(PAUSE_MILLISECONDS));
             }
-            Err(error) => Err(fault_of(error)),
+            Err(error) => return Err(fault_of(error)),
         }
     }
+    Err(KeepFault::Failed)
 }
 
 // Makes the folder in which the file stands, where it is absent, but none above it.

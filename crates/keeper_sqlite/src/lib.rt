@@ -4,6 +4,9 @@
 //! answers `KeepFault::Failed` only where the count of faults rose in that call or stands at its end. Out of memory is never counted. A batch is open
 //! exactly as `Keeper` says. What the open batch has comes before what the file has, by a clause of the function that each reader calls.
 //!
+//! `sqlite` opens a file for one program alone. While another has it open, the opening waits, up to 60 seconds, and only then fails. The file is opened by the first
+//! call of the keeper, so a run waits when its script is over, and holds the file no longer than it takes to keep the trial.
+//!
 //! What no clause can refuse, and what has to be read off the few lines of the adapters instead, is
 //! - that they ask the file at all, at which path, and that they make its folder. A body that always answers `Memory`, or that counts a fault where
 //!   the database named none, tells as little as the real one;
