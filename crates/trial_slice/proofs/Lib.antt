@@ -1,0 +1,3 @@
+mod OneSlice
+mod Extracted
+mod Sliced

@@ -1,0 +1,45 @@
+// The text of `slice`.
+ghost use Rattle.std.specs.Prelude.{◌≡◌, IfErr, IfSome};
+ghost use Rattle.prov_outside.specs.Tells.{Tells};
+ghost use Rattle.keeper.specs.Keeping.{AreKept, LeavesAmong};
+ghost use Rattle.trial_tables.specs.Causes.{Causes};
+ghost use Rattle.trial_slice.specs.Fault.{has_failed, IsOfQuestion};
+ghost use Rattle.trial_slice.specs.Slices.{SlicesTrial};
+
+use crate::extracting::extract;
+use crate::fault::EvaluationFault;
+use keeper::Keeper;
+use prov_base::{Bytes, Pos};
+use slicer::SliceFault;
+use std::alloc::Global;
+use trial_keeping::TrialFault;
+use trial_loading::{drop_trial, load_trial};
+
+/// The text of the command `slice`: the slice of the k-th evaluation at a place, counted from 1, in the trial with this number. `NoEvaluation` comes exactly where the trial
+/// has none. The fault of the trial is that of its loading: `NoTrial` exactly where there is none, `Damaged` exactly where it is not well kept, with what is amiss first.
+pub fn slice_text<K: Keeper>(
+    alloc: Global,
+    keeper: &mut K,
+    number: u32,
+    at: Pos,
+    k: u32,
+) -> Result<Bytes, EvaluationFault>
+    ensures slices { Tells (K.told keeper.old) (K.told keeper.new) (SlicesTrial number at k result) }
+    ensures of_question { IfErr result (IsOfQuestion number) }
+    ensures kept { IfSome (K.told keeper.new) (AreKept (K.is_open keeper.new)) }
+    ensures stops { Tells (K.told keeper.old) (K.told keeper.new) (λ _ _. LeavesAmong (K.may_leave keeper.old) (K.may_leave keeper.new)) }
+    ensures batch { K.is_open keeper.new ≡ K.is_open keeper.old }
+    ensures cause { Causes (has_failed result) (K.faults keeper.old) (K.faults keeper.new) }
+{
+    let trial = match load_trial(alloc, keeper, number) {
+        Ok(trial) => trial,
+        Err(fault) => return Err(EvaluationFault::Trial(fault)),
+    };
+    let slice = extract(alloc, &trial, at, k);
+    drop_trial(trial);
+    match slice {
+        Ok(slice) => Ok(slice.text),
+        Err(SliceFault::NoEvaluation) => Err(EvaluationFault::NoEvaluation),
+        Err(SliceFault::Memory) => Err(EvaluationFault::Trial(TrialFault::Memory)),
+    }
+}
