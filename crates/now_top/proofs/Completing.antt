@@ -6,9 +6,10 @@ use Rattle.std.proofs.lemmas.Option.{same_Some}
 use Rattle.std.specs.Option.{option_map}
 use Rattle.std.specs.Prelude.{IsSome, IsTrue}
 use Rattle.prov_base.specs.Path.{is_path}
-use Rattle.now_words.specs.Command.{Command, cut, run_bare, run_kept, reads, command_of}
+use Rattle.now_words.specs.Command.{Command, run_bare, run_kept, reads, command_of}
+use Rattle.now_words.specs.declared.command.Evaluation.{Evaluation}
 use Rattle.now_words.specs.declared.command.Query.{Query}
-use Rattle.now_words.specs.declared.command.Query.TheVariants.{List as list_query, Show}
+use Rattle.now_words.specs.declared.command.Query.TheVariants.{List as list_query, Show, Slice}
 use Rattle.delivery.specs.Ending.{Ending, done, uncaught, usage, refused, nothing_there, console_failed, folder_failed, store_failed, out_of_memory, out_of_steps, collision, store_full, damaged_trial, status_of, closing_line, tells_of_store}
 use Rattle.delivery.specs.Ends.{Ends, as_planned, by_console as by_planned_console, by_folder as by_planned_folder, no_memory as lacked_memory, GetsPrefixes}
 use Rattle.delivery.specs.PutsAll.{OutFile}
@@ -18,23 +19,24 @@ use Rattle.prov_outside.specs.Count.{Rose, one_more}
 use Rattle.prov_outside.specs.Folder.{Files}
 use Rattle.prov_outside.specs.Tells.{Tells}
 use Rattle.py_model.specs.Capture.{Telling}
-use Rattle.straight_line.specs.Slice.{IsSliceOf, BindsTheSame}
 use Rattle.keeper.specs.Keeping.{KeeperView}
 use Rattle.keeper.specs.Tables.{TablesView}
 use Rattle.trial_keeping.specs.Keeping.{KeepsTrial, HasRoom, full_store}
 use Rattle.trial_keeping.specs.Trial.{Run, with_trial_of}
 use Rattle.trial_keeping.specs.declared.fault.TrialFault.{TrialFault}
 use Rattle.trial_keeping.specs.declared.fault.TrialFault.TheVariants.{NoTrial, Damaged, Keeper, Collision, Full, Memory}
+use Rattle.trial_loading.specs.Loading.{IsLoaded}
+use Rattle.trial_loading.specs.declared.trial.Trial.{Trial}
+use Rattle.trial_slice.specs.Slices.{HasSlice}
 use Rattle.trial_tables.specs.Written.{put, clash}
 use Rattle.now_top.specs.Completes.{IsTold, Completes, as_meant, by_console, by_folder, by_store, by_collision, by_full, no_memory, DoesWhole, DoesAsMeant, WritesPrefixes, WritesSlice, KeepsOne, RepliesBy}
 use Rattle.now_top.specs.Kept.{keeps, reads_store, ends_a_run, Clock, Asks, HasNoReading, KeepsRun, Stored, IsUntouched, is_store_failed, KeepsIn, Keeps, no_run, a_run, a_reading, tables_told}
 use Rattle.now_top.specs.Unkept.{with_keeping}
-use Rattle.now_top.specs.CutCommand as cutting
 use Rattle.now_top.specs.Means.{MeansCommand, file_of}
 use Rattle.now_top.specs.Replies.{Comes, meant, unread, store_unread, untold, no_memory as lacks_memory, Prepares, Replies}
 use Rattle.now_top.specs.Seen.{Seen, told_by}
-use Rattle.now_top.specs.Reply.{Reply, well_kept, not_there, amiss}
-use Rattle.now_top.specs.World.{World, Plan, closing, StandsAt}
+use Rattle.now_top.specs.Reply.{RepliesOf, well_kept, not_there, amiss, Slices, sliced, unevaluated, Reply}
+use Rattle.now_top.specs.World.{World, Plan, closing}
 
 -- what is told goes through what is told between
 tells_through : {T : Type 0} (a b c : Option T) (P Q R : T → T → Type 0) → ((x y z : T) → P x y → Q y z → R x z) → Tells a b P → Tells b c Q → Tells a c R
@@ -161,11 +163,30 @@ not_told_in command query tables word none told = false≢true (subst (λ (t : O
 -- ---- what a question is answered
 
 -- no reply tells of a fault of the store
+answer_is_fine : (answers : Trial → Plan → Type 0) → ((trial : Trial) (plan : Plan) → answers trial plan → tells_of_store plan.ending ≡ false) → (tables : TablesView) (number : ℕ) (plan : Plan)
+    → RepliesOf answers tables number plan → tells_of_store plan.ending ≡ false
+answer_is_fine answers fine tables number plan (well_kept trial loaded _ is) = fine trial plan is
+answer_is_fine answers fine tables number plan (not_there none) = refl
+answer_is_fine answers fine tables number plan (amiss damage is) = refl
+
+slice_is_fine : (of : Evaluation) (trial : Trial) (plan : Plan) → Slices of.at of.k trial plan → tells_of_store plan.ending ≡ false
+slice_is_fine of trial plan (sliced keep text is) = refl
+slice_is_fine of trial plan (unevaluated lacks) = refl
+
 reply_is_fine : (query : Query) (tables : TablesView) (plan : Plan) → Reply query tables plan → tells_of_store plan.ending ≡ false
 reply_is_fine list_query tables plan is = ap (λ (p : Plan). tells_of_store p.ending) is
-reply_is_fine (Show number) tables plan (well_kept trial loaded) = refl
-reply_is_fine (Show number) tables plan (not_there none) = refl
-reply_is_fine (Show number) tables plan (amiss damage is) = refl
+reply_is_fine (Show number) tables plan is = answer_is_fine _ (λ trial shown so. ap (λ (p : Plan). tells_of_store p.ending) so) tables number plan is
+reply_is_fine (Slice of) tables plan is = answer_is_fine (Slices of.at of.k) (slice_is_fine of) tables of.trial plan is
+
+-- a slice with which the command is done is one by the tables
+slice_done : (of : Evaluation) (tables : TablesView) (trial : Trial) (plan : Plan) → IsLoaded tables of.trial trial → Slices of.at of.k trial plan → plan.ending ≡ done → HasSlice tables of.trial of.at of.k plan.text
+slice_done of tables trial plan loaded (sliced keep text is) done_so = record { trial = trial; loaded = loaded; keep = keep; is_slice = is }
+slice_done of tables trial plan loaded (unevaluated lacks) done_so = absurd (cc)
+
+reply_slices : (of : Evaluation) (tables : TablesView) (plan : Plan) → RepliesOf (Slices of.at of.k) tables of.trial plan → plan.ending ≡ done → HasSlice tables of.trial of.at of.k plan.text
+reply_slices of tables plan (well_kept trial loaded _ is) done_so = slice_done of tables trial plan loaded is done_so
+reply_slices of tables plan (not_there none) done_so = absurd (cc)
+reply_slices of tables plan (amiss damage is) done_so = absurd (cc)
 
 module _ (words : List (List ℕ)) (before after : Seen) (was is : Stored) (status : ℕ) (so : Replies words before after was is status) where
   abbrev command : Option Command
@@ -406,49 +427,27 @@ module _ (words : List (List ℕ)) (before after : Seen) (was is : Stored) (stat
 
   -- ---- slices
 
-  -- a cut that is done writes a slice
-  slice_text : (file text : List ℕ) (line : ℕ) (plan : Plan) → cutting.CutsText file text line plan → plan.ending ≡ done
-      → IsSliceOf text line plan.text × BindsTheSame text line plan.text
-  slice_text file text line plan (cutting.too_long far) is = absurd (cc)
-  slice_text file text line plan (cutting.bad_line short at bad) is = absurd (cc)
-  slice_text file text line plan (cutting.no_line short none) is = absurd (cc)
-  slice_text file text line plan (cutting.cuts short slice is_cut same) is = (is_cut, same)
-
-  slice_at : (file : List ℕ) (line : ℕ) (plan : Plan) → cutting.MeansCut file line world.files plan → plan.ending ≡ done
-      → (text : List ℕ) × StandsAt file world.files text × IsSliceOf text line plan.text × BindsTheSame text line plan.text
-  slice_at file line plan (cutting.nowhere gone) is = absurd (cc)
-  slice_at file line plan (cutting.stands text st made cuts_so) is =
-      let both : IsSliceOf text line made.text × BindsTheSame text line made.text = slice_text file text line made cuts_so is in (text, st, both.0, both.1)
-
-  pub slices_so : (file : List ℕ) (line : ℕ) → command ≡ Some (cut file line) → so.plan.ending ≡ done → DoesAsMeant command world tables so.plan before after status
+  pub slices_so : (of : Evaluation) (told : TablesView) → Reply (Slice of) told so.plan → so.plan.ending ≡ done
       → Tells so.ran.console after.console (λ (was is : ConsoleView). (is.lines ≡ was.lines) × (is.written ≡ was.written ++ so.plan.text ++ closing_line so.plan.ending))
-      → WritesSlice file line world before after
-  slices_so file line word is does got =
-      let means : MeansCommand (Some (cut file line)) world tables so.plan = subst (λ (c : Option Command). MeansCommand c world tables so.plan) word does.means in
-      let of : (text : List ℕ) × StandsAt file world.files text × IsSliceOf text line so.plan.text × BindsTheSame text line so.plan.text = slice_at file line so.plan means.1 is in
-      record {
-        text = of.0;
-        slice = so.plan.text;
-        stands = of.1;
-        is_slice = of.2;
-        same = of.3;
-        console = tells_through before.console so.ran.console after.console (λ (was now : ConsoleView). now.written ≡ was.written)
-            (λ (was now : ConsoleView). (now.lines ≡ was.lines) × (now.written ≡ was.written ++ so.plan.text ++ closing_line so.plan.ending))
-            (λ (was now : ConsoleView). now.written ≡ was.written ++ so.plan.text)
-            (λ x y z same all. only_text x.written y.written z.written so.plan.text so.plan.ending is same all.1) written_same got;
-      }
+      → WritesSlice of told before after
+  slices_so of told reply is got = record {
+    text = so.plan.text;
+    is_slice = reply_slices of told so.plan reply is;
+    console = tells_through before.console so.ran.console after.console (λ (was now : ConsoleView). now.written ≡ was.written)
+        (λ (was now : ConsoleView). (now.lines ≡ was.lines) × (now.written ≡ was.written ++ so.plan.text ++ closing_line so.plan.ending))
+        (λ (was now : ConsoleView). now.written ≡ was.written ++ so.plan.text)
+        (λ x y z same all. only_text x.written y.written z.written so.plan.text so.plan.ending is same all.1) written_same got;
+  }
 
   -- ---- the store
 
   -- the parts of a run that is kept, by its command
   abbrev steps_in : Command → ℕ
-  steps_in (cut file line) = 0
   steps_in (run_bare steps file arguments) = steps
   steps_in (run_kept steps file arguments) = steps
   steps_in (reads query) = 0
 
   abbrev arguments_in : Command → List (List ℕ)
-  arguments_in (cut file line) = []
   arguments_in (run_bare steps file arguments) = arguments
   arguments_in (run_kept steps file arguments) = arguments
   arguments_in (reads query) = []

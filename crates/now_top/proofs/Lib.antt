@@ -3,6 +3,5 @@ pub mod Sources
 pub mod Preparing
 pub mod Meanings
 pub mod OneMeaning
-pub mod Words
 pub mod Answering
 pub mod Promising

@@ -2,7 +2,7 @@
 use Rattle.std.proofs.Common.{false, ◌↔◌, ◌≡◌, refl, sym, ap, subst, ℕ, ◌<◌, List, length, ◌⊎◌, inl, inr, Option, Some, None, Ok, Err, arith}
 use Rattle.answer_source.proofs.Fitting.{own_fits}
 use Rattle.answer_source.specs.Live.{capture_of}
-use Rattle.now_words.specs.Command.{Command, cut, run_bare, run_kept, reads as reads_command}
+use Rattle.now_words.specs.Command.{Command, run_bare, run_kept, reads as reads_command}
 use Rattle.now_words.specs.declared.command.Query.{Query}
 use Rattle.delivery.specs.Ending.{Ending, done, uncaught, usage, refused, nothing_there, console_failed, folder_failed, store_failed, out_of_memory, out_of_steps, collision, store_full, damaged_trial}
 use Rattle.prov_outside.specs.Folder.{Files, largest_file}
@@ -11,7 +11,6 @@ use Rattle.run_engine.specs.Bare.{nothing_kept}
 use Rattle.py_parser.specs.Reading.{too_large}
 use Rattle.py_parser.specs.Faults.{origin}
 use Rattle.now_top.specs.World.{World, Plan, closing, StandsAt, IsNowhere, IsUnasked}
-use Rattle.now_top.specs.CutCommand as cutting
 use Rattle.now_top.specs.RunCommand as running
 use Rattle.now_top.specs.Means.{MeansCommand, file_of}
 use Rattle.now_top.specs.Reading.{Agrees, IsReadAs, ReadsFile}
@@ -112,11 +111,6 @@ module _ (one : Command) (tables : Option TablesView) (before read : Seen) (read
 longer : (n : ℕ) → largest_file < n → 262144 < n
 longer n far = omega (arith, far)
 
-pub cut_without_text : (file : List ℕ) (line : ℕ) (tables : Option TablesView) (before read : Seen) → OnlyReads before read → (ending : Ending) → ReadsFile file read.folder before.faults.source read.faults.source (Err ending)
-    → Prepares (Some (cut file line)) tables before read (closing ending)
-cut_without_text file line tables before read reads = without_text (cut file line) tables before read reads (λ files where_not. (unasked read, cutting.nowhere where_not))
-    (λ files text st far. (unasked read, cutting.stands text st (closing (refused file 1 1)) (cutting.too_long (longer (length text) far))))
-
 pub run_without_text : (file : List ℕ) (steps : ℕ) (arguments : List (List ℕ)) (tables : Option TablesView) (before read : Seen) → OnlyReads before read → (ending : Ending) → ReadsFile file read.folder before.faults.source read.faults.source (Err ending)
     → Prepares (Some (run_bare steps file arguments)) tables before read (closing ending)
 run_without_text file steps arguments tables before read reads = without_text (run_bare steps file arguments) tables before read reads (λ files where_not. running.nowhere where_not (unasked read))
@@ -124,18 +118,9 @@ run_without_text file steps arguments tables before read reads = without_text (r
 
 -- ---- FILE has a text
 
-cut_so : (file : List ℕ) (line : ℕ) (tables : Option TablesView) (before read : Seen) (files : Files) (text : List ℕ) (plan : Plan) → IsReadAs file files before.faults.source read.faults.source (Ok text)
-    → cutting.CutsText file text line plan ⊎ (plan ≡ closing out_of_memory) → Comes (Some (cut file line)) before read (still files read) tables plan
-cut_so file line tables before read files text plan b (inl cuts) = meant plan b.0 (unasked read, cutting.stands text b.1 plan cuts)
-cut_so file line tables before read files text plan b (inr lacks) = subst (Comes (Some (cut file line)) before read (still files read) tables) (sym lacks) (no_memory b.0)
-
-pub cut_with_text : (file : List ℕ) (line : ℕ) (tables : Option TablesView) (before read : Seen) → OnlyReads before read → (text : List ℕ) → ReadsFile file read.folder before.faults.source read.faults.source (Ok text) → (plan : Plan)
-    → cutting.CutsText file text line plan ⊎ (plan ≡ closing out_of_memory) → Prepares (Some (cut file line)) tables before read plan
-cut_with_text file line tables before read reads text r plan so = unrun (Some (cut file line)) tables before read plan r.files (inl refl) reads r.agrees (cut_so file line tables before read r.files text plan r.because so)
-
 run_so : (file : List ℕ) (steps : ℕ) (arguments : List (List ℕ)) (tables : Option TablesView) (before read : Seen) (files : Files) (text : List ℕ) (plan : Plan) (world : World) → world.files ≡ files → IsReadAs file files before.faults.source read.faults.source (Ok text)
     → running.RunsText file text steps arguments world.capture plan ⊎ (plan ≡ closing out_of_memory) → Comes (Some (run_bare steps file arguments)) before read world tables plan
-run_so file steps arguments tables before read files text plan world same b (inl runs) = meant plan b.0 (running.stands text (subst (λ (f : Files). StandsAt file f text) (sym same) b.1) plan runs)
+run_so file steps arguments tables before read files text plan world same b (inl so) = meant plan b.0 (running.stands text (subst (λ (f : Files). StandsAt file f text) (sym same) b.1) plan so)
 run_so file steps arguments tables before read files text plan world same b (inr lacks) = subst (Comes (Some (run_bare steps file arguments)) before read world tables) (sym lacks) (no_memory b.0)
 
 pub run_with_text : (file : List ℕ) (steps : ℕ) (arguments : List (List ℕ)) (tables : Option TablesView) (before read ran : Seen) → OnlyReads before read → (text : List ℕ) → ReadsFile file read.folder before.faults.source read.faults.source (Ok text) → (plan : Plan)

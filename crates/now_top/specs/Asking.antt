@@ -9,6 +9,8 @@ use Rattle.prov_outside.specs.Tells.{Tells}
 use Rattle.trial_keeping.specs.declared.fault.TrialFault.{TrialFault}
 use Rattle.trial_keeping.specs.declared.fault.TrialFault.TheVariants.{NoTrial, Damaged, Keeper, Collision, Full, Memory}
 use Rattle.trial_show.specs.Details.{detail}
+use Rattle.trial_slice.specs.declared.fault.EvaluationFault.{EvaluationFault}
+use Rattle.trial_slice.specs.declared.fault.EvaluationFault.TheVariants.{Trial, NoEvaluation}
 use Rattle.trial_tables.specs.declared.damage.Damage.{Damage}
 use Rattle.now_top.specs.Kept.{Stored, IsRead, tables_told}
 use Rattle.now_top.specs.Reply.{Reply, MayReply, telling}
@@ -40,3 +42,9 @@ IsPlanOfTrial (Err Keeper) plan = plan ≡ closing store_failed
 IsPlanOfTrial (Err Memory) plan = plan ≡ closing out_of_memory
 IsPlanOfTrial (Err (Collision digest kept given)) plan = plan ≡ closing store_failed
 IsPlanOfTrial (Err Full) plan = plan ≡ closing store_failed
+
+-- the answer to a question about an evaluation, or why there is none
+abbrev pub IsPlanOfQuestion : Result (List ℕ) EvaluationFault → Plan → Type 0
+IsPlanOfQuestion (Ok text) plan = plan ≡ telling text
+IsPlanOfQuestion (Err NoEvaluation) plan = plan ≡ closing nothing_there
+IsPlanOfQuestion (Err (Trial fault)) plan = IsPlanOfTrial (Err fault) plan

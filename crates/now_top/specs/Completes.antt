@@ -11,17 +11,18 @@ use Rattle.prov_outside.specs.Console.{ConsoleView}
 use Rattle.prov_outside.specs.Count.{Rose}
 use Rattle.prov_outside.specs.Tells.{Tells}
 use Rattle.py_model.specs.Capture.{Telling}
-use Rattle.straight_line.specs.Slice.{IsSliceOf, BindsTheSame}
 use Rattle.trial_keeping.specs.Keeping.{HasRoom, full_store}
 use Rattle.trial_keeping.specs.Trial.{Run, with_trial_of}
+use Rattle.trial_slice.specs.Slices.{HasSlice}
 use Rattle.trial_tables.specs.Written.{put, clash}
+use Rattle.now_words.specs.declared.command.Evaluation.{Evaluation}
 use Rattle.now_words.specs.declared.command.Query.{Query}
 use Rattle.keeper.specs.Tables.{TablesView}
 use Rattle.now_top.specs.Kept.{Clock, reads_store, KeepsRun, Stored}
 use Rattle.now_top.specs.Reply.{Reply}
 use Rattle.now_top.specs.Means.{MeansCommand}
 use Rattle.now_top.specs.Seen.{Seen}
-use Rattle.now_top.specs.World.{World, Plan, StandsAt}
+use Rattle.now_top.specs.World.{World, Plan}
 
 -- the keeper tells its tables from the call's begin to its end, where the command reads them
 abbrev pub IsTold : Option Command → Option TablesView → Type 0
@@ -68,14 +69,11 @@ pub record DoesAsMeant (command : Option Command) (world : World) (tables : Opti
 abbrev pub WritesPrefixes : List ℕ → ℕ → Seen → Seen → Type 0
 WritesPrefixes text status before after = Tells before.console after.console (λ (was is : ConsoleView). GetsPrefixes text before.faults.write after.faults.write status was.written is.written)
 
--- The console got the script at FILE cut to the least closed set of lines that has the line, and nothing else; it binds the line's name to the same integer.
-pub record WritesSlice (file : List ℕ) (line : ℕ) (world : World) (before after : Seen) : Type 0 where
+-- The console got the slice of the evaluation by the tables, and nothing else: the trial is well kept, and its script was cut to the least closed set of statements.
+pub record WritesSlice (of : Evaluation) (tables : TablesView) (before after : Seen) : Type 0 where
   pub text : List ℕ
-  pub slice : List ℕ
-  pub stands : StandsAt file world.files text
-  pub is_slice : IsSliceOf text line slice
-  pub same : BindsTheSame text line slice
-  pub console : Tells before.console after.console (λ (was is : ConsoleView). is.written ≡ was.written ++ slice)
+  pub is_slice : HasSlice tables of.trial of.at of.k text
+  pub console : Tells before.console after.console (λ (was is : ConsoleView). is.written ≡ was.written ++ text)
 
 -- The store has the trial of the run more, as the next one, and nothing else is new in it.
 pub record KeepsOne (file : List ℕ) (steps : ℕ) (arguments : List (List ℕ)) (world : World) (began : Telling) (clock : Clock) (made : Plan) (was is : Stored) : Type 0 where

@@ -2,7 +2,7 @@
 use Rattle.std.specs.Prelude.{◌≡◌, ℕ, ℤ, Bool, true, false, List, ◌⊎◌, ◌↔◌, Option, Some, None, Result, IfErr}
 use Rattle.answer_source.specs.Live.{capture_of}
 use Rattle.capture.specs.Capture.{CaptureView}
-use Rattle.now_words.specs.Command.{Command, cut, run_bare, run_kept, reads}
+use Rattle.now_words.specs.Command.{Command, run_bare, run_kept, reads}
 use Rattle.now_words.specs.declared.command.Query.{Query}
 use Rattle.delivery.specs.Ending.{Ending, done, uncaught, out_of_steps, out_of_memory, store_failed}
 use Rattle.keeper.specs.Keeping.{KeeperView, LeavesAmong}
@@ -26,7 +26,6 @@ use Rattle.now_top.specs.World.{World, Plan, closing, StandsAt}
 -- the command keeps its run
 abbrev pub keeps : Option Command → Bool
 keeps None = false
-keeps (Some (cut file line)) = false
 keeps (Some (run_bare steps file arguments)) = false
 keeps (Some (run_kept steps file arguments)) = true
 keeps (Some (reads query)) = false
@@ -34,7 +33,6 @@ keeps (Some (reads query)) = false
 -- the command reads the store
 abbrev pub reads_store : Option Command → Bool
 reads_store None = false
-reads_store (Some (cut file line)) = false
 reads_store (Some (run_bare steps file arguments)) = false
 reads_store (Some (run_kept steps file arguments)) = false
 reads_store (Some (reads query)) = true

@@ -1,6 +1,5 @@
 pub mod World
 pub mod Completes
-pub mod CutCommand
 pub mod RunCommand
 pub mod Reply
 pub mod Means

@@ -1,5 +1,5 @@
 -- The plan that the program's own value stands for (this project's profile).
-use Rattle.std.specs.Prelude.{ℕ, List, [], map, Result, Ok, Err}
+use Rattle.std.specs.Prelude.{ℕ, List, map, Result, Ok, Err}
 use Rattle.std.specs.String.{string_bytes}
 use Rattle.capture.specs.declared.ended.Ended.{Ended}
 use Rattle.capture.specs.declared.ended.RunEnd.{RunEnd}
@@ -11,7 +11,7 @@ use Rattle.now_top.specs.World.{Plan, closing}
 use Rattle.now_top.specs.Unkept.{ending_without, unkept}
 use Rattle.trial_keeping.specs.declared.fault.TrialFault.{TrialFault}
 use Rattle.now_top.specs.declared.planned.Planned.{Planned}
-use Rattle.now_top.specs.declared.planned.Planned.TheVariants.{Closes, Slice, Text, DamagedTrial, Ran, Unkept}
+use Rattle.now_top.specs.declared.planned.Planned.TheVariants.{Closes, Text, DamagedTrial, Ran, Unkept}
 
 -- how the command ends after a run
 abbrev pub ending_told : RunEnd → Ending
@@ -29,7 +29,6 @@ plan_of_text (Err fault) = closing (ending_without fault)
 
 abbrev pub plan_of : Planned → Plan
 plan_of (Closes ending) = closing (ending_of ending)
-plan_of (Slice text) = record { ending = done; text = text.items; files = [] }
 plan_of (Text text) = telling text
 plan_of (DamagedTrial trial words) = closing (damaged_trial trial (string_bytes words))
 plan_of (Ran over) = plan_of_run over

@@ -1,14 +1,18 @@
 -- What the commands that read the store of trials answer by its tables (this project's profile): each has its line of `Reply`.
-use Rattle.std.specs.Prelude.{◌≡◌, ℕ, ◌⊎◌, List, [], None}
+use Rattle.std.specs.Prelude.{◌≡◌, ℕ, Bool, ◌⊎◌, List, [], None}
 use Rattle.now_words.specs.declared.command.Query.{Query}
-use Rattle.now_words.specs.declared.command.Query.TheVariants.{List as list_query, Show}
+use Rattle.now_words.specs.declared.command.Query.TheVariants.{List as list_query, Show, Slice}
 use Rattle.delivery.specs.Ending.{done, nothing_there, damaged_trial}
 use Rattle.keeper.specs.Tables.{TablesView, head_at}
+use Rattle.prov_base.specs.declared.place.Pos.{Pos}
+use Rattle.py_model.specs.Occurrences.{up_to_evaluation}
+use Rattle.row_moments.specs.Moments.{moments_in}
 use Rattle.trial_list.specs.Lines.{list_bytes}
 use Rattle.trial_loading.specs.Loading.{IsLoaded, IsDamaged}
 use Rattle.trial_loading.specs.declared.trial.Trial.{Trial}
 use Rattle.trial_show.specs.Details.{detail}
 use Rattle.trial_show.specs.Shows.{show_bytes}
+use Rattle.trial_slice.specs.Sliced.{IsSliceOf}
 use Rattle.trial_tables.specs.declared.damage.Damage.{Damage}
 use Rattle.now_top.specs.World.{Plan, closing}
 
@@ -16,19 +20,35 @@ use Rattle.now_top.specs.World.{Plan, closing}
 abbrev pub telling : List ℕ → Plan
 telling text = record { ending = done; text = text; files = [] }
 
--- what `show` answers of the trial with a number: its lines where it is well kept, that nothing is there where there is none, or what is amiss of it first
-pub data RepliesTrial (tables : TablesView) (number : ℕ) : Plan → Type 0 where
-  well_kept : (trial : Trial) → IsLoaded tables number trial → RepliesTrial tables number (telling (show_bytes trial))
-  not_there : head_at tables.heads number ≡ None → RepliesTrial tables number (closing nothing_there)
-  amiss : (damage : Damage) → IsDamaged tables number damage → RepliesTrial tables number (closing (damaged_trial number (detail damage)))
+-- What a question about the trial with a number is answered, by what a trial that is well kept answers to it: that, or that nothing is there where there is no such
+-- trial, or what is amiss of it first.
+pub data RepliesOf (answers : Trial → Plan → Type 0) (tables : TablesView) (number : ℕ) : Plan → Type 0 where
+  well_kept : (trial : Trial) → IsLoaded tables number trial → (plan : Plan) → answers trial plan → RepliesOf answers tables number plan
+  not_there : head_at tables.heads number ≡ None → RepliesOf answers tables number (closing nothing_there)
+  amiss : (damage : Damage) → IsDamaged tables number damage → RepliesOf answers tables number (closing (damaged_trial number (detail damage)))
+
+-- `show`: the lines of the trial
+abbrev pub ShowsLines : Trial → Plan → Type 0
+ShowsLines trial plan = plan ≡ telling (show_bytes trial)
+
+-- `slice`: the slice of the evaluation, or that nothing is there where the trial has no such evaluation
+pub data Slices (at : Pos) (k : ℕ) (trial : Trial) : Plan → Type 0 where
+  sliced : (keep : ℕ → Bool) (text : List ℕ) → IsSliceOf trial at k keep text → Slices at k trial (telling text)
+  unevaluated : up_to_evaluation at k (moments_in trial.rows) ≡ None → Slices at k trial (closing nothing_there)
 
 -- what a command answers by the tables
 abbrev pub Reply : Query → TablesView → Plan → Type 0
 Reply list_query tables plan = plan ≡ telling (list_bytes tables.heads)
-Reply (Show number) tables plan = RepliesTrial tables number plan
+Reply (Show number) tables plan = RepliesOf ShowsLines tables number plan
+Reply (Slice of) tables plan = RepliesOf (Slices of.at of.k) tables of.trial plan
 
--- Over a store that does not tell its tables a question is answered by some text, with no closing line and status 0. That a trial is not there, or is not well
--- kept, may be answered to `show` alone.
+-- Over a store that does not tell its tables a question about a trial is answered by some text, with no closing line and status 0; or that something is not there,
+-- or that the trial is not well kept.
+abbrev pub MayReplyOf : ℕ → Plan → Type 0
+MayReplyOf number plan = ((text : List ℕ) × (plan ≡ telling text)) ⊎ ((plan ≡ closing nothing_there) ⊎ ((words : List ℕ) × (plan ≡ closing (damaged_trial number words))))
+
+-- to `list` it is some text
 abbrev pub MayReply : Query → Plan → Type 0
 MayReply list_query plan = (text : List ℕ) × (plan ≡ telling text)
-MayReply (Show number) plan = ((text : List ℕ) × (plan ≡ telling text)) ⊎ ((plan ≡ closing nothing_there) ⊎ ((words : List ℕ) × (plan ≡ closing (damaged_trial number words))))
+MayReply (Show number) plan = MayReplyOf number plan
+MayReply (Slice of) plan = MayReplyOf of.trial plan

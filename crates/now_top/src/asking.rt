@@ -1,19 +1,20 @@
 // What is read of the store of trials.
 ghost use Rattle.std.specs.Prelude.{◌≡◌, false};
-ghost use Rattle.now_words.specs.declared.command.Query.TheVariants.{List as list_query, Show};
-ghost use Rattle.now_top.specs.Asking.{AnswersQuery, IsPlanOfDamage, IsPlanOfTrial};
+ghost use Rattle.now_words.specs.declared.command.Query.TheVariants.{List as list_query, Show, Slice};
+ghost use Rattle.now_top.specs.Asking.{AnswersQuery, IsPlanOfDamage, IsPlanOfQuestion, IsPlanOfTrial};
 ghost use Rattle.now_top.specs.Kept.{stored};
 ghost use Rattle.now_top.specs.Planned.{plan_of, plan_of_text};
 
 use crate::planned::{Planned, ending_without};
 use delivery::Ending;
 use keeper::Keeper;
-use now_words::Query;
+use now_words::{Evaluation, Query};
 use prov_base::Bytes;
 use std::alloc::Global;
 use trial_keeping::TrialFault;
 use trial_list::list_text;
 use trial_show::{detail_text, show_text};
+use trial_slice::{EvaluationFault, slice_text};
 use trial_tables::Damage;
 
 /// What a text that was read of the store comes to.
@@ -51,6 +52,17 @@ fn planned_trial<'w>(alloc: Global, text: Result<Bytes, TrialFault>) -> Planned<
     }
 }
 
+/// What the answer to a question about an evaluation comes to, or why there is none.
+fn planned_question<'w>(alloc: Global, text: Result<Bytes, EvaluationFault>) -> Planned<'w>
+    ensures { IsPlanOfQuestion text (plan_of result) }
+{
+    match text {
+        Ok(text) => Planned::Text(text),
+        Err(EvaluationFault::NoEvaluation) => Planned::Closes(Ending::NothingThere),
+        Err(EvaluationFault::Trial(fault)) => planned_trial(alloc, Err(fault)),
+    }
+}
+
 /// What `list` comes to.
 fn answer_list<'w, K: Keeper>(alloc: Global, keeper: &mut K) -> Planned<'w>
     requires batch { K.is_open keeper.old ≡ false }
@@ -71,6 +83,16 @@ fn answer_show<'w, K: Keeper>(alloc: Global, keeper: &mut K, number: u32) -> Pla
     planned_trial(alloc, show_text(alloc, keeper, number))
 }
 
+/// What `slice` comes to, of an evaluation.
+fn answer_slice<'w, K: Keeper>(alloc: Global, keeper: &mut K, of: Evaluation) -> Planned<'w>
+    requires batch { K.is_open keeper.old ≡ false }
+    ensures answers { AnswersQuery (Slice of) (stored K.told K.faults keeper.old) (stored K.told K.faults keeper.new)
+        (K.may_leave keeper.old) (K.may_leave keeper.new) (plan_of result) }
+    ensures batch { K.is_open keeper.new ≡ false }
+{
+    planned_question(alloc, slice_text(alloc, keeper, of.trial, of.at, of.k))
+}
+
 /// What a question to the store comes to. Nothing is changed there.
 pub fn answer_query<'w, K: Keeper>(alloc: Global, keeper: &mut K, query: Query) -> Planned<'w>
     requires batch { K.is_open keeper.old ≡ false }
@@ -81,5 +103,6 @@ pub fn answer_query<'w, K: Keeper>(alloc: Global, keeper: &mut K, query: Query) 
     match query {
         Query::List => answer_list(alloc, keeper),
         Query::Show(number) => answer_show(alloc, keeper, number),
+        Query::Slice(of) => answer_slice(alloc, keeper, of),
     }
 }

@@ -24,9 +24,6 @@ pub fn deliver_plan<C: Console, F: Folder>(
 {
     match planned {
         Planned::Closes(ending) => deliver(alloc, console, folder, *ending, &[], &[]),
-        Planned::Slice(text) => {
-            deliver(alloc, console, folder, Ending::Done, text.as_slice(), &[])
-        }
         Planned::Text(text) => {
             deliver(alloc, console, folder, Ending::Done, text.as_slice(), &[])
         }

@@ -1,10 +1,12 @@
 // The laws of the top call: public functions without a body, whose contracts are the laws.
 ghost use Rattle.std.specs.Prelude.{◌≡◌, ℕ, false, List, ◌⊎◌, Option, Some};
+ghost use Rattle.now_words.specs.declared.command.Evaluation.{Evaluation as OneEvaluation};
 ghost use Rattle.now_words.specs.declared.command.Query.{Query as Question};
+ghost use Rattle.now_words.specs.declared.command.Query.TheVariants.{Slice};
 ghost use Rattle.delivery.specs.Ending.{status_of};
 ghost use Rattle.keeper.specs.Keeping.{KeeperView};
 ghost use Rattle.keeper.specs.Tables.{TablesView};
-ghost use Rattle.now_words.specs.Command.{Command, cut, run_kept, reads, command_of};
+ghost use Rattle.now_words.specs.Command.{Command, run_kept, reads, command_of};
 ghost use Rattle.prov_outside.specs.Count.{Rose};
 ghost use Rattle.prov_outside.specs.Tells.{Tells};
 ghost use Rattle.now_top.specs.Completes.{IsTold, Completes, DoesWhole, DoesAsMeant, WritesPrefixes, WritesSlice, KeepsOne, RepliesBy};
@@ -19,17 +21,17 @@ use delivery::{
     done_is_whole, ends_in_one_way, no_count_rose, no_fault_answered, prefixes_are_written,
 };
 use py_parser::one_reading;
-use straight_line::one_slice;
 use trial_loading::trials_are_loaded_one_way;
+use trial_slice::one_slice_of_a_trial;
 
 /// The law that a command has at most one meaning over a world and the tables of the store: one ending with one text and the same files, among them the place at which a script is
-/// refused, the slice, what a run comes to, and what is answered out of the store.
+/// refused, what a run comes to, and what is answered out of the store.
 pub fn one_meaning()
     ensures { (command : Option Command) (world : World) (tables : Option TablesView) (one other : Plan) → MeansCommand command world tables one → MeansCommand command world tables other → one ≡ other }
 {
-    one_slice();
     one_reading();
     trials_are_loaded_one_way();
+    one_slice_of_a_trial();
 }
 
 /// Completeness: where the words mean a plan, the status is that of its ending, or it tells of a fault. 5, 6 and 7 come where the count of the console, of the
@@ -73,13 +75,13 @@ pub fn writes_prefixes()
     prefixes_are_written();
 }
 
-/// The law of slices: `cut FILE LINE` with status 0 has written the script at FILE cut to the least closed set of lines that has LINE, and nothing else. The
-/// slice binds the line's name to the same integer.
+/// The law of slices: `slice T LINE COL K` with status 0, over a store that told its tables, has written the script of the trial T cut to the least closed set of
+/// statements of the evaluation, and nothing else.
 pub fn writes_slice()
-    ensures { (words : List (List ℕ)) (before after : Seen) (was is : Stored) (status : ℕ) (so : Replies words before after was is status) (file : List ℕ) (line : ℕ)
-        → command_of words ≡ Some (cut file line) → status ≡ 0 → WritesSlice file line so.plans.prepares.world before after }
+    ensures { (words : List (List ℕ)) (before after : Seen) (was is : Stored) (status : ℕ) → Replies words before after was is status → (of : OneEvaluation) (tables : TablesView)
+        → command_of words ≡ Some (reads (Slice of)) → tables_told was is ≡ Some tables → status ≡ 0 → WritesSlice of tables before after }
 {
-    no_fault_answered();
+    ends_in_one_way();
     done_is_whole();
 }
 
@@ -109,6 +111,7 @@ pub fn replies_by_tables()
         → RepliesBy query tables before after was is status }
 {
     trials_are_loaded_one_way();
+    one_slice_of_a_trial();
     no_fault_answered();
     ends_in_one_way();
     no_count_rose();
@@ -121,5 +124,6 @@ pub fn reading_completes()
         → (Rose before.faults.put after.faults.put → ⊥) → (Rose before.faults.write after.faults.write → ⊥) → (Rose was.faults is.faults → ⊥) → (status ≡ status_of plan.ending) ⊎ (status ≡ 8) }
 {
     trials_are_loaded_one_way();
+    one_slice_of_a_trial();
     ends_in_one_way();
 }

@@ -3,9 +3,9 @@
 //! [`now`] makes a plan, keeps its run, and delivers the plan. What it says is `RepliesWith` in `specs/Replies.antt`: from what its devices and the keeper tell and
 //! count as it begins to what they tell and count as it ends, stage by stage.
 //! - The words are a command by `now_words`, or none. What they mean over a world, the files of the folder and what the devices give, is
-//!   `Means` in `specs/Means.antt`, with a file for each command: `specs/CutCommand.antt`, `specs/RunCommand.antt`. `run` means what `run --bare` means.
-//! - What reads the store means its reply by the tables (`Reply` in `specs/Reply.antt`, a line for each question): the lines of `list`; the lines of `show`, or that
-//!   there is no such trial, or what is amiss of it first. The keeper is asked, and its tables stay.
+//!   `Means` in `specs/Means.antt`; `run` means what `run --bare` means (`specs/RunCommand.antt`).
+//! - What reads the store means its reply by the tables (`Reply` in `specs/Reply.antt`, a line for each question): the lines of `list`; the lines of `show`, or the text of
+//!   `slice`; that there is no such trial or evaluation, or what is amiss of the trial first. The keeper is asked, and its tables stay.
 //! - FILE is read only where it is a path. `run` then runs its script over the devices, which are asked what the run asks and no more; without `--bare` the clock is
 //!   asked before it and after it.
 //! - Without `--bare` the run is kept as a trial: that of the script at FILE in what the devices gave (`specs/Kept.antt`). A fault there takes the place of how the
@@ -14,7 +14,7 @@
 //!
 //! The laws: a command has at most one meaning over a world ([`one_meaning`]). Where the words mean a plan, the status is that of its ending, or a fault that was
 //! counted, or one of a store that does not take the trial, or out of memory ([`completes`]). Without such a fault all of the plan stands ([`does_whole`],
-//! [`does_as_meant`]). The console has a prefix of the text and of a closing line in any case ([`writes_prefixes`]). [`writes_slice`] says what `cut` has written with
+//! [`does_as_meant`]). The console has a prefix of the text and of a closing line in any case ([`writes_prefixes`]). [`writes_slice`] says what `slice` has written with
 //! status 0. A run with a status of its own is kept as the next trial ([`keeps_trial`]), and no other command changes the store ([`keeps_nothing_else`]). Over a keeper that
 //! tells its tables, status and bytes of what reads them are those of the one reply ([`replies_by_tables`]), or tell of a fault or of a lack of memory ([`reading_completes`]).
 #![tactic(auto)]

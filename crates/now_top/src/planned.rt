@@ -14,8 +14,6 @@ use trial_keeping::TrialFault;
 pub enum Planned<'w> {
     /// A closing line alone.
     Closes(Ending<'w>),
-    /// A cut text.
-    Slice(Vec<u8>),
     /// A text that was read of the store.
     Text(Bytes),
     /// A trial that is not well kept: its number, and what is amiss of it, in words.

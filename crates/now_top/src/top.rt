@@ -1,14 +1,17 @@
 // The top call.
 ghost use Rattle.std.specs.Prelude.{◌≡◌, ◌⊎◌, ℕ, false, List, map, Some};
+ghost use Rattle.keeper.specs.Tables.{TablesView};
 ghost use Rattle.std.specs.String.{string_bytes};
-ghost use Rattle.now_words.specs.Command.{command_of, run_kept};
-ghost use Rattle.now_top.specs.Completes.{IsTold};
+ghost use Rattle.now_words.specs.Command.{command_of, reads, run_kept};
+ghost use Rattle.now_words.specs.declared.command.Evaluation.{Evaluation as OneEvaluation};
+ghost use Rattle.now_words.specs.declared.command.Query.TheVariants.{Slice};
+ghost use Rattle.now_top.specs.Completes.{IsTold, WritesSlice};
 ghost use Rattle.now_top.specs.Promises.{DidAll, KeptRun, WrotePrefix};
 ghost use Rattle.now_top.specs.Replies.{RepliesWith};
 ghost use Rattle.now_top.specs.Kept.{stored, tables_told};
 
 use crate::deliver::deliver_plan;
-use crate::laws::{does_as_meant, keeps_trial, writes_prefixes};
+use crate::laws::{does_as_meant, keeps_trial, writes_prefixes, writes_slice};
 use crate::plan::plan;
 use answer_source::{Devices, Exposes};
 use keeper::Keeper;
@@ -17,10 +20,10 @@ use std::alloc::Global;
 
 /// Does what the words ask for over the devices and the store of trials, gives the devices back, and answers the exit status.
 ///
-/// `cut FILE LINE` reads the straight-line script at FILE and writes it with every line blanked but LINE, counted from 1, and the lines that it needs.
 /// `run [--steps N] FILE [ARG]..` runs the script at FILE within N steps, from 1 to 1,000,000, with these arguments, and keeps the run as a trial; the files that it
 /// opened for writing are put once it is over, and then its output is written. With `--bare` nothing is kept. `list` writes a line for each trial, by number. `show T` writes the
-/// lines of the trial T, and leaves the store as it was. FILE is a path below the folder, of at most 255 bytes, and a script has at most 262,144 bytes.
+/// lines of the trial T. `slice T LINE COL K` writes the slice of an evaluation of the trial T, the K-th at that place: its script cut to the least closed set of statements
+/// on which the value depends. These leave the store as it was. FILE is a path below the folder, of at most 255 bytes, and a script has at most 262,144 bytes.
 ///
 /// The statuses are 0 done, 1 an exception that nothing caught, 2 the words are no command, 3 the script is refused, 4 nothing there. 5 is a console
 /// that failed, 6 a folder that failed, 7 a keeper that failed, 8 out of memory, 9 out of steps, 10 other bytes under the digest of a content, 11 a trial that is not
@@ -41,6 +44,9 @@ pub fn now<C: Console + Drop, F: Folder + Drop, M: ClockAndRandom + Drop, K: Kee
     // With status 0, 1 or 9 `run` has kept its run as the next trial.
     ensures kept { (steps : ℕ) (file : List ℕ) (arguments : List (List ℕ)) → command_of (map string_bytes words.now) ≡ Some (run_kept steps file arguments) → (result.0 ≡ 0) ⊎ ((result.0 ≡ 1) ⊎ (result.0 ≡ 9))
         → KeptRun (map string_bytes words.now) steps file arguments (⟦<Devices<C, F, M> as Exposes>⟧.seen devices) (⟦<Devices<C, F, M> as Exposes>⟧.seen result.1) (stored K.told K.faults keeper.old) (stored K.told K.faults keeper.new) result.0 }
+    // With status 0 `slice` has written the trial's script cut to the least closed set of statements of the evaluation, and nothing else.
+    ensures wrote_slice { (of : OneEvaluation) (tables : TablesView) → command_of (map string_bytes words.now) ≡ Some (reads (Slice of)) → tables_told (stored K.told K.faults keeper.old) (stored K.told K.faults keeper.new) ≡ Some tables → result.0 ≡ 0
+        → WritesSlice of tables (⟦<Devices<C, F, M> as Exposes>⟧.seen devices) (⟦<Devices<C, F, M> as Exposes>⟧.seen result.1) }
     // Whatever came, the console got a prefix of the text and then of a closing line.
     ensures wrote_prefix { WrotePrefix (map string_bytes words.now) (⟦<Devices<C, F, M> as Exposes>⟧.seen devices) (⟦<Devices<C, F, M> as Exposes>⟧.seen result.1) (stored K.told K.faults keeper.old) (stored K.told K.faults keeper.new) result.0 }
     ensures batch { K.is_open keeper.new ≡ false }
@@ -48,6 +54,7 @@ pub fn now<C: Console + Drop, F: Folder + Drop, M: ClockAndRandom + Drop, K: Kee
     does_as_meant();
     keeps_trial();
     writes_prefixes();
+    writes_slice();
     let (planned, mut devices) = plan(alloc, words, devices, keeper);
     let status = deliver_plan(alloc, &planned, &mut devices.console, &mut devices.folder);
     (status, devices)

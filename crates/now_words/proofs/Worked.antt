@@ -1,7 +1,7 @@
 -- Worked rows of the definitions, each found by computation.
 use Rattle.std.proofs.Common.{◌≡◌, ℕ, List, [], ◌∷◌, codes, Option, Some, None, refl}
-use Rattle.now_words.specs.Command.{Command, cut, run_bare, run_kept, reads, command_of}
-use Rattle.now_words.specs.declared.command.Query.TheVariants.{List as list_query, Show}
+use Rattle.now_words.specs.Command.{Command, run_bare, run_kept, reads, command_of, evaluation_at}
+use Rattle.now_words.specs.declared.command.Query.TheVariants.{List as list_query, Show, Slice}
 
 abbrev file : List ℕ
 file = codes "s.py"
@@ -19,35 +19,9 @@ no_verb = refl
 help_is_none : command_of (codes "--help" ∷ []) ≡ None
 help_is_none = refl
 
-cut_line : command_of (codes "cut" ∷ file ∷ codes "3" ∷ []) ≡ Some (cut file 3)
-cut_line = refl
-
-cut_line_zero : command_of (codes "cut" ∷ file ∷ codes "0" ∷ []) ≡ None
-cut_line_zero = refl
-
-cut_leading_zero : command_of (codes "cut" ∷ file ∷ codes "03" ∷ []) ≡ None
-cut_leading_zero = refl
-
-cut_signed : command_of (codes "cut" ∷ file ∷ codes "+1" ∷ []) ≡ None
-cut_signed = refl
-
-cut_greatest : command_of (codes "cut" ∷ file ∷ codes "4294967295" ∷ []) ≡ Some (cut file 4294967295)
-cut_greatest = refl
-
-cut_past_greatest : command_of (codes "cut" ∷ file ∷ codes "4294967296" ∷ []) ≡ None
-cut_past_greatest = refl
-
-cut_no_line : command_of (codes "cut" ∷ file ∷ []) ≡ None
-cut_no_line = refl
-
-cut_empty_line : command_of (codes "cut" ∷ file ∷ [] ∷ []) ≡ None
-cut_empty_line = refl
-
-cut_any_file : command_of (codes "cut" ∷ codes "--x" ∷ codes "3" ∷ []) ≡ Some (cut (codes "--x") 3)
-cut_any_file = refl
-
-cut_keeps_dashes : command_of (codes "cut" ∷ codes "--" ∷ file ∷ codes "3" ∷ []) ≡ None
-cut_keeps_dashes = refl
+-- the cut of straight-line scripts is no command any more
+cut_is_none : command_of (codes "cut" ∷ file ∷ codes "3" ∷ []) ≡ None
+cut_is_none = refl
 
 bare : run (codes "--bare" ∷ file ∷ []) ≡ Some (run_bare 1000000 file [])
 bare = refl
@@ -174,3 +148,36 @@ show_signed = refl
 
 show_empty : command_of (codes "show" ∷ [] ∷ []) ≡ None
 show_empty = refl
+
+slice_one : command_of (codes "slice" ∷ codes "1" ∷ codes "7" ∷ codes "12" ∷ codes "3" ∷ []) ≡ Some (reads (Slice (evaluation_at 1 7 12 3)))
+slice_one = refl
+
+slice_leading_zeros : command_of (codes "slice" ∷ codes "01" ∷ codes "007" ∷ codes "1" ∷ codes "4294967295" ∷ []) ≡ Some (reads (Slice (evaluation_at 1 7 1 4294967295)))
+slice_leading_zeros = refl
+
+slice_with_dashes : command_of (codes "slice" ∷ codes "1" ∷ codes "7" ∷ codes "--" ∷ codes "12" ∷ codes "3" ∷ []) ≡ Some (reads (Slice (evaluation_at 1 7 12 3)))
+slice_with_dashes = refl
+
+slice_dashes_twice : command_of (codes "slice" ∷ codes "--" ∷ codes "1" ∷ codes "7" ∷ codes "--" ∷ codes "3" ∷ []) ≡ None
+slice_dashes_twice = refl
+
+slice_of_three : command_of (codes "slice" ∷ codes "1" ∷ codes "7" ∷ codes "12" ∷ []) ≡ None
+slice_of_three = refl
+
+slice_of_five : command_of (codes "slice" ∷ codes "1" ∷ codes "7" ∷ codes "12" ∷ codes "3" ∷ codes "4" ∷ []) ≡ None
+slice_of_five = refl
+
+slice_line_zero : command_of (codes "slice" ∷ codes "1" ∷ codes "0" ∷ codes "12" ∷ codes "3" ∷ []) ≡ None
+slice_line_zero = refl
+
+slice_number_zero : command_of (codes "slice" ∷ codes "1" ∷ codes "7" ∷ codes "12" ∷ codes "0" ∷ []) ≡ None
+slice_number_zero = refl
+
+slice_past_greatest : command_of (codes "slice" ∷ codes "1" ∷ codes "7" ∷ codes "4294967296" ∷ codes "3" ∷ []) ≡ None
+slice_past_greatest = refl
+
+slice_signed : command_of (codes "slice" ∷ codes "1" ∷ codes "-7" ∷ codes "12" ∷ codes "3" ∷ []) ≡ None
+slice_signed = refl
+
+slice_no_number : command_of (codes "slice" ∷ codes "1" ∷ codes "7" ∷ codes "x" ∷ codes "3" ∷ []) ≡ None
+slice_no_number = refl

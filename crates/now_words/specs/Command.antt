@@ -3,12 +3,11 @@ use Rattle.std.specs.Prelude.{ℕ, ◌==◌, Bool, true, false, ◌&&◌, not, L
 use Rattle.std.specs.Option.{is_some}
 use Rattle.std.specs.Str.{bytes_eq}
 use Rattle.now_words.specs.Numbers.{number_to}
+use Rattle.now_words.specs.declared.command.Evaluation.{Evaluation}
 use Rattle.now_words.specs.declared.command.Query.{Query}
-use Rattle.now_words.specs.declared.command.Query.TheVariants.{List as list_query, Show}
+use Rattle.now_words.specs.declared.command.Query.TheVariants.{List as list_query, Show, Slice}
 
 pub data Command : Type 0 where
-  -- the cut of a file at a line
-  cut : (file : List ℕ) → (line : ℕ) → Command
   -- a run of a file within so many steps that keeps nothing
   run_bare : (steps : ℕ) → (file : List ℕ) → (arguments : List (List ℕ)) → Command
   -- the same that is kept as a trial
@@ -78,16 +77,6 @@ run_by bare steps file arguments = if bare then run_bare steps file arguments el
 abbrev pub run_of : Reading → Option Command
 run_of reading = if reading.waits then None else option_map (λ file. run_by reading.bare (unwrap_or reading.steps 1000000) file reading.arguments) reading.file
 
--- no leading zero
-abbrev pub begins_with_zero : List ℕ → Bool
-begins_with_zero [] = false
-begins_with_zero (byte ∷ bytes) = byte == 48
-
--- FILE and LINE, where these are the words
-abbrev pub cut_command : List (List ℕ) → Option Command
-cut_command (file ∷ line ∷ []) = if begins_with_zero line then None else option_map (cut file) (number_to 4294967295 line)
-cut_command words = None
-
 abbrev pub run_command : List (List ℕ) → Option Command
 run_command words = option_and_then run_of (with_words nothing_read words)
 
@@ -100,19 +89,6 @@ positional_words (word ∷ words) =
     else if is_option word then None
     else option_map (λ more. word ∷ more) (positional_words words)
 
--- these words are positionals, and there is none of them
-abbrev pub has_none : Option (List (List ℕ)) → Bool
-has_none (Some []) = true
-has_none (Some (word ∷ words)) = false
-has_none None = false
-
--- the one positional, where these words are positionals and there is one
-abbrev pub only_one : Option (List (List ℕ)) → Option (List ℕ)
-only_one (Some (word ∷ [])) = Some word
-only_one (Some []) = None
-only_one (Some (word ∷ other ∷ words)) = None
-only_one None = None
-
 -- `list` has no positional, `show` has one, which is a number from 1
 abbrev pub list_of : List (List ℕ) → Option Query
 list_of [] = Some list_query
@@ -123,9 +99,30 @@ show_of [] = None
 show_of (word ∷ []) = option_map Show (number_to 4294967295 word)
 show_of (word ∷ other ∷ words) = None
 
+-- the evaluation with these numbers: its trial, the line and the column of its place, and which it is there
+abbrev pub evaluation_at : ℕ → ℕ → ℕ → ℕ → Evaluation
+evaluation_at trial line column k = record { trial = trial; at = record { line = line; col = column }; k = k }
+
+-- the evaluation that four words name, which are numbers from 1
+abbrev pub evaluation_by : List ℕ → List ℕ → List ℕ → List ℕ → Option Evaluation
+evaluation_by trial line column k =
+    option_and_then (λ t. option_and_then (λ l. option_and_then (λ c. option_map (evaluation_at t l c) (number_to 4294967295 k)) (number_to 4294967295 column)) (number_to 4294967295 line)) (number_to 4294967295 trial)
+
+abbrev pub evaluation_of : List (List ℕ) → Option Evaluation
+evaluation_of [] = None
+evaluation_of (trial ∷ []) = None
+evaluation_of (trial ∷ line ∷ []) = None
+evaluation_of (trial ∷ line ∷ column ∷ []) = None
+evaluation_of (trial ∷ line ∷ column ∷ k ∷ []) = evaluation_by trial line column k
+evaluation_of (trial ∷ line ∷ column ∷ k ∷ other ∷ words) = None
+
 -- what a command that reads the store asks for, by its command word and its positionals
 abbrev pub query_of : List ℕ → List (List ℕ) → Option Query
-query_of verb given = if bytes_eq verb (codes "list") then list_of given else if bytes_eq verb (codes "show") then show_of given else None
+query_of verb given =
+    if bytes_eq verb (codes "list") then list_of given
+    else if bytes_eq verb (codes "show") then show_of given
+    else if bytes_eq verb (codes "slice") then option_map Slice (evaluation_of given)
+    else None
 
 -- a command that reads the store, by its command word and the words behind it
 abbrev pub query_command : List ℕ → List (List ℕ) → Option Command
@@ -134,4 +131,4 @@ query_command verb words = option_map reads (option_and_then (query_of verb) (po
 -- the command that the words are
 abbrev pub command_of : List (List ℕ) → Option Command
 command_of [] = None
-command_of (verb ∷ words) = if bytes_eq verb (codes "cut") then cut_command words else if bytes_eq verb (codes "run") then run_command words else query_command verb words
+command_of (verb ∷ words) = if bytes_eq verb (codes "run") then run_command words else query_command verb words

@@ -1,3 +1,4 @@
 pub mod Command
 pub mod Numbers
 pub mod Parsed
+pub mod Positionals

@@ -1,5 +1,16 @@
 // What the words ask for.
-use prov_base::Name;
+use prov_base::{Name, Pos};
+
+/// An evaluation of a trial, as words name it.
+#[derive(Clone, Copy)]
+pub struct Evaluation {
+    /// The number of the trial, from 1.
+    pub trial: u32,
+    /// The place of its node in the trial's script.
+    pub at: Pos,
+    /// Which of the evaluations at that place it is, in the order of the run, from 1.
+    pub k: u32,
+}
 
 /// A command that reads the store of trials, and changes nothing.
 #[derive(Clone, Copy)]
@@ -8,16 +19,13 @@ pub enum Query {
     List,
     /// `show T`: the trial with this number, from 1.
     Show(u32),
+    /// `slice T LINE COL K`: the slice of this evaluation.
+    Slice(Evaluation),
 }
 
 /// A command. Its file is one of the words as it stands there, which need not be a path.
 #[derive(Drop)]
 pub enum Command<'w> {
-    /// `cut FILE LINE`: the file, and the line from 1.
-    Cut {
-        file: &'w str,
-        line: u32,
-    },
     /// `run --bare [--steps N] FILE [ARG]..`: the file, the greatest number of steps, from 1 to 1000000, and copies of the
     /// arguments in order.
     RunBare {

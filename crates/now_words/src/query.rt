@@ -1,104 +1,132 @@
 // The words of a command that reads the store of trials.
-ghost use Rattle.std.specs.Prelude.{◌≡◌, ◌∷◌, [], map, option_and_then, option_copied, option_map};
+ghost use Rattle.std.specs.Prelude.{◌≡◌, ◌∷◌, [], ℕ, List, map, option_and_then, option_map, IfOk};
 ghost use Rattle.std.specs.String.{string_bytes};
-ghost use Rattle.now_words.specs.Command.{has_none, list_of, only_one, positional_words, query_command, query_of, show_of};
-ghost use Rattle.now_words.specs.Numbers.{number_to};
+ghost use Rattle.now_words.specs.Command.{evaluation_by, evaluation_of, list_of, positional_words, query_command, query_of, show_of};
 ghost use Rattle.now_words.specs.Parsed.{command_of_code};
+ghost use Rattle.now_words.specs.Positionals.{behind, positionals_from};
 
-use crate::command::{Command, Query};
+use crate::command::{Command, Evaluation, Query};
 use crate::number::number;
 use crate::reading::is_option;
+use prov_base::{Memory, Pos};
+use std::alloc::Global;
 
-// Whether these words behind a command word are no positional.
-fn are_none(words: &[String]) -> bool
-    ensures { result ≡ has_none (positional_words (map string_bytes words.now)) }
+/// The greatest number of a trial, of a line, of a column and of an evaluation.
+const GREATEST: u32 = 4294967295;
+
+// Takes a word, where the first `--` stood before it or not. Answers whether it stands there now, or that the word may not stand there.
+fn take_one<'w>(
+    taken: &mut Vec<&'w str>,
+    ended: bool,
+    word: &'w str,
+) -> Result<Option<bool>, Memory>
+    ensures { IfOk result (λ found. (words : List (List ℕ)) → option_and_then (λ now. behind (map (λ k. k.now) taken.new.items) (positionals_from now words)) found
+        ≡ behind (map (λ k. k.now) taken.old.items) (positionals_from ended (word.now ∷ words))) }
 {
-    match words {
-        [] => true,
-        [word] => word.as_str() == "--",
-        _ => false,
+    if ended {
+        taken.push(word)?;
+        return Ok(Some(true));
     }
+    if word == "--" {
+        return Ok(Some(true));
+    }
+    if is_option(word.as_bytes()) {
+        return Ok(None);
+    }
+    taken.push(word)?;
+    Ok(Some(false))
 }
 
-// The one positional of these words behind a command word, if there is one alone.
-fn only_word(words: &[String]) -> Option<&str>
-    ensures { option_copied result ≡ only_one (positional_words (map string_bytes words.now)) }
+// The positionals among the words behind a command that has no options, if each word may stand there.
+fn positionals<'w>(alloc: Global, words: &'w [String]) -> Result<Option<Vec<&'w str>>, Memory>
+    ensures { IfOk result (λ found. option_map (λ given. map (λ k. k.now) given.items) found ≡ positional_words (map string_bytes words.now)) }
 {
-    match words {
-        [] => None,
-        [word] => free_word(word.as_str()),
-        [first, second] => word_of_two(first.as_str(), second.as_str()),
+    let mut taken = Vec::new(alloc);
+    let mut ended = false;
+    for word in words {
+        match take_one(&mut taken, ended, word.as_str())? {
+            Some(now) => ended = now,
+            None => return Ok(None),
+        }
+    }
+    Ok(Some(taken))
+}
+
+// What `list` asks for.
+fn list_query(given: &[&str]) -> Option<Query>
+    ensures { result ≡ list_of (map (λ k. k.now) given.now) }
+{
+    match given {
+        [] => Some(Query::List),
         _ => None,
     }
 }
 
-// A word alone, where it is a positional.
-fn free_word(word: &str) -> Option<&str>
-    ensures { option_copied result ≡ only_one (positional_words (word.now ∷ [])) }
+// What `show` asks for.
+fn show_query(given: &[&str]) -> Option<Query>
+    ensures { result ≡ show_of (map (λ k. k.now) given.now) }
 {
-    if word == "--" || is_option(word.as_bytes()) {
-        return None;
-    }
-    Some(word)
-}
-
-// The one of two words that is a positional, where the other is the first `--`.
-fn word_of_two<'w>(first: &'w str, second: &'w str) -> Option<&'w str>
-    ensures { option_copied result ≡ only_one (positional_words (first.now ∷ second.now ∷ [])) }
-{
-    if first == "--" {
-        return Some(second);
-    }
-    if is_option(first.as_bytes()) || second != "--" {
-        return None;
-    }
-    Some(first)
-}
-
-// The number that the one positional is, if there is one alone and it is one from 1 to 4294967295.
-fn trial_number(words: &[String]) -> Option<u32>
-    ensures { result ≡ option_and_then (number_to 4294967295) (only_one (positional_words (map string_bytes words.now))) }
-{
-    let word = only_word(words)?;
-    number(word.as_bytes(), 4294967295)
-}
-
-// What `list` asks for, where the words behind it are none.
-fn read_list(words: &[String]) -> Option<Query>
-    ensures { result ≡ option_and_then list_of (positional_words (map string_bytes words.now)) }
-{
-    if are_none(words) {
-        Some(Query::List)
-    } else {
-        None
+    match given {
+        [] => None,
+        [trial] => {
+            let number = number(trial.as_bytes(), GREATEST)?;
+            Some(Query::Show(number))
+        }
+        _ => None,
     }
 }
 
-// What `show` asks for, where the words behind it are a number.
-fn read_show(words: &[String]) -> Option<Query>
-    ensures { result ≡ option_and_then show_of (positional_words (map string_bytes words.now)) }
+// The evaluation that four words name.
+fn evaluation(trial: &str, line: &str, column: &str, k: &str) -> Option<Evaluation>
+    ensures { result ≡ evaluation_by trial.now line.now column.now k.now }
 {
-    let number = trial_number(words)?;
-    Some(Query::Show(number))
+    let trial = number(trial.as_bytes(), GREATEST)?;
+    let line = number(line.as_bytes(), GREATEST)?;
+    let col = number(column.as_bytes(), GREATEST)?;
+    let k = number(k.as_bytes(), GREATEST)?;
+    let at = Pos { line, col };
+    Some(Evaluation { trial, at, k })
 }
 
-// What a command word and the words behind it ask for.
-fn query_by(verb: &str, words: &[String]) -> Option<Query>
-    ensures { result ≡ option_and_then (query_of verb.now) (positional_words (map string_bytes words.now)) }
+// The evaluation that words name.
+fn evaluation_in(given: &[&str]) -> Option<Evaluation>
+    ensures { result ≡ evaluation_of (map (λ k. k.now) given.now) }
+{
+    match given {
+        [] | [_] | [_, _] | [_, _, _] => None,
+        [trial, line, column, k] => evaluation(trial, line, column, k),
+        _ => None,
+    }
+}
+
+// What a command word and its positionals ask for.
+fn query_by(verb: &str, given: &[&str]) -> Option<Query>
+    ensures { result ≡ query_of verb.now (map (λ k. k.now) given.now) }
 {
     if verb == "list" {
-        return read_list(words);
+        return list_query(given);
     }
     if verb == "show" {
-        return read_show(words);
+        return show_query(given);
+    }
+    if verb == "slice" {
+        let found = evaluation_in(given)?;
+        return Some(Query::Slice(found));
     }
     None
 }
 
 /// The command of a command word that reads the store, and of the words behind it.
-pub(crate) fn read_query<'w>(verb: &str, words: &'w [String]) -> Option<Command<'w>>
-    ensures { option_map command_of_code result ≡ query_command verb.now (map string_bytes words.now) }
+pub(crate) fn read_query<'w>(
+    alloc: Global,
+    verb: &str,
+    words: &'w [String],
+) -> Result<Option<Command<'w>>, Memory>
+    ensures { IfOk result (λ found. option_map command_of_code found ≡ query_command verb.now (map string_bytes words.now)) }
 {
-    let query = query_by(verb, words)?;
-    Some(Command::Reads(query))
+    let Some(given) = positionals(alloc, words)? else {
+        return Ok(None);
+    };
+    let query = query_by(verb, given.as_slice());
+    Ok(query.map(|query| Command::Reads(query)))
 }

@@ -3,7 +3,7 @@ use Rattle.now_top.proofs.OneMeaning.{one_reply}
 use Rattle.now_top.proofs.laws.replies_by_tables.Goals as goal
 
 pub returns-clause-one : goal.returns-clause-one
-returns-clause-one c = one_reply c.trials_are_loaded_one_way.ensures.trial c.trials_are_loaded_one_way.ensures.damage c.trials_are_loaded_one_way.ensures.never_both
+returns-clause-one c = one_reply c.trials_are_loaded_one_way.ensures.trial c.trials_are_loaded_one_way.ensures.damage c.trials_are_loaded_one_way.ensures.never_both c.one_slice_of_a_trial.ensures.slice c.one_slice_of_a_trial.ensures.never_both
 
 pub returns-clause-replies : goal.returns-clause-replies
 returns-clause-replies c = λ words before after was is status so query tables word told five six seven eight.

@@ -1,16 +1,7 @@
-use Rattle.std.proofs.Common.{refl, sym, ap, ◌∙◌, ℕ, List, map, inl, inr, Some, None}
-use Rattle.std.specs.String.{string_bytes}
-use Rattle.now_words.specs.Command.{cut, run_bare, reads}
+use Rattle.std.proofs.Common.{refl, ap, ◌∙◌, ℕ, List, inl, inr, Some, None}
+use Rattle.now_words.specs.Command.{run_bare, reads}
 use Rattle.now_top.proofs.Preparing.{plans_for, keeps_nothing, no_command, lacks_memory, answers_so}
-use Rattle.now_top.proofs.Words.{from_one}
 use Rattle.now_top.proofs.plan.plan.Goals as goal
-
-pub plan_cut-requires : goal.plan_cut-requires
-plan_cut-requires g c = from_one (map string_bytes c.args.words.now) c.in-Ok-Some-Cut.file.now c.in-Ok-Some-Cut.line (sym (rw c.in-Ok-Some-Cut.field-0-0-is at (rw c.in-Ok-Some-Cut.field-0-is at c.in-Ok-Some-Cut.ensures)))
-
-pub returns-in-Ok-Some-Cut-clause-plans : goal.returns-in-Ok-Some-Cut-clause-plans
-returns-in-Ok-Some-Cut-clause-plans g c = plans_for _ (Some (cut c.in-Ok-Some-Cut.file.now c.in-Ok-Some-Cut.line)) _ _ _ _ _ _ _ (rw c.in-Ok-Some-Cut.field-0-0-is at (rw c.in-Ok-Some-Cut.field-0-is at c.in-Ok-Some-Cut.ensures))
-    (keeps_nothing _ _ _ _ _ _ (inl refl) (inl refl) (c.plan_cut.ensures _))
 
 pub returns-in-Ok-Some-RunBare-clause-plans : goal.returns-in-Ok-Some-RunBare-clause-plans
 returns-in-Ok-Some-RunBare-clause-plans g c = plans_for _ (Some (run_bare c.in-Ok-Some-RunBare.steps c.in-Ok-Some-RunBare.file.now c.deref.result.now)) _ _ _ _ _ _ _

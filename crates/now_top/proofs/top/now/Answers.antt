@@ -1,4 +1,5 @@
-use Rattle.std.proofs.Common.{refl}
+use Rattle.std.proofs.Common.{refl, map}
+use Rattle.std.specs.String.{string_bytes}
 use Rattle.now_top.specs.Planned.{plan_of}
 use Rattle.now_top.proofs.Promising.{did_all, kept_run, wrote_prefix}
 use Rattle.now_top.proofs.top.now.Goals as goal
@@ -69,3 +70,19 @@ returns-clause-wrote_prefix g c = wrote_prefix c.writes_prefixes.ensures _ _ _ _
     word = refl;
   };
 })
+
+pub returns-clause-wrote_slice : goal.returns-clause-wrote_slice
+returns-clause-wrote_slice g c = λ of tables word told zero. c.writes_slice.ensures (map string_bytes c.args.words.now) _ _ _ _ _ (record {
+  plan = plan_of c.plan-planned.result.0;
+  ran = _;
+  plans = c.plan-planned.ensures.plans.plans;
+  delivers = record {
+    delivered = c.deliver_plan-status.ensures.delivered;
+    moments = refl;
+    line = c.deliver_plan-status.ensures.in_faults;
+    file = c.deliver_plan-status.ensures.get_faults;
+    source = c.deliver_plan-status.ensures.source_faults;
+    time = refl;
+    word = refl;
+  };
+}) of tables word told zero
