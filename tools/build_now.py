@@ -149,8 +149,15 @@ def lanes_here():
 
 
 def keeps():
-    """Whether the gate keeps what it proved: beside the kit, where that can be written and its disk has 5 GB left."""
-    store = os.path.dirname(os.path.dirname(os.path.dirname(os.path.realpath(shutil.which("rt"))))) + "/rattle-kept"
+    """Whether the gate keeps what it proved: beside the kit, if this kit does so at all, where that can be written and its disk has 5 GB left."""
+    bin = os.path.dirname(os.path.realpath(shutil.which("rt")))
+    does = False
+    for name in ("rt", "rtlib.py"):
+        with contextlib.suppress(OSError), open(f"{bin}/{name}", encoding="utf-8") as it:
+            does = does or "-kept" in it.read()
+    if not does:
+        return False
+    store = os.path.dirname(os.path.dirname(bin)) + "/rattle-kept"
     at = store if os.path.isdir(store) else os.path.dirname(store)
     return os.access(at, os.W_OK) and shutil.disk_usage(at).free >= 5 << 30
 
@@ -365,7 +372,7 @@ def build(home, room):
         os.remove(f"{room}/log")
     copy_sources(home, plan, f"{room}/repo")
     sum = in_shell(f"{room}/repo", "sources_sum").strip()
-    loses = "Ctrl-C loses no crate that was proved" if keeps() else "nothing can be kept beside the kit, so Ctrl-C loses what was proved"
+    loses = "Ctrl-C loses no crate that was proved" if keeps() else "nothing is kept beside this kit, so Ctrl-C loses what was proved"
     say(f"proving and building the program: {len(lines)} crates, {lanes} side by side; {loses}")
     prove(home, room, plan, lanes)
     in_shell(home, f"write_stamp '{sum}'")
