@@ -1,6 +1,7 @@
 pub mod AskLaws
 pub mod BelowCount
 pub mod BinderLaws
+pub mod CountLaws
 pub mod FrameLaws
 pub mod KnownLaws
 pub mod Noted

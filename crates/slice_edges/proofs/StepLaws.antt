@@ -22,10 +22,12 @@ use Rattle.slice_law.specs.Edges.{edge, by_control, by_jump, from_option, reach_
 use Rattle.slice_edges.specs.declared.asking.Asking.{Asking}
 use Rattle.slice_edges.specs.Asks.{among, some_asks, is_jump}
 use Rattle.slice_edges.specs.Binder.{AreBinders}
+use Rattle.slice_edges.specs.Counts.{AreCounted, IsRight}
 use Rattle.slice_edges.specs.Frames.{owner_in, caller_in, without_first}
 use Rattle.slice_edges.specs.HasAsked.{is_filled, HasAsked}
 use Rattle.slice_edges.specs.Reading.{owner_reads}
 use Rattle.slice_edges.specs.Writers.{found_at, is_noted, noted_at, after_set, after_change, sets_in, updates_in}
+use Rattle.slice_edges.proofs.CountLaws.{monotone, more_asked}
 use Rattle.slice_edges.proofs.FrameLaws.{owner_is, caller_is, jump_is, closed_is, abrupt_is}
 use Rattle.slice_edges.proofs.ReachLaws.{now_reached, reach_next, filled_next, sets_seen, updates_seen}
 use Rattle.slice_edges.proofs.ReadLaws.{asks_both, reads_asked}
@@ -56,8 +58,15 @@ module _ (view : ValuesView) (script : ScriptTree) (old new : Asking) (told : Li
       ∙ sym (filled_next (location_seen view l) moment told
       ∙ ap (λ accesses. (sets_at (location_seen view l) accesses || updates_at (location_seen view l) accesses) || is_filled (reach (location_seen view l) told)) none)
 
-  same_binders : new.binders ≡ old.binders → AreBinders script view.texts new.binders.entries
-  same_binders same = subst (λ entries. AreBinders script view.texts entries) (sym (ap (λ known. known.entries) same)) before.binders
+  -- what need not be sought again, where nothing is written
+  still_right : (here : ℕ → ℕ → Bool) → new.writers ≡ old.writers → new.memo ≡ old.memo → ((s r : ℕ) → among new.asks.keys s r ≡ (here s r || among old.asks.keys s r))
+      → IsRight script view.texts new.asks.keys new.writers.entries new.memo
+  still_right here writers memo noted = record {
+    binders = subst (λ known. AreBinders script view.texts known.binders.entries) (sym memo) before.right.binders;
+    counted = subst (λ known. AreCounted new.asks.keys new.writers.entries known.counts.entries) (sym memo)
+        (subst (λ known. AreCounted new.asks.keys known.entries old.memo.counts.entries) (sym writers)
+        (more_asked old.asks.keys new.asks.keys old.writers.entries old.memo.counts.entries (λ s r. monotone (here s r) (among old.asks.keys s r) (among new.asks.keys s r) (noted s r)) before.right.counted));
+  }
 
   -- ---- a Begin
 
@@ -74,10 +83,10 @@ module _ (view : ValuesView) (script : ScriptTree) (old new : Asking) (told : Li
       one true b = refl
       one false b = refl
 
-  pub begin_step : (number : ℕ) → new.frames ≡ a_statement number ∷ old.frames → new.writers ≡ old.writers → new.binders ≡ old.binders
+  pub begin_step : (number : ℕ) → new.frames ≡ a_statement number ∷ old.frames → new.writers ≡ old.writers → new.memo ≡ old.memo
       → ((s r : ℕ) → among new.asks.keys s r ≡ (((number == s) && has r (from_option (caller_in old.frames))) || among old.asks.keys s r)) → HasAsked view script new (begins number ∷ told)
-  begin_step number frames writers binders noted = record {
-    binders = same_binders binders;
+  begin_step number frames writers memo noted = record {
+    right = still_right (λ s r. (number == s) && has r (from_option (caller_in old.frames))) writers memo noted;
     frames = frames ∙ ap (λ open_ones. a_statement number ∷ open_ones) before.frames;
     reached = quiet_reached (begins number) refl writers;
     writers = quiet (begins number) refl writers;
@@ -88,9 +97,9 @@ module _ (view : ValuesView) (script : ScriptTree) (old new : Asking) (told : Li
 
   -- ---- a Leave
 
-  pub leave_step : (v : Contents) → new.frames ≡ without_first old.frames → new.writers ≡ old.writers → new.binders ≡ old.binders → new.asks ≡ old.asks → HasAsked view script new (leaves v ∷ told)
-  leave_step v frames writers binders same = record {
-    binders = same_binders binders;
+  pub leave_step : (v : Contents) → new.frames ≡ without_first old.frames → new.writers ≡ old.writers → new.memo ≡ old.memo → new.asks ≡ old.asks → HasAsked view script new (leaves v ∷ told)
+  leave_step v frames writers memo same = record {
+    right = still_right (λ s r. false) writers memo (λ s r. ap (λ known. among known.keys s r) same);
     frames = frames ∙ ap without_first before.frames ∙ sym (closed_is (frames_after told));
     reached = quiet_reached (leaves v) refl writers;
     writers = quiet (leaves v) refl writers;
@@ -111,11 +120,11 @@ module _ (view : ValuesView) (script : ScriptTree) (old new : Asking) (told : Li
       one true false = refl
       one false b = refl
 
-  pub end_step : (number : ℕ) (how : How) → number ≡ unwrap_or (owner_in old.frames) 0 → new.frames ≡ without_first old.frames → new.writers ≡ old.writers → new.binders ≡ old.binders
+  pub end_step : (number : ℕ) (how : How) → number ≡ unwrap_or (owner_in old.frames) 0 → new.frames ≡ without_first old.frames → new.writers ≡ old.writers → new.memo ≡ old.memo
       → ((s r : ℕ) → among new.asks.keys s r ≡ ((is_jump how && (has s (from_option (owner_in new.frames)) && (number == r))) || among old.asks.keys s r))
       → HasAsked view script new (ends (unwrap_or (owner_stmt told) 0) (how_seen how) ∷ told)
-  end_step number how is frames writers binders noted = subst (λ n. HasAsked view script new (ends n (how_seen how) ∷ told)) (is ∙ ap (λ found. unwrap_or found 0) (owner_known old.frames refl)) (record {
-    binders = same_binders binders;
+  end_step number how is frames writers memo noted = subst (λ n. HasAsked view script new (ends n (how_seen how) ∷ told)) (is ∙ ap (λ found. unwrap_or found 0) (owner_known old.frames refl)) (record {
+    right = still_right (λ s r. is_jump how && (has s (from_option (owner_in new.frames)) && (number == r))) writers memo noted;
     frames = closing;
     reached = quiet_reached (ends number (how_seen how)) refl writers;
     writers = quiet (ends number (how_seen how)) refl writers;
@@ -170,12 +179,12 @@ module _ (view : ValuesView) (script : ScriptTree) (old new : Asking) (told : Li
           ∙ ap (λ found. now_reached (sets_at seen (accesses_by moment)) (updates_at seen (accesses_by moment)) (has s (from_option found)) (has s (reach_stmts seen told))) (owner_known old.frames refl)
           ∙ sym (reach_next seen moment told s)
 
-    pub do_step : (at : Pos) (op : ℕ) (values : List Contents) (answer : Answer) (made : Option SeenKind) (weight : ℕ) → new.frames ≡ old.frames → AreBinders script view.texts new.binders.entries
+    pub do_step : (at : Pos) (op : ℕ) (values : List Contents) (answer : Answer) (made : Option SeenKind) (weight : ℕ) → new.frames ≡ old.frames → IsRight script view.texts new.asks.keys new.writers.entries new.memo
         → IsWritten
         → ((s r : ℕ) → among new.asks.keys s r ≡ (owner_reads script view.texts old.writers.entries (owner_in old.frames) accesses s r || among old.asks.keys s r))
         → HasAsked view script new (does at op values answer made (map (access_seen view) accesses) weight ∷ told)
-    do_step at op values answer made weight frames binders noted asked = record {
-      binders = binders;
+    do_step at op values answer made weight frames right noted asked = record {
+      right = right;
       frames = frames ∙ before.frames;
       reached = reached_next (does at op values answer made (map (access_seen view) accesses) weight) refl noted;
       writers = writes_next (does at op values answer made (map (access_seen view) accesses) weight) refl noted;
@@ -187,9 +196,11 @@ module _ (view : ValuesView) (script : ScriptTree) (old new : Asking) (told : Li
 
 module _ (view : ValuesView) (script : ScriptTree) (mid new : Asking) (told : List Moment) (at call def : Pos) (op : ℕ) (values others : List Contents) (answer : Answer) (made : Option SeenKind) (accesses : List SeenAccess) (weight : ℕ)
     (done : HasAsked view script mid (does at op others answer made accesses weight ∷ told)) where
-  pub enter_step : new.frames ≡ an_activation ∷ mid.frames → new.writers ≡ mid.writers → new.binders ≡ mid.binders → new.asks ≡ mid.asks → HasAsked view script new (enters call def values accesses ∷ told)
-  enter_step frames writers binders same = record {
-    binders = subst (λ entries. AreBinders script view.texts entries) (sym (ap (λ known. known.entries) binders)) done.binders;
+  pub enter_step : new.frames ≡ an_activation ∷ mid.frames → new.writers ≡ mid.writers → new.memo ≡ mid.memo → new.asks ≡ mid.asks → HasAsked view script new (enters call def values accesses ∷ told)
+  enter_step frames writers memo same = record {
+    right = subst (λ known. IsRight script view.texts new.asks.keys new.writers.entries known) (sym memo)
+        (subst (λ known. IsRight script view.texts new.asks.keys known.entries mid.memo) (sym writers)
+        (subst (λ known. IsRight script view.texts known.keys mid.writers.entries mid.memo) (sym same) done.right));
     frames = frames ∙ ap (λ open_ones. an_activation ∷ open_ones) done.frames;
     reached = λ l named. ap (λ known. is_noted known.entries l) writers ∙ done.reached l named
         ∙ filled_next (location_seen view l) (does at op others answer made accesses weight) told

@@ -12,6 +12,10 @@ pub on_ok : {T E : Type 0} {P Q : Type 0} (r : Result T E) → OnOk r P → (P �
 on_ok (Ok done) holds follows = follows holds
 on_ok (Err want) holds follows = tt
 
+pub on_both : {T E : Type 0} {P Q S : Type 0} (r : Result T E) → OnOk r P → OnOk r Q → (P → Q → S) → OnOk r S
+on_both (Ok done) one two follows = follows one two
+on_both (Err want) one two follows = tt
+
 -- ---- one place of a map is written
 
 module _ {K S : Type 0} (eq : K → K → Bool) (same : (k l : K) → eq k l ≡ true → k ≡ l) (old new : HashMap K (List ℕ) S) (at : K) (owner : Option ℕ) where

@@ -23,8 +23,9 @@ ghost use Rattle.row_moments.specs.Moments.{told_with};
 
 use crate::Ask;
 use crate::ask::{ask_for, ask_jump};
-use crate::binder::Local;
+use crate::counts::forget;
 use crate::frames::Frames;
+use crate::memo::Memo;
 use crate::reads::ask_owner;
 use crate::stmts::Stmts;
 use crate::writers::{note, writers_at};
@@ -37,13 +38,13 @@ use std::alloc::Global;
 use trace_rows::Row;
 
 /// What is known after rows: what is open, the statements of the reach of each location, which statement asks for which,
-/// and the binders of names that were found.
+/// and what need not be sought or asked for again.
 #[derive(Drop)]
 pub struct Asking {
     frames: Frames,
     writers: IndexMap<Location, Stmts>,
     asks: IndexSet<Ask>,
-    binders: IndexMap<Local, Option<u32>>,
+    memo: Memo,
 }
 
 impl Asking {
@@ -55,7 +56,10 @@ impl Asking {
             frames: Frames::new(alloc),
             writers: IndexMap::new(alloc),
             asks: IndexSet::new(alloc),
-            binders: IndexMap::new(alloc),
+            memo: Memo {
+                binders: IndexMap::new(alloc),
+                counts: IndexMap::new(alloc),
+            },
         }
     }
 
@@ -75,14 +79,16 @@ impl Asking {
     {
         let owner = self.frames.owner();
         ask_owner(
+            alloc,
             &mut self.asks,
-            &mut self.binders,
+            &mut self.memo,
             script,
             names,
             &self.writers,
             owner,
             accesses,
         )?;
+        forget(&mut self.memo.counts, accesses);
         note(alloc, &mut self.writers, accesses, owner)
     }
 

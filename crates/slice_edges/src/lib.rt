@@ -10,17 +10,19 @@
 //! - [`Asking::owner`], [`Asking::is_open`], [`Asking::locations`], [`Asking::writers`], [`Asking::edges`]: what is known.
 //! - [`known_pairs_are_edges`]: what the tests in these clauses mean.
 //!
-//! A read costs as many steps as the location has statements in its reach, and so do the first two Updates of a location by a statement after a Set;
-//! each further Update is a look-up. The first read of an unset local name in a function costs two
+//! The first read of a location by a statement after a Set costs as many steps as the location has statements in its reach, and each further one as many as came
+//! since, or at most eight. The first two Updates of a location by a statement after a Set cost as many as it has, each further one a look-up. The first read of an unset local name in a function costs two
 //! searches by halves for each statement of the script, and each further one a look-up. A call that always answers out of memory meets these clauses: that it succeeds is not tested yet.
 #![tactic(auto)]
 
 mod ask;
 mod asking;
 mod binder;
+mod counts;
 mod frames;
 mod known;
 mod laws;
+mod memo;
 mod reads;
 mod stmts;
 mod writers;

@@ -1,13 +1,13 @@
 use Rattle.std.proofs.Common.{◌≡◌, ◌==◌, ◌&&◌, ◌||◌, ℕ, drop, map}
 use Rattle.py_tree.specs.Erasure.{script_of}
 use Rattle.slice_edges.specs.Asks.{among}
-use Rattle.slice_edges.specs.Binder.{AreBinders}
+use Rattle.slice_edges.specs.Counts.{IsRight}
 use Rattle.slice_edges.specs.Reading.{is_read}
 use Rattle.slice_edges.proofs.reads.ask_reads.Given as goal
 
 abbrev pub invariant-loop-access : goal.invariant-loop-access
 invariant-loop-access l =
-    (AreBinders (script_of l.script) (map (λ k. k.now) l.names) l.fn.binders.entries → AreBinders (script_of l.script) (map (λ k. k.now) l.names) l.binders.entries)
-    × (AreBinders (script_of l.script) (map (λ k. k.now) l.names) l.fn.binders.entries → (s r : ℕ)
+    (IsRight (script_of l.script) (map (λ k. k.now) l.names) l.fn.asks.keys l.writers.entries l.fn.memo → IsRight (script_of l.script) (map (λ k. k.now) l.names) l.asks.keys l.writers.entries l.memo)
+    × (IsRight (script_of l.script) (map (λ k. k.now) l.names) l.fn.asks.keys l.writers.entries l.fn.memo → (s r : ℕ)
     → (((l.asker == s) && is_read (script_of l.script) (map (λ k. k.now) l.names) l.asker l.writers.entries r (drop l.access-index l.accesses)) || among l.asks.keys s r)
     ≡ (((l.asker == s) && is_read (script_of l.script) (map (λ k. k.now) l.names) l.asker l.writers.entries r l.accesses) || among l.fn.asks.keys s r))

@@ -8,5 +8,5 @@ use Rattle.slice_edges.proofs.asking.Asking.begin.Goals as goal
 
 pub returns : goal.returns
 returns c = λ view script told before. on_ok c.begin.result c.begin.ensures (λ frames.
-    begin_step view script c.args.self.now (record { frames = c.begin.new.self; writers = c.args.self.now.writers; asks = c.ask_for.new.asks; binders = c.args.self.now.binders }) told before c.args.stmt frames refl refl
+    begin_step view script c.args.self.now (record { frames = c.begin.new.self; writers = c.args.self.now.writers; asks = c.ask_for.new.asks; memo = c.args.self.now.memo }) told before c.args.stmt frames refl refl
     (λ s r. c.in_ok-ask_for.ensures s r ∙ ap (λ found. ((c.args.stmt == s) && has r (from_option found)) || among c.args.self.now.asks.keys s r) c.caller-caller.ensures))

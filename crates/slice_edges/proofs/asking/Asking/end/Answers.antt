@@ -8,6 +8,6 @@ use Rattle.slice_edges.proofs.asking.Asking.end.Goals as goal
 
 pub returns : goal.returns
 returns c = λ view script told before. on_ok c.ask_jump.result c.ask_jump.ensures (λ noted.
-    end_step view script c.args.self.now (record { frames = c.close.new.self; writers = c.args.self.now.writers; asks = c.ask_jump.new.asks; binders = c.args.self.now.binders }) told before
+    end_step view script c.args.self.now (record { frames = c.close.new.self; writers = c.args.self.now.writers; asks = c.ask_jump.new.asks; memo = c.args.self.now.memo }) told before
     c.unwrap_or-ended.result c.args.how (c.unwrap_or-ended.ensures ∙ ap (λ found. unwrap_or found 0) c.owner.ensures) c.close.ensures refl refl
     (λ s r. noted s r ∙ ap (λ found. (is_jump c.args.how && (has s (from_option found) && (c.unwrap_or-ended.result == r))) || among c.args.self.now.asks.keys s r) c.owner-2.ensures))

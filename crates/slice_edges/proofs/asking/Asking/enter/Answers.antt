@@ -8,5 +8,5 @@ use Rattle.slice_edges.proofs.asking.Asking.enter.Goals as goal
 
 pub returns : goal.returns
 returns c = λ view told interned each texts before. on_ok c.enter.result c.enter.ensures (λ frames. λ at def values.
-    enter_step view (script_of c.args.script.now) c.see.new.self (record { frames = c.enter.new.self; writers = c.see.new.self.writers; asks = c.see.new.self.asks; binders = c.see.new.self.binders }) told at at def 0 values values at_end None
+    enter_step view (script_of c.args.script.now) c.see.new.self (record { frames = c.enter.new.self; writers = c.see.new.self.writers; asks = c.see.new.self.asks; memo = c.see.new.self.memo }) told at at def 0 values values at_end None
     (map (access_seen view) c.args.accesses.now) 0 (c.in_ok-see.ensures view told interned each texts before at 0 values at_end None 0) frames refl refl refl)

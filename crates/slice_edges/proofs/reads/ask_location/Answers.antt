@@ -1,0 +1,28 @@
+use Rattle.std.proofs.Common.{◌==◌, ◌&&◌, ◌||◌, [], map, unwrap_or, sym, ap, ◌∙◌}
+use Rattle.py_tree.specs.Erasure.{script_of}
+use Rattle.slice_law.specs.Closed.{has}
+use Rattle.slice_edges.specs.Asks.{among}
+use Rattle.slice_edges.specs.Reading.{binder_for, stmts_or}
+use Rattle.slice_edges.proofs.CountLaws.{monotone, more_asked}
+use Rattle.slice_edges.proofs.WritersLaws.{on_ok, on_both}
+use Rattle.slice_edges.proofs.reads.ask_location.Goals as goal
+
+pub returns-in-Some-clause-asked : goal.returns-in-Some-clause-asked
+returns-in-Some-clause-asked c = on_ok c.ask_noted.result c.ask_noted.ensures.asked (λ asked. λ right s r.
+    let script = script_of c.args.script.now in
+    let texts = map (λ k. k.now) c.args.names.now in
+    let asker = c.args.asker in
+    asked c.args.writers.now.entries right.counted (ap (λ found. unwrap_or found []) (sym c.in-Some.ensures.value) ∙ sym c.as_slice.ensures) s r
+    ∙ ap (λ stmts. ((asker == s) && has r stmts) || among c.args.asks.now.keys s r) c.as_slice.ensures
+    ∙ ap (λ found. ((asker == s) && has r (stmts_or script texts asker c.args.at.now found)) || among c.args.asks.now.keys s r) c.in-Some.ensures.value)
+
+pub returns-in-None-clause-kept : goal.returns-in-None-clause-kept
+returns-in-None-clause-kept c = on_both c.ask_binder.result c.ask_binder.ensures.kept c.ask_binder.ensures.asked (λ kept asked. λ right.
+    let texts = map (λ k. k.now) c.args.names.now in
+    let asker = c.args.asker in
+    record {
+      binders = kept right.binders;
+      counted = more_asked c.args.asks.now.keys c.ask_binder.new.asks.keys c.args.writers.now.entries c.args.memo.now.counts.entries
+          (λ s r. monotone ((asker == s) && has r (binder_for (script_of c.args.script.now) texts asker c.local_name.result)) (among c.args.asks.now.keys s r) (among c.ask_binder.new.asks.keys s r) (asked right.binders s r))
+          right.counted;
+    })
