@@ -7,3 +7,6 @@ pub mod NestingRows
 pub mod OpenFrames
 pub mod ReadBack
 pub mod RowsBack
+pub mod IndexCounting
+pub mod IndexFrames
+pub mod IndexSteps

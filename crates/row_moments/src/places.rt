@@ -1,6 +1,6 @@
 // What is open: statements with the rows that begin them, and activations.
 ghost use Rattle.std.specs.Prelude.{◌≡◌, ◌∷◌, Some, None, [], OnOk};
-ghost use Rattle.row_index.specs.Places.{inner_in, inner_row, inner_stmt, without_first};
+ghost use Rattle.row_moments.specs.IndexPlaces.{inner_in, inner_row, inner_stmt, without_first};
 
 use prov_base::Memory;
 use std::alloc::Global;
@@ -28,8 +28,8 @@ pub(crate) struct Places {
 
 impl Model for Places {
     ghost use Rattle.std.specs.Prelude.{List, Option, reverse};
-    ghost use Rattle.row_index.specs.declared.places.Place.{Place};
-    ghost use Rattle.row_index.specs.Places.{places_in, AreNoted};
+    ghost use Rattle.row_moments.specs.declared.places.Place.{Place};
+    ghost use Rattle.row_moments.specs.IndexPlaces.{places_in, AreNoted};
 
     ghost Value = { List (Option Place) };
 

@@ -8,11 +8,11 @@ use Rattle.row_checks.specs.KeptRows.{view_in}
 use Rattle.row_moments.specs.Moments.{told_with}
 use Rattle.trace_rows.specs.declared.row.Row.{Row}
 use Rattle.trace_rows.specs.declared.row.Row.TheVariants.{Text, Tuple, Begin, Do, Enter, Leave, End}
-use Rattle.row_index.specs.declared.places.Place.{Place}
-use Rattle.row_index.specs.Knows.{has_parent}
-use Rattle.row_index.specs.Places.{inner_stmt, inner_row, without_first, after_row, places_before, owner_by}
-use Rattle.row_index.specs.RowOccurrences.{told_before, frames_before, begun, is_number, began_at, is_child_of, owner_at, owner_in, rows_where, children_in}
-use Rattle.row_index.proofs.Counting.{told_next, time_at, same_time, rows_same, no_rows}
+use Rattle.row_moments.specs.declared.places.Place.{Place}
+use Rattle.row_moments.specs.IndexKnows.{has_parent}
+use Rattle.row_moments.specs.IndexPlaces.{inner_stmt, inner_row, without_first, after_row, places_before, owner_by}
+use Rattle.row_moments.specs.RowOccurrences.{told_before, frames_before, begun, is_number, began_at, is_child_of, owner_at, owner_in, rows_where, children_in}
+use Rattle.row_moments.proofs.IndexCounting.{told_next, time_at, same_time, rows_same, no_rows}
 
 module _ (rows : List Row) where
   -- the occurrence is that of the statement which the row begins

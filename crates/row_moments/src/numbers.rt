@@ -1,7 +1,7 @@
 // Lists of row numbers, one for each number below a bound.
 ghost use Rattle.std.specs.Prelude.{◌≡◌, ◌<◌, ◌==◌, ◌∷◌, ◌++◌, ℕ, [], length, IfOk, OnOk};
-ghost use Rattle.row_index.specs.Knows.{list_at};
-ghost use Rattle.row_index.specs.RowOccurrences.{is_number, with_row};
+ghost use Rattle.row_moments.specs.IndexKnows.{list_at};
+ghost use Rattle.row_moments.specs.RowOccurrences.{is_number, with_row};
 
 use prov_base::Memory;
 use std::alloc::Global;

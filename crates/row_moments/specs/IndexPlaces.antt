@@ -4,8 +4,8 @@ use Rattle.std.specs.Prelude.{◌≡◌, ℕ, zero, suc, List, [], ◌∷◌, sl
 use Rattle.std.specs.Option.{option_map}
 use Rattle.trace_rows.specs.declared.row.Row.{Row}
 use Rattle.trace_rows.specs.declared.row.Row.TheVariants.{Begin, Do, Enter, Leave, End}
-use Rattle.row_index.specs.declared.places.Frame.{Frame}
-use Rattle.row_index.specs.declared.places.Place.{Place}
+use Rattle.row_moments.specs.declared.places.Frame.{Frame}
+use Rattle.row_moments.specs.declared.places.Place.{Place}
 
 -- the innermost statement
 abbrev pub inner_in : List (Option Place) → Option Place

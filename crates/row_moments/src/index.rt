@@ -1,9 +1,9 @@
 // The index of rows.
 ghost use Rattle.std.specs.Prelude.{◌≡◌, ◌<◌, ℕ, suc, List, Some, length, slice_get, IfOk, OnOk};
 ghost use Rattle.trace_rows.specs.declared.row.Row.{Row as OneRow};
-ghost use Rattle.row_index.specs.Knows.{HasBegun, HasGone, KnowsRows};
-ghost use Rattle.row_index.specs.Places.{owner_by};
-ghost use Rattle.row_index.specs.RowOccurrences.{begun, occurrences_in, children_in, owner_in, IsIndexOf};
+ghost use Rattle.row_moments.specs.IndexKnows.{HasBegun, HasGone, KnowsRows};
+ghost use Rattle.row_moments.specs.IndexPlaces.{owner_by};
+ghost use Rattle.row_moments.specs.RowOccurrences.{begun, occurrences_in, children_in, owner_in, IsIndexOf};
 
 use crate::numbers::{Numbers, add_to, add_to_some, no_lists, numbers_at};
 use crate::places::Places;

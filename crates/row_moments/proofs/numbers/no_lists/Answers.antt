@@ -1,7 +1,7 @@
 use Rattle.std.proofs.Common.{◌∷◌, ◌++◌, [], length, ap, ◌∙◌, arith}
-use Rattle.row_index.specs.Knows.{list_at}
-use Rattle.row_index.proofs.Steps.{longer, none_behind}
-use Rattle.row_index.proofs.numbers.no_lists.Goals as goal
+use Rattle.row_moments.specs.IndexKnows.{list_at}
+use Rattle.row_moments.proofs.IndexSteps.{longer, none_behind}
+use Rattle.row_moments.proofs.numbers.no_lists.Goals as goal
 
 pub fill-preserved : goal.fill-preserved
 fill-preserved c =

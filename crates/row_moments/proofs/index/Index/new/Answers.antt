@@ -1,7 +1,7 @@
 use Rattle.std.proofs.Common.{◌≡◌, ◌+◌, suc, length, subst, arith}
-use Rattle.row_index.specs.Knows.{KnowsRows}
-use Rattle.row_index.proofs.Steps.{item_at, index_is}
-use Rattle.row_index.proofs.index.Index.new.Goals as goal
+use Rattle.row_moments.specs.IndexKnows.{KnowsRows}
+use Rattle.row_moments.proofs.IndexSteps.{item_at, index_is}
+use Rattle.row_moments.proofs.index.Index.new.Goals as goal
 
 pub loop-row-preserved : goal.loop-row-preserved
 loop-row-preserved c =

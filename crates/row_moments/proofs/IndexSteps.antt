@@ -3,12 +3,12 @@ use Rattle.std.proofs.Common.{◌≡◌, ◌<◌, ℕ, zero, suc, ◌==◌, ◌&
 use Rattle.std.specs.Prelude.{Result, Ok, Err, OnOk}
 use Rattle.std.proofs.lemmas.Bool.{eqb-false}
 use Rattle.trace_rows.specs.declared.row.Row.{Row}
-use Rattle.row_index.specs.declared.index.Index.{Index}
-use Rattle.row_index.specs.declared.places.Place.{Place}
-use Rattle.row_index.specs.Knows.{list_at, has_parent, HasGone, KnowsRows}
-use Rattle.row_index.specs.Places.{inner_row, places_before, after_row, owner_by}
-use Rattle.row_index.specs.RowOccurrences.{begun, is_number, with_row, rows_where, IsIndexOf}
-use Rattle.row_index.proofs.Frames.{no_children, children_are, owners_are}
+use Rattle.row_moments.specs.declared.index.Index.{Index}
+use Rattle.row_moments.specs.declared.places.Place.{Place}
+use Rattle.row_moments.specs.IndexKnows.{list_at, has_parent, HasGone, KnowsRows}
+use Rattle.row_moments.specs.IndexPlaces.{inner_row, places_before, after_row, owner_by}
+use Rattle.row_moments.specs.RowOccurrences.{begun, is_number, with_row, rows_where, IsIndexOf}
+use Rattle.row_moments.proofs.IndexFrames.{no_children, children_are, owners_are}
 
 pub on_ok : {T E : Type 0} {P Q : Type 0} (r : Result T E) → OnOk r P → (P → Q) → OnOk r Q
 on_ok (Ok done) holds follows = follows holds

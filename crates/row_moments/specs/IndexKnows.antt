@@ -3,10 +3,10 @@
 use Rattle.std.specs.Prelude.{◌≡◌, ◌<◌, ℕ, ◌&&◌, Bool, List, [], length, slice_get, slice_index_or, Option, Some, None, is_some}
 use Rattle.trace_rows.specs.declared.row.Row.{Row}
 use Rattle.trace_rows.specs.declared.row.Row.TheVariants.{Begin}
-use Rattle.row_index.specs.declared.index.Index.{Index}
-use Rattle.row_index.specs.declared.places.Place.{Place}
-use Rattle.row_index.specs.Places.{inner_row, after_row, places_before, owner_by}
-use Rattle.row_index.specs.RowOccurrences.{begun, is_number, with_row, rows_where}
+use Rattle.row_moments.specs.declared.index.Index.{Index}
+use Rattle.row_moments.specs.declared.places.Place.{Place}
+use Rattle.row_moments.specs.IndexPlaces.{inner_row, after_row, places_before, owner_by}
+use Rattle.row_moments.specs.RowOccurrences.{begun, is_number, with_row, rows_where}
 
 abbrev pub list_at : List (List ℕ) → ℕ → List ℕ
 list_at lists i = slice_index_or lists i []

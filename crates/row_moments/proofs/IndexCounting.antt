@@ -8,7 +8,7 @@ use Rattle.row_moments.specs.Moments.{told_with, moments_by}
 use Rattle.row_moments.proofs.Interned.{turned}
 use Rattle.trace_rows.specs.declared.row.Row.{Row}
 use Rattle.trace_rows.specs.declared.row.Row.TheVariants.{Text, Tuple, Begin, Do, Enter, Leave, End}
-use Rattle.row_index.specs.RowOccurrences.{told_before, begun, with_row, rows_where}
+use Rattle.row_moments.specs.RowOccurrences.{told_before, begun, with_row, rows_where}
 
 take_next : (rows : List Row) (i : ℕ) (row : Row) → slice_get rows i ≡ Some row → take (suc i) rows ≡ take i rows ++ row ∷ []
 take_next [] i row at = absurd cc

@@ -6,7 +6,7 @@ use Rattle.row_checks.specs.KeptRows.{view_in}
 use Rattle.row_moments.specs.Moments.{moments_by}
 use Rattle.trace_rows.specs.declared.row.Row.{Row}
 use Rattle.trace_rows.specs.declared.row.Row.TheVariants.{Begin, Do, Enter}
-use Rattle.row_index.specs.declared.index.Index.{Index}
+use Rattle.row_moments.specs.declared.index.Index.{Index}
 
 -- the moments that the rows before a row tell, the latest first, and what is open there
 abbrev pub told_before : List Row → ℕ → List Moment

@@ -1,8 +1,8 @@
 use Rattle.std.proofs.Common.{◌≡◌, ◌∷◌, ◌++◌, [], length, refl, ap, subst, ◌∙◌, rules}
-use Rattle.row_index.specs.declared.index.Index.{Index}
-use Rattle.row_index.specs.Knows.{HasGone}
-use Rattle.row_index.proofs.Steps.{on_ok, row_step}
-use Rattle.row_index.proofs.index.Index.pass.Goals as goal
+use Rattle.row_moments.specs.declared.index.Index.{Index}
+use Rattle.row_moments.specs.IndexKnows.{HasGone}
+use Rattle.row_moments.proofs.IndexSteps.{on_ok, row_step}
+use Rattle.row_moments.proofs.index.Index.pass.Goals as goal
 
 pub returns : goal.returns
 returns c =

@@ -1,3 +1,0 @@
-pub mod Knows
-pub mod Places
-pub mod RowOccurrences
