@@ -83,13 +83,15 @@ fn walk(
         → ((o : ℕ) → group_in groups.now.entries o ≡ values_of children o) → IsWalked view (map (λ k. k.now) tuples.now) children groups.now.entries v 0 found.old.keys
         → OnOk result (AreReached view children v found.new.keys) }
 {
-    for i in 0..usize::MAX {
+    let mut i = 0;
+    while i < found.len() {
         let Some(v) = found.get_index(i).copied() else {
             return Ok(());
         };
         find_inside(found, tuples, groups, v)?;
+        i += 1;
     }
-    Err(Memory)
+    Ok(())
 }
 
 /// The objects that are reached from a value, and the tuples on the way, each once. The children are the values that objects hold.
