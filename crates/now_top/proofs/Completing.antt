@@ -21,7 +21,7 @@ use Rattle.prov_outside.specs.Tells.{Tells}
 use Rattle.py_model.specs.Capture.{Telling}
 use Rattle.keeper.specs.Keeping.{KeeperView}
 use Rattle.keeper.specs.Tables.{TablesView}
-use Rattle.trial_keeping.specs.Keeping.{KeepsTrial, HasRoom, full_store}
+use Rattle.trial_keeping.specs.Keeping.{KeepsTrial, HasRoom, IsOfKeeping, full_store}
 use Rattle.trial_keeping.specs.Trial.{Run, with_trial_of}
 use Rattle.trial_keeping.specs.declared.fault.TrialFault.{TrialFault}
 use Rattle.trial_keeping.specs.declared.fault.TrialFault.TheVariants.{NoTrial, Damaged, Keeper, Collision, Full, Memory}
@@ -29,7 +29,10 @@ use Rattle.trial_loading.specs.Loading.{IsLoaded}
 use Rattle.trial_loading.specs.declared.trial.Trial.{Trial}
 use Rattle.trial_slice.specs.Slices.{HasSlice}
 use Rattle.trial_tables.specs.Written.{put, clash}
-use Rattle.now_top.specs.Completes.{IsTold, Completes, as_meant, by_console, by_folder, by_store, by_collision, by_full, no_memory, DoesWhole, DoesAsMeant, WritesPrefixes, WritesSlice, KeepsOne, RepliesBy}
+use Rattle.now_top.specs.Completes.{IsTold, Completes, as_meant, by_console, by_folder, by_store, by_collision, by_full, no_memory, DoesWhole, DoesAsMeant, WritesPrefixes, WritesSlice, KeepsOne, RepliesBy, leaves_tables}
+use Rattle.capture.specs.declared.ended.RunEnd.{RunEnd}
+use Rattle.capture.specs.declared.ended.RunEnd.TheVariants.{Finished, Raised, Spent}
+use Rattle.now_top.specs.Planned.{ending_told}
 use Rattle.now_top.specs.Kept.{keeps, reads_store, ends_a_run, Clock, Asks, HasNoReading, KeepsRun, Stored, IsUntouched, is_store_failed, KeepsIn, Keeps, no_run, a_run, a_reading, tables_told}
 use Rattle.now_top.specs.Unkept.{with_keeping}
 use Rattle.now_top.specs.Means.{MeansCommand, file_of}
@@ -39,7 +42,7 @@ use Rattle.now_top.specs.Reply.{RepliesOf, well_kept, not_there, amiss, Slices, 
 use Rattle.now_top.specs.World.{World, Plan, closing}
 
 -- what is told goes through what is told between
-tells_through : {T : Type 0} (a b c : Option T) (P Q R : T → T → Type 0) → ((x y z : T) → P x y → Q y z → R x z) → Tells a b P → Tells b c Q → Tells a c R
+pub tells_through : {T : Type 0} (a b c : Option T) (P Q R : T → T → Type 0) → ((x y z : T) → P x y → Q y z → R x z) → Tells a b P → Tells b c Q → Tells a c R
 tells_through a b None P Q R both first second = tt
 tells_through a None (Some z) P Q R both first second = absurd second
 tells_through None (Some y) (Some z) P Q R both first second = absurd first
@@ -115,6 +118,28 @@ no_store out_of_steps seven ten full = refl
 no_store (collision digest kept given) seven ten full = absurd (ten refl)
 no_store store_full seven ten full = absurd (full refl)
 no_store (damaged_trial trial detail) seven ten full = refl
+
+-- how a run ended is the ending of a run
+run_told : (end : RunEnd) → ends_a_run (ending_told end) ≡ true
+run_told Finished = refl
+run_told (Raised class line text) = refl
+run_told Spent = refl
+
+-- what ends with such a status is no run
+pub none_at : (ending : Ending) → leaves_tables (status_of ending) ≡ true → ends_a_run ending ≡ false
+none_at done is = absurd (false≢true is)
+none_at (uncaught class line text) is = absurd (false≢true is)
+none_at out_of_steps is = absurd (false≢true is)
+none_at usage is = refl
+none_at (refused file line column) is = refl
+none_at nothing_there is = refl
+none_at console_failed is = refl
+none_at (folder_failed path) is = refl
+none_at store_failed is = refl
+none_at out_of_memory is = refl
+none_at (collision digest kept given) is = refl
+none_at store_full is = refl
+none_at (damaged_trial trial detail) is = refl
 
 -- what ends with the status of a run is a run
 run_at : (ending : Ending) → (status_of ending ≡ 0) ⊎ ((status_of ending ≡ 1) ⊎ (status_of ending ≡ 9)) → ends_a_run ending ≡ true
@@ -476,6 +501,46 @@ module _ (words : List (List ℕ)) (before after : Seen) (was is : Stored) (stat
       → KeepsOne file steps arguments world prepares.began prepares.clock so.plans.made was is
   keeps_so steps file arguments word at = keeps_by so.plans.made so.plan prepares.began prepares.clock steps file arguments word so.plans.keeps at
 
+  -- the tables stay where the trial was not kept
+  stays_by_fault : (run : Run) (fault : TrialFault) → IsOfKeeping fault → Tells was.told is.told (KeepsTrial run (Err fault)) → Tells was.told is.told (λ (old new : KeeperView). new ≡ old)
+  stays_by_fault run (Collision digest there given) of tells = tells_as was.told is.told (KeepsTrial run (Err (Collision digest there given))) (λ (old new : KeeperView). new ≡ old) (λ old new all. all.1) tells
+  stays_by_fault run Full of tells = tells_as was.told is.told (KeepsTrial run (Err Full)) (λ (old new : KeeperView). new ≡ old) (λ old new all. all.1) tells
+  stays_by_fault run Keeper of tells = tells
+  stays_by_fault run Memory of tells = tells
+  stays_by_fault run (NoTrial number) of tells = absurd of
+  stays_by_fault run (Damaged number damage) of tells = absurd of
+
+  -- a fault in keeping is told in place of how the run ended
+  no_run_told : (fault : TrialFault) (made : Plan) → ends_a_run (with_keeping (Err fault) made).ending ≡ false
+  no_run_told (Collision digest there given) made = refl
+  no_run_told Full made = refl
+  no_run_told Keeper made = refl
+  no_run_told Memory made = refl
+  no_run_told (NoTrial number) made = refl
+  no_run_told (Damaged number damage) made = refl
+
+  kept_or_not : (made delivered : Plan) (began : Telling) (clock : Clock) (steps : ℕ) (file : List ℕ) (arguments : List (List ℕ)) → command ≡ Some (run_kept steps file arguments) → Keeps command world began clock made was is delivered
+      → (KeepsOne file steps arguments world began clock made was is × (ends_a_run delivered.ending ≡ true)) ⊎ (Tells was.told is.told (λ (old new : KeeperView). new ≡ old) × (ends_a_run delivered.ending ≡ false))
+  kept_or_not made delivered began clock steps file arguments word (no_run (inl none) aside still) = absurd (false≢true (sym none ∙ ap (λ (c : Option Command). keeps c) word))
+  kept_or_not made delivered began clock steps file arguments word (no_run (inr none) aside still) = inr (told_alike was.told is.told still.told, none)
+  kept_or_not made delivered began clock steps file arguments word (a_reading query other read_so) = absurd (no_run_read query steps file arguments (sym other ∙ word))
+  kept_or_not made delivered began clock steps file arguments word (a_run steps' file' arguments' word' run of (Ok number) kept) =
+      let same : run_kept steps' file' arguments' ≡ run_kept steps file arguments = same_Some _ _ (sym word' ∙ word) in
+      inl (
+        record {
+          run = run;
+          of = subst (λ (c : Command). KeepsRun (file_of c) (steps_in c) (arguments_in c) world began clock made run) same of;
+          tables = tells_as was.told is.told (KeepsTrial run (Ok number)) (λ (old new : KeeperView). HasRoom old.committed × (with_trial_of run old.committed ≡ put new.committed)) (λ old new all. (all.0.0, all.1.0)) kept.keeps;
+        },
+        ap (λ (p : Plan). ends_a_run p.ending) of.made_is ∙ run_told of.it.ended.end,
+      )
+  kept_or_not made delivered began clock steps file arguments word (a_run steps' file' arguments' word' run of (Err fault) kept) =
+      inr (stays_by_fault run fault kept.of_keeping kept.keeps, no_run_told fault made)
+
+  pub keeps_or_leaves_so : (steps : ℕ) (file : List ℕ) (arguments : List (List ℕ)) → command ≡ Some (run_kept steps file arguments)
+      → (KeepsOne file steps arguments world prepares.began prepares.clock so.plans.made was is × (ends_a_run so.plan.ending ≡ true)) ⊎ (Tells was.told is.told (λ (old new : KeeperView). new ≡ old) × (ends_a_run so.plan.ending ≡ false))
+  keeps_or_leaves_so steps file arguments word = kept_or_not so.plans.made so.plan prepares.began prepares.clock steps file arguments word so.plans.keeps
+
   untouched_by : (made delivered : Plan) (began : Telling) (clock : Clock) → keeps command ≡ false → reads_store command ≡ false → Keeps command world began clock made was is delivered → IsUntouched was is
   untouched_by made delivered began clock none blind (no_run other aside still) = still
   untouched_by made delivered began clock none blind (a_reading query word read_so) = absurd (false≢true (sym blind ∙ ap (λ (c : Option Command). reads_store c) word))
@@ -569,6 +634,12 @@ module _ (words : List (List ℕ)) (before after : Seen) (was is : Stored) (stat
       → (Rose before.faults.put after.faults.put → ⊥) → (Rose before.faults.write after.faults.write → ⊥) → (Rose was.faults is.faults → ⊥) → (status ≡ status_of plan.ending) ⊎ (status ≡ 8)
   ends_so query told plan one_reply word is_told reply ends no_put no_write still = ends_by query told plan one_reply reply (planned_so query told word is_told)
       (λ failed. store_rose so.plans.made so.plan prepares.began prepares.clock so.plans.keeps query word (same_plan query so.plans.made so.plan prepares.began prepares.clock word so.plans.keeps ∙ failed)) ends no_put no_write still
+
+  -- such a status is the planned one
+  pub leaving_status : Ends so.plan.ending so.ran.faults.put after.faults.put so.ran.faults.write after.faults.write status → leaves_tables status ≡ true → leaves_tables (status_of so.plan.ending) ≡ true
+  leaving_status ends at =
+      subst (λ (s : ℕ). leaves_tables s ≡ true)
+      (planned_status ends (λ is. false≢true (ap leaves_tables (sym is) ∙ at)) (λ is. false≢true (ap leaves_tables (sym is) ∙ at)) (λ is. false≢true (ap leaves_tables (sym is) ∙ at))) at
 
   -- a status of a run is the planned one
   pub run_status : Ends so.plan.ending so.ran.faults.put after.faults.put so.ran.faults.write after.faults.write status → (status ≡ 0) ⊎ ((status ≡ 1) ⊎ (status ≡ 9))

@@ -1,4 +1,5 @@
 pub mod Completing
+pub mod Histories
 pub mod Sources
 pub mod Preparing
 pub mod Meanings

@@ -1,5 +1,5 @@
 -- How a call of the program ends, and what stands then, by what its words mean (this project's profile).
-use Rattle.std.specs.Prelude.{◌≡◌, ℕ, ◌≤◌, true, List, ◌++◌, length, take, ◌⊎◌, Option, IsSome}
+use Rattle.std.specs.Prelude.{◌≡◌, ℕ, ◌≤◌, ◌==◌, ◌||◌, Bool, true, List, ◌++◌, length, take, ◌⊎◌, Option, IsSome}
 use Rattle.answer_source.specs.Live.{Faults}
 use Rattle.now_words.specs.Command.{Command}
 use Rattle.delivery.specs.Ending.{Ending, status_of, closing_line}
@@ -80,6 +80,14 @@ pub record KeepsOne (file : List ℕ) (steps : ℕ) (arguments : List (List ℕ)
   pub run : Run
   pub of : KeepsRun file steps arguments world began clock made run
   pub tables : Tells was.told is.told (λ (old new : KeeperView). HasRoom old.committed × (with_trial_of run old.committed ≡ put new.committed))
+
+-- The trial of the run is kept, or the tables stay.
+abbrev pub KeepsOrLeaves : List ℕ → ℕ → List (List ℕ) → World → Telling → Clock → Plan → Stored → Stored → Type 0
+KeepsOrLeaves file steps arguments world began clock made was is = KeepsOne file steps arguments world began clock made was is ⊎ Tells was.told is.told (λ (old new : KeeperView). new ≡ old)
+
+-- 3, 4, 7, 10 and 13: the script is refused, nothing is there, the store failed, has other bytes under a digest, or is full
+abbrev pub leaves_tables : ℕ → Bool
+leaves_tables status = (status == 3) || ((status == 4) || ((status == 7) || ((status == 10) || (status == 13))))
 
 -- The status and the bytes on the console are those of the reply to the question by these tables: the text, and of the closing line as much as the console
 -- took, which is all where no count rose. The tables stay.

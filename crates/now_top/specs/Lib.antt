@@ -1,4 +1,5 @@
 pub mod World
+pub mod Calls
 pub mod Completes
 pub mod RunCommand
 pub mod Reply

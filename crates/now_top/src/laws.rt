@@ -1,5 +1,5 @@
 // The laws of the top call: public functions without a body, whose contracts are the laws.
-ghost use Rattle.std.specs.Prelude.{◌≡◌, ℕ, false, List, ◌⊎◌, Option, Some};
+ghost use Rattle.std.specs.Prelude.{◌≡◌, ℕ, true, false, List, ◌⊎◌, Option, Some};
 ghost use Rattle.now_words.specs.declared.command.Evaluation.{Evaluation as OneEvaluation};
 ghost use Rattle.now_words.specs.declared.command.Query.{Query as Question};
 ghost use Rattle.now_words.specs.declared.command.Query.TheVariants.{Slice};
@@ -9,8 +9,10 @@ ghost use Rattle.keeper.specs.Tables.{TablesView};
 ghost use Rattle.now_words.specs.Command.{Command, run_kept, reads, command_of};
 ghost use Rattle.prov_outside.specs.Count.{Rose};
 ghost use Rattle.prov_outside.specs.Tells.{Tells};
-ghost use Rattle.now_top.specs.Completes.{IsTold, Completes, DoesWhole, DoesAsMeant, WritesPrefixes, WritesSlice, KeepsOne, RepliesBy};
-ghost use Rattle.now_top.specs.Kept.{keeps, reads_store, Stored, IsUntouched, tables_told};
+ghost use Rattle.trial_keeping.specs.Trial.{Run};
+ghost use Rattle.now_top.specs.Calls.{Calls, HasTrials};
+ghost use Rattle.now_top.specs.Completes.{IsTold, Completes, DoesWhole, DoesAsMeant, WritesPrefixes, WritesSlice, KeepsOne, KeepsOrLeaves, RepliesBy, leaves_tables};
+ghost use Rattle.now_top.specs.Kept.{keeps, ends_a_run, reads_store, Stored, IsUntouched, tables_told};
 ghost use Rattle.now_top.specs.Means.{MeansCommand};
 ghost use Rattle.now_top.specs.Replies.{Replies};
 ghost use Rattle.now_top.specs.Reply.{Reply};
@@ -94,6 +96,26 @@ pub fn keeps_trial()
 {
     ends_in_one_way();
 }
+
+/// The law of `run FILE` with any status: the trial of its run is kept as the next one and nothing else is new, or the tables stay. It is kept where the ending that is
+/// delivered is that of a run, though the console or the folder may fail then, or memory run out (5, 6, 8). The tables stay with the statuses 3, 4, 7, 10 and 13.
+pub fn keeps_or_leaves()
+    ensures either { (words : List (List ℕ)) (before after : Seen) (was is : Stored) (status : ℕ) (so : Replies words before after was is status) (steps : ℕ) (file : List ℕ) (arguments : List (List ℕ))
+        → command_of words ≡ Some (run_kept steps file arguments) → KeepsOrLeaves file steps arguments so.plans.prepares.world so.plans.prepares.began so.plans.prepares.clock so.plans.made was is }
+    ensures kept { (words : List (List ℕ)) (before after : Seen) (was is : Stored) (status : ℕ) (so : Replies words before after was is status) (steps : ℕ) (file : List ℕ) (arguments : List (List ℕ))
+        → command_of words ≡ Some (run_kept steps file arguments) → ends_a_run so.plan.ending ≡ true
+        → KeepsOne file steps arguments so.plans.prepares.world so.plans.prepares.began so.plans.prepares.clock so.plans.made was is }
+    ensures left { (words : List (List ℕ)) (before after : Seen) (was is : Stored) (status : ℕ) → Replies words before after was is status → (steps : ℕ) (file : List ℕ) (arguments : List (List ℕ))
+        → command_of words ≡ Some (run_kept steps file arguments) → leaves_tables status ≡ true → Tells was.told is.told (λ (old new : KeeperView). new ≡ old) }
+{
+    ends_in_one_way();
+}
+
+/// The law of histories: after any calls of the program, whatever their words and statuses are, the store has what it had before and the trials of some of their runs,
+/// in their order, each as the next one.
+pub fn stores_have_trials_of_runs()
+    ensures { (was is : Stored) → Calls was is → Tells was.told is.told (λ (old new : KeeperView). (runs : List Run) × HasTrials runs old.committed new.committed) }
+{}
 
 /// The law that no other command changes the store: its tables stay, and nothing is asked of it but by a command that reads it.
 pub fn keeps_nothing_else()
