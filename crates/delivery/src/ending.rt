@@ -33,7 +33,7 @@ pub enum Ending<'t> {
     NothingThere,
     /// The folder failed at the path.
     FolderFailed(&'t str),
-    /// The store of trials failed, and the run is not kept.
+    /// The store of trials failed.
     StoreFailed,
     /// The steps of the run did not suffice.
     OutOfSteps,

@@ -120,7 +120,7 @@ no_store store_full seven ten full = absurd (full refl)
 no_store (damaged_trial trial detail) seven ten full = refl
 
 -- how a run ended is the ending of a run
-run_told : (end : RunEnd) → ends_a_run (ending_told end) ≡ true
+pub run_told : (end : RunEnd) → ends_a_run (ending_told end) ≡ true
 run_told Finished = refl
 run_told (Raised class line text) = refl
 run_told Spent = refl
@@ -142,7 +142,7 @@ none_at store_full is = refl
 none_at (damaged_trial trial detail) is = refl
 
 -- what ends with the status of a run is a run
-run_at : (ending : Ending) → (status_of ending ≡ 0) ⊎ ((status_of ending ≡ 1) ⊎ (status_of ending ≡ 9)) → ends_a_run ending ≡ true
+pub run_at : (ending : Ending) → (status_of ending ≡ 0) ⊎ ((status_of ending ≡ 1) ⊎ (status_of ending ≡ 9)) → ends_a_run ending ≡ true
 run_at done is = refl
 run_at (uncaught class line text) is = refl
 run_at out_of_steps is = refl
@@ -171,7 +171,7 @@ told_alike None (Some other) same = cc
 told_alike (Some one) (Some other) same = same_Some _ _ same
 
 -- what reads the store keeps no run
-no_run_read : (query : Query) (steps : ℕ) (file : List ℕ) (arguments : List (List ℕ)) → ◌≡◌ {A = Option Command} (Some (reads query)) (Some (run_kept steps file arguments)) → ⊥
+pub no_run_read : (query : Query) (steps : ℕ) (file : List ℕ) (arguments : List (List ℕ)) → ◌≡◌ {A = Option Command} (Some (reads query)) (Some (run_kept steps file arguments)) → ⊥
 no_run_read query steps file arguments is = cc
 
 -- a plan that tells of a fault of the store tells of no lack of memory
@@ -250,7 +250,7 @@ module _ (words : List (List ℕ)) (before after : Seen) (was is : Stored) (stat
   pub write_rose : Rose so.ran.faults.write after.faults.write → Rose before.faults.write after.faults.write
   write_rose rose = rose_from before.faults.write so.ran.faults.write after.faults.write after.faults.write write_same refl rose
 
-  source_rose : read.faults.source ≡ one_more before.faults.source → Rose before.faults.source after.faults.source
+  pub source_rose : read.faults.source ≡ one_more before.faults.source → Rose before.faults.source after.faults.source
   source_rose is = subst (λ (n : ℕ). Rose before.faults.source n) (sym (source_same ∙ is)) (risen before.faults.source)
 
   -- what the folder and the console tell, from the first moment to the last
@@ -314,7 +314,7 @@ module _ (words : List (List ℕ)) (before after : Seen) (was is : Stored) (stat
     completes_by made plan (unread one word path rose un) fails means ends = by_unread (file_of one) plan.ending (source_rose rose) ends
     completes_by made plan (store_unread query word same un) fails means ends = by_fault plan.ending (fails query word refl) ends
     completes_by made plan (untold query one word none may same un) fails means ends = absurd (no_meaning query word none plan means)
-    completes_by made plan (lacks_memory same) fails means ends = by_lack plan.ending ends
+    completes_by made plan (lacks_memory same aside) fails means ends = by_lack plan.ending ends
 
     -- by what came of the keeping
     unkept_by : (steps : ℕ) (file : List ℕ) (arguments : List (List ℕ)) (run : Run) (fault : TrialFault) (made plan : Plan) → KeepsRun file steps arguments world prepares.began prepares.clock so.plans.made run → KeepsIn run (Err fault) was is → Ends (with_keeping (Err fault) made).ending so.ran.faults.put after.faults.put so.ran.faults.write after.faults.write status
@@ -384,7 +384,7 @@ module _ (words : List (List ℕ)) (before after : Seen) (was is : Stored) (stat
   meant_by made (unread one word path rose un) told seven quiet room = absurd (quiet (source_rose rose))
   meant_by made (store_unread query word same un) told seven quiet room = absurd (seven query word refl)
   meant_by made (untold query one word none may same un) told seven quiet room = absurd (not_told_in command query tables word none told)
-  meant_by made (lacks_memory same) told seven quiet room = absurd (room refl)
+  meant_by made (lacks_memory same aside) told seven quiet room = absurd (room refl)
 
   pub whole_so : IsTold command tables → (Rose before.faults.source after.faults.source → ⊥) → (Rose was.faults is.faults → ⊥) → (status ≡ 8 → ⊥) → (status ≡ 10 → ⊥) → (status ≡ 13 → ⊥)
       → WentWell so.plan.ending so.plan.text so.plan.files so.ran.faults.put after.faults.put so.ran.folder after.folder so.ran.faults.write after.faults.write so.ran.console after.console status
@@ -408,7 +408,7 @@ module _ (words : List (List ℕ)) (before after : Seen) (was is : Stored) (stat
   meant_at made (unread one word path rose un) told seven six room = absurd (six refl)
   meant_at made (store_unread query word same un) told seven six room = absurd (seven refl)
   meant_at made (untold query one word none may same un) told seven six room = absurd (not_told_in command query tables word none told)
-  meant_at made (lacks_memory same) told seven six room = absurd (room refl)
+  meant_at made (lacks_memory same aside) told seven six room = absurd (room refl)
 
   -- a status that tells of no fault and of no lack of memory is the planned one
   pub planned_status : Ends so.plan.ending so.ran.faults.put after.faults.put so.ran.faults.write after.faults.write status → (status ≡ 5 → ⊥) → (status ≡ 6 → ⊥) → (status ≡ 8 → ⊥) → status ≡ status_of so.plan.ending
@@ -570,7 +570,7 @@ module _ (words : List (List ℕ)) (before after : Seen) (was is : Stored) (stat
   planned_by query told made word is_told (unread one other path rose un) = absurd (no_file query one (sym other ∙ word) path)
   planned_by query told made word is_told (store_unread one other same un) = inr (inl refl)
   planned_by query told made word is_told (untold one plan other none may same un) = absurd (none_told told (sym none ∙ is_told))
-  planned_by query told made word is_told (lacks_memory same) = inr (inr refl)
+  planned_by query told made word is_told (lacks_memory same aside) = inr (inr refl)
 
   -- a question's plan stays as it was made
   same_plan : (query : Query) (made delivered : Plan) (began : Telling) (clock : Clock) → command ≡ Some (reads query) → Keeps command world began clock made was is delivered → made ≡ delivered

@@ -1,4 +1,6 @@
 pub mod Completing
+pub mod Delivering
+pub mod Finishing
 pub mod Histories
 pub mod Sources
 pub mod Preparing

@@ -1,5 +1,6 @@
 -- How a plan comes about: where nothing is read, where FILE has no text, and where it has one.
 use Rattle.std.proofs.Common.{false, ◌↔◌, ◌≡◌, refl, sym, ap, subst, ℕ, ◌<◌, List, length, ◌⊎◌, inl, inr, Option, Some, None, Ok, Err, arith}
+use Rattle.std.proofs.lemmas.Bool.{false≢true}
 use Rattle.answer_source.proofs.Fitting.{own_fits}
 use Rattle.answer_source.specs.Live.{capture_of}
 use Rattle.now_words.specs.Command.{Command, run_bare, run_kept, reads as reads_command}
@@ -67,7 +68,7 @@ no_command tables before = unrun None tables before before (closing usage) (file
 
 -- memory runs out before anything is read
 pub lacks_memory : (command : Option Command) (tables : Option TablesView) (before : Seen) → Prepares command tables before before (closing out_of_memory)
-lacks_memory command tables before = unrun command tables before before (closing out_of_memory) (files_of before.folder) (inr refl) (untouched before) (agrees_of before.folder) (no_memory refl)
+lacks_memory command tables before = unrun command tables before before (closing out_of_memory) (files_of before.folder) (inr refl) (untouched before) (agrees_of before.folder) (no_memory refl (λ none. unasked before))
 
 -- ---- FILE has no text that could be read
 
@@ -78,7 +79,7 @@ module _ (one : Command) (tables : Option TablesView) (before read : Seen) (read
   ends_so files nothing_there b = meant (closing nothing_there) b.0 (nowhere files b.1)
   ends_so files (refused name line column) b = subst (λ e. Comes (Some one) before read (still files read) tables (closing e)) (sym b.1.3) (meant (closing (refused (file_of one) 1 1)) b.0 (large files b.1.0 b.1.1 b.1.2))
   ends_so files (folder_failed path) b = subst (λ p. Comes (Some one) before read (still files read) tables (closing (folder_failed p))) (sym b.1.1) (unread one refl b.1.0 b.0 (unasked read))
-  ends_so files out_of_memory b = no_memory b
+  ends_so files out_of_memory b = no_memory b (λ none. unasked read)
   ends_so files done b = absurd b
   ends_so files usage b = absurd b
   ends_so files console_failed b = absurd b
@@ -121,7 +122,7 @@ run_without_text file steps arguments tables before read reads = without_text (r
 run_so : (file : List ℕ) (steps : ℕ) (arguments : List (List ℕ)) (tables : Option TablesView) (before read : Seen) (files : Files) (text : List ℕ) (plan : Plan) (world : World) → world.files ≡ files → IsReadAs file files before.faults.source read.faults.source (Ok text)
     → running.RunsText file text steps arguments world.capture plan ⊎ (plan ≡ closing out_of_memory) → Comes (Some (run_bare steps file arguments)) before read world tables plan
 run_so file steps arguments tables before read files text plan world same b (inl so) = meant plan b.0 (running.stands text (subst (λ (f : Files). StandsAt file f text) (sym same) b.1) plan so)
-run_so file steps arguments tables before read files text plan world same b (inr lacks) = subst (Comes (Some (run_bare steps file arguments)) before read world tables) (sym lacks) (no_memory b.0)
+run_so file steps arguments tables before read files text plan world same b (inr lacks) = subst (Comes (Some (run_bare steps file arguments)) before read world tables) (sym lacks) (no_memory b.0 (λ none. absurd (false≢true (sym none))))
 
 pub run_with_text : (file : List ℕ) (steps : ℕ) (arguments : List (List ℕ)) (tables : Option TablesView) (before read ran : Seen) → OnlyReads before read → (text : List ℕ) → ReadsFile file read.folder before.faults.source read.faults.source (Ok text) → (plan : Plan)
     → RunsOver file text steps arguments read ran plan → Prepares (Some (run_bare steps file arguments)) tables before ran plan
@@ -168,7 +169,7 @@ kept_without_text file steps arguments before read store may reads ending r =
 kept_so : (file : List ℕ) (steps : ℕ) (arguments : List (List ℕ)) (tables : Option TablesView) (before read : Seen) (files : Files) (text : List ℕ) (plan : Plan) (world : World) → world.files ≡ files → IsReadAs file files before.faults.source read.faults.source (Ok text)
     → running.RunsText file text steps arguments world.capture plan ⊎ (plan ≡ closing out_of_memory) → Comes (Some (run_kept steps file arguments)) before read world tables plan
 kept_so file steps arguments tables before read files text plan world same b (inl going) = meant plan b.0 (running.stands text (subst (λ (f : Files). StandsAt file f text) (sym same) b.1) plan going)
-kept_so file steps arguments tables before read files text plan world same b (inr lacks) = subst (Comes (Some (run_kept steps file arguments)) before read world tables) (sym lacks) (no_memory b.0)
+kept_so file steps arguments tables before read files text plan world same b (inr lacks) = subst (Comes (Some (run_kept steps file arguments)) before read world tables) (sym lacks) (no_memory b.0 (λ none. absurd (false≢true (sym none))))
 
 kept_with_text : (file : List ℕ) (steps : ℕ) (arguments : List (List ℕ)) (before read ran : Seen) (was is : Stored) (may may' : TablesView → Type 0) → OnlyReads before read → (text : List ℕ)
     → (r : ReadsFile file read.folder before.faults.source read.faults.source (Ok text)) → (plan : Plan) → KeepsOver file text steps arguments r.files read ran was is may may' plan
@@ -218,7 +219,7 @@ answer_comes : (query : Query) (before : Seen) (files : Files) (tables : Option 
 answer_comes query before files tables plan (replied told _ reply) = meant plan refl (unasked before, reply)
 answer_comes query before files tables plan (untold_answer _ may) = untold query plan refl refl may refl (unasked before)
 answer_comes query before files tables plan (failed _) = store_unread query refl refl (unasked before)
-answer_comes query before files tables plan (lacking _) = no_memory refl
+answer_comes query before files tables plan (lacking _) = no_memory refl (λ none. unasked before)
 
 pub answers_so : (query : Query) (before : Seen) (was is : Stored) (may may' : TablesView → Type 0) (plan : Plan) → AnswersQuery query was is may may' plan → PlansWith (Some (reads_command query)) before before was is may may' plan
 answers_so query before was is may may' plan so = record {

@@ -85,6 +85,14 @@ pub record KeepsOne (file : List ℕ) (steps : ℕ) (arguments : List (List ℕ)
 abbrev pub KeepsOrLeaves : List ℕ → ℕ → List (List ℕ) → World → Telling → Clock → Plan → Stored → Stored → Type 0
 KeepsOrLeaves file steps arguments world began clock made was is = KeepsOne file steps arguments world began clock made was is ⊎ Tells was.told is.told (λ (old new : KeeperView). new ≡ old)
 
+-- the status of a run, or for lack of memory, or because the store has other bytes under a digest or is full
+abbrev pub ComesToARun : ℕ → Type 0
+ComesToARun status = ((status ≡ 0) ⊎ ((status ≡ 1) ⊎ (status ≡ 9))) ⊎ ((status ≡ 8) ⊎ ((status ≡ 10) ⊎ (status ≡ 13)))
+
+-- 5, or 6 where FILE could be read: the console failed, or the folder at a file that was put
+abbrev pub FailedAtDelivery : Seen → Seen → ℕ → Type 0
+FailedAtDelivery before after status = (status ≡ 5) ⊎ ((status ≡ 6) × (Rose before.faults.source after.faults.source → ⊥))
+
 -- 3, 4, 7, 10 and 13: the script is refused, nothing is there, the store failed, has other bytes under a digest, or is full
 abbrev pub leaves_tables : ℕ → Bool
 leaves_tables status = (status == 3) || ((status == 4) || ((status == 7) || ((status == 10) || (status == 13))))

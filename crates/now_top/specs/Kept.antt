@@ -37,7 +37,14 @@ reads_store (Some (run_bare steps file arguments)) = false
 reads_store (Some (run_kept steps file arguments)) = false
 reads_store (Some (reads query)) = true
 
--- a run comes to such an ending, and nothing else does
+-- the command runs a script
+abbrev pub runs_script : Option Command → Bool
+runs_script None = false
+runs_script (Some (run_bare steps file arguments)) = true
+runs_script (Some (run_kept steps file arguments)) = true
+runs_script (Some (reads query)) = false
+
+-- of a command that runs a script a run comes to such an ending, and nothing else does
 abbrev pub ends_a_run : Ending → Bool
 ends_a_run done = true
 ends_a_run (uncaught class line text) = true

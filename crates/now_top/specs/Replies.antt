@@ -1,5 +1,5 @@
 -- What the top call says (this project's profile): how its devices go from one stage of a command to the next, and why the plan that is delivered is that of the words.
-use Rattle.std.specs.Prelude.{◌≡◌, ℕ, List, Option, Some, None, IsTrue}
+use Rattle.std.specs.Prelude.{◌≡◌, ℕ, false, List, Option, Some, None, IsTrue}
 use Rattle.answer_source.specs.Live.{IsCaptureOf}
 use Rattle.now_words.specs.Command.{Command, reads, command_of}
 use Rattle.now_words.specs.declared.command.Query.{Query}
@@ -10,14 +10,14 @@ use Rattle.py_model.specs.Capture.{Telling}
 use Rattle.run_engine.specs.Bare.{nothing_kept}
 use Rattle.now_top.specs.World.{World, Plan, closing, IsUnasked}
 use Rattle.keeper.specs.Tables.{TablesView}
-use Rattle.now_top.specs.Kept.{Clock, tables_told, Asks, IsClockOf, Stored, Keeps, StopsBy}
+use Rattle.now_top.specs.Kept.{Clock, runs_script, tables_told, Asks, IsClockOf, Stored, Keeps, StopsBy}
 use Rattle.now_top.specs.Means.{MeansCommand, file_of}
 use Rattle.now_top.specs.Reading.{Agrees}
 use Rattle.now_top.specs.Reply.{MayReply}
 use Rattle.now_top.specs.Seen.{Seen, told_by, OnlyReads, Delivers}
 
 -- Why a plan is made, from what was seen before and after the reading of FILE: the command means it; or FILE, which is a path, could not be read, and the
--- folder counted that; or the store could not be read; or memory ran out, and nothing but a closing line is planned. Over a store that does not tell its tables
+-- folder counted that; or the store could not be read; or memory ran out, and nothing but a closing line is planned; only a command that runs a script may have asked then. Over a store that does not tell its tables
 -- it is a reply that may be given to the question.
 pub data Comes (command : Option Command) (before read : Seen) (world : World) (tables : Option TablesView) : Plan → Type 0 where
   meant : (plan : Plan) → read.faults.source ≡ before.faults.source → MeansCommand command world tables plan → Comes command before read world tables plan
@@ -25,7 +25,7 @@ pub data Comes (command : Option Command) (before read : Seen) (world : World) (
       → Comes command before read world tables (closing (folder_failed (file_of one)))
   store_unread : (query : Query) → command ≡ Some (reads query) → read.faults.source ≡ before.faults.source → IsUnasked world.capture → Comes command before read world tables (closing store_failed)
   untold : (query : Query) (plan : Plan) → command ≡ Some (reads query) → tables ≡ None → MayReply query plan → read.faults.source ≡ before.faults.source → IsUnasked world.capture → Comes command before read world tables plan
-  no_memory : read.faults.source ≡ before.faults.source → Comes command before read world tables (closing out_of_memory)
+  no_memory : read.faults.source ≡ before.faults.source → (runs_script command ≡ false → IsUnasked world.capture) → Comes command before read world tables (closing out_of_memory)
 
 -- A plan is made: FILE is read, and then its script is run, or nothing else is done. The world has the files of the folder, where it tells
 -- them, and what the devices gave from then on, and no more. The tables are those of the store, where it tells them. Where the run is to be kept, the clock is asked before it and after it.

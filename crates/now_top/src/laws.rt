@@ -9,15 +9,16 @@ ghost use Rattle.keeper.specs.Tables.{TablesView};
 ghost use Rattle.now_words.specs.Command.{Command, run_kept, reads, command_of};
 ghost use Rattle.prov_outside.specs.Count.{Rose};
 ghost use Rattle.prov_outside.specs.Tells.{Tells};
-ghost use Rattle.trial_keeping.specs.Trial.{Run};
-ghost use Rattle.now_top.specs.Calls.{Calls, HasTrials};
-ghost use Rattle.now_top.specs.Completes.{IsTold, Completes, DoesWhole, DoesAsMeant, WritesPrefixes, WritesSlice, KeepsOne, KeepsOrLeaves, RepliesBy, leaves_tables};
+ghost use Rattle.now_top.specs.Calls.{Calls, HasTrialsOf};
+ghost use Rattle.now_top.specs.Completes.{IsTold, Completes, DoesWhole, DoesAsMeant, WritesPrefixes, WritesSlice, KeepsOne, KeepsOrLeaves, FailedAtDelivery, ComesToARun, RepliesBy, leaves_tables};
 ghost use Rattle.now_top.specs.Kept.{keeps, ends_a_run, reads_store, Stored, IsUntouched, tables_told};
 ghost use Rattle.now_top.specs.Means.{MeansCommand};
 ghost use Rattle.now_top.specs.Replies.{Replies};
 ghost use Rattle.now_top.specs.Reply.{Reply};
 ghost use Rattle.now_top.specs.Seen.{Seen};
-ghost use Rattle.now_top.specs.World.{World, Plan};
+ghost use Rattle.now_top.specs.World.{World, Plan, StandsAt};
+ghost use Rattle.py_parser.specs.Reading.{HasScript};
+ghost use Rattle.py_tree.specs.Tree.{ScriptTree};
 
 use delivery::{
     done_is_whole, ends_in_one_way, no_count_rose, no_fault_answered, prefixes_are_written,
@@ -97,13 +98,16 @@ pub fn keeps_trial()
     ends_in_one_way();
 }
 
-/// The law of `run FILE` with any status: the trial of its run is kept as the next one and nothing else is new, or the tables stay. It is kept where the ending that is
-/// delivered is that of a run, though the console or the folder may fail then, or memory run out (5, 6, 8). The tables stay with the statuses 3, 4, 7, 10 and 13.
+/// The law of `run FILE` with any status: the trial of its run is kept as the next one and nothing else is new, or the tables stay. It is kept where the console failed, or
+/// the folder at a file that was put (5, 6), and wherever the ending that is delivered is that of a run. The tables stay with the statuses 3, 4, 7, 10 and 13.
 pub fn keeps_or_leaves()
     ensures either { (words : List (List ℕ)) (before after : Seen) (was is : Stored) (status : ℕ) (so : Replies words before after was is status) (steps : ℕ) (file : List ℕ) (arguments : List (List ℕ))
         → command_of words ≡ Some (run_kept steps file arguments) → KeepsOrLeaves file steps arguments so.plans.prepares.world so.plans.prepares.began so.plans.prepares.clock so.plans.made was is }
     ensures kept { (words : List (List ℕ)) (before after : Seen) (was is : Stored) (status : ℕ) (so : Replies words before after was is status) (steps : ℕ) (file : List ℕ) (arguments : List (List ℕ))
         → command_of words ≡ Some (run_kept steps file arguments) → ends_a_run so.plan.ending ≡ true
+        → KeepsOne file steps arguments so.plans.prepares.world so.plans.prepares.began so.plans.prepares.clock so.plans.made was is }
+    ensures at_delivery { (words : List (List ℕ)) (before after : Seen) (was is : Stored) (status : ℕ) (so : Replies words before after was is status) (steps : ℕ) (file : List ℕ) (arguments : List (List ℕ))
+        → command_of words ≡ Some (run_kept steps file arguments) → FailedAtDelivery before after status
         → KeepsOne file steps arguments so.plans.prepares.world so.plans.prepares.began so.plans.prepares.clock so.plans.made was is }
     ensures left { (words : List (List ℕ)) (before after : Seen) (was is : Stored) (status : ℕ) → Replies words before after was is status → (steps : ℕ) (file : List ℕ) (arguments : List (List ℕ))
         → command_of words ≡ Some (run_kept steps file arguments) → leaves_tables status ≡ true → Tells was.told is.told (λ (old new : KeeperView). new ≡ old) }
@@ -111,11 +115,24 @@ pub fn keeps_or_leaves()
     ends_in_one_way();
 }
 
-/// The law of histories: after any calls of the program, whatever their words and statuses are, the store has what it had before and the trials of some of their runs,
-/// in their order, each as the next one.
+/// Completeness of `run FILE`: where FILE stands in the folder and is a script, and neither the folder, nor the console, nor the keeper failed in a call, the status is that
+/// of the run (0, 1, 9), or 8 for lack of memory, 10 where other bytes stand under a digest, 13 where the store is full.
+pub fn run_completes()
+    ensures { (words : List (List ℕ)) (before after : Seen) (was is : Stored) (status : ℕ) (so : Replies words before after was is status) (steps : ℕ) (file : List ℕ) (arguments : List (List ℕ)) (text : List ℕ) (script : ScriptTree)
+        → command_of words ≡ Some (run_kept steps file arguments) → StandsAt file so.plans.prepares.world.files text → HasScript text script
+        → (Rose before.faults.source after.faults.source → ⊥) → (Rose before.faults.put after.faults.put → ⊥) → (Rose before.faults.write after.faults.write → ⊥) → (Rose was.faults is.faults → ⊥) → ComesToARun status }
+{
+    one_reading();
+    ends_in_one_way();
+}
+
+/// The law of histories: after any calls of the program the store has what it had before, and the trials of the runs that these calls kept, in their order, each as the
+/// next one. A call of `run FILE` with the status 0, 1 or 9 kept its run, and another one may have.
 pub fn stores_have_trials_of_runs()
-    ensures { (was is : Stored) → Calls was is → Tells was.told is.told (λ (old new : KeeperView). (runs : List Run) × HasTrials runs old.committed new.committed) }
-{}
+    ensures { (was is : Stored) (calls : Calls was is) → Tells was.told is.told (λ (old new : KeeperView). HasTrialsOf was is calls old.committed new.committed) }
+{
+    ends_in_one_way();
+}
 
 /// The law that no other command changes the store: its tables stay, and nothing is asked of it but by a command that reads it.
 pub fn keeps_nothing_else()

@@ -36,7 +36,7 @@ pub fn now<C: Console + Drop, F: Folder + Drop, M: ClockAndRandom + Drop, K: Kee
 ) -> (u8, Devices<C, F, M>)
     requires batch { K.is_open keeper.old ≡ false }
     // FILE is read, its script is run over the devices and kept, and what the words mean over the folder's files and what the devices gave is
-    // delivered; or a fault that was counted, or out of memory, stands in its place.
+    // delivered; or a fault that was counted stands in its place, or the store does not take the trial, or memory ran out.
     ensures reply { RepliesWith (map string_bytes words.now) (⟦<Devices<C, F, M> as Exposes>⟧.seen devices) (⟦<Devices<C, F, M> as Exposes>⟧.seen result.1) (stored K.told K.faults keeper.old) (stored K.told K.faults keeper.new) (K.may_leave keeper.old) (K.may_leave keeper.new) result.0 }
     // With status 0 all that the words mean stands.
     ensures status_0_did_all { result.0 ≡ 0 → IsTold (command_of (map string_bytes words.now)) (tables_told (stored K.told K.faults keeper.old) (stored K.told K.faults keeper.new))

@@ -19,7 +19,7 @@
 //!   each is one look-up.
 //!
 //! More than 2^32 rows are answered as out of memory, since their numbers would not fit. No trial of 1,000,000 steps has so many. A call that always answers
-//! out of memory meets these clauses: that it succeeds is not tested yet.
+//! out of memory meets these clauses: that it succeeds is not tested yet of the index.
 //!
 //! That the numbers of statements, objects and activations in a run's rows are kept, and that the keys are keys, is not shown here.
 #![tactic(auto)]

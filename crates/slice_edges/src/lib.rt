@@ -12,7 +12,7 @@
 //!
 //! The first read of a location by a statement after a Set costs as many steps as the location has statements in its reach, and each further one as many as came
 //! since, or at most eight. The first two Updates of a location by a statement after a Set cost as many as it has, each further one a look-up. The first read of an unset local name in a function costs two
-//! searches by halves for each statement of the script, and each further one a look-up. A call that always answers out of memory meets these clauses: that it succeeds is not tested yet.
+//! searches by halves for each statement of the script, and each further one a look-up. A call that always answers out of memory meets these clauses: that it succeeds is tested.
 #![tactic(auto)]
 
 mod ask;

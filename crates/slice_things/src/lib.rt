@@ -13,7 +13,7 @@
 //!   item is; that of a key without an entry is not.
 //! - [`Things::children`]: the values that objects hold, and the law [`children_are_held`]: they are those of the store.
 //!
-//! A call that always answers out of memory meets these clauses: that it succeeds is not tested yet.
+//! A call that always answers out of memory meets these clauses: that it succeeds is tested.
 #![tactic(auto)]
 
 mod children;

@@ -15,7 +15,7 @@
 //!   parents, is the least closed set of `slice_law`.
 //!
 //! Each tuple and each object is gone into once, so a tuple that many share costs nothing twice, and nothing calls itself. A call that is always out of
-//! memory meets these clauses: that they succeed is not tested yet.
+//! memory meets these clauses: that they succeed is tested.
 #![tactic(auto)]
 
 mod closing;

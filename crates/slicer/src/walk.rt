@@ -94,7 +94,7 @@ fn walk(
     Ok(())
 }
 
-/// The objects that are reached from a value, and the tuples on the way, each once. The children are the values that objects hold.
+/// The objects that are reached from a value, each once, among tuples on the way. The children are the values that objects hold.
 pub fn reached(
     alloc: Global,
     tuples: &[&[Value]],
