@@ -21,6 +21,7 @@ use Rattle.slice_law.specs.Slices.{told_by}
 use Rattle.slice_simulation.proofs.Happenings.{Laws}
 use Rattle.slice_simulation.proofs.Marks.{shifts}
 use Rattle.slice_simulation.proofs.OwnMoments.{place_same, AllOwn, Owns, all_own}
+use Rattle.slice_simulation.proofs.Knowing.{FlowLaws}
 use Rattle.slice_simulation.proofs.Simulations.{simulated}
 use Rattle.slice_simulation.proofs.Standing.{in_front, owner_once}
 use Rattle.slice_simulation.specs.Owned.{owned_suite, SamePlace}
@@ -137,7 +138,7 @@ module _ (q : Pos) where
       head_again {moment} told_is (both_ended {s} {n} {ended} is named follows) evaluates_here kept = let first_is : ends s ended ≡ moment = cc in absurd (false≢true (ap (is_evaluation_at q) first_is ∙ evaluates_here))
       head_again {moment} told_is (alone_ended {s} {ended} out follows) evaluates_here kept = let first_is : ends s ended ≡ moment = cc in absurd (false≢true (ap (is_evaluation_at q) first_is ∙ evaluates_here))
 
-module _ (laws : Laws) (script : ScriptTree) (capture : Capture) (path : List ℕ) (arguments : List (List ℕ)) (steps : ℕ) (keep : StmtSet) (q : Pos) (upto : List Moment) where
+module _ (laws : Laws) (flow : FlowLaws) (script : ScriptTree) (capture : Capture) (path : List ℕ) (arguments : List (List ℕ)) (steps : ℕ) (keep : StmtSet) (q : Pos) (upto : List Moment) where
   -- so where the place is a kept statement's, all evaluations there are
   kept_there : (m : ℕ) → keep m ≡ true → Owns script capture path arguments steps keep upto m q → are_distinct (suite_places script.body) ≡ true → (told : List Moment) → AllOwn (Owns script capture path arguments steps keep upto) told → AreKept q keep told
   kept_there m kept own apart [] all = tt
@@ -213,7 +214,7 @@ module _ (laws : Laws) (script : ScriptTree) (capture : Capture) (path : List �
       found = found_is q k (told_by script capture path arguments steps) upto is
 
       simulation : Simulates script capture path arguments budget keep upto
-      simulation = simulated laws script capture path arguments keep upto steps budget closed well found.after found.whole_is plain_run enough
+      simulation = simulated laws flow script capture path arguments keep upto steps budget closed well found.after found.whole_is plain_run enough
 
       own : AllOwn (Owns script capture path arguments steps keep upto) upto
       own = all_own script capture path arguments steps keep upto

@@ -8,8 +8,11 @@ pub mod KeptMoments
 pub mod OtherMoments
 pub mod Onwards
 pub mod Beside
+mod Knowing
+mod Entered
 pub mod Simulating
 pub mod OutsideRules
+mod KeptOperations
 pub mod KeptExpressions
 pub mod KeptStatements
 pub mod Closedness

@@ -38,7 +38,10 @@ ghost use Rattle.py_tree.specs.Deletion.{deleted};
 ghost use Rattle.py_tree.specs.Functions.{functions_in, function_at};
 ghost use Rattle.slice_simulation.specs.Cut.{CutFunctions, FoundCut};
 
-use model_laws::runs_keep_keys_with_entries;
+use model_laws::{
+    effects_keep_stores_known, operations_pass_functions_on, runs_keep_keys_with_entries,
+    runs_know_definitions_alone,
+};
 use py_model::{
     corresponding_operands_have_alike_plans, few_operations_ask, few_operations_note,
     graph_texts_tell_graphs, map_changes_by_accesses, operations_agree, operations_open_tidily,
@@ -127,6 +130,9 @@ pub fn slices_simulate()
     few_operations_ask();
     operations_open_tidily();
     map_changes_by_accesses();
+    operations_pass_functions_on();
+    effects_keep_stores_known();
+    runs_know_definitions_alone();
 }
 
 /// The law of the occurrence: in these runs the k-th evaluation at a place is reached by the slice as the k-th at that place, with a corresponding
@@ -144,6 +150,9 @@ pub fn slices_reach_the_evaluation()
     few_operations_ask();
     operations_open_tidily();
     map_changes_by_accesses();
+    operations_pass_functions_on();
+    effects_keep_stores_known();
+    runs_know_definitions_alone();
 }
 
 /// The law of values without objects: in these runs the slice reproduces each evaluation whose value is a number, a text, a truth value, None, a

@@ -1,5 +1,6 @@
 use Rattle.slice_simulation.proofs.Happenings.{Laws}
 use Rattle.slice_simulation.proofs.Simulations.{simulated}
+use Rattle.slice_simulation.proofs.Knowing.{FlowLaws}
 use Rattle.slice_simulation.proofs.laws.slices_simulate.Goals as goal
 
 pub returns : goal.returns
@@ -14,5 +15,12 @@ returns c =
       tidy = c.operations_open_tidily.ensures;
       changes = c.map_changes_by_accesses.ensures;
     } in
+    let flow : FlowLaws = record {
+      keeps = c.operations_pass_functions_on.ensures;
+      store = c.effects_keep_stores_known.ensures.store;
+      answer = c.effects_keep_stores_known.ensures.answer;
+      method = c.effects_keep_stores_known.ensures.method;
+      tree = c.runs_know_definitions_alone.ensures.tree;
+    } in
     λ script capture path arguments steps budget keep upto after well told_is closed plain enough.
-    simulated laws script capture path arguments keep upto steps budget closed well after told_is plain enough
+    simulated laws flow script capture path arguments keep upto steps budget closed well after told_is plain enough
