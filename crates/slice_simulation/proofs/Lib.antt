@@ -10,6 +10,7 @@ pub mod Onwards
 pub mod Beside
 mod Knowing
 mod Entered
+mod KnownNames
 pub mod Simulating
 pub mod OutsideRules
 mod KeptOperations

@@ -32,7 +32,7 @@ use Rattle.slice_simulation.proofs.KeptMoments.{kept_moment}
 use Rattle.slice_simulation.proofs.Marks.{shifts}
 use Rattle.slice_simulation.proofs.Onwards.{onwards, Came, CameBy, came_by, IsEndOf, ends_meet, same_end}
 use Rattle.py_value.specs.Changes.{after_accesses}
-use Rattle.slice_simulation.proofs.Touching.{kinds_grow}
+use Rattle.slice_simulation.proofs.Touching.{kinds_grow, unnoted_before}
 use Rattle.slice_simulation.proofs.OtherMoments.{deleted_moment, deleted_askings, begin_paid, both_begin_related, alone_begin_related, pass_related, both_end_related, alone_end_related}
 use Rattle.slice_simulation.specs.Related.{Related, AllInReach, DoneAgain, IsUnnoted}
 use Rattle.slice_simulation.specs.Renaming.{activations_after, SameValue, SameScope, IsShifted, Marks, all_marks}
@@ -120,7 +120,7 @@ module _ (capture : Capture) (keep : StmtSet) (opening : RunStore) (upto : List 
     pub news : List Moment
     pub told_is : (state_in ended).told ≡ news ++ there.told
     pub here_is : here.told ≡ upto
-    pub related : Related capture ground.paired keep upto here there
+    pub related : Related capture ground.paired ground.known keep upto here there
     pub holds : Holds opening OnlyKept ground.known here there
 
   -- What is asked of the set: what a kept statement's operation reads was written last by kept statements; and what ends by a jump inside a kept
@@ -151,7 +151,7 @@ module _ (capture : Capture) (keep : StmtSet) (opening : RunStore) (upto : List 
     marks = all_marks keep upto
 
     -- it has arrived, or it goes on
-    pub arrive : (a b : Act) (s t : State) → Related capture ground.paired keep upto s t → Holds opening OnlyKept ground.known s t → length s.told ≤ length upto → Through capture keep opening upto (outcome capture a s)
+    pub arrive : (a b : Act) (s t : State) → Related capture ground.paired ground.known keep upto s t → Holds opening OnlyKept ground.known s t → length s.told ≤ length upto → Through capture keep opening upto (outcome capture a s)
         → (length s.told < length upto → Reaches (outcome capture b t)) → Reaches (outcome capture b t)
     arrive a b s t related holds short through go = by_length (nat_lt (length s.told) (length upto)) refl
       where
@@ -167,7 +167,7 @@ module _ (capture : Capture) (keep : StmtSet) (opening : RunStore) (upto : List 
           holds = holds;
         }
 
-    pub simulate : {k : ℕ} {from onto : List Open} {a b : Act} → Beside ground keep marks k from onto a b → Knows ground.known b → (s t : State) → Related capture ground.paired keep upto s t → Holds opening OnlyKept ground.known s t
+    pub simulate : {k : ℕ} {from onto : List Open} {a b : Act} → Beside ground keep marks k from onto a b → Knows ground.known b → (s t : State) → Related capture ground.paired ground.known keep upto s t → Holds opening OnlyKept ground.known s t
         → map open_of (frames_after s.told) ≡ from → t.left < k → length s.told < length upto → Through capture keep opening upto (outcome capture a s) → Reaches (outcome capture b t)
     simulate unreached knows s t related holds frames few before through = absurd (omega (arith, few))
     simulate (both_ret same) knows s t related holds frames few before through = absurd (not_yet capture keep opening upto s refl before through)
@@ -183,11 +183,11 @@ module _ (capture : Capture) (keep : StmtSet) (opening : RunStore) (upto : List 
 
         by_happened : (h : Happened) → operation capture at p vs s ≡ h → CameBy at p vs (effect_of capture at p vs s) s h
             → Through capture keep opening upto (elim h [ did answer came u ↦ outcome capture (f answer came) u | too_dear u ↦ spent u | lacked u ↦ lacking u ])
-            → ((v w : Contents) (came : Walked) → SameValue marks v w → KnownAnswer ground.known (value w) → KnownPlace ground.known came.method → (next now : State) → Related capture ground.paired keep upto next now → Holds opening OnlyKept ground.known next now → map open_of (frames_after next.told) ≡ a_statement n ∷ from
+            → ((v w : Contents) (came : Walked) → SameValue marks v w → KnownAnswer ground.known (value w) → KnownPlace ground.known came.method → (next now : State) → Related capture ground.paired ground.known keep upto next now → Holds opening OnlyKept ground.known next now → map open_of (frames_after next.told) ≡ a_statement n ∷ from
             → now.left < k → length next.told < length upto → Through capture keep opening upto (outcome capture (f (value v) came) next) → Reaches (outcome capture (g (value w) came) now))
-            → ((o e : ℕ) (came : Walked) → SameValue marks (object o) (object e) → KnownPlace ground.known came.method → (next now : State) → Related capture ground.paired keep upto next now → Holds opening OnlyKept ground.known next now → map open_of (frames_after next.told) ≡ a_statement n ∷ from
+            → ((o e : ℕ) (came : Walked) → SameValue marks (object o) (object e) → KnownPlace ground.known came.method → (next now : State) → Related capture ground.paired ground.known keep upto next now → Holds opening OnlyKept ground.known next now → map open_of (frames_after next.told) ≡ a_statement n ∷ from
             → now.left < k → length next.told < length upto → Through capture keep opening upto (outcome capture (f (raised o) came) next) → Reaches (outcome capture (g (raised e) came) now))
-            → ((came : Walked) → KnownPlace ground.known came.method → (next now : State) → Related capture ground.paired keep upto next now → Holds opening OnlyKept ground.known next now → map open_of (frames_after next.told) ≡ a_statement n ∷ from
+            → ((came : Walked) → KnownPlace ground.known came.method → (next now : State) → Related capture ground.paired ground.known keep upto next now → Holds opening OnlyKept ground.known next now → map open_of (frames_after next.told) ≡ a_statement n ∷ from
             → now.left < k → length next.told < length upto → Through capture keep opening upto (outcome capture (f at_end came) next) → Reaches (outcome capture (g at_end came) now))
             → Reaches (outcome capture (perform at q ws g) t)
         by_happened (too_dear u) is came through on on_raise last = absurd (not_yet capture keep opening upto s came.0 before through)
@@ -210,8 +210,8 @@ module _ (capture : Capture) (keep : StmtSet) (opening : RunStore) (upto : List 
             asks_alike false none = inl none
             asks_alike true may = inr (holds.askings at (asks.asking within.front s.told at p.no vs answer _ _ _ n upto_is owner may kept))
 
-            again : DoneAgain capture ground.paired keep upto at q ws s t answer came u
-            again = kept_moment laws capture ground.paired keep upto at p q vs ws n s t u answer came related kept owner same_op same_values (asks_alike (may_ask p.no) refl) is
+            again : DoneAgain capture ground.paired ground.known keep upto at q ws s t answer came u
+            again = kept_moment laws capture ground.paired ground.known keep upto at p q vs ws n s t u answer came related kept owner same_op same_values (asks_alike (may_ask p.no) refl) (flow.keeps ground.known q ws operands.operand operands.operands) holds.knows is
                 within.front within.whole_is (asks.reads within.front s.told at p.no vs answer _ _ _ n upto_is owner kept)
 
             frames_now : map open_of (frames_after u.told) ≡ a_statement n ∷ from
@@ -263,7 +263,7 @@ module _ (capture : Capture) (keep : StmtSet) (opening : RunStore) (upto : List 
       where
         by_happened : (h : Happened) → operation capture at p vs s ≡ h → CameBy at p vs (effect_of capture at p vs s) s h
             → Through capture keep opening upto (elim h [ did answer came u ↦ outcome capture (f answer came) u | too_dear u ↦ spent u | lacked u ↦ lacking u ])
-            → ((answer : Answer) (came : Walked) → (next : State) → Related capture ground.paired keep upto next t → Holds opening OnlyKept ground.known next t → map open_of (frames_after next.told) ≡ a_statement n ∷ from
+            → ((answer : Answer) (came : Walked) → (next : State) → Related capture ground.paired ground.known keep upto next t → Holds opening OnlyKept ground.known next t → map open_of (frames_after next.told) ≡ a_statement n ∷ from
             → t.left < k → length next.told < length upto → Through capture keep opening upto (outcome capture (f answer came) next) → Reaches (outcome capture b t))
             → Reaches (outcome capture b t)
         by_happened (too_dear u) is came through on = absurd (not_yet capture keep opening upto s came.0 before through)
@@ -287,26 +287,29 @@ module _ (capture : Capture) (keep : StmtSet) (opening : RunStore) (upto : List 
               there = holds.there;
               knows = holds.knows;
               askings = λ place only. holds.askings place only
-                  ∙ sym (deleted_askings laws capture ground.paired keep upto at p vs s u answer came is place
+                  ∙ sym (deleted_askings laws capture ground.paired ground.known keep upto at p vs s u answer came is place
                   (λ may. asks.asking_out within.front s.told at p.no vs answer _ _ _ n upto_is (owner_in s.told n from frames) may out place only));
             }
 
-            related_now : Related capture ground.paired keep upto u t
-            related_now = deleted_moment laws capture ground.paired keep upto at p vs n s t u answer came related out (owner_in s.told n from frames) is
-                ((onwards capture (f answer came) u).unnoted through.unnoted)
+            unnoted : IsUnnoted u.store → (place : Pos) → ground.known place ≡ true → u.store.names place ≡ s.store.names place
+            unnoted none place known = none.names place ∙ sym ((unnoted_before (effect_of capture at p vs s) s.store (subst IsUnnoted told.store_is none)).names place)
+
+            related_now : Related capture ground.paired ground.known keep upto u t
+            related_now = deleted_moment laws capture ground.paired ground.known keep upto at p vs n s t u answer came related out (owner_in s.told n from frames) is
+                (unnoted ((onwards capture (f answer came) u).unnoted through.unnoted))
     simulate {k = suc k} (both_begin {n = n} {m = m} {from = from} {a = a} {b = b} kept named rest) knows s t related holds frames few before through =
         by_left (nat_le 1 s.left) through (simulate rest (begin_known ground.known knows) (beginning n s) (beginning m t))
       where
         by_left : (enough : Bool) → Through capture keep opening upto (if enough then outcome capture a (beginning n s) else spent s)
-            → (Related capture ground.paired keep upto (beginning n s) (beginning m t) → Holds opening OnlyKept ground.known (beginning n s) (beginning m t) → map open_of (frames_after (begins n ∷ s.told)) ≡ a_statement n ∷ from → (beginning m t).left < k
+            → (Related capture ground.paired ground.known keep upto (beginning n s) (beginning m t) → Holds opening OnlyKept ground.known (beginning n s) (beginning m t) → map open_of (frames_after (begins n ∷ s.told)) ≡ a_statement n ∷ from → (beginning m t).left < k
             → suc (length s.told) < length upto → Through capture keep opening upto (outcome capture a (beginning n s)) → Reaches (outcome capture b (beginning m t)))
             → Reaches (outcome capture (begin m b) t)
         by_left false through on = absurd (not_yet capture keep opening upto s refl before through)
         by_left true through on =
             let within : IsEndOf (begins n ∷ s.told) upto = told_within capture keep opening upto a (beginning n s) (omega (arith, before)) through in
-            let pays : 1 ≤ t.left = begin_paid laws capture ground.paired keep upto n m s t related within.front within.whole_is in
+            let pays : 1 ≤ t.left = begin_paid laws capture ground.paired ground.known keep upto n m s t related within.front within.whole_is in
             let held_now : Holds opening OnlyKept ground.known (beginning n s) (beginning m t) = record { here = record { map_is = holds.here.map_is; kinds_are = holds.here.kinds_are }; there = record { map_is = holds.there.map_is; kinds_are = holds.there.kinds_are }; askings = holds.askings; knows = holds.knows } in
-            let now : Related capture ground.paired keep upto (beginning n s) (beginning m t) = both_begin_related laws capture ground.paired keep upto n m s t related kept named pays in
+            let now : Related capture ground.paired ground.known keep upto (beginning n s) (beginning m t) = both_begin_related laws capture ground.paired ground.known keep upto n m s t related kept named pays in
             subst Reaches (ap (λ test. if test then outcome capture b (beginning m t) else spent t) (sym (le-leb 1 t.left pays)))
             (arrive a b (beginning n s) (beginning m t) now held_now (omega (arith, before)) through
             (λ early. on now held_now (ap (λ (open_ones : List Open). a_statement n ∷ open_ones) frames) (omega (arith, few, pays)) early through))
@@ -314,35 +317,35 @@ module _ (capture : Capture) (keep : StmtSet) (opening : RunStore) (upto : List 
         by_left (nat_le 1 s.left) through (simulate rest knows (beginning n s) t)
       where
         by_left : (enough : Bool) → Through capture keep opening upto (if enough then outcome capture a (beginning n s) else spent s)
-            → (Related capture ground.paired keep upto (beginning n s) t → Holds opening OnlyKept ground.known (beginning n s) t → map open_of (frames_after (begins n ∷ s.told)) ≡ a_statement n ∷ from → t.left < k
+            → (Related capture ground.paired ground.known keep upto (beginning n s) t → Holds opening OnlyKept ground.known (beginning n s) t → map open_of (frames_after (begins n ∷ s.told)) ≡ a_statement n ∷ from → t.left < k
             → suc (length s.told) < length upto → Through capture keep opening upto (outcome capture a (beginning n s)) → Reaches (outcome capture b t))
             → Reaches (outcome capture b t)
         by_left false through on = absurd (not_yet capture keep opening upto s refl before through)
         by_left true through on =
             let held_now : Holds opening OnlyKept ground.known (beginning n s) t = record { here = record { map_is = holds.here.map_is; kinds_are = holds.here.kinds_are }; there = record { map_is = holds.there.map_is; kinds_are = holds.there.kinds_are }; askings = holds.askings; knows = holds.knows } in
-            let now : Related capture ground.paired keep upto (beginning n s) t = alone_begin_related laws capture ground.paired keep upto n 0 s t related out in
+            let now : Related capture ground.paired ground.known keep upto (beginning n s) t = alone_begin_related laws capture ground.paired ground.known keep upto n 0 s t related out in
             arrive a b (beginning n s) t now held_now (omega (arith, before)) through
             (λ early. on now held_now (ap (λ (open_ones : List Open). a_statement n ∷ open_ones) frames) few early through)
     simulate {k = suc k} (pass_begin {n = n} {m = m} {from = from} {a = a} {b = b} out named rest) knows s t related holds frames few before through =
         by_left (nat_le 1 s.left) through (simulate rest (close_known ground.known (begin_known ground.known knows)) (beginning n s) (tell (ends m normal_end) (beginning m t)))
       where
         by_left : (enough : Bool) → Through capture keep opening upto (if enough then outcome capture a (beginning n s) else spent s)
-            → (Related capture ground.paired keep upto (beginning n s) (tell (ends m normal_end) (beginning m t)) → Holds opening OnlyKept ground.known (beginning n s) (tell (ends m normal_end) (beginning m t)) → map open_of (frames_after (begins n ∷ s.told)) ≡ a_statement n ∷ from
+            → (Related capture ground.paired ground.known keep upto (beginning n s) (tell (ends m normal_end) (beginning m t)) → Holds opening OnlyKept ground.known (beginning n s) (tell (ends m normal_end) (beginning m t)) → map open_of (frames_after (begins n ∷ s.told)) ≡ a_statement n ∷ from
             → (beginning m t).left < k → suc (length s.told) < length upto → Through capture keep opening upto (outcome capture a (beginning n s))
             → Reaches (outcome capture b (tell (ends m normal_end) (beginning m t))))
             → Reaches (outcome capture (begin m (close m normal_end b)) t)
         by_left false through on = absurd (not_yet capture keep opening upto s refl before through)
         by_left true through on =
             let within : IsEndOf (begins n ∷ s.told) upto = told_within capture keep opening upto a (beginning n s) (omega (arith, before)) through in
-            let pays : 1 ≤ t.left = begin_paid laws capture ground.paired keep upto n m s t related within.front within.whole_is in
+            let pays : 1 ≤ t.left = begin_paid laws capture ground.paired ground.known keep upto n m s t related within.front within.whole_is in
             let held_now : Holds opening OnlyKept ground.known (beginning n s) (tell (ends m normal_end) (beginning m t)) = record { here = record { map_is = holds.here.map_is; kinds_are = holds.here.kinds_are }; there = record { map_is = holds.there.map_is; kinds_are = holds.there.kinds_are }; askings = holds.askings; knows = holds.knows } in
-            let now : Related capture ground.paired keep upto (beginning n s) (tell (ends m normal_end) (beginning m t)) = pass_related laws capture ground.paired keep upto n m s t related out named pays in
+            let now : Related capture ground.paired ground.known keep upto (beginning n s) (tell (ends m normal_end) (beginning m t)) = pass_related laws capture ground.paired ground.known keep upto n m s t related out named pays in
             subst Reaches (ap (λ test. if test then outcome capture b (tell (ends m normal_end) (beginning m t)) else spent t) (sym (le-leb 1 t.left pays)))
             (arrive a b (beginning n s) (tell (ends m normal_end) (beginning m t)) now held_now (omega (arith, before)) through
             (λ early. on now held_now (ap (λ (open_ones : List Open). a_statement n ∷ open_ones) frames) (omega (arith, few, pays)) early through))
     simulate (both_close {n = n} {m = m} {from = from} {ended = ended} {a = a} {b = b} kept named rest) knows s t related holds frames few before through =
         let held_now : Holds opening OnlyKept ground.known (tell (ends n ended) s) (tell (ends m ended) t) = record { here = record { map_is = holds.here.map_is; kinds_are = holds.here.kinds_are }; there = record { map_is = holds.there.map_is; kinds_are = holds.there.kinds_are }; askings = holds.askings; knows = holds.knows } in
-        let now : Related capture ground.paired keep upto (tell (ends n ended) s) (tell (ends m ended) t) = both_end_related laws capture ground.paired keep upto n m s t related ended kept named in
+        let now : Related capture ground.paired ground.known keep upto (tell (ends n ended) s) (tell (ends m ended) t) = both_end_related laws capture ground.paired ground.known keep upto n m s t related ended kept named in
         arrive a b (tell (ends n ended) s) (tell (ends m ended) t) now held_now (omega (arith, before)) (told_on through)
         (λ early. simulate rest (close_known ground.known knows) (tell (ends n ended) s) (tell (ends m ended) t) now held_now (closed_frames (frames_after s.told) n from frames) few early (told_on through))
       where
@@ -350,7 +353,7 @@ module _ (capture : Capture) (keep : StmtSet) (opening : RunStore) (upto : List 
         told_on through = record { rest = through.rest; told_is = through.told_is; unnoted = through.unnoted }
     simulate (alone_close {n = n} {from = from} {ended = ended} {a = a} {b = b} out rest) knows s t related holds frames few before through =
         let held_now : Holds opening OnlyKept ground.known (tell (ends n ended) s) t = record { here = record { map_is = holds.here.map_is; kinds_are = holds.here.kinds_are }; there = record { map_is = holds.there.map_is; kinds_are = holds.there.kinds_are }; askings = holds.askings; knows = holds.knows } in
-        let now : Related capture ground.paired keep upto (tell (ends n ended) s) t = alone_end_related laws capture ground.paired keep upto n 0 s t related ended out in
+        let now : Related capture ground.paired ground.known keep upto (tell (ends n ended) s) t = alone_end_related laws capture ground.paired ground.known keep upto n 0 s t related ended out in
         arrive a b (tell (ends n ended) s) t now held_now (omega (arith, before)) (told_on through)
         (λ early. simulate rest knows (tell (ends n ended) s) t now held_now (closed_frames (frames_after s.told) n from frames) few early (told_on through))
       where
@@ -363,38 +366,38 @@ module _ (capture : Capture) (keep : StmtSet) (opening : RunStore) (upto : List 
         owner = owner_in s.told n from frames
 
         by_left : (enough : Bool) → Through capture keep opening upto (if enough then outcome capture (f (suc s.entered)) (entering at def params vs s) else spent s)
-            → (SameScope marks (suc s.entered) (suc t.entered) → ground.entered (suc s.entered) def → Related capture ground.paired keep upto (entering at def params vs s) (entering at def params ws t) → Holds opening OnlyKept ground.known (entering at def params vs s) (entering at def params ws t)
+            → (SameScope marks (suc s.entered) (suc t.entered) → ground.entered (suc s.entered) def → Related capture ground.paired ground.known keep upto (entering at def params vs s) (entering at def params ws t) → Holds opening OnlyKept ground.known (entering at def params vs s) (entering at def params ws t)
             → map open_of (frames_after (entering at def params vs s).told) ≡ an_activation ∷ (a_statement n ∷ from) → (entering at def params ws t).left < k → suc (length s.told) < length upto
             → Through capture keep opening upto (outcome capture (f (suc s.entered)) (entering at def params vs s)) → Reaches (outcome capture (g (suc t.entered)) (entering at def params ws t)))
             → Reaches (outcome capture (enter at def params ws g) t)
         by_left false through on = absurd (not_yet capture keep opening upto s refl before through)
         by_left true through on =
             let within : IsEndOf (entering at def params vs s).told upto = told_within capture keep opening upto (f (suc s.entered)) (entering at def params vs s) (omega (arith, before)) through in
-            let pays : suc (length ws) ≤ t.left = enter_paid laws capture ground.paired keep upto at def params vs n s t related owner ws kept same within.front within.whole_is in
+            let pays : suc (length ws) ≤ t.left = enter_paid laws capture ground.paired ground.known keep upto at def params vs n s t related owner ws kept same within.front within.whole_is in
             let held_now : Holds opening OnlyKept ground.known (entering at def params vs s) (entering at def params ws t) = record { here = entered_held opening at def params vs s holds.here; there = entered_held opening at def params ws t holds.there; askings = holds.askings; knows = entered_known ground.known at def params ws t (enter_known ground.known knows).operands holds.knows } in
-            let now : Related capture ground.paired keep upto (entering at def params vs s) (entering at def params ws t) = both_enter_related laws capture ground.paired keep upto at def params vs n s t related owner ws kept same within.front within.whole_is in
+            let now : Related capture ground.paired ground.known keep upto (entering at def params vs s) (entering at def params ws t) = both_enter_related laws capture ground.paired ground.known keep upto at def params vs n s t related owner ws kept same within.front within.whole_is in
             subst Reaches (ap (λ test. if test then outcome capture (g (suc t.entered)) (entering at def params ws t) else spent t) (sym (le-leb (suc (length ws)) t.left pays)))
             (arrive (f (suc s.entered)) (g (suc t.entered)) (entering at def params vs s) (entering at def params ws t) now held_now (omega (arith, before)) through
-            (λ early. on (same_activation laws capture ground.paired keep upto at def params vs n s t related owner ws kept same within.front within.whole_is)
+            (λ early. on (same_activation laws capture ground.paired ground.known keep upto at def params vs n s t related owner ws kept same within.front within.whole_is)
             (subst (λ a. ground.entered a def) (sym related.entered_here) (asks.enters within.front s.told at def vs (parameters_set (suc s.entered) params vs) within.whole_is)) now held_now
             (ap (λ (open_ones : List Open). an_activation ∷ open_ones) frames) (omega (arith, few, pays)) early through))
     simulate (alone_enter {k = k} {n = n} {from = from} {at = at} {def = def} {params = params} {vs = vs} {f = f} {b = b} out each) knows s t related holds frames few before through =
         by_left (nat_le (suc (length vs)) s.left) through (simulate (each (suc s.entered)) knows (entering at def params vs s) t)
       where
         by_left : (enough : Bool) → Through capture keep opening upto (if enough then outcome capture (f (suc s.entered)) (entering at def params vs s) else spent s)
-            → (Related capture ground.paired keep upto (entering at def params vs s) t → Holds opening OnlyKept ground.known (entering at def params vs s) t
+            → (Related capture ground.paired ground.known keep upto (entering at def params vs s) t → Holds opening OnlyKept ground.known (entering at def params vs s) t
             → map open_of (frames_after (entering at def params vs s).told) ≡ an_activation ∷ (a_statement n ∷ from) → t.left < k → suc (length s.told) < length upto
             → Through capture keep opening upto (outcome capture (f (suc s.entered)) (entering at def params vs s)) → Reaches (outcome capture b t))
             → Reaches (outcome capture b t)
         by_left false through on = absurd (not_yet capture keep opening upto s refl before through)
         by_left true through on =
             let held_now : Holds opening OnlyKept ground.known (entering at def params vs s) t = record { here = entered_held opening at def params vs s holds.here; there = holds.there; askings = holds.askings; knows = holds.knows } in
-            let now : Related capture ground.paired keep upto (entering at def params vs s) t = alone_enter_related laws capture ground.paired keep upto at def params vs n s t related (owner_in s.told n from frames) out in
+            let now : Related capture ground.paired ground.known keep upto (entering at def params vs s) t = alone_enter_related laws capture ground.paired ground.known keep upto at def params vs n s t related (owner_in s.told n from frames) out in
             arrive (f (suc s.entered)) b (entering at def params vs s) t now held_now (omega (arith, before)) through
             (λ early. on now held_now (ap (λ (open_ones : List Open). an_activation ∷ open_ones) frames) few early through)
     simulate (both_leave {n = n} {from = from} {v = v} {w = w} {a = a} {b = b} kept same rest) knows s t related holds frames few before through =
         let held_now : Holds opening OnlyKept ground.known (tell (leaves v) s) (tell (leaves w) t) = record { here = record { map_is = holds.here.map_is; kinds_are = holds.here.kinds_are }; there = record { map_is = holds.there.map_is; kinds_are = holds.there.kinds_are }; askings = holds.askings; knows = holds.knows } in
-        let now : Related capture ground.paired keep upto (tell (leaves v) s) (tell (leaves w) t) = both_leave_related laws capture ground.paired keep upto v w n s t related (owner_inside s.told n from frames) kept same in
+        let now : Related capture ground.paired ground.known keep upto (tell (leaves v) s) (tell (leaves w) t) = both_leave_related laws capture ground.paired ground.known keep upto v w n s t related (owner_inside s.told n from frames) kept same in
         arrive a b (tell (leaves v) s) (tell (leaves w) t) now held_now (omega (arith, before)) (told_on through)
         (λ early. simulate rest (leave_known ground.known knows) (tell (leaves v) s) (tell (leaves w) t) now held_now (left_frames (frames_after s.told) (a_statement n ∷ from) frames) few early (told_on through))
       where
@@ -402,7 +405,7 @@ module _ (capture : Capture) (keep : StmtSet) (opening : RunStore) (upto : List 
         told_on through = record { rest = through.rest; told_is = through.told_is; unnoted = through.unnoted }
     simulate (alone_leave {n = n} {from = from} {v = v} {a = a} {b = b} out rest) knows s t related holds frames few before through =
         let held_now : Holds opening OnlyKept ground.known (tell (leaves v) s) t = record { here = record { map_is = holds.here.map_is; kinds_are = holds.here.kinds_are }; there = record { map_is = holds.there.map_is; kinds_are = holds.there.kinds_are }; askings = holds.askings; knows = holds.knows } in
-        let now : Related capture ground.paired keep upto (tell (leaves v) s) t = alone_leave_related laws capture ground.paired keep upto v v n s t related (owner_inside s.told n from frames) out in
+        let now : Related capture ground.paired ground.known keep upto (tell (leaves v) s) t = alone_leave_related laws capture ground.paired ground.known keep upto v v n s t related (owner_inside s.told n from frames) out in
         arrive a b (tell (leaves v) s) t now held_now (omega (arith, before)) (told_on through)
         (λ early. simulate rest knows (tell (leaves v) s) t now held_now (left_frames (frames_after s.told) (a_statement n ∷ from) frames) few early (told_on through))
       where

@@ -132,7 +132,7 @@ module _ (laws : Laws) (flow : FlowLaws) (script : ScriptTree) (capture : Captur
       both : TasksBoth ground (IsHere script) (IsHere (deleted keep script)) pairs keep upto script (deleted keep script) (suc budget) (level script (suc steps)) (level (deleted keep script) (suc budget))
       both = levels_both ground (IsHere script) (IsHere (deleted keep script)) pairs keep upto script (deleted keep script) (fits none) (callees none) (suc budget) (suc steps)
 
-  related_first : spent_on upto ≤ budget → Related capture ground.paired keep upto (starting capture path arguments steps) (starting capture path arguments budget)
+  related_first : spent_on upto ≤ budget → Related capture ground.paired ground.known keep upto (starting capture path arguments steps) (starting capture path arguments budget)
   related_first enough = record {
     follows = nothing_done;
     contents = λ l inside r fits. opening_matches laws r path arguments (with_bytes capture.files) l;
@@ -140,7 +140,7 @@ module _ (laws : Laws) (flow : FlowLaws) (script : ScriptTree) (capture : Captur
     counted = refl;
     entered_here = refl;
     entered_there = refl;
-    noted_names = λ place. refl;
+    noted_names = λ place known. refl;
     opened_there = λ path is. is;
     opened_here = λ path is inside. inl is;
     enough = omega (arith, enough);

@@ -31,12 +31,12 @@ made_kind (Some kind) store = refl
 pub kinds_grow : (e : Effect) (store : RunStore) → (after e store).kinds ≡ with_kind e.made store.kinds
 kinds_grow e store = kinds_stay e.touches (with_made e.made store) ∙ made_kind e.made store
 
--- the same names are noted
-pub record AlikeNotes (store other : RunStore) : Type 0 where
-  pub names : (place : Pos) → other.names place ≡ store.names place
+-- the same names are noted, at known places
+pub record AlikeNotes (known : Pos → Bool) (store other : RunStore) : Type 0 where
+  pub names : (place : Pos) → known place ≡ true → other.names place ≡ store.names place
 
-module _ (r : Renaming) where
-  notes_stay : (touches : List Touch) (store other : RunStore) → AlikeNotes store other → AlikeNotes (after_touches touches store) (after_touches (map (renamed_touch r) touches) other)
+module _ (r : Renaming) (known : Pos → Bool) where
+  notes_stay : (touches : List Touch) (store other : RunStore) → AlikeNotes known store other → AlikeNotes known (after_touches touches store) (after_touches (map (renamed_touch r) touches) other)
   notes_stay [] store other same = same
   notes_stay (accessed access ∷ touches) store other same = notes_stay touches _ _ (record { names = same.names })
   notes_stay (looked n ∷ touches) store other same = notes_stay touches _ _ same
@@ -44,20 +44,21 @@ module _ (r : Renaming) where
   notes_stay (printed bytes ∷ touches) store other same = notes_stay touches _ _ (record { names = same.names })
   notes_stay (opened path ∷ touches) store other same = notes_stay touches _ _ (record { names = same.names })
   notes_stay (noted place name ∷ touches) store other same =
-      notes_stay touches _ _ (record { names = λ at. ap (λ old. if places.eq place at then Some name else old) (same.names at) })
+      notes_stay touches _ _ (record { names = λ at is. ap (λ old. if places.eq place at then Some name else old) (same.names at is) })
   notes_stay (asked what ∷ touches) store other same = notes_stay touches _ _ same
   notes_stay (fetched path ∷ touches) store other same = notes_stay touches _ _ same
 
-  made_notes : (made another : Option SeenKind) (store other : RunStore) → AlikeNotes store other → AlikeNotes (with_made made store) (with_made another other)
+  made_notes : (made another : Option SeenKind) (store other : RunStore) → AlikeNotes known store other → AlikeNotes known (with_made made store) (with_made another other)
   made_notes None None store other same = same
   made_notes (Some kind) None store other same = record { names = same.names }
   made_notes None (Some kind) store other same = record { names = same.names }
   made_notes (Some one) (Some kind) store other same = record { names = same.names }
 
-  pub notes_after : (e : Effect) (store other : RunStore) → AlikeNotes store other → AlikeNotes (after e store) (after (renamed_effect r e) other)
+  pub notes_after : (e : Effect) (store other : RunStore) → AlikeNotes known store other → AlikeNotes known (after e store) (after (renamed_effect r e) other)
   notes_after e store other same =
       notes_stay e.touches (with_made e.made store) (with_made (option_map (renamed_kind r) e.made) other) (made_notes e.made (option_map (renamed_kind r) e.made) store other same)
 
+module _ (r : Renaming) where
   pub same_accesses : (touches : List Touch) → accesses_in (map (renamed_touch r) touches) ≡ map (renamed_access r) (accesses_in touches)
   same_accesses [] = refl
   same_accesses (accessed access ∷ touches) = ap (λ (more : List SeenAccess). renamed_access r access ∷ more) (same_accesses touches)

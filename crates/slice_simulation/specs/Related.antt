@@ -70,17 +70,18 @@ kept_of (mark ∷ marks) [] = []
 kept_of (true ∷ marks) (x ∷ xs) = x ∷ kept_of marks xs
 kept_of (false ∷ marks) (x ∷ xs) = kept_of marks xs
 
--- Wherever the reach lies in the set, contents correspond; kinds, noted names and numbers of activations do; and the slice has taken no more steps, and has enough
--- left for all moments up to the last that is asked for. The slice opened no other paths for writing. Of those that the script's run opened, it
--- opened each whose file's reach lies in the set; or the file can be read as it was found.
-pub record Related (capture : Capture) (names : ℕ → ℕ → Type 0) (keep : StmtSet) (upto : List Moment) (s t : State) : Type 0 where
+-- Wherever the reach lies in the set, contents correspond; kinds and numbers of activations do, and noted names at known places: those where the
+-- slice has definitions. The slice has taken no more steps, and has enough left for all moments up to the last that is asked for. It opened no
+-- other paths for writing. Of those that the script's run opened, it opened each whose file's reach lies in the set; or the file can be read as
+-- it was found.
+pub record Related (capture : Capture) (names : ℕ → ℕ → Type 0) (known : Pos → Bool) (keep : StmtSet) (upto : List Moment) (s t : State) : Type 0 where
   pub follows : Follows names keep (all_marks keep upto) s.told t.told
   pub contents : (l : SeenLocation) → IsInReach keep l s.told → (r : Renaming) → Fits (all_marks keep upto) r → Matches r s.store.at t.store.at l
   pub kinds : (r : Renaming) → Fits (all_marks keep upto) r → t.store.kinds ≡ map (renamed_kind r) (kept_of (marks_after keep s.told) s.store.kinds)
   pub counted : length s.store.kinds ≡ length (marks_after keep s.told)
   pub entered_here : suc s.entered ≡ length (activations_after keep s.told)
   pub entered_there : suc t.entered ≡ length (kept_of (activations_after keep s.told) (activations_after keep s.told))
-  pub noted_names : (place : Pos) → t.store.names place ≡ s.store.names place
+  pub noted_names : (place : Pos) → known place ≡ true → t.store.names place ≡ s.store.names place
   pub opened_there : (path : List ℕ) → has_path path t.store.opened ≡ true → has_path path s.store.opened ≡ true
   pub opened_here : (path : List ℕ) → has_path path s.store.opened ≡ true → IsInReach keep (file_at path) s.told
       → (has_path path t.store.opened ≡ true) ⊎ IsThere (found_in capture.files) path
@@ -95,12 +96,12 @@ AllInReach keep told (access ∷ accesses) = AllInReach keep told accesses
 
 -- The operation is done in the slice's run too: it has the corresponding answer, its walks came to the same, it has a cost, and the states
 -- afterwards stand for one another.
-pub record DoneAgain (capture : Capture) (names : ℕ → ℕ → Type 0) (keep : StmtSet) (upto : List Moment) (at : Pos) (q : Op) (ws : List Contents) (s t : State) (answer : Answer) (came : Walked) (next : State) : Type 0 where
+pub record DoneAgain (capture : Capture) (names : ℕ → ℕ → Type 0) (known : Pos → Bool) (keep : StmtSet) (upto : List Moment) (at : Pos) (q : Op) (ws : List Contents) (s t : State) (answer : Answer) (came : Walked) (next : State) : Type 0 where
   pub again : Answer
   pub now : State
   pub happens : operation capture at q ws t ≡ did again came now
   pub answers : (r : Renaming) → Fits (all_marks keep upto) r → again ≡ renamed_answer r answer
-  pub related : Related capture names keep upto next now
+  pub related : Related capture names known keep upto next now
   pub askings : (place : Pos) → askings_at place t.askings ≡ askings_at place s.askings → askings_at place now.askings ≡ askings_at place next.askings
   pub fewer : now.left < t.left
 

@@ -18,8 +18,9 @@ ghost use Rattle.py_model.specs.Operations.{Op};
 ghost use Rattle.py_model.specs.Plan.{Answer, value};
 ghost use Rattle.py_model.specs.Quiet.{may_ask};
 ghost use Rattle.py_model.specs.Running.{State, did, askings_at, effect_of, operation};
+ghost use Rattle.model_laws.specs.Flow.{KnownValue, KnownAll, KnownStore};
 ghost use Rattle.slice_law.specs.Closed.{StmtSet};
-ghost use Rattle.slice_simulation.specs.Related.{Related, AllInReach, DoneAgain, IsUnnoted};
+ghost use Rattle.slice_simulation.specs.Related.{Related, AllInReach, DoneAgain};
 ghost use Rattle.std.specs.Prelude.{◌≤◌};
 ghost use Rattle.py_tree.specs.Tree.{ScriptTree};
 ghost use Rattle.py_model.specs.Capture.{opening_in};
@@ -81,13 +82,14 @@ pub fn objects_of_both_runs_correspond()
 {}
 
 /// The law of kept moments: what a kept statement's operation does in a script's run it does in its slice's run. The two states stand for one
-/// another, all that it reads was written last by kept statements, and it asks nothing or asks with the same number at its place. Its answer
+/// another, all that it reads was written last by kept statements, and it asks nothing or asks with the same number at its place. The slice's run
+/// knows the functions and classes that are in its store and in what it is given: names are noted alike at their places. The answer
 /// corresponds, and the states afterwards stand for one another. No operation is taken apart: it follows from the law of agreement.
 pub fn kept_moments_are_done_again()
-    ensures { (capture : Capture) (script other : ScriptTree) (keep : StmtSet) (upto : List Moment) (at : Pos) (p q : Op) (vs ws : List Contents) (n : ℕ) (s t next : State) (answer : Answer) (came : Walked)
-        → Related capture (SamePlace script other) keep upto s t → keep n ≡ true → owner_stmt s.told ≡ Some n → SameOp (all_marks keep upto) p q → SameValues (all_marks keep upto) vs ws
-        → (may_ask p.no ≡ false) ⊎ (askings_at at t.askings ≡ askings_at at s.askings) → operation capture at p vs s ≡ did answer came next → (news : List Moment) → upto ≡ news ++ next.told
-        → AllInReach keep s.told (accesses_in (effect_of capture at p vs s).touches) → DoneAgain capture (SamePlace script other) keep upto at q ws s t answer came next }
+    ensures { (capture : Capture) (script other : ScriptTree) (known : Pos → Bool) (keep : StmtSet) (upto : List Moment) (at : Pos) (p q : Op) (vs ws : List Contents) (n : ℕ) (s t next : State) (answer : Answer) (came : Walked)
+        → Related capture (SamePlace script other) known keep upto s t → keep n ≡ true → owner_stmt s.told ≡ Some n → SameOp (all_marks keep upto) p q → SameValues (all_marks keep upto) vs ws
+        → KnownValue known q.value → KnownAll known ws → KnownStore known t.store → (may_ask p.no ≡ false) ⊎ (askings_at at t.askings ≡ askings_at at s.askings) → operation capture at p vs s ≡ did answer came next → (news : List Moment) → upto ≡ news ++ next.told
+        → AllInReach keep s.told (accesses_in (effect_of capture at p vs s).touches) → DoneAgain capture (SamePlace script other) known keep upto at q ws s t answer came next }
 {
     tests_are_equality();
     corresponding_operands_have_alike_plans();
@@ -95,13 +97,15 @@ pub fn kept_moments_are_done_again()
     few_operations_ask();
     operations_open_tidily();
     map_changes_by_accesses();
+    operations_pass_functions_on();
 }
 
-/// The law of other moments: what a statement outside the set does leaves the states standing for one another, where it notes no name.
+/// The law of other moments: what a statement outside the set does leaves the states standing for one another, where it notes no name at a
+/// known place.
 pub fn deleted_moments_keep_the_relation()
-    ensures { (capture : Capture) (script other : ScriptTree) (keep : StmtSet) (upto : List Moment) (at : Pos) (p : Op) (vs : List Contents) (n : ℕ) (s t next : State) (answer : Answer) (came : Walked)
-        → Related capture (SamePlace script other) keep upto s t → keep n ≡ false → owner_stmt s.told ≡ Some n → operation capture at p vs s ≡ did answer came next
-        → IsUnnoted next.store → Related capture (SamePlace script other) keep upto next t }
+    ensures { (capture : Capture) (script other : ScriptTree) (known : Pos → Bool) (keep : StmtSet) (upto : List Moment) (at : Pos) (p : Op) (vs : List Contents) (n : ℕ) (s t next : State) (answer : Answer) (came : Walked)
+        → Related capture (SamePlace script other) known keep upto s t → keep n ≡ false → owner_stmt s.told ≡ Some n → operation capture at p vs s ≡ did answer came next
+        → ((place : Pos) → known place ≡ true → next.store.names place ≡ s.store.names place) → Related capture (SamePlace script other) known keep upto next t }
 {
     tests_are_equality();
     corresponding_operands_have_alike_plans();
