@@ -32,3 +32,6 @@ mod Bareness
 mod Activations
 mod FunctionsLeft
 mod KeptCalls
+mod StartsOnce
+mod OutsideStatements
+mod DefinedPlaces
