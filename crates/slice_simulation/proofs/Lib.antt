@@ -35,3 +35,4 @@ mod KeptCalls
 mod StartsOnce
 mod OutsideStatements
 mod DefinedPlaces
+mod StayingDefinitions
