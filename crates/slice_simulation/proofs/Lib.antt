@@ -36,3 +36,5 @@ mod StartsOnce
 mod OutsideStatements
 mod DefinedPlaces
 mod StayingDefinitions
+mod EmptiedSuites
+mod AloneStatements

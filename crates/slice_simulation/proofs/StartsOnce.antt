@@ -42,10 +42,10 @@ mutual
   suite_started end_suite = refl
   suite_started (more_suite s rest) = joined (started_stmt s) (started_suite rest) (stmt_starts s) (suite_starts rest) (stmt_started s) (suite_started rest)
 
-  stmt_started : (s : StmtTree) → starts_of (started_stmt s) ≡ stmt_starts s
+  pub stmt_started : (s : StmtTree) → starts_of (started_stmt s) ≡ stmt_starts s
   stmt_started (one_stmt number at span form) = ap (λ (rest : List Pos). at ∷ rest) (form_started form)
 
-  form_started : (form : FormTree) → starts_of (started_form form) ≡ form_starts form
+  pub form_started : (form : FormTree) → starts_of (started_form form) ≡ form_starts form
   form_started (do_form e) = refl
   form_started (assign_form target e) = refl
   form_started (aug_form target sign place e) = refl
