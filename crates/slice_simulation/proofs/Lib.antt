@@ -38,3 +38,4 @@ mod DefinedPlaces
 mod StayingDefinitions
 mod EmptiedSuites
 mod AloneStatements
+mod FunctionBodies
