@@ -107,7 +107,7 @@ module _ (keep : StmtSet) (place : Pos) where
       by_either (inr later) = kept_behind xs ps (behind later)
 
   -- a `pass` defines nothing
-  without_pass : (m : ℕ) (body kept : SuiteTree) → IsIn (defined_suite (numbered_suite m (or_pass body kept))) place → IsIn (defined_suite (numbered_suite m kept)) place
+  pub without_pass : (m : ℕ) (body kept : SuiteTree) → IsIn (defined_suite (numbered_suite m (or_pass body kept))) place → IsIn (defined_suite (numbered_suite m kept)) place
   without_pass m end_suite kept there = there
   without_pass m (more_suite (one_stmt number at span form) rest) end_suite there = absurd there
   without_pass m (more_suite (one_stmt number at span form) rest) (more_suite s more) there = there
@@ -127,7 +127,7 @@ module _ (keep : StmtSet) (place : Pos) where
             (started_stmt s) (started_suite rest) (defined_stmt s) (defined_suite rest) there (own is) (others (m + size_stmt (kept_stmt keep s)))
         by_test false is there own others = kept_behind (started_stmt s) (defined_stmt s) (others m there)
 
-    stmt_known : (m : ℕ) (s : StmtTree) → keep (number_of s) ≡ true → IsIn (defined_stmt (numbered_stmt m (kept_stmt keep s))) place → KeptAmong (started_stmt s) (defined_stmt s)
+    pub stmt_known : (m : ℕ) (s : StmtTree) → keep (number_of s) ≡ true → IsIn (defined_stmt (numbered_stmt m (kept_stmt keep s))) place → KeptAmong (started_stmt s) (defined_stmt s)
     stmt_known m (one_stmt number at span form) kept there = form_known (m + 1) number at form kept there
 
     form_known : (m number : ℕ) (at : Pos) (form : FormTree) → keep number ≡ true → IsIn (defined_form at (numbered_form m (kept_form keep form))) place

@@ -39,3 +39,4 @@ mod StayingDefinitions
 mod EmptiedSuites
 mod AloneStatements
 mod FunctionBodies
+mod NamesKept
