@@ -40,3 +40,4 @@ mod EmptiedSuites
 mod AloneStatements
 mod FunctionBodies
 mod NamesKept
+mod NumberedStatements

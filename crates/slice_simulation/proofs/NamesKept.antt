@@ -1,5 +1,5 @@
 -- What a slice defines has in graph texts the name that it has in the script.
-use Rattle.std.proofs.Common.{◌≡◌, ℕ, ◌+◌, Bool, true, false, if◌then◌else◌, ◌&&◌, ◌⊎◌, List, [], ◌∷◌, ◌++◌, inl, inr, refl, sym, ap, subst, ◌∙◌, rules, codes}
+use Rattle.std.proofs.Common.{◌≡◌, ℕ, ◌+◌, Bool, true, false, if◌then◌else◌, ◌&&◌, ◌⊎◌, List, [], ◌∷◌, ◌++◌, inl, inr, refl, sym, ap, subst, ◌∙◌, codes}
 use Rattle.std.proofs.lemmas.Bool.{false≢true}
 use Rattle.prov_base.specs.declared.place.Pos.{Pos}
 use Rattle.prov_base.specs.contracts.place.PosPartialEq.TheImpl.{ghosts as places}
@@ -74,9 +74,6 @@ module _ (place : Pos) where
     form_named at (with_form e bound body) there = absurd there
 
   module _ (is_class : Bool) where
-    own_place : places.eq place place ≡ true
-    own_place = search rules
-
     -- where none of the names stands at the place
     none_named : (names : Names) → (IsIn (named_at names) place → ⊥) → first_name is_class place names ≡ codes "?"
     none_named [] none = refl
