@@ -36,3 +36,12 @@ mod Bareness
 mod Activations
 mod FunctionsLeft
 mod KeptCalls
+mod StartsOnce
+mod OutsideStatements
+mod DefinedPlaces
+mod StayingDefinitions
+mod EmptiedSuites
+mod AloneStatements
+mod FunctionBodies
+mod NamesKept
+mod NumberedStatements
