@@ -3,7 +3,7 @@
 use Rattle.std.proofs.Common.{◌≡◌, ℕ, zero, suc, true, false, List, [], ◌∷◌}
 use Rattle.std.specs.Prelude.{⊤, Bool}
 use Rattle.prov_base.specs.declared.place.Pos.{Pos}
-use Rattle.py_value.specs.Contents.{Contents, object}
+use Rattle.py_value.specs.Contents.{Contents, function, class, object}
 use Rattle.py_tree.specs.Functions.{Function, is_local}
 use Rattle.model_laws.specs.Flow.{KnownAll}
 use Rattle.slice_simulation.specs.Cut.{SameFunction}
@@ -55,6 +55,12 @@ pub data OnName : ℕ → Type 0 where
   on_unbind : OnName 34
   on_import : OnName 44
 
+-- it is no function and no class that is known
+abbrev pub IsUnknown : (Pos → Bool) → Contents → Type 0
+IsUnknown known (function place) = known place ≡ false
+IsUnknown known (class place) = known place ≡ false
+IsUnknown known other = ⊤
+
 module _ (ground : Ground) (keep : StmtSet) (marks : Marks) where
   -- Down to so many actions of the slice's that cost something. What is open in the script's tree as they begin is the first list.
   pub data Beside : ℕ → List Open → List Open → Act → Act → Type 0 where
@@ -68,7 +74,7 @@ module _ (ground : Ground) (keep : StmtSet) (marks : Marks) where
         → ((walked : Walked) → Beside k (a_statement n ∷ from) onto (f at_end walked) (g at_end walked))
         → Beside (suc k) (a_statement n ∷ from) onto (perform at p vs f) (perform at q ws g)
     alone_perform : {k n : ℕ} {from onto : List Open} {at : Pos} {p : Op} {vs : List Contents} {f : Answer → Walked → Act} {b : Act}
-        → keep n ≡ false → ((answer : Answer) (walked : Walked) → Beside k (a_statement n ∷ from) onto (f answer walked) b)
+        → keep n ≡ false → IsUnknown ground.known p.value → ((answer : Answer) (walked : Walked) → Beside k (a_statement n ∷ from) onto (f answer walked) b)
         → Beside k (a_statement n ∷ from) onto (perform at p vs f) b
     both_begin : {k n m : ℕ} {from onto : List Open} {a b : Act} → keep n ≡ true → ground.paired n m → Beside k (a_statement n ∷ from) onto a b
         → Beside (suc k) from onto (begin n a) (begin m b)
@@ -105,7 +111,7 @@ module _ (ground : Ground) (keep : StmtSet) (marks : Marks) where
   less (suc k) stopped = stopped
   less (suc k) (both_perform kept same_op same_values each thrown at_last) =
       both_perform kept same_op same_values (λ v w walked same. less k (each v w walked same)) (λ o e walked same. less k (thrown o e walked same)) (λ walked. less k (at_last walked))
-  less (suc k) (alone_perform out each) = alone_perform out (λ answer walked. less (suc k) (each answer walked))
+  less (suc k) (alone_perform out unknown each) = alone_perform out unknown (λ answer walked. less (suc k) (each answer walked))
   less (suc k) (both_begin kept named rest) = both_begin kept named (less k rest)
   less (suc k) (alone_begin out rest) = alone_begin out (less (suc k) rest)
   less (suc k) (pass_begin out named rest) = pass_begin out named (less k rest)
@@ -130,7 +136,7 @@ module _ (ground : Ground) (keep : StmtSet) (marks : Marks) where
       both_perform kept same_op same_values (λ v w walked same. beside_to (next v w walked same) (λ how other is. less k (each how other is)))
       (λ o e walked same. beside_to (thrown o e walked same) (λ how other is. less k (each how other is)))
       (λ walked. beside_to (at_last walked) (λ how other is. less k (each how other is)))
-  beside_to (alone_perform out next) each = alone_perform out (λ answer walked. beside_to (next answer walked) each)
+  beside_to (alone_perform out unknown next) each = alone_perform out unknown (λ answer walked. beside_to (next answer walked) each)
   beside_to {k = suc k} (both_begin kept named rest) each = both_begin kept named (beside_to rest (λ how other is. less k (each how other is)))
   beside_to (alone_begin out rest) each = alone_begin out (beside_to rest each)
   beside_to {k = suc k} (pass_begin out named rest) each = pass_begin out named (beside_to rest (λ how other is. less k (each how other is)))
@@ -146,11 +152,11 @@ module _ (ground : Ground) (keep : StmtSet) (marks : Marks) where
   beside_to (lost_name kept on same is_one entered here there) each = lost_name kept on same is_one entered here there
 
 -- A tree of actions of statements outside the set alone. In an activation that one of them entered no other begins.
-module _ (keep : StmtSet) where
+module _ (known : Pos → Bool) (keep : StmtSet) where
   pub data Outside : List Open → List Open → Act → Type 0 where
     out_ret : {from : List Open} {how : How} → Outside from from (ret how)
     out_stop : {from onto : List Open} → Outside from onto stop
-    out_perform : {n : ℕ} {from onto : List Open} {at : Pos} {p : Op} {vs : List Contents} {f : Answer → Walked → Act} → keep n ≡ false
+    out_perform : {n : ℕ} {from onto : List Open} {at : Pos} {p : Op} {vs : List Contents} {f : Answer → Walked → Act} → keep n ≡ false → IsUnknown known p.value
         → ((answer : Answer) (walked : Walked) → Outside (a_statement n ∷ from) onto (f answer walked)) → Outside (a_statement n ∷ from) onto (perform at p vs f)
     out_begin : {n : ℕ} {from onto : List Open} {a : Act} → keep n ≡ false → Outside (a_statement n ∷ from) onto a → Outside from onto (begin n a)
     out_close : {n : ℕ} {from onto : List Open} {ended : Ending} {a : Act} → keep n ≡ false → Outside from onto a → Outside (a_statement n ∷ from) onto (close n ended a)
@@ -163,21 +169,22 @@ module _ (keep : StmtSet) where
   pub out_to : {from between onto : List Open} {a : Act} {f : How → Act} → Outside from between a → ((how : How) → Outside between onto (f how)) → Outside from onto (to a f)
   out_to out_ret each = each _
   out_to out_stop each = out_stop
-  out_to (out_perform out next) each = out_perform out (λ answer walked. out_to (next answer walked) each)
+  out_to (out_perform out unknown next) each = out_perform out unknown (λ answer walked. out_to (next answer walked) each)
   out_to (out_begin out rest) each = out_begin out (out_to rest each)
   out_to (out_close out rest) each = out_close out (out_to rest each)
   out_to (out_enter out next) each = out_enter out (λ a. out_to (next a) each)
   out_to (out_leave out rest) each = out_leave out (out_to rest each)
   out_to (out_barred kept out) each = out_barred kept out
 
-  -- in the script's run alone, before what follows
-  pub beside_after : (ground : Ground) (marks : Marks) {k : ℕ} {from between onto : List Open} {a b : Act} {f : How → Act} → Outside from between a
+-- in the script's run alone, before what follows
+module _ (ground : Ground) (keep : StmtSet) where
+  pub beside_after : (marks : Marks) {k : ℕ} {from between onto : List Open} {a b : Act} {f : How → Act} → Outside ground.known keep from between a
       → ((how : How) → Beside ground keep marks k between onto (f how) b) → Beside ground keep marks k from onto (to a f) b
-  beside_after ground marks out_ret each = each _
-  beside_after ground marks out_stop each = stopped
-  beside_after ground marks (out_perform out next) each = alone_perform out (λ answer walked. beside_after ground marks (next answer walked) each)
-  beside_after ground marks (out_begin out rest) each = alone_begin out (beside_after ground marks rest each)
-  beside_after ground marks (out_close out rest) each = alone_close out (beside_after ground marks rest each)
-  beside_after ground marks (out_enter out next) each = alone_enter out (λ a. beside_after ground marks (next a) each)
-  beside_after ground marks (out_leave out rest) each = alone_leave out (beside_after ground marks rest each)
-  beside_after ground marks (out_barred kept out) each = barred_begin kept out
+  beside_after marks out_ret each = each _
+  beside_after marks out_stop each = stopped
+  beside_after marks (out_perform out unknown next) each = alone_perform out unknown (λ answer walked. beside_after marks (next answer walked) each)
+  beside_after marks (out_begin out rest) each = alone_begin out (beside_after marks rest each)
+  beside_after marks (out_close out rest) each = alone_close out (beside_after marks rest each)
+  beside_after marks (out_enter out next) each = alone_enter out (λ a. beside_after marks (next a) each)
+  beside_after marks (out_leave out rest) each = alone_leave out (beside_after marks rest each)
+  beside_after marks (out_barred kept out) each = barred_begin kept out

@@ -18,14 +18,15 @@ use Rattle.py_model.specs.Moment.{Moment, normal_end}
 use Rattle.slice_simulation.proofs.Beside.{Ground, on_bind, on_unbind, on_import, SameHow, both_normal, both_broke, both_continued, both_returned, both_threw, TopIsKept, Beside, unreached, both_ret, stopped, both_begin, alone_begin, pass_begin, both_close, alone_close, abrupt_close, barred_begin, less, beside_to, beside_after}
 use Rattle.slice_simulation.proofs.KeptOperations.{Same, AllSame, In, SameClass, no_class, one_class, SameHandled, none_handled, one_handled, BothHere, truth_both, none_same, nothing_same, more_same, one_same, plain_op, whole_op, module_same, ended, in_less, doing_on, doing_both, doing_or_on, doing_named, asking_on, asking_both}
 use Rattle.slice_simulation.proofs.KeptExpressions.{FunctionsFit, BodiesBoth, eval_both, store_both, augment_both, unset_both}
-use Rattle.slice_simulation.proofs.OutsideRules.{Alone, TurnsAlone, BodiesAlone, under_none, rule_alone, bodies_out, levels_alone}
+use Rattle.slice_simulation.proofs.OutsideRules.{FoundStarts, Alone, TurnsAlone, BodiesAlone, under_none, rule_alone, bodies_out, levels_alone}
 use Rattle.slice_simulation.specs.Cut.{SameFunction}
 use Rattle.slice_simulation.specs.Renaming.{all_marks}
 use Rattle.slice_simulation.proofs.Standing.{AllOwned, owned_left, owned_right}
 use Rattle.slice_simulation.specs.Owned.{started_suite, started_stmt, started_form, started_branches, started_else, started_handlers}
 use Rattle.slice_simulation.specs.Under.{UnderSuite, UnderStmt, UnderForm, UnderBranches, UnderElse, UnderHandlers}
 
-module _ (ground : Ground) (P Q : ℕ → Pos → Type 0) (pairs : (s n : ℕ) (at : Pos) → P s at → Q n at → ground.paired s n) (keep : StmtSet) (upto : List Moment) where
+module _ (ground : Ground) (P Q : ℕ → Pos → Type 0) (pairs : (s n : ℕ) (at : Pos) → P s at → Q n at → ground.paired s n) (keep : StmtSet)
+    (undefined : (n : ℕ) (at : Pos) → P n at → keep n ≡ false → ground.known at ≡ false) (upto : List Moment) where
   -- at module level, or inside a kept statement
   abbrev pub Suites : ℕ → Act → Act → Type 0
   Suites k a b = (from : List Open) → TopIsKept keep from → Beside ground keep (all_marks keep upto) k from from a b
@@ -115,7 +116,7 @@ module _ (ground : Ground) (P Q : ℕ → Pos → Type 0) (pairs : (s n : ℕ) (
   handling_both : {here there : Here} {o e : ℕ} → Same ground keep upto (object o) (object e) → BothHere ground keep upto here there → BothHere ground keep upto (handling o here) (handling e there)
   handling_both same both = record { functions = both.functions; open_is = both.open_is; line_is = both.line_is; handled = one_handled same; classes = both.classes }
 
-  module _ (script cut : ScriptTree) (fits : FunctionsFit ground keep upto script cut) (callees : CalleesFit script cut) (next other : Task → Act) where
+  module _ (script cut : ScriptTree) (fits : FunctionsFit ground keep upto script cut) (callees : CalleesFit script cut) (starts : (place : Pos) → FoundStarts P (function_at script place)) (next other : Task → Act) where
     fewer_calls : {k : ℕ} → BodiesBoth ground keep upto script cut (suc k) next other → BodiesBoth ground keep upto script cut k next other
     fewer_calls {k} calls here there both place f g here_is there_is from inner = less ground keep (all_marks keep upto) k (calls here there both place f g here_is there_is from inner)
 
@@ -199,11 +200,12 @@ module _ (ground : Ground) (P Q : ℕ → Pos → Type 0) (pairs : (s n : ℕ) (
           in_so going _ _ (both_returned same) = ended ground keep upto (both_returned same)
           in_so going _ _ (both_threw same) = ended ground keep upto (both_threw same)
 
-      module _ (tasks : TurnsBoth k next other) (bodies : BodiesAlone keep next) (alone : (what : Task) → TurnsAlone keep what → Alone keep (next what)) where
+      module _ (tasks : TurnsBoth k next other) (bodies : BodiesAlone ground.known P keep undefined next) (alone : (what : Task) → TurnsAlone ground.known P keep undefined what → Alone ground.known P keep undefined (next what)) where
         -- a statement that is not kept
-        stmt_alone : (here : Here) (s : StmtTree) → keep (number_of s) ≡ false → UnderStmt keep true s → Suites (suc k) (stmt script next here s) (ret normal)
-        stmt_alone here (one_stmt number at span form) out under from top =
-            alone_begin out (beside_after keep ground (all_marks keep upto) (rule_alone keep script next bodies alone (on_line at.line here) at form (under_none keep number form out under.1) number from out)
+        stmt_alone : (here : Here) (s : StmtTree) → keep (number_of s) ≡ false → UnderStmt keep true s → AllOwned P (started_stmt s) → Suites (suc k) (stmt script next here s) (ret normal)
+        stmt_alone here (one_stmt number at span form) out under ins from top =
+            alone_begin out (beside_after ground keep (all_marks keep upto) (rule_alone ground.known P keep undefined script starts next bodies alone (on_line at.line here) at (undefined number at (ins.each number at (inl refl)) out) form
+            (under_none keep number form out under.1) (owned_right ((number, at) ∷ []) ins) number from out)
             (close_alone out top))
 
         -- a suite whose owner is kept
@@ -244,7 +246,7 @@ module _ (ground : Ground) (P Q : ℕ → Pos → Type 0) (pairs : (s n : ℕ) (
                   (λ how other_how same. so_both (others (m + size_stmt (kept_stmt keep s)) (owned_right (started_stmt (numbered_stmt m (kept_stmt keep s))) outs)) how other_how same from top)
               by_test false is outs first others from top =
                   beside_to ground keep (all_marks keep upto) {b = ret normal} {g = then_so (suite cut other there (numbered_suite m (kept_suite keep rest)))}
-                  (stmt_alone here s is under.0 from top) (λ how other_how same. so_both (others m outs) how other_how same from top)
+                  (stmt_alone here s is under.0 (owned_left _ ins) from top) (λ how other_how same. so_both (others m outs) how other_how same from top)
 
           stmt_both : (here there : Here) → BothHere ground keep upto here there → (m : ℕ) (s : StmtTree) → keep (number_of s) ≡ true → UnderStmt keep true s
               → AllOwned P (started_stmt s) → AllOwned Q (started_stmt (numbered_stmt m (kept_stmt keep s)))
@@ -360,12 +362,12 @@ module _ (ground : Ground) (P Q : ℕ → Pos → Type 0) (pairs : (s n : ℕ) (
                 outs : AllOwned Q (started_suite (rest_of_suite callee.same.first f.body))
                 outs = subst (λ body. AllOwned Q (started_suite body)) callee.same.body callee.outs
 
-  module _ (script cut : ScriptTree) (fits : FunctionsFit ground keep upto script cut) (callees : CalleesFit script cut) where
+  module _ (script cut : ScriptTree) (fits : FunctionsFit ground keep upto script cut) (callees : CalleesFit script cut) (starts : (place : Pos) → FoundStarts P (function_at script place)) where
     pub levels_both : (k n : ℕ) → TasksBoth script cut k (level script n) (level cut k)
     unfolding level
     levels_both zero n = record { turns = λ what task same number from kept. unreached; calls = λ here there both place f g here_is there_is from inner. unreached }
     levels_both (suc k) zero = record { turns = λ what task same number from kept. stopped; calls = λ here there both place f g here_is there_is from inner. stopped }
     levels_both (suc k) (suc n) = record {
-      turns = turn_both script cut fits callees (level script n) (level cut k) k (levels_both k n).calls (levels_both k n).turns (bodies_out keep script n) (levels_alone keep script n);
-      calls = call_both script cut fits callees (level script n) (level cut k) k (levels_both k n).calls (levels_both k n).turns (bodies_out keep script n) (levels_alone keep script n);
+      turns = turn_both script cut fits callees starts (level script n) (level cut k) k (levels_both k n).calls (levels_both k n).turns (bodies_out ground.known P keep undefined script starts n) (levels_alone ground.known P keep undefined script starts n);
+      calls = call_both script cut fits callees starts (level script n) (level cut k) k (levels_both k n).calls (levels_both k n).turns (bodies_out ground.known P keep undefined script starts n) (levels_alone ground.known P keep undefined script starts n);
     }

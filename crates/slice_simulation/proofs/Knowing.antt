@@ -14,6 +14,7 @@ use Rattle.py_model.specs.Meaning.{meaning}
 use Rattle.py_model.specs.Moment.{Ending, parameters_set}
 use Rattle.py_model.specs.Operations.{Op, plan}
 use Rattle.py_model.specs.Plan.{Plan, Answer}
+use Rattle.py_model.specs.Quiet.{may_note}
 use Rattle.py_model.specs.Running.{State, askings_at, did, effect_of, operation, method_found, entering}
 use Rattle.py_model.specs.Store.{RunStore, opening, unset, with_items, with_files}
 use Rattle.model_laws.specs.Defined.{defines}
@@ -27,6 +28,8 @@ pub record FlowLaws : Type 0 where
   pub store : (known : Pos → Bool) (store : RunStore) (answers : Answers) (p : Plan) → KeepsKnown known p → KnownStore known store → KnownStore known (after (effect store answers p) store)
   pub answer : (known : Pos → Bool) (store : RunStore) (answers : Answers) (p : Plan) → KeepsKnown known p → KnownStore known store → KnownOutcome known (effect store answers p).outcome
   pub method : (known : Pos → Bool) (store : RunStore) (accesses : List SeenAccess) → KnownStore known store → KnownPlace known (method_found store accesses None)
+  pub silent : (store : RunStore) (answers : Answers) (op : Op) (values : List Contents) (place : Pos) → may_note op.no ≡ false
+      → (after (effect store answers (plan op values)) store).names place ≡ store.names place
   pub tree : (script : ScriptTree) (steps : ℕ) → Knows (defines script) (meaning script steps)
 
 module _ (known : Pos → Bool) where

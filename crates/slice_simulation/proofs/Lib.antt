@@ -11,6 +11,8 @@ pub mod Beside
 mod Knowing
 mod Entered
 mod KnownNames
+mod UnknownNames
+mod StartsFound
 pub mod Simulating
 pub mod OutsideRules
 mod KeptOperations

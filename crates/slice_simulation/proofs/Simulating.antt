@@ -7,7 +7,7 @@ use Rattle.prov_base.specs.contracts.place.PosPartialEq.TheImpl.{ghosts as place
 use Rattle.py_value.specs.Contents.{Contents, object}
 use Rattle.py_value.specs.Seen.{SeenAccess, SeenKind}
 use Rattle.py_model.specs.Act.{Act, Walked, perform, begin, close, enter, leave}
-use Rattle.py_model.specs.Capture.{Capture}
+use Rattle.py_model.specs.Capture.{Capture, answers_at}
 use Rattle.py_model.specs.Effect.{Effect, accesses_in, weight}
 use Rattle.py_model.specs.Going.{Open, a_statement, an_activation}
 use Rattle.py_model.specs.History.{held, kinds_after, with_kind}
@@ -32,7 +32,8 @@ use Rattle.slice_simulation.proofs.KeptMoments.{kept_moment}
 use Rattle.slice_simulation.proofs.Marks.{shifts}
 use Rattle.slice_simulation.proofs.Onwards.{onwards, Came, CameBy, came_by, IsEndOf, ends_meet, same_end}
 use Rattle.py_value.specs.Changes.{after_accesses}
-use Rattle.slice_simulation.proofs.Touching.{kinds_grow, unnoted_before}
+use Rattle.slice_simulation.proofs.UnknownNames.{names_stay}
+use Rattle.slice_simulation.proofs.Touching.{kinds_grow}
 use Rattle.slice_simulation.proofs.OtherMoments.{deleted_moment, deleted_askings, begin_paid, both_begin_related, alone_begin_related, pass_related, both_end_related, alone_end_related}
 use Rattle.slice_simulation.specs.Related.{Related, AllInReach, DoneAgain, IsUnnoted}
 use Rattle.slice_simulation.specs.Renaming.{activations_after, SameValue, SameScope, IsShifted, Marks, all_marks}
@@ -258,7 +259,7 @@ module _ (capture : Capture) (keep : StmtSet) (opening : RunStore) (upto : List 
                 subst Reaches (sym (goes ∙ ap (λ one. outcome capture (g one came) again.now) again_is))
                 (arrive (f (raised o) came) (g (raised (near.by.objects o)) came) u again.now again.related holds_now (omega (arith, long, before)) through
                 (λ early. on_raise o (near.by.objects o) came corresponds known.method u again.now again.related holds_now frames_now (omega (arith, few, again.fewer)) early through))
-    simulate (alone_perform {k = k} {n = n} {from = from} {at = at} {p = p} {vs = vs} {f = f} {b = b} out each) knows s t related holds frames few before through =
+    simulate (alone_perform {k = k} {n = n} {from = from} {at = at} {p = p} {vs = vs} {f = f} {b = b} out unknown each) knows s t related holds frames few before through =
         by_happened (operation capture at p vs s) refl (came_by capture at p vs s) through (λ answer came next. simulate (each answer came) knows next t)
       where
         by_happened : (h : Happened) → operation capture at p vs s ≡ h → CameBy at p vs (effect_of capture at p vs s) s h
@@ -291,12 +292,13 @@ module _ (capture : Capture) (keep : StmtSet) (opening : RunStore) (upto : List 
                   (λ may. asks.asking_out within.front s.told at p.no vs answer _ _ _ n upto_is (owner_in s.told n from frames) may out place only));
             }
 
-            unnoted : IsUnnoted u.store → (place : Pos) → ground.known place ≡ true → u.store.names place ≡ s.store.names place
-            unnoted none place known = none.names place ∙ sym ((unnoted_before (effect_of capture at p vs s) s.store (subst IsUnnoted told.store_is none)).names place)
+            unnoted : (place : Pos) → ground.known place ≡ true → u.store.names place ≡ s.store.names place
+            unnoted place known = ap (λ (store : RunStore). store.names place) told.store_is
+                ∙ names_stay ground.known s.store (answers_at capture at (suc (askings_at at s.askings))) place known (λ op values none. flow.silent s.store (answers_at capture at (suc (askings_at at s.askings))) op values place none) p vs unknown
 
             related_now : Related capture ground.paired ground.known keep upto u t
             related_now = deleted_moment laws capture ground.paired ground.known keep upto at p vs n s t u answer came related out (owner_in s.told n from frames) is
-                (unnoted ((onwards capture (f answer came) u).unnoted through.unnoted))
+                unnoted
     simulate {k = suc k} (both_begin {n = n} {m = m} {from = from} {a = a} {b = b} kept named rest) knows s t related holds frames few before through =
         by_left (nat_le 1 s.left) through (simulate rest (begin_known ground.known knows) (beginning n s) (beginning m t))
       where

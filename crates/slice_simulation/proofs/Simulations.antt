@@ -23,12 +23,16 @@ use Rattle.slice_simulation.proofs.Entered.{entered_as, entered_stays, entered_n
 use Rattle.slice_simulation.proofs.FunctionsLeft.{function_found}
 use Rattle.slice_simulation.proofs.KeptOperations.{BothHere, no_class, none_handled, no_function}
 use Rattle.slice_simulation.proofs.KeptExpressions.{FunctionsFit}
-use Rattle.slice_simulation.proofs.KeptStatements.{CalleesFit, TasksBoth, body_both, levels_both}
+use Rattle.slice_simulation.proofs.KeptStatements.{CalleeFits, CalleesFit, TasksBoth, body_both, levels_both}
 use Rattle.slice_simulation.proofs.Knowing.{FlowLaws, opening_known}
 use Rattle.model_laws.specs.Defined.{defines}
 use Rattle.prov_base.specs.contracts.place.PosPartialEq.TheImpl.{ghosts as places}
 use Rattle.slice_simulation.proofs.Marks.{shifts}
-use Rattle.slice_simulation.proofs.OutsideRules.{bodies_out, levels_alone}
+use Rattle.slice_simulation.proofs.StartsFound.{found_starts}
+use Rattle.slice_simulation.proofs.StayingDefinitions.{deleted_undefined}
+use Rattle.slice_simulation.proofs.FunctionBodies.{callee_found, CalleeBodies, callee_bodies}
+use Rattle.slice_simulation.specs.Under.{UnderSuite}
+use Rattle.slice_simulation.proofs.OutsideRules.{FoundStarts, bodies_out, levels_alone}
 use Rattle.slice_simulation.proofs.OwnMoments.{place_same, AllOwn, Owns, OnlyKept, all_own, asking_kept, asking_apart}
 use Rattle.py_tree.specs.WellFormed.{IsWellFormed}
 use Rattle.slice_simulation.proofs.Renamings.{accesses_match}
@@ -112,25 +116,42 @@ module _ (laws : Laws) (flow : FlowLaws) (script : ScriptTree) (capture : Captur
   starts : BothHere ground keep upto at_start at_start
   starts = record { functions = no_function; open_is = refl; line_is = refl; handled = none_handled; classes = no_class }
 
-  fits : functions_in script.body ≡ [] → FunctionsFit ground keep upto script (deleted keep script)
-  fits none = record {
+  under : UnderSuite keep true script.body
+  under = body_under keep script (opening_in capture path arguments) upto closed
+
+  undefined : (n : ℕ) (at : Pos) → IsHere script n at → keep n ≡ false → ground.known at ≡ false
+  undefined n at here out = deleted_undefined keep script well n at here out
+
+  starting_there : (place : Pos) → FoundStarts (IsHere script) (function_at script place)
+  starting_there place = found_starts (IsHere script) script (record { each = λ n place there. there }) place
+
+  fits : FunctionsFit ground keep upto script (deleted keep script)
+  fits = record {
     found = function_found keep script well;
     listed = λ place f is. subst (λ at. function_at script at ≡ Some f) (sym (placed_there place (functions_in script.body) f is)) is;
-    defined = λ place f is gone known. some_or_none f (sym is ∙ none_in keep script none place);
+    defined = λ place f is gone known. some_or_none (callee_found keep script well under place f is known).0 (sym (callee_found keep script well under place f is known).1 ∙ gone);
   }
 
-  callees : functions_in script.body ≡ [] → CalleesFit ground (IsHere script) (IsHere (deleted keep script)) pairs keep upto script (deleted keep script)
-  callees none place f g here_is there_is = absurd (some_or_none f (sym here_is ∙ none_in keep script none place))
-
-  whole : functions_in script.body ≡ [] → Beside ground keep (all_marks keep upto) (suc (suc budget)) [] [] (meaning script steps) (meaning (deleted keep script) budget)
-  whole none =
-      body_both ground (IsHere script) (IsHere (deleted keep script)) pairs keep upto script (deleted keep script) (fits none) (callees none)
-      (level script (suc steps)) (level (deleted keep script) (suc budget)) (suc budget) both.calls both.turns (bodies_out keep script (suc steps)) (levels_alone keep script (suc steps))
-      at_start at_start starts 0 script.body (body_under keep script (opening_in capture path arguments) upto closed)
-      (record { each = λ s place there. there }) (record { each = λ n place there. there }) [] tt
+  callees : CalleesFit ground (IsHere script) (IsHere (deleted keep script)) pairs keep undefined upto script (deleted keep script)
+  callees place f g here_is there_is = by_bodies (callee_bodies keep script well under place f g here_is there_is)
     where
-      both : TasksBoth ground (IsHere script) (IsHere (deleted keep script)) pairs keep upto script (deleted keep script) (suc budget) (level script (suc steps)) (level (deleted keep script) (suc budget))
-      both = levels_both ground (IsHere script) (IsHere (deleted keep script)) pairs keep upto script (deleted keep script) (fits none) (callees none) (suc budget) (suc steps)
+      by_bodies : CalleeBodies keep script f g → CalleeFits ground (IsHere script) (IsHere (deleted keep script)) pairs keep undefined upto f g
+      by_bodies bodies = record {
+        same = bodies.same;
+        under = bodies.under;
+        ins = record { each = bodies.ins };
+        outs = record { each = bodies.outs };
+      }
+
+  whole : Beside ground keep (all_marks keep upto) (suc (suc budget)) [] [] (meaning script steps) (meaning (deleted keep script) budget)
+  whole =
+      body_both ground (IsHere script) (IsHere (deleted keep script)) pairs keep undefined upto script (deleted keep script) fits callees starting_there
+      (level script (suc steps)) (level (deleted keep script) (suc budget)) (suc budget) both.calls both.turns
+      (bodies_out ground.known (IsHere script) keep undefined script starting_there (suc steps)) (levels_alone ground.known (IsHere script) keep undefined script starting_there (suc steps))
+      at_start at_start starts 0 script.body under (record { each = λ s place there. there }) (record { each = λ n place there. there }) [] tt
+    where
+      both : TasksBoth ground (IsHere script) (IsHere (deleted keep script)) pairs keep undefined upto script (deleted keep script) (suc budget) (level script (suc steps)) (level (deleted keep script) (suc budget))
+      both = levels_both ground (IsHere script) (IsHere (deleted keep script)) pairs keep undefined upto script (deleted keep script) fits callees starting_there (suc budget) (suc steps)
 
   related_first : spent_on upto ≤ budget → Related capture ground.paired ground.known keep upto (starting capture path arguments steps) (starting capture path arguments budget)
   related_first enough = record {
@@ -154,7 +175,7 @@ module _ (laws : Laws) (flow : FlowLaws) (script : ScriptTree) (capture : Captur
       (meaning script steps) (meaning (deleted keep script) budget) (starting capture path arguments steps) (starting capture path arguments budget)
       (related_first enough) holds (omega arith) through
       (λ early. simulate capture keep (opening_in capture path arguments) upto (OnlyKept script capture path arguments steps keep upto) ground laws flow asks
-      (whole plain_run.functionless) (flow.tree (deleted keep script) budget) (starting capture path arguments steps) (starting capture path arguments budget) (related_first enough) holds refl (omega arith) early through))
+      whole (flow.tree (deleted keep script) budget) (starting capture path arguments steps) (starting capture path arguments budget) (related_first enough) holds refl (omega arith) early through))
     where
       holds : Holds (opening_in capture path arguments) (OnlyKept script capture path arguments steps keep upto) ground.known (starting capture path arguments steps) (starting capture path arguments budget)
       holds = record { here = record { map_is = refl; kinds_are = refl }; there = record { map_is = refl; kinds_are = refl }; askings = λ place only. refl; knows = opening_known ground.known path arguments (with_bytes capture.files) }

@@ -136,6 +136,7 @@ pub fn slices_simulate()
     map_changes_by_accesses();
     operations_pass_functions_on();
     effects_keep_stores_known();
+    few_operations_note();
     runs_know_definitions_alone();
 }
 
@@ -156,6 +157,7 @@ pub fn slices_reach_the_evaluation()
     map_changes_by_accesses();
     operations_pass_functions_on();
     effects_keep_stores_known();
+    few_operations_note();
     runs_know_definitions_alone();
 }
 

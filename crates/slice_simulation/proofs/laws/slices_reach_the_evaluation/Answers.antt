@@ -20,6 +20,7 @@ returns c =
       store = c.effects_keep_stores_known.ensures.store;
       answer = c.effects_keep_stores_known.ensures.answer;
       method = c.effects_keep_stores_known.ensures.method;
+      silent = c.few_operations_note.ensures;
       tree = c.runs_know_definitions_alone.ensures.tree;
     } in
     λ script capture path arguments steps budget at k keep upto well is closed plain enough.
