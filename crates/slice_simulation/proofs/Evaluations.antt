@@ -218,7 +218,7 @@ module _ (laws : Laws) (flow : FlowLaws) (script : ScriptTree) (capture : Captur
 
       own : AllOwn (Owns script capture path arguments steps keep upto) upto
       own = all_own script capture path arguments steps keep upto
-          (record { rest = found.after; told_is = found.whole_is; unnoted = plain_run.unnoted })
+          (record { rest = found.after; told_is = found.whole_is })
 
       last : LastKept
       last = last_kept closed found.moment found.before found.upto_is found.evaluates_here (subst (AllOwn (Owns script capture path arguments steps keep upto)) found.upto_is own)

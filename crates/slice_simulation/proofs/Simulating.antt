@@ -35,7 +35,7 @@ use Rattle.py_value.specs.Changes.{after_accesses}
 use Rattle.slice_simulation.proofs.UnknownNames.{names_stay}
 use Rattle.slice_simulation.proofs.Touching.{kinds_grow}
 use Rattle.slice_simulation.proofs.OtherMoments.{deleted_moment, deleted_askings, begin_paid, both_begin_related, alone_begin_related, pass_related, both_end_related, alone_end_related}
-use Rattle.slice_simulation.specs.Related.{Related, AllInReach, DoneAgain, IsUnnoted}
+use Rattle.slice_simulation.specs.Related.{Related, AllInReach, DoneAgain}
 use Rattle.slice_simulation.specs.Renaming.{activations_after, SameValue, SameScope, IsShifted, Marks, all_marks}
 
 value_same : (v w : Contents) → value v ≡ value w → v ≡ w
@@ -99,11 +99,10 @@ pub record Holds (opening : RunStore) (OnlyKept : Pos → Type 0) (known : Pos �
 
 -- What has been told of all the moments.
 module _ (capture : Capture) (keep : StmtSet) (opening : RunStore) (upto : List Moment) where
-  -- all moments are told, and nothing noted
+  -- all moments are told
   pub record Through (ended : Ended) : Type 0 where
     pub rest : List Moment
     pub told_is : (state_in ended).told ≡ rest ++ upto
-    pub unnoted : IsUnnoted (state_in ended).store
 
   -- what has been told is an end of all moments
   pub told_within : (a : Act) (s : State) → length s.told ≤ length upto → Through (outcome capture a s) → IsEndOf s.told upto
@@ -352,7 +351,7 @@ module _ (capture : Capture) (keep : StmtSet) (opening : RunStore) (upto : List 
         (λ early. simulate rest (close_known ground.known knows) (tell (ends n ended) s) (tell (ends m ended) t) now held_now (closed_frames (frames_after s.told) n from frames) few early (told_on through))
       where
         told_on : Through capture keep opening upto (outcome capture (close n ended a) s) → Through capture keep opening upto (outcome capture a (tell (ends n ended) s))
-        told_on through = record { rest = through.rest; told_is = through.told_is; unnoted = through.unnoted }
+        told_on through = record { rest = through.rest; told_is = through.told_is }
     simulate (alone_close {n = n} {from = from} {ended = ended} {a = a} {b = b} out rest) knows s t related holds frames few before through =
         let held_now : Holds opening OnlyKept ground.known (tell (ends n ended) s) t = record { here = record { map_is = holds.here.map_is; kinds_are = holds.here.kinds_are }; there = record { map_is = holds.there.map_is; kinds_are = holds.there.kinds_are }; askings = holds.askings; knows = holds.knows } in
         let now : Related capture ground.paired ground.known keep upto (tell (ends n ended) s) t = alone_end_related laws capture ground.paired ground.known keep upto n 0 s t related ended out in
@@ -360,7 +359,7 @@ module _ (capture : Capture) (keep : StmtSet) (opening : RunStore) (upto : List 
         (λ early. simulate rest knows (tell (ends n ended) s) t now held_now (closed_frames (frames_after s.told) n from frames) few early (told_on through))
       where
         told_on : Through capture keep opening upto (outcome capture (close n ended a) s) → Through capture keep opening upto (outcome capture a (tell (ends n ended) s))
-        told_on through = record { rest = through.rest; told_is = through.told_is; unnoted = through.unnoted }
+        told_on through = record { rest = through.rest; told_is = through.told_is }
     simulate {k = suc k} (both_enter {n = n} {from = from} {at = at} {def = def} {params = params} {vs = vs} {ws = ws} {f = f} {g = g} kept same each) knows s t related holds frames few before through =
         by_left (nat_le (suc (length vs)) s.left) through (λ now by. simulate (each (suc s.entered) (suc t.entered) now by) ((enter_known ground.known knows).next (suc t.entered)) (entering at def params vs s) (entering at def params ws t))
       where
@@ -404,7 +403,7 @@ module _ (capture : Capture) (keep : StmtSet) (opening : RunStore) (upto : List 
         (λ early. simulate rest (leave_known ground.known knows) (tell (leaves v) s) (tell (leaves w) t) now held_now (left_frames (frames_after s.told) (a_statement n ∷ from) frames) few early (told_on through))
       where
         told_on : Through capture keep opening upto (outcome capture (leave v a) s) → Through capture keep opening upto (outcome capture a (tell (leaves v) s))
-        told_on through = record { rest = through.rest; told_is = through.told_is; unnoted = through.unnoted }
+        told_on through = record { rest = through.rest; told_is = through.told_is }
     simulate (alone_leave {n = n} {from = from} {v = v} {a = a} {b = b} out rest) knows s t related holds frames few before through =
         let held_now : Holds opening OnlyKept ground.known (tell (leaves v) s) t = record { here = record { map_is = holds.here.map_is; kinds_are = holds.here.kinds_are }; there = record { map_is = holds.there.map_is; kinds_are = holds.there.kinds_are }; askings = holds.askings; knows = holds.knows } in
         let now : Related capture ground.paired ground.known keep upto (tell (leaves v) s) t = alone_leave_related laws capture ground.paired ground.known keep upto v v n s t related (owner_inside s.told n from frames) out in
@@ -412,7 +411,7 @@ module _ (capture : Capture) (keep : StmtSet) (opening : RunStore) (upto : List 
         (λ early. simulate rest knows (tell (leaves v) s) t now held_now (left_frames (frames_after s.told) (a_statement n ∷ from) frames) few early (told_on through))
       where
         told_on : Through capture keep opening upto (outcome capture (leave v a) s) → Through capture keep opening upto (outcome capture a (tell (leaves v) s))
-        told_on through = record { rest = through.rest; told_is = through.told_is; unnoted = through.unnoted }
+        told_on through = record { rest = through.rest; told_is = through.told_is }
     simulate (barred_begin {n = n} {from = from} {a = a} {b = b} kept out) knows s t related holds frames few before through = by_left (nat_le 1 s.left) through
       where
         by_left : (enough : Bool) → Through capture keep opening upto (if enough then outcome capture a (beginning n s) else spent s) → Reaches (outcome capture b t)
@@ -425,7 +424,7 @@ module _ (capture : Capture) (keep : StmtSet) (opening : RunStore) (upto : List 
         absurd (false≢true (sym out ∙ asks.jumps within.front s.told n ended from within.whole_is abrupt frames top))
       where
         told_on : Through capture keep opening upto (outcome capture (close n ended a) s) → Through capture keep opening upto (outcome capture a (tell (ends n ended) s))
-        told_on through = record { rest = through.rest; told_is = through.told_is; unnoted = through.unnoted }
+        told_on through = record { rest = through.rest; told_is = through.told_is }
     simulate (unknown_perform unknown) knows s t related holds frames few before through = absurd (unknown (perform_known ground.known knows).operands)
     simulate (lost_name {n = n} {from = from} {at = at} {p = p} {vs = vs} {f = f} {b = b} {one = one} {other = other} kept on same is_one entered here there) knows s t related holds frames few before through =
         by_happened (operation capture at p vs s) refl (came_by capture at p vs s) through

@@ -181,7 +181,7 @@ module _ (laws : Laws) (flow : FlowLaws) (script : ScriptTree) (capture : Captur
       holds = record { here = record { map_is = refl; kinds_are = refl }; there = record { map_is = refl; kinds_are = refl }; askings = λ place only. refl; knows = opening_known ground.known path arguments (with_bytes capture.files) }
 
       through : Through capture keep (opening_in capture path arguments) upto (outcome capture (meaning script steps) (starting capture path arguments steps))
-      through = record { rest = rest; told_is = told_is; unnoted = plain_run.unnoted }
+      through = record { rest = rest; told_is = told_is }
 
       own : AllOwn (Owns script capture path arguments steps keep upto) upto
       own = all_own script capture path arguments steps keep upto through
