@@ -32,3 +32,7 @@ mod Bareness
 mod Activations
 mod FunctionsLeft
 mod KeptCalls
+mod ScopedPlans
+mod BoundActs
+mod BoundRules
+mod BoundNames
