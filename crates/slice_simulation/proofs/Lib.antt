@@ -36,3 +36,5 @@ mod ScopedPlans
 mod BoundActs
 mod BoundRules
 mod BoundNames
+mod BoundReads
+mod BoundRuns
