@@ -1,5 +1,5 @@
 -- In a run each operation and each Enter is of names of its own: the module's, or those of the innermost open activation; and what sets such a name binds it.
-use Rattle.std.proofs.Common.{◌≡◌, ◌≤◌, ◌<◌, ℕ, zero, suc, Bool, true, false, ◌==◌, if◌then◌else◌, List, [], ◌∷◌, ◌++◌, map, length, nat_le, Option, Some, None, ◌⊎◌, inl, inr, refl, sym, ap, ap₂, subst, ◌∙◌, arith, eqb-true, eq-eqb}
+use Rattle.std.proofs.Common.{◌≡◌, ℕ, suc, Bool, true, false, if◌then◌else◌, List, [], ◌∷◌, ◌++◌, map, length, nat_le, Option, Some, None, inl, inr, refl, sym, ap, ap₂, subst, ◌∙◌, arith}
 use Rattle.std.specs.Prelude.{⊤, ◌↔◌, IsTrue, Contains}
 use Rattle.std.specs.Option.{option_map}
 use Rattle.std.specs.List.{list_any}
@@ -13,29 +13,29 @@ use Rattle.py_tree.specs.Owners.{Around, Standing, at_module_level, within, numb
 use Rattle.py_tree.specs.Placed.{place_of, standing_on, number_on}
 use Rattle.py_tree.specs.Tree.{StmtTree, FormTree, SuiteTree, ScriptTree, one_stmt, do_form, assign_form, aug_form, del_form, pass_form, break_form, continue_form, return_form, raise_form, assert_form, import_form, if_form, while_form, for_form, try_form, with_form, def_form, class_form, end_suite, more_suite}
 use Rattle.py_value.specs.Contents.{Contents}
-use Rattle.py_value.specs.Seen.{SeenAccess, SeenKind, var_at}
+use Rattle.py_value.specs.Seen.{SeenAccess, var_at}
 use Rattle.py_model.specs.Act.{Act, Walked}
 use Rattle.py_model.specs.Agreement.{Alike}
 use Rattle.py_model.specs.AlikeOperations.{renamed_op}
 use Rattle.py_model.specs.Capture.{Capture, answers_at}
 use Rattle.py_model.specs.Effect.{Touch, accessed, looked, counted, printed, opened, noted, asked, fetched, Outcome, answered, unanswered, unpaid, Effect, accesses_in, weight, cost}
 use Rattle.py_model.specs.Going.{Open, a_statement, an_activation}
-use Rattle.py_model.specs.History.{accesses_by, entered_by}
+use Rattle.py_model.specs.History.{entered_by}
 use Rattle.py_model.specs.Meaning.{level, meaning, at_start, starting}
 use Rattle.py_model.specs.Moment.{Moment, begins, does, enters, leaves, ends, parameters_set}
-use Rattle.py_model.specs.Occurrences.{frames_after, open_of, owner_stmt}
+use Rattle.py_model.specs.Occurrences.{frames_after, open_of}
 use Rattle.py_model.specs.Operations.{Op, plan}
 use Rattle.py_model.specs.Plan.{Answer}
 use Rattle.py_model.specs.Renaming.{Renaming, renamed_list}
-use Rattle.py_model.specs.Running.{State, over, spent, lacking, state_in, Happened, did, too_dear, lacked, note, walked, performed, happened, effect_of, operation, outcome, beginning, entering, tell, askings_at}
+use Rattle.py_model.specs.Running.{State, spent, lacking, state_in, Happened, did, too_dear, lacked, note, walked, performed, happened, effect_of, operation, outcome, beginning, entering, tell, askings_at}
 use Rattle.slice_law.specs.Closed.{IsIn}
-use Rattle.slice_simulation.proofs.BoundActs.{Level, of_stmt, of_call, calls_of, opens_of, HasFunction, Fits, OwnOp, Bounds, bd_ret, bd_stop, bd_perform, bd_begin, bd_close, bd_enter, bd_leave}
-use Rattle.slice_simulation.proofs.BoundRules.{bytes_own, or_front, or_behind, Known, AllKnown, known_left, known_right, known_first, known_rest, FunctionBound, FoundBound, suite_bound, bodies_bound, levels_bound}
+use Rattle.slice_simulation.proofs.BoundActs.{Level, of_stmt, calls_of, opens_of, HasFunction, Fits, OwnOp, Bounds, bd_ret, bd_stop, bd_perform, bd_begin, bd_close, bd_enter, bd_leave}
+use Rattle.slice_simulation.proofs.BoundRules.{bytes_own, or_front, or_behind, AllKnown, known_left, known_right, known_first, known_rest, FoundBound, suite_bound, bodies_bound, levels_bound}
 use Rattle.slice_simulation.proofs.Onwards.{CameBy, came_by}
 use Rattle.slice_simulation.proofs.OwnMoments.{place_same}
 use Rattle.slice_simulation.proofs.ScopedPlans.{AllNamed, OfModule, OfName, module_named, scoped_named}
 use Rattle.slice_simulation.proofs.Simulating.{owner_in, closed_frames, left_frames}
-use Rattle.slice_simulation.specs.BoundNames.{Call, without_first, calls_after, innermost_activation, innermost_def, location_of, is_write, HasParameter, BoundBy, OwnNames, is_done}
+use Rattle.slice_simulation.specs.BoundNames.{Call, without_first, calls_after, innermost_activation, innermost_def, location_of, is_write, HasParameter, OwnNames}
 
 -- ## The functions of a script
 

@@ -1,6 +1,6 @@
 -- What set a local name that is read: a statement of the same function that binds the name, or the Enter, where the name is a parameter.
-use Rattle.std.proofs.Common.{◌≡◌, ◌≤◌, ◌<◌, ℕ, zero, suc, Bool, true, false, ◌==◌, ◌||◌, if◌then◌else◌, List, [], ◌∷◌, ◌++◌, length, Option, Some, None, ◌⊎◌, inl, inr, refl, sym, ap, subst, ◌∙◌, arith, eqb-true, eq-eqb}
-use Rattle.std.specs.Prelude.{⊤, ◌↔◌, IsTrue}
+use Rattle.std.proofs.Common.{◌≡◌, ◌≤◌, ◌<◌, ℕ, suc, Bool, true, false, ◌==◌, ◌||◌, if◌then◌else◌, List, [], ◌∷◌, length, Option, Some, None, inl, inr, refl, sym, ap, subst, ◌∙◌, arith, eqb-true, eq-eqb}
+use Rattle.std.specs.Prelude.{◌↔◌, IsTrue}
 use Rattle.std.specs.List.{list_any}
 use Rattle.std.specs.Str.{bytes_eq}
 use Rattle.std.proofs.lemmas.Bool.{false≢true, ne_eqb}
@@ -19,7 +19,7 @@ use Rattle.py_model.specs.Plan.{Answer}
 use Rattle.slice_law.specs.Closed.{IsIn}
 use Rattle.slice_law.specs.Edges.{stmt_at, function_of_stmt}
 use Rattle.slice_simulation.proofs.BoundNames.{placed_there, OwnNow, AllOwnNames}
-use Rattle.slice_simulation.specs.BoundNames.{Call, without_first, calls_after, innermost_activation, innermost_def, location_of, is_write, HasParameter, BoundBy, OwnNames, IsBoundAt, by_statement, by_parameter}
+use Rattle.slice_simulation.specs.BoundNames.{Call, without_first, calls_after, innermost_activation, innermost_def, location_of, is_write, HasParameter, OwnNames, IsBoundAt, by_statement, by_parameter}
 
 -- ## Activations by number
 

@@ -1,11 +1,10 @@
 -- What the rules give for a statement is of names that are its own: a local name is of the innermost open activation, and where it is set the statement binds it.
-use Rattle.std.proofs.Common.{◌≡◌, ◌+◌, ℕ, zero, suc, Bool, true, false, not, ◌&&◌, ◌||◌, if◌then◌else◌, List, [], ◌∷◌, ◌++◌, length, Option, Some, None, ◌⊎◌, inl, inr, refl, sym, ap, ap₂, subst, ◌∙◌, eq-eqb, rules}
+use Rattle.std.proofs.Common.{◌≡◌, ◌+◌, ℕ, zero, suc, Bool, true, false, not, ◌&&◌, ◌||◌, if◌then◌else◌, List, [], ◌∷◌, ◌++◌, length, Option, Some, None, ◌⊎◌, inl, inr, refl, ap, ap₂, ◌∙◌, eq-eqb}
 use Rattle.std.specs.Prelude.{nat_eq, nat_lt, pos, ⊤, slice_get, ◌-◌, IsTrue}
 use Rattle.std.specs.Option.{option_and_then, option_map_or}
 use Rattle.std.specs.Str.{bytes_eq}
 use Rattle.prov_base.specs.declared.place.Pos.{Pos}
 use Rattle.prov_base.specs.declared.place.Span.{Span}
-use Rattle.prov_base.specs.contracts.place.PosPartialEq.TheImpl.{ghosts as places}
 use Rattle.py_tree.specs.declared.expr.LogicOp.TheVariants.{And as Both, Or as Either}
 use Rattle.py_tree.specs.declared.expr.BinOp.{BinOp}
 use Rattle.py_tree.specs.declared.stmt.Bound.{Bound}
@@ -14,17 +13,16 @@ use Rattle.py_tree.specs.Owners.{Around, Standing, form_in, is_def, within, numb
 use Rattle.py_tree.specs.Placed.{place_of, number_on}
 use Rattle.py_tree.specs.Tree.{ExprTree, MaybeTree, ExprsTree, PairsTree, TargetTree, TargetsTree, StmtTree, FormTree, SuiteTree, BranchesTree, ElseTree, HandlersTree, ScriptTree, const_expr, var_expr, unary_expr, binary_expr, compare_expr, logic_expr, choose_expr, call_expr, attr_expr, part_expr, range_expr, list_expr, dict_expr, tuple_expr, no_expr, some_expr, end_exprs, more_exprs, end_pairs, more_pairs, var_target, part_target, field_target, many_target, end_targets, more_targets, one_stmt, do_form, assign_form, aug_form, del_form, pass_form, break_form, continue_form, return_form, raise_form, assert_form, import_form, if_form, while_form, for_form, try_form, with_form, def_form, class_form, end_suite, more_suite, end_branches, more_branches, no_else, else_suite, end_handlers, more_handlers}
 use Rattle.py_value.specs.Contents.{Contents, Parts, nothing, truth, int, text, tuple, range, function, class, exception_class, builtin, object}
-use Rattle.py_model.specs.Act.{Act, How, Walked, ret, to, normal, broke, continued, returned, threw}
+use Rattle.py_model.specs.Act.{Act, How, Walked, ret, normal, broke, continued, returned, threw}
 use Rattle.py_model.specs.Expressions.{Here, Task, body_of, while_again, for_again, scope_of, op, op_named, op_scoped, op_of, by_answer, doing, doing_or, walking, by_truth, asking_truth, eval, eval_maybe, eval_all, eval_pairs, failing, giving, left_with, inside, running, calling_function, without_init, initialising, calling_class, calling_builtin, calling_method, calling, with_receiver, calling_attribute, takes_so_many, function_arities, method_arities, not_callable, wrong_arguments, too_many_open, constant, unary_number, binary_number, compare_number}
-use Rattle.py_tree.specs.Functions.{Function, expr_place, functions_in, functions_of, functions_at, first_placed, function_at, is_local}
+use Rattle.py_tree.specs.Functions.{Function, expr_place, function_at, is_local}
 use Rattle.py_model.specs.Operations.{Op}
 use Rattle.py_model.specs.Plan.{Answer, value, raised, at_end}
 use Rattle.py_model.specs.Statements.{op_whole, module_of, on_line, handling, in_class_of, parts_in, first_of, rest_of, binding, unbinding, turned, then_so, raised_value, store, store_all, augment, unset, while_turn, for_turn, clause, caught, matching, class_body, failed_assert, defining, suite, stmt, rule, choose, otherwise, handle, task, augmented_number, count_targets}
 use Rattle.py_model.specs.Meaning.{level}
 use Rattle.slice_law.specs.Closed.{IsIn}
 use Rattle.slice_law.specs.Edges.{function_of_stmt}
-use Rattle.slice_simulation.proofs.BoundActs.{Level, of_stmt, of_call, calls_of, HasFunction, Fits, OwnOp, Bounds, bd_ret, bd_stop, bd_perform, bd_begin, bd_close, bd_enter, bd_leave, bd_to}
-use Rattle.slice_simulation.proofs.OwnMoments.{place_same}
+use Rattle.slice_simulation.proofs.BoundActs.{Level, of_stmt, of_call, calls_of, Fits, OwnOp, Bounds, bd_ret, bd_stop, bd_perform, bd_begin, bd_close, bd_enter, bd_leave, bd_to}
 use Rattle.slice_simulation.proofs.ScopedPlans.{IsScoped, loads, binds_it, unsets, imports}
 use Rattle.slice_simulation.proofs.Standing.{in_front, in_behind}
 use Rattle.slice_simulation.specs.BoundNames.{Call, innermost_activation, innermost_def}

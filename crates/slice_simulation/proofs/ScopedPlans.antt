@@ -4,15 +4,15 @@ use Rattle.std.proofs.Common.{◌≡◌, ℕ, zero, suc, Bool, true, false, if�
 use Rattle.std.specs.Prelude.{⊤, nat_lt, ◌-◌}
 use Rattle.std.proofs.lemmas.Bool.{false≢true}
 use Rattle.py_value.specs.Contents.{Contents, Parts, nothing, truth, int, text, tuple, range, function, class, exception_class, builtin, object, no_parts, part}
-use Rattle.py_value.specs.Seen.{SeenLocation, SeenContent, SeenAccess, SeenKind, a_list, a_dict, an_instance, a_file, var_at, len_at, item_at, entry_at, order_at, file_at, offset_at, closed_at, method_at, base_at, reads, sets, updates}
+use Rattle.py_value.specs.Seen.{SeenLocation, SeenAccess, SeenKind, a_list, a_dict, an_instance, a_file, var_at}
 use Rattle.py_model.specs.Agreement.{AlikeWrites, both_write, both_change, both_move, both_open, both_note, both_done, both_done_at_end, Alike, both_read_var, both_read_len, both_read_item, both_read_entry, both_read_order, both_read_file, both_read_offset, both_read_closed, both_read_method, both_read_base, both_kind, both_name, both_was_opened, both_ask, both_fetch, both_look, both_count, both_print, both_writes, both_make, both_raise, both_again, both_end, both_run_away}
 use Rattle.py_model.specs.AlikeOperations.{renamed_op}
 use Rattle.py_model.specs.Effect.{Answers, Effect, effect, written, accesses_in, lacking}
 use Rattle.py_model.specs.Names.{load, load_unset, bind, unbind, unset, unset_name, known}
 use Rattle.py_model.specs.Classes.{import_module}
 use Rattle.py_model.specs.Operations.{Op, plan, or_no_operation, or_none, language, functions, methods, is_silent}
-use Rattle.py_model.specs.Plan.{Given, Found, Writes, write, change, move, opens, notes, done, done_at_end, Plan, read_var, read_len, read_item, read_entry, read_order, read_file, read_offset, read_closed, read_method, read_base, kind_of, name_of, was_opened, ask, fetch, looks, counts, prints, writes, makes, raises, raises_again, ends, runs_away}
-use Rattle.py_model.specs.Renaming.{Renaming, renamed, renamed_parts, renamed_option, renamed_list, renamed_entry, renamed_location, renamed_content, renamed_kind}
+use Rattle.py_model.specs.Plan.{Given, Found, Writes, done, Plan, writes}
+use Rattle.py_model.specs.Renaming.{Renaming, renamed, renamed_parts, renamed_option, renamed_list, renamed_entry, renamed_location, renamed_kind}
 use Rattle.py_model.specs.Store.{RunStore, var_of, len_of, item_of, entry_of, order_of, file_of, offset_of, closed_of, method_of, base_of, has_path}
 use Rattle.slice_simulation.specs.BoundNames.{location_of, is_write}
 
