@@ -47,3 +47,9 @@ mod AloneStatements
 mod FunctionBodies
 mod NamesKept
 mod NumberedStatements
+mod ScopedPlans
+mod BoundActs
+mod BoundRules
+mod BoundNames
+mod BoundReads
+mod BoundRuns

@@ -1,5 +1,5 @@
 // Laws of two runs, each a function without a body that says it.
-ghost use Rattle.std.specs.Prelude.{◌≡◌, ◌⊎◌, ℕ, Bool, true, false, List, ◌∷◌, ◌++◌, map, Option, Some};
+ghost use Rattle.std.specs.Prelude.{◌≡◌, ◌⊎◌, ℕ, suc, Bool, true, false, List, ◌∷◌, ◌++◌, map, Option, Some};
 ghost use Rattle.std.specs.Option.{option_map};
 ghost use Rattle.py_value.specs.Changes.{has_key, with_key, without_key, changed, after_accesses};
 ghost use Rattle.py_value.specs.Contents.{Contents, object};
@@ -38,6 +38,11 @@ ghost use Rattle.slice_simulation.specs.Bare.{BareSuite};
 ghost use Rattle.py_tree.specs.Deletion.{deleted};
 ghost use Rattle.py_tree.specs.Functions.{functions_in, function_at};
 ghost use Rattle.slice_simulation.specs.Cut.{CutFunctions, FoundCut};
+ghost use Rattle.py_value.specs.Seen.{SeenKind, var_at, reads};
+ghost use Rattle.py_model.specs.Moment.{does};
+ghost use Rattle.py_model.specs.Occurrences.{reach};
+ghost use Rattle.slice_law.specs.Closed.{IsIn};
+ghost use Rattle.slice_simulation.specs.BoundNames.{OwnNames, is_done, IsBoundAt};
 
 use model_laws::{
     effects_keep_stores_known, operations_pass_functions_on, runs_keep_keys_with_entries,
@@ -47,6 +52,7 @@ use py_model::{
     corresponding_operands_have_alike_plans, few_operations_ask, few_operations_note,
     graph_texts_tell_graphs, map_changes_by_accesses, operations_agree, operations_open_tidily,
 };
+use py_tree::numbers_and_places;
 use py_value::tests_are_equality;
 
 /// The law that a renaming keeps equality: of values, of locations, of keys in a row; and that a change of a renamed content is the renamed
@@ -210,6 +216,23 @@ pub fn slices_of_bare_scripts_reproduce()
 {
     few_operations_note();
     values_are_reproduced();
+}
+
+/// The law of local names, of every run of a well formed script. A statement owns each operation and each Enter, and it is of the function of the
+/// innermost open activation. Where such a moment reads or sets a name of an activation, it is one of the innermost. What sets the name binds it: the
+/// statement does, or it is an Enter that has the name as a parameter. So what set a local name that a statement reads is of the statement's own
+/// function. No operation is taken apart but the four of names: that the others are of the module's names follows from the law of alike plans.
+pub fn local_names_are_of_their_activation()
+    ensures own { (script : ScriptTree) (capture : Capture) (path : List ℕ) (arguments : List (List ℕ)) (steps : ℕ) → IsWellFormed script → (news before : List Moment) (moment : Moment)
+        → told_by script capture path arguments steps ≡ news ++ moment ∷ before → is_done moment ≡ true → OwnNames script moment before }
+    ensures reached { (script : ScriptTree) (capture : Capture) (path : List ℕ) (arguments : List (List ℕ)) (steps : ℕ) → IsWellFormed script
+        → (news before : List Moment) (at : Pos) (number : ℕ) (values : List Contents) (answer : Answer) (made : Option SeenKind) (accesses : List SeenAccess) (weight : ℕ)
+        → told_by script capture path arguments steps ≡ news ++ does at number values answer made accesses weight ∷ before → (n : ℕ) → owner_stmt before ≡ Some n
+        → (a : ℕ) (name : List ℕ) → IsIn accesses (reads (var_at (suc a) name)) → (time : ℕ) → IsIn (reach (var_at (suc a) name) before) time → IsBoundAt script n name time before }
+{
+    tests_are_equality();
+    numbers_and_places();
+    corresponding_operands_have_alike_plans();
 }
 
 /// The law of the functions of a slice: they are functions of the script, in their order, each with its parameters, its globals and what is kept

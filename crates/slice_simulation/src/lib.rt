@@ -5,6 +5,8 @@
 //! `specs/Owned.antt` says which statement has which nodes, and when statements of two scripts stand at one place. `specs/Under.antt` says that
 //! a kept statement stands in a kept one. `specs/Simulation.antt` states the simulation, and of which runs it speaks.
 //!
+//! `specs/BoundNames.antt` says whose the names are that a moment reads and sets, and what binds them.
+//!
 //! [`slices_simulate`], [`slices_reach_the_evaluation`] and [`values_are_reproduced`] are the laws of the simulation, and
 //! [`slices_of_bare_scripts_reproduce`] says it of scripts without definitions (`specs/Bare.antt`). They do not speak of scripts
 //! with functions, and of runs that define classes.
@@ -14,7 +16,8 @@ mod laws;
 
 pub use laws::{
     accesses_keep_correspondence, atomic_values_are_reproduced, deleted_moments_keep_the_relation,
-    kept_moments_are_done_again, objects_of_both_runs_correspond, renaming_keeps_equality,
-    slices_have_functions_of_the_script, slices_of_bare_scripts_reproduce,
-    slices_reach_the_evaluation, slices_simulate, values_are_reproduced,
+    kept_moments_are_done_again, local_names_are_of_their_activation,
+    objects_of_both_runs_correspond, renaming_keeps_equality, slices_have_functions_of_the_script,
+    slices_of_bare_scripts_reproduce, slices_reach_the_evaluation, slices_simulate,
+    values_are_reproduced,
 };
