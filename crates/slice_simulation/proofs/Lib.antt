@@ -41,3 +41,4 @@ mod AloneStatements
 mod FunctionBodies
 mod NamesKept
 mod NumberedStatements
+mod ListedStatements
