@@ -42,3 +42,4 @@ mod FunctionBodies
 mod NamesKept
 mod NumberedStatements
 mod ListedStatements
+mod FunctionStatements
