@@ -53,3 +53,5 @@ mod BoundRules
 mod BoundNames
 mod BoundReads
 mod BoundRuns
+mod ListedStatements
+mod FunctionStatements
