@@ -40,20 +40,20 @@ CallerIsOut keep [] = ⊥
 CallerIsOut keep (a_statement number ∷ from) = CallerIsOut keep from
 CallerIsOut keep (an_activation ∷ from) = InnermostIs false keep from
 
--- What is known of the two scripts and their runs: which statements stand at one place, as which `def` an activation was entered, which are the
--- functions of the script, and where the slice has definitions.
+-- What is known of the two scripts and their runs: which statements stand at one place, as which `def` an activation was entered, which functions
+-- stand in both, and where the slice has definitions.
 pub record Ground : Type 1 where
   pub paired : ℕ → ℕ → Type 0
   pub entered : ℕ → Pos → Type 0
-  pub is_function : Function → Type 0
+  pub called : Function → Function → Type 0
   pub known : Pos → Bool
 
 -- the operations on a name in a scope: it is read, bound, unbound, and bound to a module
-pub data OnName : ℕ → Type 0 where
-  on_read : OnName 1
-  on_bind : OnName 33
-  on_unbind : OnName 34
-  on_import : OnName 44
+pub data OnName : ℕ → List Contents → Type 0 where
+  on_read : OnName 1 []
+  on_bind : {v : Contents} → OnName 33 (v ∷ [])
+  on_unbind : OnName 34 []
+  on_import : OnName 44 []
 
 -- it is no function and no class that is known
 abbrev pub IsUnknown : (Pos → Bool) → Contents → Type 0
@@ -101,8 +101,8 @@ module _ (ground : Ground) (keep : StmtSet) (marks : Marks) where
     unknown_perform : {k : ℕ} {from onto : List Open} {a : Act} {at : Pos} {q : Op} {ws : List Contents} {g : Answer → Walked → Act} → (KnownAll ground.known ws → ⊥)
         → Beside k from onto a (perform at q ws g)
     -- a kept statement names what is local in its function and not in what is kept of that
-    lost_name : {k n : ℕ} {from onto : List Open} {at : Pos} {p : Op} {vs : List Contents} {f : Answer → Walked → Act} {b : Act} {one other : Function} → keep n ≡ true → OnName p.no
-        → SameFunction keep one other → ground.is_function one → ground.entered p.scope one.place → is_local one p.name ≡ true → is_local other p.name ≡ false
+    lost_name : {k n : ℕ} {from onto : List Open} {at : Pos} {p : Op} {vs : List Contents} {f : Answer → Walked → Act} {b : Act} {one other : Function} → keep n ≡ true → OnName p.no vs
+        → SameFunction keep one other → ground.called one other → ground.entered p.scope one.place → is_local one p.name ≡ true → is_local other p.name ≡ false
         → Beside k (a_statement n ∷ from) onto (perform at p vs f) b
 
   pub less : (k : ℕ) {from onto : List Open} {a b : Act} → Beside (suc k) from onto a b → Beside k from onto a b
@@ -124,7 +124,7 @@ module _ (ground : Ground) (keep : StmtSet) (marks : Marks) where
   less (suc k) (alone_leave out rest) = alone_leave out (less (suc k) rest)
   less (suc k) (barred_begin kept out) = barred_begin kept out
   less (suc k) (unknown_perform unknown) = unknown_perform unknown
-  less (suc k) (lost_name kept on same is_one entered here there) = lost_name kept on same is_one entered here there
+  less (suc k) (lost_name kept on same called entered here there) = lost_name kept on same called entered here there
 
   -- one after the other
   pub beside_to : {k : ℕ} {from between onto : List Open} {a b : Act} {f g : How → Act} → Beside k from between a b
@@ -149,7 +149,7 @@ module _ (ground : Ground) (keep : StmtSet) (marks : Marks) where
   beside_to (alone_leave out rest) each = alone_leave out (beside_to rest each)
   beside_to (barred_begin kept out) each = barred_begin kept out
   beside_to (unknown_perform unknown) each = unknown_perform unknown
-  beside_to (lost_name kept on same is_one entered here there) each = lost_name kept on same is_one entered here there
+  beside_to (lost_name kept on same called entered here there) each = lost_name kept on same called entered here there
 
 -- A tree of actions of statements outside the set alone. In an activation that one of them entered no other begins.
 module _ (known : Pos → Bool) (keep : StmtSet) where

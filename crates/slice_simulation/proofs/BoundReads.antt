@@ -24,7 +24,7 @@ use Rattle.slice_simulation.specs.BoundNames.{Call, without_first, calls_after, 
 -- ## Activations by number
 
 -- the place of the function of an activation
-abbrev def_of : ℕ → List Moment → Option Pos
+abbrev pub def_of : ℕ → List Moment → Option Pos
 def_of a [] = None
 def_of a (enters at def values accesses ∷ before) = if suc (entered_by before) == a then Some def else def_of a before
 def_of a (does at number values answer made accesses weight ∷ before) = def_of a before
@@ -47,7 +47,7 @@ def_within a (ends number ended ∷ before) def is = def_within a before def is
 entered_apart : (before : List Moment) (a : ℕ) → a ≤ entered_by before → (suc (entered_by before) == a) ≡ false
 entered_apart before a most = ne_eqb (suc (entered_by before)) a (λ same. omega (arith, same, most))
 
-def_stays : (moment : Moment) (before : List Moment) (a : ℕ) (def : Pos) → def_of a before ≡ Some def → def_of a (moment ∷ before) ≡ Some def
+pub def_stays : (moment : Moment) (before : List Moment) (a : ℕ) (def : Pos) → def_of a before ≡ Some def → def_of a (moment ∷ before) ≡ Some def
 def_stays (enters at own values accesses) before a def is =
     ap (λ test. if test then Some own else def_of a before) (entered_apart before a (def_within a before def is)) ∙ is
 def_stays (does at number values answer made accesses weight) before a def is = is
@@ -77,7 +77,7 @@ pub record IsOf (script : ScriptTree) (a : ℕ) (told : List Moment) : Type 0 wh
   pub entered : def_of a told ≡ Some def
   pub number_is : innermost_def script (calls_after told) ≡ number_on script def
 
-is_of : (script : ScriptTree) (a : ℕ) (told : List Moment) → innermost_activation (calls_after told) ≡ Some a → IsOf script a told
+pub is_of : (script : ScriptTree) (a : ℕ) (told : List Moment) → innermost_activation (calls_after told) ≡ Some a → IsOf script a told
 is_of script a told is = by_calls (calls_after told) refl is
   where
     by_calls : (calls : List Call) → calls_after told ≡ calls → innermost_activation calls ≡ Some a → IsOf script a told

@@ -26,7 +26,7 @@ module _ (ground : Ground) (keep : StmtSet) (upto : List Moment) where
     -- The functions of the slice are functions of the script. Where the slice has a definition, its function is there.
     pub record FunctionsFit : Type 0 where
       pub found : (place : Pos) → FoundCut keep (function_at script place) (function_at cut place)
-      pub listed : (place : Pos) (f : Function) → function_at script place ≡ Some f → ground.is_function f
+      pub listed : (place : Pos) (f g : Function) → function_at script place ≡ Some f → function_at cut place ≡ Some g → ground.called f g
       pub defined : (place : Pos) (f : Function) → function_at script place ≡ Some f → function_at cut place ≡ None → ground.known place ≡ true → ⊥
 
     -- the suites of a function that is called in both
@@ -40,10 +40,10 @@ module _ (ground : Ground) (keep : StmtSet) (upto : List Moment) where
       failing_both : (at : Pos) {v w : Contents} {vs ws : List Contents} → Same ground keep upto v w → AllSame ground keep upto vs ws → In ground keep upto (suc k) (failing here at v vs) (failing there at w ws)
       failing_both at same all = doing_both ground keep upto here there both.line_is at (valued_op ground keep upto 38 same) all (λ x y is. ended ground keep upto both_normal)
 
-      inside_both : (f g : Function) → SameFunction keep f g → ground.is_function f → (a b : ℕ) → SameScope (all_marks keep upto) a b → ground.entered a f.place
+      inside_both : (f g : Function) → SameFunction keep f g → ground.called f g → (a b : ℕ) → SameScope (all_marks keep upto) a b → ground.entered a f.place
           → BothHere ground keep upto (inside script next here f a) (inside cut other there g b)
-      inside_both f g same is_one a b scopes entered = record {
-        functions = one_function same is_one scopes entered;
+      inside_both f g same is_called a b scopes entered = record {
+        functions = one_function same is_called scopes entered;
         open_is = ap suc both.open_is;
         line_is = both.line_is;
         handled = none_handled;
@@ -67,7 +67,7 @@ module _ (ground : Ground) (keep : StmtSet) (upto : List Moment) where
               in_if ground keep upto (nat_eq (length f.params) (length vs)) (nat_eq (length g.params) (length ws)) (ap₂ nat_eq (ap length same.params) (as_long ground keep upto all))
               (in_if ground keep upto (nat_lt here.open_activations 1000) (nat_lt there.open_activations 1000) (ap (λ n. nat_lt n 1000) both.open_is)
               (running_both ground keep upto script cut next other k here there at f g vs ws same.place same.params all
-              (λ a b is by from inner. calls (inside script next here f a) (inside cut other there g b) (inside_both f g same (fits.listed place f here_is) a b is by) place f g here_is there_is from inner) each)
+              (λ a b is by from inner. calls (inside script next here f a) (inside cut other there g b) (inside_both f g same (fits.listed place f g here_is there_is) a b is by) place f g here_is there_is from inner) each)
               (failing_both at (record { is = λ r fits. refl }) (more_same ground keep upto same_called all)))
               (failing_both at (record { is = λ r fits. refl }) (more_same ground keep upto same_called all))
 

@@ -96,7 +96,7 @@ module _ (ground : Ground) (keep : StmtSet) (upto : List Moment) where
   -- the functions in which both stand, with their activations: that of the slice is what is kept of the script's
   pub data SameFunctions : Option Function → ℕ → Option Function → ℕ → Type 0 where
     no_function : {a b : ℕ} → SameFunctions None a None b
-    one_function : {f g : Function} {a b : ℕ} → SameFunction keep f g → ground.is_function f → SameScope (all_marks keep upto) a b → ground.entered a f.place
+    one_function : {f g : Function} {a b : ℕ} → SameFunction keep f g → ground.called f g → SameScope (all_marks keep upto) a b → ground.entered a f.place
         → SameFunctions (Some f) a (Some g) b
 
   pub record BothHere (here there : Here) : Type 0 where
@@ -221,10 +221,10 @@ module _ (ground : Ground) (keep : StmtSet) (upto : List Moment) where
   asking_both {k} here there line at v w same first second = asking_on here there line at v w same (in_less k first) (in_less k second)
 
   -- An operation on a name. Where the name is local in the one function and not in what is kept of it, no run comes there.
-  pub doing_named : {k : ℕ} (number : ℕ) → OnName number → (here there : Here) → BothHere here there → (at : Pos) (name : List ℕ) {v w : Contents} {vs ws : List Contents} {go gone : Contents → Act}
+  pub doing_named : {k : ℕ} (number : ℕ) {vs : List Contents} → OnName number vs → (here there : Here) → BothHere here there → (at : Pos) (name : List ℕ) {v w : Contents} {ws : List Contents} {go gone : Contents → Act}
       → Same v w → AllSame vs ws → GoBoth (suc k) go gone
       → In (suc k) (doing here at (op_whole number (scope_of here name) name v) vs go) (doing there at (op_whole number (scope_of there name) name w) ws gone)
-  doing_named {k} number on here there both at name {v} {w} {vs} {ws} {go} {gone} same all each =
+  doing_named {k} number {vs} on here there both at name {v} {w} {ws} {go} {gone} same all each =
       by_functions here.function there.function here.activation there.activation both.functions
     where
       -- one scope in both
@@ -232,16 +232,16 @@ module _ (ground : Ground) (keep : StmtSet) (upto : List Moment) where
           → In (suc k) (doing here at (op_whole number m name v) vs go) (doing there at (op_whole number n name w) ws gone)
       with_scopes m n scopes = doing_both here there both.line_is at (record { is = λ r fits. op_same r number name m n v w (scopes r fits) (same.is r fits) }) all each
 
-      by_local : (f g : Function) (a b : ℕ) → SameFunction keep f g → ground.is_function f → SameScope (all_marks keep upto) a b → ground.entered a f.place
+      by_local : (f g : Function) (a b : ℕ) → SameFunction keep f g → ground.called f g → SameScope (all_marks keep upto) a b → ground.entered a f.place
           → (x : Bool) → is_local f name ≡ x → (y : Bool) → is_local g name ≡ y
           → In (suc k) (doing here at (op_whole number (if x then a else 0) name v) vs go) (doing there at (op_whole number (if y then b else 0) name w) ws gone)
-      by_local f g a b one is_one scopes entered true local true too = with_scopes a b scopes.is
-      by_local f g a b one is_one scopes entered false local false too = with_scopes 0 0 (λ r fits. sym r.module_stays)
-      by_local f g a b one is_one scopes entered false local true too = absurd (false≢true (sym local ∙ fewer_locals keep f g one name too))
-      by_local f g a b one is_one scopes entered true local false too = λ n from kept. lost_name kept on one is_one entered local too
+      by_local f g a b one is_called scopes entered true local true too = with_scopes a b scopes.is
+      by_local f g a b one is_called scopes entered false local false too = with_scopes 0 0 (λ r fits. sym r.module_stays)
+      by_local f g a b one is_called scopes entered false local true too = absurd (false≢true (sym local ∙ fewer_locals keep f g one name too))
+      by_local f g a b one is_called scopes entered true local false too = λ n from kept. lost_name kept on one is_called entered local too
 
       by_functions : (F G : Option Function) (a b : ℕ) → SameFunctions F a G b
           → In (suc k) (doing here at (op_whole number (scope_in F a name) name v) vs go) (doing there at (op_whole number (scope_in G b name) name w) ws gone)
       by_functions _ _ a b no_function = with_scopes 0 0 (λ r fits. sym r.module_stays)
-      by_functions _ _ _ _ (one_function {f} {g} {a} {b} one is_one scopes entered) =
-          by_local f g a b one is_one scopes entered (is_local f name) refl (is_local g name) refl
+      by_functions _ _ _ _ (one_function {f} {g} {a} {b} one is_called scopes entered) =
+          by_local f g a b one is_called scopes entered (is_local f name) refl (is_local g name) refl

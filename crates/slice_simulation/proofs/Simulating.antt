@@ -143,8 +143,8 @@ module _ (capture : Capture) (keep : StmtSet) (opening : RunStore) (upto : List 
         → ground.entered (length (activations_after keep before)) def
     -- what a kept statement names is local in what is kept of its function, or not local in its function
     pub names : (news : List Moment) (at : Pos) (p : Op) (vs : List Contents) (s u : State) (answer : Answer) (came : Walked) (n : ℕ) (one other : Function)
-        → operation capture at p vs s ≡ did answer came u → upto ≡ news ++ u.told → owner_stmt s.told ≡ Some n → keep n ≡ true → OnName p.no
-        → SameFunction keep one other → ground.is_function one → ground.entered p.scope one.place → is_local one p.name ≡ true → is_local other p.name ≡ false → ⊥
+        → operation capture at p vs s ≡ did answer came u → upto ≡ news ++ u.told → owner_stmt s.told ≡ Some n → keep n ≡ true → OnName p.no vs
+        → SameFunction keep one other → ground.called one other → ground.entered p.scope one.place → is_local one p.name ≡ true → is_local other p.name ≡ false → ⊥
 
   module _ (laws : Laws) (flow : FlowLaws) (asks : AsksKept) where
     abbrev pub marks : Marks
@@ -426,7 +426,7 @@ module _ (capture : Capture) (keep : StmtSet) (opening : RunStore) (upto : List 
         told_on : Through capture keep opening upto (outcome capture (close n ended a) s) → Through capture keep opening upto (outcome capture a (tell (ends n ended) s))
         told_on through = record { rest = through.rest; told_is = through.told_is }
     simulate (unknown_perform unknown) knows s t related holds frames few before through = absurd (unknown (perform_known ground.known knows).operands)
-    simulate (lost_name {n = n} {from = from} {at = at} {p = p} {vs = vs} {f = f} {b = b} {one = one} {other = other} kept on same is_one entered here there) knows s t related holds frames few before through =
+    simulate (lost_name {n = n} {from = from} {at = at} {p = p} {vs = vs} {f = f} {b = b} {one = one} {other = other} kept on same called entered here there) knows s t related holds frames few before through =
         by_happened (operation capture at p vs s) refl (came_by capture at p vs s) through
       where
         by_happened : (h : Happened) → operation capture at p vs s ≡ h → CameBy at p vs (effect_of capture at p vs s) s h
@@ -435,4 +435,4 @@ module _ (capture : Capture) (keep : StmtSet) (opening : RunStore) (upto : List 
         by_happened (lacked u) is came through = absurd (not_yet capture keep opening upto s came.0 before through)
         by_happened (did answer came u) is told through =
             let within : IsEndOf u.told upto = told_within capture keep opening upto (f answer came) u (omega (arith, ap length told.told_is, before)) through in
-            absurd (asks.names within.front at p vs s u answer came n one other is within.whole_is (owner_in s.told n from frames) kept on same is_one entered here there)
+            absurd (asks.names within.front at p vs s u answer came n one other is within.whole_is (owner_in s.told n from frames) kept on same called entered here there)

@@ -19,7 +19,9 @@ use Rattle.slice_simulation.proofs.Closedness.{reach_in, reads_kept, jumps_kept,
 use Rattle.py_tree.specs.Functions.{Function, functions_in, first_placed, function_at}
 use Rattle.slice_simulation.proofs.Functionless.{none_in}
 use Rattle.slice_simulation.proofs.Happenings.{Laws}
-use Rattle.slice_simulation.proofs.Entered.{entered_as, entered_stays, entered_now, entered_count}
+use Rattle.slice_simulation.proofs.Entered.{entered_stays, entered_now, entered_count}
+use Rattle.slice_simulation.proofs.BoundNames.{placed_there}
+use Rattle.slice_simulation.proofs.BoundReads.{def_of}
 use Rattle.slice_simulation.proofs.FunctionsLeft.{function_found}
 use Rattle.slice_simulation.proofs.KeptOperations.{BothHere, no_class, none_handled, no_function}
 use Rattle.slice_simulation.proofs.KeptExpressions.{FunctionsFit}
@@ -85,15 +87,6 @@ module _ (laws : Laws) (r : Renaming) where
       lengths : SeenLocation → Option SeenContent
       lengths = put (len_at 0) (len_is (length arguments + 1)) (with_items 0 0 (path ∷ arguments) (with_files files unset))
 
--- what is found at a place stands there
-placed_there : (place : Pos) (fs : List Function) (f : Function) → first_placed place fs ≡ Some f → f.place ≡ place
-placed_there place [] f is = absurd cc
-placed_there place (g ∷ fs) f is = by_test (places.eq g.place place) refl is (placed_there place fs f)
-  where
-    by_test : (test : Bool) → places.eq g.place place ≡ test → (if test then Some g else first_placed place fs) ≡ Some f → (first_placed place fs ≡ Some f → f.place ≡ place) → f.place ≡ place
-    by_test true same is later = let one : g ≡ f = cc in ap (λ (f : Function). f.place) (sym one) ∙ place_same g.place place same
-    by_test false apart is later = later is
-
 some_or_none : (f : Function) → ◌≡◌ {A = Option Function} (Some f) None → ⊥
 some_or_none f is = cc
 
@@ -105,8 +98,8 @@ module _ (laws : Laws) (flow : FlowLaws) (script : ScriptTree) (capture : Captur
   abbrev ground : Ground
   ground = record {
     paired = SamePlace script (deleted keep script);
-    entered = λ a def. entered_as a upto ≡ Some def;
-    is_function = λ f. function_at script f.place ≡ Some f;
+    entered = λ a def. def_of a upto ≡ Some def;
+    called = λ f g. (function_at script f.place ≡ Some f) × (function_at (deleted keep script) f.place ≡ Some g);
     known = defines (deleted keep script);
   }
 
@@ -128,7 +121,10 @@ module _ (laws : Laws) (flow : FlowLaws) (script : ScriptTree) (capture : Captur
   fits : FunctionsFit ground keep upto script (deleted keep script)
   fits = record {
     found = function_found keep script well;
-    listed = λ place f is. subst (λ at. function_at script at ≡ Some f) (sym (placed_there place (functions_in script.body) f is)) is;
+    listed = λ place f g is there_is. (
+      subst (λ at. function_at script at ≡ Some f) (sym (placed_there script place (functions_in script.body) f is)) is,
+      subst (λ at. function_at (deleted keep script) at ≡ Some g) (sym (placed_there script place (functions_in script.body) f is)) there_is,
+    );
     defined = λ place f is gone known. some_or_none (callee_found keep script well under place f is known).0 (sym (callee_found keep script well under place f is known).1 ∙ gone);
   }
 
@@ -193,10 +189,10 @@ module _ (laws : Laws) (flow : FlowLaws) (script : ScriptTree) (capture : Captur
         calls = calls_kept keep script (opening_in capture path arguments) upto closed;
         asking = asking_kept script capture path arguments steps keep upto well.apart own;
         asking_out = asking_apart script capture path arguments steps keep upto own;
-        enters = λ news before at def vs accesses is. subst (λ told. entered_as (length (activations_after keep before)) told ≡ Some def) (sym is)
-            (subst (λ a. entered_as a (news ++ enters at def vs accesses ∷ before) ≡ Some def) (sym (entered_count keep before))
-            (entered_stays news (enters at def vs accesses ∷ before) (suc (entered_by before)) def (omega arith) (entered_now at def vs accesses before)));
-        names = λ news at p vs s u answer came n one other happens is owner kept on same is_one entered here there. some_or_none one (sym is_one ∙ none_in keep script plain_run.functionless one.place);
+        enters = λ news before at def vs accesses is. subst (λ told. def_of (length (activations_after keep before)) told ≡ Some def) (sym is)
+            (subst (λ a. def_of a (news ++ enters at def vs accesses ∷ before) ≡ Some def) (sym (entered_count keep before))
+            (entered_stays news (enters at def vs accesses ∷ before) (suc (entered_by before)) def (entered_now at def vs accesses before)));
+        names = λ news at p vs s u answer came n one other happens is owner kept on same called entered here there. some_or_none one (sym called.0 ∙ none_in keep script plain_run.functionless one.place);
       }
 
       by_reached : Reaches capture keep (opening_in capture path arguments) upto (OnlyKept script capture path arguments steps keep upto) ground (outcome capture (meaning (deleted keep script) budget) (starting capture path arguments budget))
