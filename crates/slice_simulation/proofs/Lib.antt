@@ -10,6 +10,7 @@ pub mod Onwards
 pub mod Beside
 mod Knowing
 mod Entered
+mod NamesUsed
 mod KnownNames
 mod UnknownNames
 mod StartsFound

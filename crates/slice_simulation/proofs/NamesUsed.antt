@@ -1,0 +1,182 @@
+-- No kept statement of a run uses a name that is local in its function and not in what is kept of that. What such a name was set by, or the first
+-- statement that binds it, would be kept.
+use Rattle.std.proofs.Common.{◌≡◌, ℕ, zero, suc, Bool, true, false, ◌==◌, if◌then◌else◌, ◌⊎◌, List, [], ◌∷◌, ◌++◌, Option, Some, None, option_map, inl, inr, refl, sym, ap, ap₂, subst, ◌∙◌, arith, append_assoc, eqb-true}
+use Rattle.std.specs.List.{list_any}
+use Rattle.std.specs.Str.{bytes_eq}
+use Rattle.std.proofs.lemmas.Bool.{false≢true}
+use Rattle.prov_base.specs.declared.place.Pos.{Pos}
+use Rattle.py_tree.specs.Binds.{binds}
+use Rattle.py_tree.specs.Functions.{Function, function_at, is_local}
+use Rattle.py_tree.specs.Owners.{Standing, number_at, statements, standing_at}
+use Rattle.py_tree.specs.Placed.{place_of, standing_on, number_on}
+use Rattle.py_tree.specs.Tree.{ScriptTree}
+use Rattle.py_tree.specs.WellFormed.{IsWellFormed}
+use Rattle.py_value.specs.Contents.{Contents}
+use Rattle.py_value.specs.Seen.{SeenLocation, SeenAccess, SeenKind, var_at, reads}
+use Rattle.py_model.specs.Act.{Walked}
+use Rattle.py_model.specs.Capture.{Capture, opening_in, answers_at}
+use Rattle.py_model.specs.Effect.{Answers, effect, accesses_in, weight}
+use Rattle.py_model.specs.History.{entered_by}
+use Rattle.py_model.specs.Moment.{Moment, begins, does, enters, leaves, ends}
+use Rattle.py_model.specs.Names.{unbind}
+use Rattle.py_model.specs.Occurrences.{reach, owner_stmt}
+use Rattle.py_model.specs.Operations.{Op, is_silent, plan}
+use Rattle.py_model.specs.Plan.{Answer}
+use Rattle.py_model.specs.Running.{State, did, askings_at, effect_of, operation}
+use Rattle.py_model.specs.Store.{RunStore}
+use Rattle.slice_law.specs.Closed.{StmtSet, IsIn, IsClosed}
+use Rattle.slice_law.specs.Edges.{stmt_at, function_of_stmt, first_binder}
+use Rattle.slice_law.specs.Slices.{told_by}
+use Rattle.slice_simulation.proofs.Beside.{OnName, on_read, on_bind, on_unbind, on_import}
+use Rattle.slice_simulation.proofs.BoundReads.{def_of, IsOf, is_of}
+use Rattle.slice_simulation.proofs.BoundRuns.{NameLaws, own_names, reached_bound}
+use Rattle.slice_simulation.proofs.Closedness.{reached_kept, binder_kept}
+use Rattle.slice_simulation.proofs.Entered.{entered_stays}
+use Rattle.slice_simulation.proofs.Onwards.{Came, CameBy, came_by}
+use Rattle.slice_simulation.specs.BoundNames.{OwnNames, location_of, is_write, IsBoundAt, by_statement, by_parameter}
+
+-- A name that is local in a function, and not in what is kept of it: no parameter, no kept statement binds it, and the first one that does is not kept.
+pub record IsLost (keep : StmtSet) (script : ScriptTree) (f : Function) (number : ℕ) (name : List ℕ) : Type 0 where
+  pub no_param : list_any (bytes_eq name) f.params ≡ false
+  pub unbound : (s : ℕ) → function_of_stmt script s ≡ Some number → keep s ≡ true → binds script s name ≡ false
+  pub binder : ℕ
+  pub first : first_binder (Some number) name (statements script) ≡ Some binder
+  pub out : keep binder ≡ false
+
+-- an operation on a name reads or sets it in its scope
+record UsesName (store : RunStore) (answers : Answers) (p : Op) (vs : List Contents) : Type 0 where
+  access : SeenAccess
+  there : IsIn (accesses_in (effect store answers (plan p vs)).touches) access
+  place_is : location_of access ≡ var_at p.scope p.name
+  how : (is_write access ≡ true) ⊎ (access ≡ reads (var_at p.scope p.name))
+
+uses_name : (store : RunStore) (answers : Answers) (number : ℕ) (vs : List Contents) → OnName number vs → (scope : ℕ) (name : List ℕ) (v : Contents)
+    → UsesName store answers (record { no = number; scope = scope; name = name; value = v }) vs
+uses_name store answers _ _ on_read scope name v = record { access = _; there = inl refl; place_is = refl; how = inr refl }
+uses_name store answers _ _ on_bind scope name v = record { access = _; there = inl refl; place_is = refl; how = inl refl }
+uses_name store answers _ _ on_import scope name v = record { access = _; there = inl refl; place_is = refl; how = inl refl }
+uses_name store answers _ _ on_unbind scope name v = record { access = reads (var_at scope name); there = by_silent (is_silent v); place_is = refl; how = inr refl }
+  where
+    by_silent : (silent : Bool) → IsIn (accesses_in (effect store answers (unbind silent scope name)).touches) (reads (var_at scope name))
+    by_silent true = inl refl
+    by_silent false = inl refl
+
+-- the module's activation was not entered
+def_zero : (told : List Moment) (def : Pos) → def_of 0 told ≡ Some def → ⊥
+def_zero [] def is = absurd cc
+def_zero (enters at own values accesses ∷ before) def is = by_test (suc (entered_by before) == 0) refl is (def_zero before def)
+  where
+    by_test : (test : Bool) → (suc (entered_by before) == 0) ≡ test → (if test then Some own else def_of 0 before) ≡ Some def → (def_of 0 before ≡ Some def → ⊥) → ⊥
+    by_test true same is later = omega (arith, eqb-true (suc (entered_by before)) 0 same)
+    by_test false apart is later = later is
+def_zero (does at number values answer made accesses weight ∷ before) def is = def_zero before def is
+def_zero (begins n ∷ before) def is = def_zero before def is
+def_zero (leaves v ∷ before) def is = def_zero before def is
+def_zero (ends n ended ∷ before) def is = def_zero before def is
+
+same_some : {A : Type 0} (x y : A) → Some x ≡ Some y → x ≡ y
+same_some x y is = cc
+
+module _ (laws : NameLaws) (script : ScriptTree) (well : IsWellFormed script) where
+  -- a number is of one place
+  record AtPlace (number : ℕ) (place : Pos) : Type 0 where
+    one : Standing
+    found : standing_at script number ≡ Some one
+    place_is : place_of one ≡ place
+
+  at_place : (number : ℕ) (place : Pos) → number_on script place ≡ Some number → AtPlace number place
+  at_place number place is = by_found (standing_on script place) refl is
+    where
+      by_found : (found : Option Standing) → standing_on script place ≡ found → option_map number_at found ≡ Some number → AtPlace number place
+      by_found None there is = absurd cc
+      by_found (Some x) there is =
+          let parts = (laws.standings script well place x).0 there in
+          record { one = x; found = (laws.numbers script well number x).1 (parts.0, same_some (number_at x) number is); place_is = parts.1 }
+
+  one_place : (number : ℕ) (p q : Pos) → number_on script p ≡ Some number → number_on script q ≡ Some number → p ≡ q
+  one_place number p q here there =
+      let one : AtPlace number p = at_place number p here in
+      let other : AtPlace number q = at_place number q there in
+      sym one.place_is ∙ (ap place_of (same_some one.one other.one (sym one.found ∙ other.found)) ∙ other.place_is)
+
+  module _ (capture : Capture) (path : List ℕ) (arguments : List (List ℕ)) (steps : ℕ) (keep : StmtSet) (upto : List Moment) (closed : IsClosed script (opening_in capture path arguments) upto keep)
+      (rest : List Moment) (told_is : told_by script capture path arguments steps ≡ rest ++ upto) where
+    module _ (news : List Moment) (at : Pos) (p : Op) (vs : List Contents) (s u : State) (answer : Answer) (came : Walked) (n : ℕ) (f : Function) (number : ℕ)
+        (happens : operation capture at p vs s ≡ did answer came u) (upto_is : upto ≡ news ++ u.told) (owner : owner_stmt s.told ≡ Some n) (kept : keep n ≡ true) (on : OnName p.no vs)
+        (f_is : function_at script f.place ≡ Some f) (number_is : number_on script f.place ≡ Some number) (lost : IsLost keep script f number p.name) where
+      came_so : Came at p vs (effect_of capture at p vs s) s answer u
+      came_so = subst (CameBy at p vs (effect_of capture at p vs s) s) happens (came_by capture at p vs s)
+
+      abbrev made : Option SeenKind
+      made = (effect_of capture at p vs s).made
+
+      abbrev accesses : List SeenAccess
+      accesses = accesses_in (effect_of capture at p vs s).touches
+
+      abbrev size : ℕ
+      size = weight (effect_of capture at p vs s)
+
+      abbrev moment : Moment
+      moment = does at p.no vs answer made accesses size
+
+      whole : upto ≡ news ++ moment ∷ s.told
+      whole = upto_is ∙ ap (λ (told : List Moment). news ++ told) came_so.told_is
+
+      told_whole : told_by script capture path arguments steps ≡ (rest ++ news) ++ moment ∷ s.told
+      told_whole = told_is ∙ (ap (λ (told : List Moment). rest ++ told) whole ∙ sym (append_assoc rest news (moment ∷ s.told)))
+
+      own : OwnNames script moment s.told
+      own = own_names laws script capture path arguments steps well (rest ++ news) s.told moment told_whole refl
+
+      own_is : own.owner ≡ n
+      own_is = same_some own.owner n (sym own.owner_is ∙ owner)
+
+      uses : UsesName s.store (answers_at capture at (suc (askings_at at s.askings))) p vs
+      uses = uses_name s.store (answers_at capture at (suc (askings_at at s.askings))) p.no vs on p.scope p.name p.value
+
+      by_scope : (scope : ℕ) → p.scope ≡ scope → def_of p.scope upto ≡ Some f.place → ⊥
+      by_scope zero is entered = def_zero upto f.place (subst (λ a. def_of a upto ≡ Some f.place) is entered)
+      by_scope (suc a) is entered = by_how uses.how
+        where
+          place_is : location_of uses.access ≡ var_at (suc a) p.name
+          place_is = uses.place_is ∙ ap (λ scope. var_at scope p.name) is
+
+          one : IsOf script (suc a) s.told
+          one = is_of script (suc a) s.told (own.each uses.access uses.there a p.name place_is).0
+
+          def_is : one.def ≡ f.place
+          def_is = same_some one.def f.place
+              (sym (ap (def_of (suc a)) (whole ∙ sym (append_assoc news (moment ∷ []) s.told)) ∙ entered_stays (news ++ moment ∷ []) s.told (suc a) one.def one.entered)
+              ∙ subst (λ scope. def_of scope upto ≡ Some f.place) is entered)
+
+          function_is : function_of_stmt script n ≡ Some number
+          function_is = ap (function_of_stmt script) (sym own_is) ∙ (own.function_is ∙ (one.number_is ∙ (ap (number_on script) def_is ∙ number_is)))
+
+          read_there : uses.access ≡ reads (var_at p.scope p.name) → IsIn accesses (reads (var_at (suc a) p.name))
+          read_there same = subst (λ scope. IsIn accesses (reads (var_at scope p.name))) is (subst (IsIn accesses) same uses.there)
+
+          by_bound : IsIn accesses (reads (var_at (suc a) p.name)) → (time : ℕ) → IsIn (reach (var_at (suc a) p.name) s.told) time → IsBoundAt script n p.name time s.told → ⊥
+          by_bound there time reached (by_statement m stmt_is binds_it same) =
+              false≢true (sym (lost.unbound m (same ∙ function_is)
+              (reached_kept keep script (opening_in capture path arguments) upto closed news s.told at p.no vs answer made accesses size n (var_at (suc a) p.name) time m whole owner kept there reached stmt_is)) ∙ binds_it)
+          by_bound there time reached (by_parameter g g_is same is_one) =
+              let places_are : g.place ≡ f.place = one_place number g.place f.place (same ∙ function_is) number_is in
+              let same_function : g ≡ f = same_some g f (sym g_is ∙ (ap (function_at script) places_are ∙ f_is)) in
+              false≢true (sym lost.no_param ∙ subst (λ (h : Function). list_any (bytes_eq p.name) h.params ≡ true) same_function is_one)
+
+          by_reach : IsIn accesses (reads (var_at (suc a) p.name)) → (times : List ℕ) → reach (var_at (suc a) p.name) s.told ≡ times → ⊥
+          by_reach there [] none =
+              false≢true (sym lost.out ∙ binder_kept keep script (opening_in capture path arguments) upto closed news s.told at p.no vs answer made accesses size n a lost.binder p.name whole owner kept there none
+              (ap (λ found. first_binder found p.name (statements script)) function_is ∙ lost.first))
+          by_reach there (time ∷ times) some =
+              let reached : IsIn (reach (var_at (suc a) p.name) s.told) time = subst (λ times. IsIn times time) (sym some) (inl refl) in
+              by_bound there time reached
+              (reached_bound laws script capture path arguments steps well (rest ++ news) s.told at p.no vs answer made accesses size told_whole n owner a p.name there time reached)
+
+          by_how : (is_write uses.access ≡ true) ⊎ (uses.access ≡ reads (var_at p.scope p.name)) → ⊥
+          by_how (inl writes) =
+              false≢true (sym (lost.unbound n function_is kept) ∙ subst (λ m. binds script m p.name ≡ true) own_is ((own.each uses.access uses.there a p.name place_is).1 writes))
+          by_how (inr same) = by_reach (read_there same) (reach (var_at (suc a) p.name) s.told) refl
+
+      pub never_lost : def_of p.scope upto ≡ Some f.place → ⊥
+      never_lost entered = by_scope p.scope refl entered
