@@ -11,6 +11,7 @@ pub mod Beside
 mod Knowing
 mod Entered
 mod NamesUsed
+mod StartsListed
 mod KnownNames
 mod UnknownNames
 mod StartsFound
