@@ -43,3 +43,4 @@ mod NamesKept
 mod NumberedStatements
 mod ListedStatements
 mod FunctionStatements
+mod LocalNames

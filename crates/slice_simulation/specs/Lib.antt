@@ -6,3 +6,4 @@ pub mod Owned
 pub mod Atomic
 pub mod Bare
 pub mod Cut
+pub mod Classes
