@@ -44,3 +44,4 @@ mod NumberedStatements
 mod ListedStatements
 mod FunctionStatements
 mod LocalNames
+mod Binders
