@@ -45,3 +45,4 @@ mod ListedStatements
 mod FunctionStatements
 mod LocalNames
 mod Binders
+mod LostNames
