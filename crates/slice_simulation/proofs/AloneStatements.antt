@@ -1,5 +1,5 @@
 -- At the place of a statement outside a set, but of the first of an emptied suite, nothing starts in the slice.
-use Rattle.std.proofs.Common.{◌≡◌, ℕ, ◌+◌, Bool, true, false, if◌then◌else◌, ◌⊎◌, List, [], ◌∷◌, ◌++◌, inl, inr, refl, sym, ap, subst, ◌∙◌}
+use Rattle.std.proofs.Common.{◌≡◌, ℕ, ◌+◌, Bool, true, false, if◌then◌else◌, ◌⊎◌, List, [], ◌∷◌, ◌++◌, inl, inr, refl, ap, subst}
 use Rattle.prov_base.specs.declared.place.Pos.{Pos}
 use Rattle.py_tree.specs.Deletion.{or_pass, kept_suite, kept_stmt, kept_form, kept_branches, kept_else, kept_handlers, deleted}
 use Rattle.py_tree.specs.Numbering.{size_stmt, size_suite, size_branches, numbered_suite, numbered_stmt, numbered_form, numbered_branches, numbered_else, numbered_handlers}
@@ -7,9 +7,9 @@ use Rattle.py_tree.specs.Places.{suite_starts, stmt_starts, form_starts, branche
 use Rattle.py_tree.specs.Tree.{number_of, StmtTree, FormTree, SuiteTree, BranchesTree, ElseTree, HandlersTree, ScriptTree, one_stmt, do_form, assign_form, aug_form, del_form, pass_form, break_form, continue_form, return_form, raise_form, assert_form, import_form, if_form, while_form, for_form, try_form, with_form, def_form, class_form, end_suite, more_suite, end_branches, more_branches, no_else, else_suite, end_handlers, more_handlers}
 use Rattle.py_tree.specs.WellFormed.{IsWellFormed}
 use Rattle.slice_law.specs.Closed.{StmtSet, IsIn}
-use Rattle.slice_simulation.proofs.EmptiedSuites.{lone_of, lone_suite, lone_stmt, lone_form, lone_branches, lone_else, lone_handlers, lone_body, lone_of_starts, suite_lone, stmt_lone, form_lone, branches_lone, else_lone, handlers_lone, or_pass_starts, suite_left, stmt_left, form_left, branches_left, else_left, handlers_left}
+use Rattle.slice_simulation.proofs.EmptiedSuites.{lone_of, lone_suite, lone_stmt, lone_form, lone_branches, lone_else, lone_handlers, lone_of_starts, suite_lone, stmt_lone, form_lone, branches_lone, else_lone, handlers_lone, or_pass_starts, suite_left, stmt_left, branches_left, else_left, handlers_left}
 use Rattle.slice_simulation.proofs.Standing.{AllOwned, in_front, in_behind}
-use Rattle.slice_simulation.proofs.StartsOnce.{either_in, starts_of, start_in, suite_started, form_started, apart_at, ascending_front, ascending_behind}
+use Rattle.slice_simulation.proofs.StartsOnce.{either_in, start_in, suite_started, form_started, apart_at, ascending_front, ascending_behind}
 use Rattle.slice_simulation.specs.Owned.{started_suite, started_stmt, started_form, started_branches, started_else, started_handlers}
 
 module _ (keep : StmtSet) (place : Pos) (s n : ℕ) where

@@ -1,5 +1,5 @@
 -- The functions of a slice and their suites: a function whose `def` is kept is there, with what its suite has in both scripts.
-use Rattle.std.proofs.Common.{◌≡◌, ℕ, ◌+◌, Bool, true, false, if◌then◌else◌, ◌⊎◌, List, [], ◌∷◌, ◌++◌, Option, Some, None, inl, inr, refl, sym, ap, subst, ◌∙◌, rules}
+use Rattle.std.proofs.Common.{◌≡◌, ℕ, ◌+◌, Bool, true, false, if◌then◌else◌, ◌⊎◌, List, [], ◌∷◌, ◌++◌, Option, Some, inl, inr, refl, sym, ap, subst, ◌∙◌, rules}
 use Rattle.std.proofs.lemmas.Bool.{false≢true}
 use Rattle.prov_base.specs.declared.place.Pos.{Pos}
 use Rattle.prov_base.specs.declared.place.Span.{Span}
@@ -11,7 +11,7 @@ use Rattle.py_tree.specs.Tree.{number_of, ExprTree, StmtTree, FormTree, SuiteTre
 use Rattle.py_tree.specs.WellFormed.{IsWellFormed}
 use Rattle.model_laws.specs.Defined.{defined_suite, defined_stmt, defined_form, defines}
 use Rattle.slice_law.specs.Closed.{StmtSet, IsIn}
-use Rattle.slice_simulation.proofs.EmptiedSuites.{lone_of, lone_suite, lone_stmt, lone_form, lone_body}
+use Rattle.slice_simulation.proofs.EmptiedSuites.{lone_of, lone_suite, lone_stmt, lone_body}
 use Rattle.slice_simulation.proofs.FunctionsLeft.{function_found}
 use Rattle.slice_simulation.proofs.OutsideStatements.{deleted_outside, emptied_outside}
 use Rattle.slice_simulation.proofs.OwnMoments.{place_same}
@@ -20,7 +20,7 @@ use Rattle.slice_simulation.proofs.StartsOnce.{either_in, one_start}
 use Rattle.slice_simulation.proofs.StayingDefinitions.{in_defined, defined_kept}
 use Rattle.slice_simulation.specs.Cut.{SameFunction, FoundCut}
 use Rattle.slice_simulation.specs.Owned.{started_suite, started_stmt, started_form}
-use Rattle.slice_simulation.specs.Under.{UnderSuite, UnderStmt, UnderForm}
+use Rattle.slice_simulation.specs.Under.{UnderSuite, UnderStmt}
 
 -- its `def` starts among these and defines among those; and so do the statements of its suite
 record DefAmong (starts : List (ℕ × Pos)) (defined : List Pos) (f : Function) : Type 0 where
@@ -221,8 +221,11 @@ module _ (keep : StmtSet) (f : Function) where
       number = number;
       starts_is = inl (ap (λ (x : Function). (number, x.place)) is);
       under = λ kept. subst (λ (x : Function). UnderSuite keep true x.body) is (subst (λ test. UnderSuite keep test body) kept under.1);
-      stays = λ kept m. record { one = record { place = at; params = params; globals = globals; body = numbered_suite (m + 1) (or_pass body (kept_suite keep body)) };
-        there = inl refl; at_place = ap (λ (x : Function). x.place) is };
+      stays = λ kept m. record {
+        one = record { place = at; params = params; globals = globals; body = numbered_suite (m + 1) (or_pass body (kept_suite keep body)) };
+        there = inl refl;
+        at_place = ap (λ (x : Function). x.place) is;
+      };
       alone = λ kept n p one. subst (λ test. IsIn (if test then lone_body keep body else (number, at) ∷ started_suite body) (n, p)) (sym kept)
           (subst (λ (x : Function). IsIn (lone_body keep x.body) (n, p)) (sym is) one);
     }

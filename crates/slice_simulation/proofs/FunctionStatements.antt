@@ -1,12 +1,12 @@
 -- The statements of a function are those that stand in the `def` with its number, and no other.
-use Rattle.std.proofs.Common.{◌≡◌, ◌≤◌, ◌<◌, ℕ, ◌+◌, Bool, true, false, if◌then◌else◌, ◌⊎◌, List, [], ◌∷◌, ◌++◌, Option, Some, None, inl, inr, refl, sym, ap, subst, ◌∙◌, arith}
+use Rattle.std.proofs.Common.{◌≡◌, ◌<◌, ℕ, ◌+◌, Bool, false, ◌⊎◌, List, ◌∷◌, Some, None, inl, inr, refl, sym, ap, subst, ◌∙◌, arith}
 use Rattle.std.specs.Option.{option_map_or}
 use Rattle.prov_base.specs.declared.place.Pos.{Pos}
 use Rattle.prov_base.specs.declared.place.Span.{Span}
 use Rattle.py_tree.specs.Binds.{is_class}
 use Rattle.py_tree.specs.Functions.{Function, functions_in, functions_of, functions_at}
-use Rattle.py_tree.specs.Numbering.{size_stmt, size_suite, numbered_suite, numbered_stmt, numbered_form}
-use Rattle.py_tree.specs.Owners.{Around, Standing, form_in, number_at, within, listed_stmt, listed_form, listed_suite}
+use Rattle.py_tree.specs.Numbering.{size_stmt, size_suite, numbered_suite, numbered_stmt}
+use Rattle.py_tree.specs.Owners.{Around, Standing, form_in, within, listed_stmt, listed_suite}
 use Rattle.py_tree.specs.Placed.{place_of}
 use Rattle.py_tree.specs.Tree.{StmtTree, FormTree, SuiteTree, one_stmt, do_form, assign_form, aug_form, del_form, pass_form, break_form, continue_form, return_form, raise_form, assert_form, import_form, if_form, while_form, for_form, try_form, with_form, def_form, class_form, end_suite, more_suite}
 use Rattle.slice_law.specs.Closed.{IsIn}
@@ -14,7 +14,7 @@ use Rattle.slice_simulation.proofs.ListedStatements.{FromFunction, around_all, s
 use Rattle.slice_simulation.proofs.NumberedStatements.{IsAmong, suite_among, stmt_among}
 use Rattle.slice_simulation.proofs.Standing.{in_front, in_behind}
 use Rattle.slice_simulation.proofs.StartsOnce.{either_in}
-use Rattle.slice_simulation.specs.Owned.{started_suite, started_stmt, started_form}
+use Rattle.slice_simulation.specs.Owned.{started_suite, started_stmt}
 
 abbrev pub owner_is_class : Around → Bool
 owner_is_class around = option_map_or (λ owner. is_class (form_in owner)) around.owner false

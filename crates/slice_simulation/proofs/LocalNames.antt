@@ -1,25 +1,23 @@
 -- A name that a kept statement of a function binds is bound in the slice's function too.
-use Rattle.std.proofs.Common.{◌≡◌, ℕ, ◌+◌, Bool, true, false, if◌then◌else◌, not, ◌&&◌, ◌||◌, ◌==◌, ◌⊎◌, List, [], ◌∷◌, ◌++◌, Option, Some, None, inl, inr, refl, sym, ap, ap₂, subst, ◌∙◌, eq-eqb, eqb-true}
+use Rattle.std.proofs.Common.{◌≡◌, ℕ, ◌+◌, Bool, true, false, if◌then◌else◌, not, ◌||◌, ◌⊎◌, List, ◌∷◌, ◌++◌, Option, Some, inl, inr, refl, sym, ap, ◌∙◌}
 use Rattle.std.specs.Prelude.{is_some}
-use Rattle.std.specs.Option.{option_map_or}
-use Rattle.std.proofs.lemmas.Bool.{false≢true, and_parts}
+use Rattle.std.proofs.lemmas.Bool.{false≢true}
 use Rattle.prov_base.specs.declared.place.Pos.{Pos}
 use Rattle.prov_base.specs.declared.place.Span.{Span}
-use Rattle.py_tree.specs.Binds.{bound_is, handlers_bind, form_binds, is_class, is_method}
+use Rattle.py_tree.specs.Binds.{bound_is, handlers_bind, form_binds}
 use Rattle.py_tree.specs.Deletion.{or_pass, kept_suite, kept_stmt, kept_form, kept_branches, kept_else, kept_handlers}
 use Rattle.py_tree.specs.Functions.{suite_binds, stmt_binds, inner_binds, branches_bind, else_binds, handler_suites_bind}
 use Rattle.py_tree.specs.Numbering.{size_stmt, size_suite, size_branches, numbered_suite, numbered_stmt, numbered_form, numbered_branches, numbered_else, numbered_handlers}
-use Rattle.py_tree.specs.Owners.{Around, Standing, form_in, is_def, number_at, within, listed_stmt, listed_form, listed_suite, listed_branches, listed_else, listed_handlers}
+use Rattle.py_tree.specs.Owners.{Around, Standing, form_in, number_at, within, listed_stmt, listed_form, listed_suite, listed_branches, listed_else, listed_handlers}
 use Rattle.py_tree.specs.Placed.{place_of}
 use Rattle.py_tree.specs.Tree.{number_of, ExprTree, StmtTree, FormTree, SuiteTree, BranchesTree, ElseTree, HandlersTree, one_stmt, do_form, assign_form, aug_form, del_form, pass_form, break_form, continue_form, return_form, raise_form, assert_form, import_form, if_form, while_form, for_form, try_form, with_form, def_form, class_form, end_suite, more_suite, end_branches, more_branches, no_else, else_suite, end_handlers, more_handlers}
 use Rattle.slice_law.specs.Closed.{StmtSet, IsIn}
-use Rattle.slice_simulation.proofs.FunctionStatements.{owner_is_class}
 use Rattle.slice_simulation.proofs.ListedStatements.{FromFunction, around_all, starts_inside, suite_function, stmt_starts_it}
 use Rattle.slice_simulation.proofs.OutsideStatements.{deleted_outside}
 use Rattle.slice_simulation.proofs.Standing.{in_front, in_behind}
 use Rattle.slice_simulation.proofs.StartsOnce.{either_in}
 use Rattle.slice_simulation.specs.Classes.{stands_outside}
-use Rattle.slice_simulation.specs.Owned.{started_suite, started_stmt, started_form, started_branches, started_else, started_handlers}
+use Rattle.slice_simulation.specs.Owned.{started_suite, started_stmt, started_branches, started_else, started_handlers}
 use Rattle.slice_simulation.specs.Under.{UnderSuite, UnderStmt, UnderForm, UnderBranches, UnderElse, UnderHandlers}
 
 or_left : (a b : Bool) → a ≡ true → (a || b) ≡ true

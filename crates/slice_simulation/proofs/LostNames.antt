@@ -1,6 +1,6 @@
 -- A name that is local in a function and not in the slice's function: no kept statement of the function binds it, it is no parameter, and the
 -- first statement that binds it is not kept.
-use Rattle.std.proofs.Common.{◌≡◌, ℕ, Bool, true, false, if◌then◌else◌, not, ◌&&◌, ◌||◌, ◌==◌, List, [], ◌∷◌, Option, Some, None, inl, inr, refl, sym, ap, ap₂, subst, ◌∙◌, arith, rules, eqb-true, eq-eqb}
+use Rattle.std.proofs.Common.{◌≡◌, ℕ, Bool, true, false, not, ◌&&◌, ◌||◌, ◌==◌, List, [], ◌∷◌, Option, Some, None, inl, inr, refl, sym, ap, ap₂, subst, ◌∙◌, eqb-true, eq-eqb}
 use Rattle.std.specs.Prelude.{cond, option_map}
 use Rattle.std.specs.Option.{option_and_then, option_map_or}
 use Rattle.std.specs.List.{find, list_any, list_all}
@@ -8,9 +8,8 @@ use Rattle.std.specs.Str.{bytes_eq}
 use Rattle.std.proofs.lemmas.Bool.{false≢true, and_parts}
 use Rattle.prov_base.specs.declared.place.Pos.{Pos}
 use Rattle.py_tree.specs.Binds.{form_binds, is_method, binds}
-use Rattle.py_tree.specs.Deletion.{or_pass, kept_suite, deleted}
+use Rattle.py_tree.specs.Deletion.{kept_suite, deleted}
 use Rattle.py_tree.specs.Functions.{Function, functions_in, function_at, suite_binds, is_local}
-use Rattle.py_tree.specs.Numbering.{numbered_suite}
 use Rattle.py_tree.specs.Owners.{Standing, form_in, number_at, statements, first_at, standing_at, at_module_level, listed_suite}
 use Rattle.py_tree.specs.Placed.{place_of, standing_on, number_on}
 use Rattle.py_tree.specs.Places.{is_same}
@@ -18,7 +17,7 @@ use Rattle.py_tree.specs.Tree.{ScriptTree}
 use Rattle.py_tree.specs.WellFormed.{IsWellFormed}
 use Rattle.slice_law.specs.Closed.{StmtSet, IsIn}
 use Rattle.slice_law.specs.Edges.{function_of_stmt, first_binder}
-use Rattle.slice_simulation.proofs.Binders.{binds_here, Binder, suite_binder, FirstBinder, first_found}
+use Rattle.slice_simulation.proofs.Binders.{Binder, suite_binder, FirstBinder, first_found}
 use Rattle.slice_simulation.proofs.FunctionBodies.{found_in, CalleeBodies, callee_bodies}
 use Rattle.slice_simulation.proofs.FunctionStatements.{FunctionListed, suite_lists}
 use Rattle.slice_simulation.proofs.ListedStatements.{suite_starts_it}

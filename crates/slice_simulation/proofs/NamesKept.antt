@@ -1,12 +1,11 @@
 -- What a slice defines has in graph texts the name that it has in the script.
 use Rattle.std.proofs.Common.{◌≡◌, ℕ, ◌+◌, Bool, true, false, if◌then◌else◌, ◌&&◌, ◌⊎◌, List, [], ◌∷◌, ◌++◌, inl, inr, refl, sym, ap, subst, ◌∙◌, codes}
-use Rattle.std.proofs.lemmas.Bool.{false≢true}
 use Rattle.prov_base.specs.declared.place.Pos.{Pos}
 use Rattle.prov_base.specs.contracts.place.PosPartialEq.TheImpl.{ghosts as places}
 use Rattle.py_tree.specs.Deletion.{or_pass, kept_suite, kept_stmt, kept_form, deleted}
 use Rattle.py_tree.specs.Numbering.{size_stmt, numbered_suite, numbered_stmt, numbered_form}
 use Rattle.py_tree.specs.Places.{suite_starts, stmt_starts, form_starts, are_ascending}
-use Rattle.py_tree.specs.Tree.{number_of, ExprTree, StmtTree, FormTree, SuiteTree, ScriptTree, one_stmt, do_form, assign_form, aug_form, del_form, pass_form, break_form, continue_form, return_form, raise_form, assert_form, import_form, if_form, while_form, for_form, try_form, with_form, def_form, class_form, end_suite, more_suite}
+use Rattle.py_tree.specs.Tree.{number_of, StmtTree, FormTree, SuiteTree, ScriptTree, one_stmt, do_form, assign_form, aug_form, del_form, pass_form, break_form, continue_form, return_form, raise_form, assert_form, import_form, if_form, while_form, for_form, try_form, with_form, def_form, class_form, end_suite, more_suite}
 use Rattle.py_tree.specs.WellFormed.{IsWellFormed}
 use Rattle.py_value.specs.Same.{same_truth}
 use Rattle.py_model.specs.Graph.{names_in, names_of, names_at, first_name}
