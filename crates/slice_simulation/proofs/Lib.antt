@@ -45,4 +45,4 @@ mod ListedStatements
 mod FunctionStatements
 mod LocalNames
 mod Binders
-mod LostNames
+mod LostLocals

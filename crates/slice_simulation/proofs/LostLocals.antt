@@ -102,12 +102,10 @@ only_here true params here there is not_there = absurd (false≢true is)
 only_here false true here there is not_there = absurd (false≢true (sym not_there))
 only_here false false here there is not_there = record { no_param = refl; bound = is; unbound = not_there }
 
--- What is lost where a name is local in the function at a place and not in the slice's.
-pub record LostName (keep : StmtSet) (script : ScriptTree) (place : Pos) (name : List ℕ) : Type 0 where
-  pub number : ℕ
-  pub number_is : number_on script place ≡ Some number
-  pub starts : IsIn (started_suite script.body) (number, place)
-  pub no_param : (h : Function) → function_at script h.place ≡ Some h → number_on script h.place ≡ Some number → list_any (bytes_eq name) h.params ≡ false
+-- What is lost where a name is local in a function and not in the slice's: no parameter, no kept statement binds it, and the first one that does is
+-- not kept.
+pub record LostName (keep : StmtSet) (script : ScriptTree) (f : Function) (number : ℕ) (name : List ℕ) : Type 0 where
+  pub no_param : list_any (bytes_eq name) f.params ≡ false
   pub unbound : (s : ℕ) → function_of_stmt script s ≡ Some number → keep s ≡ true → binds script s name ≡ false
   pub binder : ℕ
   pub first : first_binder (Some number) name (statements script) ≡ Some binder
@@ -148,25 +146,19 @@ module _ (keep : StmtSet) (script : ScriptTree) (well : IsWellFormed script) (un
         known : InFunction keep name x listed.number own binds_it kept listed.inside (listed_suite listed.inside f.body) (started_suite f.body)
         known = record { function_is = listed.function_is; apart = listed.apart; outside = λ y inside. all_outside (statements script) classes y (listed.into y inside) }
 
-    pub binds_there : (number : ℕ) → number_on script place ≡ Some number → (s : ℕ) → function_of_stmt script s ≡ Some number → keep s ≡ true → binds script s name ≡ true → suite_binds g.body name ≡ true
-    binds_there number number_is s own kept is = by_found (standing_at script s) refl own is
+    bound_there : (s : ℕ) → function_of_stmt script s ≡ Some listed.number → keep s ≡ true → binds script s name ≡ true → suite_binds g.body name ≡ true
+    bound_there s own kept is = by_found (standing_at script s) refl own is
       where
-        same_number : number ≡ listed.number
-        same_number = let same : Some number ≡ Some listed.number = sym number_is ∙ number_there in cc
-
-        by_found : (one : Option Standing) → standing_at script s ≡ one → option_and_then (λ (x : Standing). x.around.function) one ≡ Some number
+        by_found : (one : Option Standing) → standing_at script s ≡ one → option_and_then (λ (x : Standing). x.around.function) one ≡ Some listed.number
             → option_map_or (λ (x : Standing). not (is_method x) && form_binds (form_in x.stmt) name) one false ≡ true → suite_binds g.body name ≡ true
         by_found None at own is = absurd (false≢true is)
         by_found (Some x) at own is =
             let stands : IsIn (statements script) x × (number_at x ≡ s) = found_numbered s (statements script) x at in
-            standing_binds x stands.0 (own ∙ ap Some same_number) (ap keep stands.1 ∙ kept) (and_parts (not (is_method x)) (form_binds (form_in x.stmt) name) is).1
+            standing_binds x stands.0 own (ap keep stands.1 ∙ kept) (and_parts (not (is_method x)) (form_binds (form_in x.stmt) name) is).1
 
-    pub lost_name : is_local f name ≡ true → is_local g name ≡ false → LostName keep script place name
-    lost_name local not_local = record {
-      number = listed.number;
-      number_is = number_there;
-      starts = starts_there;
-      no_param = no_param;
+    lost_there : is_local f name ≡ true → is_local g name ≡ false → LostName keep script f listed.number name
+    lost_there local not_local = record {
+      no_param = only.no_param;
       unbound = λ s own kept. by_test s own kept (binds script s name) refl;
       binder = first.binder;
       first = first.first;
@@ -185,19 +177,26 @@ module _ (keep : StmtSet) (script : ScriptTree) (well : IsWellFormed script) (un
         first : FirstBinder name listed.number (statements script)
         first = first_found name listed.number (statements script) binder.one (listed.into binder.one binder.there) (binder.function_is ∙ listed.function_is) binder.binds_it
 
-        no_param : (h : Function) → function_at script h.place ≡ Some h → number_on script h.place ≡ Some listed.number → list_any (bytes_eq name) h.params ≡ false
-        no_param h at number_is =
-            let same_place : h.place ≡ place = one_place script well listed.number h.place place (number_starts script well h.place listed.number number_is) starts_there in
-            let same : Some h ≡ Some f = sym (subst (λ p. function_at script p ≡ Some h) same_place at) ∙ here in
-            let equal : h ≡ f = cc in
-            ap (λ (k : Function). list_any (bytes_eq name) k.params) equal ∙ only.no_param
-
         by_test : (s : ℕ) → function_of_stmt script s ≡ Some listed.number → keep s ≡ true → (test : Bool) → binds script s name ≡ test → binds script s name ≡ false
         by_test s own kept false is = is
-        by_test s own kept true is = absurd (false≢true (sym only.unbound ∙ binds_there listed.number number_there s own kept is))
+        by_test s own kept true is = absurd (false≢true (sym only.unbound ∙ bound_there s own kept is))
 
         by_keep : (test : Bool) → keep first.binder ≡ test → keep first.binder ≡ false
         by_keep false is = is
         by_keep true is =
             absurd (false≢true (sym only.unbound ∙ standing_binds first.one first.there first.function_is (ap keep first.number_is ∙ is)
             (and_parts (not (is_method first.one)) (form_binds (form_in first.one.stmt) name) first.binds_it).1))
+
+  -- what is known of it by the number of its `def`
+  module _ (number : ℕ) (starts : IsIn (started_suite script.body) (number, place)) where
+    same_number : listed.number ≡ number
+    same_number = one_start script well listed.number number place starts_there starts
+
+    pub number_found : number_on script place ≡ Some number
+    number_found = number_there ∙ ap Some same_number
+
+    pub binds_there : (s : ℕ) (name : List ℕ) → function_of_stmt script s ≡ Some number → keep s ≡ true → binds script s name ≡ true → suite_binds g.body name ≡ true
+    binds_there s name own kept is = bound_there name s (own ∙ ap Some (sym same_number)) kept is
+
+    pub lost_name : (name : List ℕ) → is_local f name ≡ true → is_local g name ≡ false → LostName keep script f number name
+    lost_name name local not_local = subst (λ n. LostName keep script f n name) same_number (lost_there name local not_local)
