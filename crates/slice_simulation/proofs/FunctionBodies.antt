@@ -83,7 +83,7 @@ module _ (f : Function) where
     form_def number at (with_form e bound body) there = absurd there
 
 -- what a place leads to is a function that stands there
-found_in : (place : Pos) (f : Function) (fs : List Function) → first_placed place fs ≡ Some f → IsIn fs f × (f.place ≡ place)
+pub found_in : (place : Pos) (f : Function) (fs : List Function) → first_placed place fs ≡ Some f → IsIn fs f × (f.place ≡ place)
 found_in place f [] is = absurd cc
 found_in place f (g ∷ fs) is = by_test (places.eq g.place place) refl is (found_in place f fs)
   where
@@ -261,7 +261,7 @@ pub record CalleeBodies (keep : StmtSet) (script : ScriptTree) (f g : Function) 
   pub lone : (n : ℕ) (at : Pos) → IsIn (lone_body keep f.body) (n, at) → IsIn (lone_suite keep script.body) (n, at)
 
 module _ (keep : StmtSet) (script : ScriptTree) (well : IsWellFormed script) (under : UnderSuite keep true script.body) where
-  same_function : (place : Pos) (f g : Function) → function_at script place ≡ Some f → function_at (deleted keep script) place ≡ Some g → SameFunction keep f g
+  pub same_function : (place : Pos) (f g : Function) → function_at script place ≡ Some f → function_at (deleted keep script) place ≡ Some g → SameFunction keep f g
   same_function place f g here there =
       subst (FoundCut keep (Some f)) there (subst (λ found. FoundCut keep found (function_at (deleted keep script) place)) here (function_found keep script well place))
 

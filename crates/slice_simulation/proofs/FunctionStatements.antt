@@ -1,19 +1,20 @@
 -- The statements of a function are those that stand in the `def` with its number, and no other.
-use Rattle.std.proofs.Common.{◌≡◌, ◌≤◌, ◌<◌, ℕ, ◌+◌, Bool, true, false, if◌then◌else◌, ◌⊎◌, List, [], ◌∷◌, ◌++◌, Option, Some, None, inl, inr, refl, sym, ap, subst, ◌∙◌, arith}
+use Rattle.std.proofs.Common.{◌≡◌, ◌<◌, ℕ, ◌+◌, Bool, false, ◌⊎◌, List, ◌∷◌, Some, None, inl, inr, refl, sym, ap, subst, ◌∙◌, arith}
 use Rattle.std.specs.Option.{option_map_or}
 use Rattle.prov_base.specs.declared.place.Pos.{Pos}
 use Rattle.prov_base.specs.declared.place.Span.{Span}
 use Rattle.py_tree.specs.Binds.{is_class}
 use Rattle.py_tree.specs.Functions.{Function, functions_in, functions_of, functions_at}
-use Rattle.py_tree.specs.Numbering.{size_stmt, size_suite, numbered_suite, numbered_stmt, numbered_form}
-use Rattle.py_tree.specs.Owners.{Around, Standing, form_in, number_at, within, listed_stmt, listed_form, listed_suite}
+use Rattle.py_tree.specs.Numbering.{size_stmt, size_suite, numbered_suite, numbered_stmt}
+use Rattle.py_tree.specs.Owners.{Around, Standing, form_in, within, listed_stmt, listed_suite}
+use Rattle.py_tree.specs.Placed.{place_of}
 use Rattle.py_tree.specs.Tree.{StmtTree, FormTree, SuiteTree, one_stmt, do_form, assign_form, aug_form, del_form, pass_form, break_form, continue_form, return_form, raise_form, assert_form, import_form, if_form, while_form, for_form, try_form, with_form, def_form, class_form, end_suite, more_suite}
 use Rattle.slice_law.specs.Closed.{IsIn}
 use Rattle.slice_simulation.proofs.ListedStatements.{FromFunction, around_all, starts_inside, suite_function, stmt_function}
 use Rattle.slice_simulation.proofs.NumberedStatements.{IsAmong, suite_among, stmt_among}
 use Rattle.slice_simulation.proofs.Standing.{in_front, in_behind}
 use Rattle.slice_simulation.proofs.StartsOnce.{either_in}
-use Rattle.slice_simulation.specs.Owned.{started_suite, started_stmt, started_form}
+use Rattle.slice_simulation.specs.Owned.{started_suite, started_stmt}
 
 abbrev pub owner_is_class : Around → Bool
 owner_is_class around = option_map_or (λ owner. is_class (form_in owner)) around.owner false
@@ -22,6 +23,9 @@ owner_is_class around = option_map_or (λ owner. is_class (form_in owner)) aroun
 pub record FunctionListed (f : Function) (listed : List Standing) (starts : List (ℕ × Pos)) : Type 0 where
   pub number : ℕ
   pub starts_is : IsIn starts (number, f.place)
+  pub def : Standing
+  pub def_there : IsIn listed def
+  pub def_place : place_of def ≡ f.place
   pub inside : Around
   pub function_is : inside.function ≡ Some number
   pub owner_is : owner_is_class inside ≡ false
@@ -45,6 +49,9 @@ module _ (f : Function) where
   in_first m around s rest same none found = record {
     number = found.number;
     starts_is = in_front (started_stmt s) (started_suite rest) (found.number, f.place) found.starts_is;
+    def = found.def;
+    def_there = in_front (listed_stmt around s) (listed_suite around rest) found.def found.def_there;
+    def_place = found.def_place;
     inside = found.inside;
     function_is = found.function_is;
     owner_is = found.owner_is;
@@ -74,6 +81,9 @@ module _ (f : Function) where
   in_rest m around s rest same none found = record {
     number = found.number;
     starts_is = in_behind (started_stmt s) (started_suite rest) (found.number, f.place) found.starts_is;
+    def = found.def;
+    def_there = in_behind (listed_stmt around s) (listed_suite around rest) found.def found.def_there;
+    def_place = found.def_place;
     inside = found.inside;
     function_is = found.function_is;
     owner_is = found.owner_is;
@@ -105,6 +115,9 @@ of_def : (m : ℕ) (around : Around) (number : ℕ) (at : Pos) (span : Span) (na
 of_def m around number at span name params globals body same none = record {
   number = number;
   starts_is = inl refl;
+  def = record { stmt = one_stmt number at span (def_form name params globals body); around = around };
+  def_there = inl refl;
+  def_place = refl;
   inside = within (one_stmt number at span (def_form name params globals body)) around;
   function_is = refl;
   owner_is = refl;
@@ -131,6 +144,9 @@ module _ (f : Function) where
   of_class around number at span form listed starts none found = record {
     number = found.number;
     starts_is = inr found.starts_is;
+    def = found.def;
+    def_there = inr found.def_there;
+    def_place = found.def_place;
     inside = found.inside;
     function_is = found.function_is;
     owner_is = found.owner_is;

@@ -57,3 +57,6 @@ mod BoundReads
 mod BoundRuns
 mod ListedStatements
 mod FunctionStatements
+mod LocalNames
+mod Binders
+mod LostLocals

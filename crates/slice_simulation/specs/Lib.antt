@@ -7,3 +7,4 @@ pub mod Atomic
 pub mod Bare
 pub mod Cut
 pub mod BoundNames
+pub mod Classes
