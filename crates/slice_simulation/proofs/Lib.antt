@@ -11,7 +11,6 @@ pub mod Beside
 mod Knowing
 mod Entered
 mod NamesUsed
-mod StartsListed
 mod KnownNames
 mod UnknownNames
 mod StartsFound
@@ -22,21 +21,15 @@ pub mod KeptExpressions
 pub mod KeptStatements
 pub mod Closedness
 pub mod Simulations
-mod Worked
 mod Standing
 mod PlacedRules
 mod OwnMoments
 mod Evaluations
-mod Functionless
-mod AtomicValues
 mod Opened
 mod Late
 mod EndedLists
 mod SharedGraphs
-mod Nameless
 mod Values
-mod SilentRules
-mod Bareness
 mod Activations
 mod FunctionsLeft
 mod KeptCalls

@@ -1,18 +1,18 @@
 -- No kept statement of a run uses a name that is local in its function and not in what is kept of that. What such a name was set by, or the first
 -- statement that binds it, would be kept.
-use Rattle.std.proofs.Common.{◌≡◌, ℕ, zero, suc, Bool, true, false, ◌==◌, if◌then◌else◌, ◌⊎◌, List, [], ◌∷◌, ◌++◌, Option, Some, None, option_map, inl, inr, refl, sym, ap, ap₂, subst, ◌∙◌, arith, append_assoc, eqb-true}
+use Rattle.std.proofs.Common.{◌≡◌, ℕ, zero, suc, Bool, true, false, ◌==◌, if◌then◌else◌, ◌⊎◌, List, [], ◌∷◌, ◌++◌, Option, Some, None, option_map, inl, inr, refl, sym, ap, subst, ◌∙◌, arith, append_assoc, eqb-true}
 use Rattle.std.specs.List.{list_any}
 use Rattle.std.specs.Str.{bytes_eq}
 use Rattle.std.proofs.lemmas.Bool.{false≢true}
 use Rattle.prov_base.specs.declared.place.Pos.{Pos}
 use Rattle.py_tree.specs.Binds.{binds}
-use Rattle.py_tree.specs.Functions.{Function, function_at, is_local}
+use Rattle.py_tree.specs.Functions.{Function, function_at}
 use Rattle.py_tree.specs.Owners.{Standing, number_at, statements, standing_at}
 use Rattle.py_tree.specs.Placed.{place_of, standing_on, number_on}
 use Rattle.py_tree.specs.Tree.{ScriptTree}
 use Rattle.py_tree.specs.WellFormed.{IsWellFormed}
 use Rattle.py_value.specs.Contents.{Contents}
-use Rattle.py_value.specs.Seen.{SeenLocation, SeenAccess, SeenKind, var_at, reads}
+use Rattle.py_value.specs.Seen.{SeenAccess, SeenKind, var_at, reads}
 use Rattle.py_model.specs.Act.{Walked}
 use Rattle.py_model.specs.Capture.{Capture, opening_in, answers_at}
 use Rattle.py_model.specs.Effect.{Answers, effect, accesses_in, weight}
@@ -25,7 +25,7 @@ use Rattle.py_model.specs.Plan.{Answer}
 use Rattle.py_model.specs.Running.{State, did, askings_at, effect_of, operation}
 use Rattle.py_model.specs.Store.{RunStore}
 use Rattle.slice_law.specs.Closed.{StmtSet, IsIn, IsClosed}
-use Rattle.slice_law.specs.Edges.{stmt_at, function_of_stmt, first_binder}
+use Rattle.slice_law.specs.Edges.{function_of_stmt, first_binder}
 use Rattle.slice_law.specs.Slices.{told_by}
 use Rattle.slice_simulation.proofs.Beside.{OnName, on_read, on_bind, on_unbind, on_import}
 use Rattle.slice_simulation.proofs.BoundReads.{def_of, IsOf, is_of}
@@ -33,15 +33,8 @@ use Rattle.slice_simulation.proofs.BoundRuns.{NameLaws, own_names, reached_bound
 use Rattle.slice_simulation.proofs.Closedness.{reached_kept, binder_kept}
 use Rattle.slice_simulation.proofs.Entered.{entered_stays}
 use Rattle.slice_simulation.proofs.Onwards.{Came, CameBy, came_by}
+use Rattle.slice_simulation.proofs.LostLocals.{LostName}
 use Rattle.slice_simulation.specs.BoundNames.{OwnNames, location_of, is_write, IsBoundAt, by_statement, by_parameter}
-
--- A name that is local in a function, and not in what is kept of it: no parameter, no kept statement binds it, and the first one that does is not kept.
-pub record IsLost (keep : StmtSet) (script : ScriptTree) (f : Function) (number : ℕ) (name : List ℕ) : Type 0 where
-  pub no_param : list_any (bytes_eq name) f.params ≡ false
-  pub unbound : (s : ℕ) → function_of_stmt script s ≡ Some number → keep s ≡ true → binds script s name ≡ false
-  pub binder : ℕ
-  pub first : first_binder (Some number) name (statements script) ≡ Some binder
-  pub out : keep binder ≡ false
 
 -- an operation on a name reads or sets it in its scope
 record UsesName (store : RunStore) (answers : Answers) (p : Op) (vs : List Contents) : Type 0 where
@@ -103,7 +96,7 @@ module _ (laws : NameLaws) (script : ScriptTree) (well : IsWellFormed script) wh
       (rest : List Moment) (told_is : told_by script capture path arguments steps ≡ rest ++ upto) where
     module _ (news : List Moment) (at : Pos) (p : Op) (vs : List Contents) (s u : State) (answer : Answer) (came : Walked) (n : ℕ) (f : Function) (number : ℕ)
         (happens : operation capture at p vs s ≡ did answer came u) (upto_is : upto ≡ news ++ u.told) (owner : owner_stmt s.told ≡ Some n) (kept : keep n ≡ true) (on : OnName p.no vs)
-        (f_is : function_at script f.place ≡ Some f) (number_is : number_on script f.place ≡ Some number) (lost : IsLost keep script f number p.name) where
+        (f_is : function_at script f.place ≡ Some f) (number_is : number_on script f.place ≡ Some number) (lost : LostName keep script f number p.name) where
       came_so : Came at p vs (effect_of capture at p vs s) s answer u
       came_so = subst (CameBy at p vs (effect_of capture at p vs s) s) happens (came_by capture at p vs s)
 

@@ -1,5 +1,6 @@
 -- One induction over the two trees: the run of the slice comes to where the script's run has come.
 use Rattle.std.proofs.Common.{◌≡◌, ◌≤◌, ◌<◌, ℕ, suc, Bool, true, false, if◌then◌else◌, List, [], ◌∷◌, ◌++◌, map, length, nat_le, nat_lt, Option, Some, refl, sym, ap, subst, ◌∙◌, arith, length-append, le-leb, ltb-true, ltb-false, ◌⊎◌, inl, inr}
+use Rattle.std.specs.Prelude.{⊤}
 use Rattle.std.specs.Option.{option_map}
 use Rattle.std.proofs.lemmas.Bool.{false≢true}
 use Rattle.prov_base.specs.declared.place.Pos.{Pos}
@@ -91,11 +92,17 @@ entered_held opening at def params vs s held_so = record {
   kinds_are = held_so.kinds_are;
 }
 
+-- the last answer is known
+abbrev pub KnownLast : (Pos → Bool) → List Moment → Type 0
+KnownLast known (does at number values answer made accesses weight ∷ before) = KnownAnswer known answer
+KnownLast known told = ⊤
+
 pub record Holds (opening : RunStore) (OnlyKept : Pos → Type 0) (known : Pos → Bool) (s t : State) : Type 0 where
   pub here : IsHeld opening s
   pub there : IsHeld opening t
   pub askings : (place : Pos) → OnlyKept place → askings_at place t.askings ≡ askings_at place s.askings
   pub knows : KnownStore known t.store
+  pub last : KnownLast known t.told
 
 -- What has been told of all the moments.
 module _ (capture : Capture) (keep : StmtSet) (opening : RunStore) (upto : List Moment) where
@@ -220,13 +227,16 @@ module _ (capture : Capture) (keep : StmtSet) (opening : RunStore) (upto : List 
             known : KnownNow ground.known again.again came again.now
             known = known_now ground.known flow capture at q ws t again.again came again.now operands.operand operands.operands holds.knows again.happens
 
+            there_came : Came at q ws (effect_of capture at q ws t) t again.again again.now
+            there_came = subst (CameBy at q ws (effect_of capture at q ws t) t) again.happens (came_by capture at q ws t)
+
             holds_now : Holds opening OnlyKept ground.known u again.now
             holds_now = record {
               here = held_after laws opening at p vs (effect_of capture at p vs s) s answer u told holds.here;
-              there = held_after laws opening at q ws (effect_of capture at q ws t) t again.again again.now
-                  (subst (CameBy at q ws (effect_of capture at q ws t) t) again.happens (came_by capture at q ws t)) holds.there;
+              there = held_after laws opening at q ws (effect_of capture at q ws t) t again.again again.now there_came holds.there;
               askings = λ place only. again.askings place (holds.askings place only);
               knows = known.store;
+              last = subst (KnownLast ground.known) (sym there_came.told_is) known.answers;
             }
 
             goes : outcome capture (perform at q ws g) t ≡ outcome capture (g again.again came) again.now
@@ -286,6 +296,7 @@ module _ (capture : Capture) (keep : StmtSet) (opening : RunStore) (upto : List 
               here = held_after laws opening at p vs (effect_of capture at p vs s) s answer u told holds.here;
               there = holds.there;
               knows = holds.knows;
+              last = holds.last;
               askings = λ place only. holds.askings place only
                   ∙ sym (deleted_askings laws capture ground.paired ground.known keep upto at p vs s u answer came is place
                   (λ may. asks.asking_out within.front s.told at p.no vs answer _ _ _ n upto_is (owner_in s.told n from frames) may out place only));
@@ -309,7 +320,7 @@ module _ (capture : Capture) (keep : StmtSet) (opening : RunStore) (upto : List 
         by_left true through on =
             let within : IsEndOf (begins n ∷ s.told) upto = told_within capture keep opening upto a (beginning n s) (omega (arith, before)) through in
             let pays : 1 ≤ t.left = begin_paid laws capture ground.paired ground.known keep upto n m s t related within.front within.whole_is in
-            let held_now : Holds opening OnlyKept ground.known (beginning n s) (beginning m t) = record { here = record { map_is = holds.here.map_is; kinds_are = holds.here.kinds_are }; there = record { map_is = holds.there.map_is; kinds_are = holds.there.kinds_are }; askings = holds.askings; knows = holds.knows } in
+            let held_now : Holds opening OnlyKept ground.known (beginning n s) (beginning m t) = record { here = record { map_is = holds.here.map_is; kinds_are = holds.here.kinds_are }; there = record { map_is = holds.there.map_is; kinds_are = holds.there.kinds_are }; askings = holds.askings; knows = holds.knows; last = tt } in
             let now : Related capture ground.paired ground.known keep upto (beginning n s) (beginning m t) = both_begin_related laws capture ground.paired ground.known keep upto n m s t related kept named pays in
             subst Reaches (ap (λ test. if test then outcome capture b (beginning m t) else spent t) (sym (le-leb 1 t.left pays)))
             (arrive a b (beginning n s) (beginning m t) now held_now (omega (arith, before)) through
@@ -323,7 +334,7 @@ module _ (capture : Capture) (keep : StmtSet) (opening : RunStore) (upto : List 
             → Reaches (outcome capture b t)
         by_left false through on = absurd (not_yet capture keep opening upto s refl before through)
         by_left true through on =
-            let held_now : Holds opening OnlyKept ground.known (beginning n s) t = record { here = record { map_is = holds.here.map_is; kinds_are = holds.here.kinds_are }; there = record { map_is = holds.there.map_is; kinds_are = holds.there.kinds_are }; askings = holds.askings; knows = holds.knows } in
+            let held_now : Holds opening OnlyKept ground.known (beginning n s) t = record { here = record { map_is = holds.here.map_is; kinds_are = holds.here.kinds_are }; there = record { map_is = holds.there.map_is; kinds_are = holds.there.kinds_are }; askings = holds.askings; knows = holds.knows; last = holds.last } in
             let now : Related capture ground.paired ground.known keep upto (beginning n s) t = alone_begin_related laws capture ground.paired ground.known keep upto n 0 s t related out in
             arrive a b (beginning n s) t now held_now (omega (arith, before)) through
             (λ early. on now held_now (ap (λ (open_ones : List Open). a_statement n ∷ open_ones) frames) few early through)
@@ -339,13 +350,13 @@ module _ (capture : Capture) (keep : StmtSet) (opening : RunStore) (upto : List 
         by_left true through on =
             let within : IsEndOf (begins n ∷ s.told) upto = told_within capture keep opening upto a (beginning n s) (omega (arith, before)) through in
             let pays : 1 ≤ t.left = begin_paid laws capture ground.paired ground.known keep upto n m s t related within.front within.whole_is in
-            let held_now : Holds opening OnlyKept ground.known (beginning n s) (tell (ends m normal_end) (beginning m t)) = record { here = record { map_is = holds.here.map_is; kinds_are = holds.here.kinds_are }; there = record { map_is = holds.there.map_is; kinds_are = holds.there.kinds_are }; askings = holds.askings; knows = holds.knows } in
+            let held_now : Holds opening OnlyKept ground.known (beginning n s) (tell (ends m normal_end) (beginning m t)) = record { here = record { map_is = holds.here.map_is; kinds_are = holds.here.kinds_are }; there = record { map_is = holds.there.map_is; kinds_are = holds.there.kinds_are }; askings = holds.askings; knows = holds.knows; last = tt } in
             let now : Related capture ground.paired ground.known keep upto (beginning n s) (tell (ends m normal_end) (beginning m t)) = pass_related laws capture ground.paired ground.known keep upto n m s t related out named pays in
             subst Reaches (ap (λ test. if test then outcome capture b (tell (ends m normal_end) (beginning m t)) else spent t) (sym (le-leb 1 t.left pays)))
             (arrive a b (beginning n s) (tell (ends m normal_end) (beginning m t)) now held_now (omega (arith, before)) through
             (λ early. on now held_now (ap (λ (open_ones : List Open). a_statement n ∷ open_ones) frames) (omega (arith, few, pays)) early through))
     simulate (both_close {n = n} {m = m} {from = from} {ended = ended} {a = a} {b = b} kept named rest) knows s t related holds frames few before through =
-        let held_now : Holds opening OnlyKept ground.known (tell (ends n ended) s) (tell (ends m ended) t) = record { here = record { map_is = holds.here.map_is; kinds_are = holds.here.kinds_are }; there = record { map_is = holds.there.map_is; kinds_are = holds.there.kinds_are }; askings = holds.askings; knows = holds.knows } in
+        let held_now : Holds opening OnlyKept ground.known (tell (ends n ended) s) (tell (ends m ended) t) = record { here = record { map_is = holds.here.map_is; kinds_are = holds.here.kinds_are }; there = record { map_is = holds.there.map_is; kinds_are = holds.there.kinds_are }; askings = holds.askings; knows = holds.knows; last = tt } in
         let now : Related capture ground.paired ground.known keep upto (tell (ends n ended) s) (tell (ends m ended) t) = both_end_related laws capture ground.paired ground.known keep upto n m s t related ended kept named in
         arrive a b (tell (ends n ended) s) (tell (ends m ended) t) now held_now (omega (arith, before)) (told_on through)
         (λ early. simulate rest (close_known ground.known knows) (tell (ends n ended) s) (tell (ends m ended) t) now held_now (closed_frames (frames_after s.told) n from frames) few early (told_on through))
@@ -353,7 +364,7 @@ module _ (capture : Capture) (keep : StmtSet) (opening : RunStore) (upto : List 
         told_on : Through capture keep opening upto (outcome capture (close n ended a) s) → Through capture keep opening upto (outcome capture a (tell (ends n ended) s))
         told_on through = record { rest = through.rest; told_is = through.told_is }
     simulate (alone_close {n = n} {from = from} {ended = ended} {a = a} {b = b} out rest) knows s t related holds frames few before through =
-        let held_now : Holds opening OnlyKept ground.known (tell (ends n ended) s) t = record { here = record { map_is = holds.here.map_is; kinds_are = holds.here.kinds_are }; there = record { map_is = holds.there.map_is; kinds_are = holds.there.kinds_are }; askings = holds.askings; knows = holds.knows } in
+        let held_now : Holds opening OnlyKept ground.known (tell (ends n ended) s) t = record { here = record { map_is = holds.here.map_is; kinds_are = holds.here.kinds_are }; there = record { map_is = holds.there.map_is; kinds_are = holds.there.kinds_are }; askings = holds.askings; knows = holds.knows; last = holds.last } in
         let now : Related capture ground.paired ground.known keep upto (tell (ends n ended) s) t = alone_end_related laws capture ground.paired ground.known keep upto n 0 s t related ended out in
         arrive a b (tell (ends n ended) s) t now held_now (omega (arith, before)) (told_on through)
         (λ early. simulate rest knows (tell (ends n ended) s) t now held_now (closed_frames (frames_after s.told) n from frames) few early (told_on through))
@@ -375,7 +386,7 @@ module _ (capture : Capture) (keep : StmtSet) (opening : RunStore) (upto : List 
         by_left true through on =
             let within : IsEndOf (entering at def params vs s).told upto = told_within capture keep opening upto (f (suc s.entered)) (entering at def params vs s) (omega (arith, before)) through in
             let pays : suc (length ws) ≤ t.left = enter_paid laws capture ground.paired ground.known keep upto at def params vs n s t related owner ws kept same within.front within.whole_is in
-            let held_now : Holds opening OnlyKept ground.known (entering at def params vs s) (entering at def params ws t) = record { here = entered_held opening at def params vs s holds.here; there = entered_held opening at def params ws t holds.there; askings = holds.askings; knows = entered_known ground.known at def params ws t (enter_known ground.known knows).operands holds.knows } in
+            let held_now : Holds opening OnlyKept ground.known (entering at def params vs s) (entering at def params ws t) = record { here = entered_held opening at def params vs s holds.here; there = entered_held opening at def params ws t holds.there; askings = holds.askings; knows = entered_known ground.known at def params ws t (enter_known ground.known knows).operands holds.knows; last = tt } in
             let now : Related capture ground.paired ground.known keep upto (entering at def params vs s) (entering at def params ws t) = both_enter_related laws capture ground.paired ground.known keep upto at def params vs n s t related owner ws kept same within.front within.whole_is in
             subst Reaches (ap (λ test. if test then outcome capture (g (suc t.entered)) (entering at def params ws t) else spent t) (sym (le-leb (suc (length ws)) t.left pays)))
             (arrive (f (suc s.entered)) (g (suc t.entered)) (entering at def params vs s) (entering at def params ws t) now held_now (omega (arith, before)) through
@@ -392,12 +403,12 @@ module _ (capture : Capture) (keep : StmtSet) (opening : RunStore) (upto : List 
             → Reaches (outcome capture b t)
         by_left false through on = absurd (not_yet capture keep opening upto s refl before through)
         by_left true through on =
-            let held_now : Holds opening OnlyKept ground.known (entering at def params vs s) t = record { here = entered_held opening at def params vs s holds.here; there = holds.there; askings = holds.askings; knows = holds.knows } in
+            let held_now : Holds opening OnlyKept ground.known (entering at def params vs s) t = record { here = entered_held opening at def params vs s holds.here; there = holds.there; askings = holds.askings; knows = holds.knows; last = holds.last } in
             let now : Related capture ground.paired ground.known keep upto (entering at def params vs s) t = alone_enter_related laws capture ground.paired ground.known keep upto at def params vs n s t related (owner_in s.told n from frames) out in
             arrive (f (suc s.entered)) b (entering at def params vs s) t now held_now (omega (arith, before)) through
             (λ early. on now held_now (ap (λ (open_ones : List Open). an_activation ∷ open_ones) frames) few early through)
     simulate (both_leave {n = n} {from = from} {v = v} {w = w} {a = a} {b = b} kept same rest) knows s t related holds frames few before through =
-        let held_now : Holds opening OnlyKept ground.known (tell (leaves v) s) (tell (leaves w) t) = record { here = record { map_is = holds.here.map_is; kinds_are = holds.here.kinds_are }; there = record { map_is = holds.there.map_is; kinds_are = holds.there.kinds_are }; askings = holds.askings; knows = holds.knows } in
+        let held_now : Holds opening OnlyKept ground.known (tell (leaves v) s) (tell (leaves w) t) = record { here = record { map_is = holds.here.map_is; kinds_are = holds.here.kinds_are }; there = record { map_is = holds.there.map_is; kinds_are = holds.there.kinds_are }; askings = holds.askings; knows = holds.knows; last = tt } in
         let now : Related capture ground.paired ground.known keep upto (tell (leaves v) s) (tell (leaves w) t) = both_leave_related laws capture ground.paired ground.known keep upto v w n s t related (owner_inside s.told n from frames) kept same in
         arrive a b (tell (leaves v) s) (tell (leaves w) t) now held_now (omega (arith, before)) (told_on through)
         (λ early. simulate rest (leave_known ground.known knows) (tell (leaves v) s) (tell (leaves w) t) now held_now (left_frames (frames_after s.told) (a_statement n ∷ from) frames) few early (told_on through))
@@ -405,7 +416,7 @@ module _ (capture : Capture) (keep : StmtSet) (opening : RunStore) (upto : List 
         told_on : Through capture keep opening upto (outcome capture (leave v a) s) → Through capture keep opening upto (outcome capture a (tell (leaves v) s))
         told_on through = record { rest = through.rest; told_is = through.told_is }
     simulate (alone_leave {n = n} {from = from} {v = v} {a = a} {b = b} out rest) knows s t related holds frames few before through =
-        let held_now : Holds opening OnlyKept ground.known (tell (leaves v) s) t = record { here = record { map_is = holds.here.map_is; kinds_are = holds.here.kinds_are }; there = record { map_is = holds.there.map_is; kinds_are = holds.there.kinds_are }; askings = holds.askings; knows = holds.knows } in
+        let held_now : Holds opening OnlyKept ground.known (tell (leaves v) s) t = record { here = record { map_is = holds.here.map_is; kinds_are = holds.here.kinds_are }; there = record { map_is = holds.there.map_is; kinds_are = holds.there.kinds_are }; askings = holds.askings; knows = holds.knows; last = holds.last } in
         let now : Related capture ground.paired ground.known keep upto (tell (leaves v) s) t = alone_leave_related laws capture ground.paired ground.known keep upto v v n s t related (owner_inside s.told n from frames) out in
         arrive a b (tell (leaves v) s) t now held_now (omega (arith, before)) (told_on through)
         (λ early. simulate rest knows (tell (leaves v) s) t now held_now (left_frames (frames_after s.told) (a_statement n ∷ from) frames) few early (told_on through))

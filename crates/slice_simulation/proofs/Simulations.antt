@@ -1,5 +1,5 @@
 -- The run of a slice, from its beginning.
-use Rattle.std.proofs.Common.{◌≡◌, ◌≤◌, ◌+◌, ℕ, suc, List, [], ◌∷◌, ◌++◌, Bool, true, false, if◌then◌else◌, map, length, Option, Some, None, inl, inr, refl, sym, ap, ap₂, subst, ◌∙◌, arith, codes}
+use Rattle.std.proofs.Common.{◌≡◌, ◌≤◌, ◌+◌, ℕ, suc, List, [], ◌∷◌, ◌++◌, true, false, map, length, slice_get, Option, Some, None, inl, inr, refl, sym, ap, ap₂, subst, ◌∙◌, arith, codes}
 use Rattle.py_tree.specs.Deletion.{deleted}
 use Rattle.py_tree.specs.Tree.{ScriptTree}
 use Rattle.py_value.specs.Contents.{text}
@@ -12,38 +12,41 @@ use Rattle.py_model.specs.Moment.{Moment, enters}
 use Rattle.py_model.specs.Renaming.{Renaming, renamed_location, renamed_content, renamed_kind}
 use Rattle.py_model.specs.Running.{outcome}
 use Rattle.py_model.specs.Store.{opening, unset, with_items, with_files}
-use Rattle.slice_law.specs.Closed.{StmtSet, IsClosed, IsIn}
+use Rattle.slice_law.specs.Closed.{StmtSet, IsClosed, IsIn, store_after}
 use Rattle.slice_law.specs.Slices.{told_by}
 use Rattle.slice_simulation.proofs.Beside.{Ground, Beside}
 use Rattle.slice_simulation.proofs.Closedness.{reach_in, reads_kept, jumps_kept, calls_kept, body_under}
-use Rattle.py_tree.specs.Functions.{Function, functions_in, first_placed, function_at}
-use Rattle.slice_simulation.proofs.Functionless.{none_in}
+use Rattle.py_tree.specs.Functions.{Function, functions_in, function_at}
 use Rattle.slice_simulation.proofs.Happenings.{Laws}
 use Rattle.slice_simulation.proofs.Entered.{entered_stays, entered_now, entered_count}
 use Rattle.slice_simulation.proofs.BoundNames.{placed_there}
 use Rattle.slice_simulation.proofs.BoundReads.{def_of}
+use Rattle.slice_simulation.proofs.BoundRuns.{NameLaws}
+use Rattle.slice_simulation.proofs.LostLocals.{number_found, lost_name}
+use Rattle.slice_simulation.proofs.NamesUsed.{never_lost}
+use Rattle.slice_simulation.specs.Classes.{ClassesStandOutside}
+use Rattle.model_laws.specs.Flow.{KnownFound, KnownKind, KnownStore}
 use Rattle.slice_simulation.proofs.FunctionsLeft.{function_found}
 use Rattle.slice_simulation.proofs.KeptOperations.{BothHere, no_class, none_handled, no_function}
 use Rattle.slice_simulation.proofs.KeptExpressions.{FunctionsFit}
 use Rattle.slice_simulation.proofs.KeptStatements.{CalleeFits, CalleesFit, TasksBoth, body_both, levels_both}
 use Rattle.slice_simulation.proofs.Knowing.{FlowLaws, opening_known}
 use Rattle.model_laws.specs.Defined.{defines}
-use Rattle.prov_base.specs.contracts.place.PosPartialEq.TheImpl.{ghosts as places}
 use Rattle.slice_simulation.proofs.Marks.{shifts}
 use Rattle.slice_simulation.proofs.StartsFound.{found_starts}
 use Rattle.slice_simulation.proofs.StayingDefinitions.{deleted_undefined}
 use Rattle.slice_simulation.proofs.FunctionBodies.{callee_found, CalleeBodies, callee_bodies}
 use Rattle.slice_simulation.specs.Under.{UnderSuite}
 use Rattle.slice_simulation.proofs.OutsideRules.{FoundStarts, bodies_out, levels_alone}
-use Rattle.slice_simulation.proofs.OwnMoments.{place_same, AllOwn, Owns, OnlyKept, all_own, asking_kept, asking_apart}
+use Rattle.slice_simulation.proofs.OwnMoments.{AllOwn, Owns, OnlyKept, all_own, asking_kept, asking_apart}
 use Rattle.py_tree.specs.WellFormed.{IsWellFormed}
 use Rattle.slice_simulation.proofs.Renamings.{accesses_match}
-use Rattle.slice_simulation.proofs.Simulating.{Holds, Reaches, Through, AsksKept, arrive, simulate}
+use Rattle.slice_simulation.proofs.Simulating.{KnownLast, Holds, Reaches, Through, AsksKept, arrive, simulate}
 use Rattle.prov_base.specs.declared.place.Pos.{Pos}
 use Rattle.slice_simulation.specs.Owned.{started_suite, SamePlace}
 use Rattle.slice_simulation.specs.Related.{at_start as nothing_done, Follows, IsInReach, kept_of, Related}
 use Rattle.slice_simulation.specs.Renaming.{marks_after, activations_after, Fits, Matches, all_marks}
-use Rattle.slice_simulation.specs.Simulation.{IsPlainRun, Simulates}
+use Rattle.slice_simulation.specs.Simulation.{Simulates}
 
 module _ (laws : Laws) (r : Renaming) where
   put_matches : (m : SeenLocation) (c : SeenContent) (here there : SeenLocation → Option SeenContent) (l : SeenLocation) → Matches r here there l
@@ -93,8 +96,8 @@ some_or_none f is = cc
 abbrev IsHere : ScriptTree → ℕ → Pos → Type 0
 IsHere script s place = IsIn (started_suite script.body) (s, place)
 
-module _ (laws : Laws) (flow : FlowLaws) (script : ScriptTree) (capture : Capture) (path : List ℕ) (arguments : List (List ℕ)) (keep : StmtSet) (upto : List Moment) (steps budget : ℕ)
-    (closed : IsClosed script (opening_in capture path arguments) upto keep) (well : IsWellFormed script) where
+module _ (laws : Laws) (flow : FlowLaws) (name_laws : NameLaws) (script : ScriptTree) (capture : Capture) (path : List ℕ) (arguments : List (List ℕ)) (keep : StmtSet) (upto : List Moment) (steps budget : ℕ)
+    (closed : IsClosed script (opening_in capture path arguments) upto keep) (well : IsWellFormed script) (classes : ClassesStandOutside script) where
   abbrev ground : Ground
   ground = record {
     paired = SamePlace script (deleted keep script);
@@ -164,9 +167,14 @@ module _ (laws : Laws) (flow : FlowLaws) (script : ScriptTree) (capture : Captur
     no_more = omega arith;
   }
 
-  pub simulated : (rest : List Moment) → told_by script capture path arguments steps ≡ rest ++ upto → IsPlainRun script capture path arguments steps
-      → spent_on upto ≤ budget → Simulates script capture path arguments budget keep upto
-  simulated rest told_is plain_run enough = by_reached
+  -- what the slice knows, too: functions and classes that it defines alone are in its store, and in its last answer
+  pub record Simulated : Type 0 where
+    pub simulates : Simulates script capture path arguments budget keep upto
+    pub knows : KnownStore (defines (deleted keep script)) (store_after (opening_in capture path arguments) simulates.again)
+    pub last : KnownLast (defines (deleted keep script)) simulates.again
+
+  pub simulated : (rest : List Moment) → told_by script capture path arguments steps ≡ rest ++ upto → spent_on upto ≤ budget → Simulated
+  simulated rest told_is enough = by_reached
       (arrive capture keep (opening_in capture path arguments) upto (OnlyKept script capture path arguments steps keep upto) ground laws flow asks
       (meaning script steps) (meaning (deleted keep script) budget) (starting capture path arguments steps) (starting capture path arguments budget)
       (related_first enough) holds (omega arith) through
@@ -174,7 +182,7 @@ module _ (laws : Laws) (flow : FlowLaws) (script : ScriptTree) (capture : Captur
       whole (flow.tree (deleted keep script) budget) (starting capture path arguments steps) (starting capture path arguments budget) (related_first enough) holds refl (omega arith) early through))
     where
       holds : Holds (opening_in capture path arguments) (OnlyKept script capture path arguments steps keep upto) ground.known (starting capture path arguments steps) (starting capture path arguments budget)
-      holds = record { here = record { map_is = refl; kinds_are = refl }; there = record { map_is = refl; kinds_are = refl }; askings = λ place only. refl; knows = opening_known ground.known path arguments (with_bytes capture.files) }
+      holds = record { here = record { map_is = refl; kinds_are = refl }; there = record { map_is = refl; kinds_are = refl }; askings = λ place only. refl; knows = opening_known ground.known path arguments (with_bytes capture.files); last = tt }
 
       through : Through capture keep (opening_in capture path arguments) upto (outcome capture (meaning script steps) (starting capture path arguments steps))
       through = record { rest = rest; told_is = told_is }
@@ -192,12 +200,16 @@ module _ (laws : Laws) (flow : FlowLaws) (script : ScriptTree) (capture : Captur
         enters = λ news before at def vs accesses is. subst (λ told. def_of (length (activations_after keep before)) told ≡ Some def) (sym is)
             (subst (λ a. def_of a (news ++ enters at def vs accesses ∷ before) ≡ Some def) (sym (entered_count keep before))
             (entered_stays news (enters at def vs accesses ∷ before) (suc (entered_by before)) def (entered_now at def vs accesses before)));
-        names = λ news at p vs s u answer came n one other happens is owner kept on same called entered here there. some_or_none one (sym called.0 ∙ none_in keep script plain_run.functionless one.place);
+        names = λ news at p vs s u answer came n one other happens is owner kept on same called entered local not_local.
+            let bodies = callee_bodies keep script well under one.place one other called.0 called.1 in
+            never_lost name_laws script well capture path arguments steps keep upto closed rest told_is news at p vs s u answer came n one bodies.number happens is owner kept on called.0
+            (number_found keep script well under classes one.place one other called.0 called.1 bodies.number bodies.starts)
+            (lost_name keep script well under classes one.place one other called.0 called.1 bodies.number bodies.starts p.name local not_local) entered;
       }
 
-      by_reached : Reaches capture keep (opening_in capture path arguments) upto (OnlyKept script capture path arguments steps keep upto) ground (outcome capture (meaning (deleted keep script) budget) (starting capture path arguments budget))
+      simulation : Reaches capture keep (opening_in capture path arguments) upto (OnlyKept script capture path arguments steps keep upto) ground (outcome capture (meaning (deleted keep script) budget) (starting capture path arguments budget))
           → Simulates script capture path arguments budget keep upto
-      by_reached reached = record {
+      simulation reached = record {
         renaming = shifts keep upto 0;
         again = reached.there.told;
         after = reached.news;
@@ -217,3 +229,14 @@ module _ (laws : Laws) (flow : FlowLaws) (script : ScriptTree) (capture : Captur
               subst (λ there. Matches r (held (opening_in capture path arguments).at upto) there l) reached.holds.there.map_is
               (subst (λ here. Matches r here reached.there.store.at l) (reached.holds.here.map_is ∙ ap (held (opening_in capture path arguments).at) reached.here_is)
               (reached.related.contents l inside r fits))
+
+      by_reached : Reaches capture keep (opening_in capture path arguments) upto (OnlyKept script capture path arguments steps keep upto) ground (outcome capture (meaning (deleted keep script) budget) (starting capture path arguments budget))
+          → Simulated
+      by_reached reached = record {
+        simulates = simulation reached;
+        knows = record {
+          at = λ l. subst (λ map. KnownFound (defines (deleted keep script)) (map l)) reached.holds.there.map_is (reached.holds.knows.at l);
+          kinds = λ o. subst (λ kinds. KnownKind (defines (deleted keep script)) (slice_get kinds o)) reached.holds.there.kinds_are (reached.holds.knows.kinds o);
+        };
+        last = reached.holds.last;
+      }

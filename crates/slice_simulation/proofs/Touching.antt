@@ -1,5 +1,5 @@
 -- What touches make of kinds and noted names, in two stores.
-use Rattle.std.proofs.Common.{◌≡◌, Bool, true, false, List, [], ◌∷◌, map, Option, Some, None, option_map, if◌then◌else◌, refl, ap, ◌∙◌}
+use Rattle.std.proofs.Common.{◌≡◌, Bool, true, List, [], ◌∷◌, map, Option, Some, None, option_map, if◌then◌else◌, refl, ap, ◌∙◌}
 use Rattle.prov_base.specs.declared.place.Pos.{Pos}
 use Rattle.prov_base.specs.contracts.place.PosPartialEq.TheImpl.{ghosts as places}
 use Rattle.py_value.specs.Seen.{SeenAccess, SeenKind, var_at, len_at, item_at, entry_at, order_at, file_at, offset_at, closed_at, method_at, base_at, reads, sets, updates}
@@ -10,7 +10,6 @@ use Rattle.py_model.specs.Renaming.{Renaming, renamed_touch, renamed_access, ren
 use Rattle.py_model.specs.Running.{method_found, sets_an_entry, walked}
 use Rattle.py_model.specs.Store.{RunStore, method_of}
 use Rattle.slice_simulation.proofs.Readings.{AreRead, method_read}
-use Rattle.slice_simulation.specs.Related.{IsUnnoted}
 use Rattle.slice_simulation.specs.Renaming.{Fits, Marks}
 
 kinds_stay : (touches : List Touch) (store : RunStore) → (after_touches touches store).kinds ≡ store.kinds
@@ -109,26 +108,3 @@ module _ (r : Renaming) where
       where
         both : {m n : Option Pos} {a b : Bool} → m ≡ n → a ≡ b → ◌≡◌ {A = Walked} (record { method = m; is_exception = a }) (record { method = n; is_exception = b })
         both one another = cc
-
--- once noted, always so
-no_name : (touches : List Touch) (store : RunStore) (place : Pos) → (after_touches touches store).names place ≡ None → store.names place ≡ None
-no_name [] store place is = is
-no_name (accessed access ∷ touches) store place is = no_name touches (after_touch (accessed access) store) place is
-no_name (looked n ∷ touches) store place is = no_name touches store place is
-no_name (counted n ∷ touches) store place is = no_name touches store place is
-no_name (printed bytes ∷ touches) store place is = no_name touches (after_touch (printed bytes) store) place is
-no_name (opened path ∷ touches) store place is = no_name touches (after_touch (opened path) store) place is
-no_name (noted at name ∷ touches) store place is = by_place (places.eq at place) (no_name touches (after_touch (noted at name) store) place is)
-  where
-    by_place : (test : Bool) → (if test then Some name else store.names place) ≡ None → store.names place ≡ None
-    by_place true is = absurd cc
-    by_place false is = is
-no_name (asked what ∷ touches) store place is = no_name touches store place is
-no_name (fetched path ∷ touches) store place is = no_name touches store place is
-
-pub unnoted_before : (e : Effect) (store : RunStore) → IsUnnoted (after e store) → IsUnnoted store
-unnoted_before e store is = record { names = λ place. names_before e.made place (no_name e.touches (with_made e.made store) place (is.names place)) }
-  where
-    names_before : (made : Option SeenKind) (place : Pos) → (with_made made store).names place ≡ None → store.names place ≡ None
-    names_before None place is = is
-    names_before (Some kind) place is = is

@@ -1,5 +1,5 @@
 -- When a state of a run of the slice stands for a state of the script's run (after Korel and Laski 1988; this project's profile).
-use Rattle.std.specs.Prelude.{◌≡◌, ℕ, suc, ◌+◌, ◌≤◌, ◌<◌, ◌⊎◌, Bool, true, false, List, [], ◌∷◌, map, length, Option, Some, None, ⊤}
+use Rattle.std.specs.Prelude.{◌≡◌, ℕ, suc, ◌+◌, ◌≤◌, ◌<◌, ◌⊎◌, Bool, true, false, List, [], ◌∷◌, map, length, Option, Some, ⊤}
 use Rattle.std.specs.Option.{option_map}
 use Rattle.prov_base.specs.declared.place.Pos.{Pos}
 use Rattle.py_value.specs.Contents.{Contents}
@@ -7,7 +7,7 @@ use Rattle.py_value.specs.Seen.{SeenLocation, SeenAccess, file_at, reads}
 use Rattle.py_model.specs.Act.{Walked}
 use Rattle.py_model.specs.Capture.{Capture, found_in}
 use Rattle.py_model.specs.Operations.{Op}
-use Rattle.py_model.specs.Store.{RunStore, has_path}
+use Rattle.py_model.specs.Store.{has_path}
 use Rattle.py_model.specs.Tidy.{is_there}
 use Rattle.py_model.specs.History.{accesses_by, spent_on}
 use Rattle.py_model.specs.Moment.{Moment, begins, does, enters, leaves, ends, Ending, normal_end}
@@ -104,7 +104,3 @@ pub record DoneAgain (capture : Capture) (names : ℕ → ℕ → Type 0) (known
   pub related : Related capture names known keep upto next now
   pub askings : (place : Pos) → askings_at place t.askings ≡ askings_at place s.askings → askings_at place now.askings ≡ askings_at place next.askings
   pub fewer : now.left < t.left
-
--- no name is noted
-pub record IsUnnoted (store : RunStore) : Type 0 where
-  pub names : (place : Pos) → store.names place ≡ None

@@ -15,7 +15,7 @@ ghost use Rattle.py_model.specs.Capture.{Capture};
 ghost use Rattle.py_model.specs.Effect.{accesses_in};
 ghost use Rattle.py_model.specs.Moment.{Moment};
 ghost use Rattle.py_model.specs.Operations.{Op};
-ghost use Rattle.py_model.specs.Plan.{Answer, value};
+ghost use Rattle.py_model.specs.Plan.{Answer};
 ghost use Rattle.py_model.specs.Quiet.{may_ask};
 ghost use Rattle.py_model.specs.Running.{State, did, askings_at, effect_of, operation};
 ghost use Rattle.model_laws.specs.Flow.{KnownValue, KnownAll, KnownStore};
@@ -28,15 +28,12 @@ ghost use Rattle.py_model.specs.History.{spent_on};
 ghost use Rattle.slice_law.specs.Closed.{IsClosed, IsLeast};
 ghost use Rattle.slice_law.specs.Slices.{told_by};
 ghost use Rattle.slice_law.specs.Slices.{Reproduces};
-ghost use Rattle.slice_simulation.specs.Atomic.{is_atomic};
 ghost use Rattle.slice_simulation.specs.Owned.{SamePlace};
-ghost use Rattle.slice_simulation.specs.Simulation.{IsPlainRun, Simulates, answer_of, ReachesEvaluation};
+ghost use Rattle.slice_simulation.specs.Simulation.{Simulates, ReachesEvaluation};
 ghost use Rattle.py_tree.specs.WellFormed.{IsWellFormed};
-ghost use Rattle.std.specs.Prelude.{[]};
-ghost use Rattle.py_model.specs.Graph.{names_in};
-ghost use Rattle.slice_simulation.specs.Bare.{BareSuite};
 ghost use Rattle.py_tree.specs.Deletion.{deleted};
 ghost use Rattle.py_tree.specs.Functions.{functions_in, function_at};
+ghost use Rattle.slice_simulation.specs.Classes.{ClassesStandOutside};
 ghost use Rattle.slice_simulation.specs.Cut.{CutFunctions, FoundCut};
 ghost use Rattle.py_value.specs.Seen.{SeenKind, var_at, reads};
 ghost use Rattle.py_model.specs.Moment.{does};
@@ -121,103 +118,6 @@ pub fn deleted_moments_keep_the_relation()
     map_changes_by_accesses();
 }
 
-/// The law of the simulation, for scripts without functions and runs that define no class. A set is given that is closed for the moments up to some
-/// one. Up to there the run of the deletion performs exactly the script's moments without those of deleted statements, and the `pass` of each
-/// execution of an emptied suite. Statements are named by place, and objects of kept statements are renamed one-to-one. Where the reach of a
-/// location is kept, what stands there corresponds. No more steps are needed than the script's run took up to there.
-///
-/// The class is said by `IsPlainRun` of `specs/Simulation.antt`. All expressions and statements are in it but `def` and `class`, with jumps,
-/// exceptions, handlers, askings of devices, files that are read or written and reads of unset names. Not shown here: runs that call functions or
-/// classes of the script or define them.
-pub fn slices_simulate()
-    ensures { (script : ScriptTree) (capture : Capture) (path : List ℕ) (arguments : List (List ℕ)) (steps budget : ℕ) (keep : StmtSet) (upto after : List Moment)
-        → IsWellFormed script → told_by script capture path arguments steps ≡ after ++ upto → IsClosed script (opening_in capture path arguments) upto keep
-        → IsPlainRun script capture path arguments steps → spent_on upto ≤ budget → Simulates script capture path arguments budget keep upto }
-{
-    tests_are_equality();
-    corresponding_operands_have_alike_plans();
-    operations_agree();
-    few_operations_ask();
-    operations_open_tidily();
-    map_changes_by_accesses();
-    operations_pass_functions_on();
-    effects_keep_stores_known();
-    few_operations_note();
-    runs_know_definitions_alone();
-}
-
-/// The law of the occurrence: in these runs the k-th evaluation at a place is reached by the slice as the k-th at that place, with a corresponding
-/// value, and no more steps are spent up to there. A place is of one statement, so no evaluation of a deleted statement stands at it.
-///
-/// That corresponding values have the same graph text is [`values_are_reproduced`].
-pub fn slices_reach_the_evaluation()
-    ensures { (script : ScriptTree) (capture : Capture) (path : List ℕ) (arguments : List (List ℕ)) (steps budget : ℕ) (at : Pos) (k : ℕ) (keep : StmtSet) (upto : List Moment)
-        → IsWellFormed script → up_to_evaluation at k (told_by script capture path arguments steps) ≡ Some upto → IsClosed script (opening_in capture path arguments) upto keep
-        → IsPlainRun script capture path arguments steps → spent_on upto ≤ budget → ReachesEvaluation script capture path arguments budget keep at k upto }
-{
-    tests_are_equality();
-    corresponding_operands_have_alike_plans();
-    operations_agree();
-    few_operations_ask();
-    operations_open_tidily();
-    map_changes_by_accesses();
-    operations_pass_functions_on();
-    effects_keep_stores_known();
-    few_operations_note();
-    runs_know_definitions_alone();
-}
-
-/// The law of values without objects: in these runs the slice reproduces each evaluation whose value is a number, a text, a truth value, None, a
-/// range, a built-in or a tuple of such: the value has the same graph text at the same occurrence, and no more steps are spent.
-/// So it is for every closed set, and for the least one with as many steps as the whole run took.
-pub fn atomic_values_are_reproduced()
-    ensures closed { (script : ScriptTree) (capture : Capture) (path : List ℕ) (arguments : List (List ℕ)) (steps budget : ℕ) (at : Pos) (k : ℕ) (keep : StmtSet) (upto : List Moment) (v : Contents)
-        → IsWellFormed script → up_to_evaluation at k (told_by script capture path arguments steps) ≡ Some upto → IsClosed script (opening_in capture path arguments) upto keep
-        → IsPlainRun script capture path arguments steps → spent_on upto ≤ budget → answer_of upto ≡ Some (value v) → is_atomic v ≡ true
-        → Reproduces script capture path arguments budget at k upto keep }
-    ensures least { (script : ScriptTree) (capture : Capture) (path : List ℕ) (arguments : List (List ℕ)) (steps : ℕ) (at : Pos) (k : ℕ) (keep : StmtSet) (upto : List Moment) (v : Contents)
-        → IsWellFormed script → up_to_evaluation at k (told_by script capture path arguments steps) ≡ Some upto → IsLeast script (opening_in capture path arguments) upto keep
-        → IsPlainRun script capture path arguments steps → answer_of upto ≡ Some (value v) → is_atomic v ≡ true
-        → Reproduces script capture path arguments (spent_on (told_by script capture path arguments steps)) at k upto keep }
-{
-    tests_are_equality();
-    graph_texts_tell_graphs();
-    slices_reach_the_evaluation();
-}
-
-/// The law of values: in these runs of scripts without functions and classes the slice reproduces each evaluation, whatever its value is. The value
-/// has the same graph text at the same occurrence, with all objects that are reachable from it, and no more steps are spent. So it is for every
-/// closed set, and for the least one with as many steps as the whole run took.
-///
-/// The criterion of a closed set reaches each location that a graph text shows, of a list as far as it goes and with the place where it ends, and what
-/// stands at these corresponds. In a run no key stands without its entry. Not shown here: scripts that define functions or classes.
-pub fn values_are_reproduced()
-    ensures closed { (script : ScriptTree) (capture : Capture) (path : List ℕ) (arguments : List (List ℕ)) (steps budget : ℕ) (at : Pos) (k : ℕ) (keep : StmtSet) (upto : List Moment)
-        → IsWellFormed script → up_to_evaluation at k (told_by script capture path arguments steps) ≡ Some upto → IsClosed script (opening_in capture path arguments) upto keep
-        → IsPlainRun script capture path arguments steps → names_in script.body ≡ [] → spent_on upto ≤ budget → Reproduces script capture path arguments budget at k upto keep }
-    ensures least { (script : ScriptTree) (capture : Capture) (path : List ℕ) (arguments : List (List ℕ)) (steps : ℕ) (at : Pos) (k : ℕ) (keep : StmtSet) (upto : List Moment)
-        → IsWellFormed script → up_to_evaluation at k (told_by script capture path arguments steps) ≡ Some upto → IsLeast script (opening_in capture path arguments) upto keep
-        → IsPlainRun script capture path arguments steps → names_in script.body ≡ [] → Reproduces script capture path arguments (spent_on (told_by script capture path arguments steps)) at k upto keep }
-{
-    tests_are_equality();
-    graph_texts_tell_graphs();
-    runs_keep_keys_with_entries();
-    slices_reach_the_evaluation();
-}
-
-/// The law of scripts that define no function and no class, in any of their suites: each of their runs is of the class that is spoken of above. So
-/// the slice by the least closed set reproduces every evaluation of every run, with as many steps as the whole run took, and spends no more up to
-/// there.
-pub fn slices_of_bare_scripts_reproduce()
-    ensures plain { (script : ScriptTree) (capture : Capture) (path : List ℕ) (arguments : List (List ℕ)) (steps : ℕ) → BareSuite script.body → IsPlainRun script capture path arguments steps }
-    ensures reproduce { (script : ScriptTree) → IsWellFormed script → BareSuite script.body → (capture : Capture) (path : List ℕ) (arguments : List (List ℕ)) (steps : ℕ) (at : Pos) (k : ℕ) (upto : List Moment) (keep : StmtSet)
-        → up_to_evaluation at k (told_by script capture path arguments steps) ≡ Some upto → IsLeast script (opening_in capture path arguments) upto keep
-        → Reproduces script capture path arguments (spent_on (told_by script capture path arguments steps)) at k upto keep }
-{
-    few_operations_note();
-    values_are_reproduced();
-}
-
 /// The law of local names, of every run of a well formed script. A statement owns each operation and each Enter, and it is of the function of the
 /// innermost open activation. Where such a moment reads or sets a name of an activation, it is one of the innermost. What sets the name binds it: the
 /// statement does, or it is an Enter that has the name as a parameter. So what set a local name that a statement reads is of the statement's own
@@ -233,6 +133,90 @@ pub fn local_names_are_of_their_activation()
     tests_are_equality();
     numbers_and_places();
     corresponding_operands_have_alike_plans();
+}
+
+/// The law of the simulation. A set is given that is closed for the moments up to some one. Up to there the run of the deletion performs exactly the
+/// script's moments without those of deleted statements, and the `pass` of each execution of an emptied suite. Statements are named by place. Objects
+/// and activations of kept statements are renamed one-to-one. Where the reach of a location is kept, what stands there corresponds. No more steps are
+/// needed than the script's run took up to there.
+///
+/// It is so of every run: with calls, methods, classes, jumps, exceptions, askings of devices and files. That no class stands in a function is asked of
+/// the script's tree (`ClassesStandOutside`), as the grammar has it.
+pub fn slices_simulate()
+    ensures { (script : ScriptTree) (capture : Capture) (path : List ℕ) (arguments : List (List ℕ)) (steps budget : ℕ) (keep : StmtSet) (upto after : List Moment)
+        → IsWellFormed script → ClassesStandOutside script → told_by script capture path arguments steps ≡ after ++ upto → IsClosed script (opening_in capture path arguments) upto keep
+        → spent_on upto ≤ budget → Simulates script capture path arguments budget keep upto }
+{
+    tests_are_equality();
+    numbers_and_places();
+    corresponding_operands_have_alike_plans();
+    operations_agree();
+    few_operations_ask();
+    operations_open_tidily();
+    map_changes_by_accesses();
+    operations_pass_functions_on();
+    effects_keep_stores_known();
+    few_operations_note();
+    runs_know_definitions_alone();
+}
+
+/// The law of the occurrence: the k-th evaluation at a place is reached by the slice as the k-th at that place, with a corresponding value, and no
+/// more steps are spent up to there. A place is of one statement, so no evaluation of a deleted statement stands at it.
+///
+/// That corresponding values have the same graph text is [`values_are_reproduced`].
+pub fn slices_reach_the_evaluation()
+    ensures { (script : ScriptTree) (capture : Capture) (path : List ℕ) (arguments : List (List ℕ)) (steps budget : ℕ) (at : Pos) (k : ℕ) (keep : StmtSet) (upto : List Moment)
+        → IsWellFormed script → ClassesStandOutside script → up_to_evaluation at k (told_by script capture path arguments steps) ≡ Some upto → IsClosed script (opening_in capture path arguments) upto keep
+        → spent_on upto ≤ budget → ReachesEvaluation script capture path arguments budget keep at k upto }
+{
+    tests_are_equality();
+    numbers_and_places();
+    corresponding_operands_have_alike_plans();
+    operations_agree();
+    few_operations_ask();
+    operations_open_tidily();
+    map_changes_by_accesses();
+    operations_pass_functions_on();
+    effects_keep_stores_known();
+    few_operations_note();
+    runs_know_definitions_alone();
+}
+
+/// The law of values: for every closed set the slice reproduces each evaluation, whatever its value is. The value has the same graph text at the same
+/// occurrence, with all objects that are reachable from it, and no more steps are spent.
+///
+/// The criterion of a closed set reaches each location that a graph text shows, of a list as far as it goes and with the place where it ends, and what
+/// stands at these corresponds. In a run no key stands without its entry. What the slice knows it defines, under the script's name.
+pub fn values_are_reproduced()
+    ensures { (script : ScriptTree) (capture : Capture) (path : List ℕ) (arguments : List (List ℕ)) (steps budget : ℕ) (at : Pos) (k : ℕ) (keep : StmtSet) (upto : List Moment)
+        → IsWellFormed script → ClassesStandOutside script → up_to_evaluation at k (told_by script capture path arguments steps) ≡ Some upto → IsClosed script (opening_in capture path arguments) upto keep
+        → spent_on upto ≤ budget → Reproduces script capture path arguments budget at k upto keep }
+{
+    tests_are_equality();
+    numbers_and_places();
+    corresponding_operands_have_alike_plans();
+    operations_agree();
+    few_operations_ask();
+    operations_open_tidily();
+    map_changes_by_accesses();
+    operations_pass_functions_on();
+    effects_keep_stores_known();
+    few_operations_note();
+    runs_know_definitions_alone();
+    graph_texts_tell_graphs();
+    runs_keep_keys_with_entries();
+}
+
+/// The law of slices: the slice of an evaluation, which is the script without the statements outside the least closed set, runs again to the same
+/// value. With as many steps as the whole run took it reaches the k-th evaluation at the same place. The value has the same graph text there, and no
+/// more steps are spent. So it is for every script whose classes stand outside its functions, every capture and budget, and every evaluation.
+pub fn slices_reproduce()
+    ensures { (script : ScriptTree) → IsWellFormed script → ClassesStandOutside script → (capture : Capture) (path : List ℕ) (arguments : List (List ℕ)) (steps : ℕ) (at : Pos) (k : ℕ)
+        (upto : List Moment) (keep : StmtSet)
+        → up_to_evaluation at k (told_by script capture path arguments steps) ≡ Some upto → IsLeast script (opening_in capture path arguments) upto keep
+        → Reproduces script capture path arguments (spent_on (told_by script capture path arguments steps)) at k upto keep }
+{
+    values_are_reproduced();
 }
 
 /// The law of the functions of a slice: they are functions of the script, in their order, each with its parameters, its globals and what is kept

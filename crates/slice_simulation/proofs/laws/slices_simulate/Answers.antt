@@ -1,6 +1,7 @@
+use Rattle.slice_simulation.proofs.BoundRuns.{NameLaws}
 use Rattle.slice_simulation.proofs.Happenings.{Laws}
-use Rattle.slice_simulation.proofs.Simulations.{simulated}
 use Rattle.slice_simulation.proofs.Knowing.{FlowLaws}
+use Rattle.slice_simulation.proofs.Simulations.{simulated}
 use Rattle.slice_simulation.proofs.laws.slices_simulate.Goals as goal
 
 pub returns : goal.returns
@@ -23,5 +24,11 @@ returns c =
       silent = c.few_operations_note.ensures;
       tree = c.runs_know_definitions_alone.ensures.tree;
     } in
-    λ script capture path arguments steps budget keep upto after well told_is closed plain enough.
-    simulated laws flow script capture path arguments keep upto steps budget closed well after told_is plain enough
+    let names : NameLaws = record {
+      alike = c.corresponding_operands_have_alike_plans.ensures;
+      locations = c.tests_are_equality.ensures.locations;
+      numbers = c.numbers_and_places.ensures.numbers;
+      standings = c.numbers_and_places.ensures.places;
+    } in
+    λ script capture path arguments steps budget keep upto after well classes told_is closed enough.
+    (simulated laws flow names script capture path arguments keep upto steps budget closed well classes after told_is enough).simulates
