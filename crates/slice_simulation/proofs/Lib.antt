@@ -21,6 +21,7 @@ pub mod KeptExpressions
 pub mod KeptStatements
 pub mod Closedness
 pub mod Simulations
+mod Worked
 mod Standing
 mod PlacedRules
 mod OwnMoments
