@@ -1,7 +1,7 @@
 -- The tree of actions of a script beside that of its slice: what is kept stands in both, all else in the script's alone, and the `pass` of
 -- an emptied suite in the slice's alone. No state is named. In an activation that a statement entered which is not kept no kept one begins.
 use Rattle.std.proofs.Common.{◌≡◌, ℕ, zero, suc, true, false, List, [], ◌∷◌}
-use Rattle.std.specs.Prelude.{⊤, Bool}
+use Rattle.std.specs.Prelude.{⊤, Bool, ◌⊎◌}
 use Rattle.prov_base.specs.declared.place.Pos.{Pos}
 use Rattle.py_value.specs.Contents.{Contents, function, class, object}
 use Rattle.py_tree.specs.Functions.{Function, is_local}
@@ -61,6 +61,10 @@ IsUnknown known (function place) = known place ≡ false
 IsUnknown known (class place) = known place ≡ false
 IsUnknown known other = ⊤
 
+-- A statement that is not kept begins in the script's run alone: nothing of the slice stands at its place, or a statement called which is not kept.
+abbrev pub BeginsAlone : Ground → StmtSet → ℕ → List Open → Type 0
+BeginsAlone ground keep n from = ((m : ℕ) → ground.paired n m → ⊥) ⊎ CallerIsOut keep from
+
 module _ (ground : Ground) (keep : StmtSet) (marks : Marks) where
   -- Down to so many actions of the slice's that cost something. What is open in the script's tree as they begin is the first list.
   pub data Beside : ℕ → List Open → List Open → Act → Act → Type 0 where
@@ -78,7 +82,8 @@ module _ (ground : Ground) (keep : StmtSet) (marks : Marks) where
         → Beside k (a_statement n ∷ from) onto (perform at p vs f) b
     both_begin : {k n m : ℕ} {from onto : List Open} {a b : Act} → keep n ≡ true → ground.paired n m → Beside k (a_statement n ∷ from) onto a b
         → Beside (suc k) from onto (begin n a) (begin m b)
-    alone_begin : {k n : ℕ} {from onto : List Open} {a b : Act} → keep n ≡ false → Beside k (a_statement n ∷ from) onto a b → Beside k from onto (begin n a) b
+    alone_begin : {k n : ℕ} {from onto : List Open} {a b : Act} → keep n ≡ false → BeginsAlone ground keep n from
+        → Beside k (a_statement n ∷ from) onto a b → Beside k from onto (begin n a) b
     pass_begin : {k n m : ℕ} {from onto : List Open} {a b : Act} → keep n ≡ false → ground.paired n m → Beside k (a_statement n ∷ from) onto a b
         → Beside (suc k) from onto (begin n a) (begin m (close m normal_end b))
     both_close : {k n m : ℕ} {from onto : List Open} {ended : Ending} {a b : Act} → keep n ≡ true → ground.paired n m → Beside k from onto a b
@@ -113,7 +118,7 @@ module _ (ground : Ground) (keep : StmtSet) (marks : Marks) where
       both_perform kept same_op same_values (λ v w walked same. less k (each v w walked same)) (λ o e walked same. less k (thrown o e walked same)) (λ walked. less k (at_last walked))
   less (suc k) (alone_perform out unknown each) = alone_perform out unknown (λ answer walked. less (suc k) (each answer walked))
   less (suc k) (both_begin kept named rest) = both_begin kept named (less k rest)
-  less (suc k) (alone_begin out rest) = alone_begin out (less (suc k) rest)
+  less (suc k) (alone_begin out lone rest) = alone_begin out lone (less (suc k) rest)
   less (suc k) (pass_begin out named rest) = pass_begin out named (less k rest)
   less (suc k) (both_close kept named rest) = both_close kept named (less (suc k) rest)
   less (suc k) (alone_close out rest) = alone_close out (less (suc k) rest)
@@ -138,7 +143,7 @@ module _ (ground : Ground) (keep : StmtSet) (marks : Marks) where
       (λ walked. beside_to (at_last walked) (λ how other is. less k (each how other is)))
   beside_to (alone_perform out unknown next) each = alone_perform out unknown (λ answer walked. beside_to (next answer walked) each)
   beside_to {k = suc k} (both_begin kept named rest) each = both_begin kept named (beside_to rest (λ how other is. less k (each how other is)))
-  beside_to (alone_begin out rest) each = alone_begin out (beside_to rest each)
+  beside_to (alone_begin out lone rest) each = alone_begin out lone (beside_to rest each)
   beside_to {k = suc k} (pass_begin out named rest) each = pass_begin out named (beside_to rest (λ how other is. less k (each how other is)))
   beside_to (both_close kept named rest) each = both_close kept named (beside_to rest each)
   beside_to (alone_close out rest) each = alone_close out (beside_to rest each)
@@ -152,13 +157,13 @@ module _ (ground : Ground) (keep : StmtSet) (marks : Marks) where
   beside_to (lost_name kept on same called entered here there) each = lost_name kept on same called entered here there
 
 -- A tree of actions of statements outside the set alone. In an activation that one of them entered no other begins.
-module _ (known : Pos → Bool) (keep : StmtSet) where
+module _ (ground : Ground) (keep : StmtSet) where
   pub data Outside : List Open → List Open → Act → Type 0 where
     out_ret : {from : List Open} {how : How} → Outside from from (ret how)
     out_stop : {from onto : List Open} → Outside from onto stop
-    out_perform : {n : ℕ} {from onto : List Open} {at : Pos} {p : Op} {vs : List Contents} {f : Answer → Walked → Act} → keep n ≡ false → IsUnknown known p.value
+    out_perform : {n : ℕ} {from onto : List Open} {at : Pos} {p : Op} {vs : List Contents} {f : Answer → Walked → Act} → keep n ≡ false → IsUnknown ground.known p.value
         → ((answer : Answer) (walked : Walked) → Outside (a_statement n ∷ from) onto (f answer walked)) → Outside (a_statement n ∷ from) onto (perform at p vs f)
-    out_begin : {n : ℕ} {from onto : List Open} {a : Act} → keep n ≡ false → Outside (a_statement n ∷ from) onto a → Outside from onto (begin n a)
+    out_begin : {n : ℕ} {from onto : List Open} {a : Act} → keep n ≡ false → BeginsAlone ground keep n from → Outside (a_statement n ∷ from) onto a → Outside from onto (begin n a)
     out_close : {n : ℕ} {from onto : List Open} {ended : Ending} {a : Act} → keep n ≡ false → Outside from onto a → Outside (a_statement n ∷ from) onto (close n ended a)
     out_enter : {n : ℕ} {from onto : List Open} {at def : Pos} {params : List (List ℕ)} {vs : List Contents} {f : ℕ → Act} → keep n ≡ false
         → ((a : ℕ) → Outside (an_activation ∷ (a_statement n ∷ from)) onto (f a)) → Outside (a_statement n ∷ from) onto (enter at def params vs f)
@@ -170,7 +175,7 @@ module _ (known : Pos → Bool) (keep : StmtSet) where
   out_to out_ret each = each _
   out_to out_stop each = out_stop
   out_to (out_perform out unknown next) each = out_perform out unknown (λ answer walked. out_to (next answer walked) each)
-  out_to (out_begin out rest) each = out_begin out (out_to rest each)
+  out_to (out_begin out lone rest) each = out_begin out lone (out_to rest each)
   out_to (out_close out rest) each = out_close out (out_to rest each)
   out_to (out_enter out next) each = out_enter out (λ a. out_to (next a) each)
   out_to (out_leave out rest) each = out_leave out (out_to rest each)
@@ -178,12 +183,12 @@ module _ (known : Pos → Bool) (keep : StmtSet) where
 
 -- in the script's run alone, before what follows
 module _ (ground : Ground) (keep : StmtSet) where
-  pub beside_after : (marks : Marks) {k : ℕ} {from between onto : List Open} {a b : Act} {f : How → Act} → Outside ground.known keep from between a
+  pub beside_after : (marks : Marks) {k : ℕ} {from between onto : List Open} {a b : Act} {f : How → Act} → Outside ground keep from between a
       → ((how : How) → Beside ground keep marks k between onto (f how) b) → Beside ground keep marks k from onto (to a f) b
   beside_after marks out_ret each = each _
   beside_after marks out_stop each = stopped
   beside_after marks (out_perform out unknown next) each = alone_perform out unknown (λ answer walked. beside_after marks (next answer walked) each)
-  beside_after marks (out_begin out rest) each = alone_begin out (beside_after marks rest each)
+  beside_after marks (out_begin out lone rest) each = alone_begin out lone (beside_after marks rest each)
   beside_after marks (out_close out rest) each = alone_close out (beside_after marks rest each)
   beside_after marks (out_enter out next) each = alone_enter out (λ a. beside_after marks (next a) each)
   beside_after marks (out_leave out rest) each = alone_leave out (beside_after marks rest each)

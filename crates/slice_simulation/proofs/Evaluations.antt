@@ -116,7 +116,7 @@ module _ (q : Pos) where
           none true is = absurd (false≢true (sym out ∙ kept.0 is s owner))
           none false is = is
       evaluations_same (both_began is named rest) kept = evaluations_same rest kept.1
-      evaluations_same (alone_began out rest) kept = evaluations_same rest kept.1
+      evaluations_same (alone_began out lone rest) kept = evaluations_same rest kept.1
       evaluations_same (passed out named rest) kept = evaluations_same rest kept.1
       evaluations_same (both_ended is named rest) kept = evaluations_same rest kept.1
       evaluations_same (alone_ended out rest) kept = evaluations_same rest kept.1
@@ -138,7 +138,7 @@ module _ (q : Pos) where
       head_again {moment} {before} told_is (alone_did {s = s} {moment = first} {before = rest} {others = others} out owner follows) evaluates_here kept =
           let rest_is : rest ≡ before = cc in absurd (false≢true (sym out ∙ kept s (ap owner_stmt (sym rest_is) ∙ owner)))
       head_again {moment} told_is (both_began {s} is named follows) evaluates_here kept = let first_is : begins s ≡ moment = cc in absurd (false≢true (ap (is_evaluation_at q) first_is ∙ evaluates_here))
-      head_again {moment} told_is (alone_began {s} out follows) evaluates_here kept = let first_is : begins s ≡ moment = cc in absurd (false≢true (ap (is_evaluation_at q) first_is ∙ evaluates_here))
+      head_again {moment} told_is (alone_began {s} out lone follows) evaluates_here kept = let first_is : begins s ≡ moment = cc in absurd (false≢true (ap (is_evaluation_at q) first_is ∙ evaluates_here))
       head_again {moment} told_is (passed {s} out named follows) evaluates_here kept = let first_is : begins s ≡ moment = cc in absurd (false≢true (ap (is_evaluation_at q) first_is ∙ evaluates_here))
       head_again {moment} told_is (both_ended {s} {n} {ended} is named follows) evaluates_here kept = let first_is : ends s ended ≡ moment = cc in absurd (false≢true (ap (is_evaluation_at q) first_is ∙ evaluates_here))
       head_again {moment} told_is (alone_ended {s} {ended} out follows) evaluates_here kept = let first_is : ends s ended ≡ moment = cc in absurd (false≢true (ap (is_evaluation_at q) first_is ∙ evaluates_here))

@@ -23,7 +23,7 @@ use Rattle.slice_simulation.proofs.Marks.{kinds_alone, counted_made, spent_joine
 use Rattle.slice_simulation.proofs.Renamings.{untouched}
 use Rattle.slice_simulation.proofs.Opened.{opens_at, open_keeps, open_from, IsLeft, OpensTidily, tidily}
 use Rattle.slice_simulation.proofs.Touching.{kinds_grow}
-use Rattle.slice_simulation.specs.Related.{IsThere, ByAccess, OwnerIsKept, IsInReach, alone_did, both_began, alone_began, passed, both_ended, alone_ended, kept_of, Related}
+use Rattle.slice_simulation.specs.Related.{IsThere, IsCalledOutside, ByAccess, OwnerIsKept, IsInReach, alone_did, both_began, alone_began, passed, both_ended, alone_ended, kept_of, Related}
 use Rattle.slice_simulation.specs.Renaming.{is_kept, with_mark, marks_after, Fits, Matches, all_marks}
 
 -- where the owner is not kept, neither set nor updated
@@ -105,9 +105,9 @@ module _ (laws : Laws) (capture : Capture) (names : ℕ → ℕ → Type 0) (kno
       no_more = omega (arith, related.no_more);
     }
 
-    pub alone_begin_related : keep n ≡ false → Related capture names known keep upto (beginning n s) t
-    alone_begin_related out = record {
-      follows = alone_began out related.follows;
+    pub alone_begin_related : keep n ≡ false → ((p : ℕ) → names n p → ⊥) ⊎ IsCalledOutside keep s.told → Related capture names known keep upto (beginning n s) t
+    alone_begin_related out lone = record {
+      follows = alone_began out lone related.follows;
       contents = related.contents;
       kinds = related.kinds;
       counted = related.counted;

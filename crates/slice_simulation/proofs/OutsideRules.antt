@@ -1,5 +1,5 @@
 -- What the rules of the language give for a statement outside the set, and all in it: actions of statements outside the set alone.
-use Rattle.std.proofs.Common.{◌≡◌, ◌+◌, ℕ, zero, suc, Bool, true, false, if◌then◌else◌, List, [], ◌∷◌, length, Option, Some, None, inl, refl, subst, sym, ◌∙◌}
+use Rattle.std.proofs.Common.{◌≡◌, ◌+◌, ℕ, zero, suc, Bool, true, false, if◌then◌else◌, List, [], ◌∷◌, length, Option, Some, None, inl, inr, refl, subst, sym, ◌∙◌}
 use Rattle.std.proofs.lemmas.Bool.{false≢true}
 use Rattle.std.specs.Prelude.{nat_eq, nat_lt, pos, ⊤, slice_get, ◌-◌}
 use Rattle.prov_base.specs.declared.place.Pos.{Pos}
@@ -25,7 +25,7 @@ use Rattle.slice_simulation.proofs.Standing.{AllOwned, owned_left, owned_right}
 use Rattle.slice_simulation.specs.Owned.{started_suite, started_stmt, started_form, started_branches, started_else, started_handlers}
 use Rattle.slice_law.specs.Closed.{StmtSet}
 use Rattle.py_model.specs.Meaning.{level}
-use Rattle.slice_simulation.proofs.Beside.{IsUnknown, CallerIsOut, Outside, out_ret, out_stop, out_perform, out_begin, out_close, out_enter, out_leave, out_barred, out_to}
+use Rattle.slice_simulation.proofs.Beside.{Ground, BeginsAlone, IsUnknown, CallerIsOut, Outside, out_ret, out_stop, out_perform, out_begin, out_close, out_enter, out_leave, out_barred, out_to}
 use Rattle.slice_simulation.specs.Under.{UnderSuite, UnderStmt, UnderForm, UnderBranches, UnderElse, UnderHandlers}
 
 module _ (keep : StmtSet) where
@@ -64,15 +64,16 @@ module_unknown known name = by_number (number_by (bytes_eq name) module_names)
     by_number None = tt
     by_number (Some number) = tt
 
-module _ (known : Pos → Bool) (P : ℕ → Pos → Type 0) (keep low : StmtSet) (undefined : (n : ℕ) (at : Pos) → P n at → keep n ≡ false → known at ≡ false) (A : List Open → Type 0) (bar : (n : ℕ) (from : List Open) → low n ≡ false → keep n ≡ true → A from → CallerIsOut keep from)
+module _ (ground : Ground) (F P : ℕ → Pos → Type 0) (keep low : StmtSet) (undefined : (n : ℕ) (at : Pos) → P n at → keep n ≡ false → ground.known at ≡ false) (A : List Open → Type 0)
+    (lone : (n : ℕ) (at : Pos) (from : List Open) → P n at → A from → BeginsAlone ground keep n from) (bar : (n : ℕ) (from : List Open) → low n ≡ false → keep n ≡ true → A from → CallerIsOut keep from)
     (push : (n : ℕ) (from : List Open) → A from → A (a_statement n ∷ from)) where
   -- inside any statement that is not kept
   abbrev pub Out : Act → Type 0
-  Out a = (n : ℕ) (from : List Open) → keep n ≡ false → A (a_statement n ∷ from) → Outside known keep (a_statement n ∷ from) (a_statement n ∷ from) a
+  Out a = (n : ℕ) (from : List Open) → keep n ≡ false → A (a_statement n ∷ from) → Outside ground keep (a_statement n ∷ from) (a_statement n ∷ from) a
 
   -- in a suite
   abbrev pub OutFrom : Act → Type 0
-  OutFrom a = (from : List Open) → A from → Outside known keep from from a
+  OutFrom a = (from : List Open) → A from → Outside ground keep from from a
 
   inside_out : {a : Act} → OutFrom a → Out a
   inside_out going n from out holds = going (a_statement n ∷ from) holds
@@ -81,10 +82,10 @@ module _ (known : Pos → Bool) (P : ℕ → Pos → Type 0) (keep low : StmtSet
   ended how n from out holds = out_ret
 
   then_out : {a : Act} {f : How → Act} → Out a → ((how : How) → Out (f how)) → Out (to a f)
-  then_out first each n from out holds = out_to known keep (first n from out holds) (λ how. each how n from out holds)
+  then_out first each n from out holds = out_to ground keep (first n from out holds) (λ how. each how n from out holds)
 
   then_from : {a : Act} {f : How → Act} → OutFrom a → ((how : How) → OutFrom (f how)) → OutFrom (to a f)
-  then_from first each from holds = out_to known keep (first from holds) (λ how. each how from holds)
+  then_from first each from holds = out_to ground keep (first from holds) (λ how. each how from holds)
 
   out_if : {a b : Act} (test : Bool) → Out a → Out b → Out (if test then a else b)
   out_if true first second = first
@@ -95,13 +96,13 @@ module _ (known : Pos → Bool) (P : ℕ → Pos → Type 0) (keep low : StmtSet
   answer_out here at_last each (raised o) = ended (threw o here.line)
   answer_out here at_last each at_end = at_last
 
-  doing_out : (here : Here) (at : Pos) (p : Op) (values : List Contents) {go : Contents → Act} → IsUnknown known p.value → ((v : Contents) → Out (go v)) → Out (doing here at p values go)
+  doing_out : (here : Here) (at : Pos) (p : Op) (values : List Contents) {go : Contents → Act} → IsUnknown ground.known p.value → ((v : Contents) → Out (go v)) → Out (doing here at p values go)
   doing_out here at p values unknown each n from out holds = out_perform out unknown (λ answer walked. answer_out here (ended normal) each answer n from out holds)
 
-  doing_or_out : (here : Here) (at : Pos) (p : Op) (values : List Contents) {go : Contents → Act} → IsUnknown known p.value → ((v : Contents) → Out (go v)) → Out (doing_or here at p values (ret normal) go)
+  doing_or_out : (here : Here) (at : Pos) (p : Op) (values : List Contents) {go : Contents → Act} → IsUnknown ground.known p.value → ((v : Contents) → Out (go v)) → Out (doing_or here at p values (ret normal) go)
   doing_or_out here at p values unknown each n from out holds = out_perform out unknown (λ answer walked. answer_out here (ended normal) each answer n from out holds)
 
-  walking_out : (here : Here) (at : Pos) (p : Op) (values : List Contents) {go : Contents → Walked → Act} → IsUnknown known p.value → ((v : Contents) (walked : Walked) → Out (go v walked)) → Out (walking here at p values go)
+  walking_out : (here : Here) (at : Pos) (p : Op) (values : List Contents) {go : Contents → Walked → Act} → IsUnknown ground.known p.value → ((v : Contents) (walked : Walked) → Out (go v walked)) → Out (walking here at p values go)
   walking_out here at p values unknown each n from out holds = out_perform out unknown (λ answer walked. answer_out here (ended normal) (λ v. each v walked) answer n from out holds)
 
   truth_out : {a b : Act} → Out a → Out b → (v : Contents) → Out (by_truth a b v)
@@ -129,13 +130,13 @@ module _ (known : Pos → Bool) (P : ℕ → Pos → Type 0) (keep low : StmtSet
 
   -- the suite of a function that a statement calls which is not kept
   abbrev pub Bodies : (Task → Act) → Type 0
-  Bodies next = (here : Here) (body : SuiteTree) → AllOwned P (started_suite body) → (from : List Open) → CallerIsOut keep from → Outside known keep from from (next (body_of here body))
+  Bodies next = (here : Here) (body : SuiteTree) → AllOwned F (started_suite body) → (from : List Open) → CallerIsOut keep from → Outside ground keep from from (next (body_of here body))
 
-  module _ (script : ScriptTree) (found : (place : Pos) → FoundStarts P (function_at script place)) (next : Task → Act) (bodies : Bodies next) where
+  module _ (script : ScriptTree) (found : (place : Pos) → FoundStarts F (function_at script place)) (next : Task → Act) (bodies : Bodies next) where
     abbrev GoesOut : (Contents → Act) → Type 0
     GoesOut go = (v : Contents) → Out (go v)
 
-    failing_out : (here : Here) (at : Pos) (reason : Contents) (values : List Contents) → IsUnknown known reason → Out (failing here at reason values)
+    failing_out : (here : Here) (at : Pos) (reason : Contents) (values : List Contents) → IsUnknown ground.known reason → Out (failing here at reason values)
     failing_out here at reason values unknown = doing_out here at (op_of 38 reason) values unknown (λ v. ended normal)
 
     giving_out : (here : Here) (at : Pos) {go : Contents → Act} → GoesOut go → GoesOut (giving script next here at go)
@@ -143,18 +144,18 @@ module _ (known : Pos → Bool) (P : ℕ → Pos → Type 0) (keep low : StmtSet
 
     -- a function is entered, its suite runs, and it is left
     left_out : {go : Contents → Act} → GoesOut go → (how : How) (n : ℕ) (from : List Open) → keep n ≡ false → A (a_statement n ∷ from)
-        → Outside known keep (an_activation ∷ (a_statement n ∷ from)) (a_statement n ∷ from) (left_with script next go how)
+        → Outside ground keep (an_activation ∷ (a_statement n ∷ from)) (a_statement n ∷ from) (left_with script next go how)
     left_out each (threw o line) n from out holds = out_leave out out_ret
     left_out each (returned v) n from out holds = out_leave out (each v n from out holds)
     left_out each normal n from out holds = out_leave out (each nothing n from out holds)
     left_out each broke n from out holds = out_leave out (each nothing n from out holds)
     left_out each continued n from out holds = out_leave out (each nothing n from out holds)
 
-    running_out : (here : Here) (at : Pos) (f : Function) (values : List Contents) {go : Contents → Act} → AllOwned P (started_suite f.body) → GoesOut go → Out (running script next here at f values go)
+    running_out : (here : Here) (at : Pos) (f : Function) (values : List Contents) {go : Contents → Act} → AllOwned F (started_suite f.body) → GoesOut go → Out (running script next here at f values go)
     running_out here at f values ins each n from out holds =
-        out_enter out (λ activation. out_to known keep (bodies (inside script next here f activation) f.body ins (an_activation ∷ (a_statement n ∷ from)) out) (λ how. left_out each how n from out holds))
+        out_enter out (λ activation. out_to ground keep (bodies (inside script next here f activation) f.body ins (an_activation ∷ (a_statement n ∷ from)) out) (λ how. left_out each how n from out holds))
 
-    function_out : (here : Here) (at : Pos) (called : Contents) (f : Option Function) (values : List Contents) {go : Contents → Act} → FoundStarts P f → GoesOut go → Out (calling_function script next here at called f values go)
+    function_out : (here : Here) (at : Pos) (called : Contents) (f : Option Function) (values : List Contents) {go : Contents → Act} → FoundStarts F f → GoesOut go → Out (calling_function script next here at called f values go)
     function_out here at called None values ins each = failing_out here at not_callable (called ∷ values) tt
     function_out here at called (Some f) values ins each =
         out_if (nat_eq (length f.params) (length values))
@@ -180,7 +181,7 @@ module _ (known : Pos → Bool) (P : ℕ → Pos → Type 0) (keep low : StmtSet
     builtin_out : (here : Here) (at : Pos) (number : ℕ) (arguments : List Contents) {go : Contents → Act} → GoesOut go → Out (calling_builtin script next here at number arguments go)
     builtin_out here at number arguments each =
         out_if (takes_so_many (slice_get function_arities number) (length arguments)) (doing_out here at (op (50 + number)) arguments tt each)
-        (failing_out here at (if nat_lt number 22 then wrong_arguments else not_callable) (builtin number ∷ arguments) (reason_unknown known (nat_lt number 22)))
+        (failing_out here at (if nat_lt number 22 then wrong_arguments else not_callable) (builtin number ∷ arguments) (reason_unknown ground.known (nat_lt number 22)))
 
     method_out : (here : Here) (at : Pos) (number : ℕ) (receiver : Contents) (arguments : List Contents) {go : Contents → Act} → GoesOut go
         → Out (calling_method script next here at number receiver arguments go)
@@ -217,7 +218,7 @@ module _ (known : Pos → Bool) (P : ℕ → Pos → Type 0) (keep low : StmtSet
 
     mutual
       eval_out : (here : Here) (e : ExprTree) {go : Contents → Act} → GoesOut go → Out (eval script next here e go)
-      eval_out here (const_expr at atom) each = doing_out here at (op_of 0 (constant atom)) [] (constant_unknown known atom) each
+      eval_out here (const_expr at atom) each = doing_out here at (op_of 0 (constant atom)) [] (constant_unknown ground.known atom) each
       eval_out here (var_expr at name) each = doing_out here at (op_scoped 1 here name) [] tt each
       eval_out here (unary_expr at sign e) each = eval_out here e (λ v. doing_out here at (op (unary_number sign)) (v ∷ []) tt each)
       eval_out here (binary_expr at sign l r) each = eval_out here l (λ v. eval_out here r (λ w. doing_out here at (op (binary_number sign)) (v ∷ w ∷ []) tt each))
@@ -344,7 +345,7 @@ module _ (known : Pos → Bool) (P : ℕ → Pos → Type 0) (keep low : StmtSet
     matching_out : (here : Here) (at : Pos) (kind : ExprTree) (o : ℕ) {a b : Act} → Out a → Out b → Out (matching script next here at kind o a b)
     matching_out here at kind o hit miss = eval_out here kind (λ sought. doing_out here at (op 41) (object o ∷ sought ∷ []) tt (truth_out hit miss))
 
-    class_body_out : (here : Here) (at : Pos) → known at ≡ false → (name : List ℕ) (bases : List Contents) {run : Contents → Act} → ((of : Contents) → Out (run of)) → Out (class_body script next here at name run bases)
+    class_body_out : (here : Here) (at : Pos) → ground.known at ≡ false → (name : List ℕ) (bases : List Contents) {run : Contents → Act} → ((of : Contents) → Out (run of)) → Out (class_body script next here at name run bases)
     class_body_out here at unknown name bases body =
         doing_out here at (op_whole 43 0 name (class at)) bases unknown (λ of. then_out (body of) (so_out (doing_out here at (op_scoped 33 here name) (of ∷ []) tt (λ done. ended normal))))
 
@@ -352,7 +353,7 @@ module _ (known : Pos → Bool) (P : ℕ → Pos → Type 0) (keep low : StmtSet
     failed_out here at None = doing_out here at (op 47) [] tt (λ done. ended normal)
     failed_out here at (Some message) = eval_out here message (λ v. doing_out here at (op 47) (v ∷ []) tt (λ done. ended normal))
 
-    defining_out : (here : Here) (at : Pos) → known at ≡ false → (name : List ℕ) (of : Option Contents) → Out (defining script next here at name of)
+    defining_out : (here : Here) (at : Pos) → ground.known at ≡ false → (name : List ℕ) (of : Option Contents) → Out (defining script next here at name of)
     defining_out here at unknown name None = doing_out here at (op_whole 42 0 name (function at)) [] unknown (λ done. ended normal)
     defining_out here at unknown name (Some of) = doing_out here at (op_whole 42 0 name (function at)) (of ∷ []) unknown (λ done. ended normal)
 
@@ -372,12 +373,12 @@ module _ (known : Pos → Bool) (P : ℕ → Pos → Type 0) (keep low : StmtSet
             (λ out. rule_out (on_line at.line here) at (undefined number at (ins.each number at (inl refl)) out) form (under_none low number form (not_kept low number under.0) under.1) (owned_right ((number, at) ∷ []) ins) number from out)
           where
             begun : (test : Bool) → keep number ≡ test
-                → (keep number ≡ false → A (a_statement number ∷ from) → Outside known keep (a_statement number ∷ from) (a_statement number ∷ from) (rule script next (on_line at.line here) at form))
-                → Outside known keep from from (stmt script next here (one_stmt number at span form))
+                → (keep number ≡ false → A (a_statement number ∷ from) → Outside ground keep (a_statement number ∷ from) (a_statement number ∷ from) (rule script next (on_line at.line here) at form))
+                → Outside ground keep from from (stmt script next here (one_stmt number at span form))
             begun true kept going = out_barred kept (bar number from (not_kept low number under.0) kept holds)
-            begun false out going = out_begin out (out_to known keep (going out (push number from holds)) (λ how. out_close out out_ret))
+            begun false out going = out_begin out (lone number at from (ins.each number at (inl refl)) holds) (out_to ground keep (going out (push number from holds)) (λ how. out_close out out_ret))
 
-        pub rule_out : (here : Here) (at : Pos) → known at ≡ false → (form : FormTree) → UnderForm low false form → AllOwned P (started_form form) → Out (rule script next here at form)
+        pub rule_out : (here : Here) (at : Pos) → ground.known at ≡ false → (form : FormTree) → UnderForm low false form → AllOwned P (started_form form) → Out (rule script next here at form)
         rule_out here at unknown (do_form e) under ins = eval_out here e (λ v. ended normal)
         rule_out here at unknown (assign_form target e) under ins = eval_out here e (λ v. store_out here at target v (ended normal))
         rule_out here at unknown (aug_form target sign place e) under ins = augment_out here target sign place e
@@ -390,7 +391,7 @@ module _ (known : Pos → Bool) (P : ℕ → Pos → Type 0) (keep low : StmtSet
         rule_out here at unknown (raise_form None) under ins = doing_out here at (op 40) (raised_value here.handled) tt (λ done. ended normal)
         rule_out here at unknown (raise_form (Some e)) under ins = eval_out here e (λ v. doing_out here at (op 40) (v ∷ []) tt (λ done. ended normal))
         rule_out here at unknown (assert_form test message) under ins = eval_out here test (λ v. asking_out here (expr_place test) v (ended normal) (failed_out here at message))
-        rule_out here at unknown (import_form name) under ins = doing_out here at (op_whole 44 (scope_of here name) name (module_of name)) [] (module_unknown known name) (λ done. ended normal)
+        rule_out here at unknown (import_form name) under ins = doing_out here at (op_whole 44 (scope_of here name) name (module_of name)) [] (module_unknown ground.known name) (λ done. ended normal)
         rule_out here at unknown (if_form branches orelse) under ins = choose_out here branches under.0 (owned_left _ ins) (otherwise_out here orelse under.1 (owned_right (started_branches branches) ins))
         rule_out here at unknown (while_form test body) under ins = while_out here test (suite_out here body under ins) (tasks (while_again here test body) (under, ins))
         rule_out here at unknown (for_form target e body) under ins =
@@ -470,26 +471,31 @@ mutual
   under_empty_handlers end_handlers = tt
   under_empty_handlers (more_handlers kind bound body rest) = (under_empty body, under_empty_handlers rest)
 
-module _ (known : Pos → Bool) (P : ℕ → Pos → Type 0) (keep : StmtSet) (undefined : (n : ℕ) (at : Pos) → P n at → keep n ≡ false → known at ≡ false) where
+-- F holds of all statements, with their places, and P of those that stand in statements outside the set.
+module _ (ground : Ground) (F P : ℕ → Pos → Type 0) (keep : StmtSet) (whole : (n : ℕ) (at : Pos) → P n at → F n at)
+    (undefined : (n : ℕ) (at : Pos) → F n at → keep n ≡ false → ground.known at ≡ false) (alone : (n : ℕ) (at : Pos) → P n at → (m : ℕ) → ground.paired n m → ⊥) where
   pub barred : (n : ℕ) (from : List Open) → empty n ≡ false → keep n ≡ true → CallerIsOut keep from → CallerIsOut keep from
   barred n from out kept holds = holds
 
   pub pushed : (n : ℕ) (from : List Open) → CallerIsOut keep from → CallerIsOut keep (a_statement n ∷ from)
   pushed n from holds = holds
 
+  pub called : (n : ℕ) (at : Pos) (from : List Open) → F n at → CallerIsOut keep from → BeginsAlone ground keep n from
+  called n at from here holds = inr holds
+
   -- in an activation that was entered by a statement which is not kept
   mutual
     unfolding level
 
-    pub bodies_out : (script : ScriptTree) → ((place : Pos) → FoundStarts P (function_at script place)) → (k : ℕ) → Bodies known P keep empty undefined (CallerIsOut keep) barred pushed (level script k)
+    pub bodies_out : (script : ScriptTree) → ((place : Pos) → FoundStarts F (function_at script place)) → (k : ℕ) → Bodies ground F F keep empty undefined (CallerIsOut keep) called barred pushed (level script k)
     bodies_out script found zero here body ins from holds = out_stop
     bodies_out script found (suc k) here body ins from holds =
-        suite_from known P keep empty undefined (CallerIsOut keep) barred pushed script found (level script k) (bodies_out script found k) (loops_out script found k) here body (under_empty body) ins from holds
+        suite_from ground F F keep empty undefined (CallerIsOut keep) called barred pushed script found (level script k) (bodies_out script found k) (loops_out script found k) here body (under_empty body) ins from holds
 
-    loops_out : (script : ScriptTree) → ((place : Pos) → FoundStarts P (function_at script place)) → (k : ℕ) (what : Task) → HasNone known P keep empty undefined (CallerIsOut keep) barred pushed what → Out known P keep empty undefined (CallerIsOut keep) barred pushed (level script k what)
+    loops_out : (script : ScriptTree) → ((place : Pos) → FoundStarts F (function_at script place)) → (k : ℕ) (what : Task) → HasNone ground F F keep empty undefined (CallerIsOut keep) called barred pushed what → Out ground F F keep empty undefined (CallerIsOut keep) called barred pushed (level script k what)
     loops_out script found zero what none n from out holds = out_stop
     loops_out script found (suc k) what none n from out holds =
-        task_out known P keep empty undefined (CallerIsOut keep) barred pushed script found (level script k) (bodies_out script found k) (loops_out script found k) what none n from out holds
+        task_out ground F F keep empty undefined (CallerIsOut keep) called barred pushed script found (level script k) (bodies_out script found k) (loops_out script found k) what none n from out holds
 
   abbrev pub Anywhere : List Open → Type 0
   Anywhere from = ⊤
@@ -497,24 +503,27 @@ module _ (known : Pos → Bool) (P : ℕ → Pos → Type 0) (keep : StmtSet) (u
   pub unbarred : (n : ℕ) (from : List Open) → keep n ≡ false → keep n ≡ true → Anywhere from → CallerIsOut keep from
   unbarred n from out kept holds = absurd (false≢true (sym out ∙ kept))
 
+  pub apart : (n : ℕ) (at : Pos) (from : List Open) → P n at → Anywhere from → BeginsAlone ground keep n from
+  apart n at from here holds = inl (alone n at here)
+
   -- inside any statement that is not kept
   abbrev pub Alone : Act → Type 0
-  Alone a = (n : ℕ) (from : List Open) → keep n ≡ false → Outside known keep (a_statement n ∷ from) (a_statement n ∷ from) a
+  Alone a = (n : ℕ) (from : List Open) → keep n ≡ false → Outside ground keep (a_statement n ∷ from) (a_statement n ∷ from) a
 
   -- a further turn of a loop that has no kept statement
   abbrev pub TurnsAlone : Task → Type 0
-  TurnsAlone what = HasNone known P keep keep undefined Anywhere unbarred (λ n from holds. tt) what
+  TurnsAlone what = HasNone ground F P keep keep (λ n at here. undefined n at (whole n at here)) Anywhere apart unbarred (λ n from holds. tt) what
 
   abbrev pub BodiesAlone : (Task → Act) → Type 0
-  BodiesAlone next = Bodies known P keep keep undefined Anywhere unbarred (λ n from holds. tt) next
+  BodiesAlone next = Bodies ground F P keep keep (λ n at here. undefined n at (whole n at here)) Anywhere apart unbarred (λ n from holds. tt) next
 
-  pub rule_alone : (script : ScriptTree) → ((place : Pos) → FoundStarts P (function_at script place)) → (next : Task → Act) → BodiesAlone next → ((what : Task) → TurnsAlone what → Alone (next what))
-      → (here : Here) (at : Pos) → known at ≡ false → (form : FormTree) → UnderForm keep false form → AllOwned P (started_form form) → Alone (rule script next here at form)
+  pub rule_alone : (script : ScriptTree) → ((place : Pos) → FoundStarts F (function_at script place)) → (next : Task → Act) → BodiesAlone next → ((what : Task) → TurnsAlone what → Alone (next what))
+      → (here : Here) (at : Pos) → ground.known at ≡ false → (form : FormTree) → UnderForm keep false form → AllOwned P (started_form form) → Alone (rule script next here at form)
   rule_alone script found next bodies tasks here at unknown form under ins n from out =
-      rule_out known P keep keep undefined Anywhere unbarred (λ n from holds. tt) script found next bodies (λ what none n from out holds. tasks what none n from out) here at unknown form under ins n from out tt
+      rule_out ground F P keep keep (λ n at here. undefined n at (whole n at here)) Anywhere apart unbarred (λ n from holds. tt) script found next bodies (λ what none n from out holds. tasks what none n from out) here at unknown form under ins n from out tt
 
-  pub levels_alone : (script : ScriptTree) → ((place : Pos) → FoundStarts P (function_at script place)) → (k : ℕ) (what : Task) → TurnsAlone what → Alone (level script k what)
+  pub levels_alone : (script : ScriptTree) → ((place : Pos) → FoundStarts F (function_at script place)) → (k : ℕ) (what : Task) → TurnsAlone what → Alone (level script k what)
   unfolding level
   levels_alone script found zero what none n from out = out_stop
   levels_alone script found (suc k) what none n from out =
-      task_out known P keep keep undefined Anywhere unbarred (λ n from holds. tt) script found (level script k) (bodies_out script found k) (λ what none n from out holds. levels_alone script found k what none n from out) what none n from out tt
+      task_out ground F P keep keep (λ n at here. undefined n at (whole n at here)) Anywhere apart unbarred (λ n from holds. tt) script found (level script k) (bodies_out script found k) (λ what none n from out holds. levels_alone script found k what none n from out) what none n from out tt

@@ -26,7 +26,7 @@ use Rattle.model_laws.specs.Knows.{Knows}
 use Rattle.py_tree.specs.Functions.{Function, is_local}
 use Rattle.slice_simulation.specs.Cut.{SameFunction}
 use Rattle.slice_simulation.proofs.Knowing.{FlowLaws, KnownPerform, perform_known, begin_known, close_known, leave_known, enter_known, KnownNow, known_now, entered_known}
-use Rattle.slice_simulation.proofs.Beside.{Ground, OnName, unknown_perform, lost_name, TopIsKept, CallerIsOut, Beside, unreached, both_ret, stopped, both_perform, alone_perform, both_begin, alone_begin, pass_begin, both_close, alone_close, abrupt_close, both_enter, alone_enter, both_leave, alone_leave, barred_begin}
+use Rattle.slice_simulation.proofs.Beside.{BeginsAlone, InnermostIs, Ground, OnName, unknown_perform, lost_name, TopIsKept, CallerIsOut, Beside, unreached, both_ret, stopped, both_perform, alone_perform, both_begin, alone_begin, pass_begin, both_close, alone_close, abrupt_close, both_enter, alone_enter, both_leave, alone_leave, barred_begin}
 use Rattle.slice_simulation.proofs.Activations.{alone_enter_related, same_activation, enter_paid, both_enter_related, both_leave_related, alone_leave_related}
 use Rattle.slice_simulation.proofs.Happenings.{Laws}
 use Rattle.slice_simulation.proofs.KeptMoments.{kept_moment}
@@ -36,7 +36,7 @@ use Rattle.py_value.specs.Changes.{after_accesses}
 use Rattle.slice_simulation.proofs.UnknownNames.{names_stay}
 use Rattle.slice_simulation.proofs.Touching.{kinds_grow}
 use Rattle.slice_simulation.proofs.OtherMoments.{deleted_moment, deleted_askings, begin_paid, both_begin_related, alone_begin_related, pass_related, both_end_related, alone_end_related}
-use Rattle.slice_simulation.specs.Related.{Related, AllInReach, DoneAgain}
+use Rattle.slice_simulation.specs.Related.{called_by, IsCalledOutside, Related, AllInReach, DoneAgain}
 use Rattle.slice_simulation.specs.Renaming.{activations_after, SameValue, SameScope, IsShifted, Marks, all_marks}
 
 value_same : (v w : Contents) → value v ≡ value w → v ≡ w
@@ -152,6 +152,23 @@ module _ (capture : Capture) (keep : StmtSet) (opening : RunStore) (upto : List 
     pub names : (news : List Moment) (at : Pos) (p : Op) (vs : List Contents) (s u : State) (answer : Answer) (came : Walked) (n : ℕ) (one other : Function)
         → operation capture at p vs s ≡ did answer came u → upto ≡ news ++ u.told → owner_stmt s.told ≡ Some n → keep n ≡ true → OnName p.no vs
         → SameFunction keep one other → ground.called one other → ground.entered p.scope one.place → is_local one p.name ≡ true → is_local other p.name ≡ false → ⊥
+
+  -- the statement that entered the innermost activation is not kept
+  called_outside : (frames : List Frame) (from : List Open) → map open_of frames ≡ from → CallerIsOut keep from → (o : Occurrence) × (_ : called_by frames ≡ Some o) × (keep o.stmt ≡ false)
+  called_outside [] from is out = absurd (subst (CallerIsOut keep) (sym is) out)
+  called_outside (in_occurrence o ∷ frames) from is out = called_outside frames (map open_of frames) refl (subst (CallerIsOut keep) (sym is) out)
+  called_outside (in_activation time ∷ frames) from is out = inner_out frames (map open_of frames) refl (subst (CallerIsOut keep) (sym is) out)
+    where
+      inner_out : (frames : List Frame) (from : List Open) → map open_of frames ≡ from → InnermostIs false keep from → (o : Occurrence) × (_ : innermost frames ≡ Some o) × (keep o.stmt ≡ false)
+      inner_out [] from is out = absurd (subst (InnermostIs false keep) (sym is) out)
+      inner_out (in_occurrence o ∷ frames) from is out = (o, refl, subst (InnermostIs false keep) (sym is) out)
+      inner_out (in_activation time ∷ frames) from is out = inner_out frames (map open_of frames) refl (subst (InnermostIs false keep) (sym is) out)
+
+  lone_there : {n : ℕ} (told : List Moment) (from : List Open) → map open_of (frames_after told) ≡ from → BeginsAlone ground keep n from → ((p : ℕ) → ground.paired n p → ⊥) ⊎ IsCalledOutside keep told
+  lone_there told from frames (inl lone) = inl lone
+  lone_there told from frames (inr out) =
+      let called = called_outside (frames_after told) from frames out in
+      inr (record { caller = called.0; caller_is = called.1; out = called.2 })
 
   module _ (laws : Laws) (flow : FlowLaws) (asks : AsksKept) where
     abbrev pub marks : Marks
@@ -325,7 +342,7 @@ module _ (capture : Capture) (keep : StmtSet) (opening : RunStore) (upto : List 
             subst Reaches (ap (λ test. if test then outcome capture b (beginning m t) else spent t) (sym (le-leb 1 t.left pays)))
             (arrive a b (beginning n s) (beginning m t) now held_now (omega (arith, before)) through
             (λ early. on now held_now (ap (λ (open_ones : List Open). a_statement n ∷ open_ones) frames) (omega (arith, few, pays)) early through))
-    simulate (alone_begin {k = k} {n = n} {from = from} {a = a} {b = b} out rest) knows s t related holds frames few before through =
+    simulate (alone_begin {k = k} {n = n} {from = from} {a = a} {b = b} out lone rest) knows s t related holds frames few before through =
         by_left (nat_le 1 s.left) through (simulate rest knows (beginning n s) t)
       where
         by_left : (enough : Bool) → Through capture keep opening upto (if enough then outcome capture a (beginning n s) else spent s)
@@ -335,7 +352,7 @@ module _ (capture : Capture) (keep : StmtSet) (opening : RunStore) (upto : List 
         by_left false through on = absurd (not_yet capture keep opening upto s refl before through)
         by_left true through on =
             let held_now : Holds opening OnlyKept ground.known (beginning n s) t = record { here = record { map_is = holds.here.map_is; kinds_are = holds.here.kinds_are }; there = record { map_is = holds.there.map_is; kinds_are = holds.there.kinds_are }; askings = holds.askings; knows = holds.knows; last = holds.last } in
-            let now : Related capture ground.paired ground.known keep upto (beginning n s) t = alone_begin_related laws capture ground.paired ground.known keep upto n 0 s t related out in
+            let now : Related capture ground.paired ground.known keep upto (beginning n s) t = alone_begin_related laws capture ground.paired ground.known keep upto n 0 s t related out (lone_there s.told from frames lone) in
             arrive a b (beginning n s) t now held_now (omega (arith, before)) through
             (λ early. on now held_now (ap (λ (open_ones : List Open). a_statement n ∷ open_ones) frames) few early through)
     simulate {k = suc k} (pass_begin {n = n} {m = m} {from = from} {a = a} {b = b} out named rest) knows s t related holds frames few before through =

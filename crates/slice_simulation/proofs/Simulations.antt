@@ -7,7 +7,7 @@ use Rattle.py_value.specs.Same.{put}
 use Rattle.py_value.specs.Seen.{SeenLocation, SeenContent, var_at, len_at, item_at, entry_at, order_at, file_at, offset_at, closed_at, method_at, base_at, var_is, len_is, item_is, file_is, sets}
 use Rattle.py_model.specs.Capture.{Capture, opening_in, with_bytes}
 use Rattle.py_model.specs.History.{held, kinds_after, entered_by, spent_on}
-use Rattle.py_model.specs.Meaning.{level, meaning, at_start, starting}
+use Rattle.py_model.specs.Meaning.{meaning, at_start, starting}
 use Rattle.py_model.specs.Moment.{Moment, enters}
 use Rattle.py_model.specs.Renaming.{Renaming, renamed_location, renamed_content, renamed_kind}
 use Rattle.py_model.specs.Running.{outcome}
@@ -29,15 +29,19 @@ use Rattle.model_laws.specs.Flow.{KnownFound, KnownKind, KnownStore}
 use Rattle.slice_simulation.proofs.FunctionsLeft.{function_found}
 use Rattle.slice_simulation.proofs.KeptOperations.{BothHere, no_class, none_handled, no_function}
 use Rattle.slice_simulation.proofs.KeptExpressions.{FunctionsFit}
-use Rattle.slice_simulation.proofs.KeptStatements.{CalleeFits, CalleesFit, TasksBoth, body_both, levels_both}
+use Rattle.slice_simulation.proofs.KeptStatements.{CalleeFits, CalleesFit, script_both}
 use Rattle.slice_simulation.proofs.Knowing.{FlowLaws, opening_known}
 use Rattle.model_laws.specs.Defined.{defines}
 use Rattle.slice_simulation.proofs.Marks.{shifts}
+use Rattle.slice_simulation.proofs.AloneStatements.{lone_apart}
+use Rattle.slice_simulation.proofs.EmptiedSuites.{lone_suite}
+use Rattle.slice_simulation.proofs.NumberedStatements.{suite_place}
+use Rattle.slice_simulation.proofs.Standing.{AllOwned}
 use Rattle.slice_simulation.proofs.StartsFound.{found_starts}
 use Rattle.slice_simulation.proofs.StayingDefinitions.{deleted_undefined}
 use Rattle.slice_simulation.proofs.FunctionBodies.{callee_found, CalleeBodies, callee_bodies}
 use Rattle.slice_simulation.specs.Under.{UnderSuite}
-use Rattle.slice_simulation.proofs.OutsideRules.{FoundStarts, bodies_out, levels_alone}
+use Rattle.slice_simulation.proofs.OutsideRules.{FoundStarts}
 use Rattle.slice_simulation.proofs.OwnMoments.{AllOwn, Owns, OnlyKept, all_own, asking_kept, asking_apart}
 use Rattle.py_tree.specs.WellFormed.{IsWellFormed}
 use Rattle.slice_simulation.proofs.Renamings.{accesses_match}
@@ -109,6 +113,14 @@ module _ (laws : Laws) (flow : FlowLaws) (name_laws : NameLaws) (script : Script
   pairs : (s n : ℕ) (at : Pos) → IsHere script s at → IsHere (deleted keep script) n at → SamePlace script (deleted keep script) s n
   pairs s n at here there = record { place = at; here = here; there = there }
 
+  -- nothing of the slice stands at its place
+  abbrev IsLone : ℕ → Pos → Type 0
+  IsLone s at = (n : ℕ) → IsHere (deleted keep script) n at → ⊥
+
+  alone : (s : ℕ) (at : Pos) → IsHere script s at → IsLone s at → (n : ℕ) → SamePlace script (deleted keep script) s n → ⊥
+  alone s at here lone n same =
+      lone n (subst (IsHere (deleted keep script) n) (suite_place s same.place at 0 script.body well.numbered.in_order same.here here) same.there)
+
   starts : BothHere ground keep upto at_start at_start
   starts = record { functions = no_function; open_is = refl; line_is = refl; handled = none_handled; classes = no_class }
 
@@ -131,26 +143,25 @@ module _ (laws : Laws) (flow : FlowLaws) (name_laws : NameLaws) (script : Script
     defined = λ place f is gone known. some_or_none (callee_found keep script well under place f is known).0 (sym (callee_found keep script well under place f is known).1 ∙ gone);
   }
 
-  callees : CalleesFit ground (IsHere script) (IsHere (deleted keep script)) pairs keep undefined upto script (deleted keep script)
+  lone_all : AllOwned IsLone (lone_suite keep script.body)
+  lone_all = lone_apart keep script well
+
+  callees : CalleesFit ground (IsHere script) (IsHere (deleted keep script)) IsLone pairs keep alone undefined upto script (deleted keep script)
   callees place f g here_is there_is = by_bodies (callee_bodies keep script well under place f g here_is there_is)
     where
-      by_bodies : CalleeBodies keep script f g → CalleeFits ground (IsHere script) (IsHere (deleted keep script)) pairs keep undefined upto f g
+      by_bodies : CalleeBodies keep script f g → CalleeFits ground (IsHere script) (IsHere (deleted keep script)) IsLone pairs keep alone undefined upto f g
       by_bodies bodies = record {
         same = bodies.same;
         under = bodies.under;
         ins = record { each = bodies.ins };
         outs = record { each = bodies.outs };
+        lone = record { each = λ n at there. lone_all.each n at (bodies.lone n at there) };
       }
 
   whole : Beside ground keep (all_marks keep upto) (suc (suc budget)) [] [] (meaning script steps) (meaning (deleted keep script) budget)
   whole =
-      body_both ground (IsHere script) (IsHere (deleted keep script)) pairs keep undefined upto script (deleted keep script) fits callees starting_there
-      (level script (suc steps)) (level (deleted keep script) (suc budget)) (suc budget) both.calls both.turns
-      (bodies_out ground.known (IsHere script) keep undefined script starting_there (suc steps)) (levels_alone ground.known (IsHere script) keep undefined script starting_there (suc steps))
-      at_start at_start starts 0 script.body under (record { each = λ s place there. there }) (record { each = λ n place there. there }) [] tt
-    where
-      both : TasksBoth ground (IsHere script) (IsHere (deleted keep script)) pairs keep undefined upto script (deleted keep script) (suc budget) (level script (suc steps)) (level (deleted keep script) (suc budget))
-      both = levels_both ground (IsHere script) (IsHere (deleted keep script)) pairs keep undefined upto script (deleted keep script) fits callees starting_there (suc budget) (suc steps)
+      script_both ground (IsHere script) (IsHere (deleted keep script)) IsLone pairs keep alone undefined upto script (deleted keep script) fits callees starting_there (suc budget) (suc steps)
+      at_start at_start starts script.body under (record { each = λ s place there. there }) (record { each = λ n place there. there }) lone_all [] tt
 
   related_first : spent_on upto ≤ budget → Related capture ground.paired ground.known keep upto (starting capture path arguments steps) (starting capture path arguments budget)
   related_first enough = record {

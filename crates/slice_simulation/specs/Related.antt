@@ -1,5 +1,5 @@
 -- When a state of a run of the slice stands for a state of the script's run (after Korel and Laski 1988; this project's profile).
-use Rattle.std.specs.Prelude.{◌≡◌, ℕ, suc, ◌+◌, ◌≤◌, ◌<◌, ◌⊎◌, Bool, true, false, List, [], ◌∷◌, map, length, Option, Some, ⊤}
+use Rattle.std.specs.Prelude.{◌≡◌, ℕ, suc, ◌+◌, ◌≤◌, ◌<◌, ◌⊎◌, Bool, true, false, List, [], ◌∷◌, map, length, Option, Some, ⊤, None}
 use Rattle.std.specs.Option.{option_map}
 use Rattle.prov_base.specs.declared.place.Pos.{Pos}
 use Rattle.py_value.specs.Contents.{Contents}
@@ -11,7 +11,7 @@ use Rattle.py_model.specs.Store.{has_path}
 use Rattle.py_model.specs.Tidy.{is_there}
 use Rattle.py_model.specs.History.{accesses_by, spent_on}
 use Rattle.py_model.specs.Moment.{Moment, begins, does, enters, leaves, ends, Ending, normal_end}
-use Rattle.py_model.specs.Occurrences.{sets_at, updates_at, owner_stmt}
+use Rattle.py_model.specs.Occurrences.{Occurrence, Frame, in_occurrence, in_activation, frames_after, innermost, sets_at, updates_at, owner_stmt}
 use Rattle.py_model.specs.Plan.{Answer, Found}
 use Rattle.py_model.specs.Renaming.{Renaming, renamed, renamed_list, renamed_answer, renamed_kind, renamed_access}
 use Rattle.py_model.specs.Running.{State, did, askings_at, operation}
@@ -41,8 +41,21 @@ renamed_moment r (enters at def values accesses) = enters at def (renamed_list r
 renamed_moment r (leaves v) = leaves (renamed r v)
 renamed_moment r moment = moment
 
+-- the statement that entered the innermost activation
+abbrev pub called_by : List Frame → Option Occurrence
+called_by [] = None
+called_by (in_occurrence o ∷ frames) = called_by frames
+called_by (in_activation time ∷ frames) = innermost frames
+
+-- it is not kept
+pub record IsCalledOutside (keep : StmtSet) (before : List Moment) : Type 0 where
+  pub caller : Occurrence
+  pub caller_is : called_by (frames_after before) ≡ Some caller
+  pub out : keep caller.stmt ≡ false
+
 -- The moments of the slice's run, the latest first, are those of the script's run without the moments of statements that are not kept. For
--- each execution of an emptied suite a `pass` begins and ends, as the first of its statements begins. Statements are named by `names`.
+-- each execution of an emptied suite a `pass` begins and ends, as the first of its statements begins: a statement that is not kept begins alone where
+-- nothing of the slice is named by it, or in an activation that such a statement entered. Statements are named by `names`.
 pub data Follows (names : ℕ → ℕ → Type 0) (keep : StmtSet) (marks : Marks) : List Moment → List Moment → Type 0 where
   at_start : Follows names keep marks [] []
   both_did : {s : ℕ} {moment other : Moment} {before others : List Moment} → keep s ≡ true → owner_stmt before ≡ Some s
@@ -50,7 +63,8 @@ pub data Follows (names : ℕ → ℕ → Type 0) (keep : StmtSet) (marks : Mark
   alone_did : {s : ℕ} {moment : Moment} {before others : List Moment} → keep s ≡ false → owner_stmt before ≡ Some s
       → Follows names keep marks before others → Follows names keep marks (moment ∷ before) others
   both_began : {s n : ℕ} {before others : List Moment} → keep s ≡ true → names s n → Follows names keep marks before others → Follows names keep marks (begins s ∷ before) (begins n ∷ others)
-  alone_began : {s : ℕ} {before others : List Moment} → keep s ≡ false → Follows names keep marks before others → Follows names keep marks (begins s ∷ before) others
+  alone_began : {s : ℕ} {before others : List Moment} → keep s ≡ false → ((n : ℕ) → names s n → ⊥) ⊎ IsCalledOutside keep before
+      → Follows names keep marks before others → Follows names keep marks (begins s ∷ before) others
   passed : {s n : ℕ} {before others : List Moment} → keep s ≡ false → names s n → Follows names keep marks before others
       → Follows names keep marks (begins s ∷ before) (ends n normal_end ∷ begins n ∷ others)
   both_ended : {s n : ℕ} {ended : Ending} {before others : List Moment} → keep s ≡ true → names s n → Follows names keep marks before others
