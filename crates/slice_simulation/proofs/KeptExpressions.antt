@@ -74,7 +74,8 @@ module _ (ground : Ground) (keep : StmtSet) (upto : List Moment) where
       giving_both : (at : Pos) {go gone : Contents → Act} → GoBoth ground keep upto (suc k) go gone → GoBoth ground keep upto (suc k) (giving script next here at go) (giving cut other there at gone)
       giving_both at each v w same = doing_both ground keep upto here there both.line_is at (plain_op ground keep upto 2) (one_same ground keep upto same) each
 
-      without_init_both : (at : Pos) (of onto : Contents) (vs ws : List Contents) (v w : Contents) (takes_any : Bool) {go gone : Contents → Act} → Same ground keep upto of onto → AllSame ground keep upto vs ws → Same ground keep upto v w → GoBoth ground keep upto (suc k) go gone
+      without_init_both : (at : Pos) (of onto : Contents) (vs ws : List Contents) (v w : Contents) (takes_any : Bool) {go gone : Contents → Act} → Same ground keep upto of onto → AllSame ground keep upto vs ws → Same ground keep upto v w
+          → GoBoth ground keep upto (suc k) go gone
           → In ground keep upto (suc k) (without_init script next here at of vs v takes_any go) (without_init cut other there at onto ws w takes_any gone)
       without_init_both at of onto vs ws v w true is all same each = giving_both at each v w same
       without_init_both at of onto [] ws v w false {go} {gone} is all same each =
@@ -84,7 +85,8 @@ module _ (ground : Ground) (keep : StmtSet) (upto : List Moment) where
           subst (λ ws. AllSame ground keep upto (argument ∷ vs) ws → In ground keep upto (suc k) (failing here at wrong_arguments (of ∷ argument ∷ vs)) (without_init cut other there at onto ws w false gone))
           (sym (all.is (shifts keep upto 0).by (shifts keep upto 0).fits)) (λ all. failing_both at (record { is = λ r fits. refl }) (more_same ground keep upto is all)) all
 
-      initialising_both : (at : Pos) (of onto : Contents) (vs ws : List Contents) (v w : Contents) (takes_any : Bool) (init : Option Pos) {go gone : Contents → Act} → Same ground keep upto of onto → AllSame ground keep upto vs ws → Same ground keep upto v w → GoBoth ground keep upto (suc k) go gone
+      initialising_both : (at : Pos) (of onto : Contents) (vs ws : List Contents) (v w : Contents) (takes_any : Bool) (init : Option Pos) {go gone : Contents → Act} → Same ground keep upto of onto → AllSame ground keep upto vs ws
+          → Same ground keep upto v w → GoBoth ground keep upto (suc k) go gone
           → In ground keep upto (suc k) (initialising script next here at of vs v takes_any init go) (initialising cut other there at onto ws w takes_any init gone)
       initialising_both at of onto vs ws v w takes_any None is all same each = without_init_both at of onto vs ws v w takes_any is all same each
       initialising_both at of onto vs ws v w takes_any (Some init) {go} {gone} is all same each =
@@ -112,7 +114,8 @@ module _ (ground : Ground) (keep : StmtSet) (upto : List Moment) where
           (ap (takes_so_many (slice_get method_arities (number - 80))) (as_long ground keep upto all)) (doing_both ground keep upto here there both.line_is at (plain_op ground keep upto number) (more_same ground keep upto same all) each)
           (failing_both at (record { is = λ r fits. refl }) (more_same ground keep upto (record { is = λ r fits. refl }) (more_same ground keep upto same all)))
 
-      calling_cases : (at : Pos) (called : Contents) (vs ws : List Contents) {go gone : Contents → Act} → Same ground keep upto called (renamed (shifts keep upto 0).by called) → AllSame ground keep upto vs ws → GoBoth ground keep upto (suc k) go gone
+      calling_cases : (at : Pos) (called : Contents) (vs ws : List Contents) {go gone : Contents → Act} → Same ground keep upto called (renamed (shifts keep upto 0).by called) → AllSame ground keep upto vs ws
+          → GoBoth ground keep upto (suc k) go gone
           → In ground keep upto (suc k) (calling script next here at called vs go) (calling cut other there at (renamed (shifts keep upto 0).by called) ws gone)
       calling_cases at (function place) vs ws {go} {gone} same all each =
           function_both at place vs ws (giving script next here at go) (giving cut other there at gone) all (giving_both at each)
@@ -152,22 +155,32 @@ module _ (ground : Ground) (keep : StmtSet) (upto : List Moment) where
       receiver_same owner owned method vs ws same all =
           by_near ground keep upto (λ owned. AllSame ground keep upto (with_receiver script next owner method vs) (with_receiver cut other owned method ws)) owner owned same (λ is. receiver_cases owner method vs ws is all)
 
-      attribute_cases : (at : Pos) (owner owned called : Contents) (method : Option Pos) (vs ws : List Contents) {go gone : Contents → Act} → Same ground keep upto owner owned → Same ground keep upto called (renamed (shifts keep upto 0).by called) → AllSame ground keep upto vs ws → GoBoth ground keep upto (suc k) go gone
+      attribute_cases : (at : Pos) (owner owned called : Contents) (method : Option Pos) (vs ws : List Contents) {go gone : Contents → Act} → Same ground keep upto owner owned
+          → Same ground keep upto called (renamed (shifts keep upto 0).by called) → AllSame ground keep upto vs ws → GoBoth ground keep upto (suc k) go gone
           → In ground keep upto (suc k) (calling_attribute script next here at owner called method vs go) (calling_attribute cut other there at owned (renamed (shifts keep upto 0).by called) method ws gone)
       attribute_cases at owner owned (builtin number) method vs ws same is all each =
           in_if ground keep upto (nat_lt number 80) (nat_lt number 80) refl (builtin_both at number vs ws all each) (method_both at number owner owned vs ws same all each)
       attribute_cases at owner owned nothing method vs ws same is all each = calling_cases at nothing (with_receiver script next owner method vs) (with_receiver cut other owned method ws) is (receiver_same owner owned method vs ws same all) each
-      attribute_cases at owner owned (truth b) method vs ws same is all each = calling_cases at (truth b) (with_receiver script next owner method vs) (with_receiver cut other owned method ws) is (receiver_same owner owned method vs ws same all) each
+      attribute_cases at owner owned (truth b) method vs ws same is all each =
+          calling_cases at (truth b) (with_receiver script next owner method vs) (with_receiver cut other owned method ws) is (receiver_same owner owned method vs ws same all) each
       attribute_cases at owner owned (int i) method vs ws same is all each = calling_cases at (int i) (with_receiver script next owner method vs) (with_receiver cut other owned method ws) is (receiver_same owner owned method vs ws same all) each
-      attribute_cases at owner owned (text bytes) method vs ws same is all each = calling_cases at (text bytes) (with_receiver script next owner method vs) (with_receiver cut other owned method ws) is (receiver_same owner owned method vs ws same all) each
-      attribute_cases at owner owned (tuple parts) method vs ws same is all each = calling_cases at (tuple parts) (with_receiver script next owner method vs) (with_receiver cut other owned method ws) is (receiver_same owner owned method vs ws same all) each
-      attribute_cases at owner owned (range start end step) method vs ws same is all each = calling_cases at (range start end step) (with_receiver script next owner method vs) (with_receiver cut other owned method ws) is (receiver_same owner owned method vs ws same all) each
-      attribute_cases at owner owned (function place) method vs ws same is all each = calling_cases at (function place) (with_receiver script next owner method vs) (with_receiver cut other owned method ws) is (receiver_same owner owned method vs ws same all) each
-      attribute_cases at owner owned (class place) method vs ws same is all each = calling_cases at (class place) (with_receiver script next owner method vs) (with_receiver cut other owned method ws) is (receiver_same owner owned method vs ws same all) each
-      attribute_cases at owner owned (exception_class number) method vs ws same is all each = calling_cases at (exception_class number) (with_receiver script next owner method vs) (with_receiver cut other owned method ws) is (receiver_same owner owned method vs ws same all) each
-      attribute_cases at owner owned (object o) method vs ws same is all each = calling_cases at (object o) (with_receiver script next owner method vs) (with_receiver cut other owned method ws) is (receiver_same owner owned method vs ws same all) each
+      attribute_cases at owner owned (text bytes) method vs ws same is all each =
+          calling_cases at (text bytes) (with_receiver script next owner method vs) (with_receiver cut other owned method ws) is (receiver_same owner owned method vs ws same all) each
+      attribute_cases at owner owned (tuple parts) method vs ws same is all each =
+          calling_cases at (tuple parts) (with_receiver script next owner method vs) (with_receiver cut other owned method ws) is (receiver_same owner owned method vs ws same all) each
+      attribute_cases at owner owned (range start end step) method vs ws same is all each =
+          calling_cases at (range start end step) (with_receiver script next owner method vs) (with_receiver cut other owned method ws) is (receiver_same owner owned method vs ws same all) each
+      attribute_cases at owner owned (function place) method vs ws same is all each =
+          calling_cases at (function place) (with_receiver script next owner method vs) (with_receiver cut other owned method ws) is (receiver_same owner owned method vs ws same all) each
+      attribute_cases at owner owned (class place) method vs ws same is all each =
+          calling_cases at (class place) (with_receiver script next owner method vs) (with_receiver cut other owned method ws) is (receiver_same owner owned method vs ws same all) each
+      attribute_cases at owner owned (exception_class number) method vs ws same is all each =
+          calling_cases at (exception_class number) (with_receiver script next owner method vs) (with_receiver cut other owned method ws) is (receiver_same owner owned method vs ws same all) each
+      attribute_cases at owner owned (object o) method vs ws same is all each =
+          calling_cases at (object o) (with_receiver script next owner method vs) (with_receiver cut other owned method ws) is (receiver_same owner owned method vs ws same all) each
 
-      attribute_both : (at : Pos) (owner owned called onto : Contents) (method : Option Pos) (vs ws : List Contents) {go gone : Contents → Act} → Same ground keep upto owner owned → Same ground keep upto called onto → AllSame ground keep upto vs ws → GoBoth ground keep upto (suc k) go gone
+      attribute_both : (at : Pos) (owner owned called onto : Contents) (method : Option Pos) (vs ws : List Contents) {go gone : Contents → Act} → Same ground keep upto owner owned → Same ground keep upto called onto
+          → AllSame ground keep upto vs ws → GoBoth ground keep upto (suc k) go gone
           → In ground keep upto (suc k) (calling_attribute script next here at owner called method vs go) (calling_attribute cut other there at owned onto method ws gone)
       attribute_both at owner owned called onto method vs ws {go} {gone} same is all each =
           by_near ground keep upto (λ onto. In ground keep upto (suc k) (calling_attribute script next here at owner called method vs go) (calling_attribute cut other there at owned onto method ws gone)) called onto is
@@ -208,9 +221,11 @@ module _ (ground : Ground) (keep : StmtSet) (upto : List Moment) where
         eval_both (call_expr at (dict_expr p x) arguments) each = eval_both (dict_expr p x) (λ called onto is. all_both arguments (λ vs ws all. calling_both at called onto vs ws is all each))
         eval_both (call_expr at (tuple_expr p x) arguments) each = eval_both (tuple_expr p x) (λ called onto is. all_both arguments (λ vs ws all. calling_both at called onto vs ws is all each))
         eval_both (attr_expr at e name) each = eval_both e (λ v w same. doing_both ground keep upto here there both.line_is at (named_op ground keep upto 30 name) (one_same ground keep upto same) each)
-        eval_both (part_expr at e index) each = eval_both e (λ v w same. eval_both index (λ i j is. doing_both ground keep upto here there both.line_is at (plain_op ground keep upto 26) (more_same ground keep upto same (one_same ground keep upto is)) each))
+        eval_both (part_expr at e index) each =
+            eval_both e (λ v w same. eval_both index (λ i j is. doing_both ground keep upto here there both.line_is at (plain_op ground keep upto 26) (more_same ground keep upto same (one_same ground keep upto is)) each))
         eval_both (range_expr at e low high) each =
-            eval_both e (λ v w same. maybe_both low (λ i j is. maybe_both high (λ x y one. doing_both ground keep upto here there both.line_is at (plain_op ground keep upto 27) (more_same ground keep upto same (more_same ground keep upto is (one_same ground keep upto one))) each)))
+            eval_both e (λ v w same. maybe_both low (λ i j is. maybe_both high
+            (λ x y one. doing_both ground keep upto here there both.line_is at (plain_op ground keep upto 27) (more_same ground keep upto same (more_same ground keep upto is (one_same ground keep upto one))) each)))
         eval_both (list_expr at items) each = all_both items (λ vs ws all. doing_both ground keep upto here there both.line_is at (plain_op ground keep upto 23) all each)
         eval_both (dict_expr at pairs) each = pairs_both pairs (λ vs ws all. doing_both ground keep upto here there both.line_is at (plain_op ground keep upto 24) all each)
         eval_both (tuple_expr at items) each = all_both items (λ vs ws all. doing_both ground keep upto here there both.line_is at (plain_op ground keep upto 25) all each)
@@ -233,11 +248,13 @@ module _ (ground : Ground) (keep : StmtSet) (upto : List Moment) where
             → In ground keep upto (suc k) (store script next here at target v a) (store cut other there at target w b)
         store_both at (var_target place name) v w same going = doing_named ground keep upto 33 on_bind here there both place name (nothing_same ground keep upto) (one_same ground keep upto same) (λ x y is. going)
         store_both at (part_target place e index) v w same going =
-            eval_both e (λ o p one. eval_both index (λ i j two. doing_both ground keep upto here there both.line_is place (plain_op ground keep upto 28) (more_same ground keep upto one (more_same ground keep upto two (one_same ground keep upto same))) (λ x y is. going)))
+            eval_both e (λ o p one. eval_both index (λ i j two. doing_both ground keep upto here there both.line_is place (plain_op ground keep upto 28)
+            (more_same ground keep upto one (more_same ground keep upto two (one_same ground keep upto same))) (λ x y is. going)))
         store_both at (field_target place e name) v w same going =
             eval_both e (λ o p one. doing_both ground keep upto here there both.line_is place (named_op ground keep upto 31 name) (more_same ground keep upto one (one_same ground keep upto same)) (λ x y is. going))
         store_both at (many_target targets) v w same going =
-            doing_both ground keep upto here there both.line_is at (valued_op ground keep upto 35 (record { is = λ r fits. refl })) (one_same ground keep upto same) (λ x y is. store_all_both at targets (parts_in x) (parts_in y) (parts_same ground keep upto is) going)
+            doing_both ground keep upto here there both.line_is at (valued_op ground keep upto 35 (record { is = λ r fits. refl })) (one_same ground keep upto same)
+            (λ x y is. store_all_both at targets (parts_in x) (parts_in y) (parts_same ground keep upto is) going)
 
         store_all_both : (at : Pos) (targets : TargetsTree) (ps qs : Parts) {a b : Act} → PartsSame ground keep upto ps qs → In ground keep upto (suc k) a b
             → In ground keep upto (suc k) (store_all script next here at targets ps a) (store_all cut other there at targets qs b)
@@ -254,7 +271,8 @@ module _ (ground : Ground) (keep : StmtSet) (upto : List Moment) where
           eval_both container (λ o p one. eval_both index (λ i j two.
           doing_both ground keep upto here there both.line_is place (plain_op ground keep upto 26) (more_same ground keep upto one (one_same ground keep upto two)) (λ v w same. eval_both e (λ x y is.
           doing_both ground keep upto here there both.line_is at (plain_op ground keep upto (augmented_number sign)) (more_same ground keep upto same (one_same ground keep upto is)) (λ new anew last.
-          doing_both ground keep upto here there both.line_is place (plain_op ground keep upto 28) (more_same ground keep upto one (more_same ground keep upto two (one_same ground keep upto last))) (λ d f end. ended ground keep upto both_normal))))))
+          doing_both ground keep upto here there both.line_is place (plain_op ground keep upto 28) (more_same ground keep upto one (more_same ground keep upto two (one_same ground keep upto last)))
+          (λ d f end. ended ground keep upto both_normal))))))
       augment_both (field_target place owner name) sign at e =
           eval_both owner (λ o p one.
           doing_both ground keep upto here there both.line_is place (named_op ground keep upto 30 name) (one_same ground keep upto one) (λ v w same. eval_both e (λ x y is.
@@ -265,6 +283,7 @@ module _ (ground : Ground) (keep : StmtSet) (upto : List Moment) where
       pub unset_both : (target : TargetTree) → In ground keep upto (suc k) (unset script next here target) (unset cut other there target)
       unset_both (var_target place name) = doing_named ground keep upto 34 on_unbind here there both place name (nothing_same ground keep upto) (none_same ground keep upto) (λ x y is. ended ground keep upto both_normal)
       unset_both (part_target place e index) =
-          eval_both e (λ o p one. eval_both index (λ i j two. doing_both ground keep upto here there both.line_is place (plain_op ground keep upto 29) (more_same ground keep upto one (one_same ground keep upto two)) (λ x y is. ended ground keep upto both_normal)))
+          eval_both e (λ o p one. eval_both index (λ i j two. doing_both ground keep upto here there both.line_is place (plain_op ground keep upto 29) (more_same ground keep upto one (one_same ground keep upto two))
+          (λ x y is. ended ground keep upto both_normal)))
       unset_both (field_target place e name) = ended ground keep upto both_normal
       unset_both (many_target targets) = ended ground keep upto both_normal

@@ -41,9 +41,11 @@ module _ (ground : Ground) (P Q R : ℕ → Pos → Type 0) (pairs : (s n : ℕ)
 
   -- a further turn of a loop, in both
   pub data SameTask : Task → Task → Type 0 where
-    same_while : {here there : Here} {test : ExprTree} {body : SuiteTree} (m : ℕ) → BothHere ground keep upto here there → UnderSuite keep true body → AllOwned P (started_suite body) → AllOwned Q (started_suite (rest_of_suite m body)) → AllOwned R (lone_body keep body)
+    same_while : {here there : Here} {test : ExprTree} {body : SuiteTree} (m : ℕ) → BothHere ground keep upto here there → UnderSuite keep true body → AllOwned P (started_suite body) → AllOwned Q (started_suite (rest_of_suite m body))
+        → AllOwned R (lone_body keep body)
         → SameTask (while_again here test body) (while_again there test (rest_of_suite m body))
-    same_for : {here there : Here} {at : Pos} {target : TargetTree} {body : SuiteTree} {turns : ℕ} {v w x y : Contents} (m : ℕ) → BothHere ground keep upto here there → UnderSuite keep true body → AllOwned P (started_suite body) → AllOwned Q (started_suite (rest_of_suite m body)) → AllOwned R (lone_body keep body)
+    same_for : {here there : Here} {at : Pos} {target : TargetTree} {body : SuiteTree} {turns : ℕ} {v w x y : Contents} (m : ℕ) → BothHere ground keep upto here there → UnderSuite keep true body → AllOwned P (started_suite body)
+        → AllOwned Q (started_suite (rest_of_suite m body)) → AllOwned R (lone_body keep body)
         → Same ground keep upto v w → Same ground keep upto x y → SameTask (for_again here at target body v turns x) (for_again there at target (rest_of_suite m body) w turns y)
 
   abbrev pub TurnsBoth : ℕ → (Task → Act) → (Task → Act) → Type 0
@@ -147,7 +149,8 @@ module _ (ground : Ground) (P Q R : ℕ → Pos → Type 0) (pairs : (s n : ℕ)
     fewer_calls : {k : ℕ} → BodiesBoth ground keep upto script cut (suc k) next other → BodiesBoth ground keep upto script cut k next other
     fewer_calls {k} calls here there both place f g here_is there_is from inner = less ground keep (all_marks keep upto) k (calls here there both place f g here_is there_is from inner)
 
-    stored_both : (k : ℕ) → BodiesBoth ground keep upto script cut k next other → (here there : Here) → BothHere ground keep upto here there → (at : Pos) (target : TargetTree) (v w : Contents) {a b : Act} → Same ground keep upto v w → In ground keep upto k a b
+    stored_both : (k : ℕ) → BodiesBoth ground keep upto script cut k next other → (here there : Here) → BothHere ground keep upto here there → (at : Pos) (target : TargetTree) (v w : Contents) {a b : Act} → Same ground keep upto v w
+        → In ground keep upto k a b
         → In ground keep upto k (store script next here at target v a) (store cut other there at target w b)
     stored_both zero calls here there both at target v w same going n from kept = unreached
     stored_both (suc j) calls here there both at target v w same going n from kept = store_both ground keep upto script cut fits next other j (fewer_calls calls) here there both at target v w same going n from kept
@@ -227,7 +230,8 @@ module _ (ground : Ground) (P Q R : ℕ → Pos → Type 0) (pairs : (s n : ℕ)
           in_so going _ _ (both_returned same) = ended ground keep upto (both_returned same)
           in_so going _ _ (both_threw same) = ended ground keep upto (both_threw same)
 
-      module _ (tasks : TurnsBoth k next other) (bodies : BodiesAlone ground P AloneAt keep whole undefined alone_at next) (turns : (what : Task) → TurnsAlone ground P AloneAt keep whole undefined alone_at what → Alone ground P AloneAt keep whole undefined alone_at (next what)) where
+      module _ (tasks : TurnsBoth k next other) (bodies : BodiesAlone ground P AloneAt keep whole undefined alone_at next)
+          (turns : (what : Task) → TurnsAlone ground P AloneAt keep whole undefined alone_at what → Alone ground P AloneAt keep whole undefined alone_at (next what)) where
         -- a statement that is not kept: in the script's run alone, and where `pass` stands
         inside_alone : (here : Here) (number : ℕ) (at : Pos) (form : FormTree) → keep number ≡ false → UnderForm keep (keep number) form → P number at → AllOwned P (started_form form)
             → AllOwned R (started_form form) → (from : List Open) → TopIsKept keep from
@@ -348,7 +352,8 @@ module _ (ground : Ground) (P Q R : ℕ → Pos → Type 0) (pairs : (s n : ℕ)
           rule_both here there both at m (return_form (Some e)) under ins outs lone = eval_both ground keep upto script cut fits next other k calls here there both e (λ v w same. ended ground keep upto (both_returned same))
           rule_both here there both at m (raise_form None) under ins outs lone = doing_both ground keep upto here there both.line_is at (plain_op ground keep upto 40) (raised_same both.handled) (λ x y is. ended ground keep upto both_normal)
           rule_both here there both at m (raise_form (Some e)) under ins outs lone =
-              eval_both ground keep upto script cut fits next other k calls here there both e (λ v w same. doing_both ground keep upto here there both.line_is at (plain_op ground keep upto 40) (one_same ground keep upto same) (λ x y is. ended ground keep upto both_normal))
+              eval_both ground keep upto script cut fits next other k calls here there both e
+              (λ v w same. doing_both ground keep upto here there both.line_is at (plain_op ground keep upto 40) (one_same ground keep upto same) (λ x y is. ended ground keep upto both_normal))
           rule_both here there both at m (assert_form test message) under ins outs lone =
               eval_both ground keep upto script cut fits next other k calls here there both test (λ v w same.
               asking_both ground keep upto here there both.line_is (expr_place test) v w same (ended ground keep upto both_normal) (failed_both here there both at message))
@@ -363,11 +368,14 @@ module _ (ground : Ground) (P Q R : ℕ → Pos → Type 0) (pairs : (s n : ℕ)
           rule_both here there both at m (for_form target e body) under ins outs lone =
               eval_both ground keep upto script cut fits next other k calls here there both e (λ v w same.
               doing_both ground keep upto here there both.line_is at (plain_op ground keep upto 36) (one_same ground keep upto same) (λ x y size.
-              for_both here there both at target v w 0 x y same size (in_suite (rest_from here there m body ins outs lone (suite_both here there both m body under ins (rest_outs m body (kept_suite keep body) outs)))) (tasks _ _ (same_for m both under ins outs lone same size))))
+              for_both here there both at target v w 0 x y same size (in_suite (rest_from here there m body ins outs lone (suite_both here there both m body under ins (rest_outs m body (kept_suite keep body) outs))))
+              (tasks _ _ (same_for m both under ins outs lone same size))))
           rule_both here there both at m (try_form body handlers) under ins outs lone =
-              in_to (in_suite (rest_from here there m body (owned_left _ ins) (owned_left _ outs) (owned_left _ lone) (suite_both here there both m body under.0 (owned_left _ ins) (rest_outs m body (kept_suite keep body) (owned_left _ outs))))) (caught_both (handle script next here at handlers)
+              in_to (in_suite (rest_from here there m body (owned_left _ ins) (owned_left _ outs) (owned_left _ lone) (suite_both here there both m body under.0 (owned_left _ ins) (rest_outs m body (kept_suite keep body) (owned_left _ outs)))))
+              (caught_both (handle script next here at handlers)
               (handle cut other there at (numbered_handlers (m + size_suite (or_pass body (kept_suite keep body))) (kept_handlers keep handlers)))
-              (λ o e line same. handle_both here there both at (m + size_suite (or_pass body (kept_suite keep body))) handlers under.1 (owned_right (started_suite body) ins) (owned_right (started_suite (rest_of_suite m body)) outs) (owned_right (lone_body keep body) lone) o e line same))
+              (λ o e line same. handle_both here there both at (m + size_suite (or_pass body (kept_suite keep body))) handlers under.1 (owned_right (started_suite body) ins) (owned_right (started_suite (rest_of_suite m body)) outs)
+              (owned_right (lone_body keep body) lone) o e line same))
           rule_both here there both at m (with_form e bound body) under ins outs lone =
               eval_both ground keep upto script cut fits next other k calls here there both e (λ v w same.
               doing_both ground keep upto here there both.line_is at (plain_op ground keep upto 46) (one_same ground keep upto same) (λ x y file.
@@ -376,11 +384,13 @@ module _ (ground : Ground) (P Q R : ℕ → Pos → Type 0) (pairs : (s n : ℕ)
           rule_both here there both at m (def_form name params globals body) under ins outs lone = defining_both here there both at name here.in_class there.in_class both.classes
           rule_both here there both at m (class_form name None body) under ins outs lone =
               class_body_both here there both at name [] [] (none_same ground keep upto)
-              (λ v w same. in_suite (rest_from (in_class_of v here) (in_class_of w there) m body ins outs lone (suite_both (in_class_of v here) (in_class_of w there) (in_class_both same both) m body under ins (rest_outs m body (kept_suite keep body) outs))))
+              (λ v w same. in_suite (rest_from (in_class_of v here) (in_class_of w there) m body ins outs lone
+              (suite_both (in_class_of v here) (in_class_of w there) (in_class_both same both) m body under ins (rest_outs m body (kept_suite keep body) outs))))
           rule_both here there both at m (class_form name (Some base) body) under ins outs lone =
               eval_both ground keep upto script cut fits next other k calls here there both base (λ x y is.
               class_body_both here there both at name (x ∷ []) (y ∷ []) (one_same ground keep upto is)
-              (λ v w same. in_suite (rest_from (in_class_of v here) (in_class_of w there) m body ins outs lone (suite_both (in_class_of v here) (in_class_of w there) (in_class_both same both) m body under ins (rest_outs m body (kept_suite keep body) outs)))))
+              (λ v w same. in_suite (rest_from (in_class_of v here) (in_class_of w there) m body ins outs lone
+              (suite_both (in_class_of v here) (in_class_of w there) (in_class_both same both) m body under ins (rest_outs m body (kept_suite keep body) outs)))))
 
           choose_both : (here there : Here) → BothHere ground keep upto here there → (m : ℕ) (branches : BranchesTree) → UnderBranches keep true branches
               → AllOwned P (started_branches branches) → AllOwned Q (started_branches (numbered_branches m (kept_branches keep branches))) → AllOwned R (lone_branches keep branches) → {a b : Act} → In ground keep upto (suc k) a b
@@ -388,8 +398,10 @@ module _ (ground : Ground) (P Q R : ℕ → Pos → Type 0) (pairs : (s n : ℕ)
           choose_both here there both m end_branches under ins outs lone going = going
           choose_both here there both m (more_branches test body rest) under ins outs lone going =
               eval_both ground keep upto script cut fits next other k calls here there both test (λ v w same.
-              asking_both ground keep upto here there both.line_is (expr_place test) v w same (in_suite (rest_from here there m body (owned_left _ ins) (owned_left _ outs) (owned_left _ lone) (suite_both here there both m body under.0 (owned_left _ ins) (rest_outs m body (kept_suite keep body) (owned_left _ outs)))))
-              (choose_both here there both (m + size_suite (or_pass body (kept_suite keep body))) rest under.1 (owned_right (started_suite body) ins) (owned_right (started_suite (rest_of_suite m body)) outs) (owned_right (lone_body keep body) lone) going))
+              asking_both ground keep upto here there both.line_is (expr_place test) v w same
+              (in_suite (rest_from here there m body (owned_left _ ins) (owned_left _ outs) (owned_left _ lone) (suite_both here there both m body under.0 (owned_left _ ins) (rest_outs m body (kept_suite keep body) (owned_left _ outs)))))
+              (choose_both here there both (m + size_suite (or_pass body (kept_suite keep body))) rest under.1 (owned_right (started_suite body) ins) (owned_right (started_suite (rest_of_suite m body)) outs)
+              (owned_right (lone_body keep body) lone) going))
 
           otherwise_both : (here there : Here) → BothHere ground keep upto here there → (m : ℕ) (orelse : ElseTree) → UnderElse keep true orelse
               → AllOwned P (started_else orelse) → AllOwned Q (started_else (numbered_else m (kept_else keep orelse))) → AllOwned R (lone_else keep orelse)
@@ -404,12 +416,15 @@ module _ (ground : Ground) (P Q R : ℕ → Pos → Type 0) (pairs : (s n : ℕ)
           handle_both here there both at m end_handlers under ins outs lone o e line same = ended ground keep upto (both_threw same)
           handle_both here there both at m (more_handlers None bound body rest) under ins outs lone o e line same =
               clause_both here there both bound o e same
-              (in_suite (rest_from (handling o here) (handling e there) m body (owned_left _ ins) (owned_left _ outs) (owned_left _ lone) (suite_both (handling o here) (handling e there) (handling_both same both) m body under.0 (owned_left _ ins) (rest_outs m body (kept_suite keep body) (owned_left _ outs)))))
+              (in_suite (rest_from (handling o here) (handling e there) m body (owned_left _ ins) (owned_left _ outs) (owned_left _ lone)
+              (suite_both (handling o here) (handling e there) (handling_both same both) m body under.0 (owned_left _ ins) (rest_outs m body (kept_suite keep body) (owned_left _ outs)))))
           handle_both here there both at m (more_handlers (Some kind) bound body rest) under ins outs lone o e line same =
               matching_both here there both at kind o e same
               (clause_both here there both bound o e same
-              (in_suite (rest_from (handling o here) (handling e there) m body (owned_left _ ins) (owned_left _ outs) (owned_left _ lone) (suite_both (handling o here) (handling e there) (handling_both same both) m body under.0 (owned_left _ ins) (rest_outs m body (kept_suite keep body) (owned_left _ outs))))))
-              (handle_both here there both at (m + size_suite (or_pass body (kept_suite keep body))) rest under.1 (owned_right (started_suite body) ins) (owned_right (started_suite (rest_of_suite m body)) outs) (owned_right (lone_body keep body) lone) o e line same)
+              (in_suite (rest_from (handling o here) (handling e there) m body (owned_left _ ins) (owned_left _ outs) (owned_left _ lone)
+              (suite_both (handling o here) (handling e there) (handling_both same both) m body under.0 (owned_left _ ins) (rest_outs m body (kept_suite keep body) (owned_left _ outs))))))
+              (handle_both here there both at (m + size_suite (or_pass body (kept_suite keep body))) rest under.1 (owned_right (started_suite body) ins) (owned_right (started_suite (rest_of_suite m body)) outs)
+              (owned_right (lone_body keep body) lone) o e line same)
 
         pub body_both : (here there : Here) → BothHere ground keep upto here there → (m : ℕ) (body : SuiteTree) → UnderSuite keep true body
             → AllOwned P (started_suite body) → AllOwned Q (started_suite (numbered_suite m (kept_suite keep body))) → AllOwned R (lone_suite keep body)
@@ -420,7 +435,8 @@ module _ (ground : Ground) (P Q R : ℕ → Pos → Type 0) (pairs : (s n : ℕ)
         turn_both _ _ (same_while {here} {there} {test} {body} m both under ins outs lone) =
             while_both here there both test (in_suite (rest_from here there m body ins outs lone (suite_both here there both m body under ins (rest_outs m body (kept_suite keep body) outs)))) (tasks _ _ (same_while m both under ins outs lone))
         turn_both _ _ (same_for {here} {there} {at} {target} {body} {turns} {v} {w} {x} {y} m both under ins outs lone same size) =
-            for_both here there both at target v w turns x y same size (in_suite (rest_from here there m body ins outs lone (suite_both here there both m body under ins (rest_outs m body (kept_suite keep body) outs)))) (tasks _ _ (same_for m both under ins outs lone same size))
+            for_both here there both at target v w turns x y same size (in_suite (rest_from here there m body ins outs lone (suite_both here there both m body under ins (rest_outs m body (kept_suite keep body) outs))))
+            (tasks _ _ (same_for m both under ins outs lone same size))
 
         -- the suite of a function that is called in both
         pub call_both : BodiesBoth ground keep upto script cut (suc k) (task script next) (task cut other)
@@ -442,8 +458,12 @@ module _ (ground : Ground) (P Q R : ℕ → Pos → Type 0) (pairs : (s n : ℕ)
     levels_both zero n = record { turns = λ what task same number from kept. unreached; calls = λ here there both place f g here_is there_is from inner. unreached }
     levels_both (suc k) zero = record { turns = λ what task same number from kept. stopped; calls = λ here there both place f g here_is there_is from inner. stopped }
     levels_both (suc k) (suc n) = record {
-      turns = turn_both script cut fits callees starts (level script n) (level cut k) k (levels_both k n).calls (levels_both k n).turns (bodies_out ground P AloneAt keep whole undefined alone_at script starts n) (levels_alone ground P AloneAt keep whole undefined alone_at script starts n);
-      calls = call_both script cut fits callees starts (level script n) (level cut k) k (levels_both k n).calls (levels_both k n).turns (bodies_out ground P AloneAt keep whole undefined alone_at script starts n) (levels_alone ground P AloneAt keep whole undefined alone_at script starts n);
+      turns =
+          turn_both script cut fits callees starts (level script n) (level cut k) k (levels_both k n).calls (levels_both k n).turns (bodies_out ground P AloneAt keep whole undefined alone_at script starts n)
+          (levels_alone ground P AloneAt keep whole undefined alone_at script starts n);
+      calls =
+          call_both script cut fits callees starts (level script n) (level cut k) k (levels_both k n).calls (levels_both k n).turns (bodies_out ground P AloneAt keep whole undefined alone_at script starts n)
+          (levels_alone ground P AloneAt keep whole undefined alone_at script starts n);
     }
 
     -- the two scripts, from their first statements on

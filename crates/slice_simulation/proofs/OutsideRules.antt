@@ -492,7 +492,8 @@ module _ (ground : Ground) (F P : ℕ → Pos → Type 0) (keep : StmtSet) (whol
     bodies_out script found (suc k) here body ins from holds =
         suite_from ground F F keep empty undefined (CallerIsOut keep) called barred pushed script found (level script k) (bodies_out script found k) (loops_out script found k) here body (under_empty body) ins from holds
 
-    loops_out : (script : ScriptTree) → ((place : Pos) → FoundStarts F (function_at script place)) → (k : ℕ) (what : Task) → HasNone ground F F keep empty undefined (CallerIsOut keep) called barred pushed what → Out ground F F keep empty undefined (CallerIsOut keep) called barred pushed (level script k what)
+    loops_out : (script : ScriptTree) → ((place : Pos) → FoundStarts F (function_at script place)) → (k : ℕ) (what : Task) → HasNone ground F F keep empty undefined (CallerIsOut keep) called barred pushed what
+        → Out ground F F keep empty undefined (CallerIsOut keep) called barred pushed (level script k what)
     loops_out script found zero what none n from out holds = out_stop
     loops_out script found (suc k) what none n from out holds =
         task_out ground F F keep empty undefined (CallerIsOut keep) called barred pushed script found (level script k) (bodies_out script found k) (loops_out script found k) what none n from out holds
@@ -520,10 +521,12 @@ module _ (ground : Ground) (F P : ℕ → Pos → Type 0) (keep : StmtSet) (whol
   pub rule_alone : (script : ScriptTree) → ((place : Pos) → FoundStarts F (function_at script place)) → (next : Task → Act) → BodiesAlone next → ((what : Task) → TurnsAlone what → Alone (next what))
       → (here : Here) (at : Pos) → ground.known at ≡ false → (form : FormTree) → UnderForm keep false form → AllOwned P (started_form form) → Alone (rule script next here at form)
   rule_alone script found next bodies tasks here at unknown form under ins n from out =
-      rule_out ground F P keep keep (λ n at here. undefined n at (whole n at here)) Anywhere apart unbarred (λ n from holds. tt) script found next bodies (λ what none n from out holds. tasks what none n from out) here at unknown form under ins n from out tt
+      rule_out ground F P keep keep (λ n at here. undefined n at (whole n at here)) Anywhere apart unbarred (λ n from holds. tt) script found next bodies
+      (λ what none n from out holds. tasks what none n from out) here at unknown form under ins n from out tt
 
   pub levels_alone : (script : ScriptTree) → ((place : Pos) → FoundStarts F (function_at script place)) → (k : ℕ) (what : Task) → TurnsAlone what → Alone (level script k what)
   unfolding level
   levels_alone script found zero what none n from out = out_stop
   levels_alone script found (suc k) what none n from out =
-      task_out ground F P keep keep (λ n at here. undefined n at (whole n at here)) Anywhere apart unbarred (λ n from holds. tt) script found (level script k) (bodies_out script found k) (λ what none n from out holds. levels_alone script found k what none n from out) what none n from out tt
+      task_out ground F P keep keep (λ n at here. undefined n at (whole n at here)) Anywhere apart unbarred (λ n from holds. tt) script found (level script k) (bodies_out script found k)
+      (λ what none n from out holds. levels_alone script found k what none n from out) what none n from out tt

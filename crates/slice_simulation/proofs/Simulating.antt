@@ -235,7 +235,9 @@ module _ (capture : Capture) (keep : StmtSet) (opening : RunStore) (upto : List 
             asks_alike true may = inr (holds.askings at (asks.asking within.front s.told at p.no vs answer _ _ _ n upto_is owner may kept))
 
             again : DoneAgain capture ground.paired ground.known keep upto at q ws s t answer came u
-            again = kept_moment laws capture ground.paired ground.known keep upto at p q vs ws n s t u answer came related kept owner same_op same_values (asks_alike (may_ask p.no) refl) (flow.keeps ground.known q ws operands.operand operands.operands) holds.knows is
+            again =
+                kept_moment laws capture ground.paired ground.known keep upto at p q vs ws n s t u answer came related kept owner same_op same_values (asks_alike (may_ask p.no) refl)
+                (flow.keeps ground.known q ws operands.operand operands.operands) holds.knows is
                 within.front within.whole_is (asks.reads within.front s.told at p.no vs answer _ _ _ n upto_is owner kept)
 
             frames_now : map open_of (frames_after u.told) ≡ a_statement n ∷ from
@@ -321,7 +323,8 @@ module _ (capture : Capture) (keep : StmtSet) (opening : RunStore) (upto : List 
 
             unnoted : (place : Pos) → ground.known place ≡ true → u.store.names place ≡ s.store.names place
             unnoted place known = ap (λ (store : RunStore). store.names place) told.store_is
-                ∙ names_stay ground.known s.store (answers_at capture at (suc (askings_at at s.askings))) place known (λ op values none. flow.silent s.store (answers_at capture at (suc (askings_at at s.askings))) op values place none) p vs unknown
+                ∙ names_stay ground.known s.store (answers_at capture at (suc (askings_at at s.askings))) place known
+                (λ op values none. flow.silent s.store (answers_at capture at (suc (askings_at at s.askings))) op values place none) p vs unknown
 
             related_now : Related capture ground.paired ground.known keep upto u t
             related_now = deleted_moment laws capture ground.paired ground.known keep upto at p vs n s t u answer came related out (owner_in s.told n from frames) is
@@ -421,12 +424,14 @@ module _ (capture : Capture) (keep : StmtSet) (opening : RunStore) (upto : List 
         by_left false through on = absurd (not_yet capture keep opening upto s refl before through)
         by_left true through on =
             let held_now : Holds opening OnlyKept ground.known (entering at def params vs s) t = record { here = entered_held opening at def params vs s holds.here; there = holds.there; askings = holds.askings; knows = holds.knows; last = holds.last } in
-            let now : Related capture ground.paired ground.known keep upto (entering at def params vs s) t = alone_enter_related laws capture ground.paired ground.known keep upto at def params vs n s t related (owner_in s.told n from frames) out in
+            let now : Related capture ground.paired ground.known keep upto (entering at def params vs s) t = alone_enter_related laws capture ground.paired ground.known keep upto at def params vs n s t related
+            (owner_in s.told n from frames) out in
             arrive (f (suc s.entered)) b (entering at def params vs s) t now held_now (omega (arith, before)) through
             (λ early. on now held_now (ap (λ (open_ones : List Open). an_activation ∷ open_ones) frames) few early through)
     simulate (both_leave {n = n} {from = from} {v = v} {w = w} {a = a} {b = b} kept same rest) knows s t related holds frames few before through =
         let held_now : Holds opening OnlyKept ground.known (tell (leaves v) s) (tell (leaves w) t) = record { here = record { map_is = holds.here.map_is; kinds_are = holds.here.kinds_are }; there = record { map_is = holds.there.map_is; kinds_are = holds.there.kinds_are }; askings = holds.askings; knows = holds.knows; last = tt } in
-        let now : Related capture ground.paired ground.known keep upto (tell (leaves v) s) (tell (leaves w) t) = both_leave_related laws capture ground.paired ground.known keep upto v w n s t related (owner_inside s.told n from frames) kept same in
+        let now : Related capture ground.paired ground.known keep upto (tell (leaves v) s) (tell (leaves w) t) = both_leave_related laws capture ground.paired ground.known keep upto v w n s t related
+        (owner_inside s.told n from frames) kept same in
         arrive a b (tell (leaves v) s) (tell (leaves w) t) now held_now (omega (arith, before)) (told_on through)
         (λ early. simulate rest (leave_known ground.known knows) (tell (leaves v) s) (tell (leaves w) t) now held_now (left_frames (frames_after s.told) (a_statement n ∷ from) frames) few early (told_on through))
       where

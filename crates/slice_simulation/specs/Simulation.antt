@@ -19,7 +19,7 @@ use Rattle.slice_simulation.specs.Related.{Follows, kept_of}
 use Rattle.slice_simulation.specs.Renaming.{marks_after, Fits, IsShifted, Matches, all_marks}
 
 -- The run of the slice performs, up to some moment, exactly the moments of the script's run without those of statements that are not kept, and a
--- `pass` for each execution of an emptied suite; statements are named by their places. In the stores there, what stands at a location whose
+-- `pass` for each execution of an emptied suite, but in activations that such a statement entered. Statements are named by their places. In the stores there, what stands at a location whose
 -- reach is kept corresponds, and so do the kinds of the objects of both runs, up to the numbers of objects. No more steps are spent.
 pub record Simulates (script : ScriptTree) (capture : Capture) (path : List ℕ) (arguments : List (List ℕ)) (budget : ℕ) (keep : StmtSet) (upto : List Moment) : Type 0 where
   pub renaming : IsShifted (all_marks keep upto) 0

@@ -136,9 +136,9 @@ pub fn local_names_are_of_their_activation()
 }
 
 /// The law of the simulation. A set is given that is closed for the moments up to some one. Up to there the run of the deletion performs exactly the
-/// script's moments without those of deleted statements, and the `pass` of each execution of an emptied suite. Statements are named by place. Objects
-/// and activations of kept statements are renamed one-to-one. Where the reach of a location is kept, what stands there corresponds. No more steps are
-/// needed than the script's run took up to there.
+/// script's moments without those of deleted statements, and the `pass` of each execution of an emptied suite, but in activations that a deleted one
+/// entered. Statements are named by place. Objects and activations of kept statements are renamed one-to-one. Where the reach of a location is kept,
+/// what stands there corresponds. No more steps are needed than the script's run took up to there.
 ///
 /// It is so of every run: with calls, methods, classes, jumps, exceptions, askings of devices and files. That no class stands in a function is asked of
 /// the script's tree (`ClassesStandOutside`), as the grammar has it.
