@@ -46,3 +46,4 @@ mod FunctionStatements
 mod LocalNames
 mod Binders
 mod LostLocals
+mod InnerClasses
