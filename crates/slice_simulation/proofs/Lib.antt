@@ -54,3 +54,4 @@ mod FunctionStatements
 mod LocalNames
 mod Binders
 mod LostLocals
+mod InnerClasses
