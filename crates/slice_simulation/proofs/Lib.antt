@@ -35,6 +35,7 @@ mod KeptCalls
 mod ScopedPlans
 mod BoundActs
 mod BoundRules
-mod BoundNames
+mod OwnNames
 mod BoundReads
 mod BoundRuns
+mod LostNames

@@ -1,10 +1,10 @@
 -- Which names an operation reads and sets: one that has no activation those of the module alone, and the four that have one their own. No operation is taken apart:
 -- the plan of one without an activation is alike to itself where all activations but the module's are renamed.
-use Rattle.std.proofs.Common.{◌≡◌, ℕ, zero, suc, Bool, true, false, if◌then◌else◌, List, [], ◌∷◌, length, slice_get, Option, Some, None, option_map, refl, sym, ap, ap₂, subst, ◌∙◌, arith}
+use Rattle.std.proofs.Common.{◌≡◌, ℕ, zero, suc, Bool, true, false, if◌then◌else◌, List, [], ◌∷◌, length, slice_get, Option, Some, None, option_map, inl, refl, sym, ap, ap₂, subst, ◌∙◌, arith}
 use Rattle.std.specs.Prelude.{⊤, nat_lt, ◌-◌}
 use Rattle.std.proofs.lemmas.Bool.{false≢true}
 use Rattle.py_value.specs.Contents.{Contents, Parts, nothing, truth, int, text, tuple, range, function, class, exception_class, builtin, object, no_parts, part}
-use Rattle.py_value.specs.Seen.{SeenLocation, SeenAccess, SeenKind, a_list, a_dict, an_instance, a_file, var_at}
+use Rattle.py_value.specs.Seen.{SeenLocation, SeenAccess, SeenKind, a_list, a_dict, an_instance, a_file, var_at, var_is, reads, sets}
 use Rattle.py_model.specs.Agreement.{AlikeWrites, both_write, both_change, both_move, both_open, both_note, both_done, both_done_at_end, Alike, both_read_var, both_read_len, both_read_item, both_read_entry, both_read_order, both_read_file, both_read_offset, both_read_closed, both_read_method, both_read_base, both_kind, both_name, both_was_opened, both_ask, both_fetch, both_look, both_count, both_print, both_writes, both_make, both_raise, both_again, both_end, both_run_away}
 use Rattle.py_model.specs.AlikeOperations.{renamed_op}
 use Rattle.py_model.specs.Effect.{Answers, Effect, effect, written, accesses_in, lacking}
@@ -14,6 +14,7 @@ use Rattle.py_model.specs.Operations.{Op, plan, or_no_operation, or_none, langua
 use Rattle.py_model.specs.Plan.{Given, Found, Writes, done, Plan, writes}
 use Rattle.py_model.specs.Renaming.{Renaming, renamed, renamed_parts, renamed_option, renamed_list, renamed_entry, renamed_location, renamed_kind}
 use Rattle.py_model.specs.Store.{RunStore, var_of, len_of, item_of, entry_of, order_of, file_of, offset_of, closed_of, method_of, base_of, has_path}
+use Rattle.slice_law.specs.Closed.{IsIn}
 use Rattle.slice_simulation.specs.BoundNames.{location_of, is_write}
 
 -- something holds of each access to a name: of its scope, its name and whether it sets
@@ -250,3 +251,26 @@ scoped_named store answers B p vs (unsets number none bound) =
     subst (Named store answers B p.scope p.name) (sym (ap (plan p) none ∙ plan_by p [] 34 number)) (unbind_named store answers B p.scope p.name bound (is_silent p.value))
 scoped_named store answers B p vs (imports number none bound) =
     subst (Named store answers B p.scope p.name) (sym (ap (plan p) none ∙ plan_by p [] 44 number)) (import_named store answers B p.scope p.name bound p.value)
+
+-- it reads or sets its name
+pub record HasAccess (scope : ℕ) (name : List ℕ) (accesses : List SeenAccess) : Type 0 where
+  pub access : SeenAccess
+  pub there : IsIn accesses access
+  pub place_is : location_of access ≡ var_at scope name
+
+pub has_access : (store : RunStore) (answers : Answers) (B : Type 0) (p : Op) (vs : List Contents) → IsScoped B p vs → HasAccess p.scope p.name (accesses_in (effect store answers (plan p vs)).touches)
+has_access store answers B p vs (loads number none) =
+    subst (λ (q : Plan). HasAccess p.scope p.name (accesses_in (effect store answers q).touches)) (sym (ap (plan p) none ∙ plan_by p [] 1 number))
+    (record { access = reads (var_at p.scope p.name); there = inl refl; place_is = refl })
+has_access store answers B p vs (binds_it v number one bound) =
+    subst (λ (q : Plan). HasAccess p.scope p.name (accesses_in (effect store answers q).touches)) (sym (ap (plan p) one ∙ plan_by p (v ∷ []) 33 number))
+    (record { access = sets (var_at p.scope p.name) (var_is (Some v)); there = inl refl; place_is = refl })
+has_access store answers B p vs (unsets number none bound) =
+    subst (λ (q : Plan). HasAccess p.scope p.name (accesses_in (effect store answers q).touches)) (sym (ap (plan p) none ∙ plan_by p [] 34 number)) (by_silent (is_silent p.value))
+  where
+    by_silent : (silent : Bool) → HasAccess p.scope p.name (accesses_in (effect store answers (unbind silent p.scope p.name)).touches)
+    by_silent true = record { access = reads (var_at p.scope p.name); there = inl refl; place_is = refl }
+    by_silent false = record { access = reads (var_at p.scope p.name); there = inl refl; place_is = refl }
+has_access store answers B p vs (imports number none bound) =
+    subst (λ (q : Plan). HasAccess p.scope p.name (accesses_in (effect store answers q).touches)) (sym (ap (plan p) none ∙ plan_by p [] 44 number))
+    (record { access = sets (var_at p.scope p.name) (var_is (Some p.value)); there = inl refl; place_is = refl })
