@@ -39,3 +39,4 @@ mod OwnNames
 mod BoundReads
 mod BoundRuns
 mod LostNames
+mod StartNumbers

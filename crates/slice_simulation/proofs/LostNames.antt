@@ -1,5 +1,5 @@
 -- No kept statement of a run names what is local in its function and bound by no kept statement of it: what bound the name there is asked for.
-use Rattle.std.proofs.Common.{◌≡◌, ◌+◌, ℕ, zero, suc, Bool, true, false, if◌then◌else◌, List, [], ◌∷◌, ◌++◌, length, Option, Some, None, inl, inr, refl, sym, ap, ap₂, subst, ◌∙◌, arith, append_assoc, length-append, eq-eqb}
+use Rattle.std.proofs.Common.{◌≡◌, ℕ, zero, suc, true, false, if◌then◌else◌, List, [], ◌∷◌, ◌++◌, length, Option, Some, None, inl, inr, refl, sym, ap, ap₂, subst, ◌∙◌, arith, append_assoc, length-append, eq-eqb}
 use Rattle.std.specs.Prelude.{IsTrue}
 use Rattle.std.specs.List.{list_any}
 use Rattle.std.specs.Str.{bytes_eq}
@@ -15,16 +15,16 @@ use Rattle.py_value.specs.Contents.{Contents}
 use Rattle.py_value.specs.Seen.{SeenLocation, SeenAccess, SeenKind, var_at, reads, sets, updates}
 use Rattle.py_model.specs.Act.{Walked}
 use Rattle.py_model.specs.Capture.{Capture, answers_at}
-use Rattle.py_model.specs.Effect.{Answers, effect, accesses_in}
+use Rattle.py_model.specs.Effect.{accesses_in}
 use Rattle.py_model.specs.History.{entered_by}
 use Rattle.py_model.specs.Moment.{Moment, begins, does, enters, leaves, ends}
 use Rattle.py_model.specs.Occurrences.{reach, owner_stmt}
-use Rattle.py_model.specs.Operations.{Op, plan}
+use Rattle.py_model.specs.Operations.{Op}
 use Rattle.py_model.specs.Plan.{Answer}
 use Rattle.py_model.specs.Running.{State, did, effect_of, operation, askings_at}
 use Rattle.py_model.specs.Store.{RunStore}
 use Rattle.slice_law.specs.Closed.{StmtSet, IsIn, IsClosed}
-use Rattle.slice_law.specs.Edges.{Edge, edge, by_name, by_data, to_each, from_option, stmt_at, stmts_at, first_binder, function_of_stmt, unset_local, reach_asks, read_asks, reads_ask, asks, run_asks, parents_asked}
+use Rattle.slice_law.specs.Edges.{Edge, edge, by_name, by_data, to_each, from_option, stmts_at, first_binder, function_of_stmt, reach_asks, read_asks, reads_ask, asks, run_asks, parents_asked}
 use Rattle.slice_law.specs.Slices.{told_by}
 use Rattle.slice_simulation.proofs.BoundReads.{def_of, def_stays_on, none_enters_module, IsOf, is_of, IsSetAt, set_by, set_in, set_at}
 use Rattle.slice_simulation.proofs.BoundRuns.{NameLaws, own_behind, own_names}
