@@ -1,5 +1,5 @@
 -- What set a local name that is read: a statement of the same function that binds the name, or the Enter, where the name is a parameter.
-use Rattle.std.proofs.Common.{◌≡◌, ◌≤◌, ◌<◌, ℕ, suc, Bool, true, false, ◌==◌, ◌||◌, if◌then◌else◌, List, [], ◌∷◌, length, Option, Some, None, inl, inr, refl, sym, ap, subst, ◌∙◌, arith, eqb-true, eq-eqb}
+use Rattle.std.proofs.Common.{◌≡◌, ◌≤◌, ◌<◌, ℕ, suc, Bool, true, false, ◌==◌, ◌||◌, if◌then◌else◌, List, [], ◌∷◌, ◌++◌, length, Option, Some, None, inl, inr, refl, sym, ap, subst, ◌∙◌, arith, eqb-true, eq-eqb}
 use Rattle.std.specs.Prelude.{◌↔◌, IsTrue}
 use Rattle.std.specs.List.{list_any}
 use Rattle.std.specs.Str.{bytes_eq}
@@ -18,7 +18,7 @@ use Rattle.py_model.specs.Occurrences.{reach, sets_at, updates_at, owner_stmt}
 use Rattle.py_model.specs.Plan.{Answer}
 use Rattle.slice_law.specs.Closed.{IsIn}
 use Rattle.slice_law.specs.Edges.{stmt_at, function_of_stmt}
-use Rattle.slice_simulation.proofs.BoundNames.{placed_there, OwnNow, AllOwnNames}
+use Rattle.slice_simulation.proofs.OwnNames.{placed_there, OwnNow, AllOwnNames}
 use Rattle.slice_simulation.specs.BoundNames.{Call, without_first, calls_after, innermost_activation, innermost_def, location_of, is_write, HasParameter, OwnNames, IsBoundAt, by_statement, by_parameter}
 
 -- ## Activations by number
@@ -32,7 +32,7 @@ def_of a (begins number ∷ before) = def_of a before
 def_of a (leaves v ∷ before) = def_of a before
 def_of a (ends number ended ∷ before) = def_of a before
 
-def_within : (a : ℕ) (told : List Moment) (def : Pos) → def_of a told ≡ Some def → a ≤ entered_by told
+pub def_within : (a : ℕ) (told : List Moment) (def : Pos) → def_of a told ≡ Some def → a ≤ entered_by told
 def_within a [] def is = absurd cc
 def_within a (enters at own values accesses ∷ before) def is = by_test (suc (entered_by before) == a) refl is (def_within a before def)
   where
@@ -55,8 +55,22 @@ def_stays (begins number) before a def is = is
 def_stays (leaves v) before a def is = is
 def_stays (ends number ended) before a def is = is
 
+pub def_stays_on : (news before : List Moment) (a : ℕ) (def : Pos) → def_of a before ≡ Some def → def_of a (news ++ before) ≡ Some def
+def_stays_on [] before a def is = is
+def_stays_on (moment ∷ news) before a def is = def_stays moment (news ++ before) a def (def_stays_on news before a def is)
+
+-- the module is entered by none
+pub none_enters_module : (told : List Moment) (def : Pos) → def_of 0 told ≡ Some def → ⊥
+none_enters_module [] def is = absurd cc
+none_enters_module (enters at own values accesses ∷ before) def is =
+    none_enters_module before def (ap (λ test. if test then Some own else def_of 0 before) (sym (ne_eqb (suc (entered_by before)) 0 (λ same. omega (arith, same)))) ∙ is)
+none_enters_module (does at number values answer made accesses weight ∷ before) def is = none_enters_module before def is
+none_enters_module (begins number ∷ before) def is = none_enters_module before def is
+none_enters_module (leaves v ∷ before) def is = none_enters_module before def is
+none_enters_module (ends number ended ∷ before) def is = none_enters_module before def is
+
 -- each open activation was entered, at the place of its function
-calls_entered : (told : List Moment) (call : Call) → IsIn (calls_after told) call → def_of call.activation told ≡ Some call.def
+pub calls_entered : (told : List Moment) (call : Call) → IsIn (calls_after told) call → def_of call.activation told ≡ Some call.def
 calls_entered [] call there = absurd there
 calls_entered (enters at own values accesses ∷ before) call (inl same) =
     subst (λ (one : Call). def_of one.activation (enters at own values accesses ∷ before) ≡ Some one.def) same
@@ -125,7 +139,7 @@ module _ (locations : (l m : SeenLocation) → (same_location l m ≡ true) ↔ 
 
   module _ (script : ScriptTree) (a : ℕ) (name : List ℕ) where
     -- what set the name of activation a at a time
-    data IsSetAt (time : ℕ) (told : List Moment) : Type 0 where
+    pub data IsSetAt (time : ℕ) (told : List Moment) : Type 0 where
       set_by : (m : ℕ) (def : Pos) → stmt_at time told ≡ Some m → IsTrue (binds script m name) → def_of (suc a) told ≡ Some def → function_of_stmt script m ≡ number_on script def → IsSetAt time told
       set_in : (f : Function) → def_of (suc a) told ≡ Some f.place → function_at script f.place ≡ Some f → IsTrue (list_any (bytes_eq name) f.params) → IsSetAt time told
 
@@ -166,7 +180,7 @@ module _ (locations : (l m : SeenLocation) → (same_location l m ≡ true) ↔ 
         by_tests false true (inr there) later = omega (arith, later there)
         by_tests false false there later = omega (arith, later there)
 
-    set_at : (told : List Moment) → AllOwnNames script told → (time : ℕ) → IsIn (reach (var_at (suc a) name) told) time → IsSetAt time told
+    pub set_at : (told : List Moment) → AllOwnNames script told → (time : ℕ) → IsIn (reach (var_at (suc a) name) told) time → IsSetAt time told
     set_at [] own time there = absurd there
     set_at (moment ∷ before) own time there =
         by_tests (sets_at l (accesses_by moment)) (updates_at l (accesses_by moment)) refl refl there (λ earlier. set_before moment before time (reach_early l before time earlier) (set_at before own.1 time earlier))

@@ -20,7 +20,7 @@ use Rattle.py_model.specs.Plan.{Answer}
 use Rattle.py_model.specs.Renaming.{Renaming, renamed_list}
 use Rattle.slice_law.specs.Closed.{IsIn}
 use Rattle.slice_law.specs.Slices.{told_by}
-use Rattle.slice_simulation.proofs.BoundNames.{OwnNow, AllOwnNames, every_known, run_owns}
+use Rattle.slice_simulation.proofs.OwnNames.{OwnNow, AllOwnNames, every_known, run_owns}
 use Rattle.slice_simulation.proofs.BoundReads.{bound_at}
 use Rattle.slice_simulation.specs.BoundNames.{OwnNames, is_done, IsBoundAt}
 
@@ -43,7 +43,7 @@ own_now script (leaves v) before done own = absurd (false≢true done)
 own_now script (ends number ended) before done own = absurd (false≢true done)
 
 module _ (laws : NameLaws) (script : ScriptTree) (capture : Capture) (path : List ℕ) (arguments : List (List ℕ)) (steps : ℕ) (well : IsWellFormed script) where
-  own_behind : (news told : List Moment) → told_by script capture path arguments steps ≡ news ++ told → AllOwnNames script told
+  pub own_behind : (news told : List Moment) → told_by script capture path arguments steps ≡ news ++ told → AllOwnNames script told
   own_behind news told is = all_behind script news told (subst (AllOwnNames script) is
       (run_owns script laws.alike capture (every_known script (laws.numbers script well) (laws.standings script well)) path arguments steps))
 

@@ -1,5 +1,5 @@
--- As which function an activation was entered: that stays so.
-use Rattle.std.proofs.Common.{◌≡◌, ℕ, suc, if◌then◌else◌, List, [], ◌∷◌, ◌++◌, length, Some, refl, ap, ◌∙◌, eq-eqb}
+-- As which function an activation was entered, and how many were.
+use Rattle.std.proofs.Common.{◌≡◌, suc, if◌then◌else◌, List, [], ◌∷◌, length, Some, refl, ap, ◌∙◌, eq-eqb}
 use Rattle.prov_base.specs.declared.place.Pos.{Pos}
 use Rattle.py_value.specs.Contents.{Contents}
 use Rattle.py_value.specs.Seen.{SeenAccess}
@@ -7,13 +7,9 @@ use Rattle.py_model.specs.History.{entered_by}
 use Rattle.py_model.specs.Moment.{Moment, begins, does, enters, leaves, ends}
 use Rattle.py_model.specs.Occurrences.{owner_stmt}
 use Rattle.slice_law.specs.Closed.{StmtSet}
-use Rattle.slice_simulation.proofs.BoundReads.{def_of, def_stays}
+use Rattle.slice_simulation.proofs.BoundReads.{def_of}
 use Rattle.slice_simulation.proofs.Marks.{one_longer}
 use Rattle.slice_simulation.specs.Renaming.{is_kept, activations_after}
-
-pub entered_stays : (news told : List Moment) (a : ℕ) (def : Pos) → def_of a told ≡ Some def → def_of a (news ++ told) ≡ Some def
-entered_stays [] told a def is = is
-entered_stays (moment ∷ news) told a def is = def_stays moment (news ++ told) a def (entered_stays news told a def is)
 
 pub entered_now : (at def : Pos) (values : List Contents) (accesses : List SeenAccess) (before : List Moment) → def_of (suc (entered_by before)) (enters at def values accesses ∷ before) ≡ Some def
 entered_now at def values accesses before = ap (λ test. if test then Some def else def_of (suc (entered_by before)) before) (eq-eqb (suc (entered_by before)) (suc (entered_by before)) refl)

@@ -46,7 +46,7 @@ mod NumberedStatements
 mod ScopedPlans
 mod BoundActs
 mod BoundRules
-mod BoundNames
+mod OwnNames
 mod BoundReads
 mod BoundRuns
 mod ListedStatements

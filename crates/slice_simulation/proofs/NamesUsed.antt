@@ -1,6 +1,6 @@
 -- No kept statement of a run uses a name that is local in its function and not in what is kept of that. What such a name was set by, or the first
 -- statement that binds it, would be kept.
-use Rattle.std.proofs.Common.{◌≡◌, ℕ, zero, suc, Bool, true, false, ◌==◌, if◌then◌else◌, ◌⊎◌, List, [], ◌∷◌, ◌++◌, Option, Some, None, option_map, inl, inr, refl, sym, ap, subst, ◌∙◌, arith, append_assoc, eqb-true}
+use Rattle.std.proofs.Common.{◌≡◌, ℕ, zero, suc, Bool, true, false, ◌⊎◌, List, [], ◌∷◌, ◌++◌, Option, Some, None, option_map, inl, inr, refl, sym, ap, subst, ◌∙◌, append_assoc}
 use Rattle.std.specs.List.{list_any}
 use Rattle.std.specs.Str.{bytes_eq}
 use Rattle.std.proofs.lemmas.Bool.{false≢true}
@@ -16,8 +16,7 @@ use Rattle.py_value.specs.Seen.{SeenAccess, SeenKind, var_at, reads}
 use Rattle.py_model.specs.Act.{Walked}
 use Rattle.py_model.specs.Capture.{Capture, opening_in, answers_at}
 use Rattle.py_model.specs.Effect.{Answers, effect, accesses_in, weight}
-use Rattle.py_model.specs.History.{entered_by}
-use Rattle.py_model.specs.Moment.{Moment, begins, does, enters, leaves, ends}
+use Rattle.py_model.specs.Moment.{Moment, does}
 use Rattle.py_model.specs.Names.{unbind}
 use Rattle.py_model.specs.Occurrences.{reach, owner_stmt}
 use Rattle.py_model.specs.Operations.{Op, is_silent, plan}
@@ -28,10 +27,9 @@ use Rattle.slice_law.specs.Closed.{StmtSet, IsIn, IsClosed}
 use Rattle.slice_law.specs.Edges.{function_of_stmt, first_binder}
 use Rattle.slice_law.specs.Slices.{told_by}
 use Rattle.slice_simulation.proofs.Beside.{OnName, on_read, on_bind, on_unbind, on_import}
-use Rattle.slice_simulation.proofs.BoundReads.{def_of, IsOf, is_of}
+use Rattle.slice_simulation.proofs.BoundReads.{def_of, def_stays_on, none_enters_module, IsOf, is_of}
 use Rattle.slice_simulation.proofs.BoundRuns.{NameLaws, own_names, reached_bound}
 use Rattle.slice_simulation.proofs.Closedness.{reached_kept, binder_kept}
-use Rattle.slice_simulation.proofs.Entered.{entered_stays}
 use Rattle.slice_simulation.proofs.Onwards.{Came, CameBy, came_by}
 use Rattle.slice_simulation.proofs.LostLocals.{LostName}
 use Rattle.slice_simulation.specs.BoundNames.{OwnNames, location_of, is_write, IsBoundAt, by_statement, by_parameter}
@@ -53,19 +51,6 @@ uses_name store answers _ _ on_unbind scope name v = record { access = reads (va
     by_silent : (silent : Bool) → IsIn (accesses_in (effect store answers (unbind silent scope name)).touches) (reads (var_at scope name))
     by_silent true = inl refl
     by_silent false = inl refl
-
--- the module's activation was not entered
-def_zero : (told : List Moment) (def : Pos) → def_of 0 told ≡ Some def → ⊥
-def_zero [] def is = absurd cc
-def_zero (enters at own values accesses ∷ before) def is = by_test (suc (entered_by before) == 0) refl is (def_zero before def)
-  where
-    by_test : (test : Bool) → (suc (entered_by before) == 0) ≡ test → (if test then Some own else def_of 0 before) ≡ Some def → (def_of 0 before ≡ Some def → ⊥) → ⊥
-    by_test true same is later = omega (arith, eqb-true (suc (entered_by before)) 0 same)
-    by_test false apart is later = later is
-def_zero (does at number values answer made accesses weight ∷ before) def is = def_zero before def is
-def_zero (begins n ∷ before) def is = def_zero before def is
-def_zero (leaves v ∷ before) def is = def_zero before def is
-def_zero (ends n ended ∷ before) def is = def_zero before def is
 
 same_some : {A : Type 0} (x y : A) → Some x ≡ Some y → x ≡ y
 same_some x y is = cc
@@ -128,7 +113,7 @@ module _ (laws : NameLaws) (script : ScriptTree) (well : IsWellFormed script) wh
       uses = uses_name s.store (answers_at capture at (suc (askings_at at s.askings))) p.no vs on p.scope p.name p.value
 
       by_scope : (scope : ℕ) → p.scope ≡ scope → def_of p.scope upto ≡ Some f.place → ⊥
-      by_scope zero is entered = def_zero upto f.place (subst (λ a. def_of a upto ≡ Some f.place) is entered)
+      by_scope zero is entered = none_enters_module upto f.place (subst (λ a. def_of a upto ≡ Some f.place) is entered)
       by_scope (suc a) is entered = by_how uses.how
         where
           place_is : location_of uses.access ≡ var_at (suc a) p.name
@@ -139,7 +124,7 @@ module _ (laws : NameLaws) (script : ScriptTree) (well : IsWellFormed script) wh
 
           def_is : one.def ≡ f.place
           def_is = same_some one.def f.place
-              (sym (ap (def_of (suc a)) (whole ∙ sym (append_assoc news (moment ∷ []) s.told)) ∙ entered_stays (news ++ moment ∷ []) s.told (suc a) one.def one.entered)
+              (sym (ap (def_of (suc a)) (whole ∙ sym (append_assoc news (moment ∷ []) s.told)) ∙ def_stays_on (news ++ moment ∷ []) s.told (suc a) one.def one.entered)
               ∙ subst (λ scope. def_of scope upto ≡ Some f.place) is entered)
 
           function_is : function_of_stmt script n ≡ Some number

@@ -18,9 +18,9 @@ use Rattle.slice_simulation.proofs.Beside.{Ground, Beside}
 use Rattle.slice_simulation.proofs.Closedness.{reach_in, reads_kept, jumps_kept, calls_kept, body_under}
 use Rattle.py_tree.specs.Functions.{Function, functions_in, function_at}
 use Rattle.slice_simulation.proofs.Happenings.{Laws}
-use Rattle.slice_simulation.proofs.Entered.{entered_stays, entered_now, entered_count}
-use Rattle.slice_simulation.proofs.BoundNames.{placed_there}
-use Rattle.slice_simulation.proofs.BoundReads.{def_of}
+use Rattle.slice_simulation.proofs.Entered.{entered_now, entered_count}
+use Rattle.slice_simulation.proofs.OwnNames.{placed_there}
+use Rattle.slice_simulation.proofs.BoundReads.{def_of, def_stays_on}
 use Rattle.slice_simulation.proofs.BoundRuns.{NameLaws}
 use Rattle.slice_simulation.proofs.LostLocals.{number_found, lost_name}
 use Rattle.slice_simulation.proofs.NamesUsed.{never_lost}
@@ -210,7 +210,7 @@ module _ (laws : Laws) (flow : FlowLaws) (name_laws : NameLaws) (script : Script
         asking_out = asking_apart script capture path arguments steps keep upto own;
         enters = λ news before at def vs accesses is. subst (λ told. def_of (length (activations_after keep before)) told ≡ Some def) (sym is)
             (subst (λ a. def_of a (news ++ enters at def vs accesses ∷ before) ≡ Some def) (sym (entered_count keep before))
-            (entered_stays news (enters at def vs accesses ∷ before) (suc (entered_by before)) def (entered_now at def vs accesses before)));
+            (def_stays_on news (enters at def vs accesses ∷ before) (suc (entered_by before)) def (entered_now at def vs accesses before)));
         names = λ news at p vs s u answer came n one other happens is owner kept on same called entered local not_local.
             let bodies = callee_bodies keep script well under one.place one other called.0 called.1 in
             never_lost name_laws script well capture path arguments steps keep upto closed rest told_is news at p vs s u answer came n one bodies.number happens is owner kept on called.0

@@ -1,24 +1,17 @@
 -- A script that the laws speak of, by computation: a class with a method that calls a function with a local name. Its tree is well formed, its class
--- stands outside the functions, and its run reaches the value of the last line. And a tree with a class in a function, of which the law would fail.
-use Rattle.std.proofs.Common.{◌≡◌, ℕ, List, [], ◌∷◌, ◌==◌, codes, refl, true, false, not, Option, None, is_some}
+-- stands outside the functions, and its run reaches the value of the last line.
+use Rattle.std.proofs.Common.{◌≡◌, ℕ, [], ◌∷◌, codes, refl, true, None, is_some}
 use Rattle.std.specs.Prelude.{pos}
-use Rattle.std.specs.List.{list_all}
 use Rattle.std.specs.Str.{chars, is_utf8}
 use Rattle.std.specs.Char.{encode_utf8}
 use Rattle.prov_base.specs.declared.place.Pos.{Pos}
 use Rattle.prov_base.specs.declared.place.Span.{Span}
 use Rattle.py_tree.specs.declared.expr.Atom.TheVariants.{Int as int_atom}
 use Rattle.py_tree.specs.declared.expr.BinOp.TheVariants.{Add}
-use Rattle.py_tree.specs.Tree.{const_expr, var_expr, tuple_expr, call_expr, attr_expr, binary_expr, end_exprs, more_exprs, var_target, field_target, one_stmt, do_form, assign_form, return_form, def_form, class_form, end_suite, more_suite, ScriptTree}
+use Rattle.py_tree.specs.Tree.{const_expr, var_expr, call_expr, attr_expr, binary_expr, end_exprs, more_exprs, var_target, field_target, one_stmt, do_form, assign_form, return_form, def_form, class_form, end_suite, more_suite, ScriptTree}
 use Rattle.py_tree.specs.WellFormed.{IsWellFormed}
 use Rattle.std.specs.Prelude.{Some}
-use Rattle.py_tree.specs.Deletion.{deleted}
-use Rattle.py_value.specs.Contents.{tuple, int, no_parts, part}
-use Rattle.py_model.specs.Capture.{Capture, opening_in}
-use Rattle.py_model.specs.Moment.{Moment}
-use Rattle.py_model.specs.Plan.{Answer, value}
-use Rattle.slice_law.specs.Closed.{has, needed}
-use Rattle.slice_simulation.specs.Simulation.{answer_of}
+use Rattle.py_model.specs.Capture.{Capture}
 use Rattle.py_model.specs.Meaning.{level}
 use Rattle.py_model.specs.Occurrences.{up_to_evaluation}
 use Rattle.slice_law.specs.Slices.{told_by}
@@ -67,52 +60,3 @@ counter_stands_outside = refl
 counter_is_reached : (capture : Capture) → is_some (up_to_evaluation (place 10 8) 1 (told_by counter (record capture { answers = []; files = [] }) (codes "s.py") [] 1000)) ≡ true
 unfolding is_utf8 chars encode_utf8 level
 counter_is_reached capture = refl
-
--- x = 5
--- def f():
---     class C:
---         x = 1
---     return x
---     x = 3
--- y = f()
--- z = (x, y)
-abbrev inside : ScriptTree
-inside = record {
-  body = more_suite (one_stmt 0 (place 1 1) no_span (assign_form (var_target (place 1 1) (codes "x")) (const_expr (place 1 5) (int_atom (pos 5)))))
-      (more_suite (one_stmt 1 (place 2 1) no_span (def_form (codes "f") [] []
-      (more_suite (one_stmt 2 (place 3 5) no_span (class_form (codes "C") None
-      (more_suite (one_stmt 3 (place 4 9) no_span (assign_form (var_target (place 4 9) (codes "x")) (const_expr (place 4 13) (int_atom (pos 1))))) end_suite)))
-      (more_suite (one_stmt 4 (place 5 5) no_span (return_form (Some (var_expr (place 5 12) (codes "x")))))
-      (more_suite (one_stmt 5 (place 6 5) no_span (assign_form (var_target (place 6 5) (codes "x")) (const_expr (place 6 9) (int_atom (pos 3))))) end_suite)))))
-      (more_suite (one_stmt 6 (place 7 1) no_span (assign_form (var_target (place 7 1) (codes "y")) (call_expr (place 7 6) (var_expr (place 7 5) (codes "f")) end_exprs)))
-      (more_suite (one_stmt 7 (place 8 1) no_span (assign_form (var_target (place 8 1) (codes "z"))
-      (tuple_expr (place 8 5) (more_exprs (var_expr (place 8 6) (codes "x")) (more_exprs (var_expr (place 8 9) (codes "y")) end_exprs))))) end_suite)));
-  count = 8;
-}
-
-inside_is_well_formed : IsWellFormed inside
-inside_is_well_formed = record { numbered = record { in_order = refl; counted = refl }; ascending = refl; apart = refl; nested = refl }
-
--- Where a class stands in a function, the value need not be there again. The last statement of `f` is not needed, since `return` comes before it. But
--- without it the name in the class is the module's.
-abbrev at_tuple : ScriptTree → Capture → Option (List Moment)
-at_tuple script capture = up_to_evaluation (place 8 5) 1 (told_by script (record capture { answers = []; files = [] }) (codes "s.py") [] 1000)
-
-abbrev asked_there : Capture → List ℕ
-asked_there capture = elim (at_tuple inside capture) [ None ↦ [] | Some told ↦ needed inside (opening_in (record capture { answers = []; files = [] }) (codes "s.py") []) told ]
-
-inside_asks : (capture : Capture) → (has 5 (asked_there capture) ≡ false) × (list_all (λ s. has s (asked_there capture)) (0 ∷ 1 ∷ 2 ∷ 3 ∷ 4 ∷ 6 ∷ 7 ∷ []) ≡ true)
-unfolding is_utf8 chars encode_utf8 level
-inside_asks capture = (refl, refl)
-
-abbrev answer_at : Option (List Moment) → Option Answer
-answer_at None = None
-answer_at (Some told) = answer_of told
-
-inside_gives : (capture : Capture) → answer_at (at_tuple inside capture) ≡ Some (value (tuple (part (int (pos 5)) (part (int (pos 1)) no_parts))))
-unfolding is_utf8 chars encode_utf8 level
-inside_gives capture = refl
-
-inside_changes : (capture : Capture) → answer_at (at_tuple (deleted (λ s. not (s == 5)) inside) capture) ≡ Some (value (tuple (part (int (pos 1)) (part (int (pos 1)) no_parts))))
-unfolding is_utf8 chars encode_utf8 level
-inside_changes capture = refl
