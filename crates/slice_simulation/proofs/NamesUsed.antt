@@ -1,14 +1,14 @@
 -- No kept statement of a run uses a name that is local in its function and not in what is kept of that. What such a name was set by, or the first
 -- statement that binds it, would be kept.
-use Rattle.std.proofs.Common.{◌≡◌, ℕ, zero, suc, Bool, true, false, ◌⊎◌, List, [], ◌∷◌, ◌++◌, Option, Some, None, option_map, inl, inr, refl, sym, ap, subst, ◌∙◌, append_assoc}
+use Rattle.std.proofs.Common.{◌≡◌, ℕ, zero, suc, Bool, true, false, ◌⊎◌, List, [], ◌∷◌, ◌++◌, Option, Some, inl, inr, refl, sym, ap, subst, ◌∙◌, append_assoc}
 use Rattle.std.specs.List.{list_any}
 use Rattle.std.specs.Str.{bytes_eq}
 use Rattle.std.proofs.lemmas.Bool.{false≢true}
 use Rattle.prov_base.specs.declared.place.Pos.{Pos}
 use Rattle.py_tree.specs.Binds.{binds}
 use Rattle.py_tree.specs.Functions.{Function, function_at}
-use Rattle.py_tree.specs.Owners.{Standing, number_at, statements, standing_at}
-use Rattle.py_tree.specs.Placed.{place_of, standing_on, number_on}
+use Rattle.py_tree.specs.Owners.{statements}
+use Rattle.py_tree.specs.Placed.{number_on}
 use Rattle.py_tree.specs.Tree.{ScriptTree}
 use Rattle.py_tree.specs.WellFormed.{IsWellFormed}
 use Rattle.py_value.specs.Contents.{Contents}
@@ -31,7 +31,7 @@ use Rattle.slice_simulation.proofs.BoundReads.{def_of, def_stays_on, none_enters
 use Rattle.slice_simulation.proofs.BoundRuns.{NameLaws, own_names, reached_bound}
 use Rattle.slice_simulation.proofs.Closedness.{reached_kept, binder_kept}
 use Rattle.slice_simulation.proofs.Onwards.{Came, CameBy, came_by}
-use Rattle.slice_simulation.proofs.LostLocals.{LostName}
+use Rattle.slice_simulation.proofs.LostLocals.{number_starts, one_place, LostName}
 use Rattle.slice_simulation.specs.BoundNames.{OwnNames, location_of, is_write, IsBoundAt, by_statement, by_parameter}
 
 -- an operation on a name reads or sets it in its scope
@@ -56,27 +56,6 @@ same_some : {A : Type 0} (x y : A) → Some x ≡ Some y → x ≡ y
 same_some x y is = cc
 
 module _ (laws : NameLaws) (script : ScriptTree) (well : IsWellFormed script) where
-  -- a number is of one place
-  record AtPlace (number : ℕ) (place : Pos) : Type 0 where
-    one : Standing
-    found : standing_at script number ≡ Some one
-    place_is : place_of one ≡ place
-
-  at_place : (number : ℕ) (place : Pos) → number_on script place ≡ Some number → AtPlace number place
-  at_place number place is = by_found (standing_on script place) refl is
-    where
-      by_found : (found : Option Standing) → standing_on script place ≡ found → option_map number_at found ≡ Some number → AtPlace number place
-      by_found None there is = absurd cc
-      by_found (Some x) there is =
-          let parts = (laws.standings script well place x).0 there in
-          record { one = x; found = (laws.numbers script well number x).1 (parts.0, same_some (number_at x) number is); place_is = parts.1 }
-
-  one_place : (number : ℕ) (p q : Pos) → number_on script p ≡ Some number → number_on script q ≡ Some number → p ≡ q
-  one_place number p q here there =
-      let one : AtPlace number p = at_place number p here in
-      let other : AtPlace number q = at_place number q there in
-      sym one.place_is ∙ (ap place_of (same_some one.one other.one (sym one.found ∙ other.found)) ∙ other.place_is)
-
   module _ (capture : Capture) (path : List ℕ) (arguments : List (List ℕ)) (steps : ℕ) (keep : StmtSet) (upto : List Moment) (closed : IsClosed script (opening_in capture path arguments) upto keep)
       (rest : List Moment) (told_is : told_by script capture path arguments steps ≡ rest ++ upto) where
     module _ (news : List Moment) (at : Pos) (p : Op) (vs : List Contents) (s u : State) (answer : Answer) (came : Walked) (n : ℕ) (f : Function) (number : ℕ)
@@ -138,7 +117,7 @@ module _ (laws : NameLaws) (script : ScriptTree) (well : IsWellFormed script) wh
               false≢true (sym (lost.unbound m (same ∙ function_is)
               (reached_kept keep script (opening_in capture path arguments) upto closed news s.told at p.no vs answer made accesses size n (var_at (suc a) p.name) time m whole owner kept there reached stmt_is)) ∙ binds_it)
           by_bound there time reached (by_parameter g g_is same is_one) =
-              let places_are : g.place ≡ f.place = one_place number g.place f.place (same ∙ function_is) number_is in
+              let places_are : g.place ≡ f.place = one_place script well number g.place f.place (number_starts script well g.place number (same ∙ function_is)) (number_starts script well f.place number number_is) in
               let same_function : g ≡ f = same_some g f (sym g_is ∙ (ap (function_at script) places_are ∙ f_is)) in
               false≢true (sym lost.no_param ∙ subst (λ (h : Function). list_any (bytes_eq p.name) h.params ≡ true) same_function is_one)
 

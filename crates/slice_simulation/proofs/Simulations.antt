@@ -22,7 +22,7 @@ use Rattle.slice_simulation.proofs.Entered.{entered_now, entered_count}
 use Rattle.slice_simulation.proofs.OwnNames.{placed_there}
 use Rattle.slice_simulation.proofs.BoundReads.{def_of, def_stays_on}
 use Rattle.slice_simulation.proofs.BoundRuns.{NameLaws}
-use Rattle.slice_simulation.proofs.LostLocals.{number_found, lost_name}
+use Rattle.slice_simulation.proofs.LostLocals.{one_place, number_found, lost_name}
 use Rattle.slice_simulation.proofs.NamesUsed.{never_lost}
 use Rattle.slice_simulation.specs.Classes.{ClassesStandOutside}
 use Rattle.model_laws.specs.Flow.{KnownFound, KnownKind, KnownStore}
@@ -35,7 +35,6 @@ use Rattle.model_laws.specs.Defined.{defines}
 use Rattle.slice_simulation.proofs.Marks.{shifts}
 use Rattle.slice_simulation.proofs.AloneStatements.{lone_apart}
 use Rattle.slice_simulation.proofs.EmptiedSuites.{lone_suite}
-use Rattle.slice_simulation.proofs.NumberedStatements.{suite_place}
 use Rattle.slice_simulation.proofs.Standing.{AllOwned}
 use Rattle.slice_simulation.proofs.StartsFound.{found_starts}
 use Rattle.slice_simulation.proofs.StayingDefinitions.{deleted_undefined}
@@ -119,7 +118,7 @@ module _ (laws : Laws) (flow : FlowLaws) (name_laws : NameLaws) (script : Script
 
   alone : (s : ℕ) (at : Pos) → IsHere script s at → IsLone s at → (n : ℕ) → SamePlace script (deleted keep script) s n → ⊥
   alone s at here lone n same =
-      lone n (subst (IsHere (deleted keep script) n) (suite_place s same.place at 0 script.body well.numbered.in_order same.here here) same.there)
+      lone n (subst (IsHere (deleted keep script) n) (one_place script well s same.place at same.here here) same.there)
 
   starts : BothHere ground keep upto at_start at_start
   starts = record { functions = no_function; open_is = refl; line_is = refl; handled = none_handled; classes = no_class }
