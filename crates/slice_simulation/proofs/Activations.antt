@@ -1,5 +1,5 @@
 -- An activation that is entered, and left: in both runs where a kept statement calls, and in the script's run alone where another does.
-use Rattle.std.proofs.Common.{◌≡◌, ◌≤◌, ℕ, suc, true, false, List, [], ◌∷◌, ◌++◌, map, length, Some, option_map, ◌⊎◌, inl, inr, refl, sym, ap, ap₂, subst, ◌∙◌, arith, append_assoc}
+use Rattle.std.proofs.Common.{◌≡◌, ◌≤◌, ℕ, suc, Bool, true, false, List, [], ◌∷◌, ◌++◌, map, length, Some, option_map, ◌⊎◌, inl, inr, refl, sym, ap, ap₂, subst, ◌∙◌, arith, append_assoc}
 use Rattle.std.proofs.lemmas.Bool.{false≢true}
 use Rattle.prov_base.specs.declared.place.Pos.{Pos}
 use Rattle.py_value.specs.Changes.{after_accesses}
@@ -45,13 +45,13 @@ none_updated a (name ∷ params) (v ∷ vs) l = none_updated a params vs l
 enters_same : {at def : Pos} {vs ws : List Contents} {xs ys : List SeenAccess} → vs ≡ ws → xs ≡ ys → enters at def vs xs ≡ enters at def ws ys
 enters_same one other = cc
 
-module _ (laws : Laws) (capture : Capture) (names : ℕ → ℕ → Type 0) (keep : StmtSet) (upto : List Moment) where
-  module _ (at def : Pos) (params : List (List ℕ)) (vs : List Contents) (n : ℕ) (s t : State) (related : Related capture names keep upto s t) (owner : owner_stmt s.told ≡ Some n) where
+module _ (laws : Laws) (capture : Capture) (names : ℕ → ℕ → Type 0) (known : Pos → Bool) (keep : StmtSet) (upto : List Moment) where
+  module _ (at def : Pos) (params : List (List ℕ)) (vs : List Contents) (n : ℕ) (s t : State) (related : Related capture names known keep upto s t) (owner : owner_stmt s.told ≡ Some n) where
     abbrev pub params_here : List SeenAccess
     params_here = parameters_set (suc s.entered) params vs
 
     -- an activation of the script's run alone
-    pub alone_enter_related : keep n ≡ false → Related capture names keep upto (entering at def params vs s) t
+    pub alone_enter_related : keep n ≡ false → Related capture names known keep upto (entering at def params vs s) t
     alone_enter_related out = record {
       follows = alone_did out owner related.follows;
       contents = contents_after;
@@ -113,7 +113,7 @@ module _ (laws : Laws) (capture : Capture) (names : ℕ → ℕ → Type 0) (kee
       pub enter_paid : suc (length ws) ≤ t.left
       enter_paid = omega (arith, related.enough, ap spent_on upto_is, spent_joined news (enters at def vs params_here ∷ s.told), as_long)
 
-      pub both_enter_related : Related capture names keep upto (entering at def params vs s) (entering at def params ws t)
+      pub both_enter_related : Related capture names known keep upto (entering at def params vs s) (entering at def params ws t)
       both_enter_related = record {
         follows = both_did kept owner (λ r fits. enters_same (same.is r fits) (params_same r fits)) related.follows;
         contents = contents_after;
@@ -146,8 +146,8 @@ module _ (laws : Laws) (capture : Capture) (names : ℕ → ℕ → Type 0) (kee
               by_case (inl is) = inl is
               by_case (inr inside) = inr (related.contents l inside r fits)
 
-  module _ (v w : Contents) (n : ℕ) (s t : State) (related : Related capture names keep upto s t) (owner : owner_stmt s.told ≡ Some n) where
-    pub both_leave_related : keep n ≡ true → SameValue (all_marks keep upto) v w → Related capture names keep upto (tell (leaves v) s) (tell (leaves w) t)
+  module _ (v w : Contents) (n : ℕ) (s t : State) (related : Related capture names known keep upto s t) (owner : owner_stmt s.told ≡ Some n) where
+    pub both_leave_related : keep n ≡ true → SameValue (all_marks keep upto) v w → Related capture names known keep upto (tell (leaves v) s) (tell (leaves w) t)
     both_leave_related kept same = record {
       follows = both_did kept owner (λ r fits. ap leaves (same.is r fits)) related.follows;
       contents = related.contents;
@@ -162,7 +162,7 @@ module _ (laws : Laws) (capture : Capture) (names : ℕ → ℕ → Type 0) (kee
       no_more = omega (arith, related.no_more);
     }
 
-    pub alone_leave_related : keep n ≡ false → Related capture names keep upto (tell (leaves v) s) t
+    pub alone_leave_related : keep n ≡ false → Related capture names known keep upto (tell (leaves v) s) t
     alone_leave_related out = record {
       follows = alone_did out owner related.follows;
       contents = related.contents;

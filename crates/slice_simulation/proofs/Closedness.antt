@@ -6,14 +6,14 @@ use Rattle.std.proofs.Common.{◌≡◌, ◌<◌, ℕ, suc, ◌==◌, Bool, true
 use Rattle.std.specs.Prelude.{⊤}
 use Rattle.py_tree.specs.Owners.{Around, Standing, statements, number_at, at_module_level, within, listed_stmt, listed_form, listed_suite, listed_branches, listed_else, listed_handlers}
 use Rattle.py_tree.specs.Tree.{number_of, StmtTree, FormTree, SuiteTree, BranchesTree, ElseTree, HandlersTree, ScriptTree, one_stmt, if_form, while_form, for_form, try_form, with_form, def_form, class_form, end_suite, more_suite, end_branches, more_branches, no_else, else_suite, end_handlers, more_handlers}
-use Rattle.py_value.specs.Seen.{SeenLocation, SeenAccess, reads, sets, updates, SeenKind}
+use Rattle.py_value.specs.Seen.{SeenLocation, SeenAccess, var_at, reads, sets, updates, SeenKind}
 use Rattle.py_model.specs.Going.{Open, a_statement, an_activation}
 use Rattle.py_model.specs.History.{accesses_by}
 use Rattle.py_model.specs.Moment.{Moment, begins, does, enters, leaves, ends, Ending, normal_end, break_end, continue_end, return_end, raise_end}
 use Rattle.py_model.specs.Occurrences.{Occurrence, Frame, in_occurrence, in_activation, frames_after, without_top, innermost, open_of, reach, sets_at, updates_at, owner_stmt}
 use Rattle.py_model.specs.Store.{RunStore}
 use Rattle.slice_law.specs.Closed.{StmtSet, IsIn, store_after, IsClosed}
-use Rattle.slice_law.specs.Edges.{Edge, edge, by_data, by_control, by_jump, to_each, from_option, stmt_at, stmts_at, reach_stmts, reach_asks, read_asks, reads_ask, is_abrupt, caller, asks_for_jump, asks, run_asks, parents_asked, module_jumps, asked_by_value}
+use Rattle.slice_law.specs.Edges.{Edge, edge, by_data, by_name, first_binder, function_of_stmt, by_control, by_jump, to_each, from_option, stmt_at, stmts_at, reach_stmts, reach_asks, read_asks, reads_ask, is_abrupt, caller, asks_for_jump, asks, run_asks, parents_asked, module_jumps, asked_by_value}
 use Rattle.slice_simulation.proofs.Beside.{InnermostIs, TopIsKept, CallerIsOut}
 use Rattle.std.proofs.lemmas.Bool.{false≢true}
 use Rattle.slice_simulation.specs.Related.{ByAccess, OwnerIsKept, IsInReach, AllInReach}
@@ -59,6 +59,9 @@ later moment before [] below = refl
 later moment before (time ∷ times) below =
     ap (λ test. from_option (if test then owner_stmt before else stmt_at time before) ++ stmts_at times (moment ∷ before)) (not_same (length before) time below.0)
     ∙ ap (λ (more : List ℕ). from_option (stmt_at time before) ++ more) (later moment before times below.1)
+
+read_same : (l m : SeenLocation) → reads l ≡ reads m → l ≡ m
+read_same l m is = cc
 
 one_jump : (frames : List Frame) (s : ℕ) (jumps : List ℕ) (n : ℕ) → IsIn jumps n → IsIn (elim frames [ [] ↦ s ∷ jumps | frame ∷ rest ↦ jumps ]) n
 one_jump [] s jumps n there = inr there
@@ -122,6 +125,23 @@ module _ (keep : StmtSet) where
     )
     reads_in n before (sets l content ∷ accesses) all kept = reads_in n before accesses all kept
     reads_in n before (updates l how ∷ accesses) all kept = reads_in n before accesses all kept
+
+    -- what a read asks for is asked for by the moment
+    read_asked : (n : ℕ) (l : SeenLocation) (before : List Moment) (e : Edge) (accesses : List SeenAccess) → IsIn accesses (reads l) → IsIn (read_asks script n l before) e → IsIn (reads_ask script n accesses before) e
+    read_asked n l before e [] there asked = absurd there
+    read_asked n l before e (reads m ∷ accesses) (inl same) asked =
+        in_front (read_asks script n m before) (reads_ask script n accesses before) e (subst (λ l. IsIn (read_asks script n l before) e) (sym (read_same m l same)) asked)
+    read_asked n l before e (reads m ∷ accesses) (inr there) asked = in_behind (read_asks script n m before) (reads_ask script n accesses before) e (read_asked n l before e accesses there asked)
+    read_asked n l before e (sets m content ∷ accesses) (inl same) asked = absurd cc
+    read_asked n l before e (sets m content ∷ accesses) (inr there) asked = read_asked n l before e accesses there asked
+    read_asked n l before e (updates m how ∷ accesses) (inl same) asked = absurd cc
+    read_asked n l before e (updates m how ∷ accesses) (inr there) asked = read_asked n l before e accesses there asked
+
+    time_stmt : (times : List ℕ) (before : List Moment) (time m : ℕ) → IsIn times time → stmt_at time before ≡ Some m → IsIn (stmts_at times before) m
+    time_stmt [] before time m there is = absurd there
+    time_stmt (first ∷ times) before time m (inl same) is =
+        in_front (from_option (stmt_at first before)) (stmts_at times before) m (subst (λ found. IsIn (from_option found) m) (sym (ap (λ t. stmt_at t before) same ∙ is)) (inl refl))
+    time_stmt (first ∷ times) before time m (inr there) is = in_behind (from_option (stmt_at first before)) (stmts_at times before) m (time_stmt times before time m there is)
 
     -- jumps in the module are asked for
     jump_stays : (news told : List Moment) (n : ℕ) → IsIn (module_jumps told) n → IsIn (module_jumps (news ++ told)) n
@@ -214,6 +234,26 @@ module _ (keep : StmtSet) where
     reads_kept news before at number values answer made accesses size n is owner kept =
         reads_in n before accesses (λ e there. asked_kept news before (does at number values answer made accesses size) e is
         (subst (λ own. IsIn (elim own [ None ↦ [] | Some s ↦ reads_ask script s accesses before ]) e) (sym owner) there)) kept
+
+    -- what set a name that is read
+    pub reached_kept : (news before : List Moment) (at : Pos) (number : ℕ) (values : List Contents) (answer : Answer) (made : Option SeenKind) (accesses : List SeenAccess) (size n : ℕ) (l : SeenLocation) (time m : ℕ)
+        → upto ≡ news ++ does at number values answer made accesses size ∷ before → owner_stmt before ≡ Some n → keep n ≡ true → IsIn accesses (reads l)
+        → IsIn (reach l before) time → stmt_at time before ≡ Some m → keep m ≡ true
+    reached_kept news before at number values answer made accesses size n l time m is owner kept there reached stmt_is =
+        asked_kept news before (does at number values answer made accesses size) (edge by_data n m) is
+        (subst (λ own. IsIn (elim own [ None ↦ [] | Some s ↦ reads_ask script s accesses before ]) (edge by_data n m)) (sym owner)
+        (read_asked n l before (edge by_data n m) accesses there (reach_asked n l (reach l before) before m (time_stmt (reach l before) before time m reached stmt_is)))) kept
+
+    -- where nothing set it, the first statement that binds it
+    pub binder_kept : (news before : List Moment) (at : Pos) (number : ℕ) (values : List Contents) (answer : Answer) (made : Option SeenKind) (accesses : List SeenAccess) (size n a binder : ℕ) (name : List ℕ)
+        → upto ≡ news ++ does at number values answer made accesses size ∷ before → owner_stmt before ≡ Some n → keep n ≡ true → IsIn accesses (reads (var_at (suc a) name))
+        → reach (var_at (suc a) name) before ≡ [] → first_binder (function_of_stmt script n) name (statements script) ≡ Some binder → keep binder ≡ true
+    binder_kept news before at number values answer made accesses size n a binder name is owner kept there none binder_is =
+        asked_kept news before (does at number values answer made accesses size) (edge by_name n binder) is
+        (subst (λ own. IsIn (elim own [ None ↦ [] | Some s ↦ reads_ask script s accesses before ]) (edge by_name n binder)) (sym owner)
+        (read_asked n (var_at (suc a) name) before (edge by_name n binder) accesses there
+        (subst (λ times. IsIn (reach_asks script n (var_at (suc a) name) times before) (edge by_name n binder)) (sym none)
+        (subst (λ found. IsIn (to_each by_name n (from_option found)) (edge by_name n binder)) (sym binder_is) (inl refl))))) kept
 
     pub jumps_kept : (news before : List Moment) (n : ℕ) (ended : Ending) (from : List Open) → upto ≡ news ++ ends n ended ∷ before → (ended ≡ normal_end → ⊥)
         → map open_of (frames_after before) ≡ a_statement n ∷ from → TopIsKept keep from → keep n ≡ true

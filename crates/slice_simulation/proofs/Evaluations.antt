@@ -21,12 +21,18 @@ use Rattle.slice_law.specs.Slices.{told_by}
 use Rattle.slice_simulation.proofs.Happenings.{Laws}
 use Rattle.slice_simulation.proofs.Marks.{shifts}
 use Rattle.slice_simulation.proofs.OwnMoments.{place_same, AllOwn, Owns, all_own}
-use Rattle.slice_simulation.proofs.Simulations.{simulated}
+use Rattle.slice_simulation.proofs.Knowing.{FlowLaws}
+use Rattle.slice_simulation.proofs.BoundRuns.{NameLaws}
+use Rattle.slice_simulation.proofs.Simulating.{KnownLast}
+use Rattle.slice_simulation.specs.Classes.{ClassesStandOutside}
+use Rattle.model_laws.specs.Defined.{defines}
+use Rattle.model_laws.specs.Flow.{KnownStore}
+use Rattle.slice_simulation.proofs.Simulations.{Simulated, simulated}
 use Rattle.slice_simulation.proofs.Standing.{in_front, owner_once}
 use Rattle.slice_simulation.specs.Owned.{owned_suite, SamePlace}
 use Rattle.slice_simulation.specs.Related.{renamed_moment, Follows, at_start as nothing_done, both_did, alone_did, both_began, alone_began, passed, both_ended, alone_ended}
 use Rattle.slice_simulation.specs.Renaming.{Fits, IsShifted, Marks, all_marks}
-use Rattle.slice_simulation.specs.Simulation.{IsPlainRun, Simulates, answer_of, ReachesEvaluation}
+use Rattle.slice_simulation.specs.Simulation.{answer_of, ReachesEvaluation}
 
 -- a moment that evaluates at the place, with its number
 module _ (q : Pos) where
@@ -110,7 +116,7 @@ module _ (q : Pos) where
           none true is = absurd (false≢true (sym out ∙ kept.0 is s owner))
           none false is = is
       evaluations_same (both_began is named rest) kept = evaluations_same rest kept.1
-      evaluations_same (alone_began out rest) kept = evaluations_same rest kept.1
+      evaluations_same (alone_began out lone rest) kept = evaluations_same rest kept.1
       evaluations_same (passed out named rest) kept = evaluations_same rest kept.1
       evaluations_same (both_ended is named rest) kept = evaluations_same rest kept.1
       evaluations_same (alone_ended out rest) kept = evaluations_same rest kept.1
@@ -132,12 +138,12 @@ module _ (q : Pos) where
       head_again {moment} {before} told_is (alone_did {s = s} {moment = first} {before = rest} {others = others} out owner follows) evaluates_here kept =
           let rest_is : rest ≡ before = cc in absurd (false≢true (sym out ∙ kept s (ap owner_stmt (sym rest_is) ∙ owner)))
       head_again {moment} told_is (both_began {s} is named follows) evaluates_here kept = let first_is : begins s ≡ moment = cc in absurd (false≢true (ap (is_evaluation_at q) first_is ∙ evaluates_here))
-      head_again {moment} told_is (alone_began {s} out follows) evaluates_here kept = let first_is : begins s ≡ moment = cc in absurd (false≢true (ap (is_evaluation_at q) first_is ∙ evaluates_here))
+      head_again {moment} told_is (alone_began {s} out lone follows) evaluates_here kept = let first_is : begins s ≡ moment = cc in absurd (false≢true (ap (is_evaluation_at q) first_is ∙ evaluates_here))
       head_again {moment} told_is (passed {s} out named follows) evaluates_here kept = let first_is : begins s ≡ moment = cc in absurd (false≢true (ap (is_evaluation_at q) first_is ∙ evaluates_here))
       head_again {moment} told_is (both_ended {s} {n} {ended} is named follows) evaluates_here kept = let first_is : ends s ended ≡ moment = cc in absurd (false≢true (ap (is_evaluation_at q) first_is ∙ evaluates_here))
       head_again {moment} told_is (alone_ended {s} {ended} out follows) evaluates_here kept = let first_is : ends s ended ≡ moment = cc in absurd (false≢true (ap (is_evaluation_at q) first_is ∙ evaluates_here))
 
-module _ (laws : Laws) (script : ScriptTree) (capture : Capture) (path : List ℕ) (arguments : List (List ℕ)) (steps : ℕ) (keep : StmtSet) (q : Pos) (upto : List Moment) where
+module _ (laws : Laws) (flow : FlowLaws) (name_laws : NameLaws) (script : ScriptTree) (capture : Capture) (path : List ℕ) (arguments : List (List ℕ)) (steps : ℕ) (keep : StmtSet) (q : Pos) (upto : List Moment) where
   -- so where the place is a kept statement's, all evaluations there are
   kept_there : (m : ℕ) → keep m ≡ true → Owns script capture path arguments steps keep upto m q → are_distinct (suite_places script.body) ≡ true → (told : List Moment) → AllOwn (Owns script capture path arguments steps keep upto) told → AreKept q keep told
   kept_there m kept own apart [] all = tt
@@ -197,27 +203,37 @@ module _ (laws : Laws) (script : ScriptTree) (capture : Capture) (path : List �
   answer_renamed r (leaves v) before others = refl
   answer_renamed r (ends n ended) before others = refl
 
-  pub reaches : (budget k : ℕ) → IsWellFormed script → IsClosed script (opening_in capture path arguments) upto keep → IsPlainRun script capture path arguments steps
-      → up_to_evaluation q k (told_by script capture path arguments steps) ≡ Some upto → spent_on upto ≤ budget → ReachesEvaluation script capture path arguments budget keep q k upto
-  reaches budget k well closed plain_run is enough = record {
-    simulates = simulation;
-    found = ap (up_to_evaluation q k) (simulation.reached ∙ ap (λ (told : List Moment). simulation.after ++ told) once_more.again_is)
-        ∙ (find_again q k simulation.after once_more.other once_more.others evaluates_too (ap suc counted ∙ found.counted)
-        ∙ ap (λ (told : List Moment). Some told) (sym once_more.again_is));
-    answers = λ r fits. ap answer_of once_more.again_is
-        ∙ (ap (λ other. answer_of (other ∷ once_more.others)) (once_more.other_is r fits)
-        ∙ (answer_renamed r found.moment found.before once_more.others ∙ ap (λ told. option_map (renamed_answer r) (answer_of told)) (sym found.upto_is)));
+  -- and what the slice knows there
+  pub record Reached (budget k : ℕ) : Type 0 where
+    pub reaches : ReachesEvaluation script capture path arguments budget keep q k upto
+    pub knows : KnownStore (defines (deleted keep script)) (store_after (opening_in capture path arguments) reaches.simulates.again)
+    pub last : KnownLast (defines (deleted keep script)) reaches.simulates.again
+
+  pub reached : (budget k : ℕ) → IsWellFormed script → ClassesStandOutside script → IsClosed script (opening_in capture path arguments) upto keep
+      → up_to_evaluation q k (told_by script capture path arguments steps) ≡ Some upto → spent_on upto ≤ budget → Reached budget k
+  reached budget k well classes closed is enough = record {
+    reaches = record {
+      simulates = whole.simulates;
+      found = ap (up_to_evaluation q k) (whole.simulates.reached ∙ ap (λ (told : List Moment). whole.simulates.after ++ told) once_more.again_is)
+          ∙ (find_again q k whole.simulates.after once_more.other once_more.others evaluates_too (ap suc counted ∙ found.counted)
+          ∙ ap (λ (told : List Moment). Some told) (sym once_more.again_is));
+      answers = λ r fits. ap answer_of once_more.again_is
+          ∙ (ap (λ other. answer_of (other ∷ once_more.others)) (once_more.other_is r fits)
+          ∙ (answer_renamed r found.moment found.before once_more.others ∙ ap (λ told. option_map (renamed_answer r) (answer_of told)) (sym found.upto_is)));
+    };
+    knows = whole.knows;
+    last = whole.last;
   }
     where
       found : IsFound q k (told_by script capture path arguments steps) upto
       found = found_is q k (told_by script capture path arguments steps) upto is
 
-      simulation : Simulates script capture path arguments budget keep upto
-      simulation = simulated laws script capture path arguments keep upto steps budget closed well found.after found.whole_is plain_run enough
+      whole : Simulated laws flow name_laws script capture path arguments keep upto steps budget closed well classes
+      whole = simulated laws flow name_laws script capture path arguments keep upto steps budget closed well classes found.after found.whole_is enough
 
       own : AllOwn (Owns script capture path arguments steps keep upto) upto
       own = all_own script capture path arguments steps keep upto
-          (record { rest = found.after; told_is = found.whole_is; unnoted = plain_run.unnoted })
+          (record { rest = found.after; told_is = found.whole_is })
 
       last : LastKept
       last = last_kept closed found.moment found.before found.upto_is found.evaluates_here (subst (AllOwn (Owns script capture path arguments steps keep upto)) found.upto_is own)
@@ -228,8 +244,8 @@ module _ (laws : Laws) (script : ScriptTree) (capture : Capture) (path : List �
       near : IsShifted (all_marks keep upto) 0
       near = shifts keep upto 0
 
-      once_more : IsAgain q keep (SamePlace script (deleted keep script)) (all_marks keep upto) near found.moment found.before simulation.again
-      once_more = head_again q keep (SamePlace script (deleted keep script)) (all_marks keep upto) near found.upto_is simulation.follows found.evaluates_here (all_kept.0 found.evaluates_here)
+      once_more : IsAgain q keep (SamePlace script (deleted keep script)) (all_marks keep upto) near found.moment found.before whole.simulates.again
+      once_more = head_again q keep (SamePlace script (deleted keep script)) (all_marks keep upto) near found.upto_is whole.simulates.follows found.evaluates_here (all_kept.0 found.evaluates_here)
 
       evaluates_too : is_evaluation_at q once_more.other ≡ true
       evaluates_too = ap (is_evaluation_at q) (once_more.other_is near.by near.fits) ∙ (renamed_evaluates q keep near.by found.moment ∙ found.evaluates_here)

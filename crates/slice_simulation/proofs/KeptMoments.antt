@@ -18,6 +18,8 @@ use Rattle.py_model.specs.Quiet.{may_ask}
 use Rattle.py_model.specs.Renaming.{Renaming, renamed_touch, renamed_answer, renamed_kind, renamed_access, renamed_outcome, renamed_effect}
 use Rattle.py_model.specs.Running.{Asking, State, did, askings_at, walked, performed, effect_of, operation}
 use Rattle.py_model.specs.Store.{RunStore, has_path}
+use Rattle.model_laws.specs.Flow.{KeepsKnown, KnownStore}
+use Rattle.slice_simulation.proofs.KnownNames.{names_unread}
 use Rattle.slice_law.specs.Closed.{StmtSet}
 use Rattle.slice_simulation.proofs.Happenings.{Laws, DidSo, did_so, do_so, asked_after, fetched_after, with_asked, note_as, asked_alike}
 use Rattle.slice_simulation.proofs.Marks.{kind_at, next_at, marked_at, kinds_made, counted_made, Grows, marks_grow, spent_joined, shifts}
@@ -44,13 +46,14 @@ left_falls c left some pays = omega (arith, some, pays)
 answered_same : (a b : Answer) → answered a ≡ answered b → a ≡ b
 answered_same a b is = cc
 
-module _ (laws : Laws) (capture : Capture) (names : ℕ → ℕ → Type 0) (keep : StmtSet) (upto : List Moment) where
+module _ (laws : Laws) (capture : Capture) (names : ℕ → ℕ → Type 0) (known : Pos → Bool) (keep : StmtSet) (upto : List Moment) where
   abbrev pub marks : Marks
   marks = all_marks keep upto
 
   module _ (at : Pos) (p q : Op) (vs ws : List Contents) (n : ℕ) (s t : State)
-      (related : Related capture names keep upto s t) (kept : keep n ≡ true) (owner : owner_stmt s.told ≡ Some n)
-      (same_op : SameOp marks p q) (same_values : SameValues marks vs ws) (same_asked : effect_of capture at q ws t ≡ effect t.store (answers_at capture at (suc (askings_at at s.askings))) (plan q ws)) where
+      (related : Related capture names known keep upto s t) (kept : keep n ≡ true) (owner : owner_stmt s.told ≡ Some n)
+      (same_op : SameOp marks p q) (same_values : SameValues marks vs ws) (same_asked : effect_of capture at q ws t ≡ effect t.store (answers_at capture at (suc (askings_at at s.askings))) (plan q ws))
+      (keeps : KeepsKnown known (plan q ws)) (knows : KnownStore known t.store) where
     abbrev pub own : Effect
     own = effect_of capture at p vs s
 
@@ -60,11 +63,11 @@ module _ (laws : Laws) (capture : Capture) (names : ℕ → ℕ → Type 0) (kee
     abbrev pub moment : Answer → Moment
     moment answer = does at p.no vs answer own.made (accesses_in own.touches) (weight own)
 
-    known : (accesses : List SeenAccess) → AllInReach keep s.told accesses → AreRead s.store t.store marks accesses
-    known [] there = tt
-    known (reads l ∷ accesses) there = (related.contents l there.0, known accesses there.1)
-    known (sets l content ∷ accesses) there = known accesses there
-    known (updates l how ∷ accesses) there = known accesses there
+    read_known : (accesses : List SeenAccess) → AllInReach keep s.told accesses → AreRead s.store t.store marks accesses
+    read_known [] there = tt
+    read_known (reads l ∷ accesses) there = (related.contents l there.0, read_known accesses there.1)
+    read_known (sets l content ∷ accesses) there = read_known accesses there
+    read_known (updates l how ∷ accesses) there = read_known accesses there
 
     -- the slice's store, as if the paths that the script's run opened were opened there
     abbrev full : RunStore
@@ -73,7 +76,11 @@ module _ (laws : Laws) (capture : Capture) (names : ℕ → ℕ → Type 0) (kee
     abbrev here : Answers
     here = answers_at capture at (suc (askings_at at s.askings))
 
-    known_full : (accesses : List SeenAccess) → AllInReach keep s.told accesses → AreRead s.store full marks accesses
+    -- and as if the names that it noted were noted there
+    abbrev full_named : RunStore
+    full_named = record t.store { opened = s.store.opened; names = s.store.names }
+
+    known_full : (accesses : List SeenAccess) → AllInReach keep s.told accesses → AreRead s.store full_named marks accesses
     known_full [] there = tt
     known_full (reads l ∷ accesses) there = (related.contents l there.0, known_full accesses there.1)
     known_full (sets l content ∷ accesses) there = known_full accesses there
@@ -88,6 +95,9 @@ module _ (laws : Laws) (capture : Capture) (names : ℕ → ℕ → Type 0) (kee
 
     abbrev pub fully : Effect
     fully = effect full here (plan q ws)
+
+    named_fully : effect full_named here (plan q ws) ≡ fully
+    named_fully = names_unread known full (record { at = knows.at; kinds = knows.kinds }) s.store.names (λ place is. sym (related.noted_names place is)) here (plan q ws) keeps
 
     module _ (answer : Answer) (news : List Moment) (upto_is : upto ≡ news ++ moment answer ∷ s.told)
         (there : AllInReach keep s.told (accesses_in own.touches)) where
@@ -125,9 +135,9 @@ module _ (laws : Laws) (capture : Capture) (names : ℕ → ℕ → Type 0) (kee
               ∙ (ap₂ (λ made mark. with_mark made mark (marks_after keep s.told) ++ grows.more) made own_mark
               ∙ append_assoc (marks_after keep s.told) (true ∷ []) grows.more)
 
-      reads_agree : (r : Renaming) → Fits marks r → Agrees r s.store full here here (plan p vs)
+      reads_agree : (r : Renaming) → Fits marks r → Agrees r s.store full_named here here (plan p vs)
       reads_agree r fits =
-          agrees s.store full marks near far kinds_agree related.noted_names (λ path. refl) here r fits (plan p vs) (plan q ws)
+          agrees s.store full_named marks near far kinds_agree (λ place. refl) (λ path. refl) here r fits (plan p vs) (plan q ws)
           (alike near) (alike far) (known_full (accesses_in own.touches) there) (next_is r fits)
         where
           near : IsShifted marks 0
@@ -141,7 +151,7 @@ module _ (laws : Laws) (capture : Capture) (names : ℕ → ℕ → Type 0) (kee
 
       agreed : (r : Renaming) → Fits marks r → (fully ≡ renamed_effect r own) × (weight fully ≡ weight own) × (cost fully ≡ cost own)
       agreed r fits = subst (λ e. (e ≡ renamed_effect r own) × (weight e ≡ weight own) × (cost e ≡ cost own))
-          (sym (ap₂ (λ op values. effect full here (plan op values)) (same_op.is r fits) (same_values.is r fits))) (laws.agree r s.store full here here p vs (reads_agree r fits))
+          (sym (ap₂ (λ op values. effect full_named here (plan op values)) (same_op.is r fits) (same_values.is r fits)) ∙ named_fully) (laws.agree r s.store full_named here here p vs (reads_agree r fits))
 
       pub full_effect : (r : Renaming) → Fits marks r → fully ≡ renamed_effect r own
       full_effect r fits = (agreed r fits).0
@@ -185,7 +195,7 @@ module _ (laws : Laws) (capture : Capture) (names : ℕ → ℕ → Type 0) (kee
         again_is r fits = answered_same again (renamed_answer r answer) (sym outcome_is ∙ (same_outcome r fits ∙ ap (renamed_outcome r) answers))
 
         pub related_after : (a b : List Asking) (f g : List (List ℕ))
-            → Related capture names keep upto (performed at p vs answer own (record s { askings = a; fetches = f })) (performed at q ws again other (record t { askings = b; fetches = g }))
+            → Related capture names known keep upto (performed at p vs answer own (record s { askings = a; fetches = f })) (performed at q ws again other (record t { askings = b; fetches = g }))
         related_after a b f g = record {
           follows = both_did kept owner (λ r fits. does_same (ap (λ op. op.no) (same_op.is r fits)) (same_values.is r fits) (again_is r fits)
               (same_made r fits) (others_accesses r fits) same_weight) related.follows;
@@ -206,9 +216,9 @@ module _ (laws : Laws) (capture : Capture) (names : ℕ → ℕ → Type 0) (kee
           no_more = omega (arith, related.no_more, same_cost);
         }
           where
-            notes : AlikeNotes (after own s.store) (after other t.store)
-            notes = subst (AlikeNotes (after own s.store)) (sym (but_store fully other same_but t.store ∙ ap (λ e. after e t.store) (full_effect (shifts keep upto 0).by (shifts keep upto 0).fits)))
-                (notes_after (shifts keep upto 0).by own s.store t.store (record { names = related.noted_names }))
+            notes : AlikeNotes known (after own s.store) (after other t.store)
+            notes = subst (AlikeNotes known (after own s.store)) (sym (but_store fully other same_but t.store ∙ ap (λ e. after e t.store) (full_effect (shifts keep upto 0).by (shifts keep upto 0).fits)))
+                (notes_after (shifts keep upto 0).by known own s.store t.store (record { names = related.noted_names }))
 
             same_paths : (path : List ℕ) → opens_at path other.touches ≡ opens_at path own.touches
             same_paths path = but_opens fully other same_but path ∙ (ap (λ e. opens_at path e.touches) (full_effect (shifts keep upto 0).by (shifts keep upto 0).fits) ∙ same_opens path (shifts keep upto 0).by own.touches)
@@ -219,7 +229,7 @@ module _ (laws : Laws) (capture : Capture) (names : ℕ → ℕ → Type 0) (kee
 
             here_after : (path : List ℕ) → (sets_at (file_at path) (accesses_in own.touches) ≡ true) ⊎ IsInReach keep (file_at path) s.told
                 → (has_path path s.store.opened ≡ true) ⊎ (opens_at path own.touches ≡ true) → (has_path path (after other t.store).opened ≡ true) ⊎ IsThere (found_in capture.files) path
-            here_after path (inl set) known = inl (open_now path other t.store (same_paths path ∙ (tidily path s.store here None (plan p vs) (laws.tidy p vs)).opens_it_too set))
+            here_after path (inl set) read_known = inl (open_now path other t.store (same_paths path ∙ (tidily path s.store here None (plan p vs) (laws.tidy p vs)).opens_it_too set))
             here_after path (inr inside) (inr now) = inl (open_now path other t.store (same_paths path ∙ now))
             here_after path (inr inside) (inl was) = by_before (related.opened_here path was inside)
               where
@@ -252,23 +262,24 @@ module _ (laws : Laws) (capture : Capture) (names : ℕ → ℕ → Type 0) (kee
 
   -- one moment of a kept statement
   pub kept_moment : (at : Pos) (p q : Op) (vs ws : List Contents) (n : ℕ) (s t next : State) (answer : Answer) (came : Walked)
-      → Related capture names keep upto s t → keep n ≡ true → owner_stmt s.told ≡ Some n → SameOp marks p q → SameValues marks vs ws
+      → Related capture names known keep upto s t → keep n ≡ true → owner_stmt s.told ≡ Some n → SameOp marks p q → SameValues marks vs ws
       → (may_ask p.no ≡ false) ⊎ (askings_at at t.askings ≡ askings_at at s.askings)
+      → KeepsKnown known (plan q ws) → KnownStore known t.store
       → operation capture at p vs s ≡ did answer came next → (news : List Moment) → upto ≡ news ++ next.told
-      → AllInReach keep s.told (accesses_in (effect_of capture at p vs s).touches) → DoneAgain capture names keep upto at q ws s t answer came next
-  kept_moment at p q vs ws n s t next answer came related kept owner same_op same_values asks happens news upto_is there = record {
-    again = again at p q vs ws n s t related kept owner same_op same_values asked_so answer news upto_now there so.answers;
+      → AllInReach keep s.told (accesses_in (effect_of capture at p vs s).touches) → DoneAgain capture names known keep upto at q ws s t answer came next
+  kept_moment at p q vs ws n s t next answer came related kept owner same_op same_values asks keeps knows happens news upto_is there = record {
+    again = again at p q vs ws n s t related kept owner same_op same_values asked_so keeps knows answer news upto_now there so.answers;
     now = performed at q ws (renamed_answer (shifts keep upto 0).by answer) (effect_of capture at q ws t) (with_asked at (suc (askings_at at t.askings)) (effect_of capture at q ws t).touches t);
     happens = do_so at q ws capture t (with_asked at (suc (askings_at at t.askings)) (effect_of capture at q ws t).touches t) (renamed_answer (shifts keep upto 0).by answer)
         (note_as at (suc (askings_at at t.askings)) (effect_of capture at q ws t).touches t)
-        (outcome_is at p q vs ws n s t related kept owner same_op same_values asked_so answer news upto_now there so.answers)
+        (outcome_is at p q vs ws n s t related kept owner same_op same_values asked_so keeps knows answer news upto_now there so.answers)
         (omega (arith, pays)) pays
         ∙ ap (λ came. did (renamed_answer (shifts keep upto 0).by answer) came
         (performed at q ws (renamed_answer (shifts keep upto 0).by answer) (effect_of capture at q ws t) (with_asked at (suc (askings_at at t.askings)) (effect_of capture at q ws t).touches t))) came_same;
-    answers = again_is at p q vs ws n s t related kept owner same_op same_values asked_so answer news upto_now there so.answers;
-    related = subst (λ next. Related capture names keep upto next
+    answers = again_is at p q vs ws n s t related kept owner same_op same_values asked_so keeps knows answer news upto_now there so.answers;
+    related = subst (λ next. Related capture names known keep upto next
         (performed at q ws (renamed_answer (shifts keep upto 0).by answer) (effect_of capture at q ws t) (with_asked at (suc (askings_at at t.askings)) (effect_of capture at q ws t).touches t))) (sym so.next_is)
-        (related_after at p q vs ws n s t related kept owner same_op same_values asked_so answer news upto_now there so.answers
+        (related_after at p q vs ws n s t related kept owner same_op same_values asked_so keeps knows answer news upto_now there so.answers
         (asked_after at (suc (askings_at at s.askings)) (effect_of capture at p vs s).touches s.askings) (asked_after at (suc (askings_at at t.askings)) (effect_of capture at q ws t).touches t.askings)
         (fetched_after (effect_of capture at p vs s).touches s.fetches) (fetched_after (effect_of capture at q ws t).touches t.fetches));
     askings = λ place same. ap (λ (asked : List Asking). askings_at place asked) others_asked
@@ -289,24 +300,24 @@ module _ (laws : Laws) (capture : Capture) (names : ℕ → ℕ → Type 0) (kee
       asked_so = asks_alike at p q ws s t (ap (λ op. op.no) (same_op.is (shifts keep upto 0).by (shifts keep upto 0).fits)) asks
 
       others_asked : asked_after at (suc (askings_at at t.askings)) (effect_of capture at q ws t).touches t.askings
-          ≡ asked_after at (suc (askings_at at t.askings)) (fully at p q vs ws n s t related kept owner same_op same_values asked_so).touches t.askings
-      others_asked = but_askings (fully at p q vs ws n s t related kept owner same_op same_values asked_so) (effect_of capture at q ws t)
-          (same_but at p q vs ws n s t related kept owner same_op same_values asked_so answer news upto_now there) at (suc (askings_at at t.askings)) t.askings
+          ≡ asked_after at (suc (askings_at at t.askings)) (fully at p q vs ws n s t related kept owner same_op same_values asked_so keeps knows).touches t.askings
+      others_asked = but_askings (fully at p q vs ws n s t related kept owner same_op same_values asked_so keeps knows) (effect_of capture at q ws t)
+          (same_but at p q vs ws n s t related kept owner same_op same_values asked_so keeps knows answer news upto_now there) at (suc (askings_at at t.askings)) t.askings
 
-      others_touches : (fully at p q vs ws n s t related kept owner same_op same_values asked_so).touches ≡ map (renamed_touch (shifts keep upto 0).by) (effect_of capture at p vs s).touches
+      others_touches : (fully at p q vs ws n s t related kept owner same_op same_values asked_so keeps knows).touches ≡ map (renamed_touch (shifts keep upto 0).by) (effect_of capture at p vs s).touches
       others_touches = ap (λ e. e.touches)
-          (full_effect at p q vs ws n s t related kept owner same_op same_values asked_so answer news upto_now there (shifts keep upto 0).by (shifts keep upto 0).fits)
+          (full_effect at p q vs ws n s t related kept owner same_op same_values asked_so keeps knows answer news upto_now there (shifts keep upto 0).by (shifts keep upto 0).fits)
 
       pays : cost (effect_of capture at q ws t) ≤ t.left
       pays = omega (
         arith,
-        same_cost at p q vs ws n s t related kept owner same_op same_values asked_so answer news upto_now there,
-        enough_left at p q vs ws n s t related kept owner same_op same_values asked_so answer news upto_now there,
+        same_cost at p q vs ws n s t related kept owner same_op same_values asked_so keeps knows answer news upto_now there,
+        enough_left at p q vs ws n s t related kept owner same_op same_values asked_so keeps knows answer news upto_now there,
       )
 
       came_same : walked t.store (accesses_in (effect_of capture at q ws t).touches) ≡ came
       came_same =
-          ap (walked t.store) (others_accesses at p q vs ws n s t related kept owner same_op same_values asked_so answer news upto_now there (shifts keep upto 0).by (shifts keep upto 0).fits)
+          ap (walked t.store) (others_accesses at p q vs ws n s t related kept owner same_op same_values asked_so keeps knows answer news upto_now there (shifts keep upto 0).by (shifts keep upto 0).fits)
           ∙ (walked_same (shifts keep upto 0).by s.store t.store marks (shifts keep upto 0).fits (accesses_in (effect_of capture at p vs s).touches)
-          (known at p q vs ws n s t related kept owner same_op same_values asked_so (accesses_in (effect_of capture at p vs s).touches) there)
+          (read_known at p q vs ws n s t related kept owner same_op same_values asked_so keeps knows (accesses_in (effect_of capture at p vs s).touches) there)
           ∙ sym so.came_is)

@@ -8,8 +8,15 @@ pub mod KeptMoments
 pub mod OtherMoments
 pub mod Onwards
 pub mod Beside
+mod Knowing
+mod Entered
+mod NamesUsed
+mod KnownNames
+mod UnknownNames
+mod StartsFound
 pub mod Simulating
 pub mod OutsideRules
+mod KeptOperations
 pub mod KeptExpressions
 pub mod KeptStatements
 pub mod Closedness
@@ -19,16 +26,32 @@ mod Standing
 mod PlacedRules
 mod OwnMoments
 mod Evaluations
-mod Functionless
-mod AtomicValues
 mod Opened
 mod Late
 mod EndedLists
 mod SharedGraphs
-mod Nameless
 mod Values
-mod SilentRules
-mod Bareness
 mod Activations
 mod FunctionsLeft
 mod KeptCalls
+mod StartsOnce
+mod OutsideStatements
+mod DefinedPlaces
+mod StayingDefinitions
+mod EmptiedSuites
+mod AloneStatements
+mod FunctionBodies
+mod NamesKept
+mod NumberedStatements
+mod ScopedPlans
+mod BoundActs
+mod BoundRules
+mod OwnNames
+mod BoundReads
+mod BoundRuns
+mod ListedStatements
+mod FunctionStatements
+mod LocalNames
+mod Binders
+mod LostLocals
+mod InnerClasses

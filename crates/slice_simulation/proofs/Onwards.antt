@@ -1,5 +1,5 @@
--- What a run does from a state on: moments are told one by one, and what is noted and opened stays so.
-use Rattle.std.proofs.Common.{◌≡◌, ◌≤◌, ℕ, suc, Bool, true, false, if◌then◌else◌, List, [], ◌∷◌, ◌++◌, length, nat_le, refl, sym, ap, subst, ◌∙◌, arith, append_assoc, length-append}
+-- What a run does from a state on: moments are told one by one.
+use Rattle.std.proofs.Common.{◌≡◌, ◌≤◌, ℕ, suc, Bool, true, false, if◌then◌else◌, List, [], ◌∷◌, ◌++◌, length, nat_le, refl, sym, ap, ◌∙◌, arith, append_assoc, length-append}
 use Rattle.prov_base.specs.declared.place.Pos.{Pos}
 use Rattle.py_value.specs.Contents.{Contents}
 use Rattle.py_model.specs.Act.{Act, Walked, ret, stop, perform, begin, close, enter, leave}
@@ -9,14 +9,11 @@ use Rattle.py_model.specs.Moment.{Moment, begins, does, enters, leaves, ends, pa
 use Rattle.py_model.specs.Operations.{Op}
 use Rattle.py_model.specs.Plan.{Answer}
 use Rattle.py_model.specs.Running.{State, spent, lacking, state_in, Happened, did, too_dear, lacked, askings_at, note, walked, performed, happened, effect_of, operation, outcome, entering, beginning, tell}
-use Rattle.slice_simulation.specs.Related.{IsUnnoted}
-use Rattle.slice_simulation.proofs.Touching.{unnoted_before}
 
--- the moments so far are an end of the later list, and where nothing is noted later nothing was
+-- the moments so far are an end of the later list
 pub record Onward (s t : State) : Type 0 where
   pub news : List Moment
   pub told_is : t.told ≡ news ++ s.told
-  pub unnoted : IsUnnoted t.store → IsUnnoted s.store
 
 note_told : (at : Pos) (k : ℕ) (touches : List Touch) (s : State) → ((note at k touches s).told ≡ s.told) × ((note at k touches s).store ≡ s.store)
 note_told at k [] s = (refl, refl)
@@ -75,14 +72,13 @@ module _ (capture : Capture) where
   onward_then first second = record {
     news = second.news ++ first.news;
     told_is = second.told_is ∙ (ap (λ (told : List Moment). second.news ++ told) first.told_is ∙ sym (append_assoc second.news first.news _));
-    unnoted = λ is. first.unnoted (second.unnoted is);
   }
 
-  onward_told : {s t : State} (moment : Moment) → t.told ≡ moment ∷ s.told → (IsUnnoted t.store → IsUnnoted s.store) → Onward s t
-  onward_told moment is before = record { news = moment ∷ []; told_is = is; unnoted = before }
+  onward_told : {s t : State} (moment : Moment) → t.told ≡ moment ∷ s.told → Onward s t
+  onward_told moment is = record { news = moment ∷ []; told_is = is }
 
   onward_same : {s t : State} → t.told ≡ s.told → t.store ≡ s.store → Onward s t
-  onward_same told store = record { news = []; told_is = told; unnoted = λ is. subst IsUnnoted store is }
+  onward_same told store = record { news = []; told_is = told }
 
   pub onwards : (a : Act) (s : State) → Onward s (state_in (outcome capture a s))
   onwards (ret how) s = onward_same refl refl
@@ -93,24 +89,24 @@ module _ (capture : Capture) where
           → ((answer : Answer) (came : Walked) (t : State) → Onward t (state_in (outcome capture (next answer came) t)))
           → Onward s (state_in (elim h [ did answer came t ↦ outcome capture (next answer came) t | too_dear t ↦ spent t | lacked t ↦ lacking t ]))
       by_happened (did answer came t) is on =
-          onward_then (onward_told _ is.told_is (λ unnoted. unnoted_before (effect_of capture at op values s) s.store (subst IsUnnoted is.store_is unnoted))) (on answer came t)
+          onward_then (onward_told _ is.told_is) (on answer came t)
       by_happened (too_dear t) is on = onward_same is.0 is.1
       by_happened (lacked t) is on = onward_same is.0 is.1
   onwards (begin number rest) s = by_left (nat_le 1 s.left) (onwards rest (beginning number s))
     where
       by_left : (b : Bool) → Onward (beginning number s) (state_in (outcome capture rest (beginning number s)))
           → Onward s (state_in (if b then outcome capture rest (beginning number s) else spent s))
-      by_left true on = onward_then (onward_told (begins number) refl (λ is. is)) on
+      by_left true on = onward_then (onward_told (begins number) refl) on
       by_left false on = onward_same refl refl
-  onwards (close number ended rest) s = onward_then (onward_told (ends number ended) refl (λ is. is)) (onwards rest (tell (ends number ended) s))
+  onwards (close number ended rest) s = onward_then (onward_told (ends number ended) refl) (onwards rest (tell (ends number ended) s))
   onwards (enter at def names values next) s = by_left (nat_le (suc (length values)) s.left) (onwards (next (suc s.entered)) (entering at def names values s))
     where
       by_left : (b : Bool) → Onward (entering at def names values s) (state_in (outcome capture (next (suc s.entered)) (entering at def names values s)))
           → Onward s (state_in (if b then outcome capture (next (suc s.entered)) (entering at def names values s) else spent s))
       by_left true on =
-          onward_then (onward_told (enters at def values (parameters_set (suc s.entered) names values)) refl (λ is. record { names = is.names })) on
+          onward_then (onward_told (enters at def values (parameters_set (suc s.entered) names values)) refl) on
       by_left false on = onward_same refl refl
-  onwards (leave v rest) s = onward_then (onward_told (leaves v) refl (λ is. is)) (onwards rest (tell (leaves v) s))
+  onwards (leave v rest) s = onward_then (onward_told (leaves v) refl) (onwards rest (tell (leaves v) s))
 
 -- of two ends of one list the shorter is an end of the longer
 pub record IsEndOf {A : Type 0} (us vs : List A) : Type 0 where

@@ -22,8 +22,8 @@ use Rattle.slice_simulation.proofs.Happenings.{Laws, DidSo, did_so, asked_after,
 use Rattle.slice_simulation.proofs.Marks.{kinds_alone, counted_made, spent_joined}
 use Rattle.slice_simulation.proofs.Renamings.{untouched}
 use Rattle.slice_simulation.proofs.Opened.{opens_at, open_keeps, open_from, IsLeft, OpensTidily, tidily}
-use Rattle.slice_simulation.proofs.Touching.{kinds_grow, unnoted_before}
-use Rattle.slice_simulation.specs.Related.{IsThere, IsUnnoted, ByAccess, OwnerIsKept, IsInReach, alone_did, both_began, alone_began, passed, both_ended, alone_ended, kept_of, Related}
+use Rattle.slice_simulation.proofs.Touching.{kinds_grow}
+use Rattle.slice_simulation.specs.Related.{IsThere, IsCalledOutside, ByAccess, OwnerIsKept, IsInReach, alone_did, both_began, alone_began, passed, both_ended, alone_ended, kept_of, Related}
 use Rattle.slice_simulation.specs.Renaming.{is_kept, with_mark, marks_after, Fits, Matches, all_marks}
 
 -- where the owner is not kept, neither set nor updated
@@ -32,9 +32,9 @@ by_none own earlier true b none there = absurd (none there)
 by_none own earlier false true none there = absurd (none there.0)
 by_none own earlier false false none there = (refl, refl, there)
 
-module _ (laws : Laws) (capture : Capture) (names : ℕ → ℕ → Type 0) (keep : StmtSet) (upto : List Moment) where
+module _ (laws : Laws) (capture : Capture) (names : ℕ → ℕ → Type 0) (known : Pos → Bool) (keep : StmtSet) (upto : List Moment) where
   pub alone_moment : (at : Pos) (p : Op) (vs : List Contents) (answer : Answer) (e : Effect) (n : ℕ) (s t : State) (a : List Asking) (f : List (List ℕ))
-      → Related capture names keep upto s t → keep n ≡ false → owner_stmt s.told ≡ Some n → IsUnnoted (after e s.store) → ((path : List ℕ) → OpensTidily path s.store (answers_at capture at (suc (askings_at at s.askings))) None e) → Related capture names keep upto (performed at p vs answer e (record s { askings = a; fetches = f })) t
+      → Related capture names known keep upto s t → keep n ≡ false → owner_stmt s.told ≡ Some n → ((place : Pos) → known place ≡ true → (after e s.store).names place ≡ s.store.names place) → ((path : List ℕ) → OpensTidily path s.store (answers_at capture at (suc (askings_at at s.askings))) None e) → Related capture names known keep upto (performed at p vs answer e (record s { askings = a; fetches = f })) t
   alone_moment at p vs answer e n s t a f related out owner unnoted tidy = record {
     follows = alone_did out owner related.follows;
     contents = λ l inside r fits. contents_after l inside r fits;
@@ -44,7 +44,7 @@ module _ (laws : Laws) (capture : Capture) (names : ℕ → ℕ → Type 0) (kee
     entered_here = related.entered_here;
     entered_there = related.entered_there;
     counted = ap length (kinds_grow e s.store) ∙ counted_made e.made (is_kept keep (owner_stmt s.told)) (marks_after keep s.told) s.store.kinds related.counted;
-    noted_names = λ place. related.noted_names place ∙ ((unnoted_before e s.store unnoted).names place ∙ sym (unnoted.names place));
+    noted_names = λ place is. related.noted_names place is ∙ sym (unnoted place is);
     opened_there = λ path is. open_keeps path e s.store (related.opened_there path is);
     opened_here = opened_after;
     enough = omega (arith, related.enough);
@@ -85,12 +85,12 @@ module _ (laws : Laws) (capture : Capture) (names : ℕ → ℕ → Type 0) (kee
               subst (λ here. Matches r here t.store.at l) (sym (laws.changes e s.store))
               (subst (λ content. t.store.at (renamed_location r l) ≡ option_map (renamed_content r) content) (sym (untouched l (accesses_in e.touches) s.store.at parts.0 parts.1)) (related.contents l parts.2 r fits))
 
-  module _ (n m : ℕ) (s t : State) (related : Related capture names keep upto s t) where
+  module _ (n m : ℕ) (s t : State) (related : Related capture names known keep upto s t) where
     -- the budget of a slice pays for what the script's run has done up to the last moment
     pub begin_paid : (news : List Moment) → upto ≡ news ++ begins n ∷ s.told → 1 ≤ t.left
     begin_paid news is = omega (arith, related.enough, ap spent_on is, spent_joined news (begins n ∷ s.told))
 
-    pub both_begin_related : keep n ≡ true → names n m → 1 ≤ t.left → Related capture names keep upto (beginning n s) (beginning m t)
+    pub both_begin_related : keep n ≡ true → names n m → 1 ≤ t.left → Related capture names known keep upto (beginning n s) (beginning m t)
     both_begin_related kept named pays = record {
       follows = both_began kept named related.follows;
       contents = related.contents;
@@ -105,9 +105,9 @@ module _ (laws : Laws) (capture : Capture) (names : ℕ → ℕ → Type 0) (kee
       no_more = omega (arith, related.no_more);
     }
 
-    pub alone_begin_related : keep n ≡ false → Related capture names keep upto (beginning n s) t
-    alone_begin_related out = record {
-      follows = alone_began out related.follows;
+    pub alone_begin_related : keep n ≡ false → ((p : ℕ) → names n p → ⊥) ⊎ IsCalledOutside keep s.told → Related capture names known keep upto (beginning n s) t
+    alone_begin_related out lone = record {
+      follows = alone_began out lone related.follows;
       contents = related.contents;
       kinds = related.kinds;
       counted = related.counted;
@@ -120,7 +120,7 @@ module _ (laws : Laws) (capture : Capture) (names : ℕ → ℕ → Type 0) (kee
       no_more = omega (arith, related.no_more);
     }
 
-    pub pass_related : keep n ≡ false → names n m → 1 ≤ t.left → Related capture names keep upto (beginning n s) (tell (ends m normal_end) (beginning m t))
+    pub pass_related : keep n ≡ false → names n m → 1 ≤ t.left → Related capture names known keep upto (beginning n s) (tell (ends m normal_end) (beginning m t))
     pass_related out named pays = record {
       follows = passed out named related.follows;
       contents = related.contents;
@@ -135,7 +135,7 @@ module _ (laws : Laws) (capture : Capture) (names : ℕ → ℕ → Type 0) (kee
       no_more = omega (arith, related.no_more);
     }
 
-    pub both_end_related : (ended : Ending) → keep n ≡ true → names n m → Related capture names keep upto (tell (ends n ended) s) (tell (ends m ended) t)
+    pub both_end_related : (ended : Ending) → keep n ≡ true → names n m → Related capture names known keep upto (tell (ends n ended) s) (tell (ends m ended) t)
     both_end_related ended kept named = record {
       follows = both_ended kept named related.follows;
       contents = related.contents;
@@ -150,7 +150,7 @@ module _ (laws : Laws) (capture : Capture) (names : ℕ → ℕ → Type 0) (kee
       no_more = omega (arith, related.no_more);
     }
 
-    pub alone_end_related : (ended : Ending) → keep n ≡ false → Related capture names keep upto (tell (ends n ended) s) t
+    pub alone_end_related : (ended : Ending) → keep n ≡ false → Related capture names known keep upto (tell (ends n ended) s) t
     alone_end_related ended out = record {
       follows = alone_ended out related.follows;
       contents = related.contents;
@@ -166,13 +166,13 @@ module _ (laws : Laws) (capture : Capture) (names : ℕ → ℕ → Type 0) (kee
     }
 
   pub deleted_moment : (at : Pos) (p : Op) (vs : List Contents) (n : ℕ) (s t next : State) (answer : Answer) (came : Walked)
-      → Related capture names keep upto s t → keep n ≡ false → owner_stmt s.told ≡ Some n → operation capture at p vs s ≡ did answer came next
-      → IsUnnoted next.store → Related capture names keep upto next t
+      → Related capture names known keep upto s t → keep n ≡ false → owner_stmt s.told ≡ Some n → operation capture at p vs s ≡ did answer came next
+      → ((place : Pos) → known place ≡ true → next.store.names place ≡ s.store.names place) → Related capture names known keep upto next t
   deleted_moment at p vs n s t next answer came related out owner happens unnoted =
-      subst (λ next. Related capture names keep upto next t) (sym so.next_is)
+      subst (λ next. Related capture names known keep upto next t) (sym so.next_is)
       (alone_moment at p vs answer (effect_of capture at p vs s) n s t
       (asked_after at (suc (askings_at at s.askings)) (effect_of capture at p vs s).touches s.askings) (fetched_after (effect_of capture at p vs s).touches s.fetches)
-      related out owner (subst (λ next. IsUnnoted next.store) so.next_is unnoted)
+      related out owner (subst (λ next. (place : Pos) → known place ≡ true → next.store.names place ≡ s.store.names place) so.next_is unnoted)
       (λ path. tidily path s.store (answers_at capture at (suc (askings_at at s.askings))) None (plan p vs) (laws.tidy p vs)))
     where
       so : DidSo at p vs (effect_of capture at p vs s) (effect_of capture at p vs s).outcome (with_asked at (suc (askings_at at s.askings)) (effect_of capture at p vs s).touches s) answer came next

@@ -81,7 +81,7 @@ module _ (P : ℕ → Pos → Type 0) where
         (λ early. stands_told rest (tell (ends n ended) s) (tt, own) (closed_frames (frames_after s.told) n from frames) early (told_on through))
       where
         told_on : Through capture keep opening upto (outcome capture (close n ended a) s) → Through capture keep opening upto (outcome capture a (tell (ends n ended) s))
-        told_on through = record { rest = through.rest; told_is = through.told_is; unnoted = through.unnoted }
+        told_on through = record { rest = through.rest; told_is = through.told_is }
     stands_told (st_enter {from = from} {at = at} {def = def} {params = params} {vs = vs} {f = f} next) s own frames early through =
         by_left (nat_le (suc (length vs)) s.left) through (stands_told (next (suc s.entered)) (entering at def params vs s))
       where
@@ -97,7 +97,7 @@ module _ (P : ℕ → Pos → Type 0) where
         (λ early. stands_told rest (tell (leaves v) s) (tt, own) (left_frames (frames_after s.told) from frames) early (told_on through))
       where
         told_on : Through capture keep opening upto (outcome capture (leave v a) s) → Through capture keep opening upto (outcome capture a (tell (leaves v) s))
-        told_on through = record { rest = through.rest; told_is = through.told_is; unnoted = through.unnoted }
+        told_on through = record { rest = through.rest; told_is = through.told_is }
 
 module _ (script : ScriptTree) (capture : Capture) (path : List ℕ) (arguments : List (List ℕ)) (steps : ℕ) (keep : StmtSet) (upto : List Moment) where
   abbrev pub Owns : ℕ → Pos → Type 0

@@ -1,9 +1,11 @@
 -- A value whose objects are there in both runs has the same graph in both stores, where all that is reachable from it corresponds. Lists are
--- compared as far as they go: up to the first item that is missing.
+-- compared as far as they go: up to the first item that is missing. Functions and classes have the same names where the slice knows them.
 use Rattle.std.proofs.Common.{◌≡◌, ℕ, zero, suc, ◌+◌, ◌≤◌, ◌<◌, ◌==◌, Bool, true, false, ◌&&◌, List, [], ◌∷◌, slice_get, Option, Some, None, is_some, option_map, refl, sym, ap, subst, ◌∙◌, arith, eqb-true}
 use Rattle.std.specs.Prelude.{◌↔◌}
 use Rattle.std.proofs.lemmas.Bool.{and_parts, and_from, false≢true, eqb-false}
 use Rattle.prov_base.specs.declared.place.Pos.{Pos}
+use Rattle.model_laws.specs.Flow.{KnownValue, KnownParts, KnownOption, KnownAll, KnownEntry, KnownKind, KnownStore}
+use Rattle.slice_simulation.proofs.KnownNames.{item_read as item_known, entry_read as entry_known, order_read as order_known}
 use Rattle.model_laws.specs.KeyedRuns.{HaveEntries}
 use Rattle.py_value.specs.Contents.{Contents, Parts, nothing, truth, int, text, tuple, range, function, class, exception_class, builtin, object, no_parts, part}
 use Rattle.py_value.specs.KeyOf.{normal}
@@ -51,6 +53,38 @@ abbrev item_in : Option (Contents × Contents) → Option Contents
 item_in None = None
 item_in (Some entry) = Some entry.1
 
+-- Which functions and classes stand in a value: known ones alone. It is so of what a renaming makes of it.
+module _ (known : Pos → Bool) where
+  abbrev mutual
+    knows : Contents → Bool
+    knows (tuple parts) = parts_know parts
+    knows (function place) = known place
+    knows (class place) = known place
+    knows other = true
+
+    parts_know : Parts → Bool
+    parts_know no_parts = true
+    parts_know (part first rest) = knows first && parts_know rest
+
+  module _ (r : Renaming) where
+    mutual
+      knowing : (v : Contents) → KnownValue known (renamed r v) → knows v ≡ true
+      knowing (tuple parts) is = parts_knowing parts is
+      knowing (function place) is = is
+      knowing (class place) is = is
+      knowing nothing is = refl
+      knowing (truth b) is = refl
+      knowing (int i) is = refl
+      knowing (text bytes) is = refl
+      knowing (range a b c) is = refl
+      knowing (exception_class number) is = refl
+      knowing (builtin number) is = refl
+      knowing (object o) is = refl
+
+      parts_knowing : (ps : Parts) → KnownParts known (renamed_parts r ps) → parts_know ps ≡ true
+      parts_knowing no_parts is = refl
+      parts_knowing (part first rest) is = and_from (knows first) (parts_know rest) (knowing first is.0) (parts_knowing rest is.1)
+
 module _ (is_same : (v w : Contents) → (same_value v w ≡ true) ↔ (v ≡ w)) (marks : Marks) (near : IsShifted marks 0) (far : IsShifted marks 1) where
   -- what two renamings that fit make the same of has objects of both runs alone
   mutual
@@ -89,73 +123,81 @@ module _ (is_same : (v w : Contents) → (same_value v w ≡ true) ↔ (v ≡ w)
       (matches : (l : SeenLocation) → IsIn s.places l → (r : Renaming) → Fits marks r → Matches r here.store.at there.store.at l)
       (kinds : (o : ℕ) → is_marked marks.objects o ≡ true → slice_get there.store.kinds (near.by.objects o) ≡ option_map (renamed_kind near.by) (slice_get here.store.kinds o))
       (keyed : (o : ℕ) → HaveEntries here.store o (order_of here.store o))
-      (functions : (at : Pos) → function_name here.script here.store at ≡ function_name there.script there.store at)
-      (classes : (at : Pos) → class_name here.script here.store at ≡ class_name there.script there.store at) where
+      (known : Pos → Bool) (there_known : KnownStore known there.store)
+      (functions : (at : Pos) → known at ≡ true → function_name here.script here.store at ≡ function_name there.script there.store at)
+      (classes : (at : Pos) → known at ≡ true → class_name here.script here.store at ≡ class_name there.script there.store at) where
     -- objects that were met and are there in both runs
     abbrev reached : ℕ → Bool
     reached o = met s o && is_marked marks.objects o
 
     abbrev pairs : Contents → Contents → Bool
-    pairs v w = within reached v && same_value (renamed near.by v) w
+    pairs v w = (within reached v && knows known v) && same_value (renamed near.by v) w
 
-    own_pair : (v : Contents) → within reached v ≡ true → pairs v (renamed near.by v) ≡ true
-    own_pair v is = and_from (within reached v) (same_value (renamed near.by v) (renamed near.by v)) is ((is_same (renamed near.by v) (renamed near.by v)).1 refl)
+    own_pair : (v : Contents) → within reached v ≡ true → knows known v ≡ true → pairs v (renamed near.by v) ≡ true
+    own_pair v is so = and_from (within reached v && knows known v) (same_value (renamed near.by v) (renamed near.by v)) (and_from (within reached v) (knows known v) is so)
+        ((is_same (renamed near.by v) (renamed near.by v)).1 refl)
+
+    paired_well : (v w : Contents) → pairs v w ≡ true → (within reached v ≡ true) × (knows known v ≡ true)
+    paired_well v w is = and_parts (within reached v) (knows known v) (and_parts (within reached v && knows known v) (same_value (renamed near.by v) w) is).0
 
     paired_within : (v w : Contents) → pairs v w ≡ true → within reached v ≡ true
-    paired_within v w is = (and_parts (within reached v) (same_value (renamed near.by v) w) is).0
+    paired_within v w is = (paired_well v w is).0
 
     paired_same : (v w : Contents) → pairs v w ≡ true → renamed near.by v ≡ w
-    paired_same v w is = (is_same (renamed near.by v) w).0 (and_parts (within reached v) (same_value (renamed near.by v) w) is).1
+    paired_same v w is = (is_same (renamed near.by v) w).0 (and_parts (within reached v && knows known v) (same_value (renamed near.by v) w) is).1
 
     renamed_one : (v w : Contents) → renamed near.by v ≡ renamed near.by w → v ≡ w
     renamed_one v w is = (is_same v w).0 (sym (value_test near.by v w) ∙ (is_same (renamed near.by v) (renamed near.by w)).1 is)
 
-    class_same : (of : Contents) → class_text here.script here.store of ≡ class_text there.script there.store (renamed near.by of)
-    class_same (class at) = classes at
-    class_same (exception_class number) = refl
-    class_same nothing = refl
-    class_same (truth b) = refl
-    class_same (int i) = refl
-    class_same (text bytes) = refl
-    class_same (tuple parts) = refl
-    class_same (range a b c) = refl
-    class_same (function place) = refl
-    class_same (builtin number) = refl
-    class_same (object o) = refl
+    class_same : (of : Contents) → KnownValue known (renamed near.by of) → class_text here.script here.store of ≡ class_text there.script there.store (renamed near.by of)
+    class_same (class at) so = classes at so
+    class_same (exception_class number) so = refl
+    class_same nothing so = refl
+    class_same (truth b) so = refl
+    class_same (int i) so = refl
+    class_same (text bytes) so = refl
+    class_same (tuple parts) so = refl
+    class_same (range a b c) so = refl
+    class_same (function place) so = refl
+    class_same (builtin number) so = refl
+    class_same (object o) so = refl
 
-    match_own : (v : Contents) → within reached v ≡ true → Match (ended_in here) (ended_in there) pairs v (renamed near.by v)
-    match_own nothing is = tt
-    match_own (truth b) is = refl
-    match_own (int i) is = refl
-    match_own (text bytes) is = own_pair (text bytes) is
-    match_own (tuple parts) is = own_pair (tuple parts) is
-    match_own (range a b c) is = (refl, refl, refl)
-    match_own (function at) is = functions at
-    match_own (class at) is = classes at
-    match_own (exception_class number) is = refl
-    match_own (builtin number) is = refl
-    match_own (object o) is = own_pair (object o) is
+    match_own : (v : Contents) → within reached v ≡ true → knows known v ≡ true → Match (ended_in here) (ended_in there) pairs v (renamed near.by v)
+    match_own nothing is so = tt
+    match_own (truth b) is so = refl
+    match_own (int i) is so = refl
+    match_own (text bytes) is so = own_pair (text bytes) is so
+    match_own (tuple parts) is so = own_pair (tuple parts) is so
+    match_own (range a b c) is so = (refl, refl, refl)
+    match_own (function at) is so = functions at so
+    match_own (class at) is so = classes at so
+    match_own (exception_class number) is so = refl
+    match_own (builtin number) is so = refl
+    match_own (object o) is so = own_pair (object o) is so
 
-    parts_own : (ps : Parts) → parts_within reached ps ≡ true → PartsMatch (ended_in here) (ended_in there) pairs ps (renamed_parts near.by ps)
-    parts_own no_parts is = tt
-    parts_own (part first rest) is =
+    parts_own : (ps : Parts) → parts_within reached ps ≡ true → parts_know known ps ≡ true → PartsMatch (ended_in here) (ended_in there) pairs ps (renamed_parts near.by ps)
+    parts_own no_parts is so = tt
+    parts_own (part first rest) is so =
         let both : (within reached first ≡ true) × (parts_within reached rest ≡ true) = and_parts (within reached first) (parts_within reached rest) is in
-        (match_own first both.0, parts_own rest both.1)
+        let all : (knows known first ≡ true) × (parts_know known rest ≡ true) = and_parts (knows known first) (parts_know known rest) so in
+        (match_own first both.0 all.0, parts_own rest both.1 all.1)
 
-    item_own : (v : Option Contents) → item_within reached v ≡ true → OptionsMatch (ended_in here) (ended_in there) pairs v (renamed_option near.by v)
-    item_own None is = tt
-    item_own (Some v) is = match_own v is
+    item_own : (v : Option Contents) → item_within reached v ≡ true → KnownOption known (renamed_option near.by v) → OptionsMatch (ended_in here) (ended_in there) pairs v (renamed_option near.by v)
+    item_own None is so = tt
+    item_own (Some v) is so = match_own v is (knowing known near.by v so)
 
-    entry_own : (entry : Option (Contents × Contents)) → entry_within reached entry ≡ true → EntriesMatch (ended_in here) (ended_in there) pairs entry (renamed_entry near.by entry)
-    entry_own None is = tt
-    entry_own (Some entry) is = match_own entry.1 is
+    entry_own : (entry : Option (Contents × Contents)) → entry_within reached entry ≡ true → KnownEntry known (renamed_entry near.by entry)
+        → EntriesMatch (ended_in here) (ended_in there) pairs entry (renamed_entry near.by entry)
+    entry_own None is so = tt
+    entry_own (Some entry) is so = match_own entry.1 is (knowing known near.by entry.1 so.1)
 
     -- of an object of both runs what stands at its locations
     module _ (o : ℕ) (marked : is_marked marks.objects o ≡ true) where
       item_match : (i : ℕ) → IsIn s.places (item_at o i) → item_within (met s) (item_of here.store o i) ≡ true
           → OptionsMatch (ended_in here) (ended_in there) pairs (item_of here.store o i) (item_of there.store (near.by.objects o) i)
       item_match i place inside = subst (OptionsMatch (ended_in here) (ended_in there) pairs (item_of here.store o i)) (sym in_near)
-          (item_own (item_of here.store o i) (item_both (met s) (is_marked marks.objects) (item_of here.store o i) inside (item_shared (item_of here.store o i) (sym in_near ∙ (ap (λ p. item_of there.store p i) (sym (same_number o marked)) ∙ in_far)))))
+          (item_own (item_of here.store o i) (item_both (met s) (is_marked marks.objects) (item_of here.store o i) inside (item_shared (item_of here.store o i) (sym in_near ∙ (ap (λ p. item_of there.store p i) (sym (same_number o marked)) ∙ in_far))))
+          (subst (KnownOption known) in_near (item_known known there.store there_known (near.by.objects o) i)))
         where
           in_near : item_of there.store (near.by.objects o) i ≡ renamed_option near.by (item_of here.store o i)
           in_near = item_read near.by here.store there.store o i (matches (item_at o i) place near.by near.fits)
@@ -167,7 +209,8 @@ module _ (is_same : (v w : Contents) → (same_value v w ≡ true) ↔ (v ≡ w)
           → EntriesMatch (ended_in here) (ended_in there) pairs (entry_of here.store o key) (entry_of there.store (near.by.objects o) (renamed near.by key))
       entry_match key same place inside = subst (EntriesMatch (ended_in here) (ended_in there) pairs (entry_of here.store o key)) (sym in_near)
           (entry_own (entry_of here.store o key) (entry_both (met s) (is_marked marks.objects) (entry_of here.store o key) inside (entry_shared (entry_of here.store o key)
-          (sym in_near ∙ (ap (λ p. entry_of there.store p (renamed near.by key)) (sym (same_number o marked)) ∙ (ap (entry_of there.store (far.by.objects o)) same ∙ in_far))))))
+          (sym in_near ∙ (ap (λ p. entry_of there.store p (renamed near.by key)) (sym (same_number o marked)) ∙ (ap (entry_of there.store (far.by.objects o)) same ∙ in_far)))))
+          (subst (KnownEntry known) in_near (entry_known known there.store there_known (near.by.objects o) (renamed near.by key))))
         where
           in_near : entry_of there.store (near.by.objects o) (renamed near.by key) ≡ renamed_entry near.by (entry_of here.store o key)
           in_near = entry_read near.by here.store there.store o key (matches (entry_at o (normal key)) place near.by near.fits)
@@ -180,21 +223,21 @@ module _ (is_same : (v w : Contents) → (same_value v w ≡ true) ↔ (v ≡ w)
       whole_key key None covered there_is = absurd (false≢true there_is)
       whole_key key (Some entry) covered there_is = covered
 
-      keys_match : (keys : List Contents) → renamed_list near.by keys ≡ renamed_list far.by keys → KeysCovered here.store s o keys → HaveEntries here.store o keys
+      keys_match : (keys : List Contents) → renamed_list near.by keys ≡ renamed_list far.by keys → KeysCovered here.store s o keys → HaveEntries here.store o keys → KnownAll known (renamed_list near.by keys)
           → KeysMatch (ended_in here) (ended_in there) pairs o (near.by.objects o) keys (renamed_list near.by keys)
-      keys_match [] same all entries = tt
-      keys_match (key ∷ keys) same all entries =
+      keys_match [] same all entries so = tt
+      keys_match (key ∷ keys) same all entries so =
           let first : renamed near.by key ≡ renamed far.by key = head_same (renamed near.by key) (renamed far.by key) (renamed_list near.by keys) (renamed_list far.by keys) same in
           let whole = whole_key key (entry_of here.store o key) all.0 entries.0 in (
-            match_own key (within_both (met s) (is_marked marks.objects) key whole.1 (shared key first)),
+            match_own key (within_both (met s) (is_marked marks.objects) key whole.1 (shared key first)) (knowing known near.by key so.0),
             entry_match key first whole.0 whole.2,
-            keys_match keys (tail_same (renamed near.by key) (renamed far.by key) (renamed_list near.by keys) (renamed_list far.by keys) same) all.1 entries.1,
+            keys_match keys (tail_same (renamed near.by key) (renamed far.by key) (renamed_list near.by keys) (renamed_list far.by keys) same) all.1 entries.1 so.1,
           )
 
       order_match : IsIn s.places (order_at o) → KeysCovered here.store s o (order_of here.store o)
           → KeysMatch (ended_in here) (ended_in there) pairs o (near.by.objects o) (order_of here.store o) (order_of there.store (near.by.objects o))
       order_match place all = subst (KeysMatch (ended_in here) (ended_in there) pairs o (near.by.objects o) (order_of here.store o)) (sym in_near)
-          (keys_match (order_of here.store o) (sym in_near ∙ (ap (order_of there.store) (sym (same_number o marked)) ∙ in_far)) all (keyed o))
+          (keys_match (order_of here.store o) (sym in_near ∙ (ap (order_of there.store) (sym (same_number o marked)) ∙ in_far)) all (keyed o) (subst (KnownAll known) in_near (order_known known there.store there_known (near.by.objects o))))
         where
           in_near : order_of there.store (near.by.objects o) ≡ renamed_list near.by (order_of here.store o)
           in_near = order_read near.by here.store there.store o (matches (order_at o) place near.by near.fits)
@@ -244,17 +287,17 @@ module _ (is_same : (v w : Contents) → (same_value v w ≡ true) ↔ (v ≡ w)
           by_items None (Some y) at match rest = absurd match
           by_items (Some x) None at match rest = absurd match
 
-      content_match : (kind : Option SeenKind) → Covered here.store s o kind
+      content_match : (kind : Option SeenKind) → Covered here.store s o kind → KnownKind known (option_map (renamed_kind near.by) kind)
           → ContentMatches (ended_in here) (ended_in there) pairs o (near.by.objects o) kind (option_map (renamed_kind near.by) kind)
-      content_match None covered = tt
-      content_match (Some a_list) covered =
+      content_match None covered so = tt
+      content_match (Some a_list) covered so =
           let rows = items_match (len_of here.store o) 0 (λ j from_here less earlier. covered.1 j (omega (arith, less)) (λ k below. earlier k (omega arith) below)) in (
             rows.0 ∙ ap (λ n. in_a_row there.store n (near.by.objects o) 0) (sym (len_read near.by here.store there.store o (matches (len_at o) covered.0 near.by near.fits))),
             λ i less. rows.1 i (omega arith) (omega (arith, less)),
           )
-      content_match (Some a_dict) covered = order_match covered.0 covered.1
-      content_match (Some (an_instance of)) covered = (class_same of, order_match covered.0 covered.1)
-      content_match (Some (a_file path mode)) covered = (
+      content_match (Some a_dict) covered so = order_match covered.0 covered.1
+      content_match (Some (an_instance of)) covered so = (class_same of so, order_match covered.0 covered.1)
+      content_match (Some (a_file path mode)) covered so = (
         refl,
         refl,
         sym (offset_read near.by here.store there.store o (matches (offset_at o) covered.0 near.by near.fits)),
@@ -265,17 +308,17 @@ module _ (is_same : (v w : Contents) → (same_value v w ≡ true) ↔ (v ≡ w)
     objects_match o p is =
         let both : (met s o ≡ true) × (is_marked marks.objects o ≡ true) = and_parts (met s o) (is_marked marks.objects o) (paired_within (object o) (object p) is) in
         subst (λ q. ContentMatches (ended_in here) (ended_in there) pairs o q (slice_get here.store.kinds o) (slice_get there.store.kinds q)) (object_same (near.by.objects o) p (paired_same (object o) (object p) is))
-        (subst (ContentMatches (ended_in here) (ended_in there) pairs o (near.by.objects o) (slice_get here.store.kinds o)) (sym (kinds o both.1)) (content_match o both.1 (slice_get here.store.kinds o) (covers o both.0)))
+        (subst (ContentMatches (ended_in here) (ended_in there) pairs o (near.by.objects o) (slice_get here.store.kinds o)) (sym (kinds o both.1)) (content_match o both.1 (slice_get here.store.kinds o) (covers o both.0) (subst (KnownKind known) (kinds o both.1) (there_known.kinds (near.by.objects o)))))
 
-    pub graphs_match : (v : Contents) → within (met s) v ≡ true → renamed near.by v ≡ renamed far.by v → HaveSameGraph (ended_in here) (ended_in there) v (renamed near.by v)
-    graphs_match v inside same = record {
+    pub graphs_match : (v : Contents) → within (met s) v ≡ true → renamed near.by v ≡ renamed far.by v → KnownValue known (renamed near.by v) → HaveSameGraph (ended_in here) (ended_in there) v (renamed near.by v)
+    graphs_match v inside same so = record {
       pairs = pairs;
       is_pairing = record {
         one_right = λ v w x one other. sym (paired_same v w one) ∙ paired_same v x other;
         one_left = λ v w x one other. renamed_one v w (paired_same v x one ∙ sym (paired_same w x other));
         texts = λ one other is. text_same one other (paired_same (text one) (text other) is);
-        tuples = λ ps qs is. subst (PartsMatch (ended_in here) (ended_in there) pairs ps) (tuple_same (renamed_parts near.by ps) qs (paired_same (tuple ps) (tuple qs) is)) (parts_own ps (paired_within (tuple ps) (tuple qs) is));
+        tuples = λ ps qs is. subst (PartsMatch (ended_in here) (ended_in there) pairs ps) (tuple_same (renamed_parts near.by ps) qs (paired_same (tuple ps) (tuple qs) is)) (parts_own ps (paired_within (tuple ps) (tuple qs) is) (paired_well (tuple ps) (tuple qs) is).1);
         objects = objects_match;
       };
-      match_is = match_own v (within_both (met s) (is_marked marks.objects) v inside (shared v same));
+      match_is = match_own v (within_both (met s) (is_marked marks.objects) v inside (shared v same)) (knowing known near.by v so);
     }

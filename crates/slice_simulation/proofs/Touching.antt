@@ -1,5 +1,5 @@
 -- What touches make of kinds and noted names, in two stores.
-use Rattle.std.proofs.Common.{◌≡◌, Bool, true, false, List, [], ◌∷◌, map, Option, Some, None, option_map, if◌then◌else◌, refl, ap, ◌∙◌}
+use Rattle.std.proofs.Common.{◌≡◌, Bool, true, List, [], ◌∷◌, map, Option, Some, None, option_map, if◌then◌else◌, refl, ap, ◌∙◌}
 use Rattle.prov_base.specs.declared.place.Pos.{Pos}
 use Rattle.prov_base.specs.contracts.place.PosPartialEq.TheImpl.{ghosts as places}
 use Rattle.py_value.specs.Seen.{SeenAccess, SeenKind, var_at, len_at, item_at, entry_at, order_at, file_at, offset_at, closed_at, method_at, base_at, reads, sets, updates}
@@ -10,7 +10,6 @@ use Rattle.py_model.specs.Renaming.{Renaming, renamed_touch, renamed_access, ren
 use Rattle.py_model.specs.Running.{method_found, sets_an_entry, walked}
 use Rattle.py_model.specs.Store.{RunStore, method_of}
 use Rattle.slice_simulation.proofs.Readings.{AreRead, method_read}
-use Rattle.slice_simulation.specs.Related.{IsUnnoted}
 use Rattle.slice_simulation.specs.Renaming.{Fits, Marks}
 
 kinds_stay : (touches : List Touch) (store : RunStore) → (after_touches touches store).kinds ≡ store.kinds
@@ -31,12 +30,12 @@ made_kind (Some kind) store = refl
 pub kinds_grow : (e : Effect) (store : RunStore) → (after e store).kinds ≡ with_kind e.made store.kinds
 kinds_grow e store = kinds_stay e.touches (with_made e.made store) ∙ made_kind e.made store
 
--- the same names are noted
-pub record AlikeNotes (store other : RunStore) : Type 0 where
-  pub names : (place : Pos) → other.names place ≡ store.names place
+-- the same names are noted, at known places
+pub record AlikeNotes (known : Pos → Bool) (store other : RunStore) : Type 0 where
+  pub names : (place : Pos) → known place ≡ true → other.names place ≡ store.names place
 
-module _ (r : Renaming) where
-  notes_stay : (touches : List Touch) (store other : RunStore) → AlikeNotes store other → AlikeNotes (after_touches touches store) (after_touches (map (renamed_touch r) touches) other)
+module _ (r : Renaming) (known : Pos → Bool) where
+  notes_stay : (touches : List Touch) (store other : RunStore) → AlikeNotes known store other → AlikeNotes known (after_touches touches store) (after_touches (map (renamed_touch r) touches) other)
   notes_stay [] store other same = same
   notes_stay (accessed access ∷ touches) store other same = notes_stay touches _ _ (record { names = same.names })
   notes_stay (looked n ∷ touches) store other same = notes_stay touches _ _ same
@@ -44,20 +43,21 @@ module _ (r : Renaming) where
   notes_stay (printed bytes ∷ touches) store other same = notes_stay touches _ _ (record { names = same.names })
   notes_stay (opened path ∷ touches) store other same = notes_stay touches _ _ (record { names = same.names })
   notes_stay (noted place name ∷ touches) store other same =
-      notes_stay touches _ _ (record { names = λ at. ap (λ old. if places.eq place at then Some name else old) (same.names at) })
+      notes_stay touches _ _ (record { names = λ at is. ap (λ old. if places.eq place at then Some name else old) (same.names at is) })
   notes_stay (asked what ∷ touches) store other same = notes_stay touches _ _ same
   notes_stay (fetched path ∷ touches) store other same = notes_stay touches _ _ same
 
-  made_notes : (made another : Option SeenKind) (store other : RunStore) → AlikeNotes store other → AlikeNotes (with_made made store) (with_made another other)
+  made_notes : (made another : Option SeenKind) (store other : RunStore) → AlikeNotes known store other → AlikeNotes known (with_made made store) (with_made another other)
   made_notes None None store other same = same
   made_notes (Some kind) None store other same = record { names = same.names }
   made_notes None (Some kind) store other same = record { names = same.names }
   made_notes (Some one) (Some kind) store other same = record { names = same.names }
 
-  pub notes_after : (e : Effect) (store other : RunStore) → AlikeNotes store other → AlikeNotes (after e store) (after (renamed_effect r e) other)
+  pub notes_after : (e : Effect) (store other : RunStore) → AlikeNotes known store other → AlikeNotes known (after e store) (after (renamed_effect r e) other)
   notes_after e store other same =
       notes_stay e.touches (with_made e.made store) (with_made (option_map (renamed_kind r) e.made) other) (made_notes e.made (option_map (renamed_kind r) e.made) store other same)
 
+module _ (r : Renaming) where
   pub same_accesses : (touches : List Touch) → accesses_in (map (renamed_touch r) touches) ≡ map (renamed_access r) (accesses_in touches)
   same_accesses [] = refl
   same_accesses (accessed access ∷ touches) = ap (λ (more : List SeenAccess). renamed_access r access ∷ more) (same_accesses touches)
@@ -108,26 +108,3 @@ module _ (r : Renaming) where
       where
         both : {m n : Option Pos} {a b : Bool} → m ≡ n → a ≡ b → ◌≡◌ {A = Walked} (record { method = m; is_exception = a }) (record { method = n; is_exception = b })
         both one another = cc
-
--- once noted, always so
-no_name : (touches : List Touch) (store : RunStore) (place : Pos) → (after_touches touches store).names place ≡ None → store.names place ≡ None
-no_name [] store place is = is
-no_name (accessed access ∷ touches) store place is = no_name touches (after_touch (accessed access) store) place is
-no_name (looked n ∷ touches) store place is = no_name touches store place is
-no_name (counted n ∷ touches) store place is = no_name touches store place is
-no_name (printed bytes ∷ touches) store place is = no_name touches (after_touch (printed bytes) store) place is
-no_name (opened path ∷ touches) store place is = no_name touches (after_touch (opened path) store) place is
-no_name (noted at name ∷ touches) store place is = by_place (places.eq at place) (no_name touches (after_touch (noted at name) store) place is)
-  where
-    by_place : (test : Bool) → (if test then Some name else store.names place) ≡ None → store.names place ≡ None
-    by_place true is = absurd cc
-    by_place false is = is
-no_name (asked what ∷ touches) store place is = no_name touches store place is
-no_name (fetched path ∷ touches) store place is = no_name touches store place is
-
-pub unnoted_before : (e : Effect) (store : RunStore) → IsUnnoted (after e store) → IsUnnoted store
-unnoted_before e store is = record { names = λ place. names_before e.made place (no_name e.touches (with_made e.made store) place (is.names place)) }
-  where
-    names_before : (made : Option SeenKind) (place : Pos) → (with_made made store).names place ≡ None → store.names place ≡ None
-    names_before None place is = is
-    names_before (Some kind) place is = is

@@ -1,5 +1,5 @@
 -- The value of an evaluation has the same graph text in the run of the slice.
-use Rattle.std.proofs.Common.{◌≡◌, ℕ, Bool, true, false, ◌&&◌, List, [], ◌∷◌, ◌++◌, map, length, slice_get, Some, option_map, inl, inr, refl, sym, ap, subst, ◌∙◌, append-nil}
+use Rattle.std.proofs.Common.{◌≡◌, ◌≤◌, ℕ, Bool, true, false, ◌&&◌, List, [], ◌∷◌, ◌++◌, map, length, slice_get, Some, option_map, inl, inr, refl, sym, ap, subst, ◌∙◌, append-nil, arith}
 use Rattle.std.specs.Prelude.{◌↔◌}
 use Rattle.std.proofs.lemmas.Bool.{false≢true, and_parts}
 use Rattle.std.proofs.lemmas.Option.{slice_get-map}
@@ -12,7 +12,7 @@ use Rattle.py_value.specs.Same.{same_value}
 use Rattle.py_value.specs.Seen.{SeenLocation, SeenKind, a_list}
 use Rattle.py_model.specs.Capture.{Capture, opening_in}
 use Rattle.py_model.specs.Graph.{first_name, names_in, graph_text}
-use Rattle.py_model.specs.History.{kinds_after, made_by}
+use Rattle.py_model.specs.History.{spent_on, kinds_after, made_by}
 use Rattle.py_model.specs.Moment.{Moment, begins, does, enters, leaves, ends}
 use Rattle.py_model.specs.Occurrences.{evaluates, is_evaluation_at, up_to_evaluation, owner_stmt}
 use Rattle.py_model.specs.Plan.{value, raised, at_end}
@@ -22,11 +22,14 @@ use Rattle.py_model.specs.Store.{RunStore, order_of}
 use Rattle.model_laws.specs.KeyedRuns.{HaveEntries}
 use Rattle.slice_law.specs.Closed.{StmtSet, IsIn, IsClosed, store_after}
 use Rattle.slice_law.specs.Edges.{from_option, reach_stmts, reaches_stmts, reachable, asked_by_value, module_jumps}
-use Rattle.slice_law.specs.Slices.{told_by, Reproduces}
-use Rattle.slice_simulation.proofs.AtomicValues.{value_text}
+use Rattle.slice_law.specs.Slices.{told_by, last_value, Reproduces}
 use Rattle.slice_simulation.proofs.Evaluations.{IsFound, found_is}
-use Rattle.slice_simulation.proofs.Marks.{kind_at, counted_made, shifts}
-use Rattle.slice_simulation.proofs.Nameless.{still_nameless}
+use Rattle.slice_simulation.proofs.Marks.{kind_at, counted_made, spent_joined, shifts}
+use Rattle.slice_simulation.proofs.NamesKept.{names_kept}
+use Rattle.slice_simulation.proofs.Simulating.{KnownLast}
+use Rattle.model_laws.specs.Defined.{defines}
+use Rattle.model_laws.specs.Flow.{KnownValue, KnownStore}
+use Rattle.py_tree.specs.WellFormed.{IsWellFormed}
 use Rattle.slice_law.proofs.Reachables.{traversed, all_met, all_covered}
 use Rattle.slice_simulation.proofs.EndedLists.{ended_in, text_ends}
 use Rattle.slice_simulation.proofs.SharedGraphs.{graphs_match}
@@ -34,6 +37,24 @@ use Rattle.slice_simulation.proofs.Standing.{in_front, in_behind}
 use Rattle.slice_simulation.specs.Related.{kept_of}
 use Rattle.slice_simulation.specs.Renaming.{Marks, is_kept, marks_after, is_marked, rank, Fits, IsShifted, all_marks}
 use Rattle.slice_simulation.specs.Simulation.{answer_of, ReachesEvaluation}
+
+pub value_text : (script : ScriptTree) (opening : RunStore) (told : List Moment) (v : Contents) → answer_of told ≡ Some (value v)
+    → last_value script opening told ≡ Some (graph_text script (store_after opening told) v)
+value_text script opening [] v is = absurd cc
+value_text script opening (does at number values (value w) made accesses weight ∷ before) v is =
+    let same : w ≡ v = cc in ap (λ x. Some (graph_text script (store_after opening (does at number values (value w) made accesses weight ∷ before)) x)) same
+value_text script opening (does at number values (raised o) made accesses weight ∷ before) v is = absurd cc
+value_text script opening (does at number values at_end made accesses weight ∷ before) v is = absurd cc
+value_text script opening (begins n ∷ before) v is = absurd cc
+value_text script opening (enters at def values accesses ∷ before) v is = absurd cc
+value_text script opening (leaves w ∷ before) v is = absurd cc
+value_text script opening (ends n ended ∷ before) v is = absurd cc
+
+-- what is told up to an evaluation costs no more than all that is told
+pub spent_within : (at : Pos) (k : ℕ) (told upto : List Moment) → up_to_evaluation at k told ≡ Some upto → spent_on upto ≤ spent_on told
+spent_within at k told upto is =
+    let found : IsFound at k told upto = found_is at k told upto is in
+    omega (arith, ap spent_on found.whole_is, spent_joined found.after upto)
 
 -- an evaluation has a value
 evaluated : (q : Pos) (moment : Moment) (before : List Moment) → is_evaluation_at q moment ≡ true → (v : Contents) × (answer_of (moment ∷ before) ≡ Some (value v))
@@ -46,6 +67,17 @@ evaluated q (begins n) before is = absurd (false≢true is)
 evaluated q (enters at def values accesses) before is = absurd (false≢true is)
 evaluated q (leaves v) before is = absurd (false≢true is)
 evaluated q (ends n ended) before is = absurd (false≢true is)
+
+-- a known last answer has a known value
+last_known : (known : Pos → Bool) (told : List Moment) (w : Contents) → answer_of told ≡ Some (value w) → KnownLast known told → KnownValue known w
+last_known known [] w is last = absurd cc
+last_known known (does at number values (value v) made accesses weight ∷ before) w is last = let same : v ≡ w = cc in subst (KnownValue known) same last
+last_known known (does at number values (raised o) made accesses weight ∷ before) w is last = absurd cc
+last_known known (does at number values at_end made accesses weight ∷ before) w is last = absurd cc
+last_known known (begins n ∷ before) w is last = absurd cc
+last_known known (enters at def values accesses ∷ before) w is last = absurd cc
+last_known known (leaves v ∷ before) w is last = absurd cc
+last_known known (ends n ended ∷ before) w is last = absurd cc
 
 -- all that is reachable is asked for
 in_reaches : (ls : List SeenLocation) (l : SeenLocation) (told : List Moment) (s : ℕ) → IsIn ls l → IsIn (reach_stmts l told) s → IsIn (reaches_stmts ls told) s
@@ -87,9 +119,10 @@ module _ (is_same : (v w : Contents) → (same_value v w ≡ true) ↔ (v ≡ w)
   abbrev AllKeyed : Type 0
   AllKeyed = (o : ℕ) → HaveEntries (store_after (opening_in capture path arguments) upto) o (order_of (store_after (opening_in capture path arguments) upto) o)
 
-  pub value_reproduced : AllKeyed → IsClosed script (opening_in capture path arguments) upto keep → ReachesEvaluation script capture path arguments budget keep at k upto
-      → names_in script.body ≡ [] → (v : Contents) → answer_of upto ≡ Some (value v) → Reproduces script capture path arguments budget at k upto keep
-  value_reproduced keyed closed reaches nameless v answers = record {
+  pub value_reproduced : AllKeyed → IsWellFormed script → IsClosed script (opening_in capture path arguments) upto keep → (reaches : ReachesEvaluation script capture path arguments budget keep at k upto)
+      → KnownStore (defines (deleted keep script)) (store_after (opening_in capture path arguments) reaches.simulates.again) → KnownLast (defines (deleted keep script)) reaches.simulates.again
+      → (v : Contents) → answer_of upto ≡ Some (value v) → Reproduces script capture path arguments budget at k upto keep
+  value_reproduced keyed well closed reaches knows last v answers = record {
     again = reaches.simulates.again;
     reached = reaches.found;
     same_value = value_text (deleted keep script) opening reaches.simulates.again (renamed near.by v) (answers_by near.by near.fits)
@@ -122,23 +155,26 @@ module _ (is_same : (v w : Contents) → (same_value v w ≡ true) ↔ (v ≡ w)
       kept_place l place s there = closed.has_roots s (in_front (asked_by_value (store_after opening upto) upto) (module_jumps upto) s
           (value_asks (store_after opening upto) upto v answers l s place there))
 
-      same_names : (is_class : Bool) (at : Pos) → first_name is_class at (names_in script.body) ≡ first_name is_class at (names_in (deleted keep script).body)
-      same_names is_class at = ap (first_name is_class at) (nameless ∙ sym (still_nameless keep script nameless))
+      same_names : (is_class : Bool) (at : Pos) → defines (deleted keep script) at ≡ true → first_name is_class at (names_in script.body) ≡ first_name is_class at (names_in (deleted keep script).body)
+      same_names is_class at known = names_kept keep script well is_class at known
 
       same_graph : HaveSameGraph (ended_in here) (ended_in there) v (renamed near.by v)
       same_graph = graphs_match is_same (all_marks keep upto) near far here there (traversed (store_after opening upto) v)
           (all_covered (store_after opening upto) v)
           (λ l place r fits. reaches.simulates.contents l (kept_place l place) r fits)
           (λ o marked. kind_there (all_marks keep upto) near.by near.fits (kinds_after (a_list ∷ []) upto) (kinds_after (a_list ∷ []) reaches.simulates.again) (counted keep upto) (reaches.simulates.kinds near.by near.fits) o marked)
-          keyed (same_names false) (same_names true) v (all_met (store_after opening upto) v)
+          keyed (defines (deleted keep script)) knows (same_names false) (same_names true) v (all_met (store_after opening upto) v)
           (value_one (renamed near.by v) (renamed far.by v) (sym (answers_by near.by near.fits) ∙ answers_by far.by far.fits))
+          (last_known (defines (deleted keep script)) reaches.simulates.again (renamed near.by v) (answers_by near.by near.fits) last)
 
       same_text : graph_text here.script here.store v ≡ graph_text there.script there.store (renamed near.by v)
       same_text = sym (text_ends here.script here.store v) ∙ (graphs (ended_in here) (ended_in there) v (renamed near.by v) same_graph ∙ text_ends there.script there.store (renamed near.by v))
 
-  pub reproduced_at : ((after : List Moment) → told_by script capture path arguments steps ≡ after ++ upto → AllKeyed) → IsClosed script (opening_in capture path arguments) upto keep → ReachesEvaluation script capture path arguments budget keep at k upto
-      → names_in script.body ≡ [] → up_to_evaluation at k (told_by script capture path arguments steps) ≡ Some upto → Reproduces script capture path arguments budget at k upto keep
-  reproduced_at keyed closed reaches nameless is =
+  pub reproduced_at : ((after : List Moment) → told_by script capture path arguments steps ≡ after ++ upto → AllKeyed) → IsWellFormed script → IsClosed script (opening_in capture path arguments) upto keep
+      → (reaches : ReachesEvaluation script capture path arguments budget keep at k upto)
+      → KnownStore (defines (deleted keep script)) (store_after (opening_in capture path arguments) reaches.simulates.again) → KnownLast (defines (deleted keep script)) reaches.simulates.again
+      → up_to_evaluation at k (told_by script capture path arguments steps) ≡ Some upto → Reproduces script capture path arguments budget at k upto keep
+  reproduced_at keyed well closed reaches knows last is =
       let found : IsFound at k (told_by script capture path arguments steps) upto = found_is at k (told_by script capture path arguments steps) upto is in
-      let last = evaluated at found.moment found.before found.evaluates_here in
-      value_reproduced (keyed found.after found.whole_is) closed reaches nameless last.0 (ap answer_of found.upto_is ∙ last.1)
+      let answered = evaluated at found.moment found.before found.evaluates_here in
+      value_reproduced (keyed found.after found.whole_is) well closed reaches knows last answered.0 (ap answer_of found.upto_is ∙ answered.1)

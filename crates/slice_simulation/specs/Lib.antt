@@ -3,6 +3,6 @@ pub mod Related
 pub mod Under
 pub mod Simulation
 pub mod Owned
-pub mod Atomic
-pub mod Bare
 pub mod Cut
+pub mod BoundNames
+pub mod Classes

@@ -1,34 +1,25 @@
 -- What the run of a slice does beside the script's run (after Korel and Laski 1988; this project's profile).
-use Rattle.std.specs.Prelude.{◌≡◌, ◌≤◌, ℕ, true, List, [], ◌∷◌, ◌++◌, map, Option, Some, None}
+use Rattle.std.specs.Prelude.{◌≡◌, ◌≤◌, ℕ, true, List, ◌∷◌, ◌++◌, map, Option, Some, None}
 use Rattle.std.specs.Option.{option_map}
 use Rattle.prov_base.specs.declared.place.Pos.{Pos}
 use Rattle.py_tree.specs.Deletion.{deleted}
 use Rattle.py_tree.specs.Tree.{ScriptTree}
 use Rattle.py_value.specs.Seen.{SeenLocation}
 use Rattle.py_model.specs.Capture.{Capture, opening_in}
-use Rattle.py_tree.specs.Functions.{functions_in}
 use Rattle.py_model.specs.History.{held, kinds_after, spent_on}
-use Rattle.py_model.specs.Meaning.{meaning, starting}
 use Rattle.py_model.specs.Moment.{Moment, does}
 use Rattle.py_model.specs.Occurrences.{up_to_evaluation}
 use Rattle.py_model.specs.Plan.{Answer}
 use Rattle.py_model.specs.Renaming.{Renaming, renamed_answer, renamed_kind}
-use Rattle.py_model.specs.Running.{outcome, state_in}
 use Rattle.slice_law.specs.Closed.{StmtSet, IsIn}
 use Rattle.slice_law.specs.Edges.{reach_stmts}
 use Rattle.slice_law.specs.Slices.{told_by}
 use Rattle.slice_simulation.specs.Owned.{SamePlace}
-use Rattle.slice_simulation.specs.Related.{Follows, kept_of, IsUnnoted}
+use Rattle.slice_simulation.specs.Related.{Follows, kept_of}
 use Rattle.slice_simulation.specs.Renaming.{marks_after, Fits, IsShifted, Matches, all_marks}
 
--- The runs that are spoken of: the script has no functions, and no name of a class is noted. Exceptions, jumps, askings and files that are read
--- or written are among them.
-pub record IsPlainRun (script : ScriptTree) (capture : Capture) (path : List ℕ) (arguments : List (List ℕ)) (steps : ℕ) : Type 0 where
-  pub functionless : functions_in script.body ≡ []
-  pub unnoted : IsUnnoted (state_in (outcome capture (meaning script steps) (starting capture path arguments steps))).store
-
 -- The run of the slice performs, up to some moment, exactly the moments of the script's run without those of statements that are not kept, and a
--- `pass` for each execution of an emptied suite; statements are named by their places. In the stores there, what stands at a location whose
+-- `pass` for each execution of an emptied suite, but in activations that such a statement entered. Statements are named by their places. In the stores there, what stands at a location whose
 -- reach is kept corresponds, and so do the kinds of the objects of both runs, up to the numbers of objects. No more steps are spent.
 pub record Simulates (script : ScriptTree) (capture : Capture) (path : List ℕ) (arguments : List (List ℕ)) (budget : ℕ) (keep : StmtSet) (upto : List Moment) : Type 0 where
   pub renaming : IsShifted (all_marks keep upto) 0

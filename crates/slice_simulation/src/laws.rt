@@ -1,5 +1,5 @@
 // Laws of two runs, each a function without a body that says it.
-ghost use Rattle.std.specs.Prelude.{◌≡◌, ◌⊎◌, ℕ, Bool, true, false, List, ◌∷◌, ◌++◌, map, Option, Some};
+ghost use Rattle.std.specs.Prelude.{◌≡◌, ◌⊎◌, ℕ, suc, Bool, true, false, List, ◌∷◌, ◌++◌, map, Option, Some};
 ghost use Rattle.std.specs.Option.{option_map};
 ghost use Rattle.py_value.specs.Changes.{has_key, with_key, without_key, changed, after_accesses};
 ghost use Rattle.py_value.specs.Contents.{Contents, object};
@@ -15,11 +15,12 @@ ghost use Rattle.py_model.specs.Capture.{Capture};
 ghost use Rattle.py_model.specs.Effect.{accesses_in};
 ghost use Rattle.py_model.specs.Moment.{Moment};
 ghost use Rattle.py_model.specs.Operations.{Op};
-ghost use Rattle.py_model.specs.Plan.{Answer, value};
+ghost use Rattle.py_model.specs.Plan.{Answer};
 ghost use Rattle.py_model.specs.Quiet.{may_ask};
 ghost use Rattle.py_model.specs.Running.{State, did, askings_at, effect_of, operation};
+ghost use Rattle.model_laws.specs.Flow.{KnownValue, KnownAll, KnownStore};
 ghost use Rattle.slice_law.specs.Closed.{StmtSet};
-ghost use Rattle.slice_simulation.specs.Related.{Related, AllInReach, DoneAgain, IsUnnoted};
+ghost use Rattle.slice_simulation.specs.Related.{Related, AllInReach, DoneAgain};
 ghost use Rattle.std.specs.Prelude.{◌≤◌};
 ghost use Rattle.py_tree.specs.Tree.{ScriptTree};
 ghost use Rattle.py_model.specs.Capture.{opening_in};
@@ -27,22 +28,28 @@ ghost use Rattle.py_model.specs.History.{spent_on};
 ghost use Rattle.slice_law.specs.Closed.{IsClosed, IsLeast};
 ghost use Rattle.slice_law.specs.Slices.{told_by};
 ghost use Rattle.slice_law.specs.Slices.{Reproduces};
-ghost use Rattle.slice_simulation.specs.Atomic.{is_atomic};
 ghost use Rattle.slice_simulation.specs.Owned.{SamePlace};
-ghost use Rattle.slice_simulation.specs.Simulation.{IsPlainRun, Simulates, answer_of, ReachesEvaluation};
+ghost use Rattle.slice_simulation.specs.Simulation.{Simulates, ReachesEvaluation};
 ghost use Rattle.py_tree.specs.WellFormed.{IsWellFormed};
-ghost use Rattle.std.specs.Prelude.{[]};
-ghost use Rattle.py_model.specs.Graph.{names_in};
-ghost use Rattle.slice_simulation.specs.Bare.{BareSuite};
 ghost use Rattle.py_tree.specs.Deletion.{deleted};
 ghost use Rattle.py_tree.specs.Functions.{functions_in, function_at};
+ghost use Rattle.slice_simulation.specs.Classes.{ClassesStandOutside};
 ghost use Rattle.slice_simulation.specs.Cut.{CutFunctions, FoundCut};
+ghost use Rattle.py_value.specs.Seen.{SeenKind, var_at, reads};
+ghost use Rattle.py_model.specs.Moment.{does};
+ghost use Rattle.py_model.specs.Occurrences.{reach};
+ghost use Rattle.slice_law.specs.Closed.{IsIn};
+ghost use Rattle.slice_simulation.specs.BoundNames.{OwnNames, is_done, IsBoundAt};
 
-use model_laws::runs_keep_keys_with_entries;
+use model_laws::{
+    effects_keep_stores_known, operations_pass_functions_on, runs_keep_keys_with_entries,
+    runs_know_definitions_alone,
+};
 use py_model::{
     corresponding_operands_have_alike_plans, few_operations_ask, few_operations_note,
     graph_texts_tell_graphs, map_changes_by_accesses, operations_agree, operations_open_tidily,
 };
+use py_tree::numbers_and_places;
 use py_value::tests_are_equality;
 
 /// The law that a renaming keeps equality: of values, of locations, of keys in a row; and that a change of a renamed content is the renamed
@@ -78,13 +85,14 @@ pub fn objects_of_both_runs_correspond()
 {}
 
 /// The law of kept moments: what a kept statement's operation does in a script's run it does in its slice's run. The two states stand for one
-/// another, all that it reads was written last by kept statements, and it asks nothing or asks with the same number at its place. Its answer
+/// another, all that it reads was written last by kept statements, and it asks nothing or asks with the same number at its place. The slice's run
+/// knows the functions and classes that are in its store and in what it is given: names are noted alike at their places. The answer
 /// corresponds, and the states afterwards stand for one another. No operation is taken apart: it follows from the law of agreement.
 pub fn kept_moments_are_done_again()
-    ensures { (capture : Capture) (script other : ScriptTree) (keep : StmtSet) (upto : List Moment) (at : Pos) (p q : Op) (vs ws : List Contents) (n : ℕ) (s t next : State) (answer : Answer) (came : Walked)
-        → Related capture (SamePlace script other) keep upto s t → keep n ≡ true → owner_stmt s.told ≡ Some n → SameOp (all_marks keep upto) p q → SameValues (all_marks keep upto) vs ws
-        → (may_ask p.no ≡ false) ⊎ (askings_at at t.askings ≡ askings_at at s.askings) → operation capture at p vs s ≡ did answer came next → (news : List Moment) → upto ≡ news ++ next.told
-        → AllInReach keep s.told (accesses_in (effect_of capture at p vs s).touches) → DoneAgain capture (SamePlace script other) keep upto at q ws s t answer came next }
+    ensures { (capture : Capture) (script other : ScriptTree) (known : Pos → Bool) (keep : StmtSet) (upto : List Moment) (at : Pos) (p q : Op) (vs ws : List Contents) (n : ℕ) (s t next : State) (answer : Answer) (came : Walked)
+        → Related capture (SamePlace script other) known keep upto s t → keep n ≡ true → owner_stmt s.told ≡ Some n → SameOp (all_marks keep upto) p q → SameValues (all_marks keep upto) vs ws
+        → KnownValue known q.value → KnownAll known ws → KnownStore known t.store → (may_ask p.no ≡ false) ⊎ (askings_at at t.askings ≡ askings_at at s.askings) → operation capture at p vs s ≡ did answer came next → (news : List Moment) → upto ≡ news ++ next.told
+        → AllInReach keep s.told (accesses_in (effect_of capture at p vs s).touches) → DoneAgain capture (SamePlace script other) known keep upto at q ws s t answer came next }
 {
     tests_are_equality();
     corresponding_operands_have_alike_plans();
@@ -92,13 +100,15 @@ pub fn kept_moments_are_done_again()
     few_operations_ask();
     operations_open_tidily();
     map_changes_by_accesses();
+    operations_pass_functions_on();
 }
 
-/// The law of other moments: what a statement outside the set does leaves the states standing for one another, where it notes no name.
+/// The law of other moments: what a statement outside the set does leaves the states standing for one another, where it notes no name at a
+/// known place.
 pub fn deleted_moments_keep_the_relation()
-    ensures { (capture : Capture) (script other : ScriptTree) (keep : StmtSet) (upto : List Moment) (at : Pos) (p : Op) (vs : List Contents) (n : ℕ) (s t next : State) (answer : Answer) (came : Walked)
-        → Related capture (SamePlace script other) keep upto s t → keep n ≡ false → owner_stmt s.told ≡ Some n → operation capture at p vs s ≡ did answer came next
-        → IsUnnoted next.store → Related capture (SamePlace script other) keep upto next t }
+    ensures { (capture : Capture) (script other : ScriptTree) (known : Pos → Bool) (keep : StmtSet) (upto : List Moment) (at : Pos) (p : Op) (vs : List Contents) (n : ℕ) (s t next : State) (answer : Answer) (came : Walked)
+        → Related capture (SamePlace script other) known keep upto s t → keep n ≡ false → owner_stmt s.told ≡ Some n → operation capture at p vs s ≡ did answer came next
+        → ((place : Pos) → known place ≡ true → next.store.names place ≡ s.store.names place) → Related capture (SamePlace script other) known keep upto next t }
 {
     tests_are_equality();
     corresponding_operands_have_alike_plans();
@@ -108,92 +118,104 @@ pub fn deleted_moments_keep_the_relation()
     map_changes_by_accesses();
 }
 
-/// The law of the simulation, for scripts without functions and runs that define no class. A set is given that is closed for the moments up to some
-/// one. Up to there the run of the deletion performs exactly the script's moments without those of deleted statements, and the `pass` of each
-/// execution of an emptied suite. Statements are named by place, and objects of kept statements are renamed one-to-one. Where the reach of a
-/// location is kept, what stands there corresponds. No more steps are needed than the script's run took up to there.
+/// The law of local names, of every run of a well formed script. A statement owns each operation and each Enter, and it is of the function of the
+/// innermost open activation. Where such a moment reads or sets a name of an activation, it is one of the innermost. What sets the name binds it: the
+/// statement does, or it is an Enter that has the name as a parameter. So what set a local name that a statement reads is of the statement's own
+/// function. No operation is taken apart but the four of names: that the others are of the module's names follows from the law of alike plans.
+pub fn local_names_are_of_their_activation()
+    ensures own { (script : ScriptTree) (capture : Capture) (path : List ℕ) (arguments : List (List ℕ)) (steps : ℕ) → IsWellFormed script → (news before : List Moment) (moment : Moment)
+        → told_by script capture path arguments steps ≡ news ++ moment ∷ before → is_done moment ≡ true → OwnNames script moment before }
+    ensures reached { (script : ScriptTree) (capture : Capture) (path : List ℕ) (arguments : List (List ℕ)) (steps : ℕ) → IsWellFormed script
+        → (news before : List Moment) (at : Pos) (number : ℕ) (values : List Contents) (answer : Answer) (made : Option SeenKind) (accesses : List SeenAccess) (weight : ℕ)
+        → told_by script capture path arguments steps ≡ news ++ does at number values answer made accesses weight ∷ before → (n : ℕ) → owner_stmt before ≡ Some n
+        → (a : ℕ) (name : List ℕ) → IsIn accesses (reads (var_at (suc a) name)) → (time : ℕ) → IsIn (reach (var_at (suc a) name) before) time → IsBoundAt script n name time before }
+{
+    tests_are_equality();
+    numbers_and_places();
+    corresponding_operands_have_alike_plans();
+}
+
+/// The law of the simulation. A set is given that is closed for the moments up to some one. Up to there the run of the deletion performs exactly the
+/// script's moments without those of deleted statements, and the `pass` of each execution of an emptied suite, but in activations that a deleted one
+/// entered. Statements are named by place. Objects and activations of kept statements are renamed one-to-one. Where the reach of a location is kept,
+/// what stands there corresponds. No more steps are needed than the script's run took up to there.
 ///
-/// The class is said by `IsPlainRun` of `specs/Simulation.antt`. All expressions and statements are in it but `def` and `class`, with jumps,
-/// exceptions, handlers, askings of devices, files that are read or written and reads of unset names. Not shown here: runs that call functions or
-/// classes of the script or define them.
+/// It is so of every run: with calls, methods, classes, jumps, exceptions, askings of devices and files. That no class stands in a function is asked of
+/// the script's tree (`ClassesStandOutside`), as the grammar has it.
 pub fn slices_simulate()
     ensures { (script : ScriptTree) (capture : Capture) (path : List ℕ) (arguments : List (List ℕ)) (steps budget : ℕ) (keep : StmtSet) (upto after : List Moment)
-        → IsWellFormed script → told_by script capture path arguments steps ≡ after ++ upto → IsClosed script (opening_in capture path arguments) upto keep
-        → IsPlainRun script capture path arguments steps → spent_on upto ≤ budget → Simulates script capture path arguments budget keep upto }
+        → IsWellFormed script → ClassesStandOutside script → told_by script capture path arguments steps ≡ after ++ upto → IsClosed script (opening_in capture path arguments) upto keep
+        → spent_on upto ≤ budget → Simulates script capture path arguments budget keep upto }
 {
     tests_are_equality();
+    numbers_and_places();
     corresponding_operands_have_alike_plans();
     operations_agree();
     few_operations_ask();
     operations_open_tidily();
     map_changes_by_accesses();
+    operations_pass_functions_on();
+    effects_keep_stores_known();
+    few_operations_note();
+    runs_know_definitions_alone();
 }
 
-/// The law of the occurrence: in these runs the k-th evaluation at a place is reached by the slice as the k-th at that place, with a corresponding
-/// value, and no more steps are spent up to there. A place is of one statement, so no evaluation of a deleted statement stands at it.
+/// The law of the occurrence: the k-th evaluation at a place is reached by the slice as the k-th at that place, with a corresponding value, and no
+/// more steps are spent up to there. A place is of one statement, so no evaluation of a deleted statement stands at it.
 ///
 /// That corresponding values have the same graph text is [`values_are_reproduced`].
 pub fn slices_reach_the_evaluation()
     ensures { (script : ScriptTree) (capture : Capture) (path : List ℕ) (arguments : List (List ℕ)) (steps budget : ℕ) (at : Pos) (k : ℕ) (keep : StmtSet) (upto : List Moment)
-        → IsWellFormed script → up_to_evaluation at k (told_by script capture path arguments steps) ≡ Some upto → IsClosed script (opening_in capture path arguments) upto keep
-        → IsPlainRun script capture path arguments steps → spent_on upto ≤ budget → ReachesEvaluation script capture path arguments budget keep at k upto }
+        → IsWellFormed script → ClassesStandOutside script → up_to_evaluation at k (told_by script capture path arguments steps) ≡ Some upto → IsClosed script (opening_in capture path arguments) upto keep
+        → spent_on upto ≤ budget → ReachesEvaluation script capture path arguments budget keep at k upto }
 {
     tests_are_equality();
+    numbers_and_places();
     corresponding_operands_have_alike_plans();
     operations_agree();
     few_operations_ask();
     operations_open_tidily();
     map_changes_by_accesses();
+    operations_pass_functions_on();
+    effects_keep_stores_known();
+    few_operations_note();
+    runs_know_definitions_alone();
 }
 
-/// The law of values without objects: in these runs the slice reproduces each evaluation whose value is a number, a text, a truth value, None, a
-/// range, a built-in or a tuple of such: the value has the same graph text at the same occurrence, and no more steps are spent.
-/// So it is for every closed set, and for the least one with as many steps as the whole run took.
-pub fn atomic_values_are_reproduced()
-    ensures closed { (script : ScriptTree) (capture : Capture) (path : List ℕ) (arguments : List (List ℕ)) (steps budget : ℕ) (at : Pos) (k : ℕ) (keep : StmtSet) (upto : List Moment) (v : Contents)
-        → IsWellFormed script → up_to_evaluation at k (told_by script capture path arguments steps) ≡ Some upto → IsClosed script (opening_in capture path arguments) upto keep
-        → IsPlainRun script capture path arguments steps → spent_on upto ≤ budget → answer_of upto ≡ Some (value v) → is_atomic v ≡ true
-        → Reproduces script capture path arguments budget at k upto keep }
-    ensures least { (script : ScriptTree) (capture : Capture) (path : List ℕ) (arguments : List (List ℕ)) (steps : ℕ) (at : Pos) (k : ℕ) (keep : StmtSet) (upto : List Moment) (v : Contents)
-        → IsWellFormed script → up_to_evaluation at k (told_by script capture path arguments steps) ≡ Some upto → IsLeast script (opening_in capture path arguments) upto keep
-        → IsPlainRun script capture path arguments steps → answer_of upto ≡ Some (value v) → is_atomic v ≡ true
-        → Reproduces script capture path arguments (spent_on (told_by script capture path arguments steps)) at k upto keep }
-{
-    tests_are_equality();
-    graph_texts_tell_graphs();
-    slices_reach_the_evaluation();
-}
-
-/// The law of values: in these runs of scripts without functions and classes the slice reproduces each evaluation, whatever its value is. The value
-/// has the same graph text at the same occurrence, with all objects that are reachable from it, and no more steps are spent. So it is for every
-/// closed set, and for the least one with as many steps as the whole run took.
+/// The law of values: for every closed set the slice reproduces each evaluation, whatever its value is. The value has the same graph text at the same
+/// occurrence, with all objects that are reachable from it, and no more steps are spent.
 ///
 /// The criterion of a closed set reaches each location that a graph text shows, of a list as far as it goes and with the place where it ends, and what
-/// stands at these corresponds. In a run no key stands without its entry. Not shown here: scripts that define functions or classes.
+/// stands at these corresponds. In a run no key stands without its entry. What the slice knows it defines, under the script's name.
 pub fn values_are_reproduced()
-    ensures closed { (script : ScriptTree) (capture : Capture) (path : List ℕ) (arguments : List (List ℕ)) (steps budget : ℕ) (at : Pos) (k : ℕ) (keep : StmtSet) (upto : List Moment)
-        → IsWellFormed script → up_to_evaluation at k (told_by script capture path arguments steps) ≡ Some upto → IsClosed script (opening_in capture path arguments) upto keep
-        → IsPlainRun script capture path arguments steps → names_in script.body ≡ [] → spent_on upto ≤ budget → Reproduces script capture path arguments budget at k upto keep }
-    ensures least { (script : ScriptTree) (capture : Capture) (path : List ℕ) (arguments : List (List ℕ)) (steps : ℕ) (at : Pos) (k : ℕ) (keep : StmtSet) (upto : List Moment)
-        → IsWellFormed script → up_to_evaluation at k (told_by script capture path arguments steps) ≡ Some upto → IsLeast script (opening_in capture path arguments) upto keep
-        → IsPlainRun script capture path arguments steps → names_in script.body ≡ [] → Reproduces script capture path arguments (spent_on (told_by script capture path arguments steps)) at k upto keep }
+    ensures { (script : ScriptTree) (capture : Capture) (path : List ℕ) (arguments : List (List ℕ)) (steps budget : ℕ) (at : Pos) (k : ℕ) (keep : StmtSet) (upto : List Moment)
+        → IsWellFormed script → ClassesStandOutside script → up_to_evaluation at k (told_by script capture path arguments steps) ≡ Some upto → IsClosed script (opening_in capture path arguments) upto keep
+        → spent_on upto ≤ budget → Reproduces script capture path arguments budget at k upto keep }
 {
     tests_are_equality();
+    numbers_and_places();
+    corresponding_operands_have_alike_plans();
+    operations_agree();
+    few_operations_ask();
+    operations_open_tidily();
+    map_changes_by_accesses();
+    operations_pass_functions_on();
+    effects_keep_stores_known();
+    few_operations_note();
+    runs_know_definitions_alone();
     graph_texts_tell_graphs();
     runs_keep_keys_with_entries();
-    slices_reach_the_evaluation();
 }
 
-/// The law of scripts that define no function and no class, in any of their suites: each of their runs is of the class that is spoken of above. So
-/// the slice by the least closed set reproduces every evaluation of every run, with as many steps as the whole run took, and spends no more up to
-/// there.
-pub fn slices_of_bare_scripts_reproduce()
-    ensures plain { (script : ScriptTree) (capture : Capture) (path : List ℕ) (arguments : List (List ℕ)) (steps : ℕ) → BareSuite script.body → IsPlainRun script capture path arguments steps }
-    ensures reproduce { (script : ScriptTree) → IsWellFormed script → BareSuite script.body → (capture : Capture) (path : List ℕ) (arguments : List (List ℕ)) (steps : ℕ) (at : Pos) (k : ℕ) (upto : List Moment) (keep : StmtSet)
+/// The law of slices: the slice of an evaluation, which is the script without the statements outside the least closed set, runs again to the same
+/// value. With as many steps as the whole run took it reaches the k-th evaluation at the same place. The value has the same graph text there, and no
+/// more steps are spent. So it is for every script whose classes stand outside its functions, every capture and budget, and every evaluation.
+pub fn slices_reproduce()
+    ensures { (script : ScriptTree) → IsWellFormed script → ClassesStandOutside script → (capture : Capture) (path : List ℕ) (arguments : List (List ℕ)) (steps : ℕ) (at : Pos) (k : ℕ)
+        (upto : List Moment) (keep : StmtSet)
         → up_to_evaluation at k (told_by script capture path arguments steps) ≡ Some upto → IsLeast script (opening_in capture path arguments) upto keep
         → Reproduces script capture path arguments (spent_on (told_by script capture path arguments steps)) at k upto keep }
 {
-    few_operations_note();
     values_are_reproduced();
 }
 

@@ -5,16 +5,18 @@
 //! `specs/Owned.antt` says which statement has which nodes, and when statements of two scripts stand at one place. `specs/Under.antt` says that
 //! a kept statement stands in a kept one. `specs/Simulation.antt` states the simulation, and of which runs it speaks.
 //!
-//! [`slices_simulate`], [`slices_reach_the_evaluation`] and [`values_are_reproduced`] are the laws of the simulation, and
-//! [`slices_of_bare_scripts_reproduce`] says it of scripts without definitions (`specs/Bare.antt`). They do not speak of scripts
-//! with functions, and of runs that define classes.
+//! `specs/BoundNames.antt` says whose the names are that a moment reads and sets, and what binds them.
+//!
+//! [`slices_simulate`], [`slices_reach_the_evaluation`] and [`values_are_reproduced`] are the laws of the simulation, of every run.
+//! [`slices_reproduce`] is what they are for: the slice of an evaluation runs again to the same value. They ask that classes stand outside functions
+//! (`specs/Classes.antt`).
 #![tactic(auto)]
 
 mod laws;
 
 pub use laws::{
-    accesses_keep_correspondence, atomic_values_are_reproduced, deleted_moments_keep_the_relation,
-    kept_moments_are_done_again, objects_of_both_runs_correspond, renaming_keeps_equality,
-    slices_have_functions_of_the_script, slices_of_bare_scripts_reproduce,
-    slices_reach_the_evaluation, slices_simulate, values_are_reproduced,
+    accesses_keep_correspondence, deleted_moments_keep_the_relation, kept_moments_are_done_again,
+    local_names_are_of_their_activation, objects_of_both_runs_correspond, renaming_keeps_equality,
+    slices_have_functions_of_the_script, slices_reach_the_evaluation, slices_reproduce,
+    slices_simulate, values_are_reproduced,
 };

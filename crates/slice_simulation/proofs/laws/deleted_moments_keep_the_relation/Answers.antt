@@ -15,4 +15,4 @@ returns c =
       tidy = c.operations_open_tidily.ensures;
       changes = c.map_changes_by_accesses.ensures;
     } in
-    λ capture script other keep upto at p vs n s t next answer came. deleted_moment laws capture (SamePlace script other) keep upto at p vs n s t next answer came
+    λ capture script other known keep upto at p vs n s t next answer came. deleted_moment laws capture (SamePlace script other) known keep upto at p vs n s t next answer came

@@ -15,4 +15,6 @@ returns c =
       tidy = c.operations_open_tidily.ensures;
       changes = c.map_changes_by_accesses.ensures;
     } in
-    λ capture script other keep upto. kept_moment laws capture (SamePlace script other) keep upto
+    λ capture script other known keep upto at p q vs ws n s t next answer came related kept owner same_op same_values one all knows asks.
+    kept_moment laws capture (SamePlace script other) known keep upto at p q vs ws n s t next answer came related kept owner same_op same_values asks
+    (c.operations_pass_functions_on.ensures known q ws one all) knows

@@ -1,4 +1,6 @@
+use Rattle.slice_simulation.proofs.BoundRuns.{NameLaws}
 use Rattle.slice_simulation.proofs.Happenings.{Laws}
+use Rattle.slice_simulation.proofs.Knowing.{FlowLaws}
 use Rattle.slice_simulation.proofs.Simulations.{simulated}
 use Rattle.slice_simulation.proofs.laws.slices_simulate.Goals as goal
 
@@ -14,5 +16,19 @@ returns c =
       tidy = c.operations_open_tidily.ensures;
       changes = c.map_changes_by_accesses.ensures;
     } in
-    λ script capture path arguments steps budget keep upto after well told_is closed plain enough.
-    simulated laws script capture path arguments keep upto steps budget closed well after told_is plain enough
+    let flow : FlowLaws = record {
+      keeps = c.operations_pass_functions_on.ensures;
+      store = c.effects_keep_stores_known.ensures.store;
+      answer = c.effects_keep_stores_known.ensures.answer;
+      method = c.effects_keep_stores_known.ensures.method;
+      silent = c.few_operations_note.ensures;
+      tree = c.runs_know_definitions_alone.ensures.tree;
+    } in
+    let names : NameLaws = record {
+      alike = c.corresponding_operands_have_alike_plans.ensures;
+      locations = c.tests_are_equality.ensures.locations;
+      numbers = c.numbers_and_places.ensures.numbers;
+      standings = c.numbers_and_places.ensures.places;
+    } in
+    λ script capture path arguments steps budget keep upto after well classes told_is closed enough.
+    (simulated laws flow names script capture path arguments keep upto steps budget closed well classes after told_is enough).simulates

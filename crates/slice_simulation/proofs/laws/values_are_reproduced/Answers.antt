@@ -1,21 +1,41 @@
 use Rattle.std.proofs.Common.{refl}
 use Rattle.py_model.specs.Capture.{opening_in}
-use Rattle.py_model.specs.History.{spent_on}
 use Rattle.slice_law.specs.Closed.{store_after}
-use Rattle.slice_law.specs.Slices.{told_by}
-use Rattle.slice_simulation.proofs.AtomicValues.{spent_within}
+use Rattle.slice_simulation.proofs.BoundRuns.{NameLaws}
+use Rattle.slice_simulation.proofs.Happenings.{Laws}
+use Rattle.slice_simulation.proofs.Knowing.{FlowLaws}
+use Rattle.slice_simulation.proofs.Evaluations.{reached}
 use Rattle.slice_simulation.proofs.Values.{reproduced_at}
 use Rattle.slice_simulation.proofs.laws.values_are_reproduced.Goals as goal
 
-pub returns-clause-closed : goal.returns-clause-closed
-returns-clause-closed c = λ script capture path arguments steps budget at k keep upto well is closed plain nameless enough.
+pub returns : goal.returns
+returns c =
+    let laws : Laws = record {
+      locations = c.tests_are_equality.ensures.locations;
+      alike = c.corresponding_operands_have_alike_plans.ensures;
+      agree = c.operations_agree.ensures;
+      quiet = c.few_operations_ask.ensures.quiet;
+      same = c.few_operations_ask.ensures.same;
+      unnoted = c.few_operations_ask.ensures.unnoted;
+      tidy = c.operations_open_tidily.ensures;
+      changes = c.map_changes_by_accesses.ensures;
+    } in
+    let flow : FlowLaws = record {
+      keeps = c.operations_pass_functions_on.ensures;
+      store = c.effects_keep_stores_known.ensures.store;
+      answer = c.effects_keep_stores_known.ensures.answer;
+      method = c.effects_keep_stores_known.ensures.method;
+      silent = c.few_operations_note.ensures;
+      tree = c.runs_know_definitions_alone.ensures.tree;
+    } in
+    let names : NameLaws = record {
+      alike = c.corresponding_operands_have_alike_plans.ensures;
+      locations = c.tests_are_equality.ensures.locations;
+      numbers = c.numbers_and_places.ensures.numbers;
+      standings = c.numbers_and_places.ensures.places;
+    } in
+    λ script capture path arguments steps budget at k keep upto well classes is closed enough.
+    let there = reached laws flow names script capture path arguments steps keep at upto budget k well classes closed is enough in
     reproduced_at c.tests_are_equality.ensures.values c.graph_texts_tell_graphs.ensures.same script capture path arguments steps budget keep at k upto
-    (λ after whole o. c.runs_keep_keys_with_entries.ensures.entries script capture path arguments steps after upto (store_after (opening_in capture path arguments) upto) o whole refl) closed
-    (c.slices_reach_the_evaluation.ensures script capture path arguments steps budget at k keep upto well is closed plain enough) nameless is
-
-pub returns-clause-least : goal.returns-clause-least
-returns-clause-least c = λ script capture path arguments steps at k keep upto well is least plain nameless.
-    reproduced_at c.tests_are_equality.ensures.values c.graph_texts_tell_graphs.ensures.same script capture path arguments steps (spent_on (told_by script capture path arguments steps)) keep at k upto
-    (λ after whole o. c.runs_keep_keys_with_entries.ensures.entries script capture path arguments steps after upto (store_after (opening_in capture path arguments) upto) o whole refl) least.closed
-    (c.slices_reach_the_evaluation.ensures script capture path arguments steps (spent_on (told_by script capture path arguments steps)) at k keep upto well is least.closed plain
-    (spent_within at k (told_by script capture path arguments steps) upto is)) nameless is
+    (λ after whole o. c.runs_keep_keys_with_entries.ensures.entries script capture path arguments steps after upto (store_after (opening_in capture path arguments) upto) o whole refl)
+    well closed there.reaches there.knows there.last is
