@@ -1,10 +1,8 @@
 -- What a slice promises: the run of the script that is left in the same capture gives the same value at the same occurrence, in no more
--- steps. This is the law to be shown of every script. `slice_simulation` shows it of those without
--- functions and classes.
+-- steps. `slice_simulation` shows it (`slices_reproduce`).
 use Rattle.std.specs.Prelude.{◌≡◌, ℕ, ◌≤◌, List, ◌∷◌, Option, Some, None}
 use Rattle.prov_base.specs.declared.place.Pos.{Pos}
 use Rattle.py_tree.specs.Deletion.{deleted}
-use Rattle.py_tree.specs.Numbering.{IsNumbered}
 use Rattle.py_tree.specs.Tree.{ScriptTree}
 use Rattle.py_tree.specs.WellFormed.{IsWellFormed}
 use Rattle.py_model.specs.Capture.{Capture, opening_in}
@@ -16,6 +14,7 @@ use Rattle.py_model.specs.Occurrences.{up_to_evaluation}
 use Rattle.py_model.specs.Plan.{value}
 use Rattle.py_model.specs.Running.{outcome, state_in}
 use Rattle.py_model.specs.Store.{RunStore}
+use Rattle.slice_law.specs.Classes.{ClassesStandOutside}
 use Rattle.slice_law.specs.Closed.{StmtSet, IsLeast, store_after}
 
 -- the moments of the run of a script, the latest first
@@ -36,9 +35,10 @@ pub record Reproduces (script : ScriptTree) (capture : Capture) (path : List ℕ
   pub same_value : last_value (deleted keep script) (opening_in capture path arguments) again ≡ last_value script (opening_in capture path arguments) upto
   pub no_more : spent_on again ≤ spent_on upto
 
--- for every script whose numbers and places are as a parser gives them, every capture and budget, every evaluation and its least set
+-- for every script whose numbers and places are as a parser gives them and whose classes stand outside functions, every capture and budget, every
+-- evaluation and its least set
 abbrev pub SlicesReproduce : Type 0
-SlicesReproduce = (script : ScriptTree) → IsNumbered script → IsWellFormed script → (capture : Capture) (path : List ℕ) (arguments : List (List ℕ)) (steps : ℕ) (at : Pos) (k : ℕ)
+SlicesReproduce = (script : ScriptTree) → IsWellFormed script → ClassesStandOutside script → (capture : Capture) (path : List ℕ) (arguments : List (List ℕ)) (steps : ℕ) (at : Pos) (k : ℕ)
     (upto : List Moment) (keep : StmtSet)
     → up_to_evaluation at k (told_by script capture path arguments steps) ≡ Some upto → IsLeast script (opening_in capture path arguments) upto keep
     → Reproduces script capture path arguments (spent_on (told_by script capture path arguments steps)) at k upto keep

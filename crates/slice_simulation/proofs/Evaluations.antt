@@ -24,7 +24,7 @@ use Rattle.slice_simulation.proofs.OwnMoments.{place_same, AllOwn, Owns, all_own
 use Rattle.slice_simulation.proofs.Knowing.{FlowLaws}
 use Rattle.slice_simulation.proofs.BoundRuns.{NameLaws}
 use Rattle.slice_simulation.proofs.Simulating.{KnownLast}
-use Rattle.slice_simulation.specs.Classes.{ClassesStandOutside}
+use Rattle.slice_law.specs.Classes.{ClassesStandOutside}
 use Rattle.model_laws.specs.Defined.{defines}
 use Rattle.model_laws.specs.Flow.{KnownStore}
 use Rattle.slice_simulation.proofs.Simulations.{Simulated, simulated}

@@ -18,7 +18,7 @@ use Rattle.py_model.specs.Meaning.{level}
 use Rattle.py_model.specs.Occurrences.{up_to_evaluation}
 use Rattle.slice_law.specs.Closed.{needed, has}
 use Rattle.slice_law.specs.Slices.{told_by, last_value}
-use Rattle.slice_simulation.specs.Classes.{stands_outside}
+use Rattle.slice_law.specs.Classes.{stands_outside}
 
 abbrev place : ℕ → ℕ → Pos
 place line col = record { line = line; col = col }

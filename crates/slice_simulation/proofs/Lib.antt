@@ -55,3 +55,4 @@ mod LocalNames
 mod Binders
 mod LostLocals
 mod InnerClasses
+pub mod PlacedClasses

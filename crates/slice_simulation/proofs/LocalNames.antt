@@ -16,7 +16,7 @@ use Rattle.slice_simulation.proofs.ListedStatements.{FromFunction, around_all, s
 use Rattle.slice_simulation.proofs.OutsideStatements.{deleted_outside}
 use Rattle.slice_simulation.proofs.Standing.{in_front, in_behind}
 use Rattle.slice_simulation.proofs.StartsOnce.{either_in}
-use Rattle.slice_simulation.specs.Classes.{stands_outside}
+use Rattle.slice_law.specs.Classes.{stands_outside}
 use Rattle.slice_simulation.specs.Owned.{started_suite, started_stmt, started_branches, started_else, started_handlers}
 use Rattle.slice_simulation.specs.Under.{UnderSuite, UnderStmt, UnderForm, UnderBranches, UnderElse, UnderHandlers}
 

@@ -24,7 +24,7 @@ use Rattle.slice_simulation.proofs.ListedStatements.{suite_starts_it}
 use Rattle.slice_simulation.proofs.LocalNames.{InFunction, suite_bound, or_pass_binds}
 use Rattle.slice_simulation.proofs.NumberedStatements.{suite_place}
 use Rattle.slice_simulation.proofs.StartsOnce.{one_start}
-use Rattle.slice_simulation.specs.Classes.{stands_outside, ClassesStandOutside}
+use Rattle.slice_law.specs.Classes.{stands_outside, ClassesStandOutside}
 use Rattle.slice_simulation.specs.Owned.{started_suite}
 use Rattle.slice_simulation.specs.Under.{UnderSuite}
 

@@ -24,7 +24,7 @@ use Rattle.slice_simulation.proofs.BoundReads.{def_of, def_stays_on}
 use Rattle.slice_simulation.proofs.BoundRuns.{NameLaws}
 use Rattle.slice_simulation.proofs.LostLocals.{one_place, number_found, lost_name}
 use Rattle.slice_simulation.proofs.NamesUsed.{never_lost}
-use Rattle.slice_simulation.specs.Classes.{ClassesStandOutside}
+use Rattle.slice_law.specs.Classes.{ClassesStandOutside}
 use Rattle.model_laws.specs.Flow.{KnownFound, KnownKind, KnownStore}
 use Rattle.slice_simulation.proofs.FunctionsLeft.{function_found}
 use Rattle.slice_simulation.proofs.KeptOperations.{BothHere, no_class, none_handled, no_function}

@@ -15,7 +15,7 @@ use Rattle.py_model.specs.Capture.{Capture}
 use Rattle.py_model.specs.Meaning.{level}
 use Rattle.py_model.specs.Occurrences.{up_to_evaluation}
 use Rattle.slice_law.specs.Slices.{told_by}
-use Rattle.slice_simulation.specs.Classes.{ClassesStandOutside}
+use Rattle.slice_law.specs.Classes.{ClassesStandOutside}
 
 abbrev place : ℕ → ℕ → Pos
 place line col = record { line = line; col = col }

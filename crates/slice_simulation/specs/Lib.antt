@@ -5,4 +5,3 @@ pub mod Simulation
 pub mod Owned
 pub mod Cut
 pub mod BoundNames
-pub mod Classes

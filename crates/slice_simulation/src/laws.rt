@@ -27,13 +27,14 @@ ghost use Rattle.py_model.specs.Capture.{opening_in};
 ghost use Rattle.py_model.specs.History.{spent_on};
 ghost use Rattle.slice_law.specs.Closed.{IsClosed, IsLeast};
 ghost use Rattle.slice_law.specs.Slices.{told_by};
-ghost use Rattle.slice_law.specs.Slices.{Reproduces};
+ghost use Rattle.slice_law.specs.Slices.{Reproduces, SlicesReproduce};
 ghost use Rattle.slice_simulation.specs.Owned.{SamePlace};
 ghost use Rattle.slice_simulation.specs.Simulation.{Simulates, ReachesEvaluation};
 ghost use Rattle.py_tree.specs.WellFormed.{IsWellFormed};
+ghost use Rattle.py_parser.specs.Reading.{HasScript};
 ghost use Rattle.py_tree.specs.Deletion.{deleted};
 ghost use Rattle.py_tree.specs.Functions.{functions_in, function_at};
-ghost use Rattle.slice_simulation.specs.Classes.{ClassesStandOutside};
+ghost use Rattle.slice_law.specs.Classes.{ClassesStandOutside};
 ghost use Rattle.slice_simulation.specs.Cut.{CutFunctions, FoundCut};
 ghost use Rattle.py_value.specs.Seen.{SeenKind, var_at, reads};
 ghost use Rattle.py_model.specs.Moment.{does};
@@ -45,6 +46,7 @@ use model_laws::{
     effects_keep_stores_known, operations_pass_functions_on, runs_keep_keys_with_entries,
     runs_know_definitions_alone,
 };
+use py_grammar::{scripts_are_well_formed, trees_are_placed};
 use py_model::{
     corresponding_operands_have_alike_plans, few_operations_ask, few_operations_note,
     graph_texts_tell_graphs, map_changes_by_accesses, operations_agree, operations_open_tidily,
@@ -211,12 +213,21 @@ pub fn values_are_reproduced()
 /// value. With as many steps as the whole run took it reaches the k-th evaluation at the same place. The value has the same graph text there, and no
 /// more steps are spent. So it is for every script whose classes stand outside its functions, every capture and budget, and every evaluation.
 pub fn slices_reproduce()
-    ensures { (script : ScriptTree) → IsWellFormed script → ClassesStandOutside script → (capture : Capture) (path : List ℕ) (arguments : List (List ℕ)) (steps : ℕ) (at : Pos) (k : ℕ)
-        (upto : List Moment) (keep : StmtSet)
+    ensures { SlicesReproduce }
+{
+    values_are_reproduced();
+}
+
+/// The law of slices for the scripts of the language: a text that is a script has one whose classes stand outside its functions, so its slices run again to the same
+/// value, in no more steps. Nothing is asked of the script.
+pub fn slices_of_scripts_reproduce()
+    ensures { (text : List ℕ) (script : ScriptTree) → HasScript text script → (capture : Capture) (path : List ℕ) (arguments : List (List ℕ)) (steps : ℕ) (at : Pos) (k : ℕ) (upto : List Moment) (keep : StmtSet)
         → up_to_evaluation at k (told_by script capture path arguments steps) ≡ Some upto → IsLeast script (opening_in capture path arguments) upto keep
         → Reproduces script capture path arguments (spent_on (told_by script capture path arguments steps)) at k upto keep }
 {
-    values_are_reproduced();
+    scripts_are_well_formed();
+    trees_are_placed();
+    slices_reproduce();
 }
 
 /// The law of the functions of a slice: they are functions of the script, in their order, each with its parameters, its globals and what is kept
