@@ -1,0 +1,11 @@
+//! Sound trials, and what the slices of such trials promise.
+//!
+//! `specs/Sound.antt`: a trial is sound where its rows, steps, output and final files are those of the run of its script in what it keeps of the devices' answers.
+//!
+//! - [`slices_of_sound_trials_run_again`]: what `slice` writes of a sound trial is the script cut to a set of statements, and the script without the others runs
+//!   again to an equal value at the same occurrence, in no more steps.
+#![tactic(auto)]
+
+mod laws;
+
+pub use laws::slices_of_sound_trials_run_again;
