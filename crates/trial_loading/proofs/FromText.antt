@@ -10,6 +10,7 @@ use Rattle.py_parser.specs.declared.refusal.Refusal.TheVariants.{At, Memory as N
 use Rattle.keeper.specs.declared.records.Head.{Head}
 use Rattle.keeper.specs.Keeping.{KeeperView}
 use Rattle.keeper.specs.Tables.{TablesView}
+use Rattle.row_checks.specs.KeptRows.{AreKeptRows}
 use Rattle.trial_tables.specs.Whole.{fine}
 use Rattle.trial_tables.specs.declared.read_fault.ReadFault.{ReadFault}
 use Rattle.trial_tables.specs.declared.read_fault.ReadFault.TheVariants.{Damaged, Keeper, Memory}
@@ -19,7 +20,7 @@ use Rattle.trial_loading.specs.declared.paged_rows.PagedRows.{PagedRows}
 use Rattle.trial_loading.specs.TrialPages.{AreRowsOf}
 use Rattle.trial_loading.specs.declared.behind.Behind.{Behind}
 use Rattle.trial_loading.specs.declared.trial.Trial.{Trial}
-use Rattle.trial_loading.specs.Loading.{IsDamagedBehind, bad_script, bad_behind, rest_of, pages_of}
+use Rattle.trial_loading.specs.Loading.{IsDamagedBehind, IsTrial, bad_script, bad_behind, rest_of, pages_of}
 use Rattle.trial_loading.specs.Stages.{IsBehind, IsMadeOf, IsFrom, LoadsFrom, of_reading, of_refusal}
 
 module _ (number : ℕ) (head : Head) (text : List ℕ) where
@@ -41,6 +42,15 @@ module _ (number : ℕ) (head : Head) (text : List ℕ) where
         subst (λ (h : Head). AreRowsOf tables number h.pages trial.script.count (pages_of trial)) (sym made.same_head)
         (subst (λ (s : Script). AreRowsOf tables number head.pages s.count (pages_of trial)) (sym made.same_script)
         (subst (λ (p : PagedRows). AreRowsOf tables number head.pages script.count p) (sym made.same_pages) was.rows_are));
+  }
+
+  pub made_trial : (script : Script) (behind : Behind) (trial : Trial) → IsMadeOf number head text script behind trial → HasScript text (script_of script) → AreKeptRows script.count behind.paged.rows → IsTrial number trial
+  made_trial script behind trial made has stand = record {
+    number_is = made.number_is;
+    script_is = subst (λ (t : List ℕ). HasScript t (script_of trial.script)) (sym made.same_text) (subst (λ (s : Script). HasScript text (script_of s)) (sym made.same_script) has);
+    rows_are =
+        subst (λ (s : Script). AreKeptRows s.count trial.rows) (sym made.same_script)
+        (subst (λ (p : PagedRows). AreKeptRows script.count p.rows) (sym made.same_pages) stand);
   }
 
   pub behind_found : (script : Script) (behind : Behind) (trial : Trial) (old new : Option KeeperView) → IsMadeOf number head text script behind trial → HasScript text (script_of script)

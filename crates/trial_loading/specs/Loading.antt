@@ -10,6 +10,7 @@ use Rattle.py_parser.specs.Reading.{HasScript, IsRefusedAt}
 use Rattle.keeper.specs.declared.records.Head.{Head}
 use Rattle.keeper.specs.Keeping.{KeeperView}
 use Rattle.keeper.specs.Tables.{TablesView, head_at}
+use Rattle.row_checks.specs.KeptRows.{AreKeptRows}
 use Rattle.trial_tables.specs.Whole.{fine, damaged}
 use Rattle.trial_tables.specs.declared.damage.Damage.{Damage}
 use Rattle.trial_tables.specs.declared.damage.Damage.TheVariants.{ScriptAt}
@@ -45,6 +46,12 @@ pub record IsInForm (tree : ScriptTree) : Type 0 where
   pub numbered : IsNumbered tree
   pub well_formed : IsWellFormed tree
   pub flat : IsTrue (is_flat tree)
+
+-- What holds of a loaded trial over any keeper: it has this number, its text is its script, and its rows are kept rows.
+pub record IsTrial (number : ℕ) (trial : Trial) : Type 0 where
+  pub number_is : trial.number ≡ number
+  pub script_is : HasScript trial.text (script_of trial.script)
+  pub rows_are : AreKeptRows trial.script.count trial.rows
 
 -- ---- a trial that is not
 

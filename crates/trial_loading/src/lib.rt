@@ -1,4 +1,6 @@
-//! The contents of a kept trial, read back over any keeper: all but the form of its script and its rows.
+//! A kept trial, loaded over any keeper: its contents, its script and its rows.
+//!
+//! First the contents: the script's text and the rest, without the form of the script and without the rows.
 //!
 //! - [`script_of`] answers the script's text: its path must be one that a script may open, and the text stands under its digest (`script_in` of
 //!   `specs/Rest.antt`).
@@ -37,8 +39,9 @@
 //!   records of arguments, capture and final files; the output, the files that were found by path, the final files; the pages by number, with
 //!   the rows on them. A stage is looked at only where those before it are fine.
 //! - A text that is no script is told as `ScriptAt`, at the one place where it is refused: 1:1 where it is too large.
-//! - `in_form`: the statements of a loaded script are numbered from 0, it is well formed, and its targets are flat. `stand`: its rows are kept rows. Both hold
-//!   over any keeper, also one that exposes nothing.
+//! - `in_form`: the statements of a loaded script are numbered from 0, it is well formed, and its targets are flat. `stand`: its rows are kept rows.
+//!   `is_trial`: the trial has the number that was asked for, its text is its script, and its rows are kept rows (`IsTrial`). These hold over any keeper, also
+//!   one that exposes nothing.
 //! - [`trials_are_loaded_one_way`]: a number has one trial, or one first damage, and never both.
 //!
 //! Whatever is answered, the keeper's tables stay, and so does its batch. `Keeper` is answered only where its count of faults rose. `Collision`

@@ -6,7 +6,7 @@ ghost use Rattle.keeper.specs.Keeping.{AreKept, LeavesAmong};
 ghost use Rattle.row_checks.specs.KeptRows.{AreKeptRows};
 ghost use Rattle.trial_tables.specs.Causes.{Causes};
 ghost use Rattle.trial_keeping.specs.Fault.{has_failed};
-ghost use Rattle.trial_loading.specs.Loading.{IsInForm, IsOfLoading, Loads};
+ghost use Rattle.trial_loading.specs.Loading.{IsInForm, IsOfLoading, IsTrial, Loads};
 ghost use Rattle.trial_loading.specs.Stages.{IsOfStage, LoadsFrom};
 
 use crate::behind::read_behind;
@@ -32,6 +32,7 @@ fn load_from<K: Keeper>(
     ensures loads { Tells (K.told keeper.old) (K.told keeper.new) (LoadsFrom number head text result) }
     ensures in_form { IfOk result (λ trial. IsInForm (tree_of trial.script)) }
     ensures stand { IfOk result (λ trial. AreKeptRows trial.script.count trial.rows) }
+    ensures is_trial { IfOk result (IsTrial number) }
     ensures of_stage { IfErr result (IsOfStage number) }
     ensures kept { IfSome (K.told keeper.new) (AreKept (K.is_open keeper.new)) }
     ensures stops { Tells (K.told keeper.old) (K.told keeper.new) (λ _ _. LeavesAmong (K.may_leave keeper.old) (K.may_leave keeper.new)) }
@@ -62,6 +63,7 @@ pub fn load_trial<K: Keeper>(
     ensures loads { Tells (K.told keeper.old) (K.told keeper.new) (Loads number result) }
     ensures in_form { IfOk result (λ trial. IsInForm (tree_of trial.script)) }
     ensures stand { IfOk result (λ trial. AreKeptRows trial.script.count trial.rows) }
+    ensures is_trial { IfOk result (IsTrial number) }
     ensures of_loading { IfErr result (IsOfLoading number) }
     ensures kept { IfSome (K.told keeper.new) (AreKept (K.is_open keeper.new)) }
     ensures stops { Tells (K.told keeper.old) (K.told keeper.new) (λ _ _. LeavesAmong (K.may_leave keeper.old) (K.may_leave keeper.new)) }

@@ -1,5 +1,5 @@
 -- What is told of a loaded trial is told of its lines.
-use Rattle.std.proofs.Common.{◌≡◌, ℕ, List, Option, Some, None, Result, Ok}
+use Rattle.std.proofs.Common.{◌≡◌, ℕ, List, Option, Some, None, Ok}
 use Rattle.keeper.specs.Keeping.{KeeperView}
 use Rattle.prov_outside.specs.Tells.{Tells}
 use Rattle.trial_loading.specs.Loading.{Loads}

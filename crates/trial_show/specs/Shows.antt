@@ -7,7 +7,7 @@ use Rattle.trial_keeping.specs.declared.fault.TrialFault.{TrialFault}
 use Rattle.trial_keeping.specs.declared.fault.TrialFault.TheVariants.{NoTrial, Damaged, Keeper, Collision, Full, Memory}
 use Rattle.trial_show.specs.Functions.{lines_in}
 use Rattle.trial_show.specs.Shown.{opening_lines, argument_lines, middle_lines, input_lines, output_line, final_lines}
-use Rattle.trial_loading.specs.Loading.{IsLoaded, IsDamaged}
+use Rattle.trial_loading.specs.Loading.{IsLoaded, IsTrial, IsDamaged}
 use Rattle.trial_loading.specs.declared.trial.Trial.{Trial}
 use Rattle.trial_list.specs.Lines.{start_text}
 
@@ -26,3 +26,9 @@ ShowsTrial number (Err Keeper) before after = after ≡ before
 ShowsTrial number (Err Memory) before after = after ≡ before
 ShowsTrial number (Err (Collision digest kept given)) before after = ⊥
 ShowsTrial number (Err Full) before after = ⊥
+
+-- over any keeper: these are the lines of some trial with this number, whose text is its script and whose rows are kept rows
+pub record AreLinesOfSome (number : ℕ) (text : List ℕ) : Type 0 where
+  pub trial : Trial
+  pub is_trial : IsTrial number trial
+  pub lines : text ≡ show_bytes trial

@@ -1,12 +1,11 @@
-//! The lines of the command `show`, part by part, over what was loaded of a trial. Each function writes its lines behind a text, and pins each byte
-//! (`specs/Shown.antt`); where memory runs out nothing is said of the text.
+//! The text of the command `show`, over any keeper, and what is amiss of a trial, in words.
 //!
-//! A line is a word, a blank, what it says, and LF. Digests are SHA-1, in 40 lower-case hexadecimal digits.
+//! - [`show_text`] answers the lines of one trial, which is loaded whole: `shows` pins each byte by the trial (`show_bytes` of `specs/Shows.antt`), and says where
+//!   there is none and what is amiss of one first, in the form of `load_trial`. `of_trial` holds over any keeper, also one that exposes nothing: the text is the lines
+//!   of some trial with this number, whose text is its script and whose rows are kept rows.
+//! - [`detail_text`] answers the words of a damage (`detail` of `specs/Details.antt`).
 //!
-//! The text of the command `show`, over any keeper.
-//!
-//! [`show_text`] answers the lines of one trial, which is loaded whole: `shows` pins each byte by the trial (`show_bytes` of `specs/Shows.antt`), and says where
-//! there is none and what is amiss of one first, in the form of `load_trial`.
+//! A line is a word, a blank, what it says, and LF (`specs/Shown.antt`). Digests are SHA-1, in 40 lower-case hexadecimal digits. Where memory runs out no text is answered.
 //!
 //! `Keeper` is answered only where its count of faults rose. `Collision` and `Full` are never answered. A call that is always out of memory meets these
 //! clauses: that calls succeed is not said here.

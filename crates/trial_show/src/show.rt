@@ -5,7 +5,7 @@ ghost use Rattle.keeper.specs.Keeping.{AreKept, LeavesAmong};
 ghost use Rattle.trial_tables.specs.Causes.{Causes};
 ghost use Rattle.trial_keeping.specs.Fault.{has_failed};
 ghost use Rattle.trial_loading.specs.Loading.{IsOfLoading};
-ghost use Rattle.trial_show.specs.Shows.{ShowsTrial, show_bytes};
+ghost use Rattle.trial_show.specs.Shows.{AreLinesOfSome, ShowsTrial, show_bytes};
 
 use crate::arguments::push_arguments;
 use crate::contents::{push_finals, push_inputs, push_output};
@@ -46,6 +46,8 @@ fn lines_of(alloc: Global, trial: &Trial) -> Result<Bytes, Memory>
 /// `Damaged` exactly where it is not well kept, with what is amiss first. `Keeper` comes where the keeper failed, `Memory` where memory ran out.
 pub fn show_text<K: Keeper>(alloc: Global, keeper: &mut K, number: u32) -> Result<Bytes, TrialFault>
     ensures shows { Tells (K.told keeper.old) (K.told keeper.new) (ShowsTrial number result) }
+    // also over a keeper that tells nothing
+    ensures of_trial { IfOk result (AreLinesOfSome number) }
     ensures of_loading { IfErr result (IsOfLoading number) }
     ensures kept { IfSome (K.told keeper.new) (AreKept (K.is_open keeper.new)) }
     ensures stops { Tells (K.told keeper.old) (K.told keeper.new) (λ _ _. LeavesAmong (K.may_leave keeper.old) (K.may_leave keeper.new)) }

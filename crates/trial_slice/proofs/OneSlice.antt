@@ -12,7 +12,6 @@ use Rattle.row_moments.specs.Moments.{moments_in}
 use Rattle.slice_law.specs.Closed.{IsLeast}
 use Rattle.slice_text.specs.Cut.{cut_text}
 use Rattle.trace_rows.specs.declared.row.Row.{Row}
-use Rattle.trial_loading.specs.Loading.{rest_of}
 use Rattle.trial_loading.specs.OneTrial.{AreSame}
 use Rattle.trial_loading.specs.Rest.{RestView}
 use Rattle.trial_loading.specs.declared.trial.Trial.{Trial}

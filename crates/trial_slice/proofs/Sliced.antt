@@ -1,5 +1,5 @@
 -- What is told of a loaded trial is told of its slice.
-use Rattle.std.proofs.Common.{◌≡◌, ℕ, Bool, List, Option, Some, None, Result, Ok, Err}
+use Rattle.std.proofs.Common.{◌≡◌, ℕ, Bool, List, Option, Some, None, Ok, Err}
 use Rattle.keeper.specs.Keeping.{KeeperView}
 use Rattle.prov_base.specs.declared.place.Pos.{Pos}
 use Rattle.prov_outside.specs.Tells.{Tells}

@@ -3,6 +3,8 @@
 //! - [`extract`] answers the slice of a loaded trial: the least closed set of statements over the stored rows, and the script cut to it (`IsSliceOf` of `specs/Sliced.antt`).
 //!   `NoEvaluation` comes exactly where the rows have no such evaluation. The script is not run.
 //! - [`slice_text`] answers the same of a trial in a keeper, which is loaded first: the text of the slice, or why there is none (`SlicesTrial` of `specs/Slices.antt`).
+//!   `of_trial` holds over any keeper, also one that exposes nothing: the text is the slice in some trial with this number, whose text is its script and whose rows are
+//!   kept rows (`SlicesSome`).
 //! - [`one_slice_of_a_trial`]: an evaluation of a trial has one slice, or none.
 //!
 //! A slice is that of the rows as they are stored. Rows that were altered by hand have the slice of the altered rows, as long as the trial is well kept.

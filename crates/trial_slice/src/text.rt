@@ -4,7 +4,7 @@ ghost use Rattle.prov_outside.specs.Tells.{Tells};
 ghost use Rattle.keeper.specs.Keeping.{AreKept, LeavesAmong};
 ghost use Rattle.trial_tables.specs.Causes.{Causes};
 ghost use Rattle.trial_slice.specs.Fault.{has_failed, IsOfQuestion};
-ghost use Rattle.trial_slice.specs.Slices.{SlicesTrial};
+ghost use Rattle.trial_slice.specs.Slices.{SlicesSome, SlicesTrial};
 
 use crate::extracting::extract;
 use crate::fault::EvaluationFault;
@@ -25,6 +25,8 @@ pub fn slice_text<K: Keeper>(
     k: u32,
 ) -> Result<Bytes, EvaluationFault>
     ensures slices { Tells (K.told keeper.old) (K.told keeper.new) (SlicesTrial number at k result) }
+    // also over a keeper that tells nothing
+    ensures of_trial { SlicesSome number at k result }
     ensures of_question { IfErr result (IsOfQuestion number) }
     ensures kept { IfSome (K.told keeper.new) (AreKept (K.is_open keeper.new)) }
     ensures stops { Tells (K.told keeper.old) (K.told keeper.new) (λ _ _. LeavesAmong (K.may_leave keeper.old) (K.may_leave keeper.new)) }

@@ -1,4 +1,4 @@
-use Rattle.std.proofs.Common.{◌≡◌, rules}
+use Rattle.std.proofs.Common.{rules}
 use Rattle.py_tree.specs.StmtSet.{has}
 use Rattle.trial_slice.proofs.Extracted.{is_slice}
 use Rattle.trial_slice.proofs.extracting.extract.Goals as goal
