@@ -48,8 +48,8 @@ Reply list_query tables plan = plan ≡ telling (list_bytes tables.heads)
 Reply (Show number) tables plan = RepliesOf ShowsLines tables number plan
 Reply (Slice of) tables plan = RepliesOf (Slices of.at of.k) tables of.trial plan
 
--- What a question about the trial with a number is answered over a store that does not tell its tables: what some trial with this number, whose text is its script and
--- whose rows are kept rows, answers to it; or that something is not there; or that the trial is not well kept, by some damage in words.
+-- What a question about the trial with a number may be answered over a store that does not tell its tables. It is what some trial with this number answers, whose text is
+-- its script and whose rows are kept rows; or that something is not there; or that the trial is not well kept, by some damage in words.
 pub data MayReplyOf (answers : Trial → Plan → Type 0) (number : ℕ) : Plan → Type 0 where
   of_some_trial : (trial : Trial) → IsTrial number trial → (plan : Plan) → answers trial plan → MayReplyOf answers number plan
   of_none : MayReplyOf answers number (closing nothing_there)

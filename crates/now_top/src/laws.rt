@@ -150,7 +150,7 @@ pub fn reading_completes()
     ends_in_one_way();
 }
 
-/// The law of slices over any store, also one that tells nothing: `slice T LINE COL K` with status 0 has written the script of some trial with the number T, cut to the
+/// The law of slices over any store, also one that tells nothing. `slice T LINE COL K` with status 0 has written the script of some trial with the number T, cut to the
 /// least closed set of statements of the evaluation, and nothing else. The trial's text is its script, and its rows are kept rows.
 pub fn writes_some_slice()
     ensures { (words : List (List ℕ)) (before after : Seen) (was is : Stored) (status : ℕ) → Replies words before after was is status → (of : OneEvaluation)
