@@ -1,9 +1,10 @@
 -- What a question to the store is answered.
-use Rattle.std.proofs.Common.{◌≡◌, refl, sym, ap, subst, ◌∙◌, ℕ, Bool, false, List, inl, inr, Option, Some, None, Result, Ok, Err, IfErr}
+use Rattle.std.proofs.Common.{◌≡◌, sym, ap, subst, ◌∙◌, ℕ, Bool, false, List, inl, inr, Option, Some, None, Result, Ok, Err, IfErr, IfOk}
 use Rattle.std.specs.Prelude.{IfSome}
 use Rattle.now_words.specs.declared.command.Query.TheVariants.{List as list_query, Show, Slice}
 use Rattle.delivery.specs.Ending.{nothing_there, damaged_trial}
 use Rattle.now_top.specs.World.{Plan, closing}
+use Rattle.keeper.specs.declared.records.Head.{Head}
 use Rattle.keeper.specs.Keeping.{KeeperView, AreKept, LeavesAmong}
 use Rattle.keeper.specs.Tables.{TablesView}
 use Rattle.prov_outside.specs.Tells.{Tells}
@@ -14,7 +15,7 @@ use Rattle.trial_keeping.specs.Heads.{IsOfList}
 use Rattle.trial_loading.specs.Loading.{IsLoaded, IsDamaged, IsOfLoading}
 use Rattle.trial_loading.specs.declared.trial.Trial.{Trial}
 use Rattle.trial_show.specs.Details.{detail}
-use Rattle.trial_show.specs.Shows.{ShowsTrial, show_bytes}
+use Rattle.trial_show.specs.Shows.{AreLinesOfSome, ShowsTrial, show_bytes}
 use Rattle.trial_tables.specs.Causes.{Causes}
 use Rattle.trial_tables.specs.declared.damage.Damage.{Damage}
 use Rattle.trial_list.specs.Lines.{list_bytes}
@@ -22,13 +23,13 @@ use Rattle.trial_list.specs.Lists.{ListsTrials}
 use Rattle.now_words.specs.declared.command.Evaluation.{Evaluation}
 use Rattle.now_words.specs.declared.command.Query.{Query}
 use Rattle.trial_slice.specs.Fault.{has_failed as question_failed, IsOfQuestion}
-use Rattle.trial_slice.specs.Slices.{HasSlice, LacksEvaluation, SlicesTrial}
+use Rattle.trial_slice.specs.Slices.{HasSlice, LacksEvaluation, SlicesTrial, SlicesSome}
 use Rattle.trial_slice.specs.declared.fault.EvaluationFault.{EvaluationFault}
 use Rattle.trial_slice.specs.declared.fault.EvaluationFault.TheVariants.{Trial as of_trial, NoEvaluation}
 use Rattle.now_top.specs.Asking.{IsAnswer, AnswersQuery, replied, untold, failed, lacking, IsPlanOfDamage, IsPlanOfTrial, IsPlanOfQuestion}
 use Rattle.now_top.specs.Kept.{Stored, tables_in, is_store_failed, IsRead}
 use Rattle.now_top.specs.Planned.{plan_of_text}
-use Rattle.now_top.specs.Reply.{telling, sliced, unevaluated, well_kept, not_there, amiss, Reply, MayReply}
+use Rattle.now_top.specs.Reply.{telling, sliced, unevaluated, well_kept, not_there, amiss, Reply, of_some_trial, of_none, of_some_damage, MayReply}
 
 -- what was told stays
 stays : {P : KeeperView → KeeperView → Type 0} (was is : Option KeeperView) → ((old new : KeeperView) → P old new → new ≡ old) → Tells was is P → Tells was is (λ (old new : KeeperView). new ≡ old)
@@ -36,40 +37,44 @@ stays was None same told = tt
 stays None (Some new) same told = absurd told
 stays (Some old) (Some new) same told = same old new told
 
-listed : (was is : Option KeeperView) (is_open : Bool) (text : List ℕ) → Tells was is (ListsTrials (Ok text)) → IfSome is (AreKept is_open) → is_open ≡ false → IsAnswer list_query (tables_in was is) (telling text)
-listed None is is_open text lists kept closed = untold (telling text) (text, refl)
-listed (Some old) None is_open text lists kept closed = untold (telling text) (text, refl)
-listed (Some old) (Some new) is_open text lists kept closed =
+listed : (was is : Option KeeperView) (is_open : Bool) (text : List ℕ) → (heads : List Head) × (text ≡ list_bytes heads) → Tells was is (ListsTrials (Ok text)) → IfSome is (AreKept is_open) → is_open ≡ false → IsAnswer list_query (tables_in was is) (telling text)
+listed None is is_open text some lists kept closed = untold (telling text) (some.0, ap telling some.1)
+listed (Some old) None is_open text some lists kept closed = untold (telling text) (some.0, ap telling some.1)
+listed (Some old) (Some new) is_open text some lists kept closed =
     replied old.committed (telling text) (ap telling (lists.0 ∙ ap (λ (view : KeeperView). list_bytes view.seen.heads) (sym lists.1) ∙ ap (λ (tables : TablesView). list_bytes tables.heads) (kept.closed closed)
     ∙ ap (λ (view : KeeperView). list_bytes view.committed.heads) lists.1))
 
-pub list_answers : (result : Result (List ℕ) TrialFault) (was is : Stored) (is_open : Bool) (may may' : TablesView → Type 0) → Tells was.told is.told (ListsTrials result) → IfErr result IsOfList → IfSome is.told (AreKept is_open)
+-- the text is the lines of some heads
+abbrev AreLinesOfHeads : List ℕ → Type 0
+AreLinesOfHeads text = (heads : List Head) × (text ≡ list_bytes heads)
+
+pub list_answers : (result : Result (List ℕ) TrialFault) (was is : Stored) (is_open : Bool) (may may' : TablesView → Type 0) → IfOk result AreLinesOfHeads → Tells was.told is.told (ListsTrials result) → IfErr result IsOfList → IfSome is.told (AreKept is_open)
     → is_open ≡ false → Tells was.told is.told (λ (old new : KeeperView). LeavesAmong may may') → Causes (has_failed result) was.faults is.faults → AnswersQuery list_query was is may may' (plan_of_text result)
-list_answers (Ok text) was is is_open may may' lists of kept closed stops cause = record {
-  answer = listed was.told is.told is_open text lists kept closed;
+list_answers (Ok text) was is is_open may may' some lists of kept closed stops cause = record {
+  answer = listed was.told is.told is_open text some lists kept closed;
   read = record { told = stays was.told is.told (λ old new so. so.1) lists; cause = cause };
   stops = stops;
 }
-list_answers (Err Keeper) was is is_open may may' lists of kept closed stops cause = record {
+list_answers (Err Keeper) was is is_open may may' some lists of kept closed stops cause = record {
   answer = failed (tables_in was.told is.told);
   read = record { told = lists; cause = cause };
   stops = stops;
 }
-list_answers (Err Memory) was is is_open may may' lists of kept closed stops cause = record {
+list_answers (Err Memory) was is is_open may may' some lists of kept closed stops cause = record {
   answer = lacking (tables_in was.told is.told);
   read = record { told = lists; cause = cause };
   stops = stops;
 }
-list_answers (Err (NoTrial number)) was is is_open may may' lists of kept closed stops cause = absurd of
-list_answers (Err (Damaged number damage)) was is is_open may may' lists of kept closed stops cause = absurd of
-list_answers (Err (Collision digest there given)) was is is_open may may' lists of kept closed stops cause = absurd of
-list_answers (Err Full) was is is_open may may' lists of kept closed stops cause = absurd of
+list_answers (Err (NoTrial number)) was is is_open may may' some lists of kept closed stops cause = absurd of
+list_answers (Err (Damaged number damage)) was is is_open may may' some lists of kept closed stops cause = absurd of
+list_answers (Err (Collision digest there given)) was is is_open may may' some lists of kept closed stops cause = absurd of
+list_answers (Err Full) was is is_open may may' some lists of kept closed stops cause = absurd of
 
 -- the same of the plan as it is named
-pub list_answers_as : (result : Result (List ℕ) TrialFault) (was is : Stored) (is_open : Bool) (may may' : TablesView → Type 0) (plan : Plan) → plan ≡ plan_of_text result → Tells was.told is.told (ListsTrials result) → IfErr result IsOfList
+pub list_answers_as : (result : Result (List ℕ) TrialFault) (was is : Stored) (is_open : Bool) (may may' : TablesView → Type 0) (plan : Plan) → plan ≡ plan_of_text result → IfOk result AreLinesOfHeads → Tells was.told is.told (ListsTrials result) → IfErr result IsOfList
     → IfSome is.told (AreKept is_open) → is_open ≡ false → Tells was.told is.told (λ (old new : KeeperView). LeavesAmong may may') → Causes (has_failed result) was.faults is.faults → AnswersQuery list_query was is may may' plan
-list_answers_as result was is is_open may may' plan same lists of kept closed stops cause =
-    subst (λ (p : Plan). AnswersQuery list_query was is may may' p) (sym same) (list_answers result was is is_open may may' lists of kept closed stops cause)
+list_answers_as result was is is_open may may' plan same some lists of kept closed stops cause =
+    subst (λ (p : Plan). AnswersQuery list_query was is may may' p) (sym same) (list_answers result was is is_open may may' some lists of kept closed stops cause)
 
 -- ---- one trial
 
@@ -105,35 +110,35 @@ not_failed : (number : ℕ) (damage : Damage) (plan : Plan) → IsPlanOfDamage n
 not_failed number damage plan (inl same) = ap (λ (p : Plan). is_store_failed p.ending) same
 not_failed number damage plan (inr same) = ap (λ (p : Plan). is_store_failed p.ending) same
 
-pub show_answers : (number : ℕ) (result : Result (List ℕ) TrialFault) (was is : Stored) (is_open : Bool) (may may' : TablesView → Type 0) (plan : Plan) → IsPlanOfTrial result plan → Tells was.told is.told (ShowsTrial number result) → IfErr result (IsOfLoading number)
+pub show_answers : (number : ℕ) (result : Result (List ℕ) TrialFault) (was is : Stored) (is_open : Bool) (may may' : TablesView → Type 0) (plan : Plan) → IsPlanOfTrial result plan → IfOk result (AreLinesOfSome number) → Tells was.told is.told (ShowsTrial number result) → IfErr result (IsOfLoading number)
     → IfSome is.told (AreKept is_open) → is_open ≡ false → Tells was.told is.told (λ (old new : KeeperView). LeavesAmong may may') → Causes (has_failed result) was.faults is.faults → AnswersQuery (Show number) was is may may' plan
-show_answers number (Ok text) was is is_open may may' plan same shows of kept closed stops cause = subst (λ (p : Plan). AnswersQuery (Show number) was is may may' p) (sym same) (record {
-  answer = by_told (Show number) was.told is.told is_open (telling text) (ShowsTrial number (Ok text)) (λ old new so. (shown_reply old.seen number so.0.0 text so.0.1 so.0.2, so.1)) (inl (text, refl)) shows kept closed;
+show_answers number (Ok text) was is is_open may may' plan same some shows of kept closed stops cause = subst (λ (p : Plan). AnswersQuery (Show number) was is may may' p) (sym same) (record {
+  answer = by_told (Show number) was.told is.told is_open (telling text) (ShowsTrial number (Ok text)) (λ old new so. (shown_reply old.seen number so.0.0 text so.0.1 so.0.2, so.1)) (of_some_trial some.trial some.is_trial (telling text) (ap telling some.lines)) shows kept closed;
   read = record { told = stays was.told is.told (λ old new so. so.1) shows; cause = cause };
   stops = stops;
 })
-show_answers number (Err (NoTrial other)) was is is_open may may' plan same shows of kept closed stops cause = subst (λ (p : Plan). AnswersQuery (Show number) was is may may' p) (sym same) (record {
-  answer = by_told (Show number) was.told is.told is_open (closing nothing_there) (ShowsTrial number (Err (NoTrial other))) (λ old new so. (not_there so.0, so.1)) (inr (inl refl)) shows kept closed;
+show_answers number (Err (NoTrial other)) was is is_open may may' plan same some shows of kept closed stops cause = subst (λ (p : Plan). AnswersQuery (Show number) was is may may' p) (sym same) (record {
+  answer = by_told (Show number) was.told is.told is_open (closing nothing_there) (ShowsTrial number (Err (NoTrial other))) (λ old new so. (not_there so.0, so.1)) of_none shows kept closed;
   read = record { told = stays was.told is.told (λ old new so. so.1) shows; cause = cause };
   stops = stops;
 })
-show_answers number (Err (Damaged other damage)) was is is_open may may' plan so shows of kept closed stops cause = record {
-  answer = damage_answer (Show number) number damage was.told is.told is_open plan (λ tables is_so. amiss damage is_so) (inr (inr (detail damage, refl))) (subst (λ (n : ℕ). IsPlanOfDamage n damage plan) of so) shows kept closed;
+show_answers number (Err (Damaged other damage)) was is is_open may may' plan so some shows of kept closed stops cause = record {
+  answer = damage_answer (Show number) number damage was.told is.told is_open plan (λ tables is_so. amiss damage is_so) (of_some_damage damage) (subst (λ (n : ℕ). IsPlanOfDamage n damage plan) of so) shows kept closed;
   read = read_as plan was is (Err (Damaged other damage)) (not_failed other damage plan so) (stays was.told is.told (λ old new so. so.1) shows) cause;
   stops = stops;
 }
-show_answers number (Err Keeper) was is is_open may may' plan same shows of kept closed stops cause = subst (λ (p : Plan). AnswersQuery (Show number) was is may may' p) (sym same) (record {
+show_answers number (Err Keeper) was is is_open may may' plan same some shows of kept closed stops cause = subst (λ (p : Plan). AnswersQuery (Show number) was is may may' p) (sym same) (record {
   answer = failed (tables_in was.told is.told);
   read = record { told = shows; cause = cause };
   stops = stops;
 })
-show_answers number (Err Memory) was is is_open may may' plan same shows of kept closed stops cause = subst (λ (p : Plan). AnswersQuery (Show number) was is may may' p) (sym same) (record {
+show_answers number (Err Memory) was is is_open may may' plan same some shows of kept closed stops cause = subst (λ (p : Plan). AnswersQuery (Show number) was is may may' p) (sym same) (record {
   answer = lacking (tables_in was.told is.told);
   read = record { told = shows; cause = cause };
   stops = stops;
 })
-show_answers number (Err (Collision digest there given)) was is is_open may may' plan same shows of kept closed stops cause = absurd of
-show_answers number (Err Full) was is is_open may may' plan same shows of kept closed stops cause = absurd of
+show_answers number (Err (Collision digest there given)) was is is_open may may' plan same some shows of kept closed stops cause = absurd of
+show_answers number (Err Full) was is is_open may may' plan same some shows of kept closed stops cause = absurd of
 
 -- ---- a question about an evaluation
 
@@ -147,37 +152,37 @@ read_question : (plan : Plan) (was is : Stored) (result : Result (List ℕ) Eval
     → IsRead plan.ending was is
 read_question plan was is result same told cause = record { told = told; cause = subst (λ (b : Bool). Causes b was.faults is.faults) (sym same) cause }
 
-pub slice_answers : (of : Evaluation) (result : Result (List ℕ) EvaluationFault) (was is : Stored) (is_open : Bool) (may may' : TablesView → Type 0) (plan : Plan) → IsPlanOfQuestion result plan → Tells was.told is.told (SlicesTrial of.trial of.at of.k result)
+pub slice_answers : (of : Evaluation) (result : Result (List ℕ) EvaluationFault) (was is : Stored) (is_open : Bool) (may may' : TablesView → Type 0) (plan : Plan) → IsPlanOfQuestion result plan → SlicesSome of.trial of.at of.k result → Tells was.told is.told (SlicesTrial of.trial of.at of.k result)
     → IfErr result (IsOfQuestion of.trial) → IfSome is.told (AreKept is_open) → is_open ≡ false → Tells was.told is.told (λ (old new : KeeperView). LeavesAmong may may') → Causes (question_failed result) was.faults is.faults → AnswersQuery (Slice of) was is may may' plan
-slice_answers of (Ok text) was is is_open may may' plan same slices of_so kept closed stops cause = subst (λ (p : Plan). AnswersQuery (Slice of) was is may may' p) (sym same) (record {
-  answer = by_told (Slice of) was.told is.told is_open (telling text) (SlicesTrial of.trial of.at of.k (Ok text)) (λ old new so. (slice_reply of old.seen text so.0, so.1)) (inl (text, refl)) slices kept closed;
+slice_answers of (Ok text) was is is_open may may' plan same some slices of_so kept closed stops cause = subst (λ (p : Plan). AnswersQuery (Slice of) was is may may' p) (sym same) (record {
+  answer = by_told (Slice of) was.told is.told is_open (telling text) (SlicesTrial of.trial of.at of.k (Ok text)) (λ old new so. (slice_reply of old.seen text so.0, so.1)) (of_some_trial some.trial some.is_trial (telling text) (sliced some.keep text some.is_slice)) slices kept closed;
   read = record { told = stays was.told is.told (λ old new so. so.1) slices; cause = cause };
   stops = stops;
 })
-slice_answers of (Err NoEvaluation) was is is_open may may' plan same slices of_so kept closed stops cause = subst (λ (p : Plan). AnswersQuery (Slice of) was is may may' p) (sym same) (record {
-  answer = by_told (Slice of) was.told is.told is_open (closing nothing_there) (SlicesTrial of.trial of.at of.k (Err NoEvaluation)) (λ old new so. (lacks_reply of old.seen so.0, so.1)) (inr (inl refl)) slices kept closed;
+slice_answers of (Err NoEvaluation) was is is_open may may' plan same some slices of_so kept closed stops cause = subst (λ (p : Plan). AnswersQuery (Slice of) was is may may' p) (sym same) (record {
+  answer = by_told (Slice of) was.told is.told is_open (closing nothing_there) (SlicesTrial of.trial of.at of.k (Err NoEvaluation)) (λ old new so. (lacks_reply of old.seen so.0, so.1)) (of_some_trial some.trial some.is_trial (closing nothing_there) (unevaluated some.lacks)) slices kept closed;
   read = record { told = stays was.told is.told (λ old new so. so.1) slices; cause = cause };
   stops = stops;
 })
-slice_answers of (Err (of_trial (NoTrial other))) was is is_open may may' plan same slices of_so kept closed stops cause = subst (λ (p : Plan). AnswersQuery (Slice of) was is may may' p) (sym same) (record {
-  answer = by_told (Slice of) was.told is.told is_open (closing nothing_there) (SlicesTrial of.trial of.at of.k (Err (of_trial (NoTrial other)))) (λ old new so. (not_there so.0, so.1)) (inr (inl refl)) slices kept closed;
+slice_answers of (Err (of_trial (NoTrial other))) was is is_open may may' plan same some slices of_so kept closed stops cause = subst (λ (p : Plan). AnswersQuery (Slice of) was is may may' p) (sym same) (record {
+  answer = by_told (Slice of) was.told is.told is_open (closing nothing_there) (SlicesTrial of.trial of.at of.k (Err (of_trial (NoTrial other)))) (λ old new so. (not_there so.0, so.1)) of_none slices kept closed;
   read = record { told = stays was.told is.told (λ old new so. so.1) slices; cause = cause };
   stops = stops;
 })
-slice_answers of (Err (of_trial (Damaged other damage))) was is is_open may may' plan so slices of_so kept closed stops cause = record {
-  answer = damage_answer (Slice of) of.trial damage was.told is.told is_open plan (λ tables is_so. amiss damage is_so) (inr (inr (detail damage, refl))) (subst (λ (n : ℕ). IsPlanOfDamage n damage plan) of_so so) slices kept closed;
+slice_answers of (Err (of_trial (Damaged other damage))) was is is_open may may' plan so some slices of_so kept closed stops cause = record {
+  answer = damage_answer (Slice of) of.trial damage was.told is.told is_open plan (λ tables is_so. amiss damage is_so) (of_some_damage damage) (subst (λ (n : ℕ). IsPlanOfDamage n damage plan) of_so so) slices kept closed;
   read = read_question plan was is (Err (of_trial (Damaged other damage))) (not_failed other damage plan so) (stays was.told is.told (λ old new it. it.1) slices) cause;
   stops = stops;
 }
-slice_answers of (Err (of_trial Keeper)) was is is_open may may' plan same slices of_so kept closed stops cause = subst (λ (p : Plan). AnswersQuery (Slice of) was is may may' p) (sym same) (record {
+slice_answers of (Err (of_trial Keeper)) was is is_open may may' plan same some slices of_so kept closed stops cause = subst (λ (p : Plan). AnswersQuery (Slice of) was is may may' p) (sym same) (record {
   answer = failed (tables_in was.told is.told);
   read = record { told = slices; cause = cause };
   stops = stops;
 })
-slice_answers of (Err (of_trial Memory)) was is is_open may may' plan same slices of_so kept closed stops cause = subst (λ (p : Plan). AnswersQuery (Slice of) was is may may' p) (sym same) (record {
+slice_answers of (Err (of_trial Memory)) was is is_open may may' plan same some slices of_so kept closed stops cause = subst (λ (p : Plan). AnswersQuery (Slice of) was is may may' p) (sym same) (record {
   answer = lacking (tables_in was.told is.told);
   read = record { told = slices; cause = cause };
   stops = stops;
 })
-slice_answers of (Err (of_trial (Collision digest there given))) was is is_open may may' plan same slices of_so kept closed stops cause = absurd of_so
-slice_answers of (Err (of_trial Full)) was is is_open may may' plan same slices of_so kept closed stops cause = absurd of_so
+slice_answers of (Err (of_trial (Collision digest there given))) was is is_open may may' plan same some slices of_so kept closed stops cause = absurd of_so
+slice_answers of (Err (of_trial Full)) was is is_open may may' plan same some slices of_so kept closed stops cause = absurd of_so

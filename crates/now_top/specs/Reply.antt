@@ -1,19 +1,25 @@
 -- What the commands that read the store of trials answer by its tables (this project's profile): each has its line of `Reply`.
-use Rattle.std.specs.Prelude.{◌≡◌, ℕ, Bool, ◌⊎◌, List, [], None}
+use Rattle.std.specs.Prelude.{◌≡◌, ℕ, Bool, List, [], ◌++◌, None}
+use Rattle.now_words.specs.declared.command.Evaluation.{Evaluation}
 use Rattle.now_words.specs.declared.command.Query.{Query}
 use Rattle.now_words.specs.declared.command.Query.TheVariants.{List as list_query, Show, Slice}
 use Rattle.delivery.specs.Ending.{done, nothing_there, damaged_trial}
+use Rattle.keeper.specs.declared.records.Head.{Head}
 use Rattle.keeper.specs.Tables.{TablesView, head_at}
 use Rattle.prov_base.specs.declared.place.Pos.{Pos}
+use Rattle.prov_outside.specs.Console.{ConsoleView}
+use Rattle.prov_outside.specs.Tells.{Tells}
 use Rattle.py_model.specs.Occurrences.{up_to_evaluation}
 use Rattle.row_moments.specs.Moments.{moments_in}
 use Rattle.trial_list.specs.Lines.{list_bytes}
-use Rattle.trial_loading.specs.Loading.{IsLoaded, IsDamaged}
+use Rattle.trial_loading.specs.Loading.{IsLoaded, IsTrial, IsDamaged}
 use Rattle.trial_loading.specs.declared.trial.Trial.{Trial}
 use Rattle.trial_show.specs.Details.{detail}
 use Rattle.trial_show.specs.Shows.{show_bytes}
 use Rattle.trial_slice.specs.Sliced.{IsSliceOf}
+use Rattle.trial_slice.specs.Slices.{IsSomeSlice}
 use Rattle.trial_tables.specs.declared.damage.Damage.{Damage}
+use Rattle.now_top.specs.Seen.{Seen}
 use Rattle.now_top.specs.World.{Plan, closing}
 
 -- a text with no closing line, and status 0
@@ -42,13 +48,21 @@ Reply list_query tables plan = plan ≡ telling (list_bytes tables.heads)
 Reply (Show number) tables plan = RepliesOf ShowsLines tables number plan
 Reply (Slice of) tables plan = RepliesOf (Slices of.at of.k) tables of.trial plan
 
--- Over a store that does not tell its tables a question about a trial is answered by some text, with no closing line and status 0; or that something is not there,
--- or that the trial is not well kept.
-abbrev pub MayReplyOf : ℕ → Plan → Type 0
-MayReplyOf number plan = ((text : List ℕ) × (plan ≡ telling text)) ⊎ ((plan ≡ closing nothing_there) ⊎ ((words : List ℕ) × (plan ≡ closing (damaged_trial number words))))
+-- What a question about the trial with a number may be answered over a store that does not tell its tables. It is what some trial with this number answers, whose text is
+-- its script and whose rows are kept rows; or that something is not there; or that the trial is not well kept, by some damage in words.
+pub data MayReplyOf (answers : Trial → Plan → Type 0) (number : ℕ) : Plan → Type 0 where
+  of_some_trial : (trial : Trial) → IsTrial number trial → (plan : Plan) → answers trial plan → MayReplyOf answers number plan
+  of_none : MayReplyOf answers number (closing nothing_there)
+  of_some_damage : (damage : Damage) → MayReplyOf answers number (closing (damaged_trial number (detail damage)))
 
--- to `list` it is some text
+-- To `list` it is the lines of some heads; to `show` the lines of such a trial; to `slice` the slice of the evaluation in it.
 abbrev pub MayReply : Query → Plan → Type 0
-MayReply list_query plan = (text : List ℕ) × (plan ≡ telling text)
-MayReply (Show number) plan = MayReplyOf number plan
-MayReply (Slice of) plan = MayReplyOf of.trial plan
+MayReply list_query plan = (heads : List Head) × (plan ≡ telling (list_bytes heads))
+MayReply (Show number) plan = MayReplyOf ShowsLines number plan
+MayReply (Slice of) plan = MayReplyOf (Slices of.at of.k) of.trial plan
+
+-- The console got the slice of the evaluation in some trial with its number, whose text is its script and whose rows are kept rows, and nothing else.
+pub record WritesSomeSlice (of : Evaluation) (before after : Seen) : Type 0 where
+  pub text : List ℕ
+  pub is_slice : IsSomeSlice of.trial of.at of.k text
+  pub console : Tells before.console after.console (λ (was is : ConsoleView). is.written ≡ was.written ++ text)

@@ -14,7 +14,7 @@ ghost use Rattle.now_top.specs.Completes.{IsTold, Completes, DoesWhole, DoesAsMe
 ghost use Rattle.now_top.specs.Kept.{keeps, ends_a_run, reads_store, Stored, IsUntouched, tables_told};
 ghost use Rattle.now_top.specs.Means.{MeansCommand};
 ghost use Rattle.now_top.specs.Replies.{Replies};
-ghost use Rattle.now_top.specs.Reply.{Reply};
+ghost use Rattle.now_top.specs.Reply.{Reply, WritesSomeSlice};
 ghost use Rattle.now_top.specs.Seen.{Seen};
 ghost use Rattle.now_top.specs.World.{World, Plan, StandsAt};
 ghost use Rattle.py_parser.specs.Reading.{HasScript};
@@ -165,4 +165,13 @@ pub fn reading_completes()
     trials_are_loaded_one_way();
     one_slice_of_a_trial();
     ends_in_one_way();
+}
+
+/// The law of slices over any store, also one that tells nothing. `slice T LINE COL K` with status 0 has written the script of some trial with the number T, cut to the
+/// least closed set of statements of the evaluation, and nothing else. The trial's text is its script, and its rows are kept rows.
+pub fn writes_some_slice()
+    ensures { (words : List (List ℕ)) (before after : Seen) (was is : Stored) (status : ℕ) → Replies words before after was is status → (of : OneEvaluation)
+        → command_of words ≡ Some (reads (Slice of)) → status ≡ 0 → WritesSomeSlice of before after }
+{
+    done_is_whole();
 }

@@ -15,7 +15,8 @@
 //! The laws: a command has at most one meaning over a world ([`one_meaning`]). Where the words mean a plan, the status is that of its ending, or a fault that was
 //! counted, or one of a store that does not take the trial, or out of memory ([`completes`]). Without such a fault all of the plan stands ([`does_whole`],
 //! [`does_as_meant`]). The console has a prefix of the text and of a closing line in any case ([`writes_prefixes`]). [`writes_slice`] says what `slice` has written with
-//! status 0. A run with a status of its own is kept as the next trial ([`keeps_trial`]); with any other, its trial is kept or the store stays ([`keeps_or_leaves`]). No other command changes the store
+//! status 0, and [`writes_some_slice`] says it over a keeper that tells nothing: the slice in some trial whose rows are kept rows.
+//! A run with a status of its own is kept as the next trial ([`keeps_trial`]); with any other, its trial is kept or the store stays ([`keeps_or_leaves`]). No other command changes the store
 //! ([`keeps_nothing_else`]), so after any calls the store has trials of their runs in order, and what it had ([`stores_have_trials_of_runs`]).
 //! Where FILE has a script and no call failed, `run FILE` comes to its run's status, but for lack of memory or room ([`run_completes`]). Over a keeper that
 //! tells its tables, status and bytes of what reads them are those of the one reply ([`replies_by_tables`]), or tell of a fault or of a lack of memory ([`reading_completes`]).
@@ -34,6 +35,6 @@ mod top;
 pub use laws::{
     completes, does_as_meant, does_whole, keeps_nothing_else, keeps_or_leaves, keeps_trial,
     one_meaning, reading_completes, replies_by_tables, run_completes, stores_have_trials_of_runs,
-    writes_prefixes, writes_slice,
+    writes_prefixes, writes_slice, writes_some_slice,
 };
 pub use top::now;

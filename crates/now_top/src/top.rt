@@ -8,10 +8,11 @@ ghost use Rattle.now_words.specs.declared.command.Query.TheVariants.{Slice};
 ghost use Rattle.now_top.specs.Completes.{IsTold, WritesSlice};
 ghost use Rattle.now_top.specs.Promises.{DidAll, KeptRun, WrotePrefix};
 ghost use Rattle.now_top.specs.Replies.{RepliesWith};
+ghost use Rattle.now_top.specs.Reply.{WritesSomeSlice};
 ghost use Rattle.now_top.specs.Kept.{stored, tables_told};
 
 use crate::deliver::deliver_plan;
-use crate::laws::{does_as_meant, keeps_trial, writes_prefixes, writes_slice};
+use crate::laws::{does_as_meant, keeps_trial, writes_prefixes, writes_slice, writes_some_slice};
 use crate::plan::plan;
 use answer_source::{Devices, Exposes};
 use keeper::Keeper;
@@ -47,6 +48,9 @@ pub fn now<C: Console + Drop, F: Folder + Drop, M: ClockAndRandom + Drop, K: Kee
     // With status 0 `slice` has written the trial's script cut to the least closed set of statements of the evaluation, and nothing else.
     ensures wrote_slice { (of : OneEvaluation) (tables : TablesView) → command_of (map string_bytes words.now) ≡ Some (reads (Slice of)) → tables_told (stored K.told K.faults keeper.old) (stored K.told K.faults keeper.new) ≡ Some tables → result.0 ≡ 0
         → WritesSlice of tables (⟦<Devices<C, F, M> as Exposes>⟧.seen devices) (⟦<Devices<C, F, M> as Exposes>⟧.seen result.1) }
+    // The same over a store that tells nothing: the slice in some trial with the number, whose text is its script and whose rows are kept rows.
+    ensures wrote_some_slice { (of : OneEvaluation) → command_of (map string_bytes words.now) ≡ Some (reads (Slice of)) → result.0 ≡ 0
+        → WritesSomeSlice of (⟦<Devices<C, F, M> as Exposes>⟧.seen devices) (⟦<Devices<C, F, M> as Exposes>⟧.seen result.1) }
     // Whatever came, the console got a prefix of the text and then of a closing line.
     ensures wrote_prefix { WrotePrefix (map string_bytes words.now) (⟦<Devices<C, F, M> as Exposes>⟧.seen devices) (⟦<Devices<C, F, M> as Exposes>⟧.seen result.1) (stored K.told K.faults keeper.old) (stored K.told K.faults keeper.new) result.0 }
     ensures batch { K.is_open keeper.new ≡ false }
@@ -55,6 +59,7 @@ pub fn now<C: Console + Drop, F: Folder + Drop, M: ClockAndRandom + Drop, K: Kee
     keeps_trial();
     writes_prefixes();
     writes_slice();
+    writes_some_slice();
     let (planned, mut devices) = plan(alloc, words, devices, keeper);
     let status = deliver_plan(alloc, &planned, &mut devices.console, &mut devices.folder);
     (status, devices)
