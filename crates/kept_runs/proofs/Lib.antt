@@ -1,0 +1,5 @@
+mod Trees
+mod Rules
+mod Moved
+mod Effects
+mod Runs

@@ -1,0 +1,26 @@
+// The laws of the numbers in a run, each a function without code that says it.
+ghost use Rattle.std.specs.Prelude.{◌≡◌, ◌++◌, ◌∷◌, ℕ, List};
+ghost use Rattle.py_model.specs.Capture.{Capture};
+ghost use Rattle.py_model.specs.Meaning.{meaning, starting};
+ghost use Rattle.py_model.specs.Moment.{Moment};
+ghost use Rattle.py_model.specs.Running.{outcome, state_in};
+ghost use Rattle.py_tree.specs.Numbering.{IsNumbered};
+ghost use Rattle.py_tree.specs.Tree.{ScriptTree};
+ghost use Rattle.kept_runs.specs.Below.{StatementBelow, MomentBelow, objects_after, scopes_after};
+
+use py_model::corresponding_operands_have_alike_plans;
+
+/// The law of what runs name. Each statement that begins is one of the script's. A moment names only objects that were made before it or that it
+/// makes, and variables of activations that were entered before it or that it enters.
+pub fn runs_name_what_is_there()
+    ensures statements { (script : ScriptTree) (capture : Capture) (path : List ℕ) (arguments : List (List ℕ)) (steps : ℕ) → IsNumbered script
+        → (news before : List Moment) (moment : Moment)
+        → (state_in (outcome capture (meaning script steps) (starting capture path arguments steps))).told ≡ news ++ moment ∷ before
+        → StatementBelow script.count moment }
+    ensures objects { (script : ScriptTree) (capture : Capture) (path : List ℕ) (arguments : List (List ℕ)) (steps : ℕ) → IsNumbered script
+        → (news before : List Moment) (moment : Moment)
+        → (state_in (outcome capture (meaning script steps) (starting capture path arguments steps))).told ≡ news ++ moment ∷ before
+        → MomentBelow (objects_after (moment ∷ before)) (scopes_after (moment ∷ before)) moment }
+{
+    corresponding_operands_have_alike_plans();
+}
