@@ -1,19 +1,17 @@
 -- An operation on operands below these counts, in a store where all is below them, names nothing else: its plan is alike to itself under a
 -- renaming that moves all other numbers.
-use Rattle.std.proofs.Common.{◌≡◌, ◌<◌, ℕ, zero, suc, Bool, true, false, if◌then◌else◌, List, [], ◌∷◌, ◌++◌, slice_get, length, Option, Some, None, refl, sym, ap, subst, ◌∙◌}
+use Rattle.std.proofs.Common.{◌≡◌, ◌<◌, ℕ, List, [], slice_get, length, Option, Some, None, refl, sym, ap, subst, ◌∙◌}
 use Rattle.std.specs.Prelude.{⊤, unwrap_or}
 use Rattle.prov_base.specs.declared.place.Pos.{Pos}
-use Rattle.py_value.specs.Changes.{has_key, with_key, without_key, changed}
 use Rattle.py_value.specs.Contents.{Contents, nothing, tuple, no_parts}
 use Rattle.py_value.specs.KeyOf.{normal}
-use Rattle.py_value.specs.Same.{same_value, same_location, put}
-use Rattle.py_value.specs.Seen.{SeenLocation, SeenContent, SeenChange, SeenKind, var_at, len_at, item_at, entry_at, order_at, file_at, offset_at, closed_at, method_at, base_at, var_is, item_is, entry_is, order_is, base_is, file_is, key_inserted, key_deleted, bytes_appended, reads, sets, updates}
+use Rattle.py_value.specs.Seen.{SeenLocation, SeenContent, SeenKind, var_at, len_at, item_at, entry_at, order_at, file_at, offset_at, closed_at, method_at, base_at, var_is, item_is, entry_is, order_is, base_is, reads}
 use Rattle.py_model.specs.Agreement.{AlikeWrites, both_write, both_change, both_move, both_open, both_note, both_done, both_done_at_end, Alike, both_read_var, both_read_len, both_read_item, both_read_entry, both_read_order, both_read_file, both_read_offset, both_read_closed, both_read_method, both_read_base, both_kind, both_name, both_was_opened, both_ask, both_fetch, both_look, both_count, both_print, both_writes, both_make, both_raise, both_again, both_end, both_run_away}
-use Rattle.py_model.specs.Effect.{Touch, accessed, looked, counted, printed, opened, noted, asked, fetched, Outcome, answered, Effect, Answers, effect, written, touching, lacking, accesses_in, after, after_touches, with_made}
+use Rattle.py_model.specs.Effect.{accessed, asked, fetched, Outcome, answered, Effect, Answers, effect, written, touching, lacking, accesses_in}
 use Rattle.py_model.specs.Plan.{Given, Found, Writes, write, change, move, opens, notes, done, done_at_end, Plan}
 use Rattle.py_model.specs.Renaming.{Renaming}
 use Rattle.py_model.specs.Store.{RunStore, empty, var_of, item_of, entry_of, order_of, method_of, base_of, len_of, file_of, offset_of, closed_of, has_path}
-use Rattle.kept_runs.specs.Below.{ValueBelow, OptionBelow, AllBelow, EntryBelow, KindBelow, ContentBelow, ChangeBelow, AnswerBelow, LocationBelow, AccessesBelow}
+use Rattle.kept_runs.specs.Below.{ValueBelow, OptionBelow, AllBelow, EntryBelow, KindBelow, ContentBelow, AnswerBelow, LocationBelow, AccessesBelow}
 use Rattle.kept_runs.proofs.Moved.{stays, below, moving, scope_below, value_below, option_stays, list_stays, entry_stays, kind_stays, all_below, kind_below, content_below, change_below, location_below, normal_below, tuple_below}
 
 module _ (objects : ℕ) where
@@ -79,76 +77,12 @@ module _ (objects : ℕ) where
   moved_item None so = tt
   moved_item (Some v) so = so
 
-  -- ---- what accesses leave
-  pub put_below : (l : SeenLocation) (content : SeenContent) (map : SeenLocation → Option SeenContent) → ContentBelow objects content → ((m : SeenLocation) → FoundBelow (map m))
-      → (m : SeenLocation) → FoundBelow (put l content map m)
-  put_below l content map is all m = by_test (same_location l m)
-    where
-      by_test : (test : Bool) → FoundBelow (if test then Some content else map m)
-      by_test true = is
-      by_test false = all m
-
-  joined_below : (xs ys : List Contents) → AllBelow objects xs → AllBelow objects ys → AllBelow objects (xs ++ ys)
-  joined_below [] ys one other = other
-  joined_below (x ∷ xs) ys one other = (one.0, joined_below xs ys one.1 other)
-
-  with_key_below : (key : Contents) (keys : List Contents) → ValueBelow objects key → AllBelow objects keys → AllBelow objects (with_key key keys)
-  with_key_below key keys is all = by_test (has_key key keys)
-    where
-      by_test : (test : Bool) → AllBelow objects (if test then keys else keys ++ key ∷ [])
-      by_test true = all
-      by_test false = joined_below keys (key ∷ []) all (is, tt)
-
-  without_key_below : (key : Contents) (keys : List Contents) → AllBelow objects keys → AllBelow objects (without_key key keys)
-  without_key_below key [] all = tt
-  without_key_below key (first ∷ keys) all = by_test (same_value (normal key) (normal first)) (without_key_below key keys all.1)
-    where
-      by_test : (test : Bool) → AllBelow objects (without_key key keys) → AllBelow objects (if test then keys else first ∷ without_key key keys)
-      by_test true rest = all.1
-      by_test false rest = (all.0, rest)
-
-  changed_below : (how : SeenChange) (content : Option SeenContent) → ChangeBelow objects how → FoundBelow content → ContentBelow objects (changed how content)
-  changed_below (key_inserted key) (Some (order_is keys)) is all = with_key_below key keys is all
-  changed_below (key_inserted key) other is all = (is, tt)
-  changed_below (key_deleted key) (Some (order_is keys)) is all = without_key_below key keys all
-  changed_below (key_deleted key) other is all = tt
-  changed_below (bytes_appended more) (Some (file_is bytes)) is all = tt
-  changed_below (bytes_appended more) other is all = tt
-
   module _ (scopes : ℕ) where
-    touches_below : (touches : List Touch) (store : RunStore) → AccessesBelow objects scopes (accesses_in touches) → StoreBelow store → StoreBelow (after_touches touches store)
-    touches_below [] store all is = is
-    touches_below (accessed (reads l) ∷ touches) store all is = touches_below touches _ all.1 (record { at = is.at; kinds = is.kinds })
-    touches_below (accessed (sets l content) ∷ touches) store all is =
-        touches_below touches _ all.1 (record { at = put_below l content store.at all.0.1 is.at; kinds = is.kinds })
-    touches_below (accessed (updates l how) ∷ touches) store all is =
-        touches_below touches _ all.1 (record { at = put_below l (changed how (store.at l)) store.at (changed_below how (store.at l) all.0.1 (is.at l)) is.at; kinds = is.kinds })
-    touches_below (looked n ∷ touches) store all is = touches_below touches store all is
-    touches_below (counted n ∷ touches) store all is = touches_below touches store all is
-    touches_below (printed bytes ∷ touches) store all is = touches_below touches _ all (record { at = is.at; kinds = is.kinds })
-    touches_below (opened path ∷ touches) store all is = touches_below touches _ all (record { at = is.at; kinds = is.kinds })
-    touches_below (noted place name ∷ touches) store all is = touches_below touches _ all (record { at = is.at; kinds = is.kinds })
-    touches_below (asked what ∷ touches) store all is = touches_below touches store all is
-    touches_below (fetched path ∷ touches) store all is = touches_below touches store all is
-
-    longer_below : (kinds : List SeenKind) (kind : SeenKind) → ((o : ℕ) → KindBelow objects (slice_get kinds o)) → KindBelow objects (Some kind) → (o : ℕ) → KindBelow objects (slice_get (kinds ++ kind ∷ []) o)
-    longer_below [] kind all is zero = is
-    longer_below [] kind all is (suc o) = tt
-    longer_below (first ∷ kinds) kind all is zero = all zero
-    longer_below (first ∷ kinds) kind all is (suc o) = longer_below kinds kind (λ p. all (suc p)) is o
-
-    made_below : (made : Option SeenKind) (store : RunStore) → KindBelow objects made → StoreBelow store → StoreBelow (with_made made store)
-    made_below None store of is = is
-    made_below (Some kind) store of is = record { at = is.at; kinds = longer_below store.kinds kind is.kinds of }
-
     -- all that an effect names is below the counts
     pub record EffectBelow (e : Effect) : Type 0 where
       pub accesses : AccessesBelow objects scopes (accesses_in e.touches)
       pub made : KindBelow objects e.made
       pub outcome : OutcomeBelow e.outcome
-
-    pub after_below : (e : Effect) (store : RunStore) → EffectBelow e → StoreBelow store → StoreBelow (after e store)
-    after_below e store named is = touches_below e.touches (with_made e.made store) named.accesses (made_below e.made store named.made is)
 
     read_first : (l : SeenLocation) {e : Effect} → LocationBelow objects scopes l → EffectBelow e → EffectBelow (touching (accessed (reads l)) e)
     read_first l here rest = record { accesses = (here, rest.accesses); made = rest.made; outcome = rest.outcome }

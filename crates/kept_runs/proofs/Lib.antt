@@ -3,3 +3,13 @@ mod Rules
 mod Moved
 mod Effects
 mod Runs
+mod Forms
+mod Flow
+mod Walking
+mod Sequences
+mod Counting
+mod Objects
+mod Outsides
+mod Every
+mod Stores
+mod Kept

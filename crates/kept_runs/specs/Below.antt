@@ -57,6 +57,32 @@ module _ (objects : ℕ) where
   AnswerBelow (raised o) = o < objects
   AnswerBelow other = ⊤
 
+  -- ---- All values that a moment names, with no location's own object, and without an object that is the answer.
+
+  abbrev pub AnswerBefore : Answer → Type 0
+  AnswerBefore (value (object o)) = ⊤
+  AnswerBefore (value v) = ValueBelow v
+  AnswerBefore other = ⊤
+
+  abbrev pub LocationBefore : SeenLocation → Type 0
+  LocationBefore (entry_at o key) = ValueBelow key
+  LocationBefore other = ⊤
+
+  abbrev pub AccessBefore : SeenAccess → Type 0
+  AccessBefore (reads l) = LocationBefore l
+  AccessBefore (sets l content) = LocationBefore l × ContentBelow content
+  AccessBefore (updates l how) = LocationBefore l × ChangeBelow how
+
+  abbrev pub AccessesBefore : List SeenAccess → Type 0
+  AccessesBefore [] = ⊤
+  AccessesBefore (access ∷ accesses) = AccessBefore access × AccessesBefore accesses
+
+  abbrev pub MomentBefore : Moment → Type 0
+  MomentBefore (does at number values answer made accesses weight) = AllBelow values × (AnswerBefore answer × (KindBelow made × AccessesBefore accesses))
+  MomentBefore (enters at def values accesses) = AllBelow values × AccessesBefore accesses
+  MomentBefore (leaves v) = ValueBelow v
+  MomentBefore other = ⊤
+
   module _ (scopes : ℕ) where
     abbrev pub LocationBelow : SeenLocation → Type 0
     LocationBelow (var_at scope name) = ScopeBelow scopes scope

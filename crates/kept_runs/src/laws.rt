@@ -1,4 +1,4 @@
-// The laws of the numbers in a run, each a function without code that says it.
+// The laws of the numbers and keys in a run, each a function without code that says it.
 ghost use Rattle.std.specs.Prelude.{◌≡◌, ◌++◌, ◌∷◌, ℕ, List};
 ghost use Rattle.py_model.specs.Capture.{Capture};
 ghost use Rattle.py_model.specs.Meaning.{meaning, starting};
@@ -6,12 +6,14 @@ ghost use Rattle.py_model.specs.Moment.{Moment};
 ghost use Rattle.py_model.specs.Running.{outcome, state_in};
 ghost use Rattle.py_tree.specs.Numbering.{IsNumbered};
 ghost use Rattle.py_tree.specs.Tree.{ScriptTree};
-ghost use Rattle.kept_runs.specs.Below.{StatementBelow, MomentBelow, objects_after, scopes_after};
+ghost use Rattle.kept_runs.specs.Below.{StatementBelow, MomentBelow, MomentBefore, objects_after, scopes_after};
+ghost use Rattle.kept_runs.specs.Keys.{MomentKeys};
 
 use py_model::corresponding_operands_have_alike_plans;
 
 /// The law of what runs name. Each statement that begins is one of the script's. A moment names only objects that were made before it or that it
-/// makes, and variables of activations that were entered before it or that it enters.
+/// makes, and variables of activations that were entered before it or that it enters. An object that it makes is in none of its values, but may be
+/// its answer.
 pub fn runs_name_what_is_there()
     ensures statements { (script : ScriptTree) (capture : Capture) (path : List ℕ) (arguments : List (List ℕ)) (steps : ℕ) → IsNumbered script
         → (news before : List Moment) (moment : Moment)
@@ -21,6 +23,20 @@ pub fn runs_name_what_is_there()
         → (news before : List Moment) (moment : Moment)
         → (state_in (outcome capture (meaning script steps) (starting capture path arguments steps))).told ≡ news ++ moment ∷ before
         → MomentBelow (objects_after (moment ∷ before)) (scopes_after (moment ∷ before)) moment }
+    ensures values { (script : ScriptTree) (capture : Capture) (path : List ℕ) (arguments : List (List ℕ)) (steps : ℕ) → IsNumbered script
+        → (news before : List Moment) (moment : Moment)
+        → (state_in (outcome capture (meaning script steps) (starting capture path arguments steps))).told ≡ news ++ moment ∷ before
+        → MomentBefore (objects_after before) moment }
+{
+    corresponding_operands_have_alike_plans();
+}
+
+/// The law of keys: what stands as a key in a moment of a run is a key of the language, and in a location it is in its normal form.
+pub fn runs_have_keys()
+    ensures { (script : ScriptTree) (capture : Capture) (path : List ℕ) (arguments : List (List ℕ)) (steps : ℕ) → IsNumbered script
+        → (news before : List Moment) (moment : Moment)
+        → (state_in (outcome capture (meaning script steps) (starting capture path arguments steps))).told ≡ news ++ moment ∷ before
+        → MomentKeys moment }
 {
     corresponding_operands_have_alike_plans();
 }
