@@ -13,3 +13,7 @@ mod Outsides
 mod Every
 mod Stores
 mod Kept
+mod RowNames
+mod RowKeys
+mod KeptBack
+mod KeptRun

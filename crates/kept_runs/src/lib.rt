@@ -10,4 +10,4 @@
 
 mod laws;
 
-pub use laws::{runs_have_keys, runs_name_what_is_there};
+pub use laws::{rows_of_runs_are_kept, runs_have_keys, runs_name_what_is_there};
