@@ -1,0 +1,2 @@
+mod OneRest
+mod NoDamage
