@@ -74,7 +74,7 @@ rose_from : (a b c d : ℕ) → b ≡ a → d ≡ c → Rose b d → Rose a c
 rose_from a b c d first second rose = subst (λ (n : ℕ). Rose n c) first (subst (λ (n : ℕ). Rose b n) second rose)
 
 -- where nothing closes it, the text alone was written
-only_text : (x y z text : List ℕ) (ending : Ending) → ending ≡ done → y ≡ x → z ≡ y ++ text ++ closing_line ending → z ≡ x ++ text
+pub only_text : (x y z text : List ℕ) (ending : Ending) → ending ≡ done → y ≡ x → z ≡ y ++ text ++ closing_line ending → z ≡ x ++ text
 only_text x y z text ending is same all =
     let plain : z ≡ y ++ text ++ [] = subst (λ (e : Ending). z ≡ y ++ text ++ closing_line e) is all in
     let short : y ++ text ++ [] ≡ y ++ text = append-nil (y ++ text) in
@@ -260,7 +260,7 @@ module _ (words : List (List ℕ)) (before after : Seen) (was is : Stored) (stat
       (subst (λ (told : Option Files). Tells told so.ran.folder (λ (was is : Files). is ≡ was)) (asks_files prepares.clock.0 (told_by prepares.read) prepares.began prepares.starts)
       (subst (λ (told : Option Files). Tells prepares.began.files told (λ (was is : Files). is ≡ was)) (sym (asks_files prepares.clock.1 prepares.world.capture.ends (told_by so.ran) prepares.ends)) prepares.gave.folder))
 
-  written_same : Tells before.console so.ran.console (λ (was is : ConsoleView). is.written ≡ was.written)
+  pub written_same : Tells before.console so.ran.console (λ (was is : ConsoleView). is.written ≡ was.written)
   written_same = subst (λ (c : Option ConsoleView). Tells c so.ran.console (λ (was is : ConsoleView). is.written ≡ was.written)) prepares.reads.console
       (written_of read.console so.ran.console
       (subst (λ (told : Option (List ℕ)). Tells told (told_by so.ran).written (λ (was is : List ℕ). is ≡ was)) (asks_written prepares.clock.0 (told_by prepares.read) prepares.began prepares.starts)
@@ -573,7 +573,7 @@ module _ (words : List (List ℕ)) (before after : Seen) (was is : Stored) (stat
   planned_by query told made word is_told (lacks_memory same aside) = inr (inr refl)
 
   -- a question's plan stays as it was made
-  same_plan : (query : Query) (made delivered : Plan) (began : Telling) (clock : Clock) → command ≡ Some (reads query) → Keeps command world began clock made was is delivered → made ≡ delivered
+  pub same_plan : (query : Query) (made delivered : Plan) (began : Telling) (clock : Clock) → command ≡ Some (reads query) → Keeps command world began clock made was is delivered → made ≡ delivered
   same_plan query made delivered began clock word (no_run other aside still) = refl
   same_plan query made delivered began clock word (a_reading one other read_so) = refl
   same_plan query made delivered began clock word (a_run steps file arguments other run of number kept) = absurd (no_run_read query steps file arguments (sym word ∙ other))

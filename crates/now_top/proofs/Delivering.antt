@@ -9,7 +9,6 @@ use Rattle.delivery.specs.Ends.{Ends, as_planned, by_console, by_folder, no_memo
 use Rattle.delivery.specs.PutsAll.{Outcome}
 use Rattle.delivery.specs.Shown.{Closing, no_line, line_tried, line_unmade}
 use Rattle.now_words.specs.Command.{Command, run_kept, command_of}
-use Rattle.prov_outside.specs.Count.{Rose}
 use Rattle.prov_outside.specs.declared.trouble.Trouble.TheVariants.{Failed, Memory as OutOfMemory}
 use Rattle.py_model.specs.Act.{normal, broke, continued, returned, threw}
 use Rattle.py_model.specs.Capture.{Telling}

@@ -1,10 +1,9 @@
 -- What a store has after calls of the program.
-use Rattle.std.proofs.Common.{◌≡◌, ℕ, true, false, List, [], ◌∷◌, ◌++◌, Option, Some, None, ◌⊎◌, ⊎_elim, refl, sym, subst, ap, ◌∙◌}
+use Rattle.std.proofs.Common.{◌≡◌, ℕ, false, List, [], ◌∷◌, ◌++◌, Option, Some, None, ⊎_elim, refl, sym, subst, ap, ◌∙◌}
 use Rattle.std.proofs.lemmas.Bool.{false≢true}
 use Rattle.prov_outside.specs.Tells.{Tells}
 use Rattle.keeper.specs.Keeping.{KeeperView}
 use Rattle.keeper.specs.Tables.{TablesView}
-use Rattle.delivery.specs.Ending.{Ending, status_of}
 use Rattle.delivery.specs.Ends.{Ends}
 use Rattle.now_words.specs.Command.{Command, run_bare, run_kept, reads, command_of}
 use Rattle.trial_keeping.specs.Keeping.{HasRoom}
