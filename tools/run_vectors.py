@@ -9,7 +9,7 @@ the rows of its moments, and `evaluations`, some of them with the graph text of
 the value, the steps up to and with each, and its slice, and what the slice gives, run
 again, in how many steps (`value`, `value_steps`, `slice`, `replay`, `replay_steps`);
 and which statement depends on which (`dataflow`).
-In `own_runs.json` the moments are not all written down, but which statements ended how (`endings`). The syntax trees are those of Python's own `ast`. It wants Python 3.11.
+In `own_runs.json` the moments are not written down, but which statements ended how (`endings`), or evaluations with their slices. The syntax trees are those of Python's own `ast`. It wants Python 3.11.
 """
 import ast, io, json, sys, tokenize
 
