@@ -218,6 +218,16 @@ pub fn slices_reproduce()
     values_are_reproduced();
 }
 
+/// The law of the simulation for the scripts of the language: nothing is asked of the script but that a text is it.
+pub fn slices_of_scripts_simulate()
+    ensures { (text : List ℕ) (script : ScriptTree) → HasScript text script → (capture : Capture) (path : List ℕ) (arguments : List (List ℕ)) (steps budget : ℕ) (keep : StmtSet) (upto after : List Moment)
+        → told_by script capture path arguments steps ≡ after ++ upto → IsClosed script (opening_in capture path arguments) upto keep → spent_on upto ≤ budget → Simulates script capture path arguments budget keep upto }
+{
+    scripts_are_well_formed();
+    trees_are_placed();
+    slices_simulate();
+}
+
 /// The law of slices for the scripts of the language: a text that is a script has one whose classes stand outside its functions, so its slices run again to the same
 /// value, in no more steps. Nothing is asked of the script.
 pub fn slices_of_scripts_reproduce()

@@ -9,7 +9,8 @@
 //!
 //! [`slices_simulate`], [`slices_reach_the_evaluation`] and [`values_are_reproduced`] are the laws of the simulation, of every run.
 //! [`slices_reproduce`] is what they are for: the slice of an evaluation runs again to the same value. They ask that classes stand outside functions
-//! (`Classes.antt` of `slice_law`). A script of the language is so: [`slices_of_scripts_reproduce`] asks nothing but that a text is a script.
+//! (`Classes.antt` of `slice_law`). A script of the language is so: [`slices_of_scripts_simulate`] and [`slices_of_scripts_reproduce`] ask
+//! nothing but that a text is a script.
 #![tactic(auto)]
 
 mod laws;
@@ -17,6 +18,6 @@ mod laws;
 pub use laws::{
     accesses_keep_correspondence, deleted_moments_keep_the_relation, kept_moments_are_done_again,
     local_names_are_of_their_activation, objects_of_both_runs_correspond, renaming_keeps_equality,
-    slices_have_functions_of_the_script, slices_of_scripts_reproduce, slices_reach_the_evaluation,
-    slices_reproduce, slices_simulate, values_are_reproduced,
+    slices_have_functions_of_the_script, slices_of_scripts_reproduce, slices_of_scripts_simulate,
+    slices_reach_the_evaluation, slices_reproduce, slices_simulate, values_are_reproduced,
 };
