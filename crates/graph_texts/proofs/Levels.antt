@@ -10,10 +10,7 @@ use Rattle.py_model.specs.Graph.{Drawing, add, number_text, numbered, value_draw
 use Rattle.py_model.specs.Printing.{literal, key_text}
 use Rattle.py_model.specs.Store.{RunStore, len_of, item_of, entry_of, order_of}
 use Rattle.py_model.specs.Texts.{size}
-
--- a thing with its number in front, behind the others
-abbrev pub begun : Contents → Drawing → Drawing
-begun thing d = record { drawn = d.drawn ++ number_text (length d.things) ++ codes "="; things = d.things ++ thing ∷ [] }
+use Rattle.graph_texts.specs.Steps.{begun}
 
 at_most_one : (b : Bool) → unless b ≤ 1
 at_most_one true = omega arith
