@@ -1,3 +1,5 @@
 pub mod Levels
 pub mod Meanings
 pub mod Weights
+pub mod Naturals
+pub mod TupleParts

@@ -85,12 +85,12 @@ module _ (names : List (Pos × (Bool × List ℕ))) where
   class_words (exception_class number) = named_in class_names number
   class_words other = codes "?"
 
-  -- a value that has no parts and no number
+  -- a value that has no parts and no number, and is no text
   abbrev pub plain_words : Contents → List ℕ
   plain_words nothing = codes "None"
   plain_words (truth b) = truth_text b
   plain_words (int i) = int_text i
-  plain_words (text bytes) = literal bytes
+  plain_words (text bytes) = []
   plain_words (tuple parts) = []
   plain_words (range start end step) = range_text start end step
   plain_words (function at) = angled (codes "function ") (first_name false at names)
