@@ -3,3 +3,7 @@ pub mod Meanings
 pub mod Weights
 pub mod Naturals
 pub mod TupleParts
+pub mod Numbering
+pub mod EntryKeys
+pub mod Results
+pub mod Turns

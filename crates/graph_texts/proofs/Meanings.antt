@@ -138,7 +138,7 @@ module _ (script : ScriptTree) (store : RunStore) where
       numbered_kept (object o) (step_object (names_in script.body) store o (slice_get store.kinds o)) (content_drawn script store drawn o (slice_get store.kinds o)) d (object_kept o (slice_get store.kinds o) (begun (object o) d))
       ∙ sym (object_unfolds script store o d)
 
-  items_kept : (left o i : ℕ) (d : Drawing) → After (step_items (names_in script.body) store left o i d) (add (codes "]") (items_drawn script store drawn left o i d))
+  items_kept : (left o i : ℕ) (d : Drawing) → After (step_items store left o i d) (add (codes "]") (items_drawn script store drawn left o i d))
   items_kept zero o i d = refl
   items_kept (suc left) o i d = by_item (item_of store o i)
     where
@@ -148,7 +148,7 @@ module _ (script : ScriptTree) (store : RunStore) where
       by_item None = refl
       by_item (Some v) = refl
 
-  entries_kept : (o : ℕ) (first : Bool) (keys : List Contents) (d : Drawing) → After (step_entries (names_in script.body) store o first keys d) (add (codes "}") (entries_drawn script store drawn o first keys d))
+  entries_kept : (o : ℕ) (first : Bool) (keys : List Contents) (d : Drawing) → After (step_entries store o first keys d) (add (codes "}") (entries_drawn script store drawn o first keys d))
   entries_kept o first [] d = refl
   entries_kept o first (key ∷ keys) d = by_entry (entry_of store o key)
     where
@@ -164,7 +164,7 @@ module _ (script : ScriptTree) (store : RunStore) where
       by_entry None = refl
       by_entry (Some entry) = refl
 
-  attributes_kept : (o : ℕ) (first : Bool) (keys : List Contents) (d : Drawing) → After (step_attributes (names_in script.body) store o first keys d) (add (codes ")") (attributes_drawn script store drawn o first keys d))
+  attributes_kept : (o : ℕ) (first : Bool) (keys : List Contents) (d : Drawing) → After (step_attributes store o first keys d) (add (codes ")") (attributes_drawn script store drawn o first keys d))
   attributes_kept o first [] d = refl
   attributes_kept o first (key ∷ keys) d = by_entry (entry_of store o key)
     where

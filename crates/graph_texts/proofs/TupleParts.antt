@@ -154,3 +154,13 @@ module _ (view : ValuesView) (store : RunStore) (interned : AreInterned view) (i
           named = named;
           ready = (slice_get_within view.tuples id (v ∷ (w ∷ items)) at, (first_of (v ∷ (w ∷ items)) at (omega arith), tt));
         })
+
+-- the contents of a tuple are the tuple of the contents of its parts
+pub tuple_is : ((view : ValuesView) (id : ℕ) (items : List Value) → AreInterned view → slice_get view.tuples id ≡ Some items → contents view (Tuple id) ≡ tuple (parts_by (contents view) items))
+    → (view : ValuesView) (id : ℕ) → AreInterned view → id < length view.tuples → contents view (Tuple id) ≡ tuple (parts_by (contents view) (parts_from view id 0))
+tuple_is parts view id interned there = parts view id (unwrap_or (slice_get view.tuples id) []) interned (there_is view.tuples id there)
+  where
+    there_is : (xs : List (List Value)) (n : ℕ) → n < length xs → slice_get xs n ≡ Some (unwrap_or (slice_get xs n) [])
+    there_is [] n less = absurd (omega (arith, less))
+    there_is (x ∷ xs) zero less = refl
+    there_is (x ∷ xs) (suc n) less = there_is xs n (omega (arith, less))

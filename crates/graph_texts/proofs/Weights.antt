@@ -220,7 +220,7 @@ module _ (store : RunStore) where
     value_less (builtin number) d = omega arith
     value_less (object o) d = numbered_less (object o) (step_object names store o (slice_get store.kinds o)) d (1 + left_in d.things) (omega arith) (λ new. object_less o d new)
 
-    items_less : (left o i : ℕ) (d : Drawing) → Less (step_items names store left o i d) (items_weight left o i + left_in d.things)
+    items_less : (left o i : ℕ) (d : Drawing) → Less (step_items store left o i d) (items_weight left o i + left_in d.things)
     items_less zero o i d = omega arith
     items_less (suc left) o i d = by_item (item_of store o i)
       where
@@ -230,7 +230,7 @@ module _ (store : RunStore) where
         by_item None = omega arith
         by_item (Some v) = omega arith
 
-    entries_less : (o : ℕ) (first : Bool) (keys : List Contents) (d : Drawing) → Less (step_entries names store o first keys d) (keys_weight o keys + left_in d.things)
+    entries_less : (o : ℕ) (first : Bool) (keys : List Contents) (d : Drawing) → Less (step_entries store o first keys d) (keys_weight o keys + left_in d.things)
     entries_less o first [] d = omega arith
     entries_less o first (key ∷ keys) d = by_entry (entry_of store o key)
       where
@@ -243,7 +243,7 @@ module _ (store : RunStore) where
         by_entry None = omega arith
         by_entry (Some entry) = omega arith
 
-    attributes_less : (o : ℕ) (first : Bool) (keys : List Contents) (d : Drawing) → Less (step_attributes names store o first keys d) (keys_weight o keys + left_in d.things)
+    attributes_less : (o : ℕ) (first : Bool) (keys : List Contents) (d : Drawing) → Less (step_attributes store o first keys d) (keys_weight o keys + left_in d.things)
     attributes_less o first [] d = omega arith
     attributes_less o first (key ∷ keys) d = by_entry (entry_of store o key)
       where

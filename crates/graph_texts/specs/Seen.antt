@@ -1,10 +1,13 @@
 -- A drawing and its tasks as contracts see them: texts and tuples are their contents.
 use Rattle.std.specs.Prelude.{⊤, ◌≡◌, ℕ, ◌+◌, ◌<◌, ◌≤◌, pos, Bool, List, [], ◌∷◌, ◌++◌, map, drop, length, slice_get, unwrap_or, if◌then◌else◌, codes, string_bytes}
 use Rattle.py_value.specs.declared.value.Value.{Value}
+use Rattle.py_value.specs.declared.value.Value.TheVariants.{None as NoneValue, Bool as BoolValue, Int as IntValue, Text as TextValue, Tuple as TupleValue}
 use Rattle.py_value.specs.Contents.{contents, parts_by}
+use Rattle.py_value.specs.Seen.{bytes_of}
 use Rattle.py_value.specs.Values.{ValuesView, IsNamed, AreNamed}
 use Rattle.py_model.specs.Graph.{Drawing}
 use Rattle.py_model.specs.Numbers.{int_text}
+use Rattle.py_model.specs.Printing.{literal, truth_text}
 use Rattle.py_model.specs.Store.{RunStore, order_of}
 use Rattle.graph_texts.specs.declared.page.Page.{Page}
 use Rattle.graph_texts.specs.declared.pending.Pending.{Pending}
@@ -16,6 +19,15 @@ use Rattle.graph_texts.specs.Steps.{Task, Stepped, colon, equals, only_end, one_
 -- the number of a thing, with `=` behind it where its content follows
 abbrev pub number_words : ℕ → Bool → List ℕ
 number_words number fresh = codes "#" ++ int_text (pos number) ++ (if fresh then codes "=" else [])
+
+-- a key that is no tuple
+abbrev pub key_bytes : ValuesView → Value → List ℕ
+key_bytes view (TupleValue id) = codes "?"
+key_bytes view NoneValue = codes "None"
+key_bytes view (BoolValue b) = truth_text b
+key_bytes view (IntValue i) = int_text i
+key_bytes view (TextValue id) = literal (bytes_of view id)
+key_bytes view other = codes "?"
 
 -- the parts of a tuple from a place on
 abbrev pub parts_from : ValuesView → ℕ → ℕ → List Value

@@ -78,6 +78,31 @@ abbrev pub step_keys : Parts → Drawing → Stepped
 step_keys no_parts d = did (add (codes ")") d)
 step_keys (part v ps) d = leaves (rest_keys ps ∷ one_key v ∷ []) (add (codes ", ") d)
 
+module _ (store : RunStore) where
+  abbrev pub step_items : ℕ → ℕ → ℕ → Drawing → Stepped
+  step_items zero o i d = did (add (codes "]") d)
+  step_items (suc left) o i d = elim (item_of store o i) [
+    | None ↦ did (add (codes "]") d)
+    | Some v ↦ leaves (rest_items left o (suc i) ∷ one_value v ∷ []) (add (comma (i == 0)) d)
+  ]
+
+  abbrev pub step_entries : ℕ → Bool → List Contents → Drawing → Stepped
+  step_entries o first [] d = did (add (codes "}") d)
+  step_entries o first (key ∷ keys) d = elim (entry_of store o key) [
+    | None ↦ leaves (rest_entries o first keys ∷ []) d
+    | Some entry ↦ leaves (rest_entries o false keys ∷ one_value entry.1 ∷ colon ∷ one_value key ∷ []) (add (comma first) d)
+  ]
+
+  abbrev pub step_attributes : ℕ → Bool → List Contents → Drawing → Stepped
+  step_attributes o first [] d = did (add (codes ")") d)
+  step_attributes o first (key ∷ keys) d = elim (entry_of store o key) [
+    | None ↦ leaves (rest_attributes o first keys ∷ []) d
+    | Some entry ↦ leaves (rest_attributes o false keys ∷ one_value entry.1 ∷ equals ∷ one_name key ∷ []) (add (comma first) d)
+  ]
+
+abbrev pub step_text : List ℕ → Drawing → Stepped
+step_text bytes d = if nat_lt 64 (size bytes) then step_numbered (text bytes) (λ e. did (add (literal bytes) e)) d else did (add (literal bytes) d)
+
 -- The names of the functions and classes of a script: those of its places, and which are classes.
 module _ (names : List (Pos × (Bool × List ℕ))) where
   abbrev pub class_words : Contents → List ℕ
@@ -108,35 +133,11 @@ module _ (names : List (Pos × (Bool × List ℕ))) where
     step_object o (Some (an_instance of)) d = leaves (rest_attributes o true (order_of store o) ∷ []) (add (class_words of ++ codes "(") d)
     step_object o (Some (a_file path mode)) d = did (add (file_words path mode (offset_of store o) (closed_of store o)) d)
 
-    abbrev pub step_text : List ℕ → Drawing → Stepped
-    step_text bytes d = if nat_lt 64 (size bytes) then step_numbered (text bytes) (λ e. did (add (literal bytes) e)) d else did (add (literal bytes) d)
-
     abbrev pub step_value : Contents → Drawing → Stepped
     step_value (text bytes) d = step_text bytes d
     step_value (tuple parts) d = step_numbered (tuple parts) (step_tuple parts) d
     step_value (object o) d = step_numbered (object o) (step_object o (slice_get store.kinds o)) d
     step_value v d = did (add (plain_words v) d)
-
-    abbrev pub step_items : ℕ → ℕ → ℕ → Drawing → Stepped
-    step_items zero o i d = did (add (codes "]") d)
-    step_items (suc left) o i d = elim (item_of store o i) [
-      | None ↦ did (add (codes "]") d)
-      | Some v ↦ leaves (rest_items left o (suc i) ∷ one_value v ∷ []) (add (comma (i == 0)) d)
-    ]
-
-    abbrev pub step_entries : ℕ → Bool → List Contents → Drawing → Stepped
-    step_entries o first [] d = did (add (codes "}") d)
-    step_entries o first (key ∷ keys) d = elim (entry_of store o key) [
-      | None ↦ leaves (rest_entries o first keys ∷ []) d
-      | Some entry ↦ leaves (rest_entries o false keys ∷ one_value entry.1 ∷ colon ∷ one_value key ∷ []) (add (comma first) d)
-    ]
-
-    abbrev pub step_attributes : ℕ → Bool → List Contents → Drawing → Stepped
-    step_attributes o first [] d = did (add (codes ")") d)
-    step_attributes o first (key ∷ keys) d = elim (entry_of store o key) [
-      | None ↦ leaves (rest_attributes o first keys ∷ []) d
-      | Some entry ↦ leaves (rest_attributes o false keys ∷ one_value entry.1 ∷ equals ∷ one_name key ∷ []) (add (comma first) d)
-    ]
 
     abbrev pub step : Task → Drawing → Stepped
     step colon d = did (add (codes ": ") d)
@@ -147,6 +148,6 @@ module _ (names : List (Pos × (Bool × List ℕ))) where
     step (one_name v) d = step_name v d
     step (rest_parts ps) d = step_parts ps d
     step (rest_keys ps) d = step_keys ps d
-    step (rest_items left o i) d = step_items left o i d
-    step (rest_entries o first keys) d = step_entries o first keys d
-    step (rest_attributes o first keys) d = step_attributes o first keys d
+    step (rest_items left o i) d = step_items store left o i d
+    step (rest_entries o first keys) d = step_entries store o first keys d
+    step (rest_attributes o first keys) d = step_attributes store o first keys d

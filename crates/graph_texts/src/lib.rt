@@ -1,11 +1,14 @@
 //! The graph text of a value in a store.
 #![tactic(auto)]
 
+mod drawing;
 mod names;
+mod objects;
 mod page;
 mod pending;
 mod reads;
 mod tuples;
+mod values;
 mod words;
 
 pub use names::Names;

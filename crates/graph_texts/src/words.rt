@@ -1,15 +1,16 @@
 // How values are written that have no parts and no number.
 ghost use Rattle.std.specs.Prelude.{◌≡◌, ◌++◌, pos, codes, IfOk, string_bytes};
 ghost use Rattle.std.specs.Fmt.{decimal};
-ghost use Rattle.graph_texts.specs.Seen.{number_words};
+ghost use Rattle.graph_texts.specs.Seen.{key_bytes, number_words};
 ghost use Rattle.graph_texts.specs.Steps.{class_words, file_words, plain_words};
 ghost use Rattle.py_model.specs.Graph.{mode_text as mode_words, closed_text as closed_words};
 ghost use Rattle.py_model.specs.Numbers.{int_text as int_words};
 ghost use Rattle.py_model.specs.Printing.{literal as literal_words};
 ghost use Rattle.py_value.specs.Contents.{contents};
-ghost use Rattle.py_value.specs.Values.{ValuesView};
+ghost use Rattle.py_value.specs.Values.{ValuesView, IsNamed};
 
 use crate::names::Names;
+use crate::reads::Reads;
 use py_value::{Mode, Value};
 use spelling::{angled, builtin_text, class_word, int_text, literal, range_text, truth_text};
 use std::alloc::{AllocError, Global};
@@ -114,4 +115,18 @@ pub(crate) fn file_text(
     made.push_str(closed_text(is_closed))?;
     made.push_str(")")?;
     Ok(made)
+}
+
+/// A key that is no tuple, as `repr` writes it.
+pub(crate) fn key_words<R: Reads>(alloc: Global, reads: &R, v: Value) -> Result<String, AllocError>
+    requires { IsNamed (R.values reads.now) v }
+    ensures { IfOk result (λ made. string_bytes made ≡ key_bytes (R.values reads.now) v) }
+{
+    match v {
+        Value::None => String::from_str(alloc, "None"),
+        Value::Bool(b) => String::from_str(alloc, truth_text(b)),
+        Value::Int(i) => int_text(alloc, i),
+        Value::Text(id) => literal(alloc, reads.text_of(id)),
+        _ => String::from_str(alloc, "?"),
+    }
 }
