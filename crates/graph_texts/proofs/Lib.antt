@@ -7,3 +7,4 @@ pub mod Numbering
 pub mod EntryKeys
 pub mod Results
 pub mod Turns
+pub mod NameRows
