@@ -1,13 +1,13 @@
 -- More levels than there are objects without a number change nothing: what an object draws, said without levels.
-use Rattle.std.proofs.Common.{◌≡◌, ℕ, zero, suc, ◌+◌, ◌-◌, ◌<◌, ◌≤◌, Bool, true, false, ◌==◌, nat_lt, List, [], ◌∷◌, ◌++◌, length, slice_get, Option, Some, None, is_some, if◌then◌else◌, codes, refl, sym, ap, subst, ◌∙◌, arith}
+use Rattle.std.proofs.Common.{◌≡◌, ℕ, zero, suc, ◌-◌, ◌<◌, ◌≤◌, Bool, true, false, ◌==◌, nat_lt, List, [], ◌∷◌, ◌++◌, length, slice_get, Option, Some, None, is_some, if◌then◌else◌, codes, refl, ap, subst, arith}
 use Rattle.std.proofs.lemmas.Option.{slice_get_within}
 use Rattle.py_tree.specs.Tree.{ScriptTree}
 use Rattle.py_value.specs.Contents.{Contents, Parts, nothing, truth, int, text, tuple, range, function, class, exception_class, builtin, object, no_parts, part}
 use Rattle.py_value.specs.Same.{same_value}
 use Rattle.py_value.specs.Seen.{SeenKind, number_by, a_list, a_dict, an_instance, a_file}
 use Rattle.py_model.proofs.Drawings.{is_numbered, unless, fresh, fresh_more, fresh_less}
-use Rattle.py_model.specs.Graph.{Drawing, add, number_text, numbered, value_drawn, parts_drawn, more_parts, items_drawn, entries_drawn, attribute_name, attributes_drawn, content_drawn, object_drawn_to, class_text}
-use Rattle.py_model.specs.Printing.{literal, key_text}
+use Rattle.py_model.specs.Graph.{Drawing, add, number_text, numbered, value_drawn, parts_drawn, more_parts, items_drawn, entries_drawn, attribute_name, attributes_drawn, content_drawn, object_drawn_to}
+use Rattle.py_model.specs.Printing.{literal}
 use Rattle.py_model.specs.Store.{RunStore, len_of, item_of, entry_of, order_of}
 use Rattle.py_model.specs.Texts.{size}
 use Rattle.graph_texts.specs.Steps.{begun}
@@ -164,12 +164,6 @@ module _ (script : ScriptTree) (store : RunStore) where
   pub object_unfolds : (o : ℕ) (d : Drawing) → drawn_object o d ≡ numbered (object o) (content_drawn script store drawn_object o (slice_get store.kinds o)) d
   object_unfolds o d = by_found (number_by (same_value (object o)) d.things) refl
     where
-      many : ℕ
-      many = length store.kinds
-
-      inner : ℕ → Drawing → Drawing
-      inner = object_drawn_to script store (length store.kinds)
-
       by_kind : number_by (same_value (object o)) d.things ≡ None → (kind : Option SeenKind) → slice_get store.kinds o ≡ kind
           → content_drawn script store (object_drawn_to script store (length store.kinds)) o kind (begun (object o) d) ≡ content_drawn script store (object_drawn_to script store (suc (length store.kinds))) o kind (begun (object o) d)
       by_kind new None there = refl

@@ -1,12 +1,12 @@
 -- What tasks still draw, and that a step leaves it as it is.
-use Rattle.std.proofs.Common.{◌≡◌, ℕ, zero, suc, Bool, true, false, ◌==◌, nat_lt, List, [], ◌∷◌, ◌++◌, length, slice_get, Option, Some, None, if◌then◌else◌, codes, refl, sym, ap, ap₂, subst, ◌∙◌, append_assoc}
+use Rattle.std.proofs.Common.{◌≡◌, ℕ, zero, suc, Bool, true, false, ◌==◌, nat_lt, List, [], ◌∷◌, ◌++◌, slice_get, Option, Some, None, if◌then◌else◌, codes, refl, sym, ap, ◌∙◌, append_assoc}
 use Rattle.py_tree.specs.Tree.{ScriptTree}
 use Rattle.py_value.specs.Contents.{Contents, Parts, nothing, truth, int, text, tuple, range, function, class, exception_class, builtin, object, no_parts, part}
 use Rattle.py_value.specs.Same.{same_value}
 use Rattle.py_value.specs.Seen.{SeenKind, number_by, a_list, a_dict, an_instance, a_file}
-use Rattle.py_model.specs.Graph.{Drawing, add, number_text, numbered, names_in, class_text, value_drawn, parts_drawn, more_parts, items_drawn, entries_drawn, attribute_name, attributes_drawn, content_drawn, object_drawn_to}
-use Rattle.py_model.specs.Printing.{literal, key_text, key_texts, tuple_text, behind_first}
-use Rattle.py_model.specs.Store.{RunStore, len_of, item_of, entry_of, order_of}
+use Rattle.py_model.specs.Graph.{Drawing, add, number_text, numbered, names_in, class_text, value_drawn, parts_drawn, more_parts, items_drawn, entries_drawn, attribute_name, attributes_drawn, content_drawn}
+use Rattle.py_model.specs.Printing.{literal, key_text, key_texts, behind_first}
+use Rattle.py_model.specs.Store.{RunStore, item_of, entry_of, order_of}
 use Rattle.py_model.specs.Texts.{size}
 use Rattle.graph_texts.specs.Steps.{Task, Stepped, colon, equals, only_end, one_value, one_key, one_name, rest_parts, rest_keys, rest_items, rest_entries, rest_attributes, begun, did, step_numbered, comma, class_words, step, step_key, step_name, step_value, step_tuple, step_object, step_items, step_entries, step_attributes}
 use Rattle.graph_texts.proofs.Levels.{drawn_object, object_unfolds}

@@ -1,5 +1,5 @@
 -- The names of a suite, statement by statement.
-use Rattle.std.proofs.Common.{◌≡◌, ◌<◌, ◌≤◌, ◌+◌, ℕ, zero, suc, Bool, true, false, List, [], ◌∷◌, ◌++◌, map, drop, get_or, length, Option, refl, sym, ap, subst, ◌∙◌, arith, add-one, append_assoc, append-nil}
+use Rattle.std.proofs.Common.{◌≡◌, ◌<◌, ◌≤◌, ◌+◌, ℕ, zero, suc, Bool, true, List, [], ◌∷◌, ◌++◌, map, drop, get_or, length, Option, refl, sym, ap, ◌∙◌, arith, add-one, append_assoc, append-nil}
 use Rattle.std.proofs.Math.Seq.{drop-cons}
 use Rattle.prov_base.specs.declared.place.Pos.{Pos}
 use Rattle.py_tree.specs.declared.expr.Expr.{Expr}

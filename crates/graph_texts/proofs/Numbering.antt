@@ -1,5 +1,5 @@
 -- A thing that is numbered: what the table of things answers is what the drawing needs.
-use Rattle.std.proofs.Common.{◌≡◌, ◌↔◌, ℕ, zero, suc, ◌+◌, ◌<◌, ◌||◌, not, pos, Bool, true, false, List, [], ◌∷◌, ◌++◌, map, length, slice_get, Option, Some, None, option_map, if◌then◌else◌, codes, refl, sym, ap, ap₂, subst, ◌∙◌, arith, string_bytes, add-one, append_assoc, append-nil}
+use Rattle.std.proofs.Common.{Result, Ok, Err, IfOk, ◌≡◌, ◌↔◌, ℕ, zero, suc, ◌+◌, ◌||◌, not, Bool, true, false, List, [], ◌∷◌, ◌++◌, map, length, slice_get, unwrap_or, Option, Some, None, option_map, if◌then◌else◌, codes, refl, sym, ap, ap₂, subst, ◌∙◌, arith, string_bytes, add-one, append_assoc, append-nil}
 use Rattle.std.specs.List.{list_any, position_or_len}
 use Rattle.std.proofs.lemmas.List.{length-map, map_push}
 use Rattle.indexmap.specs.IndexSet.{insert_key}
@@ -7,10 +7,10 @@ use Rattle.py_value.specs.contracts.value.ValuePartialEq.TheImpl.{ghosts as valu
 use Rattle.py_value.specs.declared.value.Value.{Value}
 use Rattle.py_value.specs.Contents.{Contents, contents}
 use Rattle.py_value.specs.Same.{same_value}
-use Rattle.py_value.specs.Seen.{number_by}
+use Rattle.py_value.specs.Seen.{bytes_of, number_by}
 use Rattle.py_value.specs.Values.{ValuesView, IsNamed, AreNamed, AreInterned}
 use Rattle.py_model.specs.Graph.{Drawing, number_text}
-use Rattle.py_model.specs.Numbers.{int_text}
+use Rattle.py_model.specs.Printing.{literal}
 use Rattle.py_model.specs.Store.{RunStore}
 use Rattle.graph_texts.specs.Seen.{Draws, page_seen, number_words}
 use Rattle.graph_texts.specs.Steps.{Stepped, begun, step_numbered}
@@ -55,6 +55,10 @@ both_ways false false one other = refl
 not_is : (a b c : Bool) → a ≡ not b → a ≡ c → b ≡ not c
 not_is a true c is now = cc
 not_is a false c is now = cc
+
+-- a long text, written as a literal
+pub long_words : (old new words made bytes : List ℕ) (view : ValuesView) (id : ℕ) → new ≡ old ++ words → words ≡ made → made ≡ literal bytes → slice_get view.texts id ≡ Some bytes → new ≡ old ++ literal (bytes_of view id)
+long_words old new words made bytes view id one two three at = one ∙ ap (λ (more : List ℕ). old ++ more) (two ∙ (three ∙ ap literal (sym (ap (λ o. unwrap_or o []) at))))
 
 -- the laws of values: equality and the tests for it, and that contents tell values apart
 module _ (equal : (v w : Value) → (values_eq.eq v w ≡ true) ↔ (v ≡ w)) (decides : (v w : Contents) → (same_value v w ≡ true) ↔ (v ≡ w))
@@ -108,12 +112,18 @@ module _ (equal : (v w : Value) → (values_eq.eq v w ≡ true) ↔ (v ≡ w)) (
       none_is : number_by (same_value (contents view thing)) (map (contents view) old.things.keys) ≡ None
       none_is = same_numbers old.things.keys all ∙ none_at (values_eq.eq thing) old.things.keys lacks
 
-      -- what draws the content behind the number draws the thing
-      pub new_draws : (content : Drawing → Stepped) (last : Page) (next : Next) → Draws view store last next (content (page_seen view mid))
+      new_draws : (content : Drawing → Stepped) (last : Page) (next : Next) → Draws view store last next (content (page_seen view mid))
           → Draws view store last next (step_numbered (contents view thing) content (page_seen view old))
       new_draws content last next draws =
           subst (λ (n : Option ℕ). Draws view store last next (elim n as (λ x. Stepped) [ None ↦ content (begun (contents view thing) (page_seen view old)) | Some k ↦ record { tasks = []; drawing = record (page_seen view old) { drawn = string_bytes old.text ++ number_text k } } ]))
           (sym none_is) (subst (λ (d : Drawing). Draws view store last next (content d)) mid_is draws)
+
+      -- what draws the content behind the number draws the thing
+      pub all_draws : (what : Contents) → contents view thing ≡ what → (content : Drawing → Stepped) (last : Page) {E : Type 0} (r : Result Next E)
+          → IfOk r (λ next. Draws view store last next (content (page_seen view mid))) → IfOk r (λ next. Draws view store last next (step_numbered what content (page_seen view old)))
+      all_draws what is content last (Ok next) draws =
+          subst (λ (x : Contents). Draws view store last next (step_numbered x content (page_seen view old))) is (new_draws content last next draws)
+      all_draws what is content last (Err e) draws = tt
 
     -- a thing that has its number
     module _ (known : fresh ≡ false) where
@@ -131,8 +141,8 @@ module _ (equal : (v w : Value) → (values_eq.eq v w ≡ true) ↔ (v ≡ w)) (
           ∙ ap₂ (λ n (b : Bool). string_bytes old.text ++ number_words n b) (add-one (position_or_len (values_eq.eq thing) old.things.keys)) known
           ∙ ap (λ (words : List ℕ). string_bytes old.text ++ words) (append-nil (number_text (position_or_len (values_eq.eq thing) old.things.keys)))
 
-      pub known_draws : (content : Drawing → Stepped) → Draws view store mid Nothing (step_numbered (contents view thing) content (page_seen view old))
-      known_draws content =
+      known_draws_it : (content : Drawing → Stepped) → Draws view store mid Nothing (step_numbered (contents view thing) content (page_seen view old))
+      known_draws_it content =
           subst (λ (n : Option ℕ). Draws view store mid Nothing (elim n as (λ x. Stepped) [ None ↦ content (begun (contents view thing) (page_seen view old)) | Some k ↦ record { tasks = []; drawing = record (page_seen view old) { drawn = string_bytes old.text ++ number_text k } } ]))
           (sym some_is) (record {
             drawn = words_are_known;
@@ -141,3 +151,7 @@ module _ (equal : (v w : Value) → (values_eq.eq v w ≡ true) ↔ (v ≡ w)) (
             named = subst (AreNamed view) (sym keys_stay) all;
             ready = tt;
           })
+
+      pub known_draws : (what : Contents) → contents view thing ≡ what → (content : Drawing → Stepped) → Draws view store mid Nothing (step_numbered what content (page_seen view old))
+      known_draws what is content =
+          subst (λ (x : Contents). Draws view store mid Nothing (step_numbered x content (page_seen view old))) is (known_draws_it content)

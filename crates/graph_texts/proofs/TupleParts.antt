@@ -11,7 +11,7 @@ use Rattle.graph_texts.specs.Seen.{Draws, page_seen, parts_from}
 use Rattle.graph_texts.specs.Steps.{rest_parts, rest_keys, one_value, one_key, step_parts, step_key, step_keys, step_tuple}
 use Rattle.graph_texts.specs.declared.page.Page.{Page}
 use Rattle.graph_texts.specs.declared.pending.Pending.TheVariants.{OnlyEnd, Parts, KeyParts}
-use Rattle.graph_texts.specs.declared.pending.Next.TheVariants.{Nothing, Two, TwoKeys}
+use Rattle.graph_texts.specs.declared.pending.Next.TheVariants.{Two, TwoKeys}
 
 below_more : (texts tuples more : ℕ) (v : Value) → tuples ≤ more → IsBelow texts tuples v → IsBelow texts more v
 below_more texts tuples more (Text id) few is = is
@@ -42,15 +42,6 @@ module _ (view : ValuesView) (store : RunStore) (interned : AreInterned view) (i
   cut : (from : ℕ) → from < length items → slice_index_or items from NoneValue ∷ drop (suc from) items ≡ parts_from view id from
   cut from less = sym (from_items from ∙ drop-cons items from NoneValue less)
 
-  none_left : (from : ℕ) → length items ≤ from → [] ≡ parts_from view id from
-  none_left from past = sym (from_items from ∙ dropped items from past)
-    where
-      dropped : (xs : List Value) (n : ℕ) → length xs ≤ n → drop n xs ≡ []
-      dropped [] zero past = refl
-      dropped [] (suc n) past = refl
-      dropped (x ∷ xs) zero past = absurd (omega (arith, past))
-      dropped (x ∷ xs) (suc n) past = dropped xs n (omega (arith, past))
-
   module _ (old new : Page) (named : AreNamed view new.things.keys) (same : new.things.keys ≡ old.things.keys) where
     pub part_draws : (from : ℕ) → from < length items → string_bytes new.text ≡ string_bytes old.text ++ codes ", "
         → Draws view store new (Two (Parts id (from + 1)) (slice_index_or items from NoneValue)) (step_parts (parts_by (contents view) (parts_from view id from)) (page_seen view old))
@@ -64,12 +55,6 @@ module _ (view : ValuesView) (store : RunStore) (interned : AreInterned view) (i
           ready = (slice_get_within view.tuples id items at, (part_named from less, tt));
         })
 
-    pub end_draws : (from : ℕ) → length items ≤ from → string_bytes new.text ≡ string_bytes old.text ++ codes ")"
-        → Draws view store new Nothing (step_parts (parts_by (contents view) (parts_from view id from)) (page_seen view old))
-    end_draws from past words =
-        subst (λ (left : List Value). Draws view store new Nothing (step_parts (parts_by (contents view) left) (page_seen view old))) (none_left from past)
-        (record { drawn = words; things = ap (map (contents view)) same; tasks = refl; named = named; ready = tt })
-
     pub key_draws : (from : ℕ) → from < length items → string_bytes new.text ≡ string_bytes old.text ++ codes ", "
         → Draws view store new (TwoKeys (KeyParts id (from + 1)) (slice_index_or items from NoneValue)) (step_keys (parts_by (contents view) (parts_from view id from)) (page_seen view old))
     key_draws from less words =
@@ -82,12 +67,6 @@ module _ (view : ValuesView) (store : RunStore) (interned : AreInterned view) (i
           ready = (slice_get_within view.tuples id items at, (part_named from less, tt));
         })
 
-    pub end_key_draws : (from : ℕ) → length items ≤ from → string_bytes new.text ≡ string_bytes old.text ++ codes ")"
-        → Draws view store new Nothing (step_keys (parts_by (contents view) (parts_from view id from)) (page_seen view old))
-    end_key_draws from past words =
-        subst (λ (left : List Value). Draws view store new Nothing (step_keys (parts_by (contents view) left) (page_seen view old))) (none_left from past)
-        (record { drawn = words; things = ap (map (contents view)) same; tasks = refl; named = named; ready = tt })
-
 -- the first part of a tuple
 module _ (view : ValuesView) (store : RunStore) (interned : AreInterned view) (id : ℕ) where
   module _ (old new : Page) (named : AreNamed view new.things.keys) (same : new.things.keys ≡ old.things.keys) where
@@ -96,13 +75,6 @@ module _ (view : ValuesView) (store : RunStore) (interned : AreInterned view) (i
 
     all_parts : (items : List Value) → slice_get view.tuples id ≡ Some items → items ≡ parts_from view id 0
     all_parts items at = sym (ap (λ o. drop 0 (unwrap_or o [])) at)
-
-    pub none_draws : (items : List Value) → slice_get view.tuples id ≡ Some items → length items ≡ 0 → string_bytes new.text ≡ string_bytes old.text ++ codes "()"
-        → Draws view store new Nothing (step_tuple (parts_by (contents view) (parts_from view id 0)) (page_seen view old))
-    none_draws [] at none words =
-        subst (λ (all : List Value). Draws view store new Nothing (step_tuple (parts_by (contents view) all) (page_seen view old))) (all_parts [] at)
-        (record { drawn = words; things = ap (map (contents view)) same; tasks = refl; named = named; ready = tt })
-    none_draws (v ∷ items) at none words = absurd (omega (arith, none))
 
     pub only_draws : (items : List Value) → slice_get view.tuples id ≡ Some items → length items ≡ 1 → string_bytes new.text ≡ string_bytes old.text ++ codes "("
         → Draws view store new (Two OnlyEnd (slice_index_or items 0 NoneValue)) (step_tuple (parts_by (contents view) (parts_from view id 0)) (page_seen view old))
@@ -125,13 +97,6 @@ module _ (view : ValuesView) (store : RunStore) (interned : AreInterned view) (i
           named = named;
           ready = (slice_get_within view.tuples id (v ∷ (w ∷ items)) at, (first_of (v ∷ (w ∷ items)) at (omega arith), tt));
         })
-
-    pub none_key_draws : (items : List Value) → slice_get view.tuples id ≡ Some items → length items ≡ 0 → string_bytes new.text ≡ string_bytes old.text ++ codes "()"
-        → Draws view store new Nothing (step_key (tuple (parts_by (contents view) (parts_from view id 0))) (page_seen view old))
-    none_key_draws [] at none words =
-        subst (λ (all : List Value). Draws view store new Nothing (step_key (tuple (parts_by (contents view) all)) (page_seen view old))) (all_parts [] at)
-        (record { drawn = words; things = ap (map (contents view)) same; tasks = refl; named = named; ready = tt })
-    none_key_draws (v ∷ items) at none words = absurd (omega (arith, none))
 
     pub only_key_draws : (items : List Value) → slice_get view.tuples id ≡ Some items → length items ≡ 1 → string_bytes new.text ≡ string_bytes old.text ++ codes "("
         → Draws view store new (TwoKeys OnlyEnd (slice_index_or items 0 NoneValue)) (step_key (tuple (parts_by (contents view) (parts_from view id 0))) (page_seen view old))

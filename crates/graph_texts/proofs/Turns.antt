@@ -1,15 +1,15 @@
 -- One task taken and what it leaves put: the tasks still draw as much, and less is left.
-use Rattle.std.proofs.Common.{◌≡◌, ℕ, ◌+◌, ◌<◌, Bool, List, [], ◌∷◌, ◌++◌, map, refl, sym, ap, ap₂, subst, ◌∙◌, arith, string_bytes}
+use Rattle.std.proofs.Common.{◌≡◌, ℕ, ◌+◌, ◌<◌, Bool, List, [], ◌∷◌, ◌++◌, map, refl, sym, ap, ap₂, subst, ◌∙◌, arith}
 use Rattle.prov_base.specs.declared.place.Pos.{Pos}
 use Rattle.py_tree.specs.Tree.{ScriptTree}
-use Rattle.py_value.specs.Contents.{Contents, contents}
+use Rattle.py_value.specs.Contents.{Contents}
 use Rattle.py_value.specs.Values.{ValuesView}
 use Rattle.py_model.specs.Graph.{Drawing, names_in}
 use Rattle.py_model.specs.Store.{RunStore}
 use Rattle.graph_texts.proofs.Meanings.{still, still_more, step_kept}
 use Rattle.graph_texts.proofs.Weights.{weights, weights_more, left_in, step_less}
 use Rattle.graph_texts.specs.Seen.{Draws, IsReady, AreReady, page_seen, pending_seen, next_list}
-use Rattle.graph_texts.specs.Steps.{Task, Stepped, step}
+use Rattle.graph_texts.specs.Steps.{Task, step}
 use Rattle.graph_texts.specs.declared.page.Page.{Page}
 use Rattle.graph_texts.specs.declared.pending.Pending.{Pending}
 use Rattle.graph_texts.specs.declared.pending.Next.{Next}

@@ -1,5 +1,5 @@
 -- A drawing and its tasks as contracts see them: texts and tuples are their contents.
-use Rattle.std.specs.Prelude.{⊤, ◌≡◌, ℕ, ◌+◌, ◌<◌, ◌≤◌, pos, Bool, List, [], ◌∷◌, ◌++◌, map, drop, length, slice_get, unwrap_or, if◌then◌else◌, codes, string_bytes}
+use Rattle.std.specs.Prelude.{⊤, ◌≡◌, ℕ, ◌+◌, ◌<◌, pos, Bool, List, [], ◌∷◌, ◌++◌, map, drop, length, slice_get, unwrap_or, if◌then◌else◌, codes, string_bytes}
 use Rattle.py_value.specs.declared.value.Value.{Value}
 use Rattle.py_value.specs.declared.value.Value.TheVariants.{None as NoneValue, Bool as BoolValue, Int as IntValue, Text as TextValue, Tuple as TupleValue}
 use Rattle.py_value.specs.Contents.{contents, parts_by}

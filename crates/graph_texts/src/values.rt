@@ -8,12 +8,12 @@ ghost use Rattle.py_value.specs.Contents.{contents, object, parts_by, text, tupl
 ghost use Rattle.py_value.specs.Seen.{bytes_of};
 ghost use Rattle.py_value.specs.Values.{AreInterned, AreNamed, IsNamed};
 
+use crate::lengths::is_long;
 use crate::names::Names;
 use crate::page::Page;
 use crate::pending::Next;
 use crate::reads::Reads;
 use crate::words::{key_words, plain_text};
-use op_texts::size;
 use prov_base::Memory;
 use py_value::{
     Value, equality_is_same, same_contents_same_value, tests_are_equality, tuples_are_their_parts,
@@ -48,7 +48,7 @@ impl Page {
         ensures { IfOk result (λ next. Draws (R.values reads.now) (R.store reads.now) self.new next (step_text (bytes_of (R.values reads.now) id) (page_seen (R.values reads.now) self.old))) }
     {
         let words = reads.text_of(id);
-        if size(words) > 64 {
+        if is_long(words) {
             return self.draw_long(alloc, reads, id);
         }
         self.text.push_str(literal(alloc, words)?.as_str())?;

@@ -1,5 +1,5 @@
 use Rattle.std.proofs.Common.{refl, arith}
-use Rattle.graph_texts.proofs.TupleParts.{key_draws, end_key_draws}
+use Rattle.graph_texts.proofs.TupleParts.{key_draws}
 use Rattle.graph_texts.proofs.page.Page.next_key_part.Goals as goal
 
 pub returns : goal.returns

@@ -1,5 +1,5 @@
 use Rattle.std.proofs.Common.{refl, arith}
-use Rattle.graph_texts.proofs.TupleParts.{part_draws, end_draws}
+use Rattle.graph_texts.proofs.TupleParts.{part_draws}
 use Rattle.graph_texts.proofs.page.Page.next_part.Goals as goal
 
 pub returns : goal.returns
