@@ -17,8 +17,11 @@ use Rattle.graph_texts.specs.declared.pending.Next.TheVariants.{Nothing, One, Tw
 use Rattle.graph_texts.specs.Steps.{Task, Stepped, colon, equals, only_end, one_value, one_key, one_name, rest_parts, rest_keys, rest_items, rest_entries, rest_attributes}
 
 -- the number of a thing, with `=` behind it where its content follows
+abbrev pub end_words : Bool → List ℕ
+end_words fresh = if fresh then codes "=" else []
+
 abbrev pub number_words : ℕ → Bool → List ℕ
-number_words number fresh = codes "#" ++ int_text (pos number) ++ (if fresh then codes "=" else [])
+number_words number fresh = codes "#" ++ int_text (pos number) ++ end_words fresh
 
 -- a key that is no tuple
 abbrev pub key_bytes : ValuesView → Value → List ℕ

@@ -1,7 +1,7 @@
 // How values are written that have no parts and no number.
 ghost use Rattle.std.specs.Prelude.{◌≡◌, ◌++◌, pos, codes, IfOk, string_bytes};
 ghost use Rattle.std.specs.Fmt.{decimal};
-ghost use Rattle.graph_texts.specs.Seen.{key_bytes, number_words};
+ghost use Rattle.graph_texts.specs.Seen.{end_words, key_bytes, number_words};
 ghost use Rattle.graph_texts.specs.Steps.{class_words, file_words, plain_words};
 ghost use Rattle.py_model.specs.Graph.{mode_text as mode_words, closed_text as closed_words};
 ghost use Rattle.py_model.specs.Numbers.{int_text as int_words};
@@ -30,15 +30,20 @@ pub(crate) fn natural(alloc: Global, n: u64) -> Result<String, AllocError>
     Ok(made)
 }
 
+// What stands behind the number of a thing.
+fn number_end(fresh: bool) -> &'static str
+    ensures { result.now ≡ end_words fresh }
+{
+    if fresh { "=" } else { "" }
+}
+
 /// The number of a thing, with `=` behind it where its content follows.
 pub(crate) fn number_text(alloc: Global, number: u64, fresh: bool) -> Result<String, AllocError>
     ensures { IfOk result (λ made. string_bytes made ≡ number_words number fresh) }
 {
     let mut made = String::from_str(alloc, "#")?;
     made.push_str(natural(alloc, number)?.as_str())?;
-    if fresh {
-        made.push_str("=")?;
-    }
+    made.push_str(number_end(fresh))?;
     Ok(made)
 }
 
