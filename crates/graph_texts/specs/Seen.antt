@@ -1,7 +1,7 @@
 -- A drawing and its tasks as contracts see them: texts and tuples are their contents.
 use Rattle.std.specs.Prelude.{⊤, ◌≡◌, ℕ, ◌+◌, ◌<◌, pos, Bool, List, [], ◌∷◌, ◌++◌, map, drop, length, slice_get, unwrap_or, if◌then◌else◌, codes, string_bytes}
 use Rattle.py_value.specs.declared.value.Value.{Value}
-use Rattle.py_value.specs.declared.value.Value.TheVariants.{None as NoneValue, Bool as BoolValue, Int as IntValue, Text as TextValue, Tuple as TupleValue}
+use Rattle.py_value.specs.declared.value.Value.TheVariants.{None as NoneValue, Bool as BoolValue, Int as IntValue, Text as TextValue}
 use Rattle.py_value.specs.Contents.{contents, parts_by}
 use Rattle.py_value.specs.Seen.{bytes_of}
 use Rattle.py_value.specs.Values.{ValuesView, IsNamed, AreNamed}
@@ -16,16 +16,16 @@ use Rattle.graph_texts.specs.declared.pending.Next.{Next}
 use Rattle.graph_texts.specs.declared.pending.Next.TheVariants.{Nothing, One, Two, TwoKeys, Entry}
 use Rattle.graph_texts.specs.Steps.{Task, Stepped, colon, equals, only_end, one_value, one_key, one_name, rest_parts, rest_keys, rest_items, rest_entries, rest_attributes}
 
--- the number of a thing, with `=` behind it where its content follows
+-- what stands behind the number of a thing
 abbrev pub end_words : Bool → List ℕ
 end_words fresh = if fresh then codes "=" else []
 
+-- the number of a thing, with `=` behind it where its content follows
 abbrev pub number_words : ℕ → Bool → List ℕ
 number_words number fresh = codes "#" ++ int_text (pos number) ++ end_words fresh
 
 -- a key that is no tuple
 abbrev pub key_bytes : ValuesView → Value → List ℕ
-key_bytes view (TupleValue id) = codes "?"
 key_bytes view NoneValue = codes "None"
 key_bytes view (BoolValue b) = truth_text b
 key_bytes view (IntValue i) = int_text i
@@ -36,6 +36,7 @@ key_bytes view other = codes "?"
 abbrev pub parts_from : ValuesView → ℕ → ℕ → List Value
 parts_from view id from = drop from (unwrap_or (slice_get view.tuples id) [])
 
+-- the task that a pending one is
 abbrev pub pending_seen : ValuesView → RunStore → Pending → Task
 pending_seen view store Colon = colon
 pending_seen view store Equals = equals
@@ -63,6 +64,7 @@ abbrev pub AreReady : ValuesView → List Pending → Type 0
 AreReady view [] = ⊤
 AreReady view (task ∷ tasks) = IsReady view task × AreReady view tasks
 
+-- the tasks that are left, the next one last
 abbrev pub next_list : Next → List Pending
 next_list Nothing = []
 next_list (One task) = task ∷ []
@@ -70,6 +72,7 @@ next_list (Two task v) = task ∷ ValueTask v ∷ []
 next_list (TwoKeys task v) = task ∷ Key v ∷ []
 next_list (Entry rest v between key) = rest ∷ ValueTask v ∷ between ∷ key ∷ []
 
+-- what was drawn so far
 abbrev pub page_seen : ValuesView → Page → Drawing
 page_seen view page = record { drawn = string_bytes page.text; things = map (contents view) page.things.keys }
 

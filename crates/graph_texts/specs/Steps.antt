@@ -32,6 +32,7 @@ pub record Stepped : Type 0 where
   pub tasks : List Task
   pub drawing : Drawing
 
+-- nothing is left, and tasks are left
 abbrev pub did : Drawing → Stepped
 did d = record { tasks = []; drawing = d }
 
@@ -46,30 +47,34 @@ begun thing d = record { drawn = d.drawn ++ number_text (length d.things) ++ cod
 abbrev pub step_numbered : Contents → (Drawing → Stepped) → Drawing → Stepped
 step_numbered thing content d = elim (number_by (same_value thing) d.things) [ None ↦ content (begun thing d) | Some n ↦ did (add (number_text n) d) ]
 
+-- what stands before an item, an entry or an attribute
 abbrev pub comma : Bool → List ℕ
 comma first = if first then [] else codes ", "
 
+-- an open file: its path, its mode, how far it was read, and whether it was closed
 abbrev pub file_words : List ℕ → Mode → ℕ → Bool → List ℕ
 file_words path mode offset is_closed =
     codes "file(" ++ literal path ++ codes ", " ++ mode_text mode ++ codes ", " ++ int_text (pos offset) ++ codes ", " ++ closed_text is_closed ++ codes ")"
 
--- a tuple of a key behind its opening bracket
+-- a key: a tuple is opened, any other key is written as `repr` does
 abbrev pub step_key : Contents → Drawing → Stepped
 step_key (tuple no_parts) d = did (add (codes "()") d)
 step_key (tuple (part v no_parts)) d = leaves (only_end ∷ one_key v ∷ []) (add (codes "(") d)
 step_key (tuple (part v (part w ps))) d = leaves (rest_keys (part w ps) ∷ one_key v ∷ []) (add (codes "(") d)
 step_key v d = did (add (key_text v) d)
 
+-- the name of an attribute: a text as it is, any other key as `repr` writes it
 abbrev pub step_name : Contents → Drawing → Stepped
 step_name (text bytes) d = did (add bytes d)
 step_name v d = step_key v d
 
--- the parts of a tuple, behind its number
+-- a tuple behind its number: an only part has a comma behind it
 abbrev pub step_tuple : Parts → Drawing → Stepped
 step_tuple no_parts d = did (add (codes "()") d)
 step_tuple (part v no_parts) d = leaves (only_end ∷ one_value v ∷ []) (add (codes "(") d)
 step_tuple (part v (part w ps)) d = leaves (rest_parts (part w ps) ∷ one_value v ∷ []) (add (codes "(") d)
 
+-- the next part of a tuple, or its end; the same of a tuple in a key
 abbrev pub step_parts : Parts → Drawing → Stepped
 step_parts no_parts d = did (add (codes ")") d)
 step_parts (part v ps) d = leaves (rest_parts ps ∷ one_value v ∷ []) (add (codes ", ") d)
@@ -79,6 +84,7 @@ step_keys no_parts d = did (add (codes ")") d)
 step_keys (part v ps) d = leaves (rest_keys ps ∷ one_key v ∷ []) (add (codes ", ") d)
 
 module _ (store : RunStore) where
+  -- the next item of a list, or its end
   abbrev pub step_items : ℕ → ℕ → ℕ → Drawing → Stepped
   step_items zero o i d = did (add (codes "]") d)
   step_items (suc left) o i d = elim (item_of store o i) [
@@ -86,6 +92,7 @@ module _ (store : RunStore) where
     | Some v ↦ leaves (rest_items left o (suc i) ∷ one_value v ∷ []) (add (comma (i == 0)) d)
   ]
 
+  -- the next entry of a dictionary, or its end: a key without an entry is passed over
   abbrev pub step_entries : ℕ → Bool → List Contents → Drawing → Stepped
   step_entries o first [] d = did (add (codes "}") d)
   step_entries o first (key ∷ keys) d = elim (entry_of store o key) [
@@ -93,6 +100,7 @@ module _ (store : RunStore) where
     | Some entry ↦ leaves (rest_entries o false keys ∷ one_value entry.1 ∷ colon ∷ one_value key ∷ []) (add (comma first) d)
   ]
 
+  -- the same of the attributes of an instance
   abbrev pub step_attributes : ℕ → Bool → List Contents → Drawing → Stepped
   step_attributes o first [] d = did (add (codes ")") d)
   step_attributes o first (key ∷ keys) d = elim (entry_of store o key) [
@@ -100,10 +108,11 @@ module _ (store : RunStore) where
     | Some entry ↦ leaves (rest_attributes o false keys ∷ one_value entry.1 ∷ equals ∷ one_name key ∷ []) (add (comma first) d)
   ]
 
+-- a text: a long one is numbered
 abbrev pub step_text : List ℕ → Drawing → Stepped
 step_text bytes d = if nat_lt 64 (size bytes) then step_numbered (text bytes) (λ e. did (add (literal bytes) e)) d else did (add (literal bytes) d)
 
--- The names of the functions and classes of a script: those of its places, and which are classes.
+-- with the names of a script: of each function and class its place, whether it is a class, and its name
 module _ (names : List (Pos × (Bool × List ℕ))) where
   abbrev pub class_words : Contents → List ℕ
   class_words (class at) = first_name true at names
@@ -133,12 +142,14 @@ module _ (names : List (Pos × (Bool × List ℕ))) where
     step_object o (Some (an_instance of)) d = leaves (rest_attributes o true (order_of store o) ∷ []) (add (class_words of ++ codes "(") d)
     step_object o (Some (a_file path mode)) d = did (add (file_words path mode (offset_of store o) (closed_of store o)) d)
 
+    -- a value: objects, tuples and long texts by their number
     abbrev pub step_value : Contents → Drawing → Stepped
     step_value (text bytes) d = step_text bytes d
     step_value (tuple parts) d = step_numbered (tuple parts) (step_tuple parts) d
     step_value (object o) d = step_numbered (object o) (step_object o (slice_get store.kinds o)) d
     step_value v d = did (add (plain_words v) d)
 
+    -- what a task does
     abbrev pub step : Task → Drawing → Stepped
     step colon d = did (add (codes ": ") d)
     step equals d = did (add (codes "=") d)
