@@ -1,0 +1,10 @@
+pub mod Levels
+pub mod Meanings
+pub mod Weights
+pub mod Naturals
+pub mod TupleParts
+pub mod Numbering
+pub mod EntryKeys
+pub mod Results
+pub mod Turns
+pub mod NameRows

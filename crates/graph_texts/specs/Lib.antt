@@ -1,0 +1,4 @@
+pub mod Named
+pub mod Reads
+pub mod Seen
+pub mod Steps
