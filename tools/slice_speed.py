@@ -16,7 +16,7 @@ def turns(count):
 
 def keys():
     lines = ["d = {}"] + [f"d[{number}] = {number}" for number in range(2500)]
-    return "\n".join(lines + ["n = 0", "for i in range(25000):", "    n += len(d)", "print(n)", ""]), (2505, 7, 1)
+    return "\n".join(lines + ["n = 0", "for i in range(40):", "    for k in d:", "        n = k", "print(n)", ""]), (2506, 7, 1)
 
 
 def late_names():
@@ -47,7 +47,7 @@ def long_value():
 CASES = {
     "30,000 turns of a loop": turns(30000),
     "15,000 turns of it": turns(15000),
-    "2,500 lines `d[k] = ..`, and 25,000 reads of the order of `d`": keys(),
+    "2,500 lines `d[k] = ..`, and 100,000 reads of the order of `d`": keys(),
     "1,000 names that are bound later, in a script of 19,000 statements": late_names(),
     "a chain of 14,000 statements": chain(),
     "900 calls inside one another": falling(),
