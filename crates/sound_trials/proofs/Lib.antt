@@ -1,1 +1,9 @@
+pub mod AnswerKinds
+pub mod Fitting
+pub mod KeptParts
+pub mod KeptRows
+pub mod KeptSame
+pub mod KeptSound
 pub mod SoundRows
+pub mod Spelling
+pub mod Standing

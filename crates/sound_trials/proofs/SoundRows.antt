@@ -1,5 +1,5 @@
 -- The rows of a sound trial tell the moments of its run, and its steps are those that these moments spent.
-use Rattle.std.proofs.Common.{◌≡◌, ℕ, ◌+◌, ◌-◌, ◌≤◌, List, [], length, reverse, Some, refl, sym, ap, subst, ◌∙◌, arith}
+use Rattle.std.proofs.Common.{◌≡◌, ℕ, ◌+◌, ◌-◌, ◌≤◌, List, [], length, reverse, Some, ap, subst, ◌∙◌, arith}
 use Rattle.std.proofs.lemmas.List.{reverse-reverse}
 use Rattle.py_model.specs.Going.{Open}
 use Rattle.py_model.specs.History.{open_after, Nests, spent_on}

@@ -2,8 +2,6 @@
 use Rattle.std.specs.Prelude.{◌≡◌, ℕ, ◌≤◌, Bool, List, length, map, Some}
 use Rattle.prov_base.specs.declared.place.Pos.{Pos}
 use Rattle.py_tree.specs.Erasure.{script_of}
-use Rattle.py_tree.specs.Deletion.{deleted}
-use Rattle.py_tree.specs.Tree.{ScriptTree}
 use Rattle.answer_source.specs.Live.{capture_of}
 use Rattle.op_state.specs.Finals.{file_out}
 use Rattle.py_model.specs.Capture.{Capture, Telling}

@@ -4,8 +4,12 @@
 //!
 //! - [`slices_of_sound_trials_run_again`]: what `slice` writes of a sound trial is the script cut to a set of statements, and the script without the others runs
 //!   again to an equal value at the same occurrence, in no more steps.
+//! - [`kept_trials_are_sound`]: a recorded run that was kept as a trial is a sound trial when it is loaded.
+//! - [`slices_of_kept_trials_run_again`]: so every slice of such a trial runs again.
 #![tactic(auto)]
 
+mod kept_laws;
 mod laws;
 
+pub use kept_laws::{kept_trials_are_sound, slices_of_kept_trials_run_again};
 pub use laws::slices_of_sound_trials_run_again;

@@ -1,10 +1,10 @@
-use Rattle.std.proofs.Common.{◌≡◌, sym, ap, subst, ◌∙◌, Some}
+use Rattle.std.proofs.Common.{sym, ap, subst, ◌∙◌}
 use Rattle.py_tree.specs.Erasure.{script_of}
 use Rattle.py_model.specs.Capture.{with_bytes}
 use Rattle.py_model.specs.Meaning.{meaning, starting}
 use Rattle.py_model.specs.Occurrences.{up_to_evaluation}
 use Rattle.py_model.specs.Running.{outcome, state_in}
-use Rattle.slice_law.specs.Slices.{told_by, Reproduces}
+use Rattle.slice_law.specs.Slices.{Reproduces}
 use Rattle.sound_trials.specs.Sound.{capture_in}
 use Rattle.sound_trials.proofs.SoundRows.{nested_in, tells_so, spent_so}
 use Rattle.sound_trials.proofs.laws.slices_of_sound_trials_run_again.Goals as goal

@@ -1,0 +1,44 @@
+// The laws of the trials of runs that were recorded and kept: public functions without a body, whose contracts are the laws.
+ghost use Rattle.std.specs.Prelude.{◌≡◌, ◌≤◌, ℕ, List, length};
+ghost use Rattle.keeper.specs.Tables.{TablesView};
+ghost use Rattle.prov_base.specs.declared.place.Pos.{Pos};
+ghost use Rattle.py_model.specs.Capture.{Telling};
+ghost use Rattle.trial_keeping.specs.Trial.{Run, with_trial_of};
+ghost use Rattle.trial_loading.specs.Loading.{IsLoaded};
+ghost use Rattle.trial_loading.specs.ReadBack.{CanBeRead};
+ghost use Rattle.trial_loading.specs.declared.trial.Trial.{Trial as OneTrial};
+ghost use Rattle.trial_slice.specs.Slices.{HasSlice};
+ghost use Rattle.trial_tables.specs.Written.{put, next_trial};
+ghost use Rattle.sound_trials.specs.Recorded.{WasRecorded};
+ghost use Rattle.sound_trials.specs.Sound.{IsSound, RunsAgain};
+
+use crate::laws::slices_of_sound_trials_run_again;
+use py_parser::one_reading;
+use recorded_runs::kept_captures_have_the_run;
+use recorder::pages_are_the_rows;
+use trace_rows::pages_are_read_one_way;
+use trial_loading::kept_trials_are_read_back;
+
+/// The law of kept trials: where a recorded run was kept as a trial, and a trial is loaded under its number, the run can be read back, and the trial is sound. What
+/// devices tell at the end of the run does not matter.
+pub fn kept_trials_are_sound()
+    ensures read { (run : Run) (before after : TablesView) (trial : OneTrial) → WasRecorded run → with_trial_of run before ≡ put after → IsLoaded after (next_trial before) trial → CanBeRead run }
+    ensures sound { (run : Run) (before after : TablesView) (trial : OneTrial) (ends : Telling) → WasRecorded run → with_trial_of run before ≡ put after
+        → IsLoaded after (next_trial before) trial → length trial.rows ≤ 4294967296 → IsSound trial ends }
+{
+    kept_captures_have_the_run();
+    kept_trials_are_read_back();
+    one_reading();
+    pages_are_read_one_way();
+    pages_are_the_rows();
+}
+
+/// The law of the slices of kept trials: where a recorded run was kept as a trial, every slice that the trial has runs again to an equal value at the same
+/// occurrence, in no more steps.
+pub fn slices_of_kept_trials_run_again()
+    ensures { (run : Run) (before after : TablesView) (ends : Telling) (at : Pos) (k : ℕ) (text : List ℕ) → WasRecorded run → with_trial_of run before ≡ put after
+        → (slice : HasSlice after (next_trial before) at k text) → length slice.trial.rows ≤ 4294967296 → RunsAgain slice.trial ends at k text }
+{
+    kept_trials_are_sound();
+    slices_of_sound_trials_run_again();
+}
