@@ -27,7 +27,7 @@ words_long h (suc n) = let more : length (digest_bytes h n) ≡ 4 * n = words_lo
     by : length (digest_bytes h n) ≡ 4 * n → length (digest_bytes h n ++ to_be_bytes w32 (slice_index h n)) ≡ 4 * suc n
     by more = omega (arith, more, length-append (digest_bytes h n) (to_be_bytes w32 (slice_index h n)))
 
-digest_long : (bytes : List ℕ) → length (sha1 bytes) ≡ 20
+pub digest_long : (bytes : List ℕ) → length (sha1 bytes) ≡ 20
 unfolding sha1
 digest_long bytes = words_long (hash_after (padded_message bytes) (length (padded_message bytes) / 64)) 5
 

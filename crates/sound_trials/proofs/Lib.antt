@@ -1,9 +1,12 @@
 pub mod AnswerKinds
+pub mod AskedOnce
+pub mod CanRead
 pub mod Fitting
 pub mod KeptParts
 pub mod KeptRows
 pub mod KeptSame
 pub mod KeptSound
+pub mod Readable
 pub mod SoundRows
 pub mod Spelling
 pub mod Standing

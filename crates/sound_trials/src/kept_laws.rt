@@ -11,12 +11,14 @@ ghost use Rattle.trial_slice.specs.Slices.{HasSlice};
 ghost use Rattle.trial_tables.specs.Written.{put, next_trial};
 ghost use Rattle.sound_trials.specs.Recorded.{WasRecorded};
 ghost use Rattle.sound_trials.specs.Sound.{IsSound, RunsAgain};
+ghost use Rattle.sound_trials.specs.Typed.{FitsTypes};
 
 use crate::laws::slices_of_sound_trials_run_again;
 use py_parser::one_reading;
 use recorded_runs::kept_captures_have_the_run;
 use recorder::pages_are_the_rows;
 use trace_rows::pages_are_read_one_way;
+use trial_keeping::lists_are_in_order;
 use trial_loading::kept_trials_are_read_back;
 
 /// The law of kept trials: where a recorded run was kept as a trial, and a trial is loaded under its number, the run can be read back, and the trial is sound. What
@@ -41,4 +43,13 @@ pub fn slices_of_kept_trials_run_again()
 {
     kept_trials_are_sound();
     slices_of_sound_trials_run_again();
+}
+
+/// The law of reading recorded runs: a run that was recorded can be read back once it is kept, where numbers are in range, paths are paths and files ascend, as the
+/// types of the program say. By the run alone its answers are in order, numbered from 1 and given to questions of their kinds, and each file that it left stands once.
+pub fn recorded_runs_can_be_read()
+    ensures { (run : Run) → WasRecorded run → FitsTypes run → CanBeRead run }
+{
+    kept_captures_have_the_run();
+    lists_are_in_order();
 }
