@@ -9,9 +9,12 @@ use Rattle.row_words.specs.Fits.{Each}
 use Rattle.sound_trials.proofs.Fitting.{one_arguments, arguments_fit, capture_is, finals_are}
 use Rattle.sound_trials.proofs.KeptParts.{Parts, parts_of, same_part}
 use Rattle.sound_trials.proofs.Spelling.{AnswerFits}
-use Rattle.sound_trials.proofs.Standing.{StandsIn}
+use Rattle.sound_trials.proofs.Standing.{StandsIn, kept_stands, stands_still, numbered_next, more_there}
+use Rattle.sound_trials.proofs.Staying.{rest_stays}
+use Rattle.sound_trials.specs.Recorded.{KeptMore}
+use Rattle.content_store.specs.Contents.{digest_of}
 use Rattle.trial_keeping.specs.RecordFits.{CaptureFits, FinalsFit}
-use Rattle.trial_keeping.specs.Trial.{Run, file_record, final_record, head_of, parent_in}
+use Rattle.trial_keeping.specs.Trial.{Run, file_record, final_record, head_of, parent_in, with_trial_of}
 use Rattle.trial_keeping.specs.declared.record.FileRecord.{FileRecord}
 use Rattle.trial_keeping.specs.declared.record.FinalRecord.{FinalRecord}
 use Rattle.trial_loading.specs.Loading.{IsLoaded, rest_of}
@@ -19,7 +22,7 @@ use Rattle.trial_loading.specs.ReadBack.{CanBeRead, IsKeptAndRead, rest_of_run}
 use Rattle.trial_loading.specs.Rest.{IsRest, RecordsView, RestView, rest_in, script_in}
 use Rattle.trial_loading.specs.declared.trial.Trial.{Trial}
 use Rattle.trial_tables.specs.Whole.{Check, fine, damaged, content_in}
-use Rattle.trial_tables.specs.Written.{next_trial}
+use Rattle.trial_tables.specs.Written.{put, next_trial}
 use Rattle.trial_tables.specs.declared.damage.Damage.TheVariants.{Path}
 
 -- the trial has the head, the text and the rest of the run
@@ -81,9 +84,6 @@ module _ (run : Run) (before after : TablesView) (kinds : Each AnswerFits run.en
   read_so : (rest : RestView) (parts : Parts after (head_of run (parent_in before run.path)) rest) → rest_in after head_there records_there ≡ fine rest
   read_so rest parts = subst (λ (r : RecordsView). rest_in after head_there r ≡ fine rest) (records_are rest parts) parts.read
 
-  same_rest : (rest other : RestView) → Parts after (head_of run (parent_in before run.path)) rest → Parts after (head_of run (parent_in before run.path)) other → rest ≡ other
-  same_rest rest other one two = same_part rest other (sym (read_so rest one) ∙ read_so other two)
-
   module _ (trial : Trial) (loaded : IsLoaded after (next_trial before) trial) where
     heads_are : trial.head ≡ head_of run (parent_in before run.path)
     heads_are = same_Some trial.head head_there (sym loaded.head_is ∙ stands.head)
@@ -99,9 +99,27 @@ module _ (run : Run) (before after : TablesView) (kinds : Each AnswerFits run.en
     read_back_so = can_be_read (rest_of trial) parts_there (path_there after head_there trial.text text_there)
 
     -- the trial is that of the run
-    pub trial_of : IsKeptAndRead run before after → IsTrialOf run before trial
-    trial_of kept = record {
+    pub trial_of : rest_in after head_there records_there ≡ fine (rest_of_run run) → IsTrialOf run before trial
+    trial_of read = record {
       head = heads_are;
-      text = same_part trial.text run.text (sym text_there ∙ kept.read_back.script);
-      rest = same_rest (rest_of trial) (rest_of_run run) parts_there (parts_of after head_there (rest_of_run run) kept.read_back.rest);
+      text = same_part trial.text run.text (sym (script_there (path_there after head_there trial.text text_there)) ∙ stands.text);
+      rest = same_part (rest_of trial) (rest_of_run run) (sym (read_so (rest_of trial) parts_there) ∙ read);
     }
+      where
+        script_there : is_path run.path ≡ true → content_in after (digest_of run.text) ≡ fine trial.text
+        script_there path = sym (ap (λ (b : Bool). if b then content_in after (digest_of run.text) else damaged Path) path) ∙ text_there
+
+-- a run that was kept, in the tables that have its trial and in later ones
+module _ (run : Run) (before after later : TablesView) (kinds : Each AnswerFits run.ended.capture.answers) (is : with_trial_of run before ≡ put after) (more : KeptMore after later) where
+  pub still_stands : StandsIn run before later
+  still_stands = stands_still run before after later (numbered_next run before after is) (more_there after later more) (kept_stands run before after is)
+
+  pub can_be_read_later : (trial : Trial) → IsLoaded later (next_trial before) trial → CanBeRead run
+  can_be_read_later trial loaded = read_back_so run before later kinds still_stands trial loaded
+
+  pub trial_later : (trial : Trial) → IsLoaded later (next_trial before) trial → IsKeptAndRead run before after → IsTrialOf run before trial
+  trial_later trial loaded kept =
+      let head : Head = head_of run (parent_in before run.path) in
+      trial_of run before later kinds still_stands trial loaded
+      (rest_stays after later (more_there after later more).contents head (records_there run before later kinds still_stands) (rest_of_run run)
+      (read_so run before after kinds (kept_stands run before after is) (rest_of_run run) (parts_of after head (rest_of_run run) kept.read_back.rest)))

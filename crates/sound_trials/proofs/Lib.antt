@@ -10,3 +10,4 @@ pub mod Readable
 pub mod SoundRows
 pub mod Spelling
 pub mod Standing
+pub mod Staying

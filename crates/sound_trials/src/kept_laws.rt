@@ -9,7 +9,7 @@ ghost use Rattle.trial_loading.specs.ReadBack.{CanBeRead};
 ghost use Rattle.trial_loading.specs.declared.trial.Trial.{Trial as OneTrial};
 ghost use Rattle.trial_slice.specs.Slices.{HasSlice};
 ghost use Rattle.trial_tables.specs.Written.{put, next_trial};
-ghost use Rattle.sound_trials.specs.Recorded.{WasRecorded};
+ghost use Rattle.sound_trials.specs.Recorded.{KeptMore, WasRecorded};
 ghost use Rattle.sound_trials.specs.Sound.{IsSound, RunsAgain};
 ghost use Rattle.sound_trials.specs.Typed.{FitsTypes};
 
@@ -21,12 +21,13 @@ use trace_rows::pages_are_read_one_way;
 use trial_keeping::lists_are_in_order;
 use trial_loading::kept_trials_are_read_back;
 
-/// The law of kept trials: where a recorded run was kept as a trial, and a trial is loaded under its number, the run can be read back, and the trial is sound. What
-/// devices tell at the end of the run does not matter.
+/// The law of kept trials: where a recorded run was kept as a trial, and then or later a trial is loaded under its number, the run can be read back, and the trial is
+/// sound. What devices tell at the end of the run does not matter.
 pub fn kept_trials_are_sound()
-    ensures read { (run : Run) (before after : TablesView) (trial : OneTrial) → WasRecorded run → with_trial_of run before ≡ put after → IsLoaded after (next_trial before) trial → CanBeRead run }
-    ensures sound { (run : Run) (before after : TablesView) (trial : OneTrial) (ends : Telling) → WasRecorded run → with_trial_of run before ≡ put after
-        → IsLoaded after (next_trial before) trial → length trial.rows ≤ 4294967296 → IsSound trial ends }
+    ensures read { (run : Run) (before after later : TablesView) (trial : OneTrial) → WasRecorded run → with_trial_of run before ≡ put after → KeptMore after later
+        → IsLoaded later (next_trial before) trial → CanBeRead run }
+    ensures sound { (run : Run) (before after later : TablesView) (trial : OneTrial) (ends : Telling) → WasRecorded run → with_trial_of run before ≡ put after → KeptMore after later
+        → IsLoaded later (next_trial before) trial → length trial.rows ≤ 4294967296 → IsSound trial ends }
 {
     kept_captures_have_the_run();
     kept_trials_are_read_back();
@@ -35,11 +36,11 @@ pub fn kept_trials_are_sound()
     pages_are_the_rows();
 }
 
-/// The law of the slices of kept trials: where a recorded run was kept as a trial, every slice that the trial has runs again to an equal value at the same
-/// occurrence, in no more steps.
+/// The law of the slices of kept trials: where a recorded run was kept as a trial, every slice that the trial has, then or after more runs were kept, runs again to
+/// an equal value at the same occurrence, in no more steps.
 pub fn slices_of_kept_trials_run_again()
-    ensures { (run : Run) (before after : TablesView) (ends : Telling) (at : Pos) (k : ℕ) (text : List ℕ) → WasRecorded run → with_trial_of run before ≡ put after
-        → (slice : HasSlice after (next_trial before) at k text) → length slice.trial.rows ≤ 4294967296 → RunsAgain slice.trial ends at k text }
+    ensures { (run : Run) (before after later : TablesView) (ends : Telling) (at : Pos) (k : ℕ) (text : List ℕ) → WasRecorded run → with_trial_of run before ≡ put after
+        → KeptMore after later → (slice : HasSlice later (next_trial before) at k text) → length slice.trial.rows ≤ 4294967296 → RunsAgain slice.trial ends at k text }
 {
     kept_trials_are_sound();
     slices_of_sound_trials_run_again();
