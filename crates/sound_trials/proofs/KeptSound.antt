@@ -1,5 +1,5 @@
 -- A trial whose parts are those of a recorded run is sound.
-use Rattle.std.proofs.Common.{◌≡◌, ℕ, ◌≤◌, List, length, map, sym, ap, ◌∙◌}
+use Rattle.std.proofs.Common.{◌≡◌, ℕ, List, map, sym, ap, ◌∙◌}
 use Rattle.answer_source.specs.Live.{capture_of}
 use Rattle.capture.specs.declared.ended.Ended.{Ended as EndedRun}
 use Rattle.keeper.specs.declared.records.Head.{Head}
@@ -14,6 +14,7 @@ use Rattle.recorded_runs.specs.declared.recording.Recorded.{Recorded}
 use Rattle.recorder.specs.MomentRows.{rows as rows_of}
 use Rattle.trial_keeping.specs.Trial.{Run}
 use Rattle.trial_loading.specs.Rest.{RestView}
+use Rattle.trace_rows.specs.RowBytes.{AreRows}
 use Rattle.trial_loading.specs.declared.trial.Trial.{Trial}
 use Rattle.sound_trials.specs.Sound.{IsSound, run_in, capture_in}
 use Rattle.sound_trials.proofs.KeptSame.{IsTrialOf}
@@ -46,12 +47,12 @@ same_run run script it before trial ends scripts ended_is same =
 
 pub sound_by : (run : Run) (script : ScriptTree) (it : Recorded) (before : TablesView) (trial : Trial) (ends : Telling) → script_of trial.script ≡ script → run.ended ≡ it.ended
     → IsTrialOf run before trial → IsRunOf script run.path run.arguments run.budget (capture_of it.ended.capture ends) it
-    → trial.rows ≡ rows_of (run_of script run.path run.arguments (capture_of it.ended.capture ends) run.budget).moments → length trial.rows ≤ 4294967296 → IsSound trial ends
-sound_by run script it before trial ends scripts ended_is same of rows few =
+    → trial.rows ≡ rows_of (run_of script run.path run.arguments (capture_of it.ended.capture ends) run.budget).moments → AreRows trial.rows → IsSound trial ends
+sound_by run script it before trial ends scripts ended_is same of rows fit =
     let runs : run_in trial ends ≡ run_of script run.path run.arguments (capture_of it.ended.capture ends) run.budget = same_run run script it before trial ends scripts ended_is same in
     record {
       rows_are = rows ∙ ap (λ (r : RunOf). rows_of r.moments) (sym runs);
-      few = few;
+      fit = fit;
       steps_are = ap (λ (h : Head). h.steps) same.head ∙ (ap (λ (e : EndedRun). e.steps) ended_is ∙ (sym of.steps_are ∙ ap (λ (r : RunOf). r.steps) (sym runs)));
       output_is = ap (λ (r : RestView). r.output) same.rest ∙ (ap (λ (e : EndedRun). e.output) ended_is ∙ (sym of.output_is ∙ ap (λ (r : RunOf). r.output) (sym runs)));
       finals_are = ap (λ (r : RestView). map file_out r.finals) same.rest ∙ (ap (λ (e : EndedRun). map file_out e.finals.items) ended_is ∙ (sym of.finals_are ∙ ap (λ (r : RunOf). r.finals) (sym runs)));

@@ -1,5 +1,5 @@
 // The laws of the trials of runs that were recorded and kept: public functions without a body, whose contracts are the laws.
-ghost use Rattle.std.specs.Prelude.{◌≡◌, ◌≤◌, ℕ, List, length};
+ghost use Rattle.std.specs.Prelude.{◌≡◌, ℕ, List};
 ghost use Rattle.keeper.specs.Tables.{TablesView};
 ghost use Rattle.prov_base.specs.declared.place.Pos.{Pos};
 ghost use Rattle.py_model.specs.Capture.{Telling};
@@ -27,7 +27,7 @@ pub fn kept_trials_are_sound()
     ensures read { (run : Run) (before after later : TablesView) (trial : OneTrial) → WasRecorded run → with_trial_of run before ≡ put after → KeptMore after later
         → IsLoaded later (next_trial before) trial → CanBeRead run }
     ensures sound { (run : Run) (before after later : TablesView) (trial : OneTrial) (ends : Telling) → WasRecorded run → with_trial_of run before ≡ put after → KeptMore after later
-        → IsLoaded later (next_trial before) trial → length trial.rows ≤ 4294967296 → IsSound trial ends }
+        → IsLoaded later (next_trial before) trial → IsSound trial ends }
 {
     kept_captures_have_the_run();
     kept_trials_are_read_back();
@@ -40,7 +40,7 @@ pub fn kept_trials_are_sound()
 /// an equal value at the same occurrence, in no more steps.
 pub fn slices_of_kept_trials_run_again()
     ensures { (run : Run) (before after later : TablesView) (ends : Telling) (at : Pos) (k : ℕ) (text : List ℕ) → WasRecorded run → with_trial_of run before ≡ put after
-        → KeptMore after later → (slice : HasSlice later (next_trial before) at k text) → length slice.trial.rows ≤ 4294967296 → RunsAgain slice.trial ends at k text }
+        → KeptMore after later → (slice : HasSlice later (next_trial before) at k text) → RunsAgain slice.trial ends at k text }
 {
     kept_trials_are_sound();
     slices_of_sound_trials_run_again();
