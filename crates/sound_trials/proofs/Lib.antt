@@ -1,1 +1,16 @@
+pub mod AnswerKinds
+pub mod AskedOnce
+pub mod CanRead
+pub mod FitRows
+pub mod Fitting
+pub mod KeptParts
+pub mod KeptRows
+pub mod KeptSame
+pub mod KeptSound
+pub mod Readable
+pub mod RowsTold
+pub mod ShortNumbers
 pub mod SoundRows
+pub mod Spelling
+pub mod Standing
+pub mod Staying

@@ -1,9 +1,7 @@
 -- A sound trial (this project's profile): what it keeps is what the run of its script does in its capture. What it promises of its slices.
-use Rattle.std.specs.Prelude.{◌≡◌, ℕ, ◌≤◌, Bool, List, length, map, Some}
+use Rattle.std.specs.Prelude.{◌≡◌, ℕ, Bool, List, map, Some}
 use Rattle.prov_base.specs.declared.place.Pos.{Pos}
 use Rattle.py_tree.specs.Erasure.{script_of}
-use Rattle.py_tree.specs.Deletion.{deleted}
-use Rattle.py_tree.specs.Tree.{ScriptTree}
 use Rattle.answer_source.specs.Live.{capture_of}
 use Rattle.op_state.specs.Finals.{file_out}
 use Rattle.py_model.specs.Capture.{Capture, Telling}
@@ -13,6 +11,7 @@ use Rattle.py_model.specs.Occurrences.{up_to_evaluation}
 use Rattle.recorder.specs.MomentRows.{rows as rows_of}
 use Rattle.slice_law.specs.Slices.{told_by, Reproduces}
 use Rattle.slice_text.specs.Cut.{cut_text}
+use Rattle.trace_rows.specs.RowBytes.{AreRows}
 use Rattle.trial_loading.specs.declared.trial.Trial.{Trial}
 
 -- what the devices gave, as the trial keeps it; what they tell at the end of the run does not matter
@@ -23,10 +22,10 @@ capture_in trial ends = capture_of trial.capture ends
 abbrev pub run_in : Trial → Telling → Run
 run_in trial ends = run (script_of trial.script) trial.head.path trial.arguments (capture_in trial ends) trial.head.budget
 
--- Its rows are those of the moments of that run, fewer than 2^32. Steps, output and final files are the run's.
+-- Its rows are those of the moments of that run, and the numbers in them fit their types. Steps, output and final files are the run's.
 pub record IsSound (trial : Trial) (ends : Telling) : Type 0 where
   pub rows_are : trial.rows ≡ rows_of (run_in trial ends).moments
-  pub few : length trial.rows ≤ 4294967296
+  pub fit : AreRows trial.rows
   pub steps_are : trial.head.steps ≡ (run_in trial ends).steps
   pub output_is : trial.output ≡ (run_in trial ends).output
   pub finals_are : map file_out trial.finals.items ≡ (run_in trial ends).finals

@@ -1,10 +1,11 @@
-use Rattle.std.proofs.Common.{◌≡◌, sym, ap, subst, ◌∙◌, Some}
+use Rattle.std.proofs.Common.{sym, ap, subst, ◌∙◌}
 use Rattle.py_tree.specs.Erasure.{script_of}
 use Rattle.py_model.specs.Capture.{with_bytes}
 use Rattle.py_model.specs.Meaning.{meaning, starting}
 use Rattle.py_model.specs.Occurrences.{up_to_evaluation}
 use Rattle.py_model.specs.Running.{outcome, state_in}
-use Rattle.slice_law.specs.Slices.{told_by, Reproduces}
+use Rattle.recorder.specs.MomentRows.{rows as rows_of}
+use Rattle.slice_law.specs.Slices.{Reproduces}
 use Rattle.sound_trials.specs.Sound.{capture_in}
 use Rattle.sound_trials.proofs.SoundRows.{nested_in, tells_so, spent_so}
 use Rattle.sound_trials.proofs.laws.slices_of_sound_trials_run_again.Goals as goal
@@ -18,7 +19,7 @@ returns c = λ trial ends at k keep text sound has slice.
     let budget = trial.head.budget in
     let ended = outcome capture (meaning script budget) (starting capture path arguments budget) in
     let told = (state_in ended).told in
-    let tells = tells_so trial.rows told (nested_in ended (c.moments_nest.ensures capture script path arguments budget)) sound.rows_are sound.few c.rows_tell_their_moments.ensures in
+    let tells = tells_so trial.rows told (nested_in ended (c.moments_nest.ensures capture script path arguments budget)) sound.rows_are sound.fit (λ moments. c.rows_in_order_are_interned.ensures.order (rows_of moments) (c.rows_name_what_stands.ensures moments)) in
     let reached = ap (up_to_evaluation at k) (sym tells) ∙ slice.reached in
     record {
       keep = keep;
