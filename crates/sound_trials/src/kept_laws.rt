@@ -38,8 +38,8 @@ pub fn kept_trials_are_sound()
     pages_are_the_rows();
 }
 
-/// The law of the slices of kept trials: where a recorded run was kept as a trial, every slice that the trial has, then or after more runs were kept, runs again to
-/// an equal value at the same occurrence, in no more steps.
+/// The law of the slices of kept trials: where a recorded run was kept as a trial, every slice that the trial has runs again to an equal value at the same occurrence,
+/// in no more steps. So it is then, and after more runs were kept.
 pub fn slices_of_kept_trials_run_again()
     ensures { (run : Run) (before after later : TablesView) (ends : Telling) (at : Pos) (k : ℕ) (text : List ℕ) → WasRecorded run → with_trial_of run before ≡ put after
         → KeptMore after later → (slice : HasSlice later (next_trial before) at k text) → RunsAgain slice.trial ends at k text }
@@ -48,8 +48,8 @@ pub fn slices_of_kept_trials_run_again()
     slices_of_sound_trials_run_again();
 }
 
-/// The law of reading recorded runs: a run that was recorded can be read back once it is kept, where numbers are in range, paths are paths and files ascend, as the
-/// types of the program say. By the run alone its answers are in order, numbered from 1 and given to questions of their kinds, and each file that it left stands once.
+/// The law of reading recorded runs: a recorded run that fits the types of the program can be read back once it is kept. By the run alone its answers are in order,
+/// numbered from 1 and given to questions of their kinds, and each file that it left stands once.
 pub fn recorded_runs_can_be_read()
     ensures { (run : Run) → WasRecorded run → FitsTypes run → CanBeRead run }
 {
