@@ -15,8 +15,8 @@ use Rattle.py_model.specs.Running.{Asking, State, spent, lacking, state_in, Happ
 use Rattle.py_model.specs.Store.{RunStore, has_path, with_path}
 use Rattle.row_words.specs.Fits.{Each}
 
-abbrev pub IsNumbered : Asking → Type 0
-IsNumbered asking = 0 < asking.k
+abbrev pub IsCounted : Asking → Type 0
+IsCounted asking = 0 < asking.k
 
 -- no path stands among those before it
 abbrev pub OnceAfter : List (List ℕ) → List (List ℕ) → Type 0
@@ -56,7 +56,7 @@ after_once e store once = touches_once e.touches (with_made e.made store) (by e.
 -- ---- a run keeps both
 
 abbrev pub IsGood : State → Type 0
-IsGood s = Each IsNumbered s.askings × OnceAfter [] s.store.opened
+IsGood s = Each IsCounted s.askings × OnceAfter [] s.store.opened
 
 note_good : (at : Pos) (k : ℕ) → 0 < k → (touches : List Touch) (s : State) → IsGood s → IsGood (note at k touches s)
 note_good at k some [] s good = good

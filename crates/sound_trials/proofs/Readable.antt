@@ -16,7 +16,7 @@ use Rattle.py_model.specs.Meaning.{final_files}
 use Rattle.py_model.specs.Running.{Asking}
 use Rattle.py_model.specs.Store.{RunStore, has_path}
 use Rattle.row_words.specs.Fits.{Each, IsList, IsText}
-use Rattle.sound_trials.proofs.AskedOnce.{IsNumbered, OnceAfter}
+use Rattle.sound_trials.proofs.AskedOnce.{IsCounted, OnceAfter}
 use Rattle.sound_trials.proofs.Fitting.{digest_long}
 use Rattle.sound_trials.proofs.Spelling.{AnswerFits}
 use Rattle.sound_trials.specs.Typed.{IsSized, IsFetched, IsLeft}
@@ -35,22 +35,22 @@ arguments_stand texts is = (is.0, texts_stand [] texts is.1)
 
 -- ---- answers
 
-all_numbered : (askings : List Asking) → Each IsNumbered askings → All IsNumbered askings
-all_numbered [] each = All-nil IsNumbered
-all_numbered (asking ∷ askings) each = All-cons IsNumbered asking askings each.0 (all_numbered askings each.1)
+all_numbered : (askings : List Asking) → Each IsCounted askings → All IsCounted askings
+all_numbered [] each = All-nil IsCounted
+all_numbered (asking ∷ askings) each = All-cons IsCounted asking askings each.0 (all_numbered askings each.1)
 
 abbrev pub NumberedAnswer : Asked → Type 0
 NumberedAnswer answer = 0 < answer.k
 
-each_numbered : (answers : List Asked) → All IsNumbered (map asking_seen answers) → Each NumberedAnswer answers
+each_numbered : (answers : List Asked) → All IsCounted (map asking_seen answers) → Each NumberedAnswer answers
 each_numbered [] all = tt
 each_numbered (answer ∷ answers) all =
-    (All-head IsNumbered (asking_seen answer) (map asking_seen answers) all, each_numbered answers (All-tail IsNumbered (asking_seen answer) (map asking_seen answers) all))
+    (All-head IsCounted (asking_seen answer) (map asking_seen answers) all, each_numbered answers (All-tail IsCounted (asking_seen answer) (map asking_seen answers) all))
 
-pub answers_numbered : (askings : List Asking) (answers : List Asked) → Each IsNumbered askings → IsPermutation (reverse askings) (map asking_seen answers) → Each NumberedAnswer answers
+pub answers_numbered : (askings : List Asking) (answers : List Asked) → Each IsCounted askings → IsPermutation (reverse askings) (map asking_seen answers) → Each NumberedAnswer answers
 answers_numbered askings answers each permuted =
-    each_numbered answers (All-permutation IsNumbered (reverse askings) (map asking_seen answers) permuted
-    (All-permutation IsNumbered askings (reverse askings) (IsPermutation-reverse askings) (all_numbered askings each)))
+    each_numbered answers (All-permutation IsCounted (reverse askings) (map asking_seen answers) permuted
+    (All-permutation IsCounted askings (reverse askings) (IsPermutation-reverse askings) (all_numbered askings each)))
 
 pub each_answer : (answers : List Asked) → Each IsSized answers → Each AnswerFits answers → Each NumberedAnswer answers → Each IsAnswer answers
 each_answer [] sized fits numbered = tt

@@ -1,4 +1,4 @@
--- What the types of the program say of a run that it holds (this project's profile), and no clause says of a run that was recorded.
+-- What holds of a run that the program holds, by its types and by its test of paths (this project's profile), and no clause says of a run that was recorded.
 use Rattle.std.specs.Prelude.{◌≡◌, ℕ, List, true}
 use Rattle.capture.specs.Files.{IsAscending}
 use Rattle.capture.specs.declared.answer.Asked.{Asked}

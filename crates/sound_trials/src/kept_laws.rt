@@ -4,16 +4,18 @@ ghost use Rattle.keeper.specs.Tables.{TablesView};
 ghost use Rattle.prov_base.specs.declared.place.Pos.{Pos};
 ghost use Rattle.py_model.specs.Capture.{Telling};
 ghost use Rattle.trial_keeping.specs.Trial.{Run, with_trial_of};
-ghost use Rattle.trial_loading.specs.Loading.{IsLoaded};
+ghost use Rattle.trial_loading.specs.Loading.{IsDamaged, IsLoaded};
 ghost use Rattle.trial_loading.specs.ReadBack.{CanBeRead};
 ghost use Rattle.trial_loading.specs.declared.trial.Trial.{Trial as OneTrial};
 ghost use Rattle.trial_slice.specs.Slices.{HasSlice};
 ghost use Rattle.trial_tables.specs.Written.{put, next_trial};
+ghost use Rattle.trial_tables.specs.declared.damage.Damage.{Damage as OneDamage};
 ghost use Rattle.sound_trials.specs.Recorded.{KeptMore, WasRecorded};
 ghost use Rattle.sound_trials.specs.Sound.{IsSound, RunsAgain};
 ghost use Rattle.sound_trials.specs.Typed.{FitsTypes};
 
 use crate::laws::slices_of_sound_trials_run_again;
+use kept_trials::kept_runs_are_never_damaged;
 use py_parser::one_reading;
 use recorded_runs::kept_captures_have_the_run;
 use recorder::pages_are_the_rows;
@@ -36,8 +38,8 @@ pub fn kept_trials_are_sound()
     pages_are_the_rows();
 }
 
-/// The law of the slices of kept trials: where a recorded run was kept as a trial, every slice that the trial has, then or after more runs were kept, runs again to
-/// an equal value at the same occurrence, in no more steps.
+/// The law of the slices of kept trials: where a recorded run was kept as a trial, every slice that the trial has runs again to an equal value at the same occurrence,
+/// in no more steps. So it is then, and after more runs were kept.
 pub fn slices_of_kept_trials_run_again()
     ensures { (run : Run) (before after later : TablesView) (ends : Telling) (at : Pos) (k : ℕ) (text : List ℕ) → WasRecorded run → with_trial_of run before ≡ put after
         → KeptMore after later → (slice : HasSlice later (next_trial before) at k text) → RunsAgain slice.trial ends at k text }
@@ -46,11 +48,21 @@ pub fn slices_of_kept_trials_run_again()
     slices_of_sound_trials_run_again();
 }
 
-/// The law of reading recorded runs: a run that was recorded can be read back once it is kept, where numbers are in range, paths are paths and files ascend, as the
-/// types of the program say. By the run alone its answers are in order, numbered from 1 and given to questions of their kinds, and each file that it left stands once.
+/// The law of reading recorded runs: a recorded run that fits the types of the program can be read back once it is kept. By the run alone its answers are in order,
+/// numbered from 1 and given to questions of their kinds, and each file that it left stands once.
 pub fn recorded_runs_can_be_read()
     ensures { (run : Run) → WasRecorded run → FitsTypes run → CanBeRead run }
 {
     kept_captures_have_the_run();
     lists_are_in_order();
+}
+
+/// The law that the trial of a recorded run is never told as damaged, where the run fits the types of the program: nothing is amiss of it under its number.
+pub fn recorded_runs_are_never_damaged()
+    ensures { (run : Run) (before after : TablesView) → WasRecorded run → FitsTypes run → with_trial_of run before ≡ put after
+        → (damage : OneDamage) → IsDamaged after (next_trial before) damage → ⊥ }
+{
+    recorded_runs_can_be_read();
+    kept_captures_have_the_run();
+    kept_runs_are_never_damaged();
 }

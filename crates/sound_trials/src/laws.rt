@@ -12,8 +12,8 @@ use py_model::{moments_nest, states_agree_with_moments};
 use row_moments::{rows_in_order_are_interned, rows_name_what_stands};
 use slice_simulation::slices_of_scripts_reproduce;
 
-/// The law of the slices of sound trials: the slice of an evaluation that `slice` writes is the script cut to a set of statements, and the run of the script without
-/// the others, in what the devices gave and with the steps that the trial took, gives an equal value at the same occurrence, in no more steps.
+/// The law of the slices of sound trials: the slice of an evaluation that `slice` writes is the script cut to a set of statements. The run of the script without the
+/// others, in what the devices gave and with the steps that the trial took, gives an equal value at the same occurrence, in no more steps.
 pub fn slices_of_sound_trials_run_again()
     ensures { (trial : OneTrial) (ends : Telling) (at : Pos) (k : ℕ) (keep : ℕ → Bool) (text : List ℕ) → IsSound trial ends → HasScript trial.text (script_of trial.script) → IsSliceOf trial at k keep text → RunsAgain trial ends at k text }
 {

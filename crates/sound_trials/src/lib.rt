@@ -8,12 +8,14 @@
 //! - [`slices_of_kept_trials_run_again`]: so every slice of such a trial runs again.
 //! - [`recorded_runs_can_be_read`]: a recorded run can be read back once it is kept (`CanBeRead` of `trial_loading`), where it fits the types of the program
 //!   (`specs/Typed.antt`).
+//! - [`recorded_runs_are_never_damaged`]: so the trial of such a run is never told as damaged.
 #![tactic(auto)]
 
 mod kept_laws;
 mod laws;
 
 pub use kept_laws::{
-    kept_trials_are_sound, recorded_runs_can_be_read, slices_of_kept_trials_run_again,
+    kept_trials_are_sound, recorded_runs_are_never_damaged, recorded_runs_can_be_read,
+    slices_of_kept_trials_run_again,
 };
 pub use laws::slices_of_sound_trials_run_again;
