@@ -1,0 +1,34 @@
+// The law of the program: a public function without a body, whose contract is the law.
+ghost use Rattle.std.specs.Prelude.{◌≡◌, ◌⊎◌, ℕ, List, Some};
+ghost use Rattle.keeper.specs.Keeping.{KeeperView};
+ghost use Rattle.keeper.specs.Tables.{TablesView};
+ghost use Rattle.now_top.specs.Calls.{Calls};
+ghost use Rattle.now_top.specs.Kept.{Stored, tables_told};
+ghost use Rattle.now_top.specs.Replies.{Replies};
+ghost use Rattle.now_top.specs.Seen.{Seen};
+ghost use Rattle.now_words.specs.Command.{command_of, reads, run_kept};
+ghost use Rattle.now_words.specs.declared.command.Evaluation.{Evaluation as OneEvaluation};
+ghost use Rattle.now_words.specs.declared.command.Query.TheVariants.{Slice};
+ghost use Rattle.py_model.specs.Capture.{Telling};
+ghost use Rattle.trial_tables.specs.Written.{next_trial};
+ghost use Rattle.headline.specs.Headline.{WritesSliceThatRuns};
+
+use now_top::{keeps_trial, stores_have_trials_of_runs, writes_slice};
+use sound_trials::{kept_trials_are_sound, slices_of_kept_trials_run_again};
+
+/// The law of the program. `run FILE` came to a status of a run, and kept it as a trial. Then come any calls of the program, and then `slice` of that trial with status 0. What
+/// it has written is the script cut to the least set of statements that the value depends on, and the script without the others, run in what the devices gave, gives an
+/// equal value at the same occurrence, in no more steps. The store exposes its tables as the first call begins and ends, and as the last one does.
+pub fn written_slices_run_again()
+    ensures { (words : List (List ℕ)) (before after : Seen) (was is : Stored) (status : ℕ) → Replies words before after was is status → (steps : ℕ) (file : List ℕ) (arguments : List (List ℕ))
+        → command_of words ≡ Some (run_kept steps file arguments) → (status ≡ 0) ⊎ ((status ≡ 1) ⊎ (status ≡ 9)) → (at : Stored) → Calls is at
+        → (asking : List (List ℕ)) (seen shown : Seen) (end : Stored) → Replies asking seen shown at end 0 → (of : OneEvaluation) → command_of asking ≡ Some (reads (Slice of))
+        → (old new : KeeperView) (tables : TablesView) → was.told ≡ Some old → is.told ≡ Some new → tables_told at end ≡ Some tables → of.trial ≡ next_trial old.committed
+        → (ends : Telling) → WritesSliceThatRuns of tables ends seen shown }
+{
+    keeps_trial();
+    stores_have_trials_of_runs();
+    writes_slice();
+    kept_trials_are_sound();
+    slices_of_kept_trials_run_again();
+}
