@@ -1,0 +1,11 @@
+pub mod StoreLaws
+pub mod OpeningLaws
+pub mod SettledLaws
+pub mod StepLaws
+pub mod OrderLaws
+pub mod HeldLaws
+pub mod MoreTexts
+pub mod SameReads
+pub mod WordLaws
+pub mod FrontLaws
+pub mod ValueLaws
