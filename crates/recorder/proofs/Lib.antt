@@ -6,3 +6,4 @@ pub mod Numbering
 pub mod Walking
 pub mod WorkedMoments
 pub mod Recording
+pub mod RowsKept

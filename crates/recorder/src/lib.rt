@@ -2,7 +2,7 @@
 //!
 //! [`Recorder`] tells the events that it was told, the latest first; after a refusal it tells what it told before. Its pages are those of the rows of
 //! these events. The numbers in these rows fit their types, so each page is decoded as the next of them (`pages_are_the_rows`). After a refusal it
-//! takes no more events: what it was told until then stays, and its pages are as before.
+//! takes no more events: what it was told until then stays, and its pages are as before. Its rows are also given as they are, without pages.
 //!
 //! `specs/MomentRows.antt` says what the rows of a list of events are: each event has one row, and a text or tuple has one directly before the first row
 //! that names it (`specs/Naming.antt`). `specs/PageCuts.antt` says how rows are cut into pages.

@@ -1,12 +1,13 @@
 // The recorder.
 ghost use Rattle.std.specs.Prelude.{◌≡◌, ◌<◌, [], reverse, Some, IfOk, IsOk, OnOk, OnErr, vec_len, vec_capacity};
-ghost use Rattle.py_value.specs.Values.{ValuesView};
+ghost use Rattle.py_value.specs.Values.{ValuesView, AreInterned};
 ghost use Rattle.py_model.specs.Told.{moment_seen};
 ghost use Rattle.trace_rows.specs.RowBytes.{AreRows};
 ghost use Rattle.recorder.specs.Parts.{ended_by};
 ghost use Rattle.recorder.specs.MomentRows.{rows as rows_of};
 ghost use Rattle.recorder.specs.PageCuts.{pages as pages_of_rows};
 ghost use Rattle.recorder.specs.Recorded.{moments_of};
+ghost use Rattle.recorder.specs.Telling.{view_of};
 
 use crate::namer::Namer;
 use crate::naming_moments::name_moment;
@@ -16,7 +17,7 @@ use py_model::{Moment, Watch};
 use py_value::Values;
 use std::alloc::Global;
 use std::marker::Model;
-use trace_rows::{Pages, Row};
+use trace_rows::{Pages, Row, Rows};
 
 /// A watch that keeps the rows of the moments that it is told. `moments_of` gives these moments, the latest first.
 #[derive(Drop)]
@@ -59,6 +60,20 @@ impl Recorder {
         ensures rows { AreRows (rows_of (reverse (moments_of self))) }
     {
         pages_of(alloc, self.rows.as_slice())
+    }
+
+    /// The rows of the moments that it was told. It answers out of memory where it ran out of memory while it was told.
+    pub fn rows(self) -> Result<Rows, Memory>
+        ensures rows { IfOk result (λ rows. rows ≡ rows_of (reverse (moments_of self))) }
+        // Their numbers fit.
+        ensures fit { AreRows (rows_of (reverse (moments_of self))) }
+        // Each text and each tuple stands once in them, behind its parts.
+        ensures interned { IfOk result (λ rows. AreInterned (view_of (reverse rows))) }
+    {
+        if !self.is_whole {
+            return Err(Memory);
+        }
+        Ok(Rows::of(self.rows))
     }
 }
 
