@@ -148,9 +148,18 @@ view_turned (row ∷ earlier) =
     ∙ ap (λ (view : ValuesView). record { texts = view.texts ++ text_of row; tuples = view.tuples ++ tuple_of row }) (view_turned earlier)
     ∙ behind row earlier
 
-pub rows_back : (moments : List Moment) (ones : List Open) → open_after (reverse moments) ≡ Some ones → length (rows moments) ≤ 4294967296 → moments_in (rows moments) ≡ reverse moments
-rows_back moments ones is few =
-    let told = reverse moments in
-    let view_is : view_in (rows moments) ≡ (all_told told).view = view_turned (all_told told).rows ∙ (all_ordered told).view_is in
-    ap (moments_by (view_in (rows moments))) (reverse-reverse (all_told told).rows)
-    ∙ tell_back (view_in (rows moments)) (interned_in (rows moments) (rows_ordered moments) few) told ones is (subst (Grows (all_told told).view) (sym view_is) (stays_same (all_told told).view))
+module _ (moments : List Moment) where
+  view_is : view_in (rows moments) ≡ (all_told (reverse moments)).view
+  view_is = view_turned (all_told (reverse moments)).rows ∙ (all_ordered (reverse moments)).view_is
+
+  rows_back_in : (ones : List Open) → open_after (reverse moments) ≡ Some ones → AreInterned (view_in (rows moments)) → moments_in (rows moments) ≡ reverse moments
+  rows_back_in ones is interned =
+      ap (moments_by (view_in (rows moments))) (reverse-reverse (all_told (reverse moments)).rows)
+      ∙ tell_back (view_in (rows moments)) interned (reverse moments) ones is (subst (Grows (all_told (reverse moments)).view) (sym view_is) (stays_same (all_told (reverse moments)).view))
+
+  pub rows_back : (ones : List Open) → open_after (reverse moments) ≡ Some ones → length (rows moments) ≤ 4294967296 → moments_in (rows moments) ≡ reverse moments
+  rows_back ones is few = rows_back_in ones is (interned_in (rows moments) (rows_ordered moments) few)
+
+  pub interned_rows_back : (ones : List Open) → open_after (reverse moments) ≡ Some ones → AreInterned (view_of (reverse (rows moments))) → moments_in (rows moments) ≡ reverse moments
+  interned_rows_back ones is interned =
+      rows_back_in ones is (subst AreInterned (sym (view_turned (reverse (rows moments))) ∙ ap view_in (reverse-reverse (rows moments))) interned)

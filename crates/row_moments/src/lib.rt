@@ -9,7 +9,7 @@
 //! - [`rows_name_what_stands`]: in the rows of a run no two Text rows and no two Tuple rows are equal, and what a row names stands before it.
 //! - [`rows_nest_as_moments`]: where events nest, as those of a run do (`moments_nest` of `py_model`), their rows nest.
 //! - [`rows_tell_their_moments`]: writing such events as rows and reading them back gives the same events. The rows are at most 2^32, so that numbers
-//!   of texts and tuples have 32 bits.
+//!   of texts and tuples have 32 bits. [`interned_rows_tell_their_moments`]: so do rows whose texts and tuples are interned, of any number.
 //!
 //! `specs/RowOccurrences.antt` says which rows begin a statement, which occurrences are children of which, and whose own event a row tells, by the
 //! definitions of occurrences in `py_model`. Rows are counted from 0, and a row number has 32 bits.
@@ -36,6 +36,6 @@ mod tuples;
 pub use index::Index;
 pub use laws::{one_row_tells_one_moment, rows_in_order_are_interned};
 pub use nesting_laws::{rows_name_what_stands, rows_nest_as_moments};
-pub use telling_laws::rows_tell_their_moments;
+pub use telling_laws::{interned_rows_tell_their_moments, rows_tell_their_moments};
 pub use texts::texts_of;
 pub use tuples::tuples_of;
