@@ -1,3 +1,4 @@
-mod OneSlice
+pub mod OneSlice
 mod Extracted
 mod Sliced
+pub mod Questions

@@ -1,3 +1,4 @@
 pub mod Fault
 pub mod Sliced
 pub mod Slices
+pub mod Questions
