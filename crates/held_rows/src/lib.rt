@@ -33,5 +33,5 @@ mod words;
 pub use held::Held;
 pub use kept::Kept;
 pub use pass::RowStore;
-pub use printing::{ValueFault, value_text};
+pub use printing::{ValueFault, value_text, words_of};
 pub use steps::{Step, Steps};

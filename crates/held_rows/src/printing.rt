@@ -16,7 +16,7 @@ use crate::costs::steps_upto;
 use crate::finding::find_evaluation;
 use crate::front::held_front;
 use graph_texts::{Names, graph_text};
-use prov_base::{Memory, Pos};
+use prov_base::{Memory, Name, Pos};
 use py_tree::Script;
 use py_value::Value;
 use std::alloc::Global;
@@ -29,6 +29,17 @@ pub enum ValueFault {
     NoEvaluation,
     /// Out of memory.
     Memory,
+}
+
+/// The words that names are, as they stand there.
+pub fn words_of(alloc: Global, names: &[Name]) -> Result<Vec<&str>, Memory>
+    ensures { IfOk result (λ words. map (λ k. k.now) words.items ≡ names.now) }
+{
+    let mut words = Vec::new(alloc);
+    for name in names {
+        words.push(name.as_str())?;
+    }
+    Ok(words)
 }
 
 // The graph text of a value that the last of so many rows gave.
