@@ -23,9 +23,8 @@ returns c = λ trial ends at k keep text sound has slice.
     let reached = ap (up_to_evaluation at k) (sym tells) ∙ slice.reached in
     record {
       keep = keep;
-      cut_is = slice.cut_is;
-      upto = slice.upto;
-      reached = reached;
+      slice = slice;
+      told_is = tells;
       reproduces = subst (λ spent. Reproduces script capture path arguments spent at k slice.upto keep)
           (spent_so told (state_in ended).left budget trial.head.steps (c.states_agree_with_moments.ensures.runs capture script path arguments budget).paid sound.steps_are)
           (c.slices_of_scripts_reproduce.ensures trial.text script has capture path arguments budget at k slice.upto keep reached (slice.least path (with_bytes capture.files)));

@@ -1,0 +1,2 @@
+pub mod OneReplay
+mod RunAgain
